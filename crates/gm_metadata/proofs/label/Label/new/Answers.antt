@@ -1,0 +1,18 @@
+use Rattle.std.proofs.Common.{rules, ◌≡◌, ◌∙◌, ◌-◌, ◌++◌, ℕ, List, Some, None, Option, cond, replicate, length, drop, true, false, ap, sym, subst, refl}
+use Rattle.gm_metadata.specs.Labels.{is_label, padded, name_in, IsLabelField}
+use Rattle.gm_metadata.proofs.Labels.{field_of_label, name_again, label_parts, copied_name}
+use Rattle.gm_metadata.proofs.label.Label.new.Goals as goal
+
+pub invariant_of-result : goal.invariant_of-result
+invariant_of-result c =
+    let text = c.args.text.now in
+    let passes : is_label text ≡ true = search rules in
+    let e = copied_name text c.as_bytes-text.result.now c.copy_from_slice.new.self _ (search rules) (search rules) refl in
+    subst IsLabelField (sym e) (field_of_label text passes)
+
+pub returns : goal.returns
+returns c =
+    let text = c.args.text.now in
+    let passes : is_label text ≡ true = search rules in
+    let e = copied_name text c.as_bytes-text.result.now c.copy_from_slice.new.self _ (search rules) (search rules) refl in
+    rw (e, passes) (ap Some (name_again text _ (label_parts text passes).2))

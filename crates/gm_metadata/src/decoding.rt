@@ -1,0 +1,158 @@
+//! From a sector to what it says.
+
+ghost use Rattle.std.specs.Prelude.{◌≡◌, ◌==◌, ◌+◌, ◌≤◌, IsTrue, take, drop, Some, None, IfOk, IfErr, Ok, Err, if◌then◌else◌};
+ghost use Rattle.byteorder.specs.Endian.{little_number};
+ghost use Rattle.gm_metadata.specs.declared.metadata.Metadata.{Metadata};
+ghost use Rattle.gm_metadata.specs.declared.fault.DecodeFault.{DecodeFault};
+ghost use Rattle.gm_metadata.specs.Reading.{has_hash, is_provider_field, provider_in, settings_of, decode_of};
+ghost use Rattle.gm_metadata.specs.Sector.{bytes_at, number_at, carries, IsMetadata, Bears, Cause};
+
+use crate::balance::Balance;
+use crate::encoding::{MAGIC, SECTOR_SIZE, VERSION};
+use crate::fault::DecodeFault;
+use crate::flags::{DiskFlags, MirrorFlags};
+use crate::label::{Label, all_zero};
+use crate::metadata::Metadata;
+use byteorder::{ByteOrder, LittleEndian};
+use md5::{Digest, Md5};
+
+fn field_at(sector: &[u8; 512], at: usize) -> [u8; 16]
+    requires { at + 16 ≤ 512 }
+    ensures { result ≡ bytes_at at 16 sector.now }
+{
+    let mut field = [0u8; 16];
+    field.copy_from_slice(&sector[at..at + 16]);
+    field
+}
+
+fn u32_at(sector: &[u8; 512], at: usize) -> u32
+    requires { at + 4 ≤ 512 }
+    ensures { result ≡ number_at at 4 sector.now }
+{
+    LittleEndian::read_u32(&sector[at..])
+}
+
+fn u64_at(sector: &[u8; 512], at: usize) -> u64
+    requires { at + 8 ≤ 512 }
+    ensures { result ≡ number_at at 8 sector.now }
+{
+    LittleEndian::read_u64(&sector[at..])
+}
+
+/// Whether a sector carries metadata: it begins with the magic field, whatever follows.
+#[tactic(auto, unfolding(crate::specs::Sector::magic))]
+pub fn carries_metadata(sector: &[u8; 512]) -> bool
+    ensures { result ≡ carries sector.now }
+{
+    &sector[..16] == MAGIC.as_slice()
+}
+
+fn has_hash(sector: &[u8; 512]) -> bool
+    ensures { result ≡ has_hash sector.now }
+{
+    let digest = Md5::digest(&sector[..119]);
+    let written = field_at(sector, 119);
+    digest == written
+}
+
+fn provider_of(field: &[u8; 16]) -> Option<Option<Label>>
+    ensures { result ≡ (if is_provider_field field.now then Some (provider_in field.now) else None) }
+{
+    if all_zero(field) {
+        return Some(None);
+    }
+    match Label::from_field(field) {
+        Some(name) => Some(Some(name)),
+        None => None,
+    }
+}
+
+// The fields whose values are few.
+#[derive(Clone, Copy)]
+struct Settings {
+    balance: Balance,
+    mflags: MirrorFlags,
+    dflags: DiskFlags,
+}
+
+#[tactic(auto, unfolding(crate::specs::Reading::settings_of))]
+fn settings_of(sector: &[u8; 512]) -> Result<Settings, DecodeFault>
+    ensures { result ≡ settings_of sector.now }
+{
+    let Some(balance) = Balance::from_code(sector[58]) else {
+        return Err(DecodeFault::Balance);
+    };
+    let Some(mflags) = MirrorFlags::from_bits(u64_at(sector, 79)) else {
+        return Err(DecodeFault::Flags);
+    };
+    let Some(dflags) = DiskFlags::from_bits(u64_at(sector, 87)) else {
+        return Err(DecodeFault::Flags);
+    };
+    if u32_at(sector, 67) != SECTOR_SIZE {
+        return Err(DecodeFault::SectorSize);
+    }
+    Ok(Settings {
+        balance,
+        mflags,
+        dflags,
+    })
+}
+
+// What a sector says, field by field.
+#[tactic(auto, unfolding(crate::specs::Reading::decode_of))]
+fn read(sector: &[u8; 512]) -> Result<Metadata, DecodeFault>
+    ensures { result ≡ decode_of sector.now }
+{
+    if !carries_metadata(sector) {
+        return Err(DecodeFault::Magic);
+    }
+    if u32_at(sector, 16) != VERSION {
+        return Err(DecodeFault::Version);
+    }
+    if !has_hash(sector) {
+        return Err(DecodeFault::Hash);
+    }
+    let Some(name) = Label::from_field(&field_at(sector, 20)) else {
+        return Err(DecodeFault::Name);
+    };
+    let Some(provider) = provider_of(&field_at(sector, 95)) else {
+        return Err(DecodeFault::Provider);
+    };
+    let settings = settings_of(sector)?;
+    Ok(Metadata {
+        name,
+        mid: u32_at(sector, 36),
+        did: u32_at(sector, 40),
+        all: sector[44],
+        genid: u32_at(sector, 45),
+        syncid: u32_at(sector, 49),
+        priority: sector[53],
+        slice: u32_at(sector, 54),
+        balance: settings.balance,
+        mediasize: u64_at(sector, 59),
+        sync_offset: u64_at(sector, 71),
+        mflags: settings.mflags,
+        dflags: settings.dflags,
+        provider,
+        provsize: u64_at(sector, 111),
+    })
+}
+
+/// What a sector says. The bytes behind the hash are ignored.
+///
+/// An `Err` is the first fault that stands in the sector, in the order of `DecodeFault`.
+pub fn decode(sector: &[u8; 512]) -> Result<Metadata, DecodeFault>
+    // What is read is spelled so.
+    ensures found { IfOk result (λ m. Bears sector.now m) }
+    // What is spelled so is read.
+    ensures only { (m : Metadata) → IsMetadata m → Bears sector.now m → result ≡ Ok m }
+
+    // The fault is the first that stands in the sector.
+    ensures fault { IfErr result (λ k. Cause sector.now k) }
+    ensures only_fault { (k : DecodeFault) → Cause sector.now k → result ≡ Err k }
+
+    // Which result it is, as a function.
+    ensures exact { result ≡ decode_of sector.now }
+{
+    read(sector)
+}

@@ -1,0 +1,25 @@
+//! The metadata sector of a mirror's component, as `g_mirror.h` lays it out: what it says, and how it is written.
+//!
+//! Begin with `metadata.rt`, the record; then `encoding.rt` and `decoding.rt`, which write and read it exactly.
+//! `label.rt` has the names of mirrors and providers. Nothing here takes memory.
+#![tactic(auto)]
+
+mod balance;
+mod decoding;
+mod encoding;
+mod fault;
+mod flags;
+mod label;
+mod laws;
+mod metadata;
+#[cfg(test)]
+mod tests;
+
+pub use balance::Balance;
+pub use decoding::{carries_metadata, decode};
+pub use encoding::encode;
+pub use fault::DecodeFault;
+pub use flags::{DiskFlags, MirrorFlags};
+pub use label::Label;
+pub use laws::{encoded_is_read, one_sector, one_spelling};
+pub use metadata::Metadata;
