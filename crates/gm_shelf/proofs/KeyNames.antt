@@ -1,0 +1,30 @@
+-- The keys of a map by labels are the names of the providers that it has sizes of.
+use Rattle.std.proofs.Common.{◌≡◌, ◌∙◌, ◌↔◌, ℕ, List, Bool, true, Option, Some, None, refl, sym, ap, Result, IsSome}
+use Rattle.std.specs.Prelude.{Contains, is_some, IfOk}
+use Rattle.std.specs.Bool.{Decides}
+use Rattle.std.specs.Option.{option_map}
+use Rattle.std.specs.Ordering.{nat_cmp, eq_by_cmp}
+use Rattle.std.specs.Str.{bytes_eq}
+use Rattle.std.specs.Cmp.Lexicographic.{slice_cmp, texts_ties}
+use Rattle.std.specs.Set.{is_member}
+use Rattle.std.proofs.lemmas.Map.Made.{is_member-Decides}
+use Rattle.std.proofs.lemmas.Slice.Eq.{bytes_eq-Decides}
+use Rattle.gm_metadata.specs.Images.{Sizes}
+use Rattle.gm_shelf.specs.Disk.{AreNames, IsAscending}
+
+-- labels tie only where they are one
+same_key : (a b : List ℕ) → Decides (eq_by_cmp (slice_cmp nat_cmp) a b) (a ≡ b)
+same_key a b = rw (← texts_ties a b) (bytes_eq-Decides a b)
+
+-- sizes that are known just where the list has the name
+pub names_are : (sizes : Sizes) (names : List (List ℕ)) → IsAscending names → ((q : List ℕ) → is_some (sizes q) ≡ is_member (eq_by_cmp (slice_cmp nat_cmp)) names q) → AreNames sizes names
+names_are sizes names ascending found = record {
+  ascending = ascending;
+  there = λ p.
+      let told = is_member-Decides same_key names p in
+      ((λ listed. found p ∙ told.1 listed), (λ some. told.0 (sym (found p) ∙ some)));
+}
+
+pub is_some-option_map : {A B : Type 0} (f : A → B) (o : Option A) → is_some (option_map f o) ≡ is_some o
+is_some-option_map f None = refl
+is_some-option_map f (Some x) = refl

@@ -1,0 +1,2 @@
+pub mod LastWrite
+pub mod KeyNames

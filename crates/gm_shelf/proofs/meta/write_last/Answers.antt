@@ -1,0 +1,10 @@
+use Rattle.std.proofs.Common.{◌≡◌, ◌+◌, ◌-◌, ℕ, List, Some, arith, subst, sym}
+use Rattle.gm_shelf.specs.Disk.{View, IsWrite, IsQuiet, IsFixed}
+use Rattle.gm_shelf.proofs.LastWrite.{last_done}
+use Rattle.gm_shelf.proofs.meta.write_last.Goals as goal
+
+pub returns-clause-done : goal.returns-clause-done
+returns-clause-done g c = λ i h is.
+    let counted : c.in-Some.count ≡ i + 1 = cc (c.in-Some.ensures) in
+    let place : c.in-Some.count - 1 ≡ i = omega (arith, counted) in
+    last_done c.args.provider i c.args.sector.now (g.H.Shelf.view c.args.shelf.now) (g.H.Shelf.view c.write.new.self) (g.H.Shelf.view c.sync.new.self) (rw place at (c.write.ensures.law h)) (rw place at (c.in_ok-write.ensures.written h)) (c.sync.ensures.quiet (c.write.ensures.honest h)) (c.in_ok-sync.ensures.fixed (c.write.ensures.honest h))

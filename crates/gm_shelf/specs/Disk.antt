@@ -1,0 +1,66 @@
+-- A shelf as contracts see it, and what its calls may do to what it holds and to what a crash may leave.
+use Rattle.std.specs.Prelude.{◌≡◌, ◌≤◌, ◌⊎◌, ◌↔◌, ℕ, List, Option, IsSome, Contains}
+use Rattle.std.specs.Ordering.{nat_cmp}
+use Rattle.std.specs.Cmp.Lexicographic.{slice_cmp}
+use Rattle.std.specs.List.Sorted.{IsStrictlySortedBy}
+use Rattle.gm_metadata.specs.declared.label.Label.{Label}
+use Rattle.gm_metadata.specs.Images.{Image, Sizes, Same}
+
+-- the four facts of a shelf, with the moment that the third counts from
+pub record View : Type 1 where
+  pub seen : Image  -- what a read gives
+  pub may_leave : Image → Type 0  -- what a crash now may leave
+  pub moment : ℕ  -- a number that doesn't fall
+  pub left_since : ℕ → Image → Type 0  -- what a crash at some moment from that one on may have left
+  pub faults : ℕ  -- how often the device has failed
+
+-- the value is the one that was put to this sector
+pub record IsPut (p : Label) (i : ℕ) (s : List ℕ) (q : Label) (j : ℕ) (v : List ℕ) : Type 0 where
+  pub provider : q ≡ p
+  pub place : j ≡ i
+  pub value : v ≡ s
+
+-- a write that may have failed: the one sector holds what it held or the new value, every other what it held
+abbrev pub Torn : Label → ℕ → List ℕ → Image → Image → Type 0
+Torn p i s old new = (q : Label) (j : ℕ) → (new q j ≡ old q j) ⊎ IsPut p i s q j (new q j)
+
+-- an image that this one may leave, from which that one follows
+abbrev pub From : (Image → Type 0) → (Image → Type 0) → Type 0
+From old step = (d : Image) × old d × step d
+
+-- time goes on: a crash since t might have left what it might have left before, or what it may leave now
+pub record Elapses (old new : View) : Type 0 where
+  pub later : old.moment ≤ new.moment
+  pub nothing_else : (t : ℕ) (x : Image) → t ≤ old.moment → new.left_since t x → old.left_since t x ⊎ new.may_leave x
+  pub keeps : (t : ℕ) (x : Image) → t ≤ old.moment → old.left_since t x → new.left_since t x
+
+-- a read, or a sync that failed: a read gives what it gave, and a crash leaves nothing that it couldn't leave before
+pub record IsQuiet (old new : View) : Type 0 where
+  pub seen : Same new.seen old.seen
+  pub crash : (x : Image) → new.may_leave x → old.may_leave x
+  pub time : Elapses old new
+
+-- a write, also one that failed
+pub record IsWrite (p : Label) (i : ℕ) (s : List ℕ) (old new : View) : Type 0 where
+  pub seen : Torn p i s old.seen new.seen
+  pub crash : (x : Image) → new.may_leave x → From old.may_leave (λ d. Torn p i s d x)
+  pub time : Elapses old new
+
+-- a sync that succeeded fixes what the provider holds
+abbrev pub IsFixed : Label → View → View → Type 0
+IsFixed p old new = (x : Image) → new.may_leave x → (j : ℕ) → x p j ≡ old.seen p j
+
+-- what any shelf keeps to at any time
+pub record IsLawful (v : View) : Type 0 where
+  pub holds_now : v.may_leave v.seen
+  pub counts_now : (t : ℕ) (x : Image) → t ≤ v.moment → v.may_leave x → v.left_since t x
+  pub only_now : (x : Image) → v.left_since v.moment x → v.may_leave x
+
+-- byte order of the texts, each once
+abbrev pub IsAscending : List Label → Type 0
+IsAscending names = IsStrictlySortedBy (slice_cmp nat_cmp) names
+
+-- the names of the providers that are there, in byte order
+pub record AreNames (sizes : Sizes) (names : List Label) : Type 0 where
+  pub ascending : IsAscending names
+  pub there : (p : Label) → Contains names p ↔ IsSome (sizes p)

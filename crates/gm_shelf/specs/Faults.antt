@@ -1,0 +1,23 @@
+-- Why a call of a shelf fails.
+use Rattle.std.specs.Prelude.{◌≡◌, ◌+◌, ℕ, ◌==◌, if◌then◌else◌}
+use Rattle.gm_shelf.specs.declared.fault.ShelfFault.{ShelfFault}
+use Rattle.gm_shelf.specs.declared.fault.ShelfFault.TheVariants.{Absent, Range, Device, Memory}
+
+-- the number of a fault
+abbrev pub fault_number : ShelfFault → ℕ
+fault_number Absent = 1
+fault_number Range = 2
+fault_number Device = 3
+fault_number Memory = 4
+
+-- the last count that can be kept
+abbrev pub last_count : ℕ
+last_count = 18446744073709551615
+
+-- how a failure of the device is answered, where so many came before
+abbrev pub fault_after : ℕ → ShelfFault
+fault_after n = if n == last_count then Memory else Device
+
+-- the count after it
+abbrev pub count_after : ℕ → ℕ
+count_after n = if n == last_count then n else n + 1

@@ -1,0 +1,20 @@
+-- One sector that is written and then fixed.
+use Rattle.std.specs.Prelude.{◌≡◌, ◌≤◌, ◌⊎◌, ℕ, List}
+use Rattle.gm_metadata.specs.declared.label.Label.{Label}
+use Rattle.gm_metadata.specs.Images.{Image, Same, put}
+use Rattle.gm_shelf.specs.Disk.{View, Torn, From}
+
+-- the sector is old or new, and every other is as it was: in what a read gives, and in each image
+-- that a crash may leave, now or at any moment since
+pub record OldOrNew (p : Label) (i : ℕ) (s : List ℕ) (old new : View) : Type 0 where
+  pub seen : Torn p i s old.seen new.seen
+  pub left : (x : Image) → new.may_leave x → From old.may_leave (λ d. Torn p i s d x)
+  pub later : old.moment ≤ new.moment
+  pub since : (t : ℕ) (x : Image) → t ≤ old.moment → new.left_since t x → old.left_since t x ⊎ From old.may_leave (λ d. Torn p i s d x)
+
+-- the sector is new, in what a read gives and in each image that a crash may leave, every other is as it was,
+-- and nothing of the provider is unsynced
+pub record IsDone (p : Label) (i : ℕ) (s : List ℕ) (old new : View) : Type 0 where
+  pub seen : Same new.seen (put p i s old.seen)
+  pub left : (x : Image) → new.may_leave x → From old.may_leave (λ d. Same x (put p i s d))
+  pub fixed : (x : Image) → new.may_leave x → (j : ℕ) → x p j ≡ new.seen p j

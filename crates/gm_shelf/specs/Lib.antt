@@ -1,0 +1,4 @@
+pub mod Disk
+pub mod Faults
+pub mod Folder
+pub mod LastSector

@@ -1,0 +1,70 @@
+//! Why a call of a shelf fails, and the count of failures.
+
+ghost use Rattle.std.specs.Prelude.{◌≡◌, ◌+◌, ◌==◌, if◌then◌else◌};
+ghost use Rattle.gm_shelf.specs.Faults.{fault_number, fault_after, count_after};
+
+use std::alloc::AllocFailed;
+use std::error::Error;
+use std::fmt;
+
+/// Why a shelf didn't do a call.
+#[derive(Clone, Copy, Debug, PartialEq, Eq)]
+pub enum ShelfFault {
+    /// The shelf hasn't the provider.
+    Absent,
+    /// The provider hasn't the sector.
+    Range,
+    /// The device failed, and the failure was counted.
+    Device,
+    /// Memory was refused, or the device failed and the count of failures stands at its last value.
+    Memory,
+}
+
+impl ShelfFault {
+    /// Its number, 1 to 4, as texts and answers print it.
+    pub fn number(self) -> u8
+        ensures { result ≡ fault_number self }
+    {
+        match self {
+            ShelfFault::Absent => 1,
+            ShelfFault::Range => 2,
+            ShelfFault::Device => 3,
+            ShelfFault::Memory => 4,
+        }
+    }
+}
+
+impl fmt::Display for ShelfFault {
+    fn fmt<W: fmt::Write>(&self, f: &mut fmt::Formatter<W>) -> fmt::Result {
+        f.write_str(match self {
+            ShelfFault::Absent => "the provider is absent",
+            ShelfFault::Range => "the provider has no such sector",
+            ShelfFault::Device => "the device failed",
+            ShelfFault::Memory => "out of memory",
+        })
+    }
+}
+
+impl Error for ShelfFault {}
+
+impl<T: Drop> From<AllocFailed<T>> for ShelfFault {
+    ghost use Rattle.gm_shelf.specs.declared.fault.ShelfFault.TheVariants.{Memory};
+
+    ghost from_gives = { λ _ e. e ≡ Memory };
+
+    fn from(_: AllocFailed<T>) -> Self {
+        ShelfFault::Memory
+    }
+}
+
+// Counts a failure of the device, where it can be counted, and says how it is answered.
+pub(crate) fn device_failed(failures: &mut u64) -> ShelfFault
+    ensures answer { result ≡ fault_after failures.old }
+    ensures count { failures.new ≡ count_after failures.old }
+{
+    if *failures == u64::MAX {
+        return ShelfFault::Memory;
+    }
+    *failures += 1;
+    ShelfFault::Device
+}

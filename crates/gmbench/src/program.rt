@@ -1,0 +1,122 @@
+//! All that the program does, over any streams.
+
+use crate::dump::dump_text;
+use crate::status::{DumpRefusal, Fault, Status};
+use crate::words::{Job, job_of};
+use clap::Error;
+use clap::error::ErrorKind;
+use gm_metadata::{Label, decode};
+use gm_shelf::{FileShelf, Shelf};
+use std::fs::File;
+use std::io::{Read, Write};
+use std::rt::Files;
+
+// Prints what clap has to say, on the stream where it belongs.
+fn explain<O: Write, E: Write>(
+    error: &Error,
+    output: &mut O,
+    complaints: &mut E,
+) -> Result<Status, Fault> {
+    if error.kind() == ErrorKind::OutOfMemory {
+        return Err(Fault::Memory);
+    }
+    if error.use_stderr() {
+        write!(complaints, "{error}")?;
+        return Ok(Status::Words);
+    }
+    write!(output, "{error}")?;
+    Ok(Status::Done)
+}
+
+// The last sector of a provider, or why there is none.
+fn last_sector<H: Shelf>(
+    shelf: &mut H,
+    provider: Label,
+) -> Result<Result<[u8; 512], DumpRefusal>, Fault> {
+    let Some(count) = shelf.sectors(provider) else {
+        return Ok(Err(DumpRefusal::Absent));
+    };
+    if count == 0 {
+        return Ok(Err(DumpRefusal::WrongSize));
+    }
+    let mut sector = [0; 512];
+    shelf.read(provider, count - 1, &mut sector)?;
+    Ok(Ok(sector))
+}
+
+fn dump<R: Files<File = File> + AllocGlobal + Clone + Drop, O: Write>(
+    rt: &R,
+    folder: &str,
+    provider: Label,
+    output: &mut O,
+) -> Result<Status, Fault> {
+    let mut shelf = FileShelf::open(rt, folder)?;
+    match last_sector(&mut shelf, provider)? {
+        Ok(sector) => {
+            let text = dump_text(rt.alloc(), &sector)?;
+            output.write_all(text.as_bytes())?;
+            Ok(match decode(&sector) {
+                Ok(_) => Status::Done,
+                Err(_) => Status::Refused,
+            })
+        }
+        Err(refusal) => {
+            let number = refusal.number();
+            writeln!(output, "refused {number}")?;
+            Ok(Status::Refused)
+        }
+    }
+}
+
+fn perform<R: Files<File = File> + AllocGlobal + Clone + Drop, O: Write>(
+    rt: &R,
+    job: Job<'_>,
+    output: &mut O,
+) -> Result<Status, Fault> {
+    match job {
+        Job::Introduce => {
+            writeln!(output, "gmbench: GEOM_MIRROR version 4")?;
+            Ok(Status::Done)
+        }
+        Job::Dump { folder, provider } => dump(rt, folder, provider, output),
+    }
+}
+
+fn run<R: Files<File = File> + AllocGlobal + Clone + Drop, O: Write, E: Write>(
+    rt: &R,
+    words: &[&str],
+    output: &mut O,
+    complaints: &mut E,
+) -> Result<Status, Fault> {
+    let status = match job_of(rt.alloc(), words) {
+        Ok(job) => perform(rt, job, output)?,
+        Err(error) => explain(&error, output, complaints)?,
+    };
+    output.flush()?;
+    Ok(status)
+}
+
+/// Runs the program on its words, without its own name, and answers how it ends.
+///
+/// Lines go to `output`; faults, and complaints about the words, go to `complaints`.
+pub fn program<R, I, O, E>(
+    rt: &R,
+    words: &[&str],
+    _input: &mut I,
+    output: &mut O,
+    complaints: &mut E,
+) -> Status
+where
+    R: Files<File = File> + AllocGlobal + Clone + Drop,
+    I: Read,
+    O: Write,
+    E: Write,
+{
+    match run(rt, words, output, complaints) {
+        Ok(status) => status,
+        Err(fault) => {
+            let _ = writeln!(complaints, "{fault}");
+            Status::Fault
+        }
+    }
+}

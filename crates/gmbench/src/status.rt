@@ -1,0 +1,94 @@
+//! How the program ends.
+
+use gm_shelf::ShelfFault;
+use std::alloc::AllocError;
+use std::{fmt, io};
+
+/// The exit status of the program.
+#[derive(Clone, Copy, Debug, PartialEq, Eq)]
+pub enum Status {
+    /// What was asked for was done.
+    Done,
+    /// It was refused, or damage was found.
+    Refused,
+    /// The program's own words were wrong.
+    Words,
+    /// A fault ended it.
+    Fault,
+}
+
+impl Status {
+    /// The number that the process ends with.
+    pub fn code(self) -> u8 {
+        match self {
+            Status::Done => 0,
+            Status::Refused => 1,
+            Status::Words => 2,
+            Status::Fault => 3,
+        }
+    }
+}
+
+/// A fault that ends the program. It prints as the line on standard error, without its line feed.
+#[derive(Clone, Copy, Debug, PartialEq, Eq)]
+pub enum Fault {
+    /// Memory was refused.
+    Memory,
+    /// A disk failed.
+    Disk,
+    /// The standard streams or the folder failed.
+    InputOrOutput,
+}
+
+impl fmt::Display for Fault {
+    fn fmt<W: fmt::Write>(&self, f: &mut fmt::Formatter<W>) -> fmt::Result {
+        f.write_str(match self {
+            Fault::Memory => "gmbench: F1 memory",
+            Fault::Disk => "gmbench: F3 disk",
+            Fault::InputOrOutput => "gmbench: input or output",
+        })
+    }
+}
+
+impl From<AllocError> for Fault {
+    fn from(_: AllocError) -> Self {
+        Fault::Memory
+    }
+}
+
+impl From<io::Error> for Fault {
+    fn from(error: io::Error) -> Self {
+        match error.kind() {
+            io::ErrorKind::OutOfMemory => Fault::Memory,
+            _ => Fault::InputOrOutput,
+        }
+    }
+}
+
+impl From<ShelfFault> for Fault {
+    fn from(fault: ShelfFault) -> Self {
+        match fault {
+            ShelfFault::Memory => Fault::Memory,
+            ShelfFault::Absent | ShelfFault::Range | ShelfFault::Device => Fault::Disk,
+        }
+    }
+}
+
+/// Why a last sector can't be printed.
+#[derive(Clone, Copy, Debug, PartialEq, Eq)]
+pub enum DumpRefusal {
+    /// The folder has no such image.
+    Absent,
+    /// The image has no sectors.
+    WrongSize,
+}
+
+impl DumpRefusal {
+    /// Its number among the refusals of commands.
+    pub fn number(self) -> u8 {
+        match self {
+            DumpRefusal::Absent => 8,
+            DumpRefusal::WrongSize => 28,
+        }
+    }
+}

@@ -1,0 +1,76 @@
+//! The program's own words.
+
+use clap::error::ErrorKind;
+use clap::{Arg, ArgAction, ArgMatches, Command, Error};
+use gm_metadata::Label;
+use std::alloc::{AllocError, Global};
+
+/// What the program is asked to do.
+#[derive(Clone, Copy)]
+pub enum Job<'a> {
+    /// Say what the program is.
+    Introduce,
+    /// Print what the last sector of a provider of a folder says.
+    Dump { folder: &'a str, provider: Label },
+}
+
+fn shelf_option<'a>(alloc: Global) -> Arg<'a> {
+    Arg::new(alloc, "shelf")
+        .long("shelf")
+        .value_name("DIR")
+        .help("The folder with the images")
+        .required(true)
+        .action(ArgAction::Set)
+}
+
+fn dump_command<'a>(alloc: Global) -> Result<Command<'a>, AllocError> {
+    let provider = Arg::new(alloc, "provider")
+        .value_name("PROV")
+        .help("The name of an image")
+        .required(true)
+        .action(ArgAction::Set);
+    Command::new(alloc, "dump")
+        .about("Prints what the last sector of an image says")
+        .arg(shelf_option(alloc))?
+        .arg(provider)
+}
+
+fn program_command<'a>(alloc: Global) -> Result<Command<'a>, AllocError> {
+    Command::new(alloc, "gmbench")
+        .about("A workshop for disk images that are mirrors of gmirror(8)")
+        .no_binary_name(true)
+        .subcommand_required(true)
+        .subcommand(dump_command(alloc)?)
+}
+
+// The label that a value is, or clap's complaint.
+fn label_of(alloc: Global, value: &str) -> Result<Label, Error> {
+    match Label::new(value) {
+        Some(label) => Ok(label),
+        None => {
+            let message = format!(in alloc;
+                "'{value}' is no name of an image: 1 to 15 of A-Z, a-z, 0-9, '.', '_' and '-'"
+            )?;
+            Err(program_command(alloc)?.error(ErrorKind::ValueValidation, message.as_str())?)
+        }
+    }
+}
+
+fn dump_of<'a>(alloc: Global, matches: &ArgMatches<'a>) -> Result<Job<'a>, Error> {
+    let folder = matches.get_str("shelf").unwrap_or("");
+    let provider = label_of(alloc, matches.get_str("provider").unwrap_or(""))?;
+    Ok(Job::Dump { folder, provider })
+}
+
+/// The job that the words ask for, without the program's own name. An `Err` is clap's: the text to print, or of the
+/// kind `OutOfMemory`.
+pub fn job_of<'a>(alloc: Global, words: &'a [&'a str]) -> Result<Job<'a>, Error> {
+    if words.is_empty() {
+        return Ok(Job::Introduce);
+    }
+    let matches = program_command(alloc)?.try_get_matches_from(words)?;
+    match matches.subcommand() {
+        Some((_, dump)) => dump_of(alloc, dump),
+        None => Ok(Job::Introduce),
+    }
+}
