@@ -1,10 +1,9 @@
 -- The keys of a map by labels are the names of the providers that it has sizes of.
-use Rattle.std.proofs.Common.{◌≡◌, ◌∙◌, ◌↔◌, ℕ, List, Bool, true, Option, Some, None, refl, sym, ap, Result, IsSome}
-use Rattle.std.specs.Prelude.{Contains, is_some, IfOk}
+use Rattle.std.proofs.Common.{◌≡◌, ◌∙◌, ℕ, List, Option, Some, None, refl, sym}
+use Rattle.std.specs.Prelude.{is_some}
 use Rattle.std.specs.Bool.{Decides}
 use Rattle.std.specs.Option.{option_map}
 use Rattle.std.specs.Ordering.{nat_cmp, eq_by_cmp}
-use Rattle.std.specs.Str.{bytes_eq}
 use Rattle.std.specs.Cmp.Lexicographic.{slice_cmp, texts_ties}
 use Rattle.std.specs.Set.{is_member}
 use Rattle.std.proofs.lemmas.Map.Made.{is_member-Decides}
@@ -13,7 +12,7 @@ use Rattle.gm_metadata.specs.Images.{Sizes}
 use Rattle.gm_shelf.specs.Disk.{AreNames, IsAscending}
 
 -- labels tie only where they are one
-same_key : (a b : List ℕ) → Decides (eq_by_cmp (slice_cmp nat_cmp) a b) (a ≡ b)
+pub same_key : (a b : List ℕ) → Decides (eq_by_cmp (slice_cmp nat_cmp) a b) (a ≡ b)
 same_key a b = rw (← texts_ties a b) (bytes_eq-Decides a b)
 
 -- sizes that are known just where the list has the name

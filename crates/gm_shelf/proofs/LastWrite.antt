@@ -1,8 +1,8 @@
 -- A write of one sector and a sync after it.
-use Rattle.std.proofs.Common.{◌≡◌, ◌∙◌, ◌⊎◌, inl, inr, ⊎_elim, ℕ, List, Bool, true, false, ◌==◌, ◌&&◌, refl, sym, subst}
+use Rattle.std.proofs.Common.{◌≡◌, ◌∙◌, inl, inr, ⊎_elim, ℕ, List, refl, sym}
 use Rattle.std.proofs.lemmas.Bool.Decides.{eqb_tells}
 use Rattle.gm_metadata.specs.declared.label.Label.{Label}
-use Rattle.gm_metadata.specs.Images.{Image, Same, put, same_label, label_tells, label_refl}
+use Rattle.gm_metadata.specs.Images.{Image, Same, put, label_tells, label_refl}
 use Rattle.gm_shelf.specs.Disk.{View, IsPut, Torn, IsQuiet, IsWrite, IsFixed}
 use Rattle.gm_shelf.specs.LastSector.{IsDone}
 

@@ -1,2 +1,10 @@
-pub mod LastWrite
+pub mod Caching
 pub mod KeyNames
+pub mod LastWrite
+pub mod OneSector
+pub mod EachPicked
+pub mod Fresh
+pub mod Picking
+pub mod SoFar
+pub mod Steps
+pub mod Walking

@@ -1,5 +1,5 @@
 -- Why a call of a shelf fails.
-use Rattle.std.specs.Prelude.{◌≡◌, ◌+◌, ℕ, ◌==◌, if◌then◌else◌}
+use Rattle.std.specs.Prelude.{ℕ, List, codes, ◌+◌, ◌==◌, if◌then◌else◌}
 use Rattle.gm_shelf.specs.declared.fault.ShelfFault.{ShelfFault}
 use Rattle.gm_shelf.specs.declared.fault.ShelfFault.TheVariants.{Absent, Range, Device, Memory}
 
@@ -9,6 +9,13 @@ fault_number Absent = 1
 fault_number Range = 2
 fault_number Device = 3
 fault_number Memory = 4
+
+-- what is printed of a fault
+abbrev pub fault_text : ShelfFault → List ℕ
+fault_text Absent = codes "the provider is absent"
+fault_text Range = codes "the provider has no such sector"
+fault_text Device = codes "the device failed"
+fault_text Memory = codes "out of memory"
 
 -- the last count that can be kept
 abbrev pub last_count : ℕ

@@ -1,5 +1,5 @@
 -- A folder of image files as contracts see it: sizes and failures, and nothing of what a file holds.
-use Rattle.std.specs.Prelude.{ℕ, List, [], Option, ◌/◌}
+use Rattle.std.specs.Prelude.{ℕ, List, [], ◌/◌}
 use Rattle.std.specs.Option.{option_map}
 use Rattle.std.specs.Ordering.{nat_cmp}
 use Rattle.std.specs.Cmp.Lexicographic.{slice_cmp}

@@ -1,4 +1,13 @@
+pub mod Cache
 pub mod Disk
+pub mod FaultShelves
+pub mod FileShelves
 pub mod Faults
 pub mod Folder
+pub mod History
 pub mod LastSector
+pub mod Lawful
+pub mod Memory
+pub mod Picks
+pub mod Stopping
+pub mod Walks

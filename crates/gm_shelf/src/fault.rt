@@ -1,6 +1,6 @@
 //! Why a call of a shelf fails, and the count of failures.
 
-ghost use Rattle.std.specs.Prelude.{◌≡◌, ◌+◌, ◌==◌, if◌then◌else◌};
+ghost use Rattle.std.specs.Prelude.{◌≡◌, ◌≤◌, ◌<◌, ◌+◌, ◌==◌, ◌↔◌, None, IfErr, OnOk, IsErrOf, IsSomeAnd, if◌then◌else◌};
 ghost use Rattle.gm_shelf.specs.Faults.{fault_number, fault_after, count_after};
 
 use std::alloc::AllocFailed;
@@ -35,13 +35,18 @@ impl ShelfFault {
 }
 
 impl fmt::Display for ShelfFault {
+    ghost use Rattle.std.specs.Prelude.{Some};
+    ghost use Rattle.gm_shelf.specs.Faults.{fault_text};
+
+    ghost output = { λ fault. Some (fault_text fault) };
+
     fn fmt<W: fmt::Write>(&self, f: &mut fmt::Formatter<W>) -> fmt::Result {
-        f.write_str(match self {
-            ShelfFault::Absent => "the provider is absent",
-            ShelfFault::Range => "the provider has no such sector",
-            ShelfFault::Device => "the device failed",
-            ShelfFault::Memory => "out of memory",
-        })
+        match self {
+            ShelfFault::Absent => f.write_str("the provider is absent"),
+            ShelfFault::Range => f.write_str("the provider has no such sector"),
+            ShelfFault::Device => f.write_str("the device failed"),
+            ShelfFault::Memory => f.write_str("out of memory"),
+        }
     }
 }
 
@@ -67,4 +72,29 @@ pub(crate) fn device_failed(failures: &mut u64) -> ShelfFault
     }
     *failures += 1;
     ShelfFault::Device
+}
+
+// The fault of a call on a provider, by its size alone.
+pub(crate) fn check_provider(sectors: Option<u64>) -> Result<(), ShelfFault>
+    ensures absent { IsErrOf result ShelfFault.Absent ↔ (sectors ≡ None) }
+    ensures only_absent { IfErr result (λ e. e ≡ ShelfFault.Absent) }
+{
+    match sectors {
+        Some(_) => Ok(()),
+        None => Err(ShelfFault::Absent),
+    }
+}
+
+// The fault of a call on a sector, by the provider's size alone.
+pub(crate) fn check_place(sectors: Option<u64>, place: u64) -> Result<(), ShelfFault>
+    ensures absent { IsErrOf result ShelfFault.Absent ↔ (sectors ≡ None) }
+    ensures range { IsErrOf result ShelfFault.Range ↔ IsSomeAnd sectors (λ n. n ≤ place) }
+    ensures there { OnOk result (IsSomeAnd sectors (λ n. place < n)) }
+    ensures not_device { IsErrOf result ShelfFault.Device → ⊥ }
+{
+    match sectors {
+        None => Err(ShelfFault::Absent),
+        Some(count) if count <= place => Err(ShelfFault::Range),
+        Some(_) => Ok(()),
+    }
 }

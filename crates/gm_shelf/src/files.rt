@@ -45,7 +45,7 @@ impl<R: Files<File = File> + AllocGlobal + Clone + Drop> OpenFiles<R> {
             .open(&self.rt, path.as_str())
     }
 
-    // Acts on a file, which is opened at its first use and kept. Where too many are open another one is closed.
+    // Acts on a file, which is opened at its first use and kept. Where too many are open, another one is closed.
     fn with<F: FnOnce(&File) -> io::Result<()>>(&mut self, name: Label, act: F) -> io::Result<()>
         requires { F.IsAlwaysCallable act }
     {
@@ -101,9 +101,13 @@ fn check_image(file: &File, length: u64) -> io::Result<()> {
 }
 
 impl<R: Files<File = File> + AllocGlobal + Clone + Drop> FileShelf<R> {
-    /// Opens a folder: its regular files whose names are labels and whose lengths are multiples of 512, as they are now.
-    /// Every other entry is skipped. Fails where the folder can't be listed.
-    pub fn open(rt: &R, folder: &str) -> io::Result<FileShelf<R>> {
+    ghost use Rattle.gm_shelf.specs.FileShelves.{failures_of};
+
+    /// Opens a folder: its regular files whose names are labels and whose lengths are multiples of 512,
+    /// as they are now. Every other entry is skipped. Fails where the folder can't be listed.
+    pub fn open(rt: &R, folder: &str) -> io::Result<FileShelf<R>>
+        ensures { IfOk result (λ shelf. failures_of shelf ≡ 0) }
+    {
         let mut lengths = BTreeMap::new(rt.alloc());
         for entry in fs::read_dir(rt, folder)? {
             if let Some((name, length)) = image_of(entry)? {

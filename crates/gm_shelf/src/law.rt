@@ -10,8 +10,9 @@ use std::alloc::AllocError;
 
 /// A set of providers, each a list of 512-byte sectors. Names and sizes never change.
 ///
-/// Between two syncs of a provider a crash leaves each of its sectors with the value of the last sync or with any value
-/// that was written since; each sector is chosen by itself. What is said of contents holds of a shelf that is honest.
+/// Between two syncs of a provider a crash leaves each of its sectors with the value of the last sync
+/// or with any value that was written since; each sector is chosen by itself. What is said of contents
+/// holds of a shelf that is honest.
 pub trait Shelf {
     /// The laws on contents hold of it.
     ghost honest: { Self → Type 0 };
@@ -30,29 +31,38 @@ pub trait Shelf {
     fn sectors(&self, provider: Label) -> Option<u64>
         ensures { result ≡ size self.now provider };
 
-    /// Reads the sector at this place, counted from 0. After a fault `out` holds anything.
+    /// Reads the sector at this place, counted from 0. It changes nothing of what is held or left, also where
+    /// it fails; after a fault `out` holds anything.
     fn read(&mut self, provider: Label, place: u64, out: &mut [u8; 512]) -> Result<(), ShelfFault>
         ensures bytes { honest self.old → OnOk result (out.new ≡ (view self.old).seen provider place) }
         ensures quiet { honest self.old → IsQuiet (view self.old) (view self.new) }
+        ensures kept { honest self.old → (x : Image) → (view self.old).may_leave x → (view self.new).may_leave x }
         ensures honest { honest self.old → honest self.new }
         ensures size { size self.new ≡ size self.old }
         ensures count { (view self.old).faults ≤ (view self.new).faults }
         ensures absent { IsErrOf result ShelfFault.Absent ↔ (size self.old provider ≡ None) }
-        ensures range { IsErrOf result ShelfFault.Range ↔ IsSomeAnd (size self.old provider) (λ n. n ≤ place) }
-        ensures device { IsErrOf result ShelfFault.Device → (view self.old).faults < (view self.new).faults };
+        ensures range { IsErrOf result ShelfFault.Range ↔
+            IsSomeAnd (size self.old provider) (λ n. n ≤ place) }
+        ensures device { IsErrOf result ShelfFault.Device →
+            (view self.old).faults < (view self.new).faults };
 
-    /// Writes the sector at this place. After a fault a read gives the old or the new value, the same one until the next write.
+    /// Writes the sector at this place. After a fault a read gives the old or the new value, the same one
+    /// until the next write.
     fn write(&mut self, provider: Label, place: u64, sector: &[u8; 512]) -> Result<(), ShelfFault>
-        ensures written { honest self.old → OnOk result (Same (view self.new).seen (put provider place sector.now (view self.old).seen)) }
+        ensures written { honest self.old →
+            OnOk result (Same (view self.new).seen (put provider place sector.now (view self.old).seen)) }
         ensures law { honest self.old → IsWrite provider place sector.now (view self.old) (view self.new) }
         ensures honest { honest self.old → honest self.new }
         ensures size { size self.new ≡ size self.old }
         ensures count { (view self.old).faults ≤ (view self.new).faults }
         ensures absent { IsErrOf result ShelfFault.Absent ↔ (size self.old provider ≡ None) }
-        ensures range { IsErrOf result ShelfFault.Range ↔ IsSomeAnd (size self.old provider) (λ n. n ≤ place) }
-        ensures device { IsErrOf result ShelfFault.Device → (view self.old).faults < (view self.new).faults };
+        ensures range { IsErrOf result ShelfFault.Range ↔
+            IsSomeAnd (size self.old provider) (λ n. n ≤ place) }
+        ensures device { IsErrOf result ShelfFault.Device →
+            (view self.old).faults < (view self.new).faults };
 
-    /// Fixes what the provider holds: after it a crash leaves that. A sync that failed changes nothing for a crash.
+    /// Fixes what the provider holds: after it a crash leaves that. After a sync that failed a crash leaves
+    /// nothing but what it could leave before.
     fn sync(&mut self, provider: Label) -> Result<(), ShelfFault>
         ensures fixed { honest self.old → OnOk result (IsFixed provider (view self.old) (view self.new)) }
         ensures quiet { honest self.old → IsQuiet (view self.old) (view self.new) }
@@ -61,7 +71,8 @@ pub trait Shelf {
         ensures count { (view self.old).faults ≤ (view self.new).faults }
         ensures absent { IsErrOf result ShelfFault.Absent ↔ (size self.old provider ≡ None) }
         ensures range { IsErrOf result ShelfFault.Range → ⊥ }
-        ensures device { IsErrOf result ShelfFault.Device → (view self.old).faults < (view self.new).faults };
+        ensures device { IsErrOf result ShelfFault.Device →
+            (view self.old).faults < (view self.new).faults };
 
     ghost lawful: { (shelf : Self) → honest shelf → IsLawful (view shelf) };
 }

@@ -9,15 +9,23 @@ use crate::law::Shelf;
 use gm_metadata::{Label, Metadata, encode};
 
 /// Writes the provider's last sector, then syncs the provider. A provider without sectors answers `Range`.
-pub fn write_last<H: Shelf>(shelf: &mut H, provider: Label, sector: &[u8; 512]) -> Result<(), ShelfFault>
+pub fn write_last<H: Shelf>(
+    shelf: &mut H,
+    provider: Label,
+    sector: &[u8; 512],
+) -> Result<(), ShelfFault>
     // At Ok the sector is fixed, and at every moment of the call it was old or new.
-    ensures done { (i : ℕ) → H.honest shelf.old → H.size shelf.old provider ≡ Some (i + 1) → OnOk result (IsDone provider i sector.now (H.view shelf.old) (H.view shelf.new)) }
-    ensures moments { (i : ℕ) → H.honest shelf.old → H.size shelf.old provider ≡ Some (i + 1) → OldOrNew provider i sector.now (H.view shelf.old) (H.view shelf.new) }
+    ensures done { (i : ℕ) → H.honest shelf.old → H.size shelf.old provider ≡ Some (i + 1) →
+        OnOk result (IsDone provider i sector.now (H.view shelf.old) (H.view shelf.new)) }
+    ensures moments { (i : ℕ) → H.honest shelf.old → H.size shelf.old provider ≡ Some (i + 1) →
+        OldOrNew provider i sector.now (H.view shelf.old) (H.view shelf.new) }
 
     ensures absent { IsErrOf result ShelfFault.Absent ↔ (H.size shelf.old provider ≡ None) }
     ensures range { IsErrOf result ShelfFault.Range ↔ (H.size shelf.old provider ≡ Some 0) }
-    ensures nothing_done { (H.size shelf.old provider ≡ None) ⊎ (H.size shelf.old provider ≡ Some 0) → shelf.new ≡ shelf.old }
-    ensures device { IsErrOf result ShelfFault.Device → (H.view shelf.old).faults < (H.view shelf.new).faults }
+    ensures nothing_done { (H.size shelf.old provider ≡ None) ⊎ (H.size shelf.old provider ≡ Some 0) →
+        shelf.new ≡ shelf.old }
+    ensures device { IsErrOf result ShelfFault.Device →
+        (H.view shelf.old).faults < (H.view shelf.new).faults }
 
     ensures honest { H.honest shelf.old → H.honest shelf.new }
     ensures size { H.size shelf.new ≡ H.size shelf.old }
@@ -35,15 +43,23 @@ pub fn write_last<H: Shelf>(shelf: &mut H, provider: Label, sector: &[u8; 512]) 
 }
 
 /// Writes the metadata as the provider's last sector, then syncs the provider.
-pub fn write_meta<H: Shelf>(shelf: &mut H, provider: Label, metadata: &Metadata) -> Result<(), ShelfFault>
+pub fn write_meta<H: Shelf>(
+    shelf: &mut H,
+    provider: Label,
+    metadata: &Metadata,
+) -> Result<(), ShelfFault>
     // At Ok the sector is fixed, and at every moment of the call it was old or new.
-    ensures done { (i : ℕ) → H.honest shelf.old → H.size shelf.old provider ≡ Some (i + 1) → OnOk result (IsDone provider i (encoded metadata.now) (H.view shelf.old) (H.view shelf.new)) }
-    ensures moments { (i : ℕ) → H.honest shelf.old → H.size shelf.old provider ≡ Some (i + 1) → OldOrNew provider i (encoded metadata.now) (H.view shelf.old) (H.view shelf.new) }
+    ensures done { (i : ℕ) → H.honest shelf.old → H.size shelf.old provider ≡ Some (i + 1) →
+        OnOk result (IsDone provider i (encoded metadata.now) (H.view shelf.old) (H.view shelf.new)) }
+    ensures moments { (i : ℕ) → H.honest shelf.old → H.size shelf.old provider ≡ Some (i + 1) →
+        OldOrNew provider i (encoded metadata.now) (H.view shelf.old) (H.view shelf.new) }
 
     ensures absent { IsErrOf result ShelfFault.Absent ↔ (H.size shelf.old provider ≡ None) }
     ensures range { IsErrOf result ShelfFault.Range ↔ (H.size shelf.old provider ≡ Some 0) }
-    ensures nothing_done { (H.size shelf.old provider ≡ None) ⊎ (H.size shelf.old provider ≡ Some 0) → shelf.new ≡ shelf.old }
-    ensures device { IsErrOf result ShelfFault.Device → (H.view shelf.old).faults < (H.view shelf.new).faults }
+    ensures nothing_done { (H.size shelf.old provider ≡ None) ⊎ (H.size shelf.old provider ≡ Some 0) →
+        shelf.new ≡ shelf.old }
+    ensures device { IsErrOf result ShelfFault.Device →
+        (H.view shelf.old).faults < (H.view shelf.new).faults }
 
     ensures honest { H.honest shelf.old → H.honest shelf.new }
     ensures size { H.size shelf.new ≡ H.size shelf.old }

@@ -1,5 +1,5 @@
 use super::*;
-use crate::{write_meta, FileShelf, Shelf, ShelfFault};
+use crate::{FileShelf, Shelf, ShelfFault, write_meta};
 use gm_metadata::{Balance, DiskFlags, Label, Metadata, MirrorFlags, encode};
 use std::os::unix::fs::symlink;
 use std::process::Abort;
@@ -58,9 +58,20 @@ fn metadata() -> Result<Metadata, Fail> {
 }
 
 // Whether these bytes stand at this sector of the file.
-fn holds(rt: &HostRuntime, folder: &String, name: &str, place: usize, sector: &[u8]) -> io::Result<bool> {
+fn holds(
+    rt: &HostRuntime,
+    folder: &String,
+    name: &str,
+    place: usize,
+    sector: &[u8],
+) -> io::Result<bool> {
     let bytes = fs::read(rt, path_in(rt, folder, name)?.as_str())?;
-    Ok(bytes.chunks(512).nth(place).is_some_and(|found| found == sector))
+    Ok(
+        bytes
+            .chunks(512)
+            .nth(place)
+            .is_some_and(|found| found == sector),
+    )
 }
 
 #[test]
@@ -78,7 +89,11 @@ fn lists_images_alone(rt: HostRuntime) -> Result<(), Fail> {
     for name in shelf.names()? {
         found.push((name, shelf.sectors(name)))?;
     }
-    let wanted = [(label("Z")?, Some(2)), (label("a-empty")?, Some(0)), (label("b.img")?, Some(2))];
+    let wanted = [
+        (label("Z")?, Some(2)),
+        (label("a-empty")?, Some(0)),
+        (label("b.img")?, Some(2)),
+    ];
     assert_eq!(rt; found.as_slice(), wanted.as_slice());
     assert_eq!(rt; shelf.sectors(label("link")?), None);
     fs::remove_dir_all(&rt, folder.as_str())?;

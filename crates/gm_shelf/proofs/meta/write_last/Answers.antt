@@ -1,5 +1,4 @@
-use Rattle.std.proofs.Common.{◌≡◌, ◌+◌, ◌-◌, ℕ, List, Some, arith, subst, sym}
-use Rattle.gm_shelf.specs.Disk.{View, IsWrite, IsQuiet, IsFixed}
+use Rattle.std.proofs.Common.{◌≡◌, ◌+◌, ◌-◌, arith}
 use Rattle.gm_shelf.proofs.LastWrite.{last_done}
 use Rattle.gm_shelf.proofs.meta.write_last.Goals as goal
 

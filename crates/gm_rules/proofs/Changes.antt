@@ -1,0 +1,99 @@
+-- The changes of the commands are what the commands make of the records.
+use Rattle.std.proofs.Common.{◌≡◌, ◌≢◌, ◌∙◌, ◌⊎◌, inl, inr, ℕ, ◌+◌, ◌-◌, Bool, true, false, not, ◌||◌, refl, sym, ap, List, [], ◌∷◌, filter, map, Option, Some, None}
+use Rattle.std.specs.List.{list_any}
+use Rattle.std.proofs.lemmas.Bool.{cases_Bool}
+use Rattle.gm_metadata.specs.Images.{same_label}
+use Rattle.gm_metadata.specs.declared.flags.MirrorFlags.{MirrorFlags}
+use Rattle.gm_state.specs.declared.command.BalanceWord.{BalanceWord}
+use Rattle.gm_state.specs.declared.command.Command.TheVariants.{Label, Insert, Remove, Destroy}
+use Rattle.gm_state.specs.declared.command.Command.TheVariants as commands
+use Rattle.gm_state.specs.declared.command.Intent.TheVariants.{Meta, Clear}
+use Rattle.gm_state.specs.declared.command.Reply.TheVariants.{Plain}
+use Rattle.gm_state.specs.declared.records.Mirror.{Mirror}
+use Rattle.gm_state.specs.declared.records.Component.{Component}
+use Rattle.gm_state.specs.Words.{Has, put, without, without_all}
+use Rattle.gm_state.specs.Records.{Records, IsState, members, name, provider}
+use Rattle.gm_state.specs.Lookups.{mirror_of, component_of}
+use Rattle.gm_state.proofs.Order.{same_from, same_is}
+use Rattle.gm_state.proofs.Words.{Has-filter, filter-Has, filter-put, filter_swap, filter_id, one}
+use Rattle.gm_rules.specs.Bad.{Seen}
+use Rattle.gm_rules.specs.After.{after, metas, clears_of, new_mirror, first_component, spare}
+use Rattle.gm_rules.specs.Decides.{Changed, Makes, IsGood}
+use Rattle.gm_rules.proofs.Finding.{filter_agree, any-map, any_from, some_any, not_both}
+use Rattle.gm_rules.proofs.Good.{named, new_name}
+
+pub label_makes : (s : Records) (x : Seen) (n p : List ℕ) (mid did : ℕ) (balance : BalanceWord) (slice : ℕ) (flags : MirrorFlags) (hardcoded : Bool) (sectors : ℕ) (ch : Changed)
+    → IsGood s x (Label n p mid did balance slice flags hardcoded) → x.size p ≡ Some sectors
+    → ch ≡ record { mirror = Some (new_mirror n mid balance slice flags sectors); gone_mirror = None; components = first_component n p did hardcoded sectors ∷ []; gone_components = []; intents = Meta p ∷ []; reply = Plain }
+    → Makes s x (Label n p mid did balance slice flags hardcoded) ch
+label_makes s x n p mid did balance slice flags hardcoded sectors ch good size is =
+    record { good = good; records = rw (is, size) refl; intents = rw is refl; reply = rw is refl }
+
+pub insert_makes : (s : Records) (x : Seen) (n p : List ℕ) (did priority : ℕ) (h : Bool) (m : Mirror) (ks : List Component) (sectors : ℕ) (k : Component) (ch : Changed)
+    → IsGood s x (Insert n p did priority h) → IsState s → mirror_of s n ≡ Some m → members s.components n ≡ ks → x.size p ≡ Some sectors → component_of s p ≡ None → k ≡ spare m p did priority h sectors
+    → ch ≡ record { mirror = Some (record m { all = m.all + 1 }); gone_mirror = None; components = k ∷ []; gone_components = []; intents = metas (put provider k ks); reply = Plain }
+    → Makes s x (Insert n p did priority h) ch
+insert_makes s x n p did priority h m ks sectors k ch good state found mine size none made is =
+    let z : Component = spare m p did priority h sectors in
+    let is_named : m.name ≡ n = (named s n m found).1 in
+    let others : (j : Component) → Has s.components j → j.provider ≡ z.provider → same_label j.mirror n ≡ true = λ j i e. absurd (not_both (same_label j.provider p) (same_from j.provider p e) (new_name s p none j i)) in
+    let placed : members (put provider z s.components) n ≡ put provider z (members s.components n) = filter-put provider (λ (c : Component). same_label c.mirror n) z s.components state.components_in_order (same_from m.name n is_named) others in
+    record { good = good; records = rw (is, made, found, size) refl; intents = rw (is, made, found, size, placed, mine) refl; reply = rw is refl }
+
+pub remove_makes : (s : Records) (x : Seen) (n p : List ℕ) (m : Mirror) (ks : List Component) (ch : Changed)
+    → IsGood s x (Remove n p) → mirror_of s n ≡ Some m → members s.components n ≡ ks
+    → ch ≡ record { mirror = Some (record m { all = m.all - 1 }); gone_mirror = None; components = []; gone_components = p ∷ []; intents = Clear p ∷ metas (without provider p ks); reply = Plain }
+    → Makes s x (Remove n p) ch
+remove_makes s x n p m ks ch good found mine is =
+    let swapped : members (without provider p s.components) n ≡ without provider p (members s.components n) = filter_swap (λ (c : Component). same_label c.mirror n) (λ (c : Component). not (same_label c.provider p)) s.components in
+    record { good = good; records = rw (is, found) refl; intents = rw (is, found, swapped, mine) refl; reply = rw is refl }
+
+pub clear_makes : (s : Records) (x : Seen) (p : List ℕ) (ch : Changed)
+    → IsGood s x (commands.Clear p)
+    → ch ≡ record { mirror = None; gone_mirror = None; components = []; gone_components = []; intents = Clear p ∷ []; reply = Plain }
+    → Makes s x (commands.Clear p) ch
+clear_makes s x p ch good is = record { good = good; records = rw is refl; intents = rw is refl; reply = rw is refl }
+
+-- two filters in a row
+filter-filter : {X : Type 0} (p q : X → Bool) (xs : List X) → filter (λ x. not (p x)) (filter (λ x. not (q x)) xs) ≡ filter (λ x. not (q x || p x)) xs
+filter-filter p q [] = refl
+filter-filter p q (x ∷ xs) =
+    elim (cases_Bool (q x)) [
+      | inl t ↦ rw t (filter-filter p q xs)
+      | inr t ↦ elim (cases_Bool (p x)) [
+        | inl u ↦ rw (t, u) (filter-filter p q xs)
+        | inr u ↦ rw (t, u) (ap (λ l. x ∷ l) (filter-filter p q xs))
+      ]
+    ]
+
+-- to delete by names is to keep what has none of them
+without_all-filter : (names : List (List ℕ)) (ks : List Component) → without_all provider names ks ≡ filter (λ k. not (list_any (λ p. same_label k.provider p) names)) ks
+without_all-filter [] ks = sym (filter_id (λ k. true) ks (λ x h. refl))
+without_all-filter (p ∷ names) ks =
+    without_all-filter names (without provider p ks) ∙ filter-filter (λ k. list_any (λ q. same_label k.provider q) names) (λ k. same_label k.provider p) ks
+
+-- a component has the provider of a member of the mirror just where it is one
+is_member : (s : Records) (n : List ℕ) → IsState s → (k : Component) → Has s.components k
+    → list_any (λ p. same_label k.provider p) (map provider (members s.components n)) ≡ same_label k.mirror n
+is_member s n state k h =
+    any-map (λ p. same_label k.provider p) provider (members s.components n) ∙
+    elim (cases_Bool (same_label k.mirror n)) [
+      | inl t ↦ any_from (λ j. same_label k.provider j.provider) (members s.components n) k (filter-Has (λ (j : Component). same_label j.mirror n) s.components k h t) (same_from k.provider k.provider refl) ∙ sym t
+      | inr t ↦ elim (cases_Bool (list_any (λ j. same_label k.provider j.provider) (members s.components n))) [
+        | inr u ↦ u ∙ sym t
+        | inl u ↦
+            let some = some_any (λ j. same_label k.provider j.provider) (members s.components n) u in
+            let r = Has-filter (λ (j : Component). same_label j.mirror n) s.components some.0 some.1 in
+            let same : k ≡ some.0 = one provider s.components state.components_in_order k some.0 h r.0 (same_is k.provider some.0.provider some.2) in
+            not_both (same_label k.mirror n) (ap (λ (j : Component). same_label j.mirror n) same ∙ r.1) t
+      ]
+    ]
+
+pub destroy_makes : (s : Records) (x : Seen) (n : List ℕ) (ks : List Component) (ch : Changed)
+    → IsGood s x (Destroy n) → IsState s → members s.components n ≡ ks
+    → ch ≡ record { mirror = None; gone_mirror = Some n; components = []; gone_components = map provider ks; intents = clears_of ks; reply = Plain }
+    → Makes s x (Destroy n) ch
+destroy_makes s x n ks ch good state mine is =
+    let left : without_all provider (map provider (members s.components n)) s.components ≡ filter (λ k. not (same_label k.mirror n)) s.components
+    = without_all-filter (map provider (members s.components n)) s.components ∙ filter_agree _ _ s.components (λ k h. ap not (is_member s n state k h)) in
+    record { good = good; records = rw (is, ← mine, left) refl; intents = rw (is, mine) refl; reply = rw is refl }

@@ -1,0 +1,128 @@
+-- What follows where no refusal applies, and which refusal is the least.
+use Rattle.std.proofs.Common.{◌≡◌, ◌≢◌, ◌∙◌, ◌⊎◌, inl, inr, ⊎_elim, ℕ, ◌≤◌, ◌<◌, ◌+◌, ◌^◌, Bool, true, false, not, ◌&&◌, ◌||◌, ◌==◌, nat_lt, refl, sym, ap, subst, arith, List, [], ◌∷◌, find, Option, Some, None, IsSome, is_none, is_some, ltb-true, ltb-false, eqb-true, length}
+use Rattle.std.specs.Option.{ForSome}
+use Rattle.std.specs.List.{list_all, list_any}
+use Rattle.std.proofs.lemmas.Bool.{cases_Bool, and_parts, or_parts, eqb-false}
+use Rattle.gm_state.specs.Words.{Has}
+use Rattle.gm_state.specs.Records.{Records, IsState, IsMirror, members}
+use Rattle.gm_state.specs.Lookups.{mirror_of, component_of}
+use Rattle.gm_state.specs.declared.command.Command.{Command}
+use Rattle.gm_state.specs.declared.command.Command.TheVariants.{Label, Insert, Remove, Clear, Destroy}
+use Rattle.gm_state.specs.declared.records.Mirror.{Mirror}
+use Rattle.gm_state.specs.declared.records.Component.{Component}
+use Rattle.gm_state.proofs.Order.{same_is}
+use Rattle.gm_metadata.specs.Images.{same_label}
+use Rattle.gm_metadata.specs.declared.flags.MirrorFlags.{MirrorFlags}
+use Rattle.gm_state.specs.declared.command.BalanceWord.{BalanceWord}
+use Rattle.gm_rules.specs.declared.refusals.Refusal.{Refusal}
+use Rattle.gm_rules.specs.declared.refusals.Refusal.TheVariants.{Absent, WrongSize}
+use Rattle.gm_rules.specs.Refusals.{number_of, own}
+use Rattle.gm_rules.specs.Bad.{Seen, applies, at, has_size, has_wrong_size}
+use Rattle.gm_rules.specs.Decides.{IsLeast, IsGood}
+use Rattle.gm_rules.proofs.Finding.{found, found_none, any_one}
+
+pub some_from : {X : Type 0} (o : Option X) → is_none o ≡ false → IsSome o
+some_from None e = absurd (let h : ⊥ = cc in h)
+some_from (Some x) e = refl
+
+pub there_from : {X : Type 0} (o : Option X) → is_none o ≡ false → (x : X) × (o ≡ Some x)
+there_from None e = absurd (let h : ⊥ = cc in h)
+there_from (Some x) e = (x, refl)
+
+pub none_from : {X : Type 0} (o : Option X) → is_some o ≡ false → o ≡ None
+none_from None e = refl
+none_from (Some x) e = cc
+
+-- a test that fails at what is there
+pub at_fails : {X : Type 0} (o : Option X) (x : X) (p : X → Bool) → o ≡ Some x → at o p ≡ false → p x ≡ false
+at_fails None x p e f = cc
+at_fails (Some a) x p e f = let h : a ≡ x = cc in sym (ap p h) ∙ f
+
+pub not_below : (a b : ℕ) → nat_lt a b ≡ false → b ≤ a
+not_below a b e = ltb-false a b e
+
+pub not_at : (a b : ℕ) → (a == b) ≡ false → a ≢ b
+not_at a b e = eqb-false a b e
+
+-- a provider of a right size
+pub right_size : (n : ℕ) → has_wrong_size n ≡ false → (2 ≤ n) × (n ≤ 1048576)
+right_size n e = let parts = or_parts (nat_lt n 2) (nat_lt 1048576 n) e in (ltb-false n 2 parts.0, ltb-false 1048576 n parts.1)
+
+pub fits_32 : (o : Option ℕ) → at o has_wrong_size ≡ false → ForSome o (λ n. n < 2 ^ 32)
+fits_32 o e n is = let r = right_size n (at_fails o n has_wrong_size is e) in omega arith
+
+-- the numbers rise along the list
+abbrev rises : List Refusal → Bool
+rises [] = true
+rises (r ∷ rs) = list_all (λ q. nat_lt (number_of r) (number_of q)) rs && rises rs
+
+own_rises : (c : Command) → rises (own c) ≡ true
+own_rises (Label n p mid did balance slice flags hardcoded) = refl
+own_rises (Insert n p did priority hardcoded) = refl
+own_rises (Remove n p) = refl
+own_rises (Clear p) = refl
+own_rises (Destroy n) = refl
+
+all_of : (r : Refusal) (qs : List Refusal) → list_all (λ q. nat_lt (number_of r) (number_of q)) qs ≡ true → (q : Refusal) → Has qs q → number_of r ≤ number_of q
+all_of r [] e q h = absurd h
+all_of r (s ∷ qs) e q h =
+    let parts : (nat_lt (number_of r) (number_of s) ≡ true) × (list_all (λ q. nat_lt (number_of r) (number_of q)) qs ≡ true) = and_parts _ _ e in
+    ⊎_elim (λ (i : s ≡ q). subst (λ (t : Refusal). number_of r ≤ number_of t) i (let l : number_of r < number_of s = ltb-true (number_of r) (number_of s) parts.0 in omega arith)) (λ (k : Has qs q). all_of r qs parts.1 q k) h
+
+least_in : (p : Refusal → Bool) (rs : List Refusal) → rises rs ≡ true → (r : Refusal) → find p rs ≡ Some r → (q : Refusal) → Has rs q → p q ≡ true → number_of r ≤ number_of q
+least_in p [] e r f q h t = absurd h
+least_in p (s ∷ rs) e r f q h t =
+    let parts : (list_all (λ q. nat_lt (number_of s) (number_of q)) rs ≡ true) × (rises rs ≡ true) = and_parts _ _ e in
+    elim (cases_Bool (p s)) [
+      | inl u ↦
+          let g : Some s ≡ Some r = rw u at f in
+          let is : s ≡ r = cc in
+          subst (λ (a : Refusal). number_of a ≤ number_of q) is (⊎_elim (λ (i : s ≡ q). subst (λ (a : Refusal). number_of s ≤ number_of a) i (omega arith)) (λ (k : Has rs q). all_of s rs parts.0 q k) h)
+      | inr u ↦
+          let g : find p rs ≡ Some r = rw u at f in
+          ⊎_elim (λ (i : s ≡ q). absurd (let a : p s ≡ true = ap p i ∙ t in let b : ⊥ = cc in b)) (λ (k : Has rs q). least_in p rs parts.1 r g q k t) h
+    ]
+
+-- the first in the list is the least
+pub is_least : (s : Records) (x : Seen) (c : Command) (r : Refusal) → find (applies s x c) (own c) ≡ Some r → IsLeast s x c r
+is_least s x c r e =
+    let f = found (applies s x c) (own c) r e in
+    record { listed = f.0; met = f.1; least = λ q h t. least_in (applies s x c) (own c) (own_rises c) r e q h t }
+
+pub is_good : (s : Records) (x : Seen) (c : Command) → find (applies s x c) (own c) ≡ None → IsGood s x c
+is_good s x c e r h = found_none (applies s x c) (own c) e r h
+
+-- the mirror that is found has the name
+pub named : (s : Records) (n : List ℕ) (m : Mirror) → mirror_of s n ≡ Some m → Has s.mirrors m × (m.name ≡ n)
+named s n m e = let f = found (λ (a : Mirror). same_label a.name n) s.mirrors m e in (f.0, same_is m.name n f.1)
+
+-- no component is on a provider that is none
+pub new_name : (s : Records) (p : List ℕ) → component_of s p ≡ None → (k : Component) → Has s.components k → same_label k.provider p ≡ false
+new_name s p e k h = found_none (λ (a : Component). same_label a.provider p) s.components e k h
+
+-- the rules of the mirror that is found
+pub rules_of : (s : Records) (n : List ℕ) (m : Mirror) → IsState s → mirror_of s n ≡ Some m → IsMirror m (members s.components n)
+rules_of s n m state e = let f = named s n m e in subst (λ (a : List ℕ). IsMirror m (members s.components a)) f.1 (state.each m f.0)
+
+one_there : {X : Type 0} (xs : List X) (x : X) → Has xs x → 0 < length xs
+one_there [] x h = absurd h
+one_there (y ∷ ys) x h = omega arith
+
+-- a mirror counts at least its ACTIVE component, and at most 16
+pub some_all : (s : Records) (n : List ℕ) (m : Mirror) → IsState s → mirror_of s n ≡ Some m → 0 < m.all
+some_all s n m state e =
+    let r = rules_of s n m state e in
+    let l : 0 < length (members s.components n) = one_there (members s.components n) r.active.0 r.active.1 in
+    let g : length (members s.components n) ≤ m.all = r.room in omega arith
+
+pub few_all : (s : Records) (n : List ℕ) (m : Mirror) → IsState s → mirror_of s n ≡ Some m → m.all < 255
+few_all s n m state e = let l : m.all ≤ 16 = (rules_of s n m state e).all in omega arith
+
+-- the provider of a good label is there with a right size
+pub label_size : (s : Records) (x : Seen) (c : Command) (n p : List ℕ) (mid did : ℕ) (balance : BalanceWord) (slice : ℕ) (flags : MirrorFlags) (hardcoded : Bool)
+    → c ≡ Label n p mid did balance slice flags hardcoded → IsGood s x c → (is_none (x.size p) ≡ false) × (at (x.size p) has_wrong_size ≡ false)
+label_size s x c n p mid did balance slice flags hardcoded is good =
+    let g : IsGood s x (Label n p mid did balance slice flags hardcoded) = subst (λ (d : Command). IsGood s x d) is good in (
+      any_one (λ q. is_none (x.size q)) p (or_parts _ _ (g Absent (inr (inr (inl refl))))).0,
+      any_one (λ q. at (x.size q) has_wrong_size) p (g WrongSize (inr (inr (inr (inr (inr (inr (inl refl)))))))),
+    )

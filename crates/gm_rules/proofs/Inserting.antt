@@ -1,0 +1,164 @@
+-- The plan of insert.
+use Rattle.std.proofs.Common.{◌≡◌, ◌≢◌, ◌∙◌, ◌⊎◌, inl, inr, ⊎_elim, ℕ, ◌<◌, ◌≤◌, ◌+◌, ◌-◌, ◌^◌, ◌==◌, ◌||◌, Bool, true, false, not, IsTrue, nat_lt, refl, sym, ap, subst, arith, List, [], ◌∷◌, find, Option, Some, None, length, filter, unwrap_or, is_none, is_some}
+use Rattle.std.specs.List.{list_any}
+use Rattle.std.proofs.lemmas.Bool.{or_parts}
+use Rattle.gm_metadata.specs.Images.{same_label}
+use Rattle.gm_metadata.specs.Labels.{is_label}
+use Rattle.gm_metadata.specs.Sector.{carries}
+use Rattle.gm_state.specs.declared.command.Command.TheVariants.{Insert}
+use Rattle.gm_state.specs.declared.records.Mirror.{Mirror}
+use Rattle.gm_state.specs.declared.records.Component.{Component}
+use Rattle.gm_state.specs.declared.records.Disk.TheVariants.{InSync, Inactive, Copying}
+use Rattle.gm_state.specs.Words.{Has, Ascends, put}
+use Rattle.gm_state.specs.Records.{Records, IsState, IsMirror, MirrorFits, ComponentFits, held_by, held_of, members, name, provider}
+use Rattle.gm_state.specs.Lookups.{mirror_of, component_of}
+use Rattle.gm_state.specs.World.{World, Sound, Below}
+use Rattle.gm_state.proofs.Order.{same_is, same_from, same_refl, differ}
+use Rattle.gm_state.proofs.Words.{Has-filter, filter-put, filter-put_out, put_there, put_stays, put_or, Ascends-put, length-put_le}
+use Rattle.gm_rules.specs.declared.refusals.Refusal.TheVariants as refusals
+use Rattle.gm_rules.specs.After.{after, intents_of, spare, metas}
+use Rattle.gm_rules.specs.Bad.{at, has_wrong_size}
+use Rattle.gm_rules.specs.Decides.{IsGood}
+use Rattle.gm_rules.specs.Facts.{last_carries}
+use Rattle.gm_rules.specs.Step.{CanAnswer, HasPlan}
+use Rattle.gm_rules.specs.Worlds.{seen_of, last_of}
+use Rattle.gm_rules.proofs.Adjusting.{Adjusts, adjusts_turns, adjusts_were, adjusted}
+use Rattle.gm_rules.proofs.Finding.{any_one, none_any, not_both}
+use Rattle.gm_rules.proofs.Good.{there_from, none_from, named, new_name, at_fails, not_below, not_at, right_size}
+use Rattle.gm_rules.proofs.Planned.{has}
+use Rattle.gm_rules.proofs.RuledOut.{all_there, carries_nothing, metas_has, metas_are, metas_plain}
+use Rattle.gm_rules.proofs.Turning.{Turns, Writes}
+
+-- what the refusals of insert rule out
+record CanInsert (u : World) (m : Mirror) (p : List ℕ) (did sectors : ℕ) : Type 0 where
+  here : Has u.state.mirrors m
+  size : u.size p ≡ Some sectors
+  fresh : (k : Component) → Has u.state.components k → same_label k.provider p ≡ false
+  big : m.data_sectors + 1 ≤ sectors
+  limit : sectors ≤ 1048576
+  dids : (k : Component) → Has (members u.state.components m.name) k → k.did ≢ did
+  room : m.all < 16
+  there : (k : Component) → Has (members u.state.components m.name) k → u.size k.provider ≡ Some k.sectors
+  bare : carries (u.shelf p (sectors - 1)) ≡ false
+
+module _ (u : World) (key : List ℕ) (m : Mirror) (p : List ℕ) (did priority : ℕ) (h : Bool) (sectors : ℕ) (sound : Sound u) (can : CanInsert u m p did sectors) (fits : ComponentFits (spare m p did priority h sectors)) where
+  abbrev k : Component
+  k = spare m p did priority h sectors
+
+  abbrev old : List Component
+  old = members u.state.components m.name
+
+  abbrev ks : List Component
+  ks = put provider k old
+
+  abbrev comps : List Component
+  comps = put provider k u.state.components
+
+  abbrev m' : Mirror
+  m' = record m { all = m.all + 1 }
+
+  rules : IsMirror m old
+  rules = sound.state.each m can.here
+
+  is_old : (j : Component) → Has old j → Has u.state.components j
+  is_old j i = (Has-filter (λ (c : Component). same_label c.mirror m.name) u.state.components j i).0
+
+  other_name : (j : Component) → Has u.state.components j → {P : Type 0} → j.provider ≡ p → P
+  other_name j i e = not_both (same_label j.provider p) (same_from j.provider p e) (can.fresh j i)
+
+  -- for each of ks: the new one, or an old one
+  each : (P : Component → Type 0) → P k → ((j : Component) → Has old j → P j) → (j : Component) → Has ks j → P j
+  each P new olds j i = ⊎_elim (λ (e : k ≡ j). subst P e new) (λ (o : Has old j). olds j o) (put_or provider k old j i)
+
+  rules' : IsMirror m' ks
+  rules' = record {
+    fits = record { name = rules.fits.name; mid = rules.fits.mid; genid = rules.fits.genid; syncid = rules.fits.syncid; slice = rules.fits.slice };
+    members_fit = each ComponentFits fits rules.members_fit;
+    some = rules.some;
+    all = (let r : m.all < 16 = can.room in omega arith);
+    room = (let a : length ks ≤ length old + 1 = length-put_le provider k old in let b : length old ≤ m.all = rules.room in omega arith);
+    active = (rules.active.0, put_stays provider k old rules.active.0 rules.active.1 (λ e. other_name rules.active.0 (is_old rules.active.0 rules.active.1) e), rules.active.2);
+    sizes = each (λ j. m.data_sectors + 1 ≤ j.sectors) can.big rules.sizes;
+    limits = each (λ j. j.sectors ≤ 1048576) can.limit rules.limits;
+    held = each (λ j. held_of j.disk < m.data_sectors) rules.some rules.held;
+    dids = each (λ i. (j : Component) → Has ks j → i.did ≡ j.did → i ≡ j)
+        (each (λ j. did ≡ j.did → k ≡ j) (λ e. refl) (λ j o e. absurd (can.dids j o (sym e))))
+        (λ i o. each (λ j. i.did ≡ j.did → i ≡ j) (λ e. absurd (can.dids i o e)) (λ j q e. rules.dids i o j q e));
+    syncids = each (λ j. j.syncid ≤ m.syncid) (omega arith) rules.syncids;
+    current = each (λ j. j.disk ≢ Inactive → j.syncid ≡ m.syncid) (λ n. refl) rules.current;
+  }
+
+  adjusts : Adjusts u.state m m' comps ks
+  adjusts = record {
+    same_name = refl;
+    same_mid = refl;
+    same_data = refl;
+    in_order = Ascends-put provider k u.state.components sound.state.components_in_order;
+    mine = filter-put provider (λ (c : Component). same_label c.mirror m.name) k u.state.components sound.state.components_in_order (same_refl m.name) (λ z i e. other_name z i e);
+    others = λ n d. filter-put_out provider (λ (c : Component). same_label c.mirror n) k u.state.components (differ m.name n (λ e. d (sym e))) (λ z i e. other_name z i e);
+    rules = rules';
+  }
+
+  abbrev s : Records
+  s = adjusted u.state m m' comps ks sound.state can.here adjusts
+
+  turns : Turns u u.shelf m' ks (λ q. false) (u.holds m.name) s
+  turns = adjusts_turns u m m' comps ks (λ q. false) sound can.here adjusts
+      (each (λ j. u.size j.provider ≡ Some j.sectors) can.size can.there)
+      (λ j i. refl)
+      (each (λ j. Below u.shelf (u.holds m.name) j.provider (held_by j.disk m.data_sectors)) (λ i l. absurd (omega arith)) (λ j o. sound.whole m j (record { mirror = can.here; component = o })))
+
+  writes : Writes u u.shelf m' ks (λ q. false) (metas ks)
+  writes = record {
+    each = metas_are u (λ q. false) ks ks (λ j i. i);
+    metas = λ j i. inl (metas_has ks j i);
+    clears = λ q e. absurd (let f : ⊥ = cc in f);
+    copied = λ q j e. refl;
+  }
+
+  insert_plan : (n : List ℕ) → mirror_of u.state n ≡ Some m → IsGood u.state (seen_of u) (Insert n p did priority h) → CanAnswer u key (Insert n p did priority h) → HasPlan u key (Insert n p did priority h)
+  insert_plan n found good answer =
+      has u key (Insert n p did priority h) m' ks (u.holds m.name) s (metas ks) sound turns writes (adjusts_were u m m' comps ks sound can.here adjusts can.there) (metas_plain ks) answer
+      (rw (found, can.size) refl)
+      (let at : members comps n ≡ ks = rw (← (named u.state n m found).1) adjusts.mine in ap metas (sym at))
+      good tt
+      (λ j i. ⊎_elim (λ (e : k ≡ j). inr (subst (λ (c : Component). carries (u.shelf c.provider (c.sectors - 1)) ≡ false) e can.bare)) (λ (o : Has u.state.components j). inl o) (put_or provider k u.state.components j i))
+
+-- what the refusals rule out
+can_insert : (u : World) (n p : List ℕ) (did priority : ℕ) (h : Bool) → Sound u → IsGood u.state (seen_of u) (Insert n p did priority h)
+    → (m : Mirror) × (mirror_of u.state n ≡ Some m) × (sectors : ℕ) × CanInsert u m p did sectors
+can_insert u n p did priority h sound good =
+    let found = there_from (mirror_of u.state n) (good refusals.NoMirror (inl refl)) in
+    let m : Mirror = found.0 in
+    let at_n = named u.state n m found.1 in
+    let absent = or_parts (list_any (λ q. is_none (u.size q)) (p ∷ [])) _ (good refusals.Absent (inr (inl refl))) in
+    let size = there_from (u.size p) (any_one (λ q. is_none (u.size q)) p absent.0) in
+    let sectors : ℕ = size.0 in
+    let wrong : at (u.size p) has_wrong_size ≡ false = any_one (λ q. at (u.size q) has_wrong_size) p (good refusals.WrongSize (inr (inr (inr (inr (inr (inr (inr (inr (inl refl)))))))))) in
+    let range = right_size sectors (at_fails (u.size p) sectors has_wrong_size size.1 wrong) in
+    let small : at (u.size p) (λ n. nat_lt n (m.data_sectors + 1)) ≡ false = any_one (λ q. at (u.size q) (λ n. nat_lt n (m.data_sectors + 1))) p
+    (at_fails (mirror_of u.state n) m (λ a. list_any (λ q. at (u.size q) (λ n. nat_lt n (a.data_sectors + 1))) (p ∷ [])) found.1 (good refusals.TooSmall (inr (inr (inr (inr (inl refl))))))) in
+    let full : (m.all == 16) ≡ false = at_fails (mirror_of u.state n) m (λ a. a.all == 16) found.1 (good refusals.Full (inr (inr (inr (inr (inr (inr (inl refl)))))))) in
+    let all : m.all ≤ 16 = (sound.state.each m at_n.0).all in
+    let apart : m.all ≢ 16 = not_at m.all 16 full in
+    let some : 2 ≤ sectors = range.0 in (
+      m,
+      found.1,
+      sectors,
+      record {
+        here = at_n.0;
+        size = size.1;
+        fresh = new_name u.state p (none_from (component_of u.state p) (any_one (λ q. is_some (component_of u.state q)) p (good refusals.ProviderTaken (inr (inr (inl refl))))));
+        big = not_below sectors (m.data_sectors + 1) (at_fails (u.size p) sectors (λ n. nat_lt n (m.data_sectors + 1)) size.1 small);
+        limit = range.1;
+        dids = λ k o. not_at k.did did (none_any _ (members u.state.components n) (good refusals.DidTaken (inr (inr (inr (inr (inr (inl refl))))))) k (subst (λ (a : List ℕ). Has (members u.state.components a) k) at_n.1 o));
+        room = omega arith;
+        there = λ k o. all_there u.size (members u.state.components n) absent.1 k (subst (λ (a : List ℕ). Has (members u.state.components a) k) at_n.1 o);
+        bare = carries_nothing u p sectors size.1 (omega arith) (any_one (λ q. last_carries (last_of u q)) p (good refusals.CarriesMetadata (inr (inr (inr (inl refl))))));
+      },
+    )
+
+pub insert_has : (u : World) (key n p : List ℕ) (did priority : ℕ) (h : Bool) → Sound u → CanAnswer u key (Insert n p did priority h) → IsGood u.state (seen_of u) (Insert n p did priority h) → HasPlan u key (Insert n p did priority h)
+insert_has u key n p did priority h sound answer good =
+    let can = can_insert u n p did priority h sound good in
+    insert_plan u key can.0 p did priority h can.2 sound can.3 (record { provider = answer.fits.1; did = answer.fits.2; priority = answer.fits.3 }) n can.1 good answer

@@ -1,0 +1,16 @@
+pub mod Finding
+pub mod Good
+pub mod Changes
+pub mod Seeing
+pub mod Codec
+pub mod Turning
+pub mod Answering
+pub mod Planned
+pub mod Adjusting
+pub mod RuledOut
+pub mod Labelling
+pub mod Inserting
+pub mod Removing
+pub mod Wiping
+pub mod Destroying
+pub mod Plans

@@ -1,0 +1,20 @@
+-- Each command that nothing refuses has a plan.
+use Rattle.std.proofs.Common.{ℕ, List}
+use Rattle.gm_state.specs.declared.command.Command.{Command}
+use Rattle.gm_state.specs.declared.command.Command.TheVariants.{Label, Insert, Remove, Clear, Destroy}
+use Rattle.gm_state.specs.World.{World, Sound}
+use Rattle.gm_rules.specs.Decides.{IsGood}
+use Rattle.gm_rules.specs.Step.{CanAnswer, HasPlan}
+use Rattle.gm_rules.specs.Worlds.{seen_of}
+use Rattle.gm_rules.proofs.Labelling.{label_has}
+use Rattle.gm_rules.proofs.Inserting.{insert_has}
+use Rattle.gm_rules.proofs.Removing.{remove_has}
+use Rattle.gm_rules.proofs.Wiping.{clear_has}
+use Rattle.gm_rules.proofs.Destroying.{destroy_has}
+
+pub every_plan : (u : World) (key : List ℕ) (c : Command) → Sound u → CanAnswer u key c → IsGood u.state (seen_of u) c → HasPlan u key c
+every_plan u key (Label n p mid did balance slice flags hardcoded) sound answer good = label_has u key n p mid did balance slice flags hardcoded sound answer good
+every_plan u key (Insert n p did priority hardcoded) sound answer good = insert_has u key n p did priority hardcoded sound answer good
+every_plan u key (Remove n p) sound answer good = remove_has u key n p sound answer good
+every_plan u key (Clear p) sound answer good = clear_has u key p sound answer good
+every_plan u key (Destroy n) sound answer good = destroy_has u key n sound answer good

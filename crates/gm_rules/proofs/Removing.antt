@@ -1,0 +1,165 @@
+-- The plan of remove.
+use Rattle.std.proofs.Common.{◌≡◌, ◌≢◌, ◌∙◌, ◌⊎◌, inl, inr, ⊎_elim, ℕ, ◌<◌, ◌≤◌, ◌+◌, ◌-◌, ◌&&◌, ◌||◌, Bool, true, false, not, refl, sym, ap, subst, arith, List, [], ◌∷◌, find, Option, Some, None, length, filter}
+use Rattle.std.specs.List.{list_any}
+use Rattle.std.proofs.lemmas.Bool.{or_parts, and_parts, not-true, not-false}
+use Rattle.gm_metadata.specs.Images.{same_label}
+use Rattle.gm_state.specs.declared.command.Command.TheVariants.{Remove}
+use Rattle.gm_state.specs.declared.command.Intent.{Intent}
+use Rattle.gm_state.specs.declared.command.Intent.TheVariants.{Meta, Clear}
+use Rattle.gm_state.specs.declared.records.Mirror.{Mirror}
+use Rattle.gm_state.specs.declared.records.Component.{Component}
+use Rattle.gm_state.specs.declared.records.Disk.{Disk}
+use Rattle.gm_state.specs.declared.records.Disk.TheVariants.{InSync, Inactive, Copying}
+use Rattle.gm_state.specs.Words.{Has, Ascends, put, without}
+use Rattle.gm_state.specs.Records.{Records, IsState, IsMirror, members, name, provider}
+use Rattle.gm_state.specs.Lookups.{mirror_of, is_active}
+use Rattle.gm_state.specs.World.{World, Sound}
+use Rattle.gm_state.proofs.Order.{same_is, same_from, same_refl, differ}
+use Rattle.gm_state.proofs.Words.{Has-filter, filter-Has, Ascends-filter, filter_swap, filter_id, length-filter_lt, one}
+use Rattle.gm_rules.specs.declared.refusals.Refusal.TheVariants as refusals
+use Rattle.gm_rules.specs.After.{after, intents_of, metas}
+use Rattle.gm_rules.specs.Decides.{IsGood}
+use Rattle.gm_rules.specs.Step.{CanAnswer, HasPlan}
+use Rattle.gm_rules.specs.Worlds.{seen_of}
+use Rattle.gm_rules.proofs.Adjusting.{Adjusts, adjusts_turns, adjusts_were, adjusted}
+use Rattle.gm_rules.proofs.Finding.{any_one, some_any, not_both}
+use Rattle.gm_rules.proofs.Good.{there_from, named}
+use Rattle.gm_rules.proofs.Planned.{has, one_plain}
+use Rattle.gm_rules.proofs.RuledOut.{all_there, metas_has, metas_are, metas_plain}
+use Rattle.gm_rules.proofs.Turning.{Turns, Writes, IsOne}
+
+-- what the refusals of remove rule out
+record CanRemove (u : World) (m : Mirror) (p : List ℕ) : Type 0 where
+  here : Has u.state.mirrors m
+  member : (k : Component) × Has (members u.state.components m.name) k × (k.provider ≡ p)
+  active : (k : Component) × Has (members u.state.components m.name) k × (k.disk ≡ InSync) × (k.provider ≢ p)
+  there : (k : Component) → Has (members u.state.components m.name) k → u.size k.provider ≡ Some k.sectors
+
+module _ (u : World) (key : List ℕ) (m : Mirror) (p : List ℕ) (sound : Sound u) (can : CanRemove u m p) where
+  abbrev old : List Component
+  old = members u.state.components m.name
+
+  abbrev stays : Component → Bool
+  stays k = not (same_label k.provider p)
+
+  abbrev ks : List Component
+  ks = without provider p old
+
+  abbrev comps : List Component
+  comps = without provider p u.state.components
+
+  abbrev m' : Mirror
+  m' = record m { all = m.all - 1 }
+
+  abbrev gone : List ℕ → Bool
+  gone q = same_label p q
+
+  rules : IsMirror m old
+  rules = sound.state.each m can.here
+
+  is_old : (j : Component) → Has ks j → Has old j
+  is_old j i = (Has-filter stays old j i).0
+
+  rules' : IsMirror m' ks
+  rules' = record {
+    fits = record { name = rules.fits.name; mid = rules.fits.mid; genid = rules.fits.genid; syncid = rules.fits.syncid; slice = rules.fits.slice };
+    members_fit = λ j i. rules.members_fit j (is_old j i);
+    some = rules.some;
+    all = (let r : m.all ≤ 16 = rules.all in omega arith);
+    room = (let a : length ks + 1 ≤ length old = length-filter_lt stays old can.member.0 can.member.1 (ap not (same_from can.member.0.provider p can.member.2)) in let b : length old ≤ m.all = rules.room in omega arith);
+    active = (can.active.0, filter-Has stays old can.active.0 can.active.1 (ap not (differ can.active.0.provider p can.active.3)), can.active.2);
+    sizes = λ j i. rules.sizes j (is_old j i);
+    limits = λ j i. rules.limits j (is_old j i);
+    held = λ j i. rules.held j (is_old j i);
+    dids = λ i x j y e. rules.dids i (is_old i x) j (is_old j y) e;
+    syncids = λ j i. rules.syncids j (is_old j i);
+    current = λ j i n. rules.current j (is_old j i) n;
+  }
+
+  -- the components of other mirrors stay
+  theirs : (n : List ℕ) → n ≢ m.name → (j : Component) → Has (members u.state.components n) j → stays j ≡ true
+  theirs n d j i =
+      let r = Has-filter (λ (c : Component). same_label c.mirror n) u.state.components j i in
+      let q = Has-filter (λ (c : Component). same_label c.mirror m.name) u.state.components can.member.0 can.member.1 in
+      ap not (differ j.provider p (λ e.
+      let same : can.member.0 ≡ j = one provider u.state.components sound.state.components_in_order can.member.0 j q.0 r.0 (can.member.2 ∙ sym e) in
+      d (sym (same_is j.mirror n r.1) ∙ sym (ap (λ (c : Component). c.mirror) same) ∙ same_is can.member.0.mirror m.name q.1)))
+
+  adjusts : Adjusts u.state m m' comps ks
+  adjusts = record {
+    same_name = refl;
+    same_mid = refl;
+    same_data = refl;
+    in_order = Ascends-filter stays provider u.state.components sound.state.components_in_order;
+    mine = filter_swap (λ (c : Component). same_label c.mirror m.name) stays u.state.components;
+    others = λ n d. filter_swap (λ (c : Component). same_label c.mirror n) stays u.state.components ∙ filter_id stays (members u.state.components n) (theirs n d);
+    rules = rules';
+  }
+
+  kept : (j : Component) → stays j ≡ true → gone j.provider ≡ false
+  kept j e = differ p j.provider (λ s. not_both (same_label j.provider p) (same_from j.provider p (sym s)) (not-true (same_label j.provider p) e))
+
+  abbrev s : Records
+  s = adjusted u.state m m' comps ks sound.state can.here adjusts
+
+  turns : Turns u u.shelf m' ks gone (u.holds m.name) s
+  turns = adjusts_turns u m m' comps ks gone sound can.here adjusts
+      (λ j i. can.there j (is_old j i))
+      (λ j i. kept j (Has-filter stays u.state.components j i).1)
+      (λ j i. sound.whole m j (record { mirror = can.here; component = is_old j i }))
+
+  are : (t : Intent) → Has (Clear p ∷ metas ks) t → IsOne u u.shelf ks gone t
+  are t (inl s) = subst (λ (x : Intent). IsOne u u.shelf ks gone x) s (same_refl p)
+  are t (inr h) = metas_are u gone ks ks (λ j i. i) t h
+
+  writes : Writes u u.shelf m' ks gone (Clear p ∷ metas ks)
+  writes = record {
+    each = are;
+    metas = λ j i. inl (inr (metas_has ks j i));
+    clears = λ q e. inl (ap (λ (x : List ℕ). Clear x) (same_is p q e));
+    copied = λ q j e. refl;
+  }
+
+  remove_plan : (n : List ℕ) → mirror_of u.state n ≡ Some m → IsGood u.state (seen_of u) (Remove n p) → CanAnswer u key (Remove n p) → HasPlan u key (Remove n p)
+  remove_plan n found good answer =
+      has u key (Remove n p) m' ks (u.holds m.name) s (Clear p ∷ metas ks) sound turns writes (adjusts_were u m m' comps ks sound can.here adjusts can.there) (one_plain (Clear p) tt (metas ks) (metas_plain ks)) answer
+      (rw found refl)
+      (let at : members comps n ≡ ks = rw (← (named u.state n m found).1) adjusts.mine in ap (λ (js : List Component). Clear p ∷ metas js) (sym at))
+      good tt (λ j i. inl (Has-filter stays u.state.components j i).0)
+
+active_is : (d : Disk) → is_active d ≡ true → d ≡ InSync
+active_is InSync e = refl
+active_is Inactive e = cc
+active_is (Copying f h) e = cc
+
+either : (b : Bool) → (b || false) ≡ b
+either true = refl
+either false = refl
+
+-- what the refusals rule out
+can_remove : (u : World) (n p : List ℕ) → Sound u → IsGood u.state (seen_of u) (Remove n p) → (m : Mirror) × (mirror_of u.state n ≡ Some m) × CanRemove u m p
+can_remove u n p sound good =
+    let at_n = there_from (mirror_of u.state n) (good refusals.NoMirror (inl refl)) in
+    let m : Mirror = at_n.0 in
+    let at = named u.state n m at_n.1 in
+    let absent = or_parts _ _ (good refusals.Absent (inr (inl refl))) in
+    let is_one : list_any (λ k. same_label k.provider p) (members u.state.components n) ≡ true
+    = not-false _ (any_one (λ q. not (list_any (λ k. same_label k.provider q) (members u.state.components n))) p (good refusals.NotMember (inr (inr (inl refl))))) in
+    let member = some_any (λ (a : Component). same_label a.provider p) (members u.state.components n) is_one in
+    let active = some_any (λ (a : Component). is_active a.disk && not (same_label a.provider p || false)) (members u.state.components n) (not-false _ (good refusals.LastActive (inr (inr (inr (inr (inl refl))))))) in
+    let parts = and_parts (is_active active.0.disk) (not (same_label active.0.provider p || false)) active.2 in
+    let off : same_label active.0.provider p ≡ false = sym (either (same_label active.0.provider p)) ∙ not-true (same_label active.0.provider p || false) parts.1 in (
+      m,
+      at_n.1,
+      record {
+        here = at.0;
+        member = (member.0, subst (λ (a : List ℕ). Has (members u.state.components a) member.0) (sym at.1) member.1, same_is member.0.provider p member.2);
+        active = (active.0, subst (λ (a : List ℕ). Has (members u.state.components a) active.0) (sym at.1) active.1, active_is active.0.disk parts.0, λ e. not_both (same_label active.0.provider p) (same_from active.0.provider p e) off);
+        there = λ j i. all_there u.size (members u.state.components n) absent.1 j (subst (λ (a : List ℕ). Has (members u.state.components a) j) at.1 i);
+      },
+    )
+
+pub remove_has : (u : World) (key n p : List ℕ) → Sound u → CanAnswer u key (Remove n p) → IsGood u.state (seen_of u) (Remove n p) → HasPlan u key (Remove n p)
+remove_has u key n p sound answer good =
+    let can = can_remove u n p sound good in
+    remove_plan u key can.0 p sound can.2 n can.1 good answer

@@ -1,0 +1,77 @@
+-- What facts decide is what the world decides.
+use Rattle.std.proofs.Common.{◌≡◌, ◌∙◌, ◌⊎◌, inl, inr, ℕ, ◌||◌, ◌+◌, Bool, not, nat_lt, refl, sym, ap, ap₂, subst, List, [], ◌∷◌, Option, Some, None, Result, Ok, Err, is_none, unwrap_or}
+use Rattle.std.specs.List.{list_any}
+use Rattle.gm_metadata.specs.Images.{Sizes}
+use Rattle.gm_state.specs.declared.command.Command.{Command}
+use Rattle.gm_state.specs.declared.command.Command.TheVariants.{Label, Insert, Remove, Clear, Destroy}
+use Rattle.gm_state.specs.declared.records.Mirror.{Mirror}
+use Rattle.gm_state.specs.declared.records.Component.{Component}
+use Rattle.gm_state.specs.Words.{Has, put}
+use Rattle.gm_state.specs.Records.{Records, name, provider}
+use Rattle.gm_state.specs.Lookups.{mirror_of}
+use Rattle.gm_state.specs.World.{World}
+use Rattle.gm_rules.specs.declared.facts.Fact.{Fact}
+use Rattle.gm_rules.specs.declared.refusals.Refusal.{Refusal}
+use Rattle.gm_rules.specs.declared.refusals.Refusal.TheVariants.{NoMirror, NameTaken, MidTaken, Absent, ProviderTaken, CarriesMetadata, TooSmall, NotMember, DidTaken, Full, TooManyMirrors, SomeLost, LastActive, WrongSize, NoMetadata}
+use Rattle.gm_rules.specs.Facts.{size_in, last_in, last_carries}
+use Rattle.gm_rules.specs.Bad.{applies, seen_in, has_size, has_wrong_size, providers_of, mine, mirror_named, at}
+use Rattle.gm_rules.specs.After.{after, intents_of, new_mirror, first_component, spare, on_mirror}
+use Rattle.gm_rules.specs.Worlds.{AreFacts, seen_of, last_of}
+use Rattle.gm_rules.specs.Decides.{Changed, Decides}
+use Rattle.gm_rules.proofs.Finding.{any_agree}
+
+module _ (facts : List Fact) (u : World) (c : Command) (are : AreFacts facts u c) where
+  -- a test of what the command names comes out alike
+  by_size : (test : Option ℕ → Bool) → list_any (λ p. test (size_in facts p)) (providers_of c) ≡ list_any (λ p. test (u.size p)) (providers_of c)
+  by_size test = any_agree _ _ (providers_of c) (λ p h. ap test (are.size p (inl h)))
+
+  by_last : (test : Option (List ℕ) → Bool) → list_any (λ p. test (last_in facts p)) (providers_of c) ≡ list_any (λ p. test (last_of u p)) (providers_of c)
+  by_last test = any_agree _ _ (providers_of c) (λ p h. ap test (are.last p (inl h)))
+
+  small : (o : Option Mirror) → at o (λ m. list_any (λ p. at (size_in facts p) (λ n. nat_lt n (m.data_sectors + 1))) (providers_of c)) ≡ at o (λ m. list_any (λ p. at (u.size p) (λ n. nat_lt n (m.data_sectors + 1))) (providers_of c))
+  small None = refl
+  small (Some m) = by_size (λ o. at o (λ n. nat_lt n (m.data_sectors + 1)))
+
+  pub same : (r : Refusal) → applies u.state (seen_in facts) c r ≡ applies u.state (seen_of u) c r
+  same NoMirror = refl
+  same NameTaken = refl
+  same MidTaken = refl
+  same Absent = ap₂ (λ a b. a || b) (by_size is_none) (any_agree _ _ (mine u.state c) (λ k h. ap (λ o. not (has_size o k.sectors)) (are.size k.provider (inr (k, h, refl)))))
+  same ProviderTaken = refl
+  same CarriesMetadata = by_last last_carries
+  same TooSmall = small (mirror_named u.state c)
+  same NotMember = refl
+  same DidTaken = refl
+  same Full = refl
+  same TooManyMirrors = refl
+  same SomeLost = refl
+  same LastActive = refl
+  same WrongSize = by_size (λ o. at o has_wrong_size)
+  same NoMetadata = by_last (λ o. not (last_carries o))
+
+-- the records depend on the sizes of the named providers alone
+same_after : (x y : Sizes) (c : Command) (s : Records) → ((p : List ℕ) → Has (providers_of c) p → x p ≡ y p) → after x c s ≡ after y c s
+same_after x y (Label n p mid did balance slice flags hardcoded) s e = ap (λ o. let r : Records = record { mirrors = put name (new_mirror n mid balance slice flags (unwrap_or o 0)) s.mirrors; components = put provider (first_component n p did hardcoded (unwrap_or o 0)) s.components } in r) (e p (inl refl))
+same_after x y (Insert n p did priority hardcoded) s e = ap (λ o. on_mirror (mirror_of s n) s (λ m. record { mirrors = put name (record m { all = m.all + 1 }) s.mirrors; components = put provider (spare m p did priority hardcoded (unwrap_or o 0)) s.components })) (e p (inl refl))
+same_after x y (Remove n p) s e = refl
+same_after x y (Clear p) s e = refl
+same_after x y (Destroy n) s e = refl
+
+-- what is decided from facts of the world is decided in the world
+decides_in : (facts : List Fact) (u : World) (c : Command) → AreFacts facts u c → (r : Result Changed Refusal) → Decides u.state (seen_in facts) c r → Decides u.state (seen_of u) c r
+decides_in facts u c are (Err r) d = record {
+  listed = d.listed;
+  met = sym (same facts u c are r) ∙ d.met;
+  least = λ q h t. d.least q h (same facts u c are q ∙ t);
+}
+decides_in facts u c are (Ok ch) d =
+    let e = same_after (size_in facts) u.size c u.state (λ p h. are.size p (inl h)) in
+    record {
+      good = λ r h. sym (same facts u c are r) ∙ d.good r h;
+      records = d.records ∙ e;
+      intents = d.intents ∙ ap (intents_of c u.state) e;
+      reply = d.reply;
+    }
+
+pub in_world : (facts : List Fact) (s : Records) (c : Command) (r : Result Changed Refusal) → Decides s (seen_in facts) c r → (u : World) → u.state ≡ s → AreFacts facts u c → Decides u.state (seen_of u) c r
+in_world facts s c r d u e are = decides_in facts u c are r (subst (λ (t : Records). Decides t (seen_in facts) c r) (sym e) d)

@@ -1,0 +1,84 @@
+-- The plan of clear: no mirror turns.
+use Rattle.std.proofs.Common.{◌≡◌, ◌≢◌, ◌∙◌, ◌⊎◌, inl, inr, ⊎_elim, ℕ, Bool, true, false, IsTrue, refl, sym, ap, subst, List, [], ◌∷◌, Option, Some, None, is_some, true≢false}
+use Rattle.gm_metadata.specs.Images.{same_label}
+use Rattle.gm_metadata.specs.Labels.{is_label}
+use Rattle.gm_metadata.specs.declared.balance.Balance.TheVariants as balances
+use Rattle.gm_state.specs.declared.command.Command.TheVariants as commands
+use Rattle.gm_state.specs.declared.command.Intent.{Intent}
+use Rattle.gm_state.specs.declared.command.Intent.TheVariants.{Clear}
+use Rattle.gm_state.specs.declared.records.Mirror.{Mirror}
+use Rattle.gm_state.specs.declared.records.Component.{Component}
+use Rattle.gm_state.specs.Words.{Has}
+use Rattle.gm_state.specs.Records.{Records, members}
+use Rattle.gm_state.specs.Lookups.{component_of}
+use Rattle.gm_state.specs.World.{World, Sound}
+use Rattle.gm_state.proofs.Order.{same_is, same_from, same_refl, differ}
+use Rattle.gm_rules.specs.declared.refusals.Refusal.TheVariants as refusals
+use Rattle.gm_rules.specs.Decides.{IsGood}
+use Rattle.gm_rules.specs.Step.{CanAnswer, HasPlan}
+use Rattle.gm_rules.specs.Worlds.{seen_of}
+use Rattle.gm_rules.proofs.Finding.{any_one, no_members, not_both}
+use Rattle.gm_rules.proofs.Good.{none_from, new_name}
+use Rattle.gm_rules.proofs.Planned.{has, one_plain}
+use Rattle.gm_rules.proofs.Turning.{Turns, Writes, Were, IsOne}
+
+-- a record whose name no mirror has
+nobody : Mirror
+nobody = record { name = []; mid = 0; all = 0; genid = 0; syncid = 0; slice = 0; balance = balances.None; data_sectors = 0; flags = record { no_autosync = false; no_failsync = false } }
+
+no_name : nobody.name ≡ []
+unfolding nobody
+no_name = refl
+
+module _ (u : World) (key p : List ℕ) (sound : Sound u) (fresh : (k : Component) → Has u.state.components k → same_label k.provider p ≡ false) where
+  abbrev gone : List ℕ → Bool
+  gone q = same_label p q
+
+  has_name : (a : Mirror) → Has u.state.mirrors a → a.name ≢ nobody.name
+  has_name a h e =
+      let label : is_label a.name ≡ true = (sound.state.each a h).fits.name in
+      true≢false (sym label ∙ ap is_label (e ∙ no_name))
+
+  none : members u.state.components nobody.name ≡ []
+  none = no_members u.state.components nobody.name (λ k h. differ k.mirror nobody.name (λ e. let home = sound.state.homes k h in has_name home.0 home.1 (home.2 ∙ e)))
+
+  turns : Turns u u.shelf nobody [] gone (u.holds nobody.name) u.state
+  turns = record {
+    state = sound.state;
+    mirror = λ a h. inr (has_name a h, h);
+    mine = none;
+    others = λ n d. refl;
+    there = λ k h. absurd h;
+    cleared = λ k h. differ p k.provider (λ e. not_both (same_label k.provider p) (same_from k.provider p (sym e)) (fresh k h));
+    below = λ k h. absurd h;
+    last = λ q j e. refl;
+    untouched = λ q e j. refl;
+  }
+
+  are : (t : Intent) → Has (Clear p ∷ []) t → IsOne u u.shelf [] gone t
+  are t (inl s) = subst (λ (x : Intent). IsOne u u.shelf [] gone x) s (same_refl p)
+  are t (inr h) = absurd h
+
+  writes : Writes u u.shelf nobody [] gone (Clear p ∷ [])
+  writes = record {
+    each = are;
+    metas = λ k h. absurd h;
+    clears = λ q e. inl (ap (λ (x : List ℕ). Clear x) (same_is p q e));
+    copied = λ q j e. refl;
+  }
+
+  were : Were u nobody [] (u.holds nobody.name)
+  were = record {
+    list_stays = λ a h e i. absurd (has_name a h e);
+    size_stays = λ a h e. absurd (has_name a h e);
+    sizes = λ k h. absurd (let g : Has [] k = subst (λ (l : List Component). Has l k) none h in g);
+  }
+
+  clear_plan : IsGood u.state (seen_of u) (commands.Clear p) → CanAnswer u key (commands.Clear p) → HasPlan u key (commands.Clear p)
+  clear_plan good answer =
+      has u key (commands.Clear p) nobody [] (u.holds nobody.name) u.state (Clear p ∷ []) sound turns writes were (one_plain (Clear p) tt [] (λ t h. absurd h)) answer
+      refl refl good tt (λ j i. inl i)
+
+pub clear_has : (u : World) (key p : List ℕ) → Sound u → CanAnswer u key (commands.Clear p) → IsGood u.state (seen_of u) (commands.Clear p) → HasPlan u key (commands.Clear p)
+clear_has u key p sound answer good =
+    clear_plan u key p sound (new_name u.state p (none_from (component_of u.state p) (any_one (λ q. is_some (component_of u.state q)) p (good refusals.ProviderTaken (inr (inl refl)))))) good answer

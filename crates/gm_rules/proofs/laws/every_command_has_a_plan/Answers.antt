@@ -1,0 +1,5 @@
+use Rattle.gm_rules.proofs.Plans.{every_plan}
+use Rattle.gm_rules.proofs.laws.every_command_has_a_plan.Goals as goal
+
+pub returns : goal.returns
+returns c = every_plan

@@ -1,0 +1,100 @@
+-- When a command is refused: for each refusal one line.
+use Rattle.std.specs.Prelude.{◌≡◌, ◌+◌, ℕ, Bool, true, false, not, ◌==◌, ◌&&◌, ◌||◌, nat_lt, List, [], ◌∷◌, length, Option, Some, None, is_none, is_some, filter, option_and_then}
+use Rattle.std.specs.List.{list_any}
+use Rattle.gm_metadata.specs.Images.{same_label}
+use Rattle.gm_state.specs.declared.records.Mirror.{Mirror}
+use Rattle.gm_state.specs.declared.records.Component.{Component}
+use Rattle.gm_state.specs.declared.command.Command.{Command}
+use Rattle.gm_state.specs.declared.command.Command.TheVariants.{Label, Insert, Remove, Clear, Destroy}
+use Rattle.gm_state.specs.Records.{Records}
+use Rattle.gm_state.specs.Lookups.{mirror_of, component_of, is_active}
+use Rattle.gm_rules.specs.declared.facts.Fact.{Fact}
+use Rattle.gm_rules.specs.Facts.{size_in, last_in, last_carries}
+use Rattle.gm_rules.specs.declared.refusals.Refusal.{Refusal}
+use Rattle.gm_rules.specs.declared.refusals.Refusal.TheVariants.{NoMirror, NameTaken, MidTaken, Absent, ProviderTaken, CarriesMetadata, TooSmall, NotMember, DidTaken, Full, TooManyMirrors, SomeLost, LastActive, WrongSize, NoMetadata}
+
+-- the mirror that a command names
+abbrev pub name_of : Command → Option (List ℕ)
+name_of (Label n p mid did balance slice flags hardcoded) = Some n
+name_of (Insert n p did priority hardcoded) = Some n
+name_of (Remove n p) = Some n
+name_of (Clear p) = None
+name_of (Destroy n) = Some n
+
+-- the providers that it names
+abbrev pub providers_of : Command → List (List ℕ)
+providers_of (Label n p mid did balance slice flags hardcoded) = p ∷ []
+providers_of (Insert n p did priority hardcoded) = p ∷ []
+providers_of (Remove n p) = p ∷ []
+providers_of (Clear p) = p ∷ []
+providers_of (Destroy n) = []
+
+-- the mirror has the mid that the command gives
+abbrev pub has_mid : Command → Mirror → Bool
+has_mid (Label n p mid did balance slice flags hardcoded) m = m.mid == mid
+has_mid (Insert n p did priority hardcoded) m = false
+has_mid (Remove n p) m = false
+has_mid (Clear p) m = false
+has_mid (Destroy n) m = false
+
+-- the component has the did that the command gives
+abbrev pub has_did : Command → Component → Bool
+has_did (Label n p mid did balance slice flags hardcoded) k = k.did == did
+has_did (Insert n p did priority hardcoded) k = k.did == did
+has_did (Remove n p) k = false
+has_did (Clear p) k = false
+has_did (Destroy n) k = false
+
+-- what is seen of a provider: its size where it is there, and whether its last sector carries metadata
+pub record Seen : Type 0 where
+  pub size : List ℕ → Option ℕ
+  pub carries : List ℕ → Bool
+
+-- what facts say
+abbrev pub seen_in : List Fact → Seen
+seen_in facts = record { size = size_in facts; carries = λ p. last_carries (last_in facts p) }
+
+-- a provider is there with just so many sectors
+abbrev pub has_size : Option ℕ → ℕ → Bool
+has_size None n = false
+has_size (Some k) n = k == n
+
+-- a test of what is there
+abbrev pub at : {X : Type 0} → Option X → (X → Bool) → Bool
+at None test = false
+at (Some x) test = test x
+
+-- the mirror that the command names, where it is registered
+abbrev pub mirror_named : Records → Command → Option Mirror
+mirror_named s c = option_and_then (λ n. mirror_of s n) (name_of c)
+
+-- the component is one of the mirror that the command names
+abbrev pub is_mine : Option (List ℕ) → Component → Bool
+is_mine None k = false
+is_mine (Some n) k = same_label k.mirror n
+
+-- the components of the mirror that the command names, in byte order
+abbrev pub mine : Records → Command → List Component
+mine s c = filter (λ k. is_mine (name_of c) k) s.components
+
+-- a provider has fewer than 2 or more than 1,048,576 sectors
+abbrev pub has_wrong_size : ℕ → Bool
+has_wrong_size n = nat_lt n 2 || nat_lt 1048576 n
+
+-- the refusal applies to the command, whether the command lists it or not
+abbrev pub applies : Records → Seen → Command → Refusal → Bool
+applies s x c NoMirror = is_none (mirror_named s c)
+applies s x c NameTaken = is_some (mirror_named s c)
+applies s x c MidTaken = list_any (has_mid c) s.mirrors
+applies s x c Absent = list_any (λ p. is_none (x.size p)) (providers_of c) || list_any (λ k. not (has_size (x.size k.provider) k.sectors)) (mine s c)
+applies s x c ProviderTaken = list_any (λ p. is_some (component_of s p)) (providers_of c)
+applies s x c CarriesMetadata = list_any (λ p. x.carries p) (providers_of c)
+applies s x c TooSmall = at (mirror_named s c) (λ m. list_any (λ p. at (x.size p) (λ n. nat_lt n (m.data_sectors + 1))) (providers_of c))
+applies s x c NotMember = list_any (λ p. not (list_any (λ k. same_label k.provider p) (mine s c))) (providers_of c)
+applies s x c DidTaken = list_any (has_did c) (mine s c)
+applies s x c Full = at (mirror_named s c) (λ m. m.all == 16)
+applies s x c TooManyMirrors = length s.mirrors == 64
+applies s x c SomeLost = at (mirror_named s c) (λ m. nat_lt (length (mine s c)) m.all)
+applies s x c LastActive = not (list_any (λ k. is_active k.disk && not (list_any (λ p. same_label k.provider p) (providers_of c))) (mine s c))
+applies s x c WrongSize = list_any (λ p. at (x.size p) has_wrong_size) (providers_of c)
+applies s x c NoMetadata = list_any (λ p. not (x.carries p)) (providers_of c)

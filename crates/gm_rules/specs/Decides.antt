@@ -1,0 +1,60 @@
+-- What `decide` answers.
+use Rattle.std.specs.Prelude.{◌≡◌, ◌≤◌, ℕ, true, false, List, Option, Some, None, Result, Ok, Err}
+use Rattle.gm_state.specs.declared.command.Command.{Command}
+use Rattle.gm_state.specs.declared.command.Intent.{Intent}
+use Rattle.gm_state.specs.declared.command.Reply.{Reply}
+use Rattle.gm_state.specs.declared.command.Reply.TheVariants.{Plain}
+use Rattle.gm_state.specs.declared.records.Mirror.{Mirror}
+use Rattle.gm_state.specs.declared.records.Component.{Component}
+use Rattle.gm_state.specs.Words.{Has, put, put_all, without, without_all}
+use Rattle.gm_state.specs.Records.{Records, IsState, name, provider}
+use Rattle.gm_rules.specs.declared.refusals.Refusal.{Refusal}
+use Rattle.gm_rules.specs.Refusals.{number_of, own}
+use Rattle.gm_rules.specs.Bad.{Seen, applies}
+use Rattle.gm_rules.specs.After.{after, intents_of}
+
+-- records to put, names of records to delete, intents, reply
+pub record Changed : Type 0 where
+  pub mirror : Option Mirror
+  pub gone_mirror : Option (List ℕ)
+  pub components : List Component
+  pub gone_components : List (List ℕ)
+  pub intents : List Intent
+  pub reply : Reply
+
+abbrev pub put_some : Option Mirror → List Mirror → List Mirror
+put_some None ms = ms
+put_some (Some m) ms = put name m ms
+
+abbrev pub without_some : Option (List ℕ) → List Mirror → List Mirror
+without_some None ms = ms
+without_some (Some n) ms = without name n ms
+
+-- the records with the change made: what is gone goes first
+abbrev pub changed_by : Changed → Records → Records
+changed_by ch s = record {
+  mirrors = put_some ch.mirror (without_some ch.gone_mirror s.mirrors);
+  components = put_all provider ch.components (without_all provider ch.gone_components s.components);
+}
+
+-- r is the refusal with the least number that applies
+pub record IsLeast (s : Records) (x : Seen) (c : Command) (r : Refusal) : Type 0 where
+  pub listed : Has (own c) r
+  pub met : applies s x c r ≡ true
+  pub least : (q : Refusal) → Has (own c) q → applies s x c q ≡ true → number_of r ≤ number_of q
+
+-- no refusal that the command lists applies
+abbrev pub IsGood : Records → Seen → Command → Type 0
+IsGood s x c = (r : Refusal) → Has (own c) r → applies s x c r ≡ false
+
+-- the change is what the command makes of the records, and they keep all rules and limits
+pub record Makes (s : Records) (x : Seen) (c : Command) (ch : Changed) : Type 0 where
+  pub good : IsGood s x c
+  pub records : changed_by ch s ≡ after x.size c s
+  pub intents : ch.intents ≡ intents_of c s (after x.size c s)
+  pub reply : ch.reply ≡ Plain
+
+-- the least refusal, or the change
+abbrev pub Decides : Records → Seen → Command → Result Changed Refusal → Type 0
+Decides s x c (Ok ch) = Makes s x c ch
+Decides s x c (Err r) = IsLeast s x c r

@@ -1,0 +1,32 @@
+-- The refusals: their numbers, and which command lists which.
+use Rattle.std.specs.Prelude.{ℕ, List, [], ◌∷◌}
+use Rattle.gm_state.specs.declared.command.Command.{Command}
+use Rattle.gm_state.specs.declared.command.Command.TheVariants.{Label, Insert, Remove, Clear, Destroy}
+use Rattle.gm_rules.specs.declared.refusals.Refusal.{Refusal}
+use Rattle.gm_rules.specs.declared.refusals.Refusal.TheVariants.{NoMirror, NameTaken, MidTaken, Absent, ProviderTaken, CarriesMetadata, TooSmall, NotMember, DidTaken, Full, TooManyMirrors, SomeLost, LastActive, WrongSize, NoMetadata}
+
+-- the number of a refusal: where several apply, the least is answered
+abbrev pub number_of : Refusal → ℕ
+number_of NoMirror = 5
+number_of NameTaken = 6
+number_of MidTaken = 7
+number_of Absent = 8
+number_of ProviderTaken = 9
+number_of CarriesMetadata = 10
+number_of TooSmall = 11
+number_of NotMember = 12
+number_of DidTaken = 13
+number_of Full = 14
+number_of TooManyMirrors = 15
+number_of SomeLost = 16
+number_of LastActive = 17
+number_of WrongSize = 28
+number_of NoMetadata = 29
+
+-- the refusals that each command may meet
+abbrev pub own : Command → List Refusal
+own (Label n p mid did balance slice flags hardcoded) = NameTaken ∷ MidTaken ∷ Absent ∷ ProviderTaken ∷ CarriesMetadata ∷ TooManyMirrors ∷ WrongSize ∷ []
+own (Insert n p did priority hardcoded) = NoMirror ∷ Absent ∷ ProviderTaken ∷ CarriesMetadata ∷ TooSmall ∷ DidTaken ∷ Full ∷ SomeLost ∷ WrongSize ∷ []
+own (Remove n p) = NoMirror ∷ Absent ∷ NotMember ∷ SomeLost ∷ LastActive ∷ []
+own (Clear p) = Absent ∷ ProviderTaken ∷ WrongSize ∷ NoMetadata ∷ []
+own (Destroy n) = NoMirror ∷ Absent ∷ []

@@ -1,0 +1,102 @@
+-- The step of the abstract bench by a command, and the plan that carries it out.
+use Rattle.std.specs.Prelude.{◌≡◌, ◌+◌, ◌-◌, ◌<◌, ◌≤◌, ◌==◌, ◌&&◌, ◌||◌, ℕ, Bool, IsTrue, true, false, List, [], ◌∷◌, length, Option, Some, None, unwrap_or}
+use Rattle.std.specs.List.{list_any}
+use Rattle.gm_metadata.specs.Images.{Image, Sizes, same_label, zeros}
+use Rattle.gm_metadata.specs.Reading.{encoded}
+use Rattle.gm_metadata.specs.Sector.{Bears}
+use Rattle.gm_metadata.specs.declared.metadata.Metadata.{Metadata}
+use Rattle.gm_state.specs.declared.command.Command.{Command}
+use Rattle.gm_state.specs.declared.command.Command.TheVariants as commands
+use Rattle.gm_state.specs.declared.command.Intent.{Intent}
+use Rattle.gm_state.specs.declared.command.Intent.TheVariants.{Meta, Clear, Copy}
+use Rattle.gm_state.specs.declared.command.Reply.{Reply}
+use Rattle.gm_state.specs.declared.command.Reply.TheVariants.{Plain}
+use Rattle.gm_state.specs.declared.records.Mirror.{Mirror}
+use Rattle.gm_state.specs.declared.records.Component.{Component}
+use Rattle.gm_state.specs.Commands.{CommandFits}
+use Rattle.gm_state.specs.Words.{Has}
+use Rattle.gm_state.specs.Records.{Records}
+use Rattle.gm_state.specs.Lookups.{metadata, component_of}
+use Rattle.gm_state.specs.Intents.{IsOf, is_last, names, is_place, any_copies, copies, Says}
+use Rattle.gm_state.specs.World.{World, Answered, Sound, Claims, is_key}
+use Rattle.gm_rules.specs.declared.refusals.Refusal.{Refusal}
+use Rattle.gm_rules.specs.Refusals.{own}
+use Rattle.gm_rules.specs.Bad.{applies}
+use Rattle.gm_rules.specs.Decides.{IsGood}
+use Rattle.gm_rules.specs.Worlds.{seen_of}
+use Rattle.gm_rules.specs.After.{after, intents_of, clears}
+
+-- the refusal applies to the command in the world
+pub record Bad (u : World) (c : Command) (r : Refusal) : Type 0 where
+  pub listed : Has (own c) r
+  pub met : applies u.state (seen_of u) c r ≡ true
+
+-- sector j of q is the last one of a component after the command, or of a provider that is cleared
+abbrev pub is_changed : World → Command → World → List ℕ → ℕ → Bool
+is_changed u c w q j = list_any (λ k. same_label k.provider q && k.sectors == j + 1) w.state.components || (clears u.state c q && is_last (u.size q) j)
+
+-- the data list of a new mirror: the first sectors of its provider
+abbrev pub NewData : World → Command → World → Type 0
+NewData u (commands.Label n p mid did balance slice flags hardcoded) w = (i : ℕ) → i + 1 < unwrap_or (u.size p) 0 → w.holds n i ≡ u.shelf p i
+NewData u (commands.Insert n p did priority hardcoded) w = Unit {0}
+NewData u (commands.Remove n p) w = Unit {0}
+NewData u (commands.Clear p) w = Unit {0}
+NewData u (commands.Destroy n) w = Unit {0}
+
+-- the answer that the command's key keeps from now on
+abbrev pub answer : World → List ℕ → Command → Reply → Answered
+answer u key c r = record { key = key; command = c; number = length u.answered + 1; reply = r }
+
+-- the command under the key takes u to w, and is answered by r
+pub record Step (u : World) (key : List ℕ) (c : Command) (w : World) (r : Reply) : Type 0 where
+  pub good : (q : Refusal) → Bad u c q → ⊥
+  pub records : w.state ≡ after u.size c u.state
+  pub reply : r ≡ Plain
+  pub answered : w.answered ≡ answer u key c r ∷ u.answered
+  pub sizes : (q : List ℕ) → w.size q ≡ u.size q
+  pub holds : (m : Mirror) → Has u.state.mirrors m → (i : ℕ) → w.holds m.name i ≡ u.holds m.name i
+  pub new : NewData u c w
+  pub full : (m : Mirror) (k : Component) → IsOf w.state m k → w.shelf k.provider (k.sectors - 1) ≡ encoded (metadata m k)
+  pub cleared : (q : List ℕ) (j : ℕ) → clears u.state c q ≡ true → is_last (u.size q) j ≡ true → w.shelf q j ≡ zeros
+  pub others : (q : List ℕ) (j : ℕ) → is_changed u c w q j ≡ false → w.shelf q j ≡ u.shelf q j
+
+-- the key is free and there is room for one more answer; the command is what words can say
+pub record CanAnswer (u : World) (key : List ℕ) (c : Command) : Type 0 where
+  pub key_ok : IsTrue (is_key key)
+  pub free : (a : Answered) → Has u.answered a → a.key ≡ key → ⊥
+  pub room : length u.answered < 100000
+  pub fits : CommandFits c
+
+-- data before claim: behind a write of a provider's last sector no intent copies to that provider, and no copy reaches a last sector
+abbrev pub InOrder : Sizes → List Intent → Type 0
+InOrder size [] = Unit {0}
+InOrder size (t ∷ ts) =
+    ((q : List ℕ) (j : ℕ) → is_last (size q) j ≡ true → names size t q j ≡ true → (i : ℕ) → any_copies ts q i ≡ false)
+    × ((q : List ℕ) (j : ℕ) → copies t q j ≡ true → is_last (size q) j ≡ false)
+    × InOrder size ts
+
+-- none of the sectors that a copy lends is a place
+abbrev pub Lends : Sizes → List Intent → Intent → Type 0
+Lends size ts (Meta p) = Unit {0}
+Lends size ts (Clear p) = Unit {0}
+Lends size ts (Copy source target first end) = (j : ℕ) → first ≤ j → j < end → is_place size ts source j ≡ false
+
+-- the last sector of a component that is new bears nothing before the command
+abbrev pub NewWereBare : World → World → Type 0
+NewWereBare u w = (k : Component) → Has w.state.components k → component_of u.state k.provider ≡ None → (d : Metadata) → Bears (u.shelf k.provider (k.sectors - 1)) d → ⊥
+
+-- The intents ts carry out the command's step from u to w: they name every sector that it changes and say what w holds there,
+-- no source of a copy is a place, data come before claims, and what was claimed on the way stays true.
+pub record Plan (u : World) (key : List ℕ) (c : Command) (ts : List Intent) (w : World) : Type 0 where
+  pub step : Step u key c w Plain
+  pub sound : Sound w
+  pub says : (t : Intent) → Has ts t → (q : List ℕ) (j : ℕ) → names u.size t q j ≡ true → Says w.state w.shelf t j (w.shelf q j)
+  pub agrees : (q : List ℕ) (j : ℕ) → is_place u.size ts q j ≡ false → u.shelf q j ≡ w.shelf q j
+  pub lends : (t : Intent) → Has ts t → Lends u.size ts t
+  pub order : InOrder u.size ts
+  pub claims : Claims u w.shelf
+  pub bare : NewWereBare u w
+
+-- there is a world that the command steps to, and its intents carry that out
+abbrev pub HasPlan : World → List ℕ → Command → Type 0
+HasPlan u key c = (w : World) × Plan u key c (intents_of c u.state w.state) w

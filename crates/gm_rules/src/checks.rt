@@ -1,0 +1,268 @@
+//! The refusals of a command, each by a test of its own.
+
+ghost use Rattle.std.specs.Prelude.{◌≡◌, ◌==◌, ◌+◌, ◌&&◌, ◌||◌, not, nat_lt, find, is_none, is_some, length, filter};
+ghost use Rattle.std.specs.List.{list_any};
+ghost use Rattle.gm_metadata.specs.Images.{same_label};
+ghost use Rattle.gm_state.specs.Lookups.{component_of, is_active};
+ghost use Rattle.gm_state.specs.Records.{Records};
+ghost use Rattle.gm_rules.specs.Facts.{size_in, last_in, last_carries};
+ghost use Rattle.gm_rules.specs.Refusals.{own};
+ghost use Rattle.gm_rules.specs.Bad.{applies, name_of, providers_of, has_mid, has_did, is_mine, has_size, has_wrong_size, at, mirror_named, seen_in};
+
+use crate::facts::Facts;
+use crate::refusals::{Refusal, own};
+use gm_metadata::Label;
+use gm_state::{Command, Component, Mirror, State};
+use std::slice;
+
+const MAX_COMPONENTS: u8 = 16;
+
+const MAX_MIRRORS: usize = 64;
+
+const MIN_SECTORS: u64 = 2;
+
+const MAX_SECTORS: u64 = 1_048_576;
+
+fn name_of(command: &Command) -> Option<Label>
+    ensures { result ≡ name_of command.now }
+{
+    match command {
+        Command::Label { name, .. }
+        | Command::Insert { name, .. }
+        | Command::Remove { name, .. }
+        | Command::Destroy { name } => Some(*name),
+        Command::Clear { .. } => None,
+    }
+}
+
+fn providers_of(command: &Command) -> &[Label]
+    ensures { result.now ≡ providers_of command.now }
+{
+    match command {
+        Command::Label { provider, .. }
+        | Command::Insert { provider, .. }
+        | Command::Remove { provider, .. }
+        | Command::Clear { provider } => slice::from_ref(provider),
+        Command::Destroy { .. } => &[],
+    }
+}
+
+fn has_mid(command: &Command, mirror: &Mirror) -> bool
+    ensures { result ≡ has_mid command.now mirror.now }
+{
+    match command {
+        Command::Label { mid, .. } => mirror.mid == *mid,
+        _ => false,
+    }
+}
+
+fn has_did(command: &Command, component: &Component) -> bool
+    ensures { result ≡ has_did command.now component.now }
+{
+    match command {
+        Command::Label { did, .. } | Command::Insert { did, .. } => component.did == *did,
+        _ => false,
+    }
+}
+
+fn is_mine(name: Option<Label>, component: &Component) -> bool
+    ensures { result ≡ is_mine name component.now }
+{
+    match name {
+        None => false,
+        Some(name) => component.mirror == name,
+    }
+}
+
+fn has_size(size: Option<u64>, sectors: u32) -> bool
+    ensures { result ≡ has_size size sectors }
+{
+    match size {
+        None => false,
+        Some(n) => n == u64::from(sectors),
+    }
+}
+
+fn mid_taken(mirrors: &[Mirror], command: &Command) -> bool
+    ensures { result ≡ list_any (has_mid command.now) mirrors.now }
+{
+    mirrors.iter().any(|m| has_mid(command, m))
+}
+
+fn any_absent(providers: &[Label], facts: &Facts) -> bool
+    ensures { result ≡ list_any (λ p. is_none (size_in facts.now p)) providers.now }
+{
+    providers.iter().any(|p| facts.size(*p).is_none())
+}
+
+fn is_missing(component: &Component, facts: &Facts) -> bool
+    ensures { result ≡ not (has_size (size_in facts.now component.now.provider) component.now.sectors) }
+{
+    !has_size(facts.size(component.provider), component.sectors)
+}
+
+fn misses_some(components: &[Component], name: Option<Label>, facts: &Facts) -> bool
+    ensures { result ≡ list_any (λ k. not (has_size (size_in facts.now k.provider) k.sectors)) (filter (λ k. is_mine name k) components.now) }
+{
+    components
+        .iter()
+        .filter(|k| is_mine(name, k))
+        .any(|k| is_missing(k, facts))
+}
+
+fn any_taken(providers: &[Label], state: &State) -> bool
+    ensures { result ≡ list_any (λ p. is_some (component_of state.now p)) providers.now }
+{
+    providers.iter().any(|p| state.component(*p).is_some())
+}
+
+fn any_carries(providers: &[Label], facts: &Facts) -> bool
+    ensures { result ≡ list_any (λ p. last_carries (last_in facts.now p)) providers.now }
+{
+    providers.iter().any(|p| facts.carries(*p))
+}
+
+fn any_bare(providers: &[Label], facts: &Facts) -> bool
+    ensures { result ≡ list_any (λ p. not (last_carries (last_in facts.now p))) providers.now }
+{
+    providers.iter().any(|p| !facts.carries(*p))
+}
+
+fn is_too_small(size: Option<u64>, mirror: &Mirror) -> bool
+    ensures { result ≡ at size (λ n. nat_lt n (mirror.now.data_sectors + 1)) }
+{
+    match size {
+        None => false,
+        Some(n) => n < u64::from(mirror.data_sectors) + 1,
+    }
+}
+
+fn any_too_small(providers: &[Label], mirror: &Mirror, facts: &Facts) -> bool
+    ensures { result ≡ list_any (λ p. at (size_in facts.now p) (λ n. nat_lt n (mirror.now.data_sectors + 1))) providers.now }
+{
+    providers
+        .iter()
+        .any(|p| is_too_small(facts.size(*p), mirror))
+}
+
+fn has_wrong_size(size: Option<u64>) -> bool
+    ensures { result ≡ at size has_wrong_size }
+{
+    match size {
+        None => false,
+        Some(n) => n < MIN_SECTORS || n > MAX_SECTORS,
+    }
+}
+
+fn any_of_wrong_size(providers: &[Label], facts: &Facts) -> bool
+    ensures { result ≡ list_any (λ p. at (size_in facts.now p) has_wrong_size) providers.now }
+{
+    providers.iter().any(|p| has_wrong_size(facts.size(*p)))
+}
+
+fn has_member(components: &[Component], name: Option<Label>, provider: Label) -> bool
+    ensures { result ≡ list_any (λ k. same_label k.provider provider) (filter (λ k. is_mine name k) components.now) }
+{
+    components
+        .iter()
+        .filter(|k| is_mine(name, k))
+        .any(|k| k.provider == provider)
+}
+
+fn any_stranger(providers: &[Label], components: &[Component], name: Option<Label>) -> bool
+    ensures { result ≡ list_any (λ p. not (list_any (λ k. same_label k.provider p) (filter (λ k. is_mine name k) components.now))) providers.now }
+{
+    providers.iter().any(|p| !has_member(components, name, *p))
+}
+
+fn did_taken(components: &[Component], command: &Command) -> bool
+    ensures { result ≡ list_any (has_did command.now) (filter (λ k. is_mine (name_of command.now) k) components.now) }
+{
+    let name = name_of(command);
+    components
+        .iter()
+        .filter(|k| is_mine(name, k))
+        .any(|k| has_did(command, k))
+}
+
+fn count_of(components: &[Component], name: Option<Label>) -> usize
+    ensures { result ≡ length (filter (λ k. is_mine name k) components.now) }
+{
+    components.iter().filter(|k| is_mine(name, k)).count()
+}
+
+fn is_named(providers: &[Label], component: &Component) -> bool
+    ensures { result ≡ list_any (λ p. same_label component.now.provider p) providers.now }
+{
+    providers.iter().any(|p| component.provider == *p)
+}
+
+fn stays_active(providers: &[Label], component: &Component) -> bool
+    ensures { result ≡ (is_active component.now.disk && not (list_any (λ p. same_label component.now.provider p) providers.now)) }
+{
+    component.disk.is_active() && !is_named(providers, component)
+}
+
+fn keeps_active(components: &[Component], name: Option<Label>, providers: &[Label]) -> bool
+    ensures { result ≡ list_any (λ k. is_active k.disk && not (list_any (λ p. same_label k.provider p) providers.now)) (filter (λ k. is_mine name k) components.now) }
+{
+    components
+        .iter()
+        .filter(|k| is_mine(name, k))
+        .any(|k| stays_active(providers, k))
+}
+
+fn mirror_named(state: &State, command: &Command) -> Option<Mirror>
+    ensures { result ≡ mirror_named state.now command.now }
+{
+    match name_of(command) {
+        None => None,
+        Some(name) => state.mirror(name),
+    }
+}
+
+// Whether the refusal applies.
+fn applies(state: &State, facts: &Facts, command: &Command, refusal: Refusal) -> bool
+    ensures { result ≡ applies state.now (seen_in facts.now) command.now refusal }
+{
+    let name = name_of(command);
+    let providers = providers_of(command);
+    let components = state.components();
+    let mirror = mirror_named(state, command);
+    match refusal {
+        Refusal::NoMirror => mirror.is_none(),
+        Refusal::NameTaken => mirror.is_some(),
+        Refusal::MidTaken => mid_taken(state.mirrors(), command),
+        Refusal::Absent => any_absent(providers, facts) || misses_some(components, name, facts),
+        Refusal::ProviderTaken => any_taken(providers, state),
+        Refusal::CarriesMetadata => any_carries(providers, facts),
+        Refusal::TooSmall => match mirror {
+            None => false,
+            Some(m) => any_too_small(providers, &m, facts),
+        },
+        Refusal::NotMember => any_stranger(providers, components, name),
+        Refusal::DidTaken => did_taken(components, command),
+        Refusal::Full => match mirror {
+            None => false,
+            Some(m) => m.all == MAX_COMPONENTS,
+        },
+        Refusal::TooManyMirrors => state.mirrors().len() == MAX_MIRRORS,
+        Refusal::SomeLost => match mirror {
+            None => false,
+            Some(m) => count_of(components, name) < usize::from(m.all),
+        },
+        Refusal::LastActive => !keeps_active(components, name, providers),
+        Refusal::WrongSize => any_of_wrong_size(providers, facts),
+        Refusal::NoMetadata => any_bare(providers, facts),
+    }
+}
+
+/// The least refusal that applies, if any does.
+pub(crate) fn least_refusal(state: &State, facts: &Facts, command: &Command) -> Option<Refusal>
+    ensures { result ≡ find (applies state.now (seen_in facts.now) command.now) (own command.now) }
+{
+    own(command)
+        .iter()
+        .copied()
+        .find(|r| applies(state, facts, command, *r))
+}

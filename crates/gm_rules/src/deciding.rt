@@ -1,0 +1,141 @@
+//! What a command does to the records, or why it is refused.
+
+ghost use Rattle.std.specs.Prelude.{◌≡◌, ◌<◌, ◌^◌, IfOk, Some, IsSome};
+ghost use Rattle.std.specs.Option.{ForSome};
+ghost use Rattle.gm_state.specs.World.{World};
+ghost use Rattle.gm_state.specs.declared.command.Command.TheVariants as commands;
+ghost use Rattle.gm_rules.specs.Bad.{seen_in};
+ghost use Rattle.gm_rules.specs.Decides.{Decides, Makes, IsGood};
+ghost use Rattle.gm_rules.specs.Facts.{size_in};
+ghost use Rattle.gm_rules.specs.Worlds.{AreFacts, seen_of};
+
+use crate::change::Change;
+use crate::checks::least_refusal;
+use crate::facts::Facts;
+use crate::making::{
+    cleared, destroyed, first_component, inserted, labelled, new_mirror, removed, spare,
+};
+use crate::refusals::Refusal;
+use gm_metadata::Label;
+use gm_state::{Command, State};
+use std::alloc::{AllocError, Global};
+
+/// The least refusal that applies, or what the command changes. Refusals take no memory.
+///
+/// The facts are those of the providers that the command names and of the components of its mirror.
+pub fn decide(
+    alloc: Global,
+    state: &State,
+    facts: &Facts,
+    command: &Command,
+) -> Result<Result<Change, Refusal>, AllocError>
+    ensures facts { IfOk result (λ r. Decides state.now (seen_in facts.now) command.now r) }
+    // In each world that the state and the facts are of.
+    ensures world { IfOk result (λ r. (u : World) → u.state ≡ state.now → AreFacts facts.now u command.now → Decides u.state (seen_of u) command.now r) }
+{
+    if let Some(refusal) = least_refusal(state, facts, command) {
+        return Ok(Err(refusal));
+    }
+    let change = change_of(alloc, state, facts, command)?;
+    Ok(Ok(change))
+}
+
+// What a command changes that nothing refuses.
+fn change_of(
+    alloc: Global,
+    state: &State,
+    facts: &Facts,
+    command: &Command,
+) -> Result<Change, AllocError>
+    requires { IsGood state.now (seen_in facts.now) command.now }
+    ensures { IfOk result (λ ch. Makes state.now (seen_in facts.now) command.now ch) }
+{
+    match *command {
+        Command::Label {
+            name,
+            provider,
+            mid,
+            did,
+            balance,
+            slice,
+            flags,
+            hardcoded,
+        } => {
+            let sectors = sectors_of(facts, provider);
+            let mirror = new_mirror(name, mid, balance, slice, flags, sectors);
+            let first = first_component(name, provider, did, hardcoded, sectors);
+            let change = labelled(alloc, mirror, first)?;
+            Ok(change)
+        }
+        Command::Insert {
+            name,
+            provider,
+            did,
+            priority,
+            hardcoded,
+        } => insert(
+            alloc, state, facts, name, provider, did, priority, hardcoded,
+        ),
+        Command::Remove { name, provider } => remove(alloc, state, facts, name, provider),
+        Command::Clear { provider } => {
+            let change = cleared(alloc, provider)?;
+            Ok(change)
+        }
+        Command::Destroy { name } => destroy(alloc, state, facts, name),
+    }
+}
+
+// How many sectors a provider has that is there.
+fn sectors_of(facts: &Facts, provider: Label) -> u32
+    requires there { IsSome (size_in facts.now provider) }
+    requires fits { ForSome (size_in facts.now provider) (λ n. n < 2 ^ 32) }
+    ensures { size_in facts.now provider ≡ Some result }
+{
+    facts.size(provider).unwrap() as u32
+}
+
+fn insert(
+    alloc: Global,
+    state: &State,
+    facts: &Facts,
+    name: Label,
+    provider: Label,
+    did: u32,
+    priority: u8,
+    hardcoded: bool,
+) -> Result<Change, AllocError>
+    requires { IsGood state.now (seen_in facts.now) (commands.Insert name provider did priority hardcoded) }
+    ensures { IfOk result (λ ch. Makes state.now (seen_in facts.now) (commands.Insert name provider did priority hardcoded) ch) }
+{
+    let mirror = state.mirror(name).unwrap();
+    let sectors = sectors_of(facts, provider);
+    let spare = spare(&mirror, provider, did, priority, hardcoded, sectors);
+    let members = state.members(alloc, name)?;
+    let change = inserted(alloc, mirror, members, spare)?;
+    Ok(change)
+}
+
+fn remove(
+    alloc: Global,
+    state: &State,
+    facts: &Facts,
+    name: Label,
+    provider: Label,
+) -> Result<Change, AllocError>
+    requires { IsGood state.now (seen_in facts.now) (commands.Remove name provider) }
+    ensures { IfOk result (λ ch. Makes state.now (seen_in facts.now) (commands.Remove name provider) ch) }
+{
+    let mirror = state.mirror(name).unwrap();
+    let members = state.members(alloc, name)?;
+    let change = removed(alloc, mirror, &members, provider)?;
+    Ok(change)
+}
+
+fn destroy(alloc: Global, state: &State, facts: &Facts, name: Label) -> Result<Change, AllocError>
+    requires { IsGood state.now (seen_in facts.now) (commands.Destroy name) }
+    ensures { IfOk result (λ ch. Makes state.now (seen_in facts.now) (commands.Destroy name) ch) }
+{
+    let members = state.members(alloc, name)?;
+    let change = destroyed(alloc, name, &members)?;
+    Ok(change)
+}

@@ -1,0 +1,21 @@
+//! What a command does, or why it is refused: pure decisions over the records and what the shelf says.
+//!
+//! Begin with `refusals.rt` and `change.rt`, the answers; `deciding.rt` makes them. `checks.rt` has a test for each
+//! refusal, `making.rt` the change of each command.
+#![tactic(auto)]
+
+mod change;
+mod checks;
+mod deciding;
+mod facts;
+mod laws;
+mod making;
+mod refusals;
+#[cfg(test)]
+mod tests;
+
+pub use change::Change;
+pub use deciding::decide;
+pub use facts::{Fact, Facts};
+pub use laws::every_command_has_a_plan;
+pub use refusals::Refusal;

@@ -1,0 +1,258 @@
+//! The changes of commands, from values that were fetched.
+
+ghost use Rattle.std.specs.Prelude.{◌≡◌, ◌+◌, ◌-◌, ◌<◌, [], ◌∷◌, Some, None, IfOk, false, map};
+ghost use Rattle.gm_metadata.specs.Images.{same_label};
+ghost use Rattle.gm_state.specs.declared.command.Intent.TheVariants as intents;
+ghost use Rattle.gm_state.specs.declared.command.Reply.TheVariants as replies;
+ghost use Rattle.gm_state.specs.declared.records.Component.{Component};
+ghost use Rattle.gm_state.specs.Records.{provider as provider_of};
+ghost use Rattle.gm_state.specs.Words.{Has, put, without};
+ghost use Rattle.gm_rules.specs.After.{new_mirror, first_component, spare, metas, clears_of};
+
+use crate::change::{Change, push_clears, push_metas};
+use gm_metadata::{Label, MirrorFlags};
+use gm_state::{BalanceWord, Component, Disk, Intent, Mirror, Reply, Slice, put};
+use std::alloc::{AllocError, Global};
+
+// The count that a mirror begins with.
+const FIRST_SYNCID: u32 = 1;
+
+// A component that is to be copied to, and holds nothing yet.
+const NOT_BEGUN: Disk = Disk::Copying {
+    forced: false,
+    held: 0,
+};
+
+/// The record of a new mirror on a provider of so many sectors.
+pub(crate) fn new_mirror(
+    name: Label,
+    mid: u32,
+    balance: BalanceWord,
+    slice: Slice,
+    flags: MirrorFlags,
+    sectors: u32,
+) -> Mirror
+    ensures { result ≡ new_mirror name mid balance slice flags sectors }
+{
+    Mirror {
+        name,
+        mid,
+        all: 1,
+        genid: 0,
+        syncid: FIRST_SYNCID,
+        slice: slice.bytes(),
+        balance: balance.balance(),
+        data_sectors: sectors.saturating_sub(1),
+        flags,
+    }
+}
+
+/// The record of its component.
+pub(crate) fn first_component(
+    name: Label,
+    provider: Label,
+    did: u32,
+    hardcoded: bool,
+    sectors: u32,
+) -> Component
+    ensures { result ≡ first_component name provider did hardcoded sectors }
+{
+    Component {
+        provider,
+        mirror: name,
+        did,
+        syncid: FIRST_SYNCID,
+        priority: 0,
+        disk: Disk::InSync,
+        hardcoded,
+        sectors,
+    }
+}
+
+/// The record of a component that is still to be filled.
+pub(crate) fn spare(
+    mirror: &Mirror,
+    provider: Label,
+    did: u32,
+    priority: u8,
+    hardcoded: bool,
+    sectors: u32,
+) -> Component
+    ensures { result ≡ spare mirror.now provider did priority hardcoded sectors }
+{
+    Component {
+        provider,
+        mirror: mirror.name,
+        did,
+        syncid: mirror.syncid,
+        priority,
+        disk: NOT_BEGUN,
+        hardcoded,
+        sectors,
+    }
+}
+
+/// A new mirror with its component.
+pub(crate) fn labelled(
+    alloc: Global,
+    mirror: Mirror,
+    first: Component,
+) -> Result<Change, AllocError>
+    ensures { IfOk result (λ ch. ch ≡ record {
+      mirror = Some mirror;
+      gone_mirror = None;
+      components = first ∷ [];
+      gone_components = [];
+      intents = intents.Meta first.provider ∷ [];
+      reply = replies.Plain;
+    }) }
+{
+    Ok(Change {
+        mirror: Some(mirror),
+        gone_mirror: None,
+        components: vec![in alloc; first]?,
+        gone_components: Vec::new(alloc),
+        intents: vec![in alloc;
+            Intent::Meta {
+                provider: first.provider
+            },
+        ]?,
+        reply: Reply::Plain,
+    })
+}
+
+/// One more component; `members` are those of before.
+pub(crate) fn inserted(
+    alloc: Global,
+    mirror: Mirror,
+    mut members: Vec<Component>,
+    spare: Component,
+) -> Result<Change, AllocError>
+    requires room { mirror.all < 255 }
+    requires fresh { (k : Component) → Has members.items k → same_label k.provider spare.provider ≡ false }
+    ensures { IfOk result (λ ch. ch ≡ record {
+      mirror = Some (record mirror { all = mirror.all + 1 });
+      gone_mirror = None;
+      components = spare ∷ [];
+      gone_components = [];
+      intents = metas (put provider_of spare members.items);
+      reply = replies.Plain;
+    }) }
+{
+    put(&mut members, spare)?;
+    let mut intents = Vec::new(alloc);
+    push_metas(&mut intents, &members)?;
+    Ok(Change {
+        mirror: Some(Mirror {
+            all: mirror.all + 1,
+            ..mirror
+        }),
+        gone_mirror: None,
+        components: vec![in alloc; spare]?,
+        gone_components: Vec::new(alloc),
+        intents,
+        reply: Reply::Plain,
+    })
+}
+
+fn others_of(
+    alloc: Global,
+    components: &[Component],
+    provider: Label,
+) -> Result<Vec<Component>, AllocError>
+    ensures { IfOk result (λ v. v.items ≡ without provider_of provider components.now) }
+{
+    components
+        .iter()
+        .copied()
+        .filter(|k| k.provider != provider)
+        .collect(alloc)
+}
+
+/// One component less; `members` are those of before.
+pub(crate) fn removed(
+    alloc: Global,
+    mirror: Mirror,
+    members: &[Component],
+    provider: Label,
+) -> Result<Change, AllocError>
+    requires { 0 < mirror.all }
+    ensures { IfOk result (λ ch. ch ≡ record {
+      mirror = Some (record mirror { all = mirror.all - 1 });
+      gone_mirror = None;
+      components = [];
+      gone_components = provider ∷ [];
+      intents = intents.Clear provider ∷ metas (without provider_of provider members.now);
+      reply = replies.Plain;
+    }) }
+{
+    let others = others_of(alloc, members, provider)?;
+    let mut intents = vec![in alloc; Intent::Clear { provider }]?;
+    push_metas(&mut intents, &others)?;
+    Ok(Change {
+        mirror: Some(Mirror {
+            all: mirror.all - 1,
+            ..mirror
+        }),
+        gone_mirror: None,
+        components: Vec::new(alloc),
+        gone_components: vec![in alloc; provider]?,
+        intents,
+        reply: Reply::Plain,
+    })
+}
+
+/// A provider whose metadata are wiped out.
+pub(crate) fn cleared(alloc: Global, provider: Label) -> Result<Change, AllocError>
+    ensures { IfOk result (λ ch. ch ≡ record {
+      mirror = None;
+      gone_mirror = None;
+      components = [];
+      gone_components = [];
+      intents = intents.Clear provider ∷ [];
+      reply = replies.Plain;
+    }) }
+{
+    Ok(Change {
+        mirror: None,
+        gone_mirror: None,
+        components: Vec::new(alloc),
+        gone_components: Vec::new(alloc),
+        intents: vec![in alloc; Intent::Clear { provider }]?,
+        reply: Reply::Plain,
+    })
+}
+
+fn providers_of(alloc: Global, components: &[Component]) -> Result<Vec<Label>, AllocError>
+    ensures { IfOk result (λ v. v.items ≡ map provider_of components.now) }
+{
+    components.iter().map(|k| k.provider).collect(alloc)
+}
+
+/// A mirror that is dropped with its components.
+pub(crate) fn destroyed(
+    alloc: Global,
+    name: Label,
+    members: &[Component],
+) -> Result<Change, AllocError>
+    ensures { IfOk result (λ ch. ch ≡ record {
+      mirror = None;
+      gone_mirror = Some name;
+      components = [];
+      gone_components = map provider_of members.now;
+      intents = clears_of members.now;
+      reply = replies.Plain;
+    }) }
+{
+    let gone_components = providers_of(alloc, members)?;
+    let mut intents = Vec::new(alloc);
+    push_clears(&mut intents, members)?;
+    Ok(Change {
+        mirror: None,
+        gone_mirror: Some(name),
+        components: Vec::new(alloc),
+        gone_components,
+        intents,
+        reply: Reply::Plain,
+    })
+}

@@ -1,0 +1,108 @@
+//! Why a command is refused.
+
+ghost use Rattle.std.specs.Prelude.{◌≡◌};
+ghost use Rattle.gm_rules.specs.Refusals.{number_of, own};
+
+use gm_state::Command;
+
+/// Why a command is refused, in the order of the numbers. Where several apply, the least number is answered.
+#[derive(Clone, Copy, Debug, PartialEq, Eq)]
+pub enum Refusal {
+    /// No mirror has this name.
+    NoMirror,
+    /// A mirror has this name.
+    NameTaken,
+    /// A mirror has this mid.
+    MidTaken,
+    /// The named provider isn't on the shelf, or a component of the named mirror isn't there with its size.
+    Absent,
+    /// The provider is a component of some mirror.
+    ProviderTaken,
+    /// The provider carries metadata.
+    CarriesMetadata,
+    /// The provider has no room for the data and one sector more.
+    TooSmall,
+    /// The provider isn't a component of this mirror.
+    NotMember,
+    /// A component of the mirror has this did.
+    DidTaken,
+    /// The mirror counts 16 components.
+    Full,
+    /// 64 mirrors are registered.
+    TooManyMirrors,
+    /// Fewer components are registered than the mirror counts: some were lost.
+    SomeLost,
+    /// No ACTIVE component would be left.
+    LastActive,
+    /// The provider has fewer than 2 or more than 1,048,576 sectors.
+    WrongSize,
+    /// The provider carries no metadata.
+    NoMetadata,
+}
+
+impl Refusal {
+    /// The number that is answered.
+    pub fn number(self) -> u8
+        ensures { result ≡ number_of self }
+    {
+        match self {
+            Refusal::NoMirror => 5,
+            Refusal::NameTaken => 6,
+            Refusal::MidTaken => 7,
+            Refusal::Absent => 8,
+            Refusal::ProviderTaken => 9,
+            Refusal::CarriesMetadata => 10,
+            Refusal::TooSmall => 11,
+            Refusal::NotMember => 12,
+            Refusal::DidTaken => 13,
+            Refusal::Full => 14,
+            Refusal::TooManyMirrors => 15,
+            Refusal::SomeLost => 16,
+            Refusal::LastActive => 17,
+            Refusal::WrongSize => 28,
+            Refusal::NoMetadata => 29,
+        }
+    }
+}
+
+// The refusals that a command may meet, the least number first.
+pub(crate) fn own(command: &Command) -> &'static [Refusal]
+    ensures { result.now ≡ own command.now }
+{
+    match command {
+        Command::Label { .. } => &[
+            Refusal::NameTaken,
+            Refusal::MidTaken,
+            Refusal::Absent,
+            Refusal::ProviderTaken,
+            Refusal::CarriesMetadata,
+            Refusal::TooManyMirrors,
+            Refusal::WrongSize,
+        ],
+        Command::Insert { .. } => &[
+            Refusal::NoMirror,
+            Refusal::Absent,
+            Refusal::ProviderTaken,
+            Refusal::CarriesMetadata,
+            Refusal::TooSmall,
+            Refusal::DidTaken,
+            Refusal::Full,
+            Refusal::SomeLost,
+            Refusal::WrongSize,
+        ],
+        Command::Remove { .. } => &[
+            Refusal::NoMirror,
+            Refusal::Absent,
+            Refusal::NotMember,
+            Refusal::SomeLost,
+            Refusal::LastActive,
+        ],
+        Command::Clear { .. } => &[
+            Refusal::Absent,
+            Refusal::ProviderTaken,
+            Refusal::WrongSize,
+            Refusal::NoMetadata,
+        ],
+        Command::Destroy { .. } => &[Refusal::NoMirror, Refusal::Absent],
+    }
+}

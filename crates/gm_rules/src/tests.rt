@@ -1,0 +1,469 @@
+//! Each refusal by an example that meets just it, the least where two apply, and the changes of accepted commands.
+
+use crate::{Change, Fact, Facts, Refusal, decide};
+use gm_metadata::{Balance, Label, MirrorFlags, encode};
+use gm_state::{
+    BalanceWord, Command, Component, Disk, Intent, Mirror, Reply, Slice, State, metadata,
+};
+use std::alloc::Global;
+use std::process::Abort;
+use std::test::Fail;
+
+const NO_FLAGS: MirrorFlags = MirrorFlags {
+    no_autosync: false,
+    no_failsync: false,
+};
+
+fn label(text: &str) -> Result<Label, Fail> {
+    Ok(Label::new(text).ok_or("no label")?)
+}
+
+// A mirror of three data sectors.
+fn mirror(name: &str, mid: u32, all: u8) -> Result<Mirror, Fail> {
+    Ok(Mirror {
+        name: label(name)?,
+        mid,
+        all,
+        genid: 0,
+        syncid: 1,
+        slice: 4096,
+        balance: Balance::Load,
+        data_sectors: 3,
+        flags: NO_FLAGS,
+    })
+}
+
+// Its component in sync on a provider of four sectors.
+fn component(name: &str, provider: &str, did: u32) -> Result<Component, Fail> {
+    Ok(Component {
+        provider: label(provider)?,
+        mirror: label(name)?,
+        did,
+        syncid: 1,
+        priority: 0,
+        disk: Disk::InSync,
+        hardcoded: false,
+        sectors: 4,
+    })
+}
+
+fn state(alloc: Global, mirrors: &[Mirror], components: &[Component]) -> Result<State, Fail> {
+    let mirrors = mirrors.to_vec(alloc)?;
+    let components = components.to_vec(alloc)?;
+    Ok(State::new(mirrors, components).ok_or("no state")?)
+}
+
+// gm0 with a.img alone.
+fn labelled(alloc: Global) -> Result<State, Fail> {
+    state(
+        alloc,
+        &[mirror("gm0", 7, 1)?],
+        &[component("gm0", "a.img", 1)?],
+    )
+}
+
+// gm0 with a.img and b.img.
+fn with_two(alloc: Global) -> Result<State, Fail> {
+    state(
+        alloc,
+        &[mirror("gm0", 7, 2)?],
+        &[component("gm0", "a.img", 1)?, component("gm0", "b.img", 2)?],
+    )
+}
+
+fn bare(provider: &str, sectors: u64) -> Result<Fact, Fail> {
+    Ok(Fact {
+        provider: label(provider)?,
+        sectors,
+        last: [0; 512],
+    })
+}
+
+// A provider whose last sector carries metadata.
+fn carrying(provider: &str, sectors: u64) -> Result<Fact, Fail> {
+    let last = encode(&metadata(&mirror("gm0", 7, 1)?, &component("gm0", "a.img", 1)?));
+    Ok(Fact {
+        provider: label(provider)?,
+        sectors,
+        last,
+    })
+}
+
+fn label_of(name: &str, provider: &str, mid: u32) -> Result<Command, Fail> {
+    Ok(Command::Label {
+        name: label(name)?,
+        provider: label(provider)?,
+        mid,
+        did: 1,
+        balance: BalanceWord::Load,
+        slice: Slice::new(4096).ok_or("no slice")?,
+        flags: NO_FLAGS,
+        hardcoded: false,
+    })
+}
+
+fn insert_of(name: &str, provider: &str, did: u32) -> Result<Command, Fail> {
+    Ok(Command::Insert {
+        name: label(name)?,
+        provider: label(provider)?,
+        did,
+        priority: 0,
+        hardcoded: false,
+    })
+}
+
+fn remove_of(name: &str, provider: &str) -> Result<Command, Fail> {
+    Ok(Command::Remove {
+        name: label(name)?,
+        provider: label(provider)?,
+    })
+}
+
+fn clear_of(provider: &str) -> Result<Command, Fail> {
+    Ok(Command::Clear {
+        provider: label(provider)?,
+    })
+}
+
+fn destroy_of(name: &str) -> Result<Command, Fail> {
+    Ok(Command::Destroy { name: label(name)? })
+}
+
+fn decided(
+    alloc: Global,
+    state: &State,
+    facts: &[Fact],
+    command: &Command,
+) -> Result<Result<Change, Refusal>, Fail> {
+    let facts = Facts::new(facts.to_vec(alloc)?);
+    Ok(decide(alloc, state, &facts, command)?)
+}
+
+fn change(alloc: Global, state: &State, facts: &[Fact], command: &Command) -> Result<Change, Fail> {
+    match decided(alloc, state, facts, command)? {
+        Ok(change) => Ok(change),
+        Err(_) => Err("refused")?,
+    }
+}
+
+fn expect_refused(
+    rt: &impl Abort,
+    alloc: Global,
+    state: &State,
+    facts: &[Fact],
+    command: &Command,
+    number: u8,
+) -> Result<(), Fail> {
+    match decided(alloc, state, facts, command)? {
+        Ok(_) => Err("accepted")?,
+        Err(refusal) => assert_eq!(rt; refusal.number(), number),
+    }
+    Ok(())
+}
+
+#[test]
+fn labels_a_provider(rt: HostRuntime) -> Result<(), Fail> {
+    let alloc = rt.alloc();
+    let empty = state(alloc, &[], &[])?;
+    let change = change(
+        alloc,
+        &empty,
+        &[bare("a.img", 4)?],
+        &label_of("gm0", "a.img", 7)?,
+    )?;
+    assert_eq!(rt; change.mirror(), Some(mirror("gm0", 7, 1)?));
+    assert_eq!(rt;
+        change.components(),
+        [component("gm0", "a.img", 1)?].as_slice()
+    );
+    assert_eq!(rt;
+        change.intents(),
+        [Intent::Meta {
+            provider: label("a.img")?
+        }]
+        .as_slice()
+    );
+    assert_eq!(rt; change.gone_mirror(), None);
+    assert!(rt; change.gone_components().is_empty());
+    assert_eq!(rt; change.reply(), Reply::Plain);
+    Ok(())
+}
+
+#[test]
+fn labels_the_smallest_provider(rt: HostRuntime) -> Result<(), Fail> {
+    let alloc = rt.alloc();
+    let state = labelled(alloc)?;
+    let command = label_of("gm1", "c.img", 8)?;
+    let change = change(alloc, &state, &[bare("c.img", 2)?], &command)?;
+    let made = change.mirror().ok_or("no mirror")?;
+    assert_eq!(rt; made.data_sectors, 1);
+    for component in change.components() {
+        assert_eq!(rt; component.sectors, 2);
+    }
+    expect_refused(&rt, alloc, &state, &[bare("c.img", 1)?], &command, 28)
+}
+
+#[test]
+fn refuses_to_label(rt: HostRuntime) -> Result<(), Fail> {
+    let alloc = rt.alloc();
+    let state = labelled(alloc)?;
+    let b = bare("b.img", 4)?;
+    let fresh = label_of("gm1", "b.img", 8)?;
+    expect_refused(&rt, alloc, &state, &[b], &label_of("gm0", "b.img", 8)?, 6)?;
+
+    expect_refused(&rt, alloc, &state, &[b], &label_of("gm1", "b.img", 7)?, 7)?;
+    expect_refused(&rt, alloc, &state, &[], &fresh, 8)?;
+    let taken = label_of("gm1", "a.img", 8)?;
+    expect_refused(&rt, alloc, &state, &[bare("a.img", 4)?], &taken, 9)?;
+    expect_refused(&rt, alloc, &state, &[carrying("b.img", 4)?], &fresh, 10)?;
+    // It carries metadata, and is too short as well.
+    expect_refused(&rt, alloc, &state, &[carrying("b.img", 1)?], &fresh, 10)?;
+    expect_refused(&rt, alloc, &state, &[bare("b.img", 1_048_577)?], &fresh, 28)
+}
+
+#[test]
+fn refuses_a_65th_mirror(rt: HostRuntime) -> Result<(), Fail> {
+    let alloc = rt.alloc();
+    let mut mirrors = Vec::new(alloc);
+    let mut components = Vec::new(alloc);
+    for i in 0u32..64 {
+        let name = format!(in alloc; "m{i}")?;
+        let provider = format!(in alloc; "d{i}")?;
+        mirrors.push(mirror(name.as_str(), i, 1)?)?;
+        components.push(component(name.as_str(), provider.as_str(), 1)?)?;
+    }
+    let state = State::new(mirrors, components).ok_or("no state")?;
+    let command = label_of("gm0", "a.img", 64)?;
+    expect_refused(&rt, alloc, &state, &[bare("a.img", 4)?], &command, 15)
+}
+
+#[test]
+fn inserts_a_spare(rt: HostRuntime) -> Result<(), Fail> {
+    let alloc = rt.alloc();
+    let change = change(
+        alloc,
+        &labelled(alloc)?,
+        &[carrying("a.img", 4)?, bare("b.img", 4)?],
+        &insert_of("gm0", "b.img", 2)?,
+    )?;
+    let spare = Component {
+        disk: Disk::Copying {
+            forced: false,
+            held: 0,
+        },
+        ..component("gm0", "b.img", 2)?
+    };
+    assert_eq!(rt; change.mirror(), Some(mirror("gm0", 7, 2)?));
+    assert_eq!(rt; change.components(), [spare].as_slice());
+    let a = label("a.img")?;
+    let b = label("b.img")?;
+    assert_eq!(rt;
+        change.intents(),
+        [Intent::Meta { provider: a }, Intent::Meta { provider: b }].as_slice()
+    );
+    Ok(())
+}
+
+#[test]
+fn refuses_to_insert(rt: HostRuntime) -> Result<(), Fail> {
+    let alloc = rt.alloc();
+    let state = labelled(alloc)?;
+    let a = carrying("a.img", 4)?;
+    let b = bare("b.img", 4)?;
+    let small = bare("b.img", 3)?;
+    let command = insert_of("gm0", "b.img", 2)?;
+    let same_did = insert_of("gm0", "b.img", 1)?;
+    let elsewhere = insert_of("gm1", "b.img", 2)?;
+    expect_refused(&rt, alloc, &state, &[a, b], &elsewhere, 5)?;
+    expect_refused(&rt, alloc, &state, &[a], &command, 8)?;
+    expect_refused(&rt, alloc, &state, &[b], &command, 8)?;
+    let grown = carrying("a.img", 5)?;
+    expect_refused(&rt, alloc, &state, &[grown, b], &command, 8)?;
+    expect_refused(
+        &rt,
+        alloc,
+        &state,
+        &[a, carrying("b.img", 4)?],
+        &command,
+        10,
+    )?;
+    expect_refused(&rt, alloc, &state, &[a, small], &command, 11)?;
+    // The did is taken as well.
+    expect_refused(&rt, alloc, &state, &[a, small], &same_did, 11)?;
+    expect_refused(&rt, alloc, &state, &[a, b], &same_did, 13)?;
+    let huge = bare("b.img", 1_048_577)?;
+    expect_refused(&rt, alloc, &state, &[a, huge], &command, 28)
+}
+
+#[test]
+fn refuses_to_insert_a_component_of_another_mirror(rt: HostRuntime) -> Result<(), Fail> {
+    let alloc = rt.alloc();
+    let state = state(
+        alloc,
+        &[mirror("gm0", 7, 1)?, mirror("gm1", 8, 1)?],
+        &[component("gm0", "a.img", 1)?, component("gm1", "b.img", 1)?],
+    )?;
+    let facts = [carrying("a.img", 4)?, bare("b.img", 4)?];
+    expect_refused(
+        &rt,
+        alloc,
+        &state,
+        &facts,
+        &insert_of("gm0", "b.img", 2)?,
+        9,
+    )
+}
+
+#[test]
+fn refuses_a_17th_component(rt: HostRuntime) -> Result<(), Fail> {
+    let alloc = rt.alloc();
+    let mut components = Vec::new(alloc);
+    let mut facts = Vec::new(alloc);
+    for i in 0u32..16 {
+        let provider = format!(in alloc; "d{i}")?;
+        components.push(component("gm0", provider.as_str(), i)?)?;
+        facts.push(bare(provider.as_str(), 4)?)?;
+    }
+    facts.push(bare("b.img", 4)?)?;
+    let state = state(alloc, &[mirror("gm0", 7, 16)?], &components)?;
+    expect_refused(
+        &rt,
+        alloc,
+        &state,
+        &facts,
+        &insert_of("gm0", "b.img", 99)?,
+        14,
+    )
+}
+
+#[test]
+fn refuses_while_some_are_lost(rt: HostRuntime) -> Result<(), Fail> {
+    let alloc = rt.alloc();
+    let state = state(
+        alloc,
+        &[mirror("gm0", 7, 2)?],
+        &[component("gm0", "a.img", 1)?],
+    )?;
+    let facts = [carrying("a.img", 4)?, bare("b.img", 4)?];
+    expect_refused(
+        &rt,
+        alloc,
+        &state,
+        &facts,
+        &insert_of("gm0", "b.img", 2)?,
+        16,
+    )?;
+    // No ACTIVE component would be left as well.
+    expect_refused(&rt, alloc, &state, &facts, &remove_of("gm0", "a.img")?, 16)
+}
+
+#[test]
+fn removes_a_component(rt: HostRuntime) -> Result<(), Fail> {
+    let alloc = rt.alloc();
+    let facts = [carrying("a.img", 4)?, carrying("b.img", 4)?];
+    let change = change(
+        alloc,
+        &with_two(alloc)?,
+        &facts,
+        &remove_of("gm0", "b.img")?,
+    )?;
+    let a = label("a.img")?;
+    let b = label("b.img")?;
+    assert_eq!(rt; change.mirror(), Some(mirror("gm0", 7, 1)?));
+    assert_eq!(rt; change.gone_components(), [b].as_slice());
+    assert!(rt; change.components().is_empty());
+    assert_eq!(rt;
+        change.intents(),
+        [Intent::Clear { provider: b }, Intent::Meta { provider: a }].as_slice()
+    );
+    Ok(())
+}
+
+#[test]
+fn refuses_to_remove(rt: HostRuntime) -> Result<(), Fail> {
+    let alloc = rt.alloc();
+    let state = labelled(alloc)?;
+    let a = carrying("a.img", 4)?;
+    let b = bare("b.img", 4)?;
+    expect_refused(&rt, alloc, &state, &[a], &remove_of("gm1", "a.img")?, 5)?;
+    expect_refused(&rt, alloc, &state, &[], &remove_of("gm0", "a.img")?, 8)?;
+    expect_refused(
+        &rt,
+        alloc,
+        &with_two(alloc)?,
+        &[a],
+        &remove_of("gm0", "a.img")?,
+        8,
+    )?;
+    expect_refused(&rt, alloc, &state, &[a, b], &remove_of("gm0", "b.img")?, 12)?;
+    expect_refused(&rt, alloc, &state, &[a], &remove_of("gm0", "a.img")?, 17)
+}
+
+#[test]
+fn clears_a_provider(rt: HostRuntime) -> Result<(), Fail> {
+    let alloc = rt.alloc();
+    let state = labelled(alloc)?;
+    let facts = [carrying("b.img", 4)?];
+    let change = change(alloc, &state, &facts, &clear_of("b.img")?)?;
+    assert_eq!(rt; change.mirror(), None);
+    assert_eq!(rt; change.gone_mirror(), None);
+    assert!(rt; change.components().is_empty() && change.gone_components().is_empty());
+    assert_eq!(rt;
+        change.intents(),
+        [Intent::Clear {
+            provider: label("b.img")?
+        }]
+        .as_slice()
+    );
+    expect_refused(&rt, alloc, &state, &[], &clear_of("b.img")?, 8)?;
+    expect_refused(
+        &rt,
+        alloc,
+        &state,
+        &[carrying("a.img", 4)?],
+        &clear_of("a.img")?,
+        9,
+    )?;
+    expect_refused(
+        &rt,
+        alloc,
+        &state,
+        &[carrying("b.img", 1)?],
+        &clear_of("b.img")?,
+        28,
+    )?;
+    expect_refused(
+        &rt,
+        alloc,
+        &state,
+        &[bare("b.img", 4)?],
+        &clear_of("b.img")?,
+        29,
+    )
+}
+
+#[test]
+fn destroys_a_mirror(rt: HostRuntime) -> Result<(), Fail> {
+    let alloc = rt.alloc();
+    let state = with_two(alloc)?;
+    let facts = [carrying("a.img", 4)?, carrying("b.img", 4)?];
+    let change = change(alloc, &state, &facts, &destroy_of("gm0")?)?;
+    let a = label("a.img")?;
+    let b = label("b.img")?;
+    assert_eq!(rt; change.gone_mirror(), Some(label("gm0")?));
+    assert_eq!(rt; change.gone_components(), [a, b].as_slice());
+    assert_eq!(rt; change.mirror(), None);
+    assert_eq!(rt;
+        change.intents(),
+        [Intent::Clear { provider: a }, Intent::Clear { provider: b }].as_slice()
+    );
+    expect_refused(&rt, alloc, &state, &facts, &destroy_of("gm1")?, 5)?;
+    expect_refused(
+        &rt,
+        alloc,
+        &state,
+        &[carrying("a.img", 4)?],
+        &destroy_of("gm0")?,
+        8,
+    )
+}

@@ -1,0 +1,7 @@
+-- What contracts see of a folder of image files.
+use Rattle.std.specs.Prelude.{ℕ}
+use Rattle.gm_shelf.specs.declared.files.FileShelf.{FileShelf}
+
+-- how many failures of the device it has counted
+abbrev pub failures_of : {R D : Type 0} → FileShelf R D → ℕ
+failures_of shelf = shelf.failures

@@ -1,0 +1,80 @@
+-- What is found is the source.
+use Rattle.std.proofs.Common.{◌≡◌, ◌⊎◌, ◌∙◌, inl, inr, ⊎_elim, ℕ, ◌<◌, ◌≤◌, nat_lt, true, false, refl, sym, ap, subst, arith, List, [], ◌∷◌, Option, Some, None, ltb-true, ltb-false, option_map}
+use Rattle.std.proofs.lemmas.Bool.{cases_Bool, cases_order}
+use Rattle.gm_state.specs.declared.records.Component.{Component}
+use Rattle.gm_state.specs.Words.{Has, Ascends, label_lt}
+use Rattle.gm_state.specs.Records.{Records, IsState, provider}
+use Rattle.gm_state.specs.Lookups.{component_of}
+use Rattle.gm_state.specs.Sources.{lends_to, GoesFirst, IsBest, IsSource}
+use Rattle.gm_state.specs.Choosing.{better, best_of}
+
+IsBest-same : (P Q : Component → Type 0) → ((j : Component) → P j → Q j) → ((j : Component) → Q j → P j) → (o : Option Component) → IsBest P o → IsBest Q o
+IsBest-same P Q f g None h = λ j q. h j (g j q)
+IsBest-same P Q f g (Some k) h = (f k h.0, λ j q. h.1 j (g j q))
+
+module _ (t : Component) where
+  -- those seen, and x where it may lend
+  abbrev With : (Component → Type 0) → Component → Component → Type 0
+  With P x j = P j ⊎ ((x ≡ j) × (lends_to t j ≡ true))
+
+  one_more : (P : Component → Type 0) (b : Option Component) (x : Component) → IsBest P b → ((j : Component) → P j → label_lt j.provider x.provider ≡ true) → IsBest (With P x) (better t b x)
+  one_more P None x h before =
+      elim (cases_Bool (lends_to t x)) [
+        | inl e ↦ rw e (inr (refl, e), λ j w. ⊎_elim (λ (p : P j). absurd (h j p)) (λ (q : (x ≡ j) × (lends_to t j ≡ true)). inl (sym q.0)) w)
+        | inr e ↦ rw e (λ j w. ⊎_elim (λ (p : P j). h j p) (λ (q : (x ≡ j) × (lends_to t j ≡ true)). (let f : lends_to t j ≡ false = sym (ap (lends_to t) q.0) ∙ e in let g : true ≡ false = sym q.1 ∙ f in let z : ⊥ = cc in z)) w)
+      ]
+  one_more P (Some a) x h before =
+      elim (cases_Bool (lends_to t x)) [
+        | inl e ↦ elim (cases_Bool (nat_lt a.priority x.priority)) [
+          | inl l ↦
+              let less : a.priority < x.priority = ltb-true a.priority x.priority l in
+              rw (e, l) (
+                inr (refl, e),
+                λ j w. ⊎_elim
+                    (λ (p : P j). ⊎_elim
+                    (λ (s : j ≡ a). inr (inl (subst (λ (c : Component). c.priority < x.priority) (sym s) less)))
+                    (λ (g : GoesFirst a j). inr (inl (⊎_elim (λ (u : j.priority < a.priority). (let r : j.priority < x.priority = omega arith in r)) (λ (u : (j.priority ≡ a.priority) × (label_lt a.provider j.provider ≡ true)). (let v : j.priority ≡ a.priority = u.0 in let r : j.priority < x.priority = omega arith in r)) g)))
+                    (h.1 j p))
+                    (λ (q : (x ≡ j) × (lends_to t j ≡ true)). inl (sym q.0)) w,
+              )
+          | inr l ↦
+              let most : x.priority ≤ a.priority = ltb-false a.priority x.priority l in
+              rw (e, l) (
+                inl h.0,
+                λ j w. ⊎_elim
+                    (λ (p : P j). h.1 j p)
+                    (λ (q : (x ≡ j) × (lends_to t j ≡ true)). inr (subst (λ (c : Component). GoesFirst a c) q.0
+                    (⊎_elim
+                    (λ (s : x.priority ≡ a.priority). inr (s, before a h.0))
+                    (λ (o : (x.priority < a.priority) ⊎ (a.priority < x.priority)). inl (⊎_elim (λ (u : x.priority < a.priority). u) (λ (u : a.priority < x.priority). absurd (omega arith)) o))
+                    (cases_order x.priority a.priority)))) w,
+              )
+        ]
+        | inr e ↦ rw e (inl h.0, λ j w. ⊎_elim (λ (p : P j). h.1 j p) (λ (q : (x ≡ j) × (lends_to t j ≡ true)). (let f : lends_to t j ≡ false = sym (ap (lends_to t) q.0) ∙ e in let g : true ≡ false = sym q.1 ∙ f in cc)) w)
+      ]
+
+  best_is : (P : Component → Type 0) (b : Option Component) (xs : List Component) → IsBest P b → ((j : Component) → P j → (x : Component) → Has xs x → label_lt j.provider x.provider ≡ true) → Ascends provider xs
+      → IsBest (λ j. P j ⊎ (Has xs j × (lends_to t j ≡ true))) (best_of t b xs)
+  best_is P b [] h before a = IsBest-same P (λ j. P j ⊎ (Has [] j × (lends_to t j ≡ true))) (λ j p. inl p) (λ j w. ⊎_elim (λ (p : P j). p) (λ (q : ⊥ × (lends_to t j ≡ true)). absurd q.0) w) b h
+  best_is P b (x ∷ xs) h before a =
+      IsBest-same (λ j. With P x j ⊎ (Has xs j × (lends_to t j ≡ true))) (λ j. P j ⊎ (Has (x ∷ xs) j × (lends_to t j ≡ true)))
+      (λ j w. ⊎_elim (λ (v : With P x j). ⊎_elim (λ (p : P j). inl p) (λ (q : (x ≡ j) × (lends_to t j ≡ true)). inr (inl q.0, q.1)) v) (λ (q : Has xs j × (lends_to t j ≡ true)). inr (inr q.0, q.1)) w)
+      (λ j w. ⊎_elim (λ (p : P j). inl (inl p)) (λ (q : Has (x ∷ xs) j × (lends_to t j ≡ true)). ⊎_elim (λ (s : x ≡ j). inl (inr (s, q.1))) (λ (k : Has xs j). inr (k, q.1)) q.0) w)
+      (best_of t (better t b x) xs)
+      (best_is (With P x) (better t b x) xs
+      (one_more P b x h (λ j p. before j p x (inl refl)))
+      (λ j w y i. ⊎_elim (λ (p : P j). before j p y (inr i)) (λ (q : (x ≡ j) × (lends_to t j ≡ true)). subst (λ (c : Component). label_lt c.provider y.provider ≡ true) q.0 (a.0 y i)) w)
+      a.1)
+
+  -- over all components
+  pub best_found : (xs : List Component) → Ascends provider xs → IsBest (λ j. Has xs j × (lends_to t j ≡ true)) (best_of t None xs)
+  best_found xs a =
+      IsBest-same (λ j. ⊥ ⊎ (Has xs j × (lends_to t j ≡ true))) (λ j. Has xs j × (lends_to t j ≡ true))
+      (λ j w. ⊎_elim (λ (z : ⊥). absurd z) (λ (q : Has xs j × (lends_to t j ≡ true)). q) w) (λ j q. inr q) (best_of t None xs)
+      (best_is (λ j. ⊥) None xs (λ j z. z) (λ j z x i. absurd z) a)
+
+pub source_none : (s : Records) (target : List ℕ) (r : Option (List ℕ)) → component_of s target ≡ None → r ≡ None → IsSource s target r
+source_none s target r e f = rw e f
+
+pub source_some : (s : Records) (target : List ℕ) (t : Component) (r : Option (List ℕ)) → component_of s target ≡ Some t → IsState s → r ≡ option_map (λ (k : Component). k.provider) (best_of t None s.components) → IsSource s target r
+source_some s target t r e state f = rw e (best_of t None s.components, best_found t s.components state.components_in_order, f)

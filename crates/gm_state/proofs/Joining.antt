@@ -1,0 +1,38 @@
+-- Words that are joined by a byte.
+use Rattle.std.proofs.Common.{◌≡◌, ◌∙◌, ℕ, Bool, not, refl, sym, ap, List, [], ◌∷◌, ◌++◌, append_assoc, Result, Ok, Err, IfOk}
+use Rattle.std.specs.Prelude.{codes}
+use Rattle.std.specs.List.{join_with_byte}
+use Rattle.std.specs.Fmt.{decimal}
+use Rattle.gm_metadata.specs.Balance.{balance_name}
+use Rattle.gm_metadata.specs.declared.flags.MirrorFlags.{MirrorFlags}
+use Rattle.gm_state.specs.declared.command.BalanceWord.{BalanceWord}
+use Rattle.gm_state.specs.declared.command.Command.TheVariants.{Label}
+use Rattle.gm_state.specs.Commands.{balance_of_word, on_where, number_words, switch_words, words_of}
+
+-- two parts of a line
+pub join_two : (c : ℕ) (a : List ℕ) (xs : List (List ℕ)) (b : List ℕ) (ys : List (List ℕ)) → join_with_byte c (a ∷ xs ++ b ∷ ys) ≡ join_with_byte c (a ∷ xs) ++ (c ∷ join_with_byte c (b ∷ ys))
+join_two c a [] b ys = refl
+join_two c a (x ∷ xs) b ys = ap (λ (z : List ℕ). a ++ (c ∷ z)) (join_two c x xs b ys) ∙ sym (append_assoc a (c ∷ join_with_byte c (x ∷ xs)) (c ∷ join_with_byte c (b ∷ ys)))
+
+-- a line of which two parts were joined before
+pub join_parts : (c : ℕ) (w m : List ℕ) (ms : List (List ℕ)) (s : List ℕ) (ss : List (List ℕ)) (n p : List ℕ)
+    → join_with_byte c (w ∷ join_with_byte c (m ∷ ms) ∷ join_with_byte c (s ∷ ss) ∷ n ∷ p ∷ []) ≡ join_with_byte c (w ∷ m ∷ ms ++ s ∷ ss ++ n ∷ p ∷ [])
+join_parts c w m ms s ss n p =
+    sym (join_two c w (m ∷ (ms ++ s ∷ ss)) n (p ∷ []) ∙ (ap (λ (x : List ℕ). x ++ (c ∷ join_with_byte c (n ∷ p ∷ []))) (join_two c w (m ∷ ms) s ss) ∙ simp append_assoc))
+
+-- the line of a label, whose options were joined before
+pub label_line : (n p : List ℕ) (mid did : ℕ) (word : BalanceWord) (slice : ℕ) (flags : MirrorFlags) (hardcoded : Bool)
+    → (numbers switches balance autosync failsync hardcode : List ℕ) (bytes : ℕ)
+    → numbers ≡ join_with_byte 32 (number_words mid did balance bytes) → switches ≡ join_with_byte 32 (switch_words autosync failsync hardcode)
+    → balance ≡ balance_name (balance_of_word word) → bytes ≡ slice
+    → autosync ≡ on_where (not flags.no_autosync) → failsync ≡ on_where (not flags.no_failsync) → hardcode ≡ on_where hardcoded
+    → join_with_byte 32 (codes "label" ∷ numbers ∷ switches ∷ n ∷ p ∷ []) ≡ words_of (Label n p mid did word slice flags hardcoded)
+label_line n p mid did word slice flags hardcoded numbers switches balance autosync failsync hardcode bytes e f b s x y z =
+    rw (e, f, b, s, x, y, z)
+    (join_parts 32 (codes "label") (codes "--mid") (decimal mid ∷ codes "--did" ∷ decimal did ∷ codes "--balance" ∷ balance_name (balance_of_word word) ∷ codes "--slice" ∷ decimal slice ∷ [])
+    (codes "--autosync") (on_where (not flags.no_autosync) ∷ codes "--failsync" ∷ on_where (not flags.no_failsync) ∷ codes "--hardcode" ∷ on_where hardcoded ∷ []) n p)
+
+-- a text that is known where it is there
+pub ok_is : {T E : Type 0} (r : Result T E) (f : T → List ℕ) (x y : List ℕ) → x ≡ y → IfOk r (λ t. f t ≡ x) → IfOk r (λ t. f t ≡ y)
+ok_is (Ok t) f x y e h = h ∙ e
+ok_is (Err t) f x y e h = h

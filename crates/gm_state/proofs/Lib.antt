@@ -1,0 +1,11 @@
+pub mod Order
+pub mod Words
+pub mod Sorting
+pub mod Testing
+pub mod Creating
+pub mod Joining
+pub mod Best
+pub mod Parting
+pub mod OneCommand
+pub mod SameRows
+pub mod Examples

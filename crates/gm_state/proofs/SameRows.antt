@@ -1,0 +1,26 @@
+-- Answered keys with one row are one.
+use Rattle.std.proofs.Common.{◌≡◌, ◌∙◌, ℕ, ◌<◌, refl, ap, arith, List}
+use Rattle.gm_state.specs.declared.command.Command.{Command}
+use Rattle.gm_state.specs.declared.command.Reply.{Reply}
+use Rattle.gm_state.specs.declared.command.Reply.TheVariants.{Plain, Copied}
+use Rattle.gm_state.specs.World.{Answered, AnswerFits, ReplyFits}
+use Rattle.gm_state.specs.Rows.{answer_row, copied_of, total_of}
+use Rattle.gm_state.proofs.OneCommand.{same_command}
+
+-- a copy that was answered holds some sectors
+same_reply : (a b : Reply) → ReplyFits a → ReplyFits b → copied_of a ≡ copied_of b → total_of a ≡ total_of b → a ≡ b
+same_reply Plain Plain f g p q = refl
+same_reply Plain (Copied held total) f g p q = let some : 0 < held = g.0 in absurd (omega arith)
+same_reply (Copied held total) Plain f g p q = let some : 0 < held = f.0 in absurd (omega arith)
+same_reply (Copied held total) (Copied held' total') f g p q = rw (p, q) refl
+
+pub same_answer : (a b : Answered) → AnswerFits a → AnswerFits b → answer_row a ≡ answer_row b → a ≡ b
+same_answer a b f g e =
+    let keys : a.key ≡ b.key = ap (λ r. r.call_key) e in
+    let numbers : a.number ≡ b.number = ap (λ r. r.seq) e in
+    let commands : a.command ≡ b.command = same_command a.command b.command f.command g.command (ap (λ r. r.words) e) in
+    let replies : a.reply ≡ b.reply = same_reply a.reply b.reply f.reply g.reply (ap (λ r. r.copied) e) (ap (λ r. r.of_total) e) in
+    ap (λ (x : List ℕ). let r : Answered = record { key = x; command = a.command; number = a.number; reply = a.reply } in r) keys
+    ∙ (ap (λ (x : Command). let r : Answered = record { key = b.key; command = x; number = a.number; reply = a.reply } in r) commands
+    ∙ (ap (λ (x : ℕ). let r : Answered = record { key = b.key; command = b.command; number = x; reply = a.reply } in r) numbers
+    ∙ ap (λ (x : Reply). let r : Answered = record { key = b.key; command = b.command; number = b.number; reply = x } in r) replies))

@@ -1,0 +1,55 @@
+-- Commands: what they can hold, and their canonical words.
+use Rattle.std.specs.Prelude.{◌<◌, ◌^◌, ℕ, Bool, not, IsTrue, List, [], ◌∷◌, ◌++◌, codes, if◌then◌else◌}
+use Rattle.std.specs.List.{join_with_byte}
+use Rattle.std.specs.Fmt.{decimal}
+use Rattle.gm_metadata.specs.Balance.{balance_name}
+use Rattle.gm_metadata.specs.Labels.{is_label}
+use Rattle.gm_metadata.specs.declared.balance.Balance.{Balance}
+use Rattle.gm_metadata.specs.declared.balance.Balance.TheVariants as balances
+use Rattle.gm_state.specs.declared.command.BalanceWord.{BalanceWord}
+use Rattle.gm_state.specs.declared.command.BalanceWord.TheVariants.{Load, Prefer, RoundRobin, Split}
+use Rattle.gm_state.specs.declared.command.Command.{Command}
+use Rattle.gm_state.specs.declared.command.Command.TheVariants.{Label, Insert, Remove, Clear, Destroy}
+
+-- the balance that a word asks for
+abbrev pub balance_of_word : BalanceWord → Balance
+balance_of_word Load = balances.Load
+balance_of_word Prefer = balances.Prefer
+balance_of_word RoundRobin = balances.RoundRobin
+balance_of_word Split = balances.Split
+
+-- names are labels, numbers fit, and a slice isn't 0, as the types of the code have it
+abbrev pub CommandFits : Command → Type 0
+CommandFits (Label n p mid did balance slice flags hardcoded) = IsTrue (is_label n) × IsTrue (is_label p) × (mid < 2 ^ 32) × (did < 2 ^ 32) × (0 < slice) × (slice < 2 ^ 32)
+CommandFits (Insert n p did priority hardcoded) = IsTrue (is_label n) × IsTrue (is_label p) × (did < 2 ^ 32) × (priority < 2 ^ 8)
+CommandFits (Remove n p) = IsTrue (is_label n) × IsTrue (is_label p)
+CommandFits (Clear p) = IsTrue (is_label p)
+CommandFits (Destroy n) = IsTrue (is_label n)
+
+-- on or off
+abbrev pub on_where : Bool → List ℕ
+on_where b = if b then codes "on" else codes "off"
+
+-- the options of label that tell numbers and names
+abbrev pub number_words : ℕ → ℕ → List ℕ → ℕ → List (List ℕ)
+number_words mid did balance slice = codes "--mid" ∷ decimal mid ∷ codes "--did" ∷ decimal did ∷ codes "--balance" ∷ balance ∷ codes "--slice" ∷ decimal slice ∷ []
+
+-- those that turn something on or off
+abbrev pub switch_words : List ℕ → List ℕ → List ℕ → List (List ℕ)
+switch_words autosync failsync hardcode = codes "--autosync" ∷ autosync ∷ codes "--failsync" ∷ failsync ∷ codes "--hardcode" ∷ hardcode ∷ []
+
+-- the words: the command, its options in their order with each default written out, and then the names
+abbrev pub words : Command → List (List ℕ)
+words (Label n p mid did balance slice flags hardcoded) =
+    codes "label" ∷ number_words mid did (balance_name (balance_of_word balance)) slice
+    ++ switch_words (on_where (not flags.no_autosync)) (on_where (not flags.no_failsync)) (on_where hardcoded) ++ n ∷ p ∷ []
+words (Insert n p did priority hardcoded) =
+    codes "insert" ∷ codes "--did" ∷ decimal did ∷ codes "--priority" ∷ decimal priority
+    ∷ codes "--hardcode" ∷ on_where hardcoded ∷ n ∷ p ∷ []
+words (Remove n p) = codes "remove" ∷ n ∷ p ∷ []
+words (Clear p) = codes "clear" ∷ p ∷ []
+words (Destroy n) = codes "destroy" ∷ n ∷ []
+
+-- the canonical words: joined by one space
+abbrev pub words_of : Command → List ℕ
+words_of c = join_with_byte 32 (words c)

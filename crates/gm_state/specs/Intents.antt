@@ -1,0 +1,50 @@
+-- What intents name and say.
+use Rattle.std.specs.Prelude.{◌≡◌, ◌+◌, ℕ, Bool, false, ◌==◌, ◌&&◌, ◌||◌, nat_le, nat_lt, List, [], ◌∷◌, Option, Some, None}
+use Rattle.gm_metadata.specs.Images.{Image, Sizes, same_label, zeros}
+use Rattle.gm_metadata.specs.Reading.{encoded}
+use Rattle.gm_state.specs.declared.command.Intent.{Intent}
+use Rattle.gm_state.specs.declared.command.Intent.TheVariants.{Meta, Clear, Copy}
+use Rattle.gm_state.specs.declared.records.Mirror.{Mirror}
+use Rattle.gm_state.specs.declared.records.Component.{Component}
+use Rattle.gm_state.specs.Words.{Has}
+use Rattle.gm_state.specs.Records.{Records, members}
+use Rattle.gm_state.specs.Lookups.{metadata}
+
+-- sector j is the last one of a provider of so many sectors
+abbrev pub is_last : Option ℕ → ℕ → Bool
+is_last None j = false
+is_last (Some n) j = n == j + 1
+
+-- the intent copies to sector j of provider q
+abbrev pub copies : Intent → List ℕ → ℕ → Bool
+copies (Meta p) q j = false
+copies (Clear p) q j = false
+copies (Copy source target first end) q j = same_label target q && (nat_le first j && nat_lt j end)
+
+-- the intent names sector j of provider q: the last one for Meta and Clear, those from first to end - 1 of the target for Copy
+abbrev pub names : Sizes → Intent → List ℕ → ℕ → Bool
+names size (Meta p) q j = same_label p q && is_last (size q) j
+names size (Clear p) q j = same_label p q && is_last (size q) j
+names size (Copy source target first end) q j = copies (Copy source target first end) q j
+
+-- some intent copies to the sector
+abbrev pub any_copies : List Intent → List ℕ → ℕ → Bool
+any_copies [] q j = false
+any_copies (t ∷ ts) q j = copies t q j || any_copies ts q j
+
+-- some intent names the sector
+abbrev pub is_place : Sizes → List Intent → List ℕ → ℕ → Bool
+is_place size [] q j = false
+is_place size (t ∷ ts) q j = names size t q j || is_place size ts q j
+
+-- the component of a mirror is registered
+pub record IsOf (s : Records) (m : Mirror) (k : Component) : Type 0 where
+  pub mirror : Has s.mirrors m
+  pub component : Has (members s.components m.name) k
+
+-- what sector j holds by the intent, where the records are s and the shelf holds w:
+-- the component's metadata, zeros, or the source's sector
+abbrev pub Says : Records → Image → Intent → ℕ → List ℕ → Type 0
+Says s w (Meta p) j x = (m : Mirror) × (k : Component) × IsOf s m k × (k.provider ≡ p) × (x ≡ encoded (metadata m k))
+Says s w (Clear p) j x = x ≡ zeros
+Says s w (Copy source target first end) j x = x ≡ w source j

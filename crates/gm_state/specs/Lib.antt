@@ -1,0 +1,13 @@
+pub mod Words
+pub mod Disks
+pub mod Records
+pub mod Testing
+pub mod Lookups
+pub mod States
+pub mod Sources
+pub mod Choosing
+pub mod Commands
+pub mod Intents
+pub mod World
+pub mod Rows
+pub mod Examples

@@ -1,0 +1,86 @@
+-- The abstract bench.
+use Rattle.std.specs.Prelude.{◌≡◌, ◌+◌, ◌-◌, ◌/◌, ◌<◌, ◌≤◌, ℕ, Bool, false, ◌&&◌, nat_lt, IsTrue, List, [], ◌∷◌, length, if◌then◌else◌}
+use Rattle.std.specs.List.{list_all}
+use Rattle.gm_metadata.specs.Images.{Image, Sizes}
+use Rattle.gm_metadata.specs.Labels.{is_label_byte}
+use Rattle.gm_metadata.specs.Reading.{encoded}
+use Rattle.gm_metadata.specs.Sector.{Bears, IsMetadata}
+use Rattle.gm_metadata.specs.declared.metadata.Metadata.{Metadata}
+use Rattle.gm_state.specs.declared.command.Command.{Command}
+use Rattle.gm_state.specs.declared.command.Reply.{Reply}
+use Rattle.gm_state.specs.declared.command.Reply.TheVariants.{Plain, Copied}
+use Rattle.gm_state.specs.declared.records.Mirror.{Mirror}
+use Rattle.gm_state.specs.declared.records.Component.{Component}
+use Rattle.gm_state.specs.Words.{Has}
+use Rattle.gm_state.specs.Records.{Records, IsState, held_by}
+use Rattle.gm_state.specs.Lookups.{metadata}
+use Rattle.gm_state.specs.Commands.{CommandFits}
+use Rattle.gm_state.specs.Intents.{IsOf}
+
+-- an answered key: its command, the command's number and the reply
+pub record Answered : Type 0 where
+  pub key : List ℕ
+  pub command : Command
+  pub number : ℕ
+  pub reply : Reply
+
+-- the records, the data of each mirror by its name and the sector's number, the answered keys with the newest first,
+-- what each provider holds, and how many sectors those have that are there
+pub record World : Type 0 where
+  pub state : Records
+  pub holds : List ℕ → ℕ → List ℕ
+  pub answered : List Answered
+  pub shelf : Image
+  pub size : Sizes
+
+-- the first k sectors of p are the first k of the list
+abbrev pub Below : Image → (ℕ → List ℕ) → List ℕ → ℕ → Type 0
+Below shelf list p k = (i : ℕ) → i < k → shelf p i ≡ list i
+
+-- all n data sectors of the mirror on p are its list
+abbrev pub Whole : World → Mirror → List ℕ → Type 0
+Whole w m p = Below w.shelf (w.holds m.name) p m.data_sectors
+
+-- 1 to 32 of the characters of labels
+abbrev pub is_key : List ℕ → Bool
+is_key key = (nat_lt 0 (length key) && nat_lt (length key) 33) && list_all is_label_byte key
+
+-- a copy holds some of its sectors, at most all, and no more than an image has
+abbrev pub ReplyFits : Reply → Type 0
+ReplyFits Plain = Unit {0}
+ReplyFits (Copied held total) = (0 < held) × (held ≤ total) × (total ≤ 1048576)
+
+pub record AnswerFits (a : Answered) : Type 0 where
+  pub key : IsTrue (is_key a.key)
+  pub command : CommandFits a.command
+  pub reply : ReplyFits a.reply
+
+-- the numbers count from 1 without gaps
+abbrev pub AreNumbered : List Answered → Type 0
+AreNumbered [] = Unit {0}
+AreNumbered (a ∷ older) = (a.number ≡ length older + 1) × AreNumbered older
+
+-- The rules of the answered keys.
+pub record AreAnswers (answers : List Answered) : Type 0 where
+  pub count : length answers ≤ 100000
+  pub fit : (a : Answered) → Has answers a → AnswerFits a
+  pub numbers : AreNumbered answers
+  pub keys : (a b : Answered) → Has answers a → Has answers b → a.key ≡ b.key → a ≡ b
+
+-- The rules hold, each component's last sector says its metadata, and its data are what its record says:
+-- an ACTIVE one is whole, one that is being copied to holds the list below its offset.
+pub record Sound (w : World) : Type 0 where
+  pub state : IsState w.state
+  pub answers : AreAnswers w.answered
+  pub full : (m : Mirror) (k : Component) → IsOf w.state m k → w.shelf k.provider (k.sectors - 1) ≡ encoded (metadata m k)
+  pub whole : (m : Mirror) (k : Component) → IsOf w.state m k → Below w.shelf (w.holds m.name) k.provider (held_by k.disk m.data_sectors)
+
+-- how many data sectors metadata claim to hold: all of the mirror's, or those below the offset of a copy
+abbrev pub claimed : Mirror → Metadata → ℕ
+claimed m d = if d.dflags.synchronizing then d.sync_offset / 512 else m.data_sectors
+
+-- No component's image claims a sector that it lacks: where its last sector bears metadata of its mirror without INACTIVE.
+abbrev pub Claims : World → Image → Type 0
+Claims u x =
+    (m : Mirror) (k : Component) (d : Metadata) → IsOf u.state m k → IsMetadata d → Bears (x k.provider (k.sectors - 1)) d
+    → d.name ≡ m.name → d.mid ≡ m.mid → d.dflags.inactive ≡ false → Below x (u.holds m.name) k.provider (claimed m d)

@@ -1,0 +1,133 @@
+//! Commands, and what they have the bench write and answer.
+
+ghost use Rattle.std.specs.Prelude.{◌≡◌, ◌<◌, ◌==◌, if◌then◌else◌, Some, None};
+ghost use Rattle.gm_state.specs.Commands.{balance_of_word};
+
+use gm_metadata::{Balance, Label, MirrorFlags};
+use std::marker::Model;
+
+/// A balance that words can ask for (gmirror(8)); `none` is read and shown only.
+#[derive(Clone, Copy, Debug, PartialEq, Eq)]
+pub enum BalanceWord {
+    Load,
+    Prefer,
+    RoundRobin,
+    Split,
+}
+
+impl BalanceWord {
+    /// The balance that the word asks for.
+    pub fn balance(self) -> Balance
+        ensures { result ≡ balance_of_word self }
+    {
+        match self {
+            BalanceWord::Load => Balance::Load,
+            BalanceWord::Prefer => Balance::Prefer,
+            BalanceWord::RoundRobin => Balance::RoundRobin,
+            BalanceWord::Split => Balance::Split,
+        }
+    }
+}
+
+/// The size of a slice (bytes), 1 to 4294967295. In contracts it is that number.
+#[derive(Clone, Copy, Debug, PartialEq, Eq)]
+pub struct Slice {
+    bytes: u32,
+}
+
+impl Model for Slice {
+    ghost use Rattle.std.specs.Prelude.{ℕ, ◌<◌};
+
+    ghost Value = { ℕ };
+
+    ghost view = { λ a. a.bytes };
+
+    ghost invariant = { λ a. 0 < a.bytes };
+
+    ghost inverse = { λ n. record { bytes = n } };
+}
+
+impl Slice {
+    /// The slice of so many bytes; `None` where they are none.
+    pub fn new(bytes: u32) -> Option<Slice>
+        ensures { result ≡ (if bytes == 0 then None else Some bytes) }
+    {
+        if bytes == 0 {
+            return None;
+        }
+        Some(Slice { bytes })
+    }
+
+    /// Its size in bytes.
+    pub fn bytes(self) -> u32
+        ensures value { result ≡ self }
+        ensures some { 0 < self }
+    {
+        self.bytes
+    }
+}
+
+/// A command of gmirror(8), as its words say it.
+#[derive(Clone, Copy, Debug, PartialEq, Eq)]
+pub enum Command {
+    /// A new mirror on one provider. mid and did are handed in.
+    Label {
+        name: Label,
+        provider: Label,
+        mid: u32,
+        did: u32,
+        balance: BalanceWord,
+        slice: Slice,
+        flags: MirrorFlags,
+        hardcoded: bool,
+    },
+    /// One more component, which is to be filled.
+    Insert {
+        name: Label,
+        provider: Label,
+        did: u32,
+        priority: u8,
+        hardcoded: bool,
+    },
+    /// One component less.
+    Remove {
+        name: Label,
+        provider: Label,
+    },
+    /// The metadata of a provider that is no component are wiped out.
+    Clear {
+        provider: Label,
+    },
+    /// The mirror and its components are dropped.
+    Destroy {
+        name: Label,
+    },
+}
+
+/// What is to be written to the shelf.
+#[derive(Clone, Copy, Debug, PartialEq, Eq)]
+pub enum Intent {
+    /// The provider's metadata into its last sector.
+    Meta {
+        provider: Label,
+    },
+    /// Zeros into its last sector.
+    Clear {
+        provider: Label,
+    },
+    /// The sectors first to end - 1 of the source into the target.
+    Copy {
+        source: Label,
+        target: Label,
+        first: u32,
+        end: u32,
+    },
+}
+
+/// What a command answers beside its number.
+#[derive(Clone, Copy, Debug, PartialEq, Eq)]
+pub enum Reply {
+    Plain,
+    /// A copy holds so many of the sectors in total.
+    Copied { held: u32, total: u32 },
+}

@@ -1,0 +1,30 @@
+//! What the bench keeps of mirrors and components, what commands are, and what can be said of the records.
+//!
+//! Begin with `records.rt` and `command.rt`, the data, and `specs/Records.antt`, the rules of a state. Then `state.rt`,
+//! which holds records by these rules; `lookups.rt` and `sources.rt`, what can be said of a component; `wording.rt`,
+//! the words by which commands are compared. `specs/World.antt` is the abstract bench, and `laws.rt` what holds of it all.
+#![tactic(auto)]
+
+mod checking;
+mod command;
+mod laws;
+mod lookups;
+mod records;
+mod sizes;
+mod sources;
+mod state;
+mod states;
+#[cfg(test)]
+mod tests;
+mod wording;
+
+pub use checking::{MAX_COMPONENTS, MAX_MIRRORS, MAX_SECTORS};
+pub use command::{BalanceWord, Command, Intent, Reply, Slice};
+pub use laws::{metadata_fits, one_command, one_row, one_state, sound_data};
+pub use lookups::{active_count, component_state, metadata, metadata_of, mirror_state};
+pub use records::{Component, Disk, Mirror};
+pub use sizes::{bytes_of, sectors_of};
+pub use sources::source;
+pub use state::{State, put};
+pub use states::{ComponentState, MirrorState};
+pub use wording::words_of;

@@ -1,0 +1,93 @@
+//! What can be said of a component or a mirror from the records alone. Nothing here takes memory.
+
+ghost use Rattle.std.specs.Prelude.{◌≡◌, ◌*◌, Some, None, length, count_by};
+ghost use Rattle.gm_state.specs.Records.{members};
+ghost use Rattle.gm_state.specs.Lookups.{metadata, metadata_of, is_active};
+ghost use Rattle.gm_state.specs.States.{state_by, component_state, mirror_state, active_count, state_among};
+
+use crate::records::{Component, Disk, Mirror};
+use crate::sizes::bytes_of;
+use crate::state::State;
+use crate::states::{ComponentState, MirrorState};
+use gm_metadata::{Label, Metadata, MirrorFlags};
+
+/// What the last sector of a component of the mirror says.
+pub fn metadata(mirror: &Mirror, component: &Component) -> Metadata
+    ensures { result ≡ metadata mirror.now component.now }
+{
+    Metadata {
+        name: mirror.name,
+        mid: mirror.mid,
+        did: component.did,
+        all: mirror.all,
+        genid: mirror.genid,
+        syncid: component.syncid,
+        priority: component.priority,
+        slice: mirror.slice,
+        balance: mirror.balance,
+        mediasize: bytes_of(mirror.data_sectors),
+        sync_offset: bytes_of(component.disk.held()),
+        mflags: mirror.flags,
+        dflags: component.disk.flags(),
+        provider: component.hardcoded.then_some(component.provider),
+        provsize: bytes_of(component.sectors),
+    }
+}
+
+/// The metadata of a component, whole; `None` where the provider is no component.
+pub fn metadata_of(state: &State, provider: Label) -> Option<Metadata>
+    ensures { result ≡ metadata_of state.now provider }
+{
+    let component = state.component(provider)?;
+    let mirror = state.mirror(component.mirror)?;
+    Some(metadata(&mirror, &component))
+}
+
+fn state_by(flags: MirrorFlags, disk: Disk) -> ComponentState
+    ensures { result ≡ state_by flags disk }
+{
+    match disk {
+        Disk::Inactive => ComponentState::Inactive,
+        Disk::InSync => ComponentState::Active,
+        Disk::Copying { forced, held: _ } => {
+            if flags.no_autosync && !forced {
+                ComponentState::Stale
+            } else {
+                ComponentState::Synchronizing
+            }
+        }
+    }
+}
+
+/// The state of a component; `None` where the provider is no component.
+pub fn component_state(state: &State, provider: Label) -> Option<ComponentState>
+    ensures { result ≡ component_state state.now provider }
+{
+    let component = state.component(provider)?;
+    let mirror = state.mirror(component.mirror)?;
+    Some(state_by(mirror.flags, component.disk))
+}
+
+/// How many components of the mirror of this name are ACTIVE.
+pub fn active_count(state: &State, name: Label) -> usize
+    ensures { result ≡ active_count (members state.now.components name) }
+{
+    state
+        .components()
+        .iter()
+        .filter(|k| k.mirror == name)
+        .filter(|k| k.disk.is_active())
+        .count()
+}
+
+/// The state of the mirror of this name; `None` where there is none.
+pub fn mirror_state(state: &State, name: Label) -> Option<MirrorState>
+    ensures { result ≡ mirror_state state.now name }
+{
+    let mirror = state.mirror(name)?;
+    if active_count(state, mirror.name) == usize::from(mirror.all) {
+        Some(MirrorState::Complete)
+    } else {
+        Some(MirrorState::Degraded)
+    }
+}

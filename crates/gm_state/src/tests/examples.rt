@@ -1,0 +1,26 @@
+//! A world that is sound, and worlds that break one clause each: what is said of them are contracts.
+
+ghost use Rattle.gm_state.specs.Examples.{example, crowded, misnumbered, unmarked, lacking, overclaiming, example_tables, short_tables, pending_tables};
+ghost use Rattle.gm_state.specs.Rows.{AreRows};
+ghost use Rattle.gm_state.specs.World.{Sound};
+
+fn worlds()
+    ensures a_sound_one { Sound example }
+    ensures a_rule_is_broken { Sound crowded → ⊥ }
+    ensures an_answer_out_of_number { Sound misnumbered → ⊥ }
+    ensures a_last_sector_says_something_else { Sound unmarked → ⊥ }
+    ensures an_active_component_lacks_data { Sound lacking → ⊥ }
+    ensures a_copy_claims_too_much { Sound overclaiming → ⊥ }
+{}
+
+fn tables()
+    ensures rows_by_hand { AreRows example example_tables }
+    ensures a_row_too_few { AreRows example short_tables → ⊥ }
+    ensures a_row_of_an_intent { AreRows example pending_tables → ⊥ }
+{}
+
+#[test]
+fn examples_are_what_is_said_of_them() {
+    worlds();
+    tables();
+}
