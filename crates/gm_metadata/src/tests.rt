@@ -34,9 +34,9 @@ fn label(text: &str) -> Result<Label, Fail> {
     Ok(Label::new(text).ok_or("no label")?)
 }
 
-fn fresh() -> Result<Metadata, Fail> {
-    Ok(Metadata {
-        name: label("gm0")?,
+fn fresh(name: Label) -> Metadata {
+    Metadata {
+        name,
         mid: 7,
         did: 1,
         all: 1,
@@ -59,7 +59,7 @@ fn fresh() -> Result<Metadata, Fail> {
         },
         provider: None,
         provsize: 2048,
-    })
+    }
 }
 
 fn fresh_sector() -> [u8; 512] {
@@ -69,10 +69,11 @@ fn fresh_sector() -> [u8; 512] {
 }
 
 // The sector with the hash that its fields have.
-fn rehashed(mut sector: [u8; 512]) -> [u8; 512] {
+fn rehashed(sector: &[u8; 512]) -> [u8; 512] {
     let digest = Md5::digest(&sector[..119]);
-    sector[119..135].copy_from_slice(&digest);
-    sector
+    let mut rehashed = *sector;
+    rehashed[119..135].copy_from_slice(&digest);
+    rehashed
 }
 
 fn expect_fault(rt: &impl Abort, sector: &[u8; 512], fault: DecodeFault, number: u8) {
@@ -80,17 +81,22 @@ fn expect_fault(rt: &impl Abort, sector: &[u8; 512], fault: DecodeFault, number:
     assert_eq!(rt; fault.number(), number);
 }
 
+fn expect_fresh_sector(rt: &impl Abort, metadata: &Metadata) {
+    let sector = encode(metadata);
+    assert_eq!(rt; &sector[..135], FRESH.as_slice());
+    assert_eq!(rt; &sector[135..], [0; 377].as_slice());
+}
+
 #[test]
 fn encodes_byte_for_byte(rt: HostRuntime) -> Result<(), Fail> {
-    let sector = encode(&fresh()?);
-    assert_eq!(rt; &sector[..135], FRESH.as_slice());
-    assert!(rt; sector[135..].iter().all(|b| *b == 0));
+    let name = label("gm0")?;
+    expect_fresh_sector(&rt, &fresh(name));
     Ok(())
 }
 
 #[test]
 fn decodes_it_again(rt: HostRuntime) -> Result<(), Fail> {
-    assert_eq!(rt; decode(&fresh_sector()), Ok(fresh()?));
+    assert_eq!(rt; decode(&fresh_sector()), Ok(fresh(label("gm0")?)));
     Ok(())
 }
 
@@ -100,7 +106,7 @@ fn ignores_what_follows_the_hash(rt: HostRuntime) -> Result<(), Fail> {
     for byte in sector[135..].iter_mut() {
         *byte = 0xa5;
     }
-    assert_eq!(rt; decode(&sector), Ok(fresh()?));
+    assert_eq!(rt; decode(&sector), Ok(fresh(label("gm0")?)));
     Ok(())
 }
 
@@ -123,7 +129,7 @@ fn hash_is_that_of_rfc_1321(rt: HostRuntime) {
 fn first_of_two_faults_before_the_hash(rt: HostRuntime) {
     let mut sector = fresh_sector();
     sector[16] = 5;
-    expect_fault(&rt, &rehashed(sector), DecodeFault::Version, 2);
+    expect_fault(&rt, &rehashed(&sector), DecodeFault::Version, 2);
     expect_fault(&rt, &sector, DecodeFault::Version, 2);
     sector[0] = b'g';
     expect_fault(&rt, &sector, DecodeFault::Magic, 1);
@@ -138,15 +144,15 @@ fn first_of_two_faults_before_the_hash(rt: HostRuntime) {
 fn first_of_two_faults_behind_the_hash(rt: HostRuntime) {
     let mut sector = fresh_sector();
     sector[67] = 1;
-    expect_fault(&rt, &rehashed(sector), DecodeFault::SectorSize, 8);
+    expect_fault(&rt, &rehashed(&sector), DecodeFault::SectorSize, 8);
     sector[87] = 16;
-    expect_fault(&rt, &rehashed(sector), DecodeFault::Flags, 7);
+    expect_fault(&rt, &rehashed(&sector), DecodeFault::Flags, 7);
     sector[58] = 5;
-    expect_fault(&rt, &rehashed(sector), DecodeFault::Balance, 6);
+    expect_fault(&rt, &rehashed(&sector), DecodeFault::Balance, 6);
     sector[110] = b'x';
-    expect_fault(&rt, &rehashed(sector), DecodeFault::Provider, 5);
+    expect_fault(&rt, &rehashed(&sector), DecodeFault::Provider, 5);
     sector[24] = b'x';
-    expect_fault(&rt, &rehashed(sector), DecodeFault::Name, 4);
+    expect_fault(&rt, &rehashed(&sector), DecodeFault::Name, 4);
 }
 
 #[test]
