@@ -1,5 +1,8 @@
 //! How the program ends.
 
+ghost use Rattle.std.specs.Prelude.{◌≡◌};
+ghost use Rattle.gmbench.specs.Statuses.{refusal_number, status_code};
+
 use gm_shelf::ShelfFault;
 use std::alloc::AllocError;
 use std::{fmt, io};
@@ -19,7 +22,9 @@ pub enum Status {
 
 impl Status {
     /// The number that the process ends with.
-    pub fn code(self) -> u8 {
+    pub fn code(self) -> u8
+        ensures { result ≡ status_code self }
+    {
         match self {
             Status::Done => 0,
             Status::Refused => 1,
@@ -85,7 +90,9 @@ pub enum DumpRefusal {
 
 impl DumpRefusal {
     /// Its number among the refusals of commands.
-    pub fn number(self) -> u8 {
+    pub fn number(self) -> u8
+        ensures { result ≡ refusal_number self }
+    {
         match self {
             DumpRefusal::Absent => 8,
             DumpRefusal::WrongSize => 28,
