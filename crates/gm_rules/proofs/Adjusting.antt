@@ -1,12 +1,12 @@
 -- A command that keeps its mirror: another record for it, and other components.
-use Rattle.std.proofs.Common.{◌≡◌, ◌≢◌, ◌∙◌, ◌⊎◌, inl, inr, ⊎_elim, ℕ, ◌<◌, ◌≤◌, ◌+◌, ◌-◌, ◌==◌, Bool, true, false, refl, sym, ap, subst, arith, List, [], ◌∷◌, find, Option, Some, None, length, filter}
+use Rattle.std.proofs.Common.{◌≡◌, ◌≢◌, ◌∙◌, ◌⊎◌, inl, inr, ⊎_elim, ℕ, Bool, false, refl, sym, ap, subst, List, Some}
 use Rattle.gm_metadata.specs.Images.{same_label}
 use Rattle.gm_state.specs.declared.records.Mirror.{Mirror}
 use Rattle.gm_state.specs.declared.records.Component.{Component}
 use Rattle.gm_state.specs.Words.{Has, Ascends, put}
 use Rattle.gm_state.specs.Records.{Records, IsState, IsMirror, held_by, members, name, provider}
 use Rattle.gm_state.specs.World.{World, Sound, Below}
-use Rattle.gm_state.proofs.Order.{same_is, same_from, same_refl, same_tells}
+use Rattle.gm_state.proofs.Order.{same_refl, same_tells}
 use Rattle.gm_state.proofs.Words.{Has-filter, filter-Has, one, put_there, put_stays, put_cases, Ascends-put, length-put_same}
 use Rattle.gm_rules.proofs.Turning.{Turns, Were}
 

@@ -1,5 +1,5 @@
 -- The changes of the commands are what the commands make of the records.
-use Rattle.std.proofs.Common.{◌≡◌, ◌≢◌, ◌∙◌, ◌⊎◌, inl, inr, ℕ, ◌+◌, ◌-◌, Bool, true, false, not, ◌||◌, refl, sym, ap, List, [], ◌∷◌, filter, map, Option, Some, None}
+use Rattle.std.proofs.Common.{◌≡◌, ◌∙◌, inl, inr, ℕ, ◌+◌, ◌-◌, Bool, true, not, ◌||◌, refl, sym, ap, List, [], ◌∷◌, filter, map, Some, None}
 use Rattle.std.specs.List.{list_any}
 use Rattle.std.proofs.lemmas.Bool.{cases_Bool}
 use Rattle.gm_metadata.specs.Images.{same_label}
@@ -12,12 +12,12 @@ use Rattle.gm_state.specs.declared.command.Reply.TheVariants.{Plain}
 use Rattle.gm_state.specs.declared.records.Mirror.{Mirror}
 use Rattle.gm_state.specs.declared.records.Component.{Component}
 use Rattle.gm_state.specs.Words.{Has, put, without, without_all}
-use Rattle.gm_state.specs.Records.{Records, IsState, members, name, provider}
+use Rattle.gm_state.specs.Records.{Records, IsState, members, provider}
 use Rattle.gm_state.specs.Lookups.{mirror_of, component_of}
 use Rattle.gm_state.proofs.Order.{same_from, same_is}
 use Rattle.gm_state.proofs.Words.{Has-filter, filter-Has, filter-put, filter_swap, filter_id, one}
 use Rattle.gm_rules.specs.Bad.{Seen}
-use Rattle.gm_rules.specs.After.{after, metas, clears_of, new_mirror, first_component, spare}
+use Rattle.gm_rules.specs.After.{metas, clears_of, new_mirror, first_component, spare}
 use Rattle.gm_rules.specs.Decides.{Changed, Makes, IsGood}
 use Rattle.gm_rules.proofs.Finding.{filter_agree, any-map, any_from, some_any, not_both}
 use Rattle.gm_rules.proofs.Good.{named, new_name}

@@ -1,12 +1,11 @@
 -- What an encoded sector bears: its metadata and no other; and zeros bear nothing.
-use Rattle.std.proofs.Common.{◌≡◌, ◌∙◌, ℕ, Bool, true, false, IsTrue, ◌-◌, ◌+◌, ◌*◌, ◌<◌, ◌≤◌, ◌^◌, arith, if◌then◌else◌, refl, sym, ap, subst, List, [], ◌∷◌, take, drop, get_or, true≢false, Option, Some, None, lit≤}
+use Rattle.std.proofs.Common.{◌≡◌, ◌∙◌, ℕ, Bool, true, false, IsTrue, ◌+◌, ◌<◌, ◌≤◌, ◌^◌, arith, if◌then◌else◌, refl, sym, subst, List, take, true≢false, Some, None, lit≤}
 use Rattle.std.specs.Prelude.{IfSome}
-use Rattle.std.specs.Str.{bytes_eq}
 use Rattle.std.proofs.lemmas.Slice.Eq.{bytes_eq-Decides}
 use Rattle.gm_metadata.specs.Images.{zeros}
 use Rattle.gm_metadata.specs.Labels.{is_label}
 use Rattle.gm_metadata.specs.Reading.{encoded}
-use Rattle.gm_metadata.specs.Sector.{IsMetadata, Spells, Bears, magic, carries}
+use Rattle.gm_metadata.specs.Sector.{IsMetadata, Bears, magic, carries}
 use Rattle.gm_metadata.specs.declared.metadata.Metadata.{Metadata}
 use Rattle.gm_metadata.proofs.Laid.{named, encoded_is_full}
 use Rattle.gm_metadata.proofs.Numbers.{front_of_front}

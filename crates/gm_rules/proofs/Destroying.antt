@@ -1,14 +1,13 @@
 -- The plan of destroy: the mirror goes with its components.
-use Rattle.std.proofs.Common.{◌≡◌, ◌≢◌, ◌∙◌, ◌⊎◌, inl, inr, ⊎_elim, ℕ, ◌≤◌, ◌||◌, Bool, true, false, not, refl, sym, ap, subst, arith, List, [], ◌∷◌, length, filter, Option, Some, None}
+use Rattle.std.proofs.Common.{◌≡◌, ◌≢◌, ◌∙◌, inl, inr, ℕ, ◌≤◌, Bool, false, not, refl, sym, ap, subst, arith, List, [], length, filter, Some}
 use Rattle.std.specs.List.{list_any}
 use Rattle.std.proofs.lemmas.Bool.{cases_Bool, or_parts, not-true}
 use Rattle.gm_metadata.specs.Images.{same_label}
 use Rattle.gm_state.specs.declared.command.Command.TheVariants.{Destroy}
-use Rattle.gm_state.specs.declared.command.Intent.{Intent}
 use Rattle.gm_state.specs.declared.command.Intent.TheVariants.{Clear}
 use Rattle.gm_state.specs.declared.records.Mirror.{Mirror}
 use Rattle.gm_state.specs.declared.records.Component.{Component}
-use Rattle.gm_state.specs.Words.{Has, Ascends, without}
+use Rattle.gm_state.specs.Words.{Has, without}
 use Rattle.gm_state.specs.Records.{Records, IsState, IsMirror, members, name, provider}
 use Rattle.gm_state.specs.Lookups.{mirror_of}
 use Rattle.gm_state.specs.World.{World, Sound}

@@ -1,7 +1,7 @@
 -- What follows where no refusal applies, and which refusal is the least.
-use Rattle.std.proofs.Common.{◌≡◌, ◌≢◌, ◌∙◌, ◌⊎◌, inl, inr, ⊎_elim, ℕ, ◌≤◌, ◌<◌, ◌+◌, ◌^◌, Bool, true, false, not, ◌&&◌, ◌||◌, ◌==◌, nat_lt, refl, sym, ap, subst, arith, List, [], ◌∷◌, find, Option, Some, None, IsSome, is_none, is_some, ltb-true, ltb-false, eqb-true, length}
+use Rattle.std.proofs.Common.{◌≡◌, ◌≢◌, ◌∙◌, inl, inr, ⊎_elim, ℕ, ◌≤◌, ◌<◌, ◌^◌, Bool, true, false, ◌&&◌, ◌==◌, nat_lt, refl, sym, ap, subst, arith, List, [], ◌∷◌, find, Option, Some, None, IsSome, is_none, is_some, ltb-true, ltb-false, length}
 use Rattle.std.specs.Option.{ForSome}
-use Rattle.std.specs.List.{list_all, list_any}
+use Rattle.std.specs.List.{list_all}
 use Rattle.std.proofs.lemmas.Bool.{cases_Bool, and_parts, or_parts, eqb-false}
 use Rattle.gm_state.specs.Words.{Has}
 use Rattle.gm_state.specs.Records.{Records, IsState, IsMirror, members}
@@ -17,7 +17,7 @@ use Rattle.gm_state.specs.declared.command.BalanceWord.{BalanceWord}
 use Rattle.gm_rules.specs.declared.refusals.Refusal.{Refusal}
 use Rattle.gm_rules.specs.declared.refusals.Refusal.TheVariants.{Absent, WrongSize}
 use Rattle.gm_rules.specs.Refusals.{number_of, own}
-use Rattle.gm_rules.specs.Bad.{Seen, applies, at, has_size, has_wrong_size}
+use Rattle.gm_rules.specs.Bad.{Seen, applies, at, has_wrong_size}
 use Rattle.gm_rules.specs.Decides.{IsLeast, IsGood}
 use Rattle.gm_rules.proofs.Finding.{found, found_none, any_one}
 

@@ -1,5 +1,5 @@
 -- The plan of label.
-use Rattle.std.proofs.Common.{◌≡◌, ◌≢◌, ◌∙◌, ◌⊎◌, inl, inr, ⊎_elim, ℕ, ◌<◌, ◌≤◌, ◌+◌, ◌-◌, ◌^◌, ◌==◌, ◌||◌, Bool, true, false, not, IsTrue, refl, sym, ap, subst, arith, List, [], ◌∷◌, find, Option, Some, None, length, filter, unwrap_or, is_none, is_some}
+use Rattle.std.proofs.Common.{◌≡◌, ◌≢◌, ◌∙◌, ◌⊎◌, inl, inr, ⊎_elim, ℕ, ◌<◌, ◌≤◌, ◌+◌, ◌-◌, Bool, false, refl, sym, ap, subst, arith, List, [], ◌∷◌, Some, None, length, is_none, is_some}
 use Rattle.std.specs.List.{list_any}
 use Rattle.std.proofs.lemmas.Bool.{or_parts}
 use Rattle.gm_metadata.specs.Images.{same_label}
@@ -7,18 +7,17 @@ use Rattle.gm_metadata.specs.Sector.{carries}
 use Rattle.gm_metadata.specs.declared.flags.MirrorFlags.{MirrorFlags}
 use Rattle.gm_state.specs.declared.command.BalanceWord.{BalanceWord}
 use Rattle.gm_state.specs.declared.command.Command.TheVariants.{Label}
-use Rattle.gm_state.specs.declared.command.Intent.TheVariants.{Meta}
 use Rattle.gm_state.specs.declared.records.Mirror.{Mirror}
 use Rattle.gm_state.specs.declared.records.Component.{Component}
-use Rattle.gm_state.specs.declared.records.Disk.TheVariants.{InSync, Inactive, Copying}
-use Rattle.gm_state.specs.Words.{Has, Ascends, put}
+use Rattle.gm_state.specs.declared.records.Disk.TheVariants.{Inactive}
+use Rattle.gm_state.specs.Words.{Has, put}
 use Rattle.gm_state.specs.Records.{Records, IsState, IsMirror, MirrorFits, ComponentFits, held_by, held_of, members, name, provider}
 use Rattle.gm_state.specs.Lookups.{mirror_of, component_of}
 use Rattle.gm_state.specs.World.{World, Sound, Below}
-use Rattle.gm_state.proofs.Order.{same_is, same_from, same_refl, differ}
-use Rattle.gm_state.proofs.Words.{Has-filter, filter-Has, filter-put, filter-put_out, put_there, put_stays, put_or, Ascends-put, length-put_le}
+use Rattle.gm_state.proofs.Order.{same_from, same_refl, differ}
+use Rattle.gm_state.proofs.Words.{filter-put, filter-put_out, put_there, put_stays, put_or, Ascends-put, length-put_le}
 use Rattle.gm_rules.specs.declared.refusals.Refusal.TheVariants as refusals
-use Rattle.gm_rules.specs.After.{after, intents_of, new_mirror, first_component, metas}
+use Rattle.gm_rules.specs.After.{new_mirror, first_component, metas}
 use Rattle.gm_rules.specs.Bad.{at, has_wrong_size}
 use Rattle.gm_rules.specs.Decides.{IsGood}
 use Rattle.gm_rules.specs.Facts.{last_carries}

@@ -1,9 +1,8 @@
 -- From what a command makes of the records to its plan.
-use Rattle.std.proofs.Common.{◌≡◌, ◌≢◌, ◌∙◌, ◌⊎◌, inl, inr, ⊎_elim, ℕ, ◌<◌, ◌≤◌, ◌+◌, ◌-◌, ◌==◌, ◌&&◌, ◌||◌, Bool, true, false, refl, sym, ap, subst, arith, List, [], ◌∷◌, find, Option, Some, None, eqb-true, eq-eqb}
+use Rattle.std.proofs.Common.{◌≡◌, ◌∙◌, ◌⊎◌, inl, inr, ⊎_elim, ℕ, ◌+◌, ◌-◌, ◌==◌, ◌&&◌, Bool, true, false, refl, sym, ap, subst, List, [], ◌∷◌, find, Option, Some, None}
 use Rattle.std.specs.List.{list_any}
-use Rattle.std.proofs.lemmas.Bool.{cases_Bool, or_parts, or_left, or_right}
-use Rattle.gm_metadata.specs.Images.{Image, Sizes, same_label, zeros}
-use Rattle.gm_metadata.specs.Reading.{encoded}
+use Rattle.std.proofs.lemmas.Bool.{cases_Bool, or_parts}
+use Rattle.gm_metadata.specs.Images.{Sizes, same_label}
 use Rattle.gm_state.specs.declared.command.Command.{Command}
 use Rattle.gm_state.specs.declared.command.Intent.{Intent}
 use Rattle.gm_state.specs.declared.command.Intent.TheVariants.{Meta, Clear, Copy}
@@ -11,22 +10,20 @@ use Rattle.gm_state.specs.declared.records.Mirror.{Mirror}
 use Rattle.gm_state.specs.declared.records.Component.{Component}
 use Rattle.gm_state.specs.Words.{Has}
 use Rattle.gm_state.specs.Records.{Records}
-use Rattle.gm_state.specs.Intents.{IsOf, is_last, names, any_copies, copies}
+use Rattle.gm_state.specs.Intents.{is_last, any_copies}
 use Rattle.gm_state.specs.World.{World, Sound}
-use Rattle.gm_state.proofs.Order.{same_is, same_from, same_refl, same_tells}
-use Rattle.gm_state.specs.Lookups.{component_of}
+use Rattle.gm_state.proofs.Order.{same_is, same_refl, same_tells}
 use Rattle.gm_state.specs.declared.command.Reply.TheVariants.{Plain}
-use Rattle.gm_metadata.specs.Sector.{Bears, carries}
+use Rattle.gm_metadata.specs.Sector.{carries}
 use Rattle.gm_rules.proofs.Codec.{bears_carries}
-use Rattle.gm_metadata.specs.declared.metadata.Metadata.{Metadata}
 use Rattle.gm_rules.specs.After.{after, clears, intents_of}
 use Rattle.gm_rules.specs.Bad.{applies}
 use Rattle.gm_rules.specs.Decides.{IsGood}
-use Rattle.gm_rules.specs.Step.{Step, Plan, Bad, NewData, InOrder, Lends, CanAnswer, HasPlan, NewWereBare, is_changed, answer}
+use Rattle.gm_rules.specs.Step.{Plan, NewData, InOrder, Lends, CanAnswer, HasPlan, NewWereBare, is_changed, answer}
 use Rattle.gm_rules.specs.Worlds.{seen_of}
 use Rattle.gm_rules.proofs.Answering.{answers_after}
 use Rattle.gm_rules.proofs.Finding.{any_from, found, found_none, not_both}
-use Rattle.gm_rules.proofs.Turning.{Turns, Writes, Were, IsOne, w, shelf_after, holds_after, sound_after, says_after, agrees_after, claims_after, in_s, option_cases, last_is}
+use Rattle.gm_rules.proofs.Turning.{Turns, Writes, Were, w, shelf_after, holds_after, sound_after, says_after, agrees_after, claims_after, in_s, option_cases}
 
 -- an intent that copies nothing
 abbrev pub IsPlain : Intent → Type 0

@@ -1,23 +1,23 @@
 -- The plan of remove.
-use Rattle.std.proofs.Common.{◌≡◌, ◌≢◌, ◌∙◌, ◌⊎◌, inl, inr, ⊎_elim, ℕ, ◌<◌, ◌≤◌, ◌+◌, ◌-◌, ◌&&◌, ◌||◌, Bool, true, false, not, refl, sym, ap, subst, arith, List, [], ◌∷◌, find, Option, Some, None, length, filter}
+use Rattle.std.proofs.Common.{◌≡◌, ◌≢◌, ◌∙◌, inl, inr, ℕ, ◌≤◌, ◌+◌, ◌-◌, ◌&&◌, ◌||◌, Bool, true, false, not, refl, sym, ap, subst, arith, List, ◌∷◌, Some, length}
 use Rattle.std.specs.List.{list_any}
 use Rattle.std.proofs.lemmas.Bool.{or_parts, and_parts, not-true, not-false}
 use Rattle.gm_metadata.specs.Images.{same_label}
 use Rattle.gm_state.specs.declared.command.Command.TheVariants.{Remove}
 use Rattle.gm_state.specs.declared.command.Intent.{Intent}
-use Rattle.gm_state.specs.declared.command.Intent.TheVariants.{Meta, Clear}
+use Rattle.gm_state.specs.declared.command.Intent.TheVariants.{Clear}
 use Rattle.gm_state.specs.declared.records.Mirror.{Mirror}
 use Rattle.gm_state.specs.declared.records.Component.{Component}
 use Rattle.gm_state.specs.declared.records.Disk.{Disk}
 use Rattle.gm_state.specs.declared.records.Disk.TheVariants.{InSync, Inactive, Copying}
-use Rattle.gm_state.specs.Words.{Has, Ascends, put, without}
-use Rattle.gm_state.specs.Records.{Records, IsState, IsMirror, members, name, provider}
+use Rattle.gm_state.specs.Words.{Has, without}
+use Rattle.gm_state.specs.Records.{Records, IsMirror, members, provider}
 use Rattle.gm_state.specs.Lookups.{mirror_of, is_active}
 use Rattle.gm_state.specs.World.{World, Sound}
 use Rattle.gm_state.proofs.Order.{same_is, same_from, same_refl, differ}
 use Rattle.gm_state.proofs.Words.{Has-filter, filter-Has, Ascends-filter, filter_swap, filter_id, length-filter_lt, one}
 use Rattle.gm_rules.specs.declared.refusals.Refusal.TheVariants as refusals
-use Rattle.gm_rules.specs.After.{after, intents_of, metas}
+use Rattle.gm_rules.specs.After.{metas}
 use Rattle.gm_rules.specs.Decides.{IsGood}
 use Rattle.gm_rules.specs.Step.{CanAnswer, HasPlan}
 use Rattle.gm_rules.specs.Worlds.{seen_of}

@@ -1,25 +1,17 @@
 -- What the refusals of a command rule out, and the intents that write its components.
-use Rattle.std.proofs.Common.{◌≡◌, ◌≢◌, ◌∙◌, ◌⊎◌, inl, inr, ⊎_elim, ℕ, ◌<◌, ◌≤◌, ◌+◌, ◌-◌, ◌==◌, ◌||◌, Bool, true, false, not, refl, sym, ap, subst, arith, List, [], ◌∷◌, find, filter, map, Option, Some, None, is_none, eqb-true, if◌then◌else◌}
+use Rattle.std.proofs.Common.{◌≡◌, ◌∙◌, inl, inr, ℕ, ◌<◌, ◌-◌, ◌==◌, Bool, true, false, not, refl, sym, ap, subst, arith, List, [], ◌∷◌, Option, Some, None, eqb-true}
 use Rattle.std.specs.List.{list_any}
-use Rattle.std.proofs.lemmas.Bool.{cases_Bool, or_parts, not-false, ne_eqb}
-use Rattle.gm_metadata.specs.Images.{same_label, zeros}
+use Rattle.std.proofs.lemmas.Bool.{ne_eqb}
 use Rattle.gm_metadata.specs.Sector.{carries}
-use Rattle.gm_state.specs.declared.command.Command.{Command}
 use Rattle.gm_state.specs.declared.command.Intent.{Intent}
 use Rattle.gm_state.specs.declared.command.Intent.TheVariants.{Meta, Clear}
-use Rattle.gm_state.specs.declared.records.Mirror.{Mirror}
 use Rattle.gm_state.specs.declared.records.Component.{Component}
 use Rattle.gm_state.specs.Words.{Has}
-use Rattle.gm_state.specs.Records.{Records, members}
-use Rattle.gm_state.specs.Lookups.{mirror_of}
 use Rattle.gm_state.specs.World.{World}
-use Rattle.gm_rules.specs.Bad.{has_size, mine}
+use Rattle.gm_rules.specs.Bad.{has_size}
 use Rattle.gm_rules.specs.After.{metas, clears_of}
-use Rattle.gm_rules.specs.Decides.{IsGood}
 use Rattle.gm_rules.specs.Facts.{last_carries}
-use Rattle.gm_rules.specs.Worlds.{seen_of, last_of}
-use Rattle.gm_rules.specs.declared.refusals.Refusal.TheVariants as refusals
-use Rattle.gm_rules.specs.Refusals.{own}
+use Rattle.gm_rules.specs.Worlds.{last_of}
 use Rattle.gm_rules.proofs.Finding.{none_any}
 use Rattle.gm_rules.proofs.Turning.{IsOne}
 use Rattle.gm_rules.proofs.Planned.{IsPlain, ArePlain}

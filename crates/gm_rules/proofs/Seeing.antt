@@ -1,11 +1,10 @@
 -- What facts decide is what the world decides.
-use Rattle.std.proofs.Common.{◌≡◌, ◌∙◌, ◌⊎◌, inl, inr, ℕ, ◌||◌, ◌+◌, Bool, not, nat_lt, refl, sym, ap, ap₂, subst, List, [], ◌∷◌, Option, Some, None, Result, Ok, Err, is_none, unwrap_or}
+use Rattle.std.proofs.Common.{◌≡◌, ◌∙◌, inl, inr, ℕ, ◌||◌, ◌+◌, Bool, not, nat_lt, refl, sym, ap, ap₂, subst, List, Option, Some, None, Result, Ok, Err, is_none, unwrap_or}
 use Rattle.std.specs.List.{list_any}
 use Rattle.gm_metadata.specs.Images.{Sizes}
 use Rattle.gm_state.specs.declared.command.Command.{Command}
 use Rattle.gm_state.specs.declared.command.Command.TheVariants.{Label, Insert, Remove, Clear, Destroy}
 use Rattle.gm_state.specs.declared.records.Mirror.{Mirror}
-use Rattle.gm_state.specs.declared.records.Component.{Component}
 use Rattle.gm_state.specs.Words.{Has, put}
 use Rattle.gm_state.specs.Records.{Records, name, provider}
 use Rattle.gm_state.specs.Lookups.{mirror_of}

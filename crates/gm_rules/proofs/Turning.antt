@@ -1,7 +1,7 @@
 -- A command changes one mirror, and may copy data within it. From what its records become, the world that it leads to.
 -- mid is the image with the data copied, before any last sector is written.
-use Rattle.std.proofs.Common.{◌≡◌, ◌≢◌, ◌∙◌, ◌⊎◌, inl, inr, ⊎_elim, ℕ, ◌<◌, ◌≤◌, ◌+◌, ◌-◌, ◌*◌, ◌/◌, if◌then◌else◌, ◌==◌, ◌&&◌, ◌||◌, Bool, true, false, not, refl, sym, ap, subst, arith, List, [], ◌∷◌, cond, filter, find, nat_le, nat_lt, ltb-true, Option, Some, None, length, eqb-true, eq-eqb}
-use Rattle.std.proofs.lemmas.Bool.{cases_Bool, and_parts, leb-true, or_left, or_right, or_cases, or_from, and_left, and_right, ne_eqb}
+use Rattle.std.proofs.Common.{◌≡◌, ◌≢◌, ◌∙◌, ◌⊎◌, inl, inr, ⊎_elim, ℕ, ◌<◌, ◌≤◌, ◌+◌, ◌-◌, ◌*◌, ◌/◌, if◌then◌else◌, ◌&&◌, Bool, true, false, refl, sym, ap, subst, arith, List, [], ◌∷◌, cond, find, nat_le, nat_lt, ltb-true, Option, Some, None, eqb-true, eq-eqb}
+use Rattle.std.proofs.lemmas.Bool.{cases_Bool, and_parts, leb-true, or_left, or_right, ne_eqb}
 use Rattle.gm_metadata.specs.Images.{Image, Sizes, same_label, zeros}
 use Rattle.gm_metadata.specs.Reading.{encoded}
 use Rattle.gm_metadata.specs.Sector.{IsMetadata, Bears}
@@ -15,10 +15,10 @@ use Rattle.gm_state.specs.declared.records.Disk.TheVariants.{InSync, Inactive, C
 use Rattle.gm_state.specs.Words.{Has, Ascends}
 use Rattle.gm_state.specs.Records.{Records, IsState, IsMirror, held_by, members, name, provider}
 use Rattle.gm_state.specs.Lookups.{metadata, disk_flags, held_of}
-use Rattle.gm_state.specs.Intents.{IsOf, is_last, names, is_place, any_copies, copies, Says}
+use Rattle.gm_state.specs.Intents.{IsOf, is_last, names, is_place, Says}
 use Rattle.gm_state.specs.World.{World, Sound, Claims, claimed, Below}
 use Rattle.gm_state.proofs.Order.{same_tells, same_refl, same_from, same_is, differ}
-use Rattle.gm_state.proofs.Words.{Has-filter, filter-Has, Ascends-filter, one}
+use Rattle.gm_state.proofs.Words.{Has-filter, Ascends-filter, one}
 use Rattle.gm_rules.proofs.Finding.{found, find_none, find_one, not_both}
 use Rattle.gm_rules.proofs.Codec.{bears_one, bears_not_zeros}
 

@@ -1,5 +1,5 @@
 -- The plan of clear: no mirror turns.
-use Rattle.std.proofs.Common.{◌≡◌, ◌≢◌, ◌∙◌, ◌⊎◌, inl, inr, ⊎_elim, ℕ, Bool, true, false, IsTrue, refl, sym, ap, subst, List, [], ◌∷◌, Option, Some, None, is_some, true≢false}
+use Rattle.std.proofs.Common.{◌≡◌, ◌≢◌, ◌∙◌, inl, inr, ℕ, Bool, true, false, refl, sym, ap, subst, List, [], ◌∷◌, is_some, true≢false}
 use Rattle.gm_metadata.specs.Images.{same_label}
 use Rattle.gm_metadata.specs.Labels.{is_label}
 use Rattle.gm_metadata.specs.declared.balance.Balance.TheVariants as balances
@@ -9,7 +9,7 @@ use Rattle.gm_state.specs.declared.command.Intent.TheVariants.{Clear}
 use Rattle.gm_state.specs.declared.records.Mirror.{Mirror}
 use Rattle.gm_state.specs.declared.records.Component.{Component}
 use Rattle.gm_state.specs.Words.{Has}
-use Rattle.gm_state.specs.Records.{Records, members}
+use Rattle.gm_state.specs.Records.{members}
 use Rattle.gm_state.specs.Lookups.{component_of}
 use Rattle.gm_state.specs.World.{World, Sound}
 use Rattle.gm_state.proofs.Order.{same_is, same_from, same_refl, differ}

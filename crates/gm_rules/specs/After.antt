@@ -1,5 +1,5 @@
 -- What a command makes of the records, and what it has written.
-use Rattle.std.specs.Prelude.{◌≡◌, ◌+◌, ◌-◌, ℕ, Bool, false, not, List, [], ◌∷◌, Option, Some, None, map, filter, unwrap_or}
+use Rattle.std.specs.Prelude.{◌+◌, ◌-◌, ℕ, Bool, false, not, List, [], ◌∷◌, Option, Some, None, map, filter, unwrap_or}
 use Rattle.std.specs.List.{list_any}
 use Rattle.gm_metadata.specs.Images.{Sizes, same_label}
 use Rattle.gm_metadata.specs.declared.flags.MirrorFlags.{MirrorFlags}

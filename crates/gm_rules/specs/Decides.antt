@@ -7,7 +7,7 @@ use Rattle.gm_state.specs.declared.command.Reply.TheVariants.{Plain}
 use Rattle.gm_state.specs.declared.records.Mirror.{Mirror}
 use Rattle.gm_state.specs.declared.records.Component.{Component}
 use Rattle.gm_state.specs.Words.{Has, put, put_all, without, without_all}
-use Rattle.gm_state.specs.Records.{Records, IsState, name, provider}
+use Rattle.gm_state.specs.Records.{Records, name, provider}
 use Rattle.gm_rules.specs.declared.refusals.Refusal.{Refusal}
 use Rattle.gm_rules.specs.Refusals.{number_of, own}
 use Rattle.gm_rules.specs.Bad.{Seen, applies}

@@ -1,5 +1,5 @@
 -- What facts say of a provider.
-use Rattle.std.specs.Prelude.{◌≡◌, ℕ, Bool, false, List, Option, Some, None, find, option_map}
+use Rattle.std.specs.Prelude.{ℕ, Bool, false, List, Option, Some, None, find, option_map}
 use Rattle.gm_metadata.specs.Images.{same_label}
 use Rattle.gm_metadata.specs.Sector.{carries}
 use Rattle.gm_rules.specs.declared.facts.Fact.{Fact}

@@ -1,7 +1,7 @@
 -- The step of the abstract bench by a command, and the plan that carries it out.
-use Rattle.std.specs.Prelude.{◌≡◌, ◌+◌, ◌-◌, ◌<◌, ◌≤◌, ◌==◌, ◌&&◌, ◌||◌, ℕ, Bool, IsTrue, true, false, List, [], ◌∷◌, length, Option, Some, None, unwrap_or}
+use Rattle.std.specs.Prelude.{◌≡◌, ◌+◌, ◌-◌, ◌<◌, ◌≤◌, ◌==◌, ◌&&◌, ◌||◌, ℕ, Bool, IsTrue, true, false, List, [], ◌∷◌, length, None, unwrap_or}
 use Rattle.std.specs.List.{list_any}
-use Rattle.gm_metadata.specs.Images.{Image, Sizes, same_label, zeros}
+use Rattle.gm_metadata.specs.Images.{Sizes, same_label, zeros}
 use Rattle.gm_metadata.specs.Reading.{encoded}
 use Rattle.gm_metadata.specs.Sector.{Bears}
 use Rattle.gm_metadata.specs.declared.metadata.Metadata.{Metadata}
@@ -15,14 +15,12 @@ use Rattle.gm_state.specs.declared.records.Mirror.{Mirror}
 use Rattle.gm_state.specs.declared.records.Component.{Component}
 use Rattle.gm_state.specs.Commands.{CommandFits}
 use Rattle.gm_state.specs.Words.{Has}
-use Rattle.gm_state.specs.Records.{Records}
 use Rattle.gm_state.specs.Lookups.{metadata, component_of}
 use Rattle.gm_state.specs.Intents.{IsOf, is_last, names, is_place, any_copies, copies, Says}
 use Rattle.gm_state.specs.World.{World, Answered, Sound, Claims, is_key}
 use Rattle.gm_rules.specs.declared.refusals.Refusal.{Refusal}
 use Rattle.gm_rules.specs.Refusals.{own}
 use Rattle.gm_rules.specs.Bad.{applies}
-use Rattle.gm_rules.specs.Decides.{IsGood}
 use Rattle.gm_rules.specs.Worlds.{seen_of}
 use Rattle.gm_rules.specs.After.{after, intents_of, clears}
 

@@ -1,5 +1,5 @@
 -- What is seen of a world, and facts of it.
-use Rattle.std.specs.Prelude.{◌≡◌, ◌-◌, ◌⊎◌, ◌==◌, ℕ, List, Option, Some, None, option_map, if◌then◌else◌}
+use Rattle.std.specs.Prelude.{◌≡◌, ◌-◌, ◌⊎◌, ◌==◌, ℕ, List, Option, option_map, if◌then◌else◌}
 use Rattle.gm_metadata.specs.Images.{zeros}
 use Rattle.gm_state.specs.declared.command.Command.{Command}
 use Rattle.gm_state.specs.declared.records.Component.{Component}

@@ -1,4 +1,4 @@
-use Rattle.std.proofs.Common.{rules, ◌≡◌, ◌∙◌, sym, Ok, Err}
+use Rattle.std.proofs.Common.{rules, ◌∙◌, sym, Ok, Err}
 use Rattle.gm_rules.specs.Bad.{seen_in}
 use Rattle.gm_rules.specs.Decides.{IsLeast, Makes}
 use Rattle.gm_rules.proofs.Good.{is_least, is_good}

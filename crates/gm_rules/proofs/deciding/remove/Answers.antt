@@ -1,4 +1,4 @@
-use Rattle.std.proofs.Common.{rules, ◌∙◌, sym, inl, refl}
+use Rattle.std.proofs.Common.{◌∙◌, sym, inl, refl}
 use Rattle.gm_rules.specs.declared.refusals.Refusal.TheVariants as refusals
 use Rattle.gm_rules.specs.Bad.{seen_in}
 use Rattle.gm_rules.proofs.Good.{some_from, some_all}
