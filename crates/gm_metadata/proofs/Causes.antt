@@ -1,5 +1,5 @@
 -- The fault of a sector is the first that stands in it.
-use Rattle.std.proofs.Common.{◌≡◌, ◌≢◌, ◌∙◌, ◌<◌, ◌≤◌, ◌+◌, ◌⊎◌, ℕ, Bool, true, false, not, nat_lt, ◌==◌, refl, sym, ap, subst, arith, List, length, take, drop, slice_index, true≢false, inl, inr, lit≤, Result, Ok, Err, if◌then◌else◌}
+use Rattle.std.proofs.Common.{◌≡◌, ◌≢◌, ◌∙◌, ◌<◌, ◌≤◌, ◌+◌, ◌⊎◌, ℕ, Bool, true, false, not, nat_lt, ◌==◌, refl, sym, ap, subst, arith, List, length, drop, slice_index, true≢false, inl, inr, lit≤, Result, Ok, Err, if◌then◌else◌}
 use Rattle.std.specs.Prelude.{IfErr}
 use Rattle.std.proofs.lemmas.List.{length-take-le, length-drop}
 use Rattle.std.proofs.lemmas.Bool.Decides.{nat_tests, eqb_tells, not_from_Decides}
@@ -9,7 +9,7 @@ use Rattle.std.specs.Str.{bytes_eq}
 use Rattle.gm_metadata.specs.Faults.{fault_number}
 use Rattle.gm_metadata.specs.Labels.{is_label_field}
 use Rattle.gm_metadata.specs.Reading.{is_provider_field, has_hash, settings_of, with_settings, decode_of}
-use Rattle.gm_metadata.specs.Sector.{magic, bytes_at, number_at, carries, HoldsLabel, Stands, Cause}
+use Rattle.gm_metadata.specs.Sector.{bytes_at, number_at, carries, HoldsLabel, Stands, Cause}
 use Rattle.gm_metadata.specs.declared.metadata.Metadata.{Metadata}
 use Rattle.gm_metadata.specs.declared.decoding.Settings.{Settings}
 use Rattle.gm_metadata.specs.declared.fault.DecodeFault.{DecodeFault}

@@ -1,14 +1,13 @@
 -- A label and zeros are read back as the label, and a field that passes is a label and zeros.
-use Rattle.std.proofs.Common.{◌≡◌, ◌∙◌, ◌<◌, ◌≤◌, ◌+◌, ◌-◌, ◌==◌, ◌&&◌, ◌||◌, ℕ, Bool, true, false, not, zero, suc, nat_lt, refl, sym, ap, ap₂, subst, arith, List, [], ◌∷◌, ◌++◌, length, take, drop, replicate, IsTrue, cond, true≢false, inl, inr, ◌⊎◌, min}
+use Rattle.std.proofs.Common.{◌≡◌, ◌∙◌, ◌<◌, ◌-◌, ◌==◌, ◌&&◌, ℕ, Bool, true, false, not, zero, suc, nat_lt, refl, sym, ap, ap₂, arith, List, [], ◌∷◌, ◌++◌, length, drop, replicate, true≢false}
 use Rattle.std.proofs.Common.{Result, Ok, Err, lit<}
 use Rattle.std.specs.Prelude.{MatchResult, IsOk}
 use Rattle.std.specs.Str.{IsAscii, IsUtf8}
 use Rattle.std.proofs.lemmas.Str.{IsUtf8-from_ascii}
 use Rattle.std.specs.List.{list_all, prefix_len}
 use Rattle.std.proofs.lemmas.Bool.Decides.{nat_tests}
-use Rattle.std.proofs.lemmas.List.{drop-replicate, length-take, length-drop, take-append-drop, length-append, length-replicate}
-use Rattle.std.proofs.lemmas.List.Folds.{length-prefix_len, prefix_len-append}
-use Rattle.std.proofs.lemmas.List.Sums.{prefix_len-le-length}
+use Rattle.std.proofs.lemmas.List.{drop-replicate, length-drop, take-append-drop}
+use Rattle.std.proofs.lemmas.List.Folds.{length-prefix_len}
 use Rattle.std.proofs.Math.Seq.{take-append_seam}
 use Rattle.gm_metadata.specs.Labels.{is_label, is_label_byte, is_label_field, padded, name_in, name_len, IsLabelField}
 

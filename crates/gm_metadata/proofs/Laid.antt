@@ -1,6 +1,6 @@
 -- Fields that are laid one after another, and the same fields each at its place.
-use Rattle.std.proofs.Common.{◌≡◌, ◌∙◌, ◌≤◌, ◌+◌, ◌-◌, ℕ, refl, sym, ap, ap₂, subst, arith, List, [], ◌∷◌, ◌++◌, length, take, drop, replicate, append_assoc, length-append, IsTrue, Option}
-use Rattle.std.proofs.lemmas.List.{drop-drop, take-append-drop, length-take-le, length-drop, length-replicate}
+use Rattle.std.proofs.Common.{◌≡◌, ◌∙◌, ◌+◌, ◌-◌, ℕ, refl, sym, ap, ap₂, subst, arith, List, [], ◌∷◌, ◌++◌, length, take, drop, replicate, append_assoc, length-append}
+use Rattle.std.proofs.lemmas.List.{drop-drop, take-append-drop, length-drop, length-replicate}
 use Rattle.std.proofs.Math.Seq.{drop-append_seam, take-append_seam, take-length}
 use Rattle.std.proofs.lemmas.List.{append-nil, append_cancel_right}
 use Rattle.md5.specs.Md5.{md5}
@@ -9,7 +9,7 @@ use Rattle.gm_metadata.specs.Balance.{balance_code}
 use Rattle.gm_metadata.specs.Flags.{mirror_bits, disk_bits}
 use Rattle.gm_metadata.specs.Labels.{padded}
 use Rattle.gm_metadata.specs.Reading.{fields, spelling, encoded}
-use Rattle.gm_metadata.specs.Sector.{magic, u32_field, u64_field, provider_field, bytes_at, IsMetadata, Spells, Bears, Full}
+use Rattle.gm_metadata.specs.Sector.{magic, u32_field, u64_field, provider_field, bytes_at, IsMetadata, Spells, Full}
 use Rattle.gm_metadata.specs.declared.metadata.Metadata.{Metadata}
 use Rattle.gm_metadata.proofs.Values.{length-padded, length-provider_field}
 

@@ -1,7 +1,7 @@
 -- Labels, balances and flags are read from what they are spelled as, and the other way round.
-use Rattle.std.proofs.Common.{◌≡◌, ◌≢◌, ◌∙◌, ◌<◌, ◌≤◌, ◌+◌, ◌-◌, ◌==◌, ◌&&◌, ℕ, Bool, true, false, not, zero, suc, nat_lt, refl, sym, ap, ap₂, arith, List, [], ◌∷◌, ◌++◌, length, take, drop, replicate, IsTrue, true≢false, inl, inr, ◌⊎◌, Option, Some, None, if◌then◌else◌, length-append}
+use Rattle.std.proofs.Common.{◌≡◌, ◌≢◌, ◌∙◌, ◌<◌, ◌≤◌, ◌-◌, ◌==◌, ◌&&◌, ℕ, Bool, true, false, zero, suc, nat_lt, refl, sym, ap, ap₂, arith, List, [], ◌∷◌, ◌++◌, length, drop, replicate, IsTrue, true≢false, inl, inr, ◌⊎◌, Option, Some, None, if◌then◌else◌, length-append}
 use Rattle.std.specs.Prelude.{IfSome}
-use Rattle.std.specs.List.{list_all, prefix_len}
+use Rattle.std.specs.List.{list_all}
 use Rattle.std.proofs.lemmas.Bool.Decides.{nat_tests, eqb_tells}
 use Rattle.std.proofs.lemmas.List.{length-replicate}
 use Rattle.std.proofs.Math.Seq.{drop-append_seam}

@@ -1,4 +1,4 @@
-use Rattle.std.proofs.Common.{rules, arith, refl, sym, subst, append_assoc, ◌≡◌, ◌∙◌, ◌++◌, ◌∷◌, [], ◌-◌, length, replicate, ap, ℕ, List}
+use Rattle.std.proofs.Common.{rules, arith, refl, sym, subst, ◌≡◌, ◌∙◌, ◌++◌, ◌∷◌, [], ◌-◌, length, replicate, ap, ℕ, List}
 use Rattle.md5.specs.Md5.{md5}
 use Rattle.gm_metadata.specs.Labels.{padded}
 use Rattle.gm_metadata.specs.Sector.{magic, u64_field, provider_field, Full}

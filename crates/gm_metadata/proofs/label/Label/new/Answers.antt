@@ -1,5 +1,5 @@
-use Rattle.std.proofs.Common.{rules, ◌≡◌, ◌∙◌, ◌-◌, ◌++◌, ℕ, List, Some, None, Option, cond, replicate, length, drop, true, false, ap, sym, subst, refl}
-use Rattle.gm_metadata.specs.Labels.{is_label, padded, name_in, IsLabelField}
+use Rattle.std.proofs.Common.{rules, ◌≡◌, Some, true, ap, sym, subst, refl}
+use Rattle.gm_metadata.specs.Labels.{is_label, IsLabelField}
 use Rattle.gm_metadata.proofs.Labels.{field_of_label, name_again, label_parts, copied_name}
 use Rattle.gm_metadata.proofs.label.Label.new.Goals as goal
 
