@@ -19,7 +19,7 @@ use Rattle.gm_state.proofs.Words.{Has-filter, filter-Has, filter-put, filter_swa
 use Rattle.gm_rules.specs.Bad.{Seen}
 use Rattle.gm_rules.specs.After.{metas, clears_of, new_mirror, first_component, spare}
 use Rattle.gm_rules.specs.Decides.{Changed, Makes, IsGood}
-use Rattle.gm_rules.proofs.Finding.{filter_agree, any-map, any_from, some_any, not_both}
+use Rattle.gm_state.proofs.Finding.{filter_agree, any-map, any_from, some_any, not_both}
 use Rattle.gm_rules.proofs.Good.{named, new_name}
 
 pub label_makes : (s : Records) (x : Seen) (n p : List ℕ) (mid did : ℕ) (balance : BalanceWord) (slice : ℕ) (flags : MirrorFlags) (hardcoded : Bool) (sectors : ℕ) (ch : Changed)

@@ -18,7 +18,7 @@ use Rattle.gm_rules.specs.After.{clears_of}
 use Rattle.gm_rules.specs.Decides.{IsGood}
 use Rattle.gm_rules.specs.Step.{CanAnswer, HasPlan}
 use Rattle.gm_rules.specs.Worlds.{seen_of}
-use Rattle.gm_rules.proofs.Finding.{any_from, some_any, no_members, not_both}
+use Rattle.gm_state.proofs.Finding.{any_from, some_any, no_members, not_both}
 use Rattle.gm_rules.proofs.Good.{there_from, named}
 use Rattle.gm_rules.proofs.Planned.{has}
 use Rattle.gm_rules.proofs.RuledOut.{all_there, clears_has, clears_are, clears_plain}

@@ -19,7 +19,7 @@ use Rattle.gm_rules.specs.declared.refusals.Refusal.TheVariants.{Absent, WrongSi
 use Rattle.gm_rules.specs.Refusals.{number_of, own}
 use Rattle.gm_rules.specs.Bad.{Seen, applies, at, has_wrong_size}
 use Rattle.gm_rules.specs.Decides.{IsLeast, IsGood}
-use Rattle.gm_rules.proofs.Finding.{found, found_none, any_one}
+use Rattle.gm_state.proofs.Finding.{found, found_none, any_one}
 
 pub some_from : {X : Type 0} (o : Option X) → is_none o ≡ false → IsSome o
 some_from None e = absurd (let h : ⊥ = cc in h)

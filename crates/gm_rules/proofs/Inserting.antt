@@ -22,7 +22,7 @@ use Rattle.gm_rules.specs.Facts.{last_carries}
 use Rattle.gm_rules.specs.Step.{CanAnswer, HasPlan}
 use Rattle.gm_rules.specs.Worlds.{seen_of, last_of}
 use Rattle.gm_rules.proofs.Adjusting.{Adjusts, adjusts_turns, adjusts_were, adjusted}
-use Rattle.gm_rules.proofs.Finding.{any_one, none_any, not_both}
+use Rattle.gm_state.proofs.Finding.{any_one, none_any, not_both}
 use Rattle.gm_rules.proofs.Good.{there_from, none_from, named, new_name, at_fails, not_below, not_at, right_size}
 use Rattle.gm_rules.proofs.Planned.{has}
 use Rattle.gm_rules.proofs.RuledOut.{all_there, carries_nothing, metas_has, metas_are, metas_plain}

@@ -23,7 +23,7 @@ use Rattle.gm_rules.specs.Decides.{IsGood}
 use Rattle.gm_rules.specs.Facts.{last_carries}
 use Rattle.gm_rules.specs.Step.{CanAnswer, HasPlan}
 use Rattle.gm_rules.specs.Worlds.{seen_of, last_of}
-use Rattle.gm_rules.proofs.Finding.{any_one, none_any, found_none, no_members, not_both}
+use Rattle.gm_state.proofs.Finding.{any_one, none_any, found_none, no_members, not_both}
 use Rattle.gm_rules.proofs.Good.{there_from, none_from, new_name, at_fails, not_at, right_size}
 use Rattle.gm_rules.proofs.Planned.{has}
 use Rattle.gm_rules.proofs.RuledOut.{carries_nothing, metas_has, metas_are, metas_plain}

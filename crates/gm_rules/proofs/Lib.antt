@@ -1,4 +1,3 @@
-pub mod Finding
 pub mod Good
 pub mod Changes
 pub mod Seeing

@@ -10,7 +10,7 @@ use Rattle.gm_state.specs.declared.records.Mirror.{Mirror}
 use Rattle.gm_state.specs.declared.records.Component.{Component}
 use Rattle.gm_state.specs.Words.{Has}
 use Rattle.gm_state.specs.Records.{Records}
-use Rattle.gm_state.specs.Intents.{is_last, any_copies}
+use Rattle.gm_state.specs.Intents.{is_last, any_copies, InOrder, Lends}
 use Rattle.gm_state.specs.World.{World, Sound}
 use Rattle.gm_state.proofs.Order.{same_is, same_refl, same_tells}
 use Rattle.gm_state.specs.declared.command.Reply.TheVariants.{Plain}
@@ -19,10 +19,10 @@ use Rattle.gm_rules.proofs.Codec.{bears_carries}
 use Rattle.gm_rules.specs.After.{after, clears, intents_of}
 use Rattle.gm_rules.specs.Bad.{applies}
 use Rattle.gm_rules.specs.Decides.{IsGood}
-use Rattle.gm_rules.specs.Step.{Plan, NewData, InOrder, Lends, CanAnswer, HasPlan, NewWereBare, is_changed, answer}
+use Rattle.gm_rules.specs.Step.{Plan, NewData, CanAnswer, HasPlan, NewWereBare, is_changed, answer}
 use Rattle.gm_rules.specs.Worlds.{seen_of}
 use Rattle.gm_rules.proofs.Answering.{answers_after}
-use Rattle.gm_rules.proofs.Finding.{any_from, found, found_none, not_both}
+use Rattle.gm_state.proofs.Finding.{any_from, found, found_none, not_both}
 use Rattle.gm_rules.proofs.Turning.{Turns, Writes, Were, w, shelf_after, holds_after, sound_after, says_after, agrees_after, claims_after, in_s, option_cases}
 
 -- an intent that copies nothing
@@ -125,9 +125,11 @@ module _ (u : World) (key : List ℕ) (c : Command) (m : Mirror) (ks : List Comp
       others = others;
     };
     sound = sound_next;
-    says = says_after u u.shelf m ks gone list s sound t ts writes;
-    agrees = agrees_after u u.shelf m ks gone list s sound t ts writes;
-    lends = λ r h. lent u.size ts r (plain r h);
+    redo = record {
+      says = says_after u u.shelf m ks gone list s sound t ts writes;
+      lends = λ r h. lent u.size ts r (plain r h);
+      agrees = agrees_after u u.shelf m ks gone list s sound t ts writes;
+    };
     order = in_order u.size ts plain;
     claims = claims_after u u.shelf m ks gone list s sound t were;
     bare = bare;

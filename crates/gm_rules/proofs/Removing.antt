@@ -22,7 +22,7 @@ use Rattle.gm_rules.specs.Decides.{IsGood}
 use Rattle.gm_rules.specs.Step.{CanAnswer, HasPlan}
 use Rattle.gm_rules.specs.Worlds.{seen_of}
 use Rattle.gm_rules.proofs.Adjusting.{Adjusts, adjusts_turns, adjusts_were, adjusted}
-use Rattle.gm_rules.proofs.Finding.{any_one, some_any, not_both}
+use Rattle.gm_state.proofs.Finding.{any_one, some_any, not_both}
 use Rattle.gm_rules.proofs.Good.{there_from, named}
 use Rattle.gm_rules.proofs.Planned.{has, one_plain}
 use Rattle.gm_rules.proofs.RuledOut.{all_there, metas_has, metas_are, metas_plain}

@@ -12,7 +12,7 @@ use Rattle.gm_rules.specs.Bad.{has_size}
 use Rattle.gm_rules.specs.After.{metas, clears_of}
 use Rattle.gm_rules.specs.Facts.{last_carries}
 use Rattle.gm_rules.specs.Worlds.{last_of}
-use Rattle.gm_rules.proofs.Finding.{none_any}
+use Rattle.gm_state.proofs.Finding.{none_any}
 use Rattle.gm_rules.proofs.Turning.{IsOne}
 use Rattle.gm_rules.proofs.Planned.{IsPlain, ArePlain}
 

@@ -17,7 +17,7 @@ use Rattle.gm_rules.specs.Bad.{applies, seen_in, has_size, has_wrong_size, provi
 use Rattle.gm_rules.specs.After.{after, intents_of, new_mirror, first_component, spare, on_mirror}
 use Rattle.gm_rules.specs.Worlds.{AreFacts, seen_of, last_of}
 use Rattle.gm_rules.specs.Decides.{Changed, Decides}
-use Rattle.gm_rules.proofs.Finding.{any_agree}
+use Rattle.gm_state.proofs.Finding.{any_agree}
 
 module _ (facts : List Fact) (u : World) (c : Command) (are : AreFacts facts u c) where
   -- a test of what the command names comes out alike

@@ -19,7 +19,7 @@ use Rattle.gm_state.specs.Intents.{IsOf, is_last, names, is_place, Says}
 use Rattle.gm_state.specs.World.{World, Sound, Claims, claimed, Below}
 use Rattle.gm_state.proofs.Order.{same_tells, same_refl, same_from, same_is, differ}
 use Rattle.gm_state.proofs.Words.{Has-filter, Ascends-filter, one}
-use Rattle.gm_rules.proofs.Finding.{found, find_none, find_one, not_both}
+use Rattle.gm_state.proofs.Finding.{found, find_none, find_one, not_both}
 use Rattle.gm_rules.proofs.Codec.{bears_one, bears_not_zeros}
 
 -- ---- the image after the command
@@ -114,7 +114,7 @@ module _ (u : World) (mid : Image) (m : Mirror) (ks : List Component) (gone : Li
   last_new k h =
       let size : m.data_sectors + 1 ≤ k.sectors = (rules_of k h).sizes k h in
       let last : is_last (u.size k.provider) (k.sectors - 1) ≡ true = last_at (u.size k.provider) k.sectors (t.there k h) (omega arith) in
-      rw (last, find_one ks in_order k h) refl
+      rw (last, find_one provider ks in_order k h) refl
 
   data_old : (k : Component) → Has ks k → (i : ℕ) → i < held_by k.disk m.data_sectors → shelf_after u.size m ks gone mid k.provider i ≡ mid k.provider i
   data_old k h i l =
@@ -185,7 +185,7 @@ module _ (u : World) (mid : Image) (m : Mirror) (ks : List Component) (gone : Li
       let parts : (same_label p q ≡ true) × (is_last (u.size q) j ≡ true) = and_parts (same_label p q) (is_last (u.size q) j) e in
       let k : Component = one.0 in
       let at : k.provider ≡ q = one.2 ∙ same_is p q parts.0 in
-      let found : find (λ (c : Component). same_label c.provider q) ks ≡ Some k = subst (λ (x : List ℕ). find (λ (c : Component). same_label c.provider x) ks ≡ Some k) at (find_one ks (in_order u mid m ks gone list s sound t) k one.1) in
+      let found : find (λ (c : Component). same_label c.provider q) ks ≡ Some k = subst (λ (x : List ℕ). find (λ (c : Component). same_label c.provider x) ks ≡ Some k) at (find_one provider ks (in_order u mid m ks gone list s sound t) k one.1) in
       (m, k, record { mirror = here u mid m ks gone list s sound t k one.1; component = subst (λ (l : List Component). Has l k) (sym t.mine) one.1 }, one.2, rw (parts.1, found) refl)
   says_one (Clear p) g q j e =
       let parts : (same_label p q ≡ true) × (is_last (u.size q) j ≡ true) = and_parts (same_label p q) (is_last (u.size q) j) e in

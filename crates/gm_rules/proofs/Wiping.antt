@@ -17,7 +17,7 @@ use Rattle.gm_rules.specs.declared.refusals.Refusal.TheVariants as refusals
 use Rattle.gm_rules.specs.Decides.{IsGood}
 use Rattle.gm_rules.specs.Step.{CanAnswer, HasPlan}
 use Rattle.gm_rules.specs.Worlds.{seen_of}
-use Rattle.gm_rules.proofs.Finding.{any_one, no_members, not_both}
+use Rattle.gm_state.proofs.Finding.{any_one, no_members, not_both}
 use Rattle.gm_rules.proofs.Good.{none_from, new_name}
 use Rattle.gm_rules.proofs.Planned.{has, one_plain}
 use Rattle.gm_rules.proofs.Turning.{Turns, Writes, Were, IsOne}

@@ -8,7 +8,6 @@ use Rattle.gm_metadata.specs.declared.metadata.Metadata.{Metadata}
 use Rattle.gm_state.specs.declared.command.Command.{Command}
 use Rattle.gm_state.specs.declared.command.Command.TheVariants as commands
 use Rattle.gm_state.specs.declared.command.Intent.{Intent}
-use Rattle.gm_state.specs.declared.command.Intent.TheVariants.{Meta, Clear, Copy}
 use Rattle.gm_state.specs.declared.command.Reply.{Reply}
 use Rattle.gm_state.specs.declared.command.Reply.TheVariants.{Plain}
 use Rattle.gm_state.specs.declared.records.Mirror.{Mirror}
@@ -16,7 +15,7 @@ use Rattle.gm_state.specs.declared.records.Component.{Component}
 use Rattle.gm_state.specs.Commands.{CommandFits}
 use Rattle.gm_state.specs.Words.{Has}
 use Rattle.gm_state.specs.Lookups.{metadata, component_of}
-use Rattle.gm_state.specs.Intents.{IsOf, is_last, names, is_place, any_copies, copies, Says}
+use Rattle.gm_state.specs.Intents.{IsOf, is_last, IsRedo, InOrder}
 use Rattle.gm_state.specs.World.{World, Answered, Sound, Claims, is_key}
 use Rattle.gm_rules.specs.declared.refusals.Refusal.{Refusal}
 use Rattle.gm_rules.specs.Refusals.{own}
@@ -65,20 +64,6 @@ pub record CanAnswer (u : World) (key : List ℕ) (c : Command) : Type 0 where
   pub room : length u.answered < 100000
   pub fits : CommandFits c
 
--- data before claim: behind a write of a provider's last sector no intent copies to that provider, and no copy reaches a last sector
-abbrev pub InOrder : Sizes → List Intent → Type 0
-InOrder size [] = Unit {0}
-InOrder size (t ∷ ts) =
-    ((q : List ℕ) (j : ℕ) → is_last (size q) j ≡ true → names size t q j ≡ true → (i : ℕ) → any_copies ts q i ≡ false)
-    × ((q : List ℕ) (j : ℕ) → copies t q j ≡ true → is_last (size q) j ≡ false)
-    × InOrder size ts
-
--- none of the sectors that a copy lends is a place
-abbrev pub Lends : Sizes → List Intent → Intent → Type 0
-Lends size ts (Meta p) = Unit {0}
-Lends size ts (Clear p) = Unit {0}
-Lends size ts (Copy source target first end) = (j : ℕ) → first ≤ j → j < end → is_place size ts source j ≡ false
-
 -- the last sector of a component that is new bears nothing before the command
 abbrev pub NewWereBare : World → World → Type 0
 NewWereBare u w = (k : Component) → Has w.state.components k → component_of u.state k.provider ≡ None → (d : Metadata) → Bears (u.shelf k.provider (k.sectors - 1)) d → ⊥
@@ -88,9 +73,7 @@ NewWereBare u w = (k : Component) → Has w.state.components k → component_of 
 pub record Plan (u : World) (key : List ℕ) (c : Command) (ts : List Intent) (w : World) : Type 0 where
   pub step : Step u key c w Plain
   pub sound : Sound w
-  pub says : (t : Intent) → Has ts t → (q : List ℕ) (j : ℕ) → names u.size t q j ≡ true → Says w.state w.shelf t j (w.shelf q j)
-  pub agrees : (q : List ℕ) (j : ℕ) → is_place u.size ts q j ≡ false → u.shelf q j ≡ w.shelf q j
-  pub lends : (t : Intent) → Has ts t → Lends u.size ts t
+  pub redo : IsRedo w.state u.size ts u.shelf w.shelf
   pub order : InOrder u.size ts
   pub claims : Claims u w.shelf
   pub bare : NewWereBare u w

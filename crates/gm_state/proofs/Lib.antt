@@ -1,5 +1,6 @@
 pub mod Order
 pub mod Words
+pub mod Finding
 pub mod Sorting
 pub mod Testing
 pub mod Creating

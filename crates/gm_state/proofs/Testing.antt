@@ -150,7 +150,7 @@ same_number_from false q h = refl
 
 module _ (s : Records) where
   -- the components of a mirror are components
-  member : (n : List ℕ) (k : Component) → Has (members s.components n) k → Has s.components k × (k.mirror ≡ n)
+  pub member : (n : List ℕ) (k : Component) → Has (members s.components n) k → Has s.components k × (k.mirror ≡ n)
   member n k h = let r = Has-filter (λ (c : Component). bytes_eq c.mirror n) s.components k h in (r.0, same_is k.mirror n r.1)
 
   dids_told : Ascends provider s.components → list_all (has_own_did s.components) s.components ≡ true → (n : List ℕ) (j : Component) → Has (members s.components n) j → (k : Component) → Has (members s.components n) k → j.did ≡ k.did → j ≡ k

@@ -1,5 +1,5 @@
 -- What intents name and say.
-use Rattle.std.specs.Prelude.{◌≡◌, ◌+◌, ℕ, Bool, false, ◌==◌, ◌&&◌, ◌||◌, nat_le, nat_lt, List, [], ◌∷◌, Option, Some, None}
+use Rattle.std.specs.Prelude.{◌≡◌, ◌+◌, ◌<◌, ◌≤◌, ℕ, Bool, true, false, ◌==◌, ◌&&◌, ◌||◌, nat_le, nat_lt, List, [], ◌∷◌, Option, Some, None}
 use Rattle.gm_metadata.specs.Images.{Image, Sizes, same_label, zeros}
 use Rattle.gm_metadata.specs.Reading.{encoded}
 use Rattle.gm_state.specs.declared.command.Intent.{Intent}
@@ -48,3 +48,31 @@ abbrev pub Says : Records → Image → Intent → ℕ → List ℕ → Type 0
 Says s w (Meta p) j x = (m : Mirror) × (k : Component) × IsOf s m k × (k.provider ≡ p) × (x ≡ encoded (metadata m k))
 Says s w (Clear p) j x = x ≡ zeros
 Says s w (Copy source target first end) j x = x ≡ w source j
+
+-- in w each place holds what its intent says
+abbrev pub AllSay : Records → Sizes → List Intent → Image → Type 0
+AllSay s size ts w = (t : Intent) → Has ts t → (q : List ℕ) (j : ℕ) → names size t q j ≡ true → Says s w t j (w q j)
+
+-- none of the sectors that the copy lends is a place
+abbrev pub Lends : Sizes → List Intent → Intent → Type 0
+Lends size ts (Meta p) = Unit {0}
+Lends size ts (Clear p) = Unit {0}
+Lends size ts (Copy source target first end) = (j : ℕ) → first ≤ j → j < end → is_place size ts source j ≡ false
+
+-- the images agree but for the places
+abbrev pub Agrees : Sizes → List Intent → Image → Image → Type 0
+Agrees size ts x w = (q : List ℕ) (j : ℕ) → is_place size ts q j ≡ false → x q j ≡ w q j
+
+-- w is the image that the intents lead to from x, where the records are s
+pub record IsRedo (s : Records) (size : Sizes) (ts : List Intent) (x w : Image) : Type 0 where
+  pub says : AllSay s size ts w
+  pub lends : (t : Intent) → Has ts t → Lends size ts t
+  pub agrees : Agrees size ts x w
+
+-- data before claim: behind a write of a provider's last sector no intent copies to that provider, and no copy reaches a last sector
+abbrev pub InOrder : Sizes → List Intent → Type 0
+InOrder size [] = Unit {0}
+InOrder size (t ∷ ts) =
+    ((q : List ℕ) (j : ℕ) → is_last (size q) j ≡ true → names size t q j ≡ true → (i : ℕ) → any_copies ts q i ≡ false)
+    × ((q : List ℕ) (j : ℕ) → copies t q j ≡ true → is_last (size q) j ≡ false)
+    × InOrder size ts

@@ -8,6 +8,7 @@ pub mod Sources
 pub mod Choosing
 pub mod Commands
 pub mod Intents
+pub mod Readable
 pub mod World
 pub mod Rows
 pub mod Examples

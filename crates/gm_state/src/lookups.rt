@@ -2,6 +2,7 @@
 
 ghost use Rattle.std.specs.Prelude.{◌≡◌, ◌*◌, Some, None, length, count_by};
 ghost use Rattle.gm_state.specs.Records.{members};
+ghost use Rattle.gm_state.specs.Records.{IsState};
 ghost use Rattle.gm_state.specs.Lookups.{metadata, metadata_of, is_active};
 ghost use Rattle.gm_state.specs.States.{state_by, component_state, mirror_state, active_count, state_among};
 
@@ -36,7 +37,8 @@ pub fn metadata(mirror: &Mirror, component: &Component) -> Metadata
 
 /// The metadata of a component, whole; `None` where the provider is no component.
 pub fn metadata_of(state: &State, provider: Label) -> Option<Metadata>
-    ensures { result ≡ metadata_of state.now provider }
+    ensures value { result ≡ metadata_of state.now provider }
+    ensures state { IsState state.now }
 {
     let component = state.component(provider)?;
     let mirror = state.mirror(component.mirror)?;

@@ -8,7 +8,7 @@ use Rattle.gm_state.proofs.Words.{Has-filter}
 use Rattle.gm_rules.specs.declared.refusals.Refusal.TheVariants as refusals
 use Rattle.gm_rules.specs.Bad.{seen_in, at, has_wrong_size}
 use Rattle.gm_rules.specs.Facts.{size_in}
-use Rattle.gm_rules.proofs.Finding.{any_one}
+use Rattle.gm_state.proofs.Finding.{any_one}
 use Rattle.gm_rules.proofs.Good.{some_from, none_from, few_all, new_name, fits_32}
 use Rattle.gm_rules.proofs.Changes.{insert_makes}
 use Rattle.gm_rules.proofs.deciding.insert.Goals as goal

@@ -75,14 +75,14 @@ any_one p x e = none_any p (x ∷ []) e x (inl refl)
 pub not_both : {A : Type 0} (b : Bool) → b ≡ true → b ≡ false → A
 not_both b p q = cc
 
--- in byte order of providers a component is found by its own
-pub find_one : (ks : List Component) → Ascends provider ks → (k : Component) → Has ks k → find (λ j. same_label j.provider k.provider) ks ≡ Some k
-find_one [] a k h = absurd h
-find_one (j ∷ js) a k (inl s) = rw (same_from j.provider k.provider (ap provider s)) (ap Some s)
-find_one (j ∷ js) a k (inr h) =
-    elim (cases_Bool (same_label j.provider k.provider)) [
-      | inl e ↦ rw e (ap Some (one provider (j ∷ js) a j k (inl refl) (inr h) (same_is j.provider k.provider e)))
-      | inr e ↦ rw e (find_one js a.1 k h)
+-- in byte order of names each is found by its own
+pub find_one : {X : Type 0} (key : X → List ℕ) (xs : List X) → Ascends key xs → (x : X) → Has xs x → find (λ y. same_label (key y) (key x)) xs ≡ Some x
+find_one key [] a x h = absurd h
+find_one key (y ∷ ys) a x (inl s) = rw (same_from (key y) (key x) (ap key s)) (ap Some s)
+find_one key (y ∷ ys) a x (inr h) =
+    elim (cases_Bool (same_label (key y) (key x))) [
+      | inl e ↦ rw e (ap Some (one key (y ∷ ys) a y x (inl refl) (inr h) (same_is (key y) (key x) e)))
+      | inr e ↦ rw e (find_one key ys a.1 x h)
     ]
 
 -- a mirror that no component is of

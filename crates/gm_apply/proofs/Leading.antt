@@ -1,0 +1,106 @@
+-- From what is left of an image to where it leads.
+use Rattle.std.proofs.Common.{◌≡◌, ◌∙◌, ◌⊎◌, inl, inr, ⊎_elim, ℕ, ◌+◌, ◌-◌, ◌<◌, ◌==◌, ◌&&◌, ◌||◌, List, [], ◌∷◌, Bool, true, false, refl, sym, ap, subst, arith, Option, None, Some, eqb-true}
+use Rattle.std.proofs.lemmas.Bool.{cases_Bool}
+use Rattle.std.proofs.lemmas.Bool.Decides.{eqb_tells}
+use Rattle.gm_metadata.specs.Images.{Image, Sizes, Same, same_label, label_tells}
+use Rattle.gm_metadata.specs.Sector.{Bears}
+use Rattle.gm_state.specs.declared.command.Intent.{Intent}
+use Rattle.gm_state.specs.declared.command.Intent.TheVariants.{Meta, Clear, Copy}
+use Rattle.gm_state.specs.declared.records.Mirror.{Mirror}
+use Rattle.gm_state.specs.declared.records.Component.{Component}
+use Rattle.gm_metadata.specs.declared.metadata.Metadata.{Metadata}
+use Rattle.gm_state.specs.Records.{Records}
+use Rattle.gm_state.specs.Intents.{IsOf, is_last, names, copies, is_place, any_copies, Agrees, IsRedo, InOrder}
+use Rattle.gm_state.specs.World.{World, Claims, claimed}
+use Rattle.gm_state.proofs.Finding.{not_both}
+use Rattle.gm_apply.specs.Redo.{laid, Mix, Partly, Follows}
+use Rattle.gm_apply.specs.Continues.{Continues}
+use Rattle.gm_apply.proofs.Going.{laid_in, laid_out}
+use Rattle.gm_apply.proofs.Lists.{or_true, or_first, or_second}
+
+agrees_kept : (size : Sizes) (ts : List Intent) (w d x : Image) → Agrees size ts d w → Mix (is_place size ts) w d x → Agrees size ts x w
+agrees_kept size ts w d x agrees mix q j off =
+    ⊎_elim (λ (h : x q j ≡ d q j). h ∙ agrees q j off) (λ (h : (is_place size ts q j ≡ true) × (x q j ≡ w q j)). h.1) (mix q j)
+
+pub leads_on : (s : Records) (size : Sizes) (ts : List Intent) (w d x : Image) → IsRedo s size ts d w → Partly size ts w d x → IsRedo s size ts x w
+leads_on s size ts w d x redo partly = record { says = redo.says; lends = redo.lends; agrees = agrees_kept size ts w d x redo.agrees partly.mix }
+
+pub ends_there : (s : Records) (size : Sizes) (ts : List Intent) (w d x : Image) → IsRedo s size ts d w → Same x (laid (is_place size ts) w d) → Same x w
+ends_there s size ts w d x redo same q j =
+    same q j ∙ elim (cases_Bool (is_place size ts q j)) [
+      | inl e ↦ laid_in (is_place size ts) w d q j e
+      | inr e ↦ laid_out (is_place size ts) w d q j e ∙ redo.agrees q j e
+    ]
+
+-- an intent that writes another sector than the last is a copy
+module _ (size : Sizes) (p : List ℕ) (l i : ℕ) (last : size p ≡ Some (l + 1)) (other : i ≡ l → ⊥) where
+  not_last : (q : List ℕ) → (same_label q p && is_last (size p) i) ≡ true → ⊥
+  not_last q e =
+      elim (label_tells q p) [
+        | inr apart ↦ (let h = rw apart.0 at e in cc)
+        | inl same ↦
+            let h : is_last (size p) i ≡ true = rw same.0 at e in
+            let k : (l + 1 == i + 1) ≡ true = subst (λ (o : Option ℕ). is_last o i ≡ true) last h in
+            let at : l + 1 ≡ i + 1 = eqb-true (l + 1) (i + 1) k in
+            other (omega (arith, at))
+      ]
+
+  named_copies : (t : Intent) → names size t p i ≡ true → copies t p i ≡ true
+  named_copies (Meta q) e = absurd (not_last q e)
+  named_copies (Clear q) e = absurd (not_last q e)
+  named_copies (Copy s t a b) e = e
+
+  pub placed_copies : (ts : List Intent) → is_place size ts p i ≡ true → any_copies ts p i ≡ true
+  placed_copies [] e = e
+  placed_copies (t ∷ ts) e =
+      ⊎_elim (λ (h : names size t p i ≡ true). or_first (copies t p i) (any_copies ts p i) (named_copies t h)) (λ (h : is_place size ts p i ≡ true). or_second (copies t p i) (any_copies ts p i) (placed_copies ts h))
+      (or_true (names size t p i) (is_place size ts p i) e)
+
+module _ (u w : World) (ts : List Intent) (d x : Image) (goes : Continues u w ts) (order : InOrder u.size ts) (agrees : Agrees u.size ts d w.shelf) (claims : Claims u d) (partly : Partly u.size ts w.shelf d x) where
+  module _ (m : Mirror) (k : Component) (o : IsOf u.state m k) (l : ℕ) (size : u.size k.provider ≡ Some (l + 1)) (i : ℕ) where
+    -- a sector whose claim was true before
+    was_true : d k.provider i ≡ u.holds m.name i → x k.provider l ≡ d k.provider l → x k.provider i ≡ u.holds m.name i
+    was_true true_before same =
+        elim (eqb_tells i l) [
+          | inl at ↦ subst (λ (j : ℕ). x k.provider j ≡ d k.provider j) (sym at.1) same ∙ true_before
+          | inr off ↦
+              ⊎_elim (λ (h : x k.provider i ≡ d k.provider i). h ∙ true_before)
+              (λ (h : (is_place u.size ts k.provider i ≡ true) × (x k.provider i ≡ w.shelf k.provider i)). h.1 ∙ goes.copies m k o i (placed_copies u.size k.provider l i size off.1 ts h.0))
+              (partly.mix k.provider i)
+        ]
+
+    -- a sector that is as in w, as soon as all that is copied is there
+    is_there : ((j : ℕ) → any_copies ts k.provider j ≡ true → x k.provider j ≡ w.shelf k.provider j) → x k.provider l ≡ w.shelf k.provider l → x k.provider i ≡ w.shelf k.provider i
+    is_there done same =
+        elim (eqb_tells i l) [
+          | inl at ↦ subst (λ (j : ℕ). x k.provider j ≡ w.shelf k.provider j) (sym at.1) same
+          | inr off ↦ elim (cases_Bool (is_place u.size ts k.provider i)) [
+            | inl e ↦ done i (placed_copies u.size k.provider l i size off.1 ts e)
+            | inr e ↦ agrees_kept u.size ts w.shelf d x agrees partly.mix k.provider i e
+          ]
+        ]
+
+  pub claims_kept : Claims u x
+  claims_kept m k e o fits bears named mid active i below =
+      let l : ℕ = k.sectors - 1 in
+      let room = (goes.state.each m o.mirror).sizes k o.component in
+      let whole : k.sectors ≡ l + 1 = omega (arith, room) in
+      let size : u.size k.provider ≡ Some (l + 1) = goes.there m k o ∙ ap Some whole in
+      let before : x k.provider l ≡ d k.provider l → d k.provider i ≡ u.holds m.name i = λ same. claims m k e o fits (subst (λ (s : List ℕ). Bears s e) same bears) named mid active i below in
+      ⊎_elim
+      (λ (same : (j : ℕ) → is_last (u.size k.provider) j ≡ true → x k.provider j ≡ d k.provider j).
+      let last : x k.provider l ≡ d k.provider l = same l (is_last_at size) in
+      was_true m k o l size i (before last) last)
+      (λ (done : (j : ℕ) → any_copies ts k.provider j ≡ true → x k.provider j ≡ w.shelf k.provider j).
+      ⊎_elim
+      (λ (last : x k.provider l ≡ d k.provider l). was_true m k o l size i (before last) last)
+      (λ (h : (is_place u.size ts k.provider l ≡ true) × (x k.provider l ≡ w.shelf k.provider l)).
+      is_there m k o l size i done h.1 ∙ goes.claims m k e o fits (subst (λ (s : List ℕ). Bears s e) h.1 bears) named mid active i below)
+      (partly.mix k.provider l))
+      (partly.ordered order k.provider)
+    where
+      is_last_at : u.size k.provider ≡ Some (k.sectors - 1 + 1) → is_last (u.size k.provider) (k.sectors - 1) ≡ true
+      is_last_at size = rw size (itself (k.sectors - 1))
+        where
+          itself : (n : ℕ) → (n + 1 == n + 1) ≡ true
+          itself n = elim (eqb_tells (n + 1) (n + 1)) [ inl e ↦ e.0 | inr e ↦ absurd (e.1 refl) ]

@@ -1,0 +1,134 @@
+-- From the write of a last sector to the step of an intent.
+use Rattle.std.proofs.Common.{◌≡◌, ◌⊎◌, inl, inr, ⊎_elim, ℕ, ◌+◌, List, Bool, true, false, ◌==◌, ◌&&◌, refl, sym, ◌∙◌, ap, subst, arith, Option, None, Some, zero, suc, eqb-true, if◌then◌else◌}
+use Rattle.std.proofs.lemmas.Bool.{cases_Bool}
+use Rattle.std.proofs.lemmas.Bool.Decides.{eqb_tells}
+use Rattle.gm_metadata.specs.Images.{Image, Sizes, Same, put, same_label, label_tells, label_refl}
+use Rattle.gm_shelf.specs.Disk.{View, IsPut, Torn, From}
+use Rattle.gm_shelf.specs.LastSector.{OldOrNew, IsDone}
+use Rattle.gm_metadata.specs.Reading.{encoded}
+use Rattle.gm_metadata.specs.declared.metadata.Metadata.{Metadata}
+use Rattle.gm_state.specs.declared.records.Mirror.{Mirror}
+use Rattle.gm_state.specs.declared.records.Component.{Component}
+use Rattle.gm_state.specs.Records.{Records, IsState, name, provider}
+use Rattle.gm_state.specs.Lookups.{metadata, metadata_of, mirror_of, component_of}
+use Rattle.gm_state.specs.Intents.{IsOf, is_last}
+use Rattle.gm_state.proofs.Finding.{find_one, not_both}
+use Rattle.gm_state.proofs.Testing.{member}
+use Rattle.gm_apply.specs.Redo.{Places, laid, Mix, Leaves, Redone, Moments}
+use Rattle.gm_apply.proofs.Going.{laid_in, laid_out, at_start}
+
+-- the last sector of the provider is the one place
+abbrev pub last_of : Sizes → List ℕ → Places
+last_of size p q j = same_label p q && is_last (size q) j
+
+-- nothing is meant
+module _ (place : Places) (w : Image) (none : (q : List ℕ) (j : ℕ) → place q j ≡ true → ⊥) where
+  off : (q : List ℕ) (j : ℕ) → place q j ≡ false
+  off q j = elim (cases_Bool (place q j)) [ inl e ↦ absurd (none q j e) | inr e ↦ e ]
+
+  pub nothing_redone : (v : View) → Redone place w v v
+  nothing_redone v = record {
+    seen = λ q j. sym (laid_out place w v.seen q j (off q j));
+    left = λ x left. (x, left, λ q j. sym (laid_out place w x q j (off q j)));
+  }
+
+module _ (size : Sizes) (p : List ℕ) (i : ℕ) (is : size p ≡ Some (i + 1)) where
+  here : last_of size p p i ≡ true
+  here = rw (label_refl p, is, itself i) refl
+    where
+      itself : (i : ℕ) → (i + 1 == i + 1) ≡ true
+      itself i = elim (eqb_tells (i + 1) (i + 1)) [ inl e ↦ e.0 | inr e ↦ absurd (e.1 refl) ]
+
+  one : (q : List ℕ) (j : ℕ) → last_of size p q j ≡ true → (q ≡ p) × (j ≡ i)
+  one q j e =
+      elim (label_tells p q) [
+        | inr other ↦ (let h = rw other.0 at e in cc)
+        | inl same ↦
+            let h : is_last (size q) j ≡ true = rw same.0 at e in
+            let k : (i + 1 == j + 1) ≡ true = subst (λ (o : Option ℕ). is_last o j ≡ true) (ap size (sym same.1) ∙ is) h in
+            let n : i + 1 ≡ j + 1 = eqb-true (i + 1) (j + 1) k in
+            (sym same.1, omega (arith, n))
+      ]
+
+  module _ (s : List ℕ) (w : Image) (value : w p i ≡ s) where
+    put_laid : (d : Image) → Same (put p i s d) (laid (last_of size p) w d)
+    put_laid d q j =
+        elim (cases_Bool (last_of size p q j)) [
+          | inl e ↦
+              let at = one q j e in
+              let put_there : put p i s d q j ≡ s = rw (at.0, at.1, label_refl p, same_place i) refl in
+              put_there ∙ sym value ∙ sym (spot q j at.0 at.1) ∙ sym (laid_in (last_of size p) w d q j e)
+          | inr e ↦ not_put q j e ∙ sym (laid_out (last_of size p) w d q j e)
+        ]
+      where
+        same_place : (i : ℕ) → (i == i) ≡ true
+        same_place i = elim (eqb_tells i i) [ inl e ↦ e.0 | inr e ↦ absurd (e.1 refl) ]
+
+        spot : (q : List ℕ) (j : ℕ) → q ≡ p → j ≡ i → w q j ≡ w p i
+        spot q j a b = rw (a, b) refl
+
+        not_put : (q : List ℕ) (j : ℕ) → last_of size p q j ≡ false → put p i s d q j ≡ d q j
+        not_put q j e =
+            elim (label_tells q p) [
+              | inr other ↦ rw other.0 refl
+              | inl same ↦ elim (eqb_tells j i) [
+                | inr off ↦ rw (same.0, off.0) refl
+                | inl at ↦ not_both (last_of size p q j) (let r : last_of size p q j ≡ true = rw (same.1, at.1) here in r) e
+              ]
+            ]
+
+    torn_mix : (d x : Image) → Torn p i s d x → Mix (last_of size p) w d x
+    torn_mix d x torn q j =
+        ⊎_elim (λ (e : x q j ≡ d q j). inl e)
+        (λ (h : IsPut p i s q j (x q j)). let a = h.provider in let b = h.place in let v = h.value in
+        inr ((let r : last_of size p q j ≡ true = rw (a, b) here in r), (let r : x q j ≡ w q j = v ∙ sym value ∙ (let t : w p i ≡ w q j = rw (a, b) refl in t) in r)))
+        (torn q j)
+
+    pub last_redone : (old new : View) → IsDone p i s old new → Redone (last_of size p) w old new
+    last_redone old new done = record {
+      seen = λ q j. done.seen q j ∙ put_laid old.seen q j;
+      left = λ x left. let from = done.left x left in (from.0, from.1, λ q j. from.2 q j ∙ put_laid from.0 q j);
+    }
+
+    pub last_moments : (old new : View) → OldOrNew p i s old new → Moments (last_of size p) w old new
+    last_moments old new moments = record {
+      later = moments.later;
+      since = λ t x le left. ⊎_elim (λ before. inl before) (λ from. inr (from.0, from.1, torn_mix from.0 x from.2)) (moments.since t x le left);
+    }
+
+-- a write of the last sector with what its intent says
+module _ (size : Sizes) (p s : List ℕ) (w : Image) (says : (q : List ℕ) (j : ℕ) → last_of size p q j ≡ true → w q j ≡ s) (old new : View) where
+  by_size : {X : Type 0} (o : Option ℕ) → size p ≡ o → ((size p ≡ None) ⊎ (size p ≡ Some 0) → X) → ((i : ℕ) → size p ≡ Some (i + 1) → X) → X
+  by_size None e none some = none (inl e)
+  by_size (Some zero) e none some = none (inr e)
+  by_size (Some (suc i)) e none some = some i (e ∙ ap Some (omega arith))
+
+  pub done_step : (size p ≡ None → ⊥) → (size p ≡ Some 0 → ⊥) → ((i : ℕ) → size p ≡ Some (i + 1) → IsDone p i s old new) → Redone (last_of size p) w old new
+  done_step there full done =
+      by_size (size p) refl (⊎_elim (λ e. absurd (there e)) (λ e. absurd (full e)))
+      (λ i is. last_redone size p i is s w (says p i (here size p i is)) old new (done i is))
+
+  pub moments_step : ((size p ≡ None) ⊎ (size p ≡ Some 0) → Moments (last_of size p) w old new) → ((i : ℕ) → size p ≡ Some (i + 1) → OldOrNew p i s old new) → Moments (last_of size p) w old new
+  moments_step nothing moments = by_size (size p) refl nothing (λ i is. last_moments size p i is s w (says p i (here size p i is)) old new (moments i is))
+
+-- the metadata of a component are found by its provider
+pub metadata_found : (s : Records) → IsState s → (m : Mirror) (k : Component) → IsOf s m k → metadata_of s k.provider ≡ Some (metadata m k)
+metadata_found s state m k o =
+    let mine = member s m.name k o.component in
+    let found : component_of s k.provider ≡ Some k = find_one provider s.components state.components_in_order k mine.0 in
+    let home : mirror_of s k.mirror ≡ Some m = subst (λ (n : List ℕ). mirror_of s n ≡ Some m) (sym mine.1) (find_one name s.mirrors state.mirrors_in_order m o.mirror) in
+    rw (found, home) refl
+
+-- what Meta says is the encoding of the metadata that are found
+pub says_found : (s : Records) → IsState s → (p : List ℕ) (x : List ℕ) (d : Metadata) → ((m : Mirror) × (k : Component) × IsOf s m k × (k.provider ≡ p) × (x ≡ encoded (metadata m k))) → metadata_of s p ≡ Some d → x ≡ encoded d
+says_found s state p x d says found =
+    let m = says.0 in
+    let k = says.1 in
+    let there : metadata_of s p ≡ Some (metadata m k) = subst (λ (q : List ℕ). metadata_of s q ≡ Some (metadata m k)) says.3 (metadata_found s state m k says.2) in
+    let same : metadata m k ≡ d = cc in
+    says.4 ∙ ap encoded same
+
+pub says_of_none : (s : Records) → IsState s → (p : List ℕ) (x : List ℕ) → ((m : Mirror) × (k : Component) × IsOf s m k × (k.provider ≡ p) × (x ≡ encoded (metadata m k))) → metadata_of s p ≡ None → ⊥
+says_of_none s state p x says none =
+    let there : metadata_of s p ≡ Some (metadata says.0 says.1) = subst (λ (q : List ℕ). metadata_of s q ≡ Some (metadata says.0 says.1)) says.3 (metadata_found s state says.0 says.1 says.2) in
+    cc
