@@ -7,6 +7,8 @@
 mod applying;
 mod copying;
 mod laws;
+#[cfg(test)]
+mod tests;
 
 pub use applying::apply;
 pub use laws::{every_image_leads_on, readable_intents_are_safe, true_claims_stay_true};
