@@ -1,7 +1,12 @@
 -- What contracts see of a folder of image files.
-use Rattle.std.specs.Prelude.{ℕ}
+use Rattle.std.specs.Prelude.{ℕ, List}
+use Rattle.std.specs.String.{string_bytes}
 use Rattle.gm_shelf.specs.declared.files.FileShelf.{FileShelf}
 
 -- how many failures of the device it has counted
 abbrev pub failures_of : {R D : Type 0} → FileShelf R D → ℕ
 failures_of shelf = shelf.failures
+
+-- the path of its folder
+abbrev pub folder_of : {R D : Type 0} → FileShelf R D → List ℕ
+folder_of shelf = string_bytes shelf.files.folder

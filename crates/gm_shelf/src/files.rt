@@ -27,7 +27,11 @@ struct OpenFiles<R: Files<File = File> + AllocGlobal + Clone + Drop> {
 }
 
 impl<R: Files<File = File> + AllocGlobal + Clone + Drop> OpenFiles<R> {
-    fn new(rt: &R, folder: &str) -> io::Result<OpenFiles<R>> {
+    ghost use Rattle.std.specs.String.{string_bytes};
+
+    fn new(rt: &R, folder: &str) -> io::Result<OpenFiles<R>>
+        ensures { IfOk result (λ files. string_bytes files.folder ≡ folder.now) }
+    {
         let alloc = rt.alloc();
         Ok(OpenFiles {
             rt: rt.clone()?,
@@ -101,12 +105,13 @@ fn check_image(file: &File, length: u64) -> io::Result<()> {
 }
 
 impl<R: Files<File = File> + AllocGlobal + Clone + Drop> FileShelf<R> {
-    ghost use Rattle.gm_shelf.specs.FileShelves.{failures_of};
+    ghost use Rattle.gm_shelf.specs.FileShelves.{failures_of, folder_of};
 
     /// Opens a folder: its regular files whose names are labels and whose lengths are multiples of 512,
     /// as they are now. Every other entry is skipped. Fails where the folder can't be listed.
     pub fn open(rt: &R, folder: &str) -> io::Result<FileShelf<R>>
-        ensures { IfOk result (λ shelf. failures_of shelf ≡ 0) }
+        ensures folder { IfOk result (λ shelf. folder_of shelf ≡ folder.now) }
+        ensures no_failures { IfOk result (λ shelf. failures_of shelf ≡ 0) }
     {
         let mut lengths = BTreeMap::new(rt.alloc());
         for entry in fs::read_dir(rt, folder)? {
