@@ -1,2 +1,10 @@
-//! The registry.
+//! The registry: five tables of SQLite that hold the records of a state, the intents that are pending and the commands
+//! that were accepted.
+//!
+//! Begin with `registry.rt`, the calls; `specs/Tables.antt`, what a store holds; `specs/Changes.antt`, what a command
+//! makes of it; and `specs/Reading.antt`, which tables are readable.
 #![tactic(auto)]
+
+mod fault;
+
+pub use fault::StoreFault;
