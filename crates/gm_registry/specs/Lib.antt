@@ -1,5 +1,6 @@
 pub mod Faults
 pub mod Texts
+pub mod Statements
 pub mod Schema
 pub mod Rows
 pub mod Tables
