@@ -1,2 +1,3 @@
 pub mod Meaning
 pub mod Changing
+pub mod Numbers

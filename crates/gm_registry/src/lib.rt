@@ -5,6 +5,9 @@
 //! makes of it; and `specs/Reading.antt`, which tables are readable.
 #![tactic(auto)]
 
+mod columns;
+mod components;
 mod fault;
+mod mirrors;
 
 pub use fault::StoreFault;

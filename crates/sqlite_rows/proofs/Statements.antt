@@ -1,5 +1,6 @@
 -- From what a statement makes of the tables to what a call of it leaves.
 use Rattle.std.proofs.Common.{◌≡◌, ◌≢◌, ◌⊎◌, inl, inr, ℕ, Bool, true, false, List, [], ◌∷◌, Option, Some, None, Result, Ok, Err, OnOk, OnErr, IfErr, IsTrue, refl, sym, ap, subst, subst₂, ◌∙◌, append-nil, arith}
+use Rattle.std.proofs.lemmas.Bool.{cases_Bool}
 use Rattle.sqlite.specs.Order.{Row}
 use Rattle.sqlite.specs.Schema.{Schema}
 use Rattle.sqlite.specs.Command.{Command}
@@ -40,6 +41,14 @@ keeps_inside sql params old new (Err e) (inr (ends, is, same)) = record { was_op
 
 pub kept_itself : (s : State) → KeepsCommit s s
 kept_itself s = record { was_open = λ is. is; committed = λ _. refl }
+
+-- a call inside a transaction commits nothing, also where the transaction has ended
+pub keeps_held : {S P : Type 0} (g : store.Ghosts S) (old new : Held S) (sql : List ℕ) (params : Row) (x : Result ℕ Error)
+    → (IsTrue (state g old).in_transaction → ExecutesInside 0 sql params (state g old) (state g new) x) → ((state g old).in_transaction ≡ false → P × (new ≡ old)) → KeepsCommit (state g old) (state g new)
+keeps_held g old new sql params x runs ended = elim (cases_Bool (state g old).in_transaction) [
+  | inl inside ↦ keeps_inside sql params (state g old) (state g new) x (runs (rw inside))
+  | inr outside ↦ subst (λ h. KeepsCommit (state g old) (state g h)) (sym (ended outside).1) (kept_itself (state g old))
+]
 
 pub kept_then : (a b c : State) → KeepsCommit a b → KeepsCommit b c → KeepsCommit a c
 kept_then a b c p q = record { was_open = λ is. p.was_open (q.was_open is); committed = λ is. q.committed is ∙ p.committed (q.was_open is) }
