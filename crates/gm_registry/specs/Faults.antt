@@ -15,3 +15,8 @@ fault_number Unreadable = 3
 abbrev pub fault_of : Error → StoreFault
 fault_of (SqliteFailure code.OutOfMemory) = Memory
 fault_of _ = Store
+
+-- a value of a row that can't be read: want of memory, or no such value as the tables are to hold
+abbrev pub value_fault_of : Error → StoreFault
+value_fault_of (SqliteFailure code.OutOfMemory) = Memory
+value_fault_of _ = Unreadable

@@ -1,7 +1,7 @@
 //! Why a call of the registry fails.
 
-ghost use Rattle.std.specs.Prelude.{◌≡◌};
-ghost use Rattle.gm_registry.specs.Faults.{fault_number, fault_of};
+ghost use Rattle.std.specs.Prelude.{◌≡◌, IfOk, Ok};
+ghost use Rattle.gm_registry.specs.Faults.{fault_number, fault_of, value_fault_of};
 
 use sqlite::{Error, ErrorCode};
 
@@ -31,13 +31,34 @@ impl StoreFault {
         }
     }
 
-    /// The fault that an error of the store is.
-    pub(crate) fn of(error: Error) -> StoreFault
-        ensures { result ≡ fault_of error }
+    /// The fault that an error in reading a value is.
+    fn of_value(error: Error) -> StoreFault
+        ensures { result ≡ value_fault_of error }
     {
+        match error {
+            Error::SqliteFailure(ErrorCode::OutOfMemory) => StoreFault::Memory,
+            _ => StoreFault::Unreadable,
+        }
+    }
+}
+
+impl From<Error> for StoreFault {
+    ghost from_gives = { λ error fault. fault ≡ fault_of error };
+
+    fn from(error: Error) -> Self {
         match error {
             Error::SqliteFailure(ErrorCode::OutOfMemory) => StoreFault::Memory,
             _ => StoreFault::Store,
         }
+    }
+}
+
+/// The value that was read of a row; a value that the tables aren't to hold is unreadable.
+pub(crate) fn readable<T>(read: Result<T, Error>) -> Result<T, StoreFault>
+    ensures { IfOk result (λ value. read ≡ Ok value) }
+{
+    match read {
+        Ok(value) => Ok(value),
+        Err(error) => Err(StoreFault::of_value(error)),
     }
 }

@@ -5,9 +5,13 @@
 //! makes of it; and `specs/Reading.antt`, which tables are readable.
 #![tactic(auto)]
 
+mod accepting;
 mod columns;
 mod components;
+mod commands;
 mod fault;
+mod intents;
 mod mirrors;
+mod replies;
 
 pub use fault::StoreFault;

@@ -1,6 +1,6 @@
 -- A table that keeps records, and what an edit of its rows makes of them.
 use Rattle.std.proofs.Common.{◌≡◌, ℕ, Bool, true, false, not, List, [], ◌∷◌, map, filter, drop, IsTrue, refl, sym, ap, subst, subst₂, ◌∙◌, IsPermutation, bytes_eq}
-use Rattle.std.proofs.lemmas.List.Sorted.{IsPermutation-refl, IsPermutation-trans, IsPermutation-cons, IsPermutation-map}
+use Rattle.std.proofs.lemmas.List.Sorted.{IsPermutation-refl, IsPermutation-trans, IsPermutation-cons, IsPermutation-map, IsPermutation-sym}
 use Rattle.std.proofs.lemmas.List.Elements.{filter_agree}
 use Rattle.sqlite.specs.Order.{Row, column}
 use Rattle.sqlite.specs.Collation.TheVariants.{Binary}
@@ -18,6 +18,13 @@ use Rattle.sqlite_rows.proofs.ValueLemmas.{texts_equal}
 
 pub keeps_none : {A : Type 0} (part : Row → Row) (row_of : A → Row) → Keeps part row_of [] []
 keeps_none part row_of = record { same = IsPermutation-refl []; keyed = (tt, tt) }
+
+-- in another order
+pub keeps_same : {A : Type 0} (part : Row → Row) (row_of : A → Row) (xs ys : List A) (rows : List Row) → IsPermutation xs ys → Keeps part row_of xs rows → Keeps part row_of ys rows
+keeps_same part row_of xs ys rows same k = record {
+  same = IsPermutation-trans (map row_of ys) (map row_of xs) (map part rows) (IsPermutation-map row_of ys xs (IsPermutation-sym xs ys same)) k.same;
+  keyed = k.keyed;
+}
 
 pub keeps_put : {A : Type 0} (part : Row → Row) (row_of : A → Row) (xs : List A) (rows : List Row) (x : A) (new : Row) → Keeps part row_of xs rows → part new ≡ row_of x
     → is_taken rows new ≡ false → IsTrue (is_int (rowid new)) → Keeps part row_of (x ∷ xs) (put_row new rows)

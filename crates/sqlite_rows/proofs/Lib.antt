@@ -10,3 +10,4 @@ pub mod Statements
 pub mod Refusing
 pub mod Creating
 pub mod Showing
+pub mod Looping

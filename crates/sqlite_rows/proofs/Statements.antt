@@ -11,7 +11,7 @@ use Rattle.sqlite.specs.Effect.{Database, IsDatabase}
 use Rattle.sqlite_catalog.specs.Listing.{IsSound}
 use Rattle.sqlite.specs.declared.error.Error.{Error}
 use Rattle.sqlite.specs.Listing.{understood}
-use Rattle.sqlite.specs.State.{State, mode_of, Runs, Writes, Executes, ExecutesInside, KeepsCommit, KeepsCounts, Survives, Shows, IsRolledBack, IsUnchanged, CommitsBy, MayCommit, MayWrite}
+use Rattle.sqlite.specs.State.{State, mode_of, Runs, Writes, Executes, ExecutesInside, KeepsCommit, KeepsCounts, HasCleanDisk, Survives, Shows, IsRolledBack, IsUnchanged, CommitsBy, MayCommit, MayWrite}
 use Rattle.sqlite.proofs.Callers.{IsPlain, command_of, statement_of, runs_as}
 use Rattle.sqlite_trees.specs.declared.store.Store as store
 use Rattle.sqlite.specs.Steps.{FailsToCommit}
@@ -55,6 +55,18 @@ kept_then a b c p q = record { was_open = λ is. p.was_open (q.was_open is); com
 
 pub survives_itself : (s : State) (P : Trees → Type 0) → Survives s s P
 survives_itself s P = record { clean = omega arith; shield = λ is. is; counts = omega arith; limit = refl; closes = λ _ is. inl is; crash = λ _ db left. inl left }
+
+-- what a crash may find is known once the disk is known to be clean
+pub survives_if : (old new : State) (P : Trees → Type 0) → Survives old new (λ _. Unit {0}) → (HasCleanDisk new → Survives old new P) → Survives old new P
+survives_if old new P s f = record { clean = s.clean; shield = s.shield; counts = s.counts; limit = s.limit; closes = s.closes; crash = λ clean db left. (f clean).crash clean db left }
+
+-- other records of the same rows, or fewer facts on them
+module _ {R T : Type 0} (of_schema : Schema) (Rows : Trees → R → Type 0) (Others : Trees → T → Type 0) (r : R) (t : T) where
+  pub holds_as : (db : Trees) → (Rows db r → Others db t) → HoldsBy of_schema Rows db r → HoldsBy of_schema Others db t
+  holds_as db f holds = record { rows = f holds.rows; sound = holds.sound }
+
+  pub inside_as : (first : Database) (s : State) → (Rows s.now.trees r → Others s.now.trees t) → IsInsideBy of_schema Rows first s r → IsInsideBy of_schema Others first s t
+  inside_as first s f was = record { is_open = was.is_open; inside = was.inside; first_is = was.first_is; schema_is = was.schema_is; tables = holds_as s.now.trees f was.tables }
 
 module _ {R : Type 0} (of_schema : Schema) (Rows : Trees → R → Type 0) where
   abbrev Holds : Trees → R → Type 0
