@@ -6,3 +6,13 @@ pub mod Listed
 pub mod Replying
 pub mod Lasting
 pub mod Counting
+pub mod Numbering
+pub mod Asking
+pub mod Ordering
+pub mod Passing
+pub mod Suffixes
+pub mod Copies
+pub mod Reordering
+pub mod Typed
+pub mod Saying
+pub mod Telling

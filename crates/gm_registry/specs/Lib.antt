@@ -7,3 +7,7 @@ pub mod Tables
 pub mod Changes
 pub mod Replies
 pub mod Reading
+pub mod Values
+pub mod Queries
+pub mod Reads
+pub mod Says

@@ -6,12 +6,19 @@
 #![tactic(auto)]
 
 mod accepting;
+mod cells;
 mod columns;
-mod components;
 mod commands;
+mod components;
 mod fault;
+mod fetching;
 mod intents;
+mod judging;
+mod loading;
 mod mirrors;
+mod readable;
+mod reading;
 mod replies;
+mod rows;
 
 pub use fault::StoreFault;
