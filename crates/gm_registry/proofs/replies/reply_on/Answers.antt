@@ -1,0 +1,16 @@
+use Rattle.std.proofs.Common.{arith, sym, ap, ◌∙◌, length, slice_get}
+use Rattle.sqlite_rules.proofs.ListLemmas.{has_got}
+use Rattle.gm_registry.proofs.Replying.{no_reply, a_reply}
+use Rattle.gm_registry.proofs.replies.reply_on.Goals as goal
+
+pub returns-in-None-clause-found : goal.returns-in-None-clause-found
+returns-in-None-clause-found g c clean t was =
+    let it = c.in_ok-rows.ensures.rows clean t was in
+    (no_reply t c.args.key.now c.in_ok-rows.rows.items it.0 (omega (arith, c.in-None.ensures.item.3, ap length c.deref.ensures.value)), it.1)
+
+pub returns-clause-found : goal.returns-clause-found
+returns-clause-found g c clean t was =
+    let it = c.in_ok-rows.ensures.rows clean t was in
+    let kept = c.in_ok-kept-in-Some.ensures in
+    let row = has_got c.in_ok-rows.rows.items 0 c.in-Some.row.now (ap (λ l. slice_get l 0) (sym c.deref.ensures.value) ∙ sym c.in-Some.ensures.value) in
+    (rw (c.from.ensures) (a_reply t c.args.key.now c.in_ok-rows.rows.items c.in-Some.row.now _ _ _ _ _ it.0 row kept.0 kept.1 kept.2 kept.3 c.reply_from-reply.ensures), it.1)

@@ -1,0 +1,74 @@
+-- What a command and its end make of the tables.
+use Rattle.std.specs.Prelude.{ℕ, List, [], ◌∷◌, ◌++◌, Option, Some, None}
+use Rattle.gm_state.specs.declared.records.Mirror.{Mirror}
+use Rattle.gm_state.specs.declared.records.Component.{Component}
+use Rattle.gm_state.specs.declared.command.Intent.{Intent}
+use Rattle.gm_state.specs.declared.command.Reply.{Reply}
+use Rattle.gm_state.specs.Words.{without, without_all}
+use Rattle.gm_state.specs.Rows.{Tables, MirrorRow, ComponentRow, CommandRow, IntentRow, mirror_row, component_row, intent_rows, copied_of, total_of}
+use Rattle.gm_rules.specs.Decides.{Changed}
+
+abbrev pub mirror_key : MirrorRow → List ℕ
+mirror_key m = m.name
+
+abbrev pub component_key : ComponentRow → List ℕ
+component_key k = k.prov
+
+-- without the mirror of this name
+abbrev pub without_mirror : List ℕ → Tables → Tables
+without_mirror name t = record t { mirrors = without mirror_key name t.mirrors }
+
+-- this mirror, in place of the one of its name
+abbrev pub with_mirror : MirrorRow → Tables → Tables
+with_mirror m t = record t { mirrors = m ∷ without mirror_key m.name t.mirrors }
+
+-- without the component on this provider
+abbrev pub without_component : List ℕ → Tables → Tables
+without_component prov t = record t { components = without component_key prov t.components }
+
+-- this component, in place of the one on its provider
+abbrev pub with_component : ComponentRow → Tables → Tables
+with_component k t = record t { components = k ∷ without component_key k.prov t.components }
+
+abbrev pub with_command : CommandRow → Tables → Tables
+with_command c t = record t { commands = c ∷ t.commands }
+
+abbrev pub without_some_mirror : Option (List ℕ) → Tables → Tables
+without_some_mirror None t = t
+without_some_mirror (Some name) t = without_mirror name t
+
+abbrev pub with_some_mirror : Option Mirror → Tables → Tables
+with_some_mirror None t = t
+with_some_mirror (Some m) t = with_mirror (mirror_row m) t
+
+-- without the components on these providers
+abbrev pub without_components : List (List ℕ) → Tables → Tables
+without_components [] t = t
+without_components (prov ∷ more) t = without_components more (without_component prov t)
+
+-- each of these components in place of the one on its provider
+abbrev pub with_components : List Component → Tables → Tables
+with_components [] t = t
+with_components (k ∷ more) t = with_components more (with_component (component_row k) t)
+
+-- with these rows of intents
+abbrev pub with_intents : List IntentRow → Tables → Tables
+with_intents more t = record t { intents = more ++ t.intents }
+
+-- the tables with the records of a change: what is gone goes first
+abbrev pub with_records : Changed → Tables → Tables
+with_records ch t =
+    with_components ch.components (with_some_mirror ch.mirror (without_some_mirror ch.gone_mirror (without_components ch.gone_components t)))
+
+-- the row of a command under its key
+abbrev pub command_row : List ℕ → ℕ → List ℕ → Reply → CommandRow
+command_row key number words reply = record { call_key = key; seq = number; words = words; copied = copied_of reply; of_total = total_of reply }
+
+-- the tables with the change: its records, its intents, numbered from 1, and the command under its key
+abbrev pub with_change : Changed → List ℕ → ℕ → List ℕ → Tables → Tables
+with_change ch key number words t =
+    with_command (command_row key number words ch.reply) (with_intents (intent_rows 1 ch.intents) (with_records ch t))
+
+-- no intent is pending
+abbrev pub settled : Tables → Tables
+settled t = record t { intents = [] }

@@ -1,0 +1,22 @@
+-- How the faults of the store are numbered, and from which errors of `sqlite` they come.
+use Rattle.std.specs.Prelude.{ℕ}
+use Rattle.sqlite.specs.declared.error.Error.{Error}
+use Rattle.sqlite.specs.declared.error.Error.TheVariants.{SqliteFailure}
+use Rattle.sqlite.specs.declared.error.ErrorCode.TheVariants as code
+use Rattle.gm_registry.specs.declared.fault.StoreFault.{StoreFault}
+use Rattle.gm_registry.specs.declared.fault.StoreFault.TheVariants.{Memory, Store, Unreadable}
+
+abbrev pub fault_number : StoreFault → ℕ
+fault_number Memory = 1
+fault_number Store = 2
+fault_number Unreadable = 3
+
+-- want of memory, or any other refusal
+abbrev pub fault_of : Error → StoreFault
+fault_of (SqliteFailure code.OutOfMemory) = Memory
+fault_of _ = Store
+
+-- a value of a row that can't be read: want of memory, or no such value as the tables are to hold
+abbrev pub value_fault_of : Error → StoreFault
+value_fault_of (SqliteFailure code.OutOfMemory) = Memory
+value_fault_of _ = Unreadable

@@ -1,0 +1,13 @@
+pub mod Faults
+pub mod Texts
+pub mod Statements
+pub mod Schema
+pub mod Rows
+pub mod Tables
+pub mod Changes
+pub mod Replies
+pub mod Reading
+pub mod Values
+pub mod Queries
+pub mod Reads
+pub mod Says

@@ -1,0 +1,54 @@
+//! The table of accepted commands: written inside a transaction, read by the key or from the end of its numbers.
+
+ghost use Rattle.std.specs.Prelude.{◌≡◌, OnOk};
+ghost use Rattle.sqlite.specs.State.{HasCleanDisk, KeepsCommit, Survives};
+ghost use Rattle.sqlite.specs.Held.{state};
+ghost use Rattle.sqlite.specs.Effect.{Database};
+ghost use Rattle.gm_state.specs.Rows.{Tables};
+ghost use Rattle.gm_registry.specs.Tables.{IsInside};
+ghost use Rattle.gm_registry.specs.Changes.{with_command, command_row};
+
+use gm_state::Reply;
+use sqlite::{Alter, Error, Transaction, params};
+
+/// Adds the row of a command under its key.
+fn put_row<S: Alter>(
+    tx: &mut Transaction<'_, S>,
+    key: &str,
+    number: u32,
+    words: &str,
+    copied: u32,
+    of_total: u32,
+) -> Result<usize, Error>
+    ensures same_reference { tx.new.conn.ghost_name ≡ tx.old.conn.ghost_name }
+    ensures put { HasCleanDisk (state S.Store tx.new.conn.now) → OnOk result ((first : Database) (t : Tables) → IsInside first (state S.Store tx.old.conn.now) t
+        → IsInside first (state S.Store tx.new.conn.now)
+            (with_command (record { call_key = key.now; seq = number; words = words.now; copied = copied; of_total = of_total }) t)) }
+    ensures kept { HasCleanDisk (state S.Store tx.new.conn.now) → KeepsCommit (state S.Store tx.old.conn.now) (state S.Store tx.new.conn.now) }
+    ensures survives { Survives (state S.Store tx.old.conn.now) (state S.Store tx.new.conn.now) (λ _. ⊥) }
+{
+    tx.execute(
+        "INSERT INTO commands (call_key, seq, words, copied, of_total) VALUES (?1, ?2, ?3, ?4, ?5)",
+        params![key, number, words, copied, of_total],
+    )
+}
+
+/// Adds a command under its key, with its number, its words and its reply.
+pub(crate) fn put_command<S: Alter>(
+    tx: &mut Transaction<'_, S>,
+    key: &str,
+    number: u32,
+    words: &str,
+    reply: Reply,
+) -> Result<usize, Error>
+    ensures same_reference { tx.new.conn.ghost_name ≡ tx.old.conn.ghost_name }
+    ensures put { HasCleanDisk (state S.Store tx.new.conn.now) → OnOk result ((first : Database) (t : Tables) → IsInside first (state S.Store tx.old.conn.now) t
+        → IsInside first (state S.Store tx.new.conn.now) (with_command (command_row key.now number words.now reply) t)) }
+    ensures kept { HasCleanDisk (state S.Store tx.new.conn.now) → KeepsCommit (state S.Store tx.old.conn.now) (state S.Store tx.new.conn.now) }
+    ensures survives { Survives (state S.Store tx.old.conn.now) (state S.Store tx.new.conn.now) (λ _. ⊥) }
+{
+    match reply {
+        Reply::Plain => put_row(tx, key, number, words, 0, 0),
+        Reply::Copied { held, total } => put_row(tx, key, number, words, held, total),
+    }
+}

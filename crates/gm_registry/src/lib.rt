@@ -1,0 +1,24 @@
+//! The registry: five tables of SQLite that hold the records of a state, the intents that are pending and the commands
+//! that were accepted.
+//!
+//! Begin with `registry.rt`, the calls; `specs/Tables.antt`, what a store holds; `specs/Changes.antt`, what a command
+//! makes of it; and `specs/Reading.antt`, which tables are readable.
+#![tactic(auto)]
+
+mod accepting;
+mod cells;
+mod columns;
+mod commands;
+mod components;
+mod fault;
+mod fetching;
+mod intents;
+mod judging;
+mod loading;
+mod mirrors;
+mod readable;
+mod reading;
+mod replies;
+mod rows;
+
+pub use fault::StoreFault;

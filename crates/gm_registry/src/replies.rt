@@ -1,0 +1,118 @@
+//! What is read of the accepted commands: the reply under a key, and the greatest number.
+
+ghost use Rattle.std.specs.Prelude.{◌≡◌, ◌≤◌, ◌==◌, List, ℕ, pos, filter, map, string_bytes, IfOk, OnErr, IsTrue, MatchOption, IsPermutation};
+ghost use Rattle.std.specs.Str.{bytes_eq};
+ghost use Rattle.sqlite_trees.specs.View.{doubt};
+ghost use Rattle.sqlite.specs.State.{HasCleanDisk, Survives};
+ghost use Rattle.sqlite.specs.Held.{state};
+ghost use Rattle.sqlite.specs.Order.{column};
+ghost use Rattle.sqlite.specs.declared.types.Value.TheVariants.{Int, Text};
+ghost use Rattle.gm_state.specs.Rows.{Tables};
+ghost use Rattle.gm_registry.specs.Tables.{HasTables};
+ghost use Rattle.gm_registry.specs.Faults.{value_fault_of};
+ghost use Rattle.gm_registry.specs.Replies.{reply_in, is_under, reply_values, IsKept, IsFree, IsLastOf, count_of};
+
+use crate::fault::{StoreFault, readable};
+use gm_state::Reply;
+use sqlite::{Alter, Connection, Error, Row, params};
+
+/// The row of a command as a query of its key shows it.
+#[derive(Debug, Drop)]
+struct Kept {
+    number: u32,
+    words: String,
+    copied: u32,
+    of_total: u32,
+}
+
+fn read_kept(row: &Row) -> Result<Kept, StoreFault>
+    ensures { IfOk result (λ kept. (column row.now 0 ≡ Int (pos kept.number)) × (column row.now 1 ≡ Text (string_bytes kept.words))
+        × (column row.now 2 ≡ Int (pos kept.copied)) × (column row.now 3 ≡ Int (pos kept.of_total))) }
+{
+    Ok(Kept {
+        number: readable(row.get(0))?,
+        words: readable(row.get(1))?,
+        copied: readable(row.get(2))?,
+        of_total: readable(row.get(3))?,
+    })
+}
+
+/// The reply that two numbers of a row say.
+fn reply_from(copied: u32, of_total: u32) -> Reply
+    ensures { result ≡ reply_in copied of_total }
+{
+    if copied == 0 && of_total == 0 {
+        Reply::Plain
+    } else {
+        Reply::Copied {
+            held: copied,
+            total: of_total,
+        }
+    }
+}
+
+fn find_command<S: Alter>(conn: &mut Connection<S>, key: &str) -> Result<Vec<Row>, Error>
+    ensures rows { HasCleanDisk (state S.Store conn.new) → IfOk result (λ rows. (t : Tables) → HasTables (state S.Store conn.old) t
+        → IsPermutation (map reply_values (filter (is_under key.now) t.commands)) rows.items × HasTables (state S.Store conn.new) t) }
+    ensures refused { HasCleanDisk (state S.Store conn.new) → OnErr result ((t : Tables) → HasTables (state S.Store conn.old) t → IsTrue (state S.Store conn.new).is_open → HasTables (state S.Store conn.new) t) }
+    ensures left { (t : Tables) → HasTables (state S.Store conn.old) t → Survives (state S.Store conn.old) (state S.Store conn.new) (λ _. ⊥) }
+    ensures clean { doubt (state S.Store conn.old).is_clean ≤ doubt (state S.Store conn.new).is_clean }
+{
+    conn.query_all(
+        "SELECT seq, words, copied, of_total FROM commands WHERE call_key = ?1",
+        params![key],
+    )
+}
+
+/// The number, the words and the reply of the command under a key.
+pub(crate) fn reply_on<S: Alter>(
+    conn: &mut Connection<S>,
+    key: &str,
+) -> Result<Option<(u64, String, Reply)>, StoreFault>
+    ensures found { HasCleanDisk (state S.Store conn.new) → IfOk result (λ found. (t : Tables) → HasTables (state S.Store conn.old) t
+        → MatchOption found (IsFree t key.now) (λ it. IsKept t key.now it.0 (string_bytes it.1) it.2) × HasTables (state S.Store conn.new) t) }
+    ensures refused { HasCleanDisk (state S.Store conn.new) → OnErr result ((t : Tables) → HasTables (state S.Store conn.old) t → IsTrue (state S.Store conn.new).is_open → HasTables (state S.Store conn.new) t) }
+    ensures left { (t : Tables) → HasTables (state S.Store conn.old) t → Survives (state S.Store conn.old) (state S.Store conn.new) (λ _. ⊥) }
+    ensures clean { doubt (state S.Store conn.old).is_clean ≤ doubt (state S.Store conn.new).is_clean }
+{
+    let rows = find_command(conn, key)?;
+    match rows.first() {
+        None => Ok(None),
+        Some(row) => {
+            let kept = read_kept(row)?;
+            let reply = reply_from(kept.copied, kept.of_total);
+            Ok(Some((u64::from(kept.number), kept.words, reply)))
+        }
+    }
+}
+
+fn last_command<S: Alter>(conn: &mut Connection<S>) -> Result<Vec<Row>, Error>
+    ensures rows { HasCleanDisk (state S.Store conn.new) → IfOk result (λ rows. (t : Tables) → HasTables (state S.Store conn.old) t
+        → IsLastOf t rows.items × HasTables (state S.Store conn.new) t) }
+    ensures refused { HasCleanDisk (state S.Store conn.new) → OnErr result ((t : Tables) → HasTables (state S.Store conn.old) t → IsTrue (state S.Store conn.new).is_open → HasTables (state S.Store conn.new) t) }
+    ensures left { (t : Tables) → HasTables (state S.Store conn.old) t → Survives (state S.Store conn.old) (state S.Store conn.new) (λ _. ⊥) }
+    ensures clean { doubt (state S.Store conn.old).is_clean ≤ doubt (state S.Store conn.new).is_clean }
+{
+    conn.query_all("SELECT seq FROM commands ORDER BY seq DESC LIMIT 1", &[])
+}
+
+fn read_number(row: &Row) -> Result<u32, StoreFault>
+    ensures { IfOk result (λ number. column row.now 0 ≡ Int (pos number)) }
+{
+    readable(row.get(0))
+}
+
+/// How many commands were accepted: the greatest number, since they count from 1 without gaps.
+pub(crate) fn accepted_on<S: Alter>(conn: &mut Connection<S>) -> Result<u32, StoreFault>
+    ensures count { HasCleanDisk (state S.Store conn.new) → IfOk result (λ n. (t : Tables) → HasTables (state S.Store conn.old) t
+        → (n ≡ count_of t) × HasTables (state S.Store conn.new) t) }
+    ensures refused { HasCleanDisk (state S.Store conn.new) → OnErr result ((t : Tables) → HasTables (state S.Store conn.old) t → IsTrue (state S.Store conn.new).is_open → HasTables (state S.Store conn.new) t) }
+    ensures left { (t : Tables) → HasTables (state S.Store conn.old) t → Survives (state S.Store conn.old) (state S.Store conn.new) (λ _. ⊥) }
+    ensures clean { doubt (state S.Store conn.old).is_clean ≤ doubt (state S.Store conn.new).is_clean }
+{
+    let rows = last_command(conn)?;
+    match rows.first() {
+        None => Ok(0),
+        Some(row) => Ok(read_number(row)?),
+    }
+}

@@ -1,0 +1,13 @@
+pub mod ValueLemmas
+pub mod RowLemmas
+pub mod Finding
+pub mod Keyed
+pub mod Inserting
+pub mod Bags
+pub mod Dropping
+pub mod Replacing
+pub mod Statements
+pub mod Refusing
+pub mod Creating
+pub mod Showing
+pub mod Looping
