@@ -1,7 +1,7 @@
 -- One call of a shelf after another, within one intent.
-use Rattle.std.proofs.Common.{◌≡◌, ◌⊎◌, inl, inr, ⊎_elim, ℕ, ◌≤◌, List, Bool, true, false, ◌==◌, ◌&&◌, refl, sym, ◌∙◌, ap, subst, arith, if◌then◌else◌}
+use Rattle.std.proofs.Common.{◌≡◌, inl, inr, ⊎_elim, ℕ, List, true, false, refl, sym, ◌∙◌, subst, arith}
 use Rattle.std.proofs.lemmas.Bool.{cases_Bool}
-use Rattle.gm_metadata.specs.Images.{Image, Same, put}
+use Rattle.gm_metadata.specs.Images.{Image, Same}
 use Rattle.gm_shelf.specs.Disk.{View, IsPut, Torn, From, Elapses, IsQuiet, IsWrite, IsFixed}
 use Rattle.gm_state.proofs.Finding.{not_both}
 use Rattle.gm_apply.specs.Redo.{Places, laid, Mix, Leaves, Redone, Moments, Going}

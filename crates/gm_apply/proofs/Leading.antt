@@ -1,5 +1,5 @@
 -- From what is left of an image to where it leads.
-use Rattle.std.proofs.Common.{◌≡◌, ◌∙◌, ◌⊎◌, inl, inr, ⊎_elim, ℕ, ◌+◌, ◌-◌, ◌<◌, ◌==◌, ◌&&◌, ◌||◌, List, [], ◌∷◌, Bool, true, false, refl, sym, ap, subst, arith, Option, None, Some, eqb-true}
+use Rattle.std.proofs.Common.{◌≡◌, ◌∙◌, inl, inr, ⊎_elim, ℕ, ◌+◌, ◌-◌, ◌==◌, ◌&&◌, List, [], ◌∷◌, true, refl, sym, ap, subst, arith, Option, Some, eqb-true}
 use Rattle.std.proofs.lemmas.Bool.{cases_Bool}
 use Rattle.std.proofs.lemmas.Bool.Decides.{eqb_tells}
 use Rattle.gm_metadata.specs.Images.{Image, Sizes, Same, same_label, label_tells}
@@ -8,12 +8,10 @@ use Rattle.gm_state.specs.declared.command.Intent.{Intent}
 use Rattle.gm_state.specs.declared.command.Intent.TheVariants.{Meta, Clear, Copy}
 use Rattle.gm_state.specs.declared.records.Mirror.{Mirror}
 use Rattle.gm_state.specs.declared.records.Component.{Component}
-use Rattle.gm_metadata.specs.declared.metadata.Metadata.{Metadata}
 use Rattle.gm_state.specs.Records.{Records}
 use Rattle.gm_state.specs.Intents.{IsOf, is_last, names, copies, is_place, any_copies, Agrees, IsRedo, InOrder}
-use Rattle.gm_state.specs.World.{World, Claims, claimed}
-use Rattle.gm_state.proofs.Finding.{not_both}
-use Rattle.gm_apply.specs.Redo.{laid, Mix, Partly, Follows}
+use Rattle.gm_state.specs.World.{World, Claims}
+use Rattle.gm_apply.specs.Redo.{laid, Mix, Partly}
 use Rattle.gm_apply.specs.Continues.{Continues}
 use Rattle.gm_apply.proofs.Going.{laid_in, laid_out}
 use Rattle.gm_apply.proofs.Lists.{or_true, or_first, or_second}

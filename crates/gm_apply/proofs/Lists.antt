@@ -1,9 +1,9 @@
 -- One intent after another.
 use Rattle.std.proofs.Common.{◌≡◌, ◌⊎◌, inl, inr, ⊎_elim, ℕ, ◌≤◌, ◌<◌, ◌+◌, ◌-◌, List, [], ◌∷◌, ◌++◌, Bool, true, false, ◌&&◌, ◌||◌, refl, sym, ◌∙◌, ap, subst, arith, Option, None, Some, if◌then◌else◌, nat_le, nat_lt, length, take, drop, get_or, take-append-drop, eqb-true}
-use Rattle.std.proofs.lemmas.Bool.{cases_Bool, or_left}
+use Rattle.std.proofs.lemmas.Bool.{cases_Bool}
 use Rattle.std.proofs.lemmas.Bool.Decides.{nat_tests}
 use Rattle.std.proofs.lemmas.List.{take_more, drop_more}
-use Rattle.gm_metadata.specs.Images.{Image, Sizes, Same, same_label, label_tells}
+use Rattle.gm_metadata.specs.Images.{Image, Sizes, Same, label_tells}
 use Rattle.gm_shelf.specs.Disk.{View, From}
 use Rattle.gm_state.specs.declared.command.Intent.{Intent}
 use Rattle.gm_state.specs.declared.command.Intent.TheVariants.{Meta, Clear, Copy}

@@ -1,19 +1,19 @@
 -- Intents that are readable for a state.
-use Rattle.std.proofs.Common.{◌≡◌, ◌≢◌, ◌∙◌, ◌⊎◌, inl, inr, ⊎_elim, ℕ, ◌+◌, ◌<◌, ◌≤◌, ◌==◌, ◌&&◌, ◌||◌, List, [], ◌∷◌, length, filter, Bool, true, false, refl, sym, ap, subst, arith, Option, None, Some, eqb-true, nat_le, nat_lt}
+use Rattle.std.proofs.Common.{◌≡◌, ◌≢◌, ◌∙◌, inl, inr, ⊎_elim, ℕ, ◌+◌, ◌<◌, ◌≤◌, ◌&&◌, ◌||◌, List, [], ◌∷◌, length, filter, Bool, true, false, refl, sym, ap, subst, arith, Option, None, Some}
 use Rattle.std.specs.List.{list_any}
-use Rattle.std.proofs.lemmas.Bool.{cases_Bool, or_parts}
+use Rattle.std.proofs.lemmas.Bool.{or_parts}
 use Rattle.std.proofs.lemmas.Bool.Decides.{eqb_tells}
-use Rattle.gm_metadata.specs.Images.{Image, Sizes, same_label, label_tells, label_refl}
+use Rattle.gm_metadata.specs.Images.{Sizes, same_label, label_tells}
 use Rattle.gm_state.specs.declared.command.Intent.{Intent}
 use Rattle.gm_state.specs.declared.command.Intent.TheVariants.{Meta, Clear, Copy}
 use Rattle.gm_state.specs.declared.records.Mirror.{Mirror}
 use Rattle.gm_state.specs.declared.records.Component.{Component}
 use Rattle.gm_state.specs.Words.{Has}
-use Rattle.gm_state.specs.Records.{Records, IsState, name, provider, members}
+use Rattle.gm_state.specs.Records.{Records, IsState, provider}
 use Rattle.gm_state.specs.Lookups.{component_of}
 use Rattle.gm_state.specs.Disks.{held_by}
-use Rattle.gm_state.specs.Intents.{IsOf, is_last, names, copies, is_place, any_copies, AllSay, Says, Lends, InOrder}
-use Rattle.gm_state.specs.Readable.{is_copy, is_copy_to, is_meta_of, IsCopyWithin, IsReadable, AreOrdered, AreReadable}
+use Rattle.gm_state.specs.Intents.{IsOf, is_last, copies, is_place, any_copies, AllSay, Lends, InOrder}
+use Rattle.gm_state.specs.Readable.{is_copy, is_copy_to, IsCopyWithin, IsReadable, AreOrdered, AreReadable}
 use Rattle.gm_state.specs.World.{World, Sound}
 use Rattle.gm_state.proofs.Finding.{found_none, not_both}
 use Rattle.gm_state.proofs.Testing.{member}

@@ -1,7 +1,7 @@
 -- A copy, one sector after another.
 use Rattle.std.proofs.Common.{◌≡◌, ◌⊎◌, inl, inr, ℕ, ◌≤◌, ◌<◌, ◌+◌, List, Bool, true, false, ◌==◌, ◌&&◌, ◌||◌, refl, sym, ◌∙◌, ap, arith, le-leb, lt-ltb, le-ltb, eqb-true, nat_le, nat_lt, if◌then◌else◌}
 use Rattle.std.proofs.lemmas.Bool.{cases_Bool}
-use Rattle.std.proofs.lemmas.Bool.Decides.{eqb_tells, nat_tests}
+use Rattle.std.proofs.lemmas.Bool.Decides.{nat_tests}
 use Rattle.gm_metadata.specs.Images.{Image, Same, put, same_label, label_tells, label_refl}
 use Rattle.gm_shelf.specs.Disk.{View, IsQuiet, IsWrite}
 use Rattle.gm_state.specs.declared.command.Intent.TheVariants.{Copy}

@@ -1,9 +1,9 @@
 -- From the write of a last sector to the step of an intent.
-use Rattle.std.proofs.Common.{◌≡◌, ◌⊎◌, inl, inr, ⊎_elim, ℕ, ◌+◌, List, Bool, true, false, ◌==◌, ◌&&◌, refl, sym, ◌∙◌, ap, subst, arith, Option, None, Some, zero, suc, eqb-true, if◌then◌else◌}
+use Rattle.std.proofs.Common.{◌≡◌, ◌⊎◌, inl, inr, ⊎_elim, ℕ, ◌+◌, List, true, false, ◌==◌, ◌&&◌, refl, sym, ◌∙◌, ap, subst, arith, Option, None, Some, zero, suc, eqb-true}
 use Rattle.std.proofs.lemmas.Bool.{cases_Bool}
 use Rattle.std.proofs.lemmas.Bool.Decides.{eqb_tells}
 use Rattle.gm_metadata.specs.Images.{Image, Sizes, Same, put, same_label, label_tells, label_refl}
-use Rattle.gm_shelf.specs.Disk.{View, IsPut, Torn, From}
+use Rattle.gm_shelf.specs.Disk.{View, IsPut, Torn}
 use Rattle.gm_shelf.specs.LastSector.{OldOrNew, IsDone}
 use Rattle.gm_metadata.specs.Reading.{encoded}
 use Rattle.gm_metadata.specs.declared.metadata.Metadata.{Metadata}
@@ -14,8 +14,8 @@ use Rattle.gm_state.specs.Lookups.{metadata, metadata_of, mirror_of, component_o
 use Rattle.gm_state.specs.Intents.{IsOf, is_last}
 use Rattle.gm_state.proofs.Finding.{find_one, not_both}
 use Rattle.gm_state.proofs.Testing.{member}
-use Rattle.gm_apply.specs.Redo.{Places, laid, Mix, Leaves, Redone, Moments}
-use Rattle.gm_apply.proofs.Going.{laid_in, laid_out, at_start}
+use Rattle.gm_apply.specs.Redo.{Places, laid, Mix, Redone, Moments}
+use Rattle.gm_apply.proofs.Going.{laid_in, laid_out}
 
 -- the last sector of the provider is the one place
 abbrev pub last_of : Sizes → List ℕ → Places
