@@ -1,7 +1,7 @@
 -- The step of the abstract bench by a command, and the plan that carries it out.
-use Rattle.std.specs.Prelude.{◌≡◌, ◌+◌, ◌-◌, ◌<◌, ◌≤◌, ◌==◌, ◌&&◌, ◌||◌, ℕ, Bool, IsTrue, true, false, List, [], ◌∷◌, length, None, unwrap_or}
+use Rattle.std.specs.Prelude.{◌≡◌, ◌+◌, ◌-◌, ◌<◌, ◌==◌, ◌&&◌, ◌||◌, ℕ, Bool, IsTrue, true, false, List, ◌∷◌, length, None, unwrap_or}
 use Rattle.std.specs.List.{list_any}
-use Rattle.gm_metadata.specs.Images.{Sizes, same_label, zeros}
+use Rattle.gm_metadata.specs.Images.{same_label, zeros}
 use Rattle.gm_metadata.specs.Reading.{encoded}
 use Rattle.gm_metadata.specs.Sector.{Bears}
 use Rattle.gm_metadata.specs.declared.metadata.Metadata.{Metadata}
