@@ -6,3 +6,5 @@ pub mod Listed
 pub mod Replying
 pub mod Lasting
 pub mod Counting
+pub mod Making
+pub mod Standing

@@ -6,4 +6,5 @@ pub mod Rows
 pub mod Tables
 pub mod Changes
 pub mod Replies
+pub mod Opening
 pub mod Reading

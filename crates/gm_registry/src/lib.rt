@@ -8,10 +8,14 @@
 mod accepting;
 mod columns;
 mod components;
+mod creating;
 mod commands;
 mod fault;
 mod intents;
 mod mirrors;
+mod opening;
+mod registry;
 mod replies;
 
 pub use fault::StoreFault;
+pub use registry::{OpenFault, Registry};
