@@ -7,15 +7,17 @@
 
 mod accepting;
 mod columns;
+mod commands;
 mod components;
 mod creating;
-mod commands;
 mod fault;
 mod intents;
 mod mirrors;
 mod opening;
 mod registry;
 mod replies;
+#[cfg(test)]
+mod tests;
 
 pub use fault::StoreFault;
 pub use registry::{OpenFault, Registry};
