@@ -8,3 +8,13 @@ pub mod Lasting
 pub mod Counting
 pub mod Making
 pub mod Standing
+pub mod Numbering
+pub mod Asking
+pub mod Ordering
+pub mod Passing
+pub mod Suffixes
+pub mod Copies
+pub mod Reordering
+pub mod Typed
+pub mod Saying
+pub mod Telling

@@ -8,3 +8,7 @@ pub mod Changes
 pub mod Replies
 pub mod Opening
 pub mod Reading
+pub mod Values
+pub mod Queries
+pub mod Reads
+pub mod Says

@@ -6,16 +6,23 @@
 #![tactic(auto)]
 
 mod accepting;
+mod cells;
 mod columns;
 mod commands;
 mod components;
 mod creating;
 mod fault;
+mod fetching;
 mod intents;
+mod judging;
+mod loading;
 mod mirrors;
 mod opening;
+mod readable;
+mod reading;
 mod registry;
 mod replies;
+mod rows;
 #[cfg(test)]
 mod tests;
 

@@ -1,0 +1,224 @@
+-- The rows that are shown of a registry's tables say what the tables hold.
+use Rattle.std.proofs.Common.{◌≡◌, ◌∙◌, inl, inr, ⊎_elim, ℕ, zero, suc, pos, negsuc, ◌+◌, ◌≤◌, List, [], ◌∷◌, map, drop, length, refl, sym, ap, subst, subst₂, arith}
+use Rattle.std.specs.List.Sorted.{IsPermutation}
+use Rattle.std.proofs.lemmas.List.{length-map}
+use Rattle.std.proofs.lemmas.List.Sorted.{IsPermutation-map, IsPermutation-sym, IsPermutation-trans, length_permutation}
+use Rattle.sqlite.specs.Order.{Row, column}
+use Rattle.sqlite.specs.Tree.{Trees}
+use Rattle.sqlite_value.specs.declared.value.Value.{Value}
+use Rattle.sqlite.specs.declared.types.Value.TheVariants.{Null, Int, Text, Real, Blob}
+use Rattle.sqlite.proofs.Callers.{one_permutation}
+use Rattle.sqlite_trees.proofs.ListLemmas.{map-map}
+use Rattle.sqlite_rows.specs.Keeps.{Keeps, columns, whole}
+use Rattle.gm_state.specs.declared.command.Intent.{Intent}
+use Rattle.gm_state.specs.declared.command.Intent.TheVariants.{Meta, Clear, Copy}
+use Rattle.gm_state.specs.Words.{Has}
+use Rattle.gm_state.specs.Records.{Records}
+use Rattle.gm_state.specs.Rows.{Tables, MirrorRow, ComponentRow, IntentRow, CommandRow, mirror_row, component_row, intent_row, intent_rows}
+use Rattle.gm_state.proofs.Sorting.{Has-permutation}
+use Rattle.gm_registry.specs.Rows.{about_values, mirror_values, component_values, intent_values, command_values}
+use Rattle.gm_registry.specs.Tables.{HasRows, HasCounted, AreNumbered, numbers_of}
+use Rattle.gm_registry.specs.Reading.{AreTablesOf, IsInRange}
+use Rattle.gm_registry.specs.Values.{columns_at, numbered, two, six, nine, shown_intent}
+use Rattle.gm_registry.specs.Queries.{AreShown, shown_places}
+use Rattle.gm_registry.specs.Says.{mirror_shown, component_shown, intent_shown, IsBetween, IsCommand, IsAbout, AreCommands, Say}
+use Rattle.gm_registry.specs.declared.fetching.Fetched.{Fetched}
+use Rattle.gm_registry.specs.declared.fetching.Table.TheVariants.{About, Mirrors, Components, Intents, Commands}
+use Rattle.gm_registry.proofs.Reordering.{same_records}
+use Rattle.gm_registry.proofs.Ordering.{one_order}
+
+-- the text and the number of a value
+abbrev text_in : Value → List ℕ
+text_in (Text t) = t
+text_in _ = []
+
+abbrev number_in : Value → ℕ
+number_in (Int (pos n)) = n
+number_in _ = 0
+
+-- what is shown of records, from what is kept of them
+module _ {A : Type 0} (part pick stored : Row → Row) (values shown : A → Row) (picks : (row : Row) → pick (part row) ≡ stored row) (shows : (x : A) → pick (values x) ≡ shown x) where
+  shows_records : (records : List A) (rows kept : List Row) → Keeps part values records kept → IsPermutation (map stored kept) rows → IsPermutation (map shown records) rows
+  shows_records records rows kept keeps are =
+      let mine : map pick (map values records) ≡ map shown records = map-map pick values records ∙ (λ i. map (λ x. shows x i) records) in
+      let theirs : map pick (map part kept) ≡ map stored kept = map-map pick part kept ∙ (λ i. map (λ row. picks row i) kept) in
+      IsPermutation-trans _ _ _ (subst₂ IsPermutation mine theirs (IsPermutation-map pick _ _ keeps.same)) are
+
+-- columns that are read again
+again_shown : {A : Type 0} (again : Row → Row) (shown : A → Row) → ((x : A) → again (shown x) ≡ shown x) → (records : List A) (rows : List Row) → IsPermutation (map shown records) rows
+    → IsPermutation (map shown records) (map again rows)
+again_shown again shown same records rows are =
+    subst (λ l. IsPermutation l (map again rows)) (map-map again shown records ∙ (λ i. map (λ x. same x i) records)) (IsPermutation-map again _ _ are)
+
+nine_picked : (row : Row) → columns_at nine (columns row) ≡ columns_at (shown_places Mirrors) row
+nine_picked [] = refl
+nine_picked (x ∷ row) = refl
+
+-- ---- mirrors and components
+
+mirrors_shown : (db : Trees) (t : Tables) (f : Fetched) → HasRows db t → AreShown db f → IsPermutation (map mirror_values t.mirrors) (map (columns_at nine) f.mirrors.items)
+mirrors_shown db t f has are =
+    again_shown (columns_at nine) mirror_values (λ m. refl) t.mirrors f.mirrors.items
+    (shows_records columns (columns_at nine) (columns_at (shown_places Mirrors)) mirror_values mirror_values nine_picked (λ m. refl) t.mirrors f.mirrors.items (db 1) has.mirrors are.mirrors)
+
+components_shown : (db : Trees) (t : Tables) (f : Fetched) → HasRows db t → AreShown db f → IsPermutation (map component_values t.components) (map (columns_at nine) f.components.items)
+components_shown db t f has are =
+    again_shown (columns_at nine) component_values (λ k. refl) t.components f.components.items
+    (shows_records columns (columns_at nine) (columns_at (shown_places Components)) component_values component_values nine_picked (λ k. refl) t.components f.components.items (db 4) has.components are.components)
+
+-- the records of a state are those whose rows are kept
+said : {A B : Type 0} (row_of : A → B) (values : B → Row) (state : List A) (kept : List B) (rows : List Row) → IsPermutation (map values kept) rows → IsPermutation (map row_of state) kept
+    → IsPermutation (map (λ x. values (row_of x)) state) rows
+said row_of values state kept rows are same =
+    IsPermutation-trans _ _ _ (subst (λ l. IsPermutation l (map values kept)) (map-map values row_of state) (IsPermutation-map values _ _ same)) are
+
+kept_of : {A B : Type 0} (row_of : A → B) (values : B → Row) → ((a b : B) → values a ≡ values b → a ≡ b) → (state : List A) (kept : List B) (rows : List Row) → IsPermutation (map values kept) rows
+    → IsPermutation (map (λ x. values (row_of x)) state) rows → IsPermutation (map row_of state) kept
+kept_of row_of values inj state kept rows are same =
+    same_records values inj (map row_of state) kept
+    (subst (λ l. IsPermutation l (map values kept)) (sym (map-map values row_of state)) (IsPermutation-trans _ _ _ same (IsPermutation-sym _ _ are)))
+
+one_mirror_row : (a b : MirrorRow) → mirror_values a ≡ mirror_values b → a ≡ b
+one_mirror_row a b e = ap (λ (row : Row). let x : MirrorRow = record { name = text_in (column row 0); mid = number_in (column row 1); total = number_in (column row 2); genid = number_in (column row 3); syncid = number_in (column row 4); slice = number_in (column row 5); balance = number_in (column row 6); mediasize = number_in (column row 7); mflags = number_in (column row 8) } in x) e
+
+one_component_row : (a b : ComponentRow) → component_values a ≡ component_values b → a ≡ b
+one_component_row a b e = ap (λ (row : Row). let x : ComponentRow = record { prov = text_in (column row 0); mirror = text_in (column row 1); did = number_in (column row 2); syncid = number_in (column row 3); priority = number_in (column row 4); sync_offset = number_in (column row 5); dflags = number_in (column row 6); hard = number_in (column row 7); provsize = number_in (column row 8) } in x) e
+
+-- ---- intents
+
+intent_picked : (row : Row) → columns_at (shown_places Intents) (whole row) ≡ columns_at (shown_places Intents) row
+intent_picked row = refl
+
+intents_shown : (db : Trees) (t : Tables) (f : Fetched) → HasRows db t → AreShown db f → IsPermutation (map shown_intent t.intents) f.intents.items
+intents_shown db t f has are =
+    shows_records whole (columns_at (shown_places Intents)) (columns_at (shown_places Intents)) intent_values shown_intent intent_picked (λ i. refl) t.intents f.intents.items (db 7) has.intents are.intents
+
+rows_numbered : (n : ℕ) (ts : List Intent) → map shown_intent (intent_rows n ts) ≡ numbered intent_shown n ts
+rows_numbered n [] = refl
+rows_numbered n (t ∷ ts) = ap (λ more. intent_shown n t ∷ more) (rows_numbered (n + 1) ts)
+
+read_again : (n : ℕ) (ts : List Intent) → map (columns_at six) (numbered intent_shown n ts) ≡ numbered intent_shown n ts
+read_again n [] = refl
+read_again n (t ∷ ts) = ap (λ more. intent_shown n t ∷ more) (read_again (n + 1) ts)
+
+first_is_number : (n : ℕ) (t : Intent) → column (intent_shown n t) 0 ≡ Int (pos n)
+first_is_number n (Meta p) = refl
+first_is_number n (Clear p) = refl
+first_is_number n (Copy source target first end) = refl
+
+one_intent_row : (a b : IntentRow) → shown_intent a ≡ shown_intent b → a ≡ b
+one_intent_row a b e = ap (λ (row : Row). let x : IntentRow = record { ord = number_in (column row 0); kind = number_in (column row 1); prov = text_in (column row 2); source = text_in (column row 3); first_sector = number_in (column row 4); end_sector = number_in (column row 5) } in x) e
+
+intents_said : (db : Trees) (t : Tables) (f : Fetched) (ts : List Intent) → HasRows db t → AreShown db f → IsPermutation (intent_rows 1 ts) t.intents → map (columns_at six) f.intents.items ≡ numbered intent_shown 1 ts
+intents_said db t f ts has are same =
+    let kept : IsPermutation (numbered intent_shown 1 ts) (map shown_intent t.intents) = subst (λ l. IsPermutation l (map shown_intent t.intents)) (rows_numbered 1 ts) (IsPermutation-map shown_intent _ _ same) in
+    let rows : f.intents.items ≡ numbered intent_shown 1 ts = one_order intent_shown first_is_number f.intents.items ts (IsPermutation-trans _ _ _ kept (intents_shown db t f has are)) are.in_order in
+    ap (map (columns_at six)) rows ∙ read_again 1 ts
+
+intents_kept : (db : Trees) (t : Tables) (f : Fetched) (ts : List Intent) → HasRows db t → AreShown db f → map (columns_at six) f.intents.items ≡ numbered intent_shown 1 ts → IsPermutation (intent_rows 1 ts) t.intents
+intents_kept db t f ts has are is =
+    let shown = again_shown (columns_at six) shown_intent (λ i. refl) t.intents f.intents.items (intents_shown db t f has are) in
+    let these : map (columns_at six) f.intents.items ≡ map shown_intent (intent_rows 1 ts) = is ∙ sym (rows_numbered 1 ts) in
+    same_records shown_intent one_intent_row (intent_rows 1 ts) t.intents (IsPermutation-sym _ _ (subst (IsPermutation (map shown_intent t.intents)) these shown))
+
+-- ---- commands
+
+-- what is shown of a command
+abbrev shown_command : CommandRow → Row
+shown_command c = Int (pos c.seq) ∷ Int (pos c.copied) ∷ Int (pos c.of_total) ∷ []
+
+command_picked : (row : Row) → columns_at (1 ∷ 3 ∷ 4 ∷ []) (columns row) ≡ columns_at (shown_places Commands) row
+command_picked [] = refl
+command_picked (x ∷ row) = refl
+
+commands_shown : (db : Trees) (t : Tables) (f : Fetched) → HasRows db t → AreShown db f → IsPermutation (map shown_command t.commands) f.commands.items
+commands_shown db t f has are =
+    shows_records columns (columns_at (1 ∷ 3 ∷ 4 ∷ [])) (columns_at (shown_places Commands)) command_values shown_command command_picked (λ c. refl) t.commands f.commands.items (db 8) has.commands are.commands
+
+has_mapped : {A B : Type 0} (f : A → B) (xs : List A) (x : A) → Has xs x → Has (map f xs) (f x)
+has_mapped f [] x h = absurd h
+has_mapped f (y ∷ xs) x (inl same) = inl (ap f same)
+has_mapped f (y ∷ xs) x (inr later) = inr (has_mapped f xs x later)
+
+mapped_from : {A B : Type 0} (f : A → B) (xs : List A) (y : B) → Has (map f xs) y → (x : A) × Has xs x × (f x ≡ y)
+mapped_from f [] y h = absurd h
+mapped_from f (x ∷ xs) y (inl same) = (x, inl refl, same)
+mapped_from f (x ∷ xs) y (inr later) = let it = mapped_from f xs y later in (it.0, inr it.1, it.2)
+
+number_within : (n m : ℕ) → Has (numbers_of n) m → (1 ≤ m) × (m ≤ n)
+number_within zero m h = absurd h
+number_within (suc n) m (inl same) = (omega (arith, same), omega (arith, same))
+number_within (suc n) m (inr later) = let it = number_within n m later in (it.0, omega (arith, it.1))
+
+as_many : (t : Tables) (f : Fetched) → IsPermutation (map shown_command t.commands) f.commands.items → length f.commands.items ≡ length t.commands
+as_many t f are = length_permutation _ _ are ∙ length-map t.commands shown_command
+
+commands_said : (t : Tables) (f : Fetched) → IsPermutation (map shown_command t.commands) f.commands.items → AreNumbered t.commands → ((c : CommandRow) → Has t.commands c → IsInRange c) → length t.commands ≤ 100000
+    → AreCommands f.commands.items
+commands_said t f are numbers range few =
+    let many = as_many t f are in
+    record {
+      count = omega (arith, many, few);
+      each = λ row has.
+          let back : Has (map shown_command t.commands) row = Has-permutation f.commands.items (map shown_command t.commands) row (IsPermutation-sym _ _ are) has in
+          let from = mapped_from shown_command t.commands row back in
+          let c = from.0 in
+          let seqs = map (λ (k : CommandRow). k.seq) t.commands in
+          let number : Has (numbers_of (length t.commands)) c.seq = Has-permutation seqs (numbers_of (length t.commands)) c.seq (IsPermutation-sym _ _ numbers) (has_mapped (λ (k : CommandRow). k.seq) t.commands c from.1) in
+          let within = number_within (length t.commands) c.seq number in
+          let limits = range c from.1 in
+          let says : IsCommand (length f.commands.items) (shown_command c) = record {
+            number = (c.seq, refl, within.0, omega (arith, many, within.1));
+            copied = (c.copied, refl, omega arith, limits.0);
+            total = (c.of_total, refl, omega arith, limits.1);
+          } in
+          subst (IsCommand (length f.commands.items)) from.2 says;
+    }
+
+at_most : (high n : ℕ) → IsBetween 0 high (Int (pos n)) → n ≤ high
+at_most high n it = let e : n ≡ it.0 = same n it.0 it.1 in omega (arith, e, it.3)
+  where
+    same : (a b : ℕ) → ◌≡◌ {A = Value} (Int (pos a)) (Int (pos b)) → a ≡ b
+    same a b e = cc
+
+commands_kept : (t : Tables) (f : Fetched) → IsPermutation (map shown_command t.commands) f.commands.items → AreCommands f.commands.items → (c : CommandRow) → Has t.commands c → IsInRange c
+commands_kept t f are says c has =
+    let it = says.each (shown_command c) (Has-permutation (map shown_command t.commands) f.commands.items (shown_command c) are (has_mapped shown_command t.commands c has)) in
+    (at_most 1048576 c.copied it.copied, at_most 1048576 c.of_total it.total)
+
+-- ---- all tables
+
+about_said : (db : Trees) (t : Tables) (f : Fetched) → HasRows db t → AreShown db f → IsAbout f.about.items
+about_said db t f has are =
+    let shown : IsPermutation ((Int (pos 1) ∷ Int (pos 1) ∷ []) ∷ []) f.about.items = subst (λ l. IsPermutation (map (columns_at (shown_places About)) l) f.about.items) has.about are.about in
+    ap (map (columns_at two)) (one_permutation (Int (pos 1) ∷ Int (pos 1) ∷ []) f.about.items shown)
+
+-- tables that are those of a state say it
+pub says_tables : (db : Trees) (t : Tables) (f : Fetched) (s : Records) (ts : List Intent) → HasCounted db t → AreShown db f → AreTablesOf t s ts → Say f s ts
+says_tables db t f s ts has are of = record {
+  about = about_said db t f has.rows are;
+  records = record {
+    state = of.state;
+    mirrors_are = said mirror_row mirror_values s.mirrors t.mirrors _ (mirrors_shown db t f has.rows are) of.mirrors;
+    components_are = said component_row component_values s.components t.components _ (components_shown db t f has.rows are) of.components;
+  };
+  intents = intents_said db t f ts has.rows are of.intents;
+  readable = of.readable;
+  commands = commands_said t f (commands_shown db t f has.rows are) has.numbered of.commands of.count;
+}
+
+-- and tables that say a state are its
+pub tables_said : (db : Trees) (t : Tables) (f : Fetched) (s : Records) (ts : List Intent) → HasCounted db t → AreShown db f → Say f s ts → AreTablesOf t s ts
+tables_said db t f s ts has are says =
+    let commands = commands_shown db t f has.rows are in
+    let many = as_many t f commands in
+    let count = says.commands.count in
+    record {
+      state = says.records.state;
+      mirrors = kept_of mirror_row mirror_values one_mirror_row s.mirrors t.mirrors _ (mirrors_shown db t f has.rows are) says.records.mirrors_are;
+      components = kept_of component_row component_values one_component_row s.components t.components _ (components_shown db t f has.rows are) says.records.components_are;
+      intents = intents_kept db t f ts has.rows are says.intents;
+      readable = says.readable;
+      commands = commands_kept t f commands says.commands;
+      count = omega (arith, many, count);
+    }

@@ -1,0 +1,32 @@
+use Rattle.std.proofs.Common.{IfOk, IfErr, OnErr, Result, Ok, Err}
+use Rattle.sqlite.specs.Held.{state}
+use Rattle.sqlite_rows.proofs.Refusing.{if_ok, on_err}
+use Rattle.gm_registry.proofs.Passing.{ours, counted, tables_stay, tables_refused, nothing_new}
+use Rattle.gm_registry.proofs.Telling.{says_tables, tables_said}
+use Rattle.gm_registry.proofs.loading.load_on.Goals as goal
+
+if_err : {A E : Type 0} (x : Result A E) (P Q : E → Type 0) → ((e : E) → P e → Q e) → IfErr x P → IfErr x Q
+if_err (Ok a) P Q f p = tt
+if_err (Err e) P Q f p = f e p
+
+pub returns-clause-loaded : goal.returns-clause-loaded
+returns-clause-loaded g c clean =
+    let old = state g.S.Store c.args.conn.now in
+    let new = state g.S.Store c.fetch.new.conn in
+    if_ok c.judge.result _ _ (λ r says t was. (
+      tables_said old.now.trees t c.in_ok-fetched.fetched r.0 r.1.items (counted old t was) (c.in_ok-fetched.ensures.rows clean (ours old t was)) says,
+      tables_stay old new t c.in_ok-fetched.ensures.read clean was,
+    )) c.judge.ensures.says
+
+pub returns-clause-unreadable : goal.returns-clause-unreadable
+returns-clause-unreadable g c clean =
+    let old = state g.S.Store c.args.conn.now in
+    if_err c.judge.result _ _ (λ e none is t s ts was of.
+    none is s ts (says_tables old.now.trees t c.in_ok-fetched.fetched s ts (counted old t was) (c.in_ok-fetched.ensures.rows clean (ours old t was)) of)) c.judge.ensures.unreadable
+
+pub returns-clause-refused : goal.returns-clause-refused
+returns-clause-refused g c clean =
+    on_err c.judge.result _ (λ t was is. tables_stay (state g.S.Store c.args.conn.now) (state g.S.Store c.fetch.new.conn) t c.in_ok-fetched.ensures.read clean was)
+
+pub returns-clause-left : goal.returns-clause-left
+returns-clause-left g c t was = nothing_new (state g.S.Store c.args.conn.now) (state g.S.Store c.fetch.new.conn) t c.in_ok-fetched.ensures.read.left was

@@ -1,0 +1,58 @@
+-- What the rows that are shown of the tables say.
+use Rattle.std.specs.Prelude.{◌≡◌, ◌≤◌, ℕ, List, [], ◌∷◌, length, map, pos}
+use Rattle.std.specs.List.Sorted.{IsPermutation}
+use Rattle.sqlite.specs.Order.{Row, column}
+use Rattle.sqlite_value.specs.declared.value.Value.{Value}
+use Rattle.sqlite.specs.declared.types.Value.TheVariants.{Int}
+use Rattle.gm_state.specs.declared.command.Intent.{Intent}
+use Rattle.gm_state.specs.declared.records.Mirror.{Mirror}
+use Rattle.gm_state.specs.declared.records.Component.{Component}
+use Rattle.gm_state.specs.Words.{Has}
+use Rattle.gm_state.specs.Records.{Records, IsState}
+use Rattle.gm_state.specs.Rows.{mirror_row, component_row, intent_row}
+use Rattle.gm_registry.specs.Rows.{mirror_values, component_values}
+use Rattle.gm_registry.specs.Reading.{AreReadable}
+use Rattle.gm_registry.specs.Values.{columns_at, numbered, two, six, nine, shown_intent}
+use Rattle.gm_registry.specs.declared.fetching.Fetched.{Fetched}
+
+abbrev pub mirror_shown : Mirror → Row
+mirror_shown m = mirror_values (mirror_row m)
+
+abbrev pub component_shown : Component → Row
+component_shown k = component_values (component_row k)
+
+abbrev pub intent_shown : ℕ → Intent → Row
+intent_shown n t = shown_intent (intent_row n t)
+
+-- a number from low to high
+abbrev pub IsBetween : ℕ → ℕ → Value → Type 0
+IsBetween low high value = (n : ℕ) × (value ≡ Int (pos n)) × (low ≤ n) × (n ≤ high)
+
+-- the number of one of so many commands, and the two numbers of its reply
+pub record IsCommand (count : ℕ) (row : Row) : Type 0 where
+  pub number : IsBetween 1 count (column row 0)
+  pub copied : IsBetween 0 1048576 (column row 1)
+  pub total : IsBetween 0 1048576 (column row 2)
+
+-- the rows of `about` are the one record (1, 1)
+abbrev pub IsAbout : List Row → Type 0
+IsAbout rows = map (columns_at two) rows ≡ (Int (pos 1) ∷ Int (pos 1) ∷ []) ∷ []
+
+-- the rows are those of commands, of which there may be so many
+pub record AreCommands (rows : List Row) : Type 0 where
+  pub count : length rows ≤ 100000
+  pub each : (row : Row) → Has rows row → IsCommand (length rows) row
+
+-- the rows are those of the records of a state, in some order
+pub record SayState (mirrors components : List Row) (s : Records) : Type 0 where
+  pub state : IsState s
+  pub mirrors_are : IsPermutation (map mirror_shown s.mirrors) (map (columns_at nine) mirrors)
+  pub components_are : IsPermutation (map component_shown s.components) (map (columns_at nine) components)
+
+-- all rows say a state, and intents that are readable for it, in their order
+pub record Say (f : Fetched) (s : Records) (ts : List Intent) : Type 0 where
+  pub about : IsAbout f.about.items
+  pub records : SayState f.mirrors.items f.components.items s
+  pub intents : map (columns_at six) f.intents.items ≡ numbered intent_shown 1 ts
+  pub readable : AreReadable s ts
+  pub commands : AreCommands f.commands.items

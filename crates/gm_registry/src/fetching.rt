@@ -1,0 +1,86 @@
+//! The tables as the store shows them.
+
+ghost use Rattle.std.specs.Prelude.{◌≡◌, ◌≢◌, IfOk, IfErr, OnOk, OnErr};
+ghost use Rattle.sqlite.specs.State.{HasCleanDisk};
+ghost use Rattle.sqlite.specs.Held.{state};
+ghost use Rattle.gm_registry.specs.Queries.{query_text, IsShown, IsInOrder, AreShown};
+ghost use Rattle.gm_registry.specs.Reads.{IsOurs, HasRead, HasFailed};
+
+use crate::fault::StoreFault;
+use sqlite::{Alter, Connection, Row};
+
+/// The tables of a registry.
+#[derive(Clone, Copy, Debug, PartialEq, Eq)]
+pub(crate) enum Table {
+    About,
+    Mirrors,
+    Components,
+    Intents,
+    Commands,
+}
+
+impl Table {
+    /// The query that shows all its rows: of intents by their numbers, else in any order.
+    fn query(self) -> &'static str
+        ensures { result.now ≡ query_text self }
+    {
+        match self {
+            Table::About => "SELECT one, schema_no FROM about",
+            Table::Mirrors => {
+                "SELECT name, mid, total, genid, syncid, slice, balance, mediasize, mflags FROM mirrors"
+            }
+            Table::Components => {
+                "SELECT prov, mirror, did, syncid, priority, sync_offset, dflags, hard, provsize FROM components"
+            }
+            Table::Intents => {
+                "SELECT ord, kind, prov, source, first_sector, end_sector FROM intents ORDER BY ord"
+            }
+            Table::Commands => "SELECT seq, copied, of_total FROM commands",
+        }
+    }
+}
+
+/// All rows of a table.
+fn rows_of<S: Alter>(conn: &mut Connection<S>, table: Table) -> Result<Vec<Row>, StoreFault>
+    ensures rows { HasCleanDisk (state S.Store conn.new) → IfOk result (λ rows. IsOurs (state S.Store conn.old) → IsShown (state S.Store conn.old).now.trees table rows.items) }
+    ensures in_order { table ≡ Table.Intents → HasCleanDisk (state S.Store conn.new) → IfOk result (λ rows. IsOurs (state S.Store conn.old) → IsInOrder rows.items) }
+    ensures read { OnOk result (HasRead (state S.Store conn.old) (state S.Store conn.new)) }
+    ensures failed { OnErr result (HasFailed (state S.Store conn.old) (state S.Store conn.new)) }
+    ensures fault { IfErr result (λ e. e ≢ StoreFault.Unreadable) }
+{
+    match conn.query_all(table.query(), &[]) {
+        Ok(rows) => Ok(rows),
+        Err(error) => Err(StoreFault::of(error)),
+    }
+}
+
+/// The rows of all tables, as their queries show them.
+#[derive(Debug, Drop)]
+pub(crate) struct Fetched {
+    pub about: Vec<Row>,
+    pub mirrors: Vec<Row>,
+    pub components: Vec<Row>,
+    pub intents: Vec<Row>,
+    pub commands: Vec<Row>,
+}
+
+/// Reads all tables.
+pub(crate) fn fetch<S: Alter>(conn: &mut Connection<S>) -> Result<Fetched, StoreFault>
+    ensures rows { HasCleanDisk (state S.Store conn.new) → IfOk result (λ f. IsOurs (state S.Store conn.old) → AreShown (state S.Store conn.old).now.trees f) }
+    ensures read { OnOk result (HasRead (state S.Store conn.old) (state S.Store conn.new)) }
+    ensures failed { OnErr result (HasFailed (state S.Store conn.old) (state S.Store conn.new)) }
+    ensures fault { IfErr result (λ e. e ≢ StoreFault.Unreadable) }
+{
+    let about = rows_of(conn, Table::About)?;
+    let mirrors = rows_of(conn, Table::Mirrors)?;
+    let components = rows_of(conn, Table::Components)?;
+    let intents = rows_of(conn, Table::Intents)?;
+    let commands = rows_of(conn, Table::Commands)?;
+    Ok(Fetched {
+        about,
+        mirrors,
+        components,
+        intents,
+        commands,
+    })
+}

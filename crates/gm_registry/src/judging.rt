@@ -1,0 +1,89 @@
+//! What the rows of all tables say, where they say a state.
+
+ghost use Rattle.std.specs.Prelude.{◌≡◌, ◌↔◌, IsTrue, List, IfOk, IfErr};
+ghost use Rattle.sqlite.specs.Order.{column};
+ghost use Rattle.gm_state.specs.declared.command.Intent.{Intent};
+ghost use Rattle.gm_state.specs.Records.{Records};
+ghost use Rattle.gm_registry.specs.Says.{IsBetween, IsCommand, IsAbout, AreCommands, SayState, Say};
+
+use crate::cells::{is_number_at, u64_at};
+use crate::fault::StoreFault;
+use crate::fetching::Fetched;
+use crate::readable::are_readable;
+use crate::rows::read_all;
+use gm_state::{Component, Intent, Mirror, State, one_row};
+use sqlite::Row;
+use std::alloc::Global;
+
+/// The most commands that are accepted.
+pub const MAX_COMMANDS: usize = 100_000;
+/// The most sectors that a reply can tell.
+const MAX_COPIED: u64 = 1_048_576;
+
+fn is_between(row: &Row, at: usize, low: u64, high: u64) -> bool
+    ensures { IsTrue result ↔ IsBetween low high (column row.now at) }
+{
+    match u64_at(row, at) {
+        Some(number) => low <= number && number <= high,
+        None => false,
+    }
+}
+
+fn is_command(row: &Row, count: usize) -> bool
+    ensures { IsTrue result ↔ IsCommand count row.now }
+{
+    is_between(row, 0, 1, count as u64)
+        && is_between(row, 1, 0, MAX_COPIED)
+        && is_between(row, 2, 0, MAX_COPIED)
+}
+
+fn are_commands(rows: &[Row]) -> bool
+    ensures { IsTrue result ↔ AreCommands rows.now }
+{
+    if rows.len() > MAX_COMMANDS {
+        return false;
+    }
+    'rows: for row in rows {
+        if !is_command(row, rows.len()) {
+            return false;
+        }
+    }
+    true
+}
+
+fn is_about(rows: &[Row]) -> bool
+    ensures { IsTrue result ↔ IsAbout rows.now }
+{
+    rows.len() == 1 && is_number_at(&rows[0], 0, 1) && is_number_at(&rows[0], 1, 1)
+}
+
+/// The state that the rows of mirrors and components say; `Unreadable` where they say none.
+fn read_state(alloc: Global, mirrors: &[Row], components: &[Row]) -> Result<State, StoreFault>
+    ensures says { IfOk result (λ s. SayState mirrors.now components.now s) }
+    ensures only { IfOk result (λ s. (other : Records) → SayState mirrors.now components.now other → other ≡ s) }
+    ensures unreadable { IfErr result (λ e. e ≡ StoreFault.Unreadable → (s : Records) → SayState mirrors.now components.now s → ⊥) }
+{
+    one_row();
+    let mirrors: Vec<Mirror> = read_all(alloc, mirrors)?;
+    let components: Vec<Component> = read_all(alloc, components)?;
+    match State::new(mirrors, components) {
+        Some(state) => Ok(state),
+        None => Err(StoreFault::Unreadable),
+    }
+}
+
+/// The state and the intents that all rows say; `Unreadable` where they say none.
+pub(crate) fn judge(alloc: Global, fetched: &Fetched) -> Result<(State, Vec<Intent>), StoreFault>
+    ensures says { IfOk result (λ r. Say fetched.now r.0 r.1.items) }
+    ensures unreadable { IfErr result (λ e. e ≡ StoreFault.Unreadable → (s : Records) (ts : List Intent) → Say fetched.now s ts → ⊥) }
+{
+    if !is_about(&fetched.about) || !are_commands(&fetched.commands) {
+        return Err(StoreFault::Unreadable);
+    }
+    let state = read_state(alloc, &fetched.mirrors, &fetched.components)?;
+    let intents: Vec<Intent> = read_all(alloc, &fetched.intents)?;
+    if !are_readable(&state, &intents) {
+        return Err(StoreFault::Unreadable);
+    }
+    Ok((state, intents))
+}

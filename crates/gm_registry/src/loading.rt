@@ -1,0 +1,34 @@
+//! The state and the pending intents that a registry holds.
+
+ghost use Rattle.std.specs.Prelude.{◌≡◌, ◌≤◌, IsTrue, List, IfOk, IfErr, OnErr};
+ghost use Rattle.sqlite_trees.specs.View.{doubt};
+ghost use Rattle.sqlite.specs.State.{HasCleanDisk, Survives};
+ghost use Rattle.sqlite.specs.Held.{state};
+ghost use Rattle.gm_state.specs.declared.command.Intent.{Intent};
+ghost use Rattle.gm_state.specs.Records.{Records};
+ghost use Rattle.gm_state.specs.Rows.{Tables};
+ghost use Rattle.gm_registry.specs.Tables.{HasTables};
+ghost use Rattle.gm_registry.specs.Reading.{AreTablesOf};
+
+use crate::fault::StoreFault;
+use crate::fetching::fetch;
+use crate::judging::judge;
+use gm_state::{Intent, State};
+use sqlite::{Alter, Connection};
+use std::alloc::Global;
+
+/// Reads all tables, and tells the state and the pending intents that they hold.
+pub(crate) fn load_on<S: Alter>(
+    alloc: Global,
+    conn: &mut Connection<S>,
+) -> Result<(State, Vec<Intent>), StoreFault>
+    ensures loaded { HasCleanDisk (state S.Store conn.new) → IfOk result (λ r. (t : Tables) → HasTables (state S.Store conn.old) t → AreTablesOf t r.0 r.1.items × HasTables (state S.Store conn.new) t) }
+    ensures unreadable { HasCleanDisk (state S.Store conn.new) → IfErr result (λ e. e ≡ StoreFault.Unreadable
+        → (t : Tables) (s : Records) (ts : List Intent) → HasTables (state S.Store conn.old) t → AreTablesOf t s ts → ⊥) }
+    ensures refused { HasCleanDisk (state S.Store conn.new) → OnErr result ((t : Tables) → HasTables (state S.Store conn.old) t → IsTrue (state S.Store conn.new).is_open → HasTables (state S.Store conn.new) t) }
+    ensures left { (t : Tables) → HasTables (state S.Store conn.old) t → Survives (state S.Store conn.old) (state S.Store conn.new) (λ _. ⊥) }
+    ensures clean { doubt (state S.Store conn.old).is_clean ≤ doubt (state S.Store conn.new).is_clean }
+{
+    let fetched = fetch(conn)?;
+    judge(alloc, &fetched)
+}
