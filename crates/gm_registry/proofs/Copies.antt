@@ -72,8 +72,7 @@ module _ (s : Records) where
         let to_same : w.to ≡ to = cc in
         let g : Some w.mirror ≡ Some m = sym mirror_found ∙ (ap (λ (k : Component). mirror_of s k.mirror) to_same ∙ m_is) in
         let m_same : w.mirror ≡ m = cc in
-        let one_mirror : w.from.mirror ≡ w.to.mirror = (member_is w.mirror w.from w.from_is).1 ∙ sym (member_is w.mirror w.to w.to_is).1 in
-        (
+        let one_mirror : w.from.mirror ≡ w.to.mirror = (member_is w.mirror w.from w.from_is).1 ∙ sym (member_is w.mirror w.to w.to_is).1 in (
           ap (λ (k : Component). k.mirror) (sym from_same) ∙ (one_mirror ∙ ap (λ (k : Component). k.mirror) to_same),
           (λ same. w.other (sym w.source_is ∙ (ap (λ (k : Component). k.provider) from_same ∙ (same ∙ (ap (λ (k : Component). k.provider) (sym to_same) ∙ w.target_is))))),
           ap (λ (k : Component). k.disk) (sym from_same) ∙ w.active,

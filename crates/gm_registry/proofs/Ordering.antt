@@ -48,15 +48,15 @@ in_order db rows a =
     let first : All SortsByFirst a.ordered = All-permutation SortsByFirst (map out (db 7)) a.ordered (subst (λ k. IsPermutation k a.ordered) kept a.same) (All-from_recursion SortsByFirst (map out (db 7)) (all_sort (db 7))) in
     let shown : rows ≡ map (λ (o : Output). o.1) a.ordered = a.shown in
     subst IsInOrder (sym shown) (λ k d low high.
-        let e : Output = (column d 0 ∷ [], d) in
-        let high' : k + 1 < length a.ordered = omega (arith, length-map a.ordered (λ (o : Output). o.1)) in
-        let x = get_or a.ordered (k + 1) e in
-        let y = get_or a.ordered k e in
-        let sorted : is_lt (output_cmp (query_of Intents) x y) ≡ false = a.sorted k e low high' in
-        let x_first : column x.0 0 ≡ column x.1 0 = ap (λ r. column r 0) (first (k + 1) e high') in
-        let y_first : column y.0 0 ≡ column y.1 0 = ap (λ r. column r 0) (first k e (omega arith)) in
-        let by_shown : is_lt (value_cmp (column x.1 0) (column y.1 0)) ≡ false = subst₂ (λ v w. is_lt (value_cmp v w) ≡ false) x_first y_first (ap is_lt (sym (sorts_by x y)) ∙ sorted) in
-        subst₂ (λ v w. is_lt (value_cmp (column v 0) (column w 0)) ≡ false) (sym (get_or-map (λ (o : Output). o.1) a.ordered (k + 1) e d high')) (sym (get_or-map (λ (o : Output). o.1) a.ordered k e d (omega arith))) by_shown)
+    let e : Output = (column d 0 ∷ [], d) in
+    let high' : k + 1 < length a.ordered = omega (arith, length-map a.ordered (λ (o : Output). o.1)) in
+    let x = get_or a.ordered (k + 1) e in
+    let y = get_or a.ordered k e in
+    let sorted : is_lt (output_cmp (query_of Intents) x y) ≡ false = a.sorted k e low high' in
+    let x_first : column x.0 0 ≡ column x.1 0 = ap (λ r. column r 0) (first (k + 1) e high') in
+    let y_first : column y.0 0 ≡ column y.1 0 = ap (λ r. column r 0) (first k e (omega arith)) in
+    let by_shown : is_lt (value_cmp (column x.1 0) (column y.1 0)) ≡ false = subst₂ (λ v w. is_lt (value_cmp v w) ≡ false) x_first y_first (ap is_lt (sym (sorts_by x y)) ∙ sorted) in
+    subst₂ (λ v w. is_lt (value_cmp (column v 0) (column w 0)) ≡ false) (sym (get_or-map (λ (o : Output). o.1) a.ordered (k + 1) e d high')) (sym (get_or-map (λ (o : Output). o.1) a.ordered k e d (omega arith))) by_shown)
 
 -- the number in a row's first column
 abbrev number_in : Value → List ℕ

@@ -50,7 +50,7 @@ fn rows_of<S: Alter>(conn: &mut Connection<S>, table: Table) -> Result<Vec<Row>,
 {
     match conn.query_all(table.query(), &[]) {
         Ok(rows) => Ok(rows),
-        Err(error) => Err(StoreFault::of(error)),
+        Err(error) => Err(StoreFault::from(error)),
     }
 }
 

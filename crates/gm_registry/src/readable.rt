@@ -60,7 +60,12 @@ fn is_copy_to(intent: &Intent, provider: Label) -> bool
     ensures { result ≡ is_copy_to provider intent.now }
 {
     match intent {
-        Intent::Copy { source: _, target, first: _, end: _ } => *target == provider,
+        Intent::Copy {
+            source: _,
+            target,
+            first: _,
+            end: _,
+        } => *target == provider,
         Intent::Meta { .. } | Intent::Clear { .. } => false,
     }
 }

@@ -15,8 +15,7 @@ pub returns-in-Some : goal.returns-in-Some
 returns-in-Some c =
     let from = sym c.component.ensures.value ∙ c.in-Some-Some.is-0 in
     let to = sym c.component-2.ensures.value ∙ c.in-Some-Some.is-1 in
-    let mirror = sym c.mirror.ensures.value ∙ c.in-Some.is in
-    (
+    let mirror = sym c.mirror.ensures.value ∙ c.in-Some.is in (
       (λ t. copy_is c.args.state.now c.args.source c.args.target c.args.first c.args.end c.in-Some-Some.from c.in-Some-Some.to c.in-Some.mirror from to mirror (c.lends.ensures.0 t)),
       (λ w. c.lends.ensures.1 (lent c.args.state.now c.component.ensures.state c.args.source c.args.target c.args.first c.args.end w c.in-Some-Some.from c.in-Some-Some.to c.in-Some.mirror from to mirror)),
     )
