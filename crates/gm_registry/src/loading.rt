@@ -32,3 +32,6 @@ pub(crate) fn load_on<S: Alter>(
     let fetched = fetch(conn)?;
     judge(alloc, &fetched)
 }
+
+#[cfg(test)]
+mod tests;
