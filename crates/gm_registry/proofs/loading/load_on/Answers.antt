@@ -1,7 +1,7 @@
 use Rattle.std.proofs.Common.{IfOk, IfErr, OnErr, Result, Ok, Err}
 use Rattle.sqlite.specs.Held.{state}
 use Rattle.sqlite_rows.proofs.Refusing.{if_ok, on_err}
-use Rattle.gm_registry.proofs.Passing.{ours, counted, tables_stay, tables_refused, nothing_new}
+use Rattle.gm_registry.proofs.Passing.{ours, counted, tables_stay, tables_refused, nothing_new, read_leaves, failed_leaves}
 use Rattle.gm_registry.proofs.Telling.{says_tables, tables_said}
 use Rattle.gm_registry.proofs.loading.load_on.Goals as goal
 
@@ -30,3 +30,6 @@ returns-clause-refused g c clean =
 
 pub returns-clause-left : goal.returns-clause-left
 returns-clause-left g c t was = nothing_new (state g.S.Store c.args.conn.now) (state g.S.Store c.fetch.new.conn) t c.in_ok-fetched.ensures.read.left was
+
+pub returns-clause-untouched : goal.returns-clause-untouched
+returns-clause-untouched g c = read_leaves (state g.S.Store c.args.conn.now) (state g.S.Store c.fetch.new.conn) c.in_ok-fetched.ensures.read
