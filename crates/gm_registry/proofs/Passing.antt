@@ -87,7 +87,7 @@ nothing_new old new t left was = survives_weaker old new _ _ (λ _ db none. none
 
 -- ---- over whatever rows a registry holds
 
-registry_ours : (s : State) → IsRegistry s → IsOurs s
+pub registry_ours : (s : State) → IsRegistry s → IsOurs s
 registry_ours s was = ap (λ (d : Database). d.schema) was.settled ∙ was.schema_is
 
 pub read_leaves : (old new : State) → HasRead old new → IsRegistry old → Leaves old new
