@@ -58,6 +58,3 @@ impl<S: Alter> Registry<S> {
         load_on(alloc, &mut self.conn)
     }
 }
-
-#[cfg(test)]
-mod tests;
