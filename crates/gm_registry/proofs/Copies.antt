@@ -15,16 +15,6 @@ use Rattle.gm_state.proofs.Finding.{found, find_one}
 use Rattle.gm_rules.proofs.Good.{named}
 use Rattle.gm_state.specs.Readable.{IsCopyWithin}
 
--- a mirror is found by its name
-find_mirror : (ms : List Mirror) → Ascends name ms → (m : Mirror) → Has ms m → find (λ j. same_label j.name m.name) ms ≡ Some m
-find_mirror [] a m h = absurd h
-find_mirror (j ∷ js) a m (inl s) = rw (same_from j.name m.name (ap name s)) (ap Some s)
-find_mirror (j ∷ js) a m (inr h) =
-    elim (cases_Bool (same_label j.name m.name)) [
-      | inl e ↦ rw e (ap Some (one name (j ∷ js) a j m (inl refl) (inr h) (same_is j.name m.name e)))
-      | inr e ↦ rw e (find_mirror js a.1 m h)
-    ]
-
 module _ (s : Records) where
   pub member_is : (m : Mirror) (k : Component) → IsOf s m k → Has s.components k × (k.mirror ≡ m.name)
   member_is m k of =
@@ -48,7 +38,7 @@ module _ (s : Records) where
     target_found = subst (λ p. component_of s p ≡ Some w.to) w.target_is (find_one provider s.components state.components_in_order w.to (member_is w.mirror w.to w.to_is).0)
 
     pub mirror_found : mirror_of s w.to.mirror ≡ Some w.mirror
-    mirror_found = subst (λ n. mirror_of s n ≡ Some w.mirror) (sym (member_is w.mirror w.to w.to_is).1) (find_mirror s.mirrors state.mirrors_in_order w.mirror w.to_is.mirror)
+    mirror_found = subst (λ n. mirror_of s n ≡ Some w.mirror) (sym (member_is w.mirror w.to w.to_is).1) (find_one name s.mirrors state.mirrors_in_order w.mirror w.to_is.mirror)
 
     pub no_source : component_of s source ≡ None → ⊥
     no_source none = let e : Some w.from ≡ None = sym source_found ∙ none in cc

@@ -6,6 +6,8 @@ pub mod Listed
 pub mod Replying
 pub mod Lasting
 pub mod Counting
+pub mod Making
+pub mod Standing
 pub mod Numbering
 pub mod Asking
 pub mod Ordering

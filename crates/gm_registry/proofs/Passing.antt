@@ -8,8 +8,8 @@ use Rattle.sqlite_rows.proofs.Statements.{settled_schema, settled_rows, rolled, 
 use Rattle.sqlite_rows.proofs.Refusing.{unchanged_has}
 use Rattle.gm_state.specs.Rows.{Tables}
 use Rattle.gm_registry.specs.Schema.{registry_schema}
-use Rattle.gm_registry.specs.Tables.{HasTables, HasCounted}
-use Rattle.gm_registry.specs.Reads.{IsOurs, HasRead, HasFailed}
+use Rattle.gm_registry.specs.Tables.{HasTables, HasCounted, IsRegistry}
+use Rattle.gm_registry.specs.Reads.{IsOurs, HasRead, HasFailed, Leaves}
 
 unchanged_then : (a b c : State) → IsUnchanged a b → IsUnchanged b c → IsUnchanged a c
 unchanged_then a b c u v = (
@@ -84,3 +84,20 @@ tables_refused old new t failed clean was is = elim (failed.refused clean (ours 
 
 pub nothing_new : (old new : State) (t : Tables) → Survives old new (λ _. ¬ (IsOurs old)) → HasTables old t → Survives old new (λ _. ⊥)
 nothing_new old new t left was = survives_weaker old new _ _ (λ _ db none. none (ours old t was)) left
+
+-- ---- over whatever rows a registry holds
+
+pub registry_ours : (s : State) → IsRegistry s → IsOurs s
+registry_ours s was = ap (λ (d : Database). d.schema) was.settled ∙ was.schema_is
+
+pub read_leaves : (old new : State) → HasRead old new → IsRegistry old → Leaves old new
+read_leaves old new read was = record {
+  tables = λ clean is. (read.unchanged clean (registry_ours old was)).0.committed_is;
+  crash = survives_weaker old new _ _ (λ _ db none. none (registry_ours old was)) read.left;
+}
+
+pub failed_leaves : (old new : State) → HasFailed old new → IsRegistry old → Leaves old new
+failed_leaves old new failed was = record {
+  tables = λ clean is. elim (failed.refused clean (registry_ours old was) is) [ inl same ↦ same.0.committed_is | inr undone ↦ (undone.undone is).1 ];
+  crash = survives_weaker old new _ _ (λ _ db none. none (registry_ours old was)) failed.left;
+}

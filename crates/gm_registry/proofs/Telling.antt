@@ -21,7 +21,7 @@ use Rattle.gm_registry.specs.Tables.{HasRows, HasCounted, AreNumbered, numbers_o
 use Rattle.gm_registry.specs.Reading.{AreTablesOf, IsInRange}
 use Rattle.gm_registry.specs.Values.{columns_at, numbered, two, six, nine, shown_intent}
 use Rattle.gm_registry.specs.Queries.{AreShown, shown_places}
-use Rattle.gm_registry.specs.Says.{mirror_shown, component_shown, intent_shown, IsBetween, IsCommand, IsAbout, AreCommands, Say}
+use Rattle.gm_registry.specs.Says.{mirror_shown, component_shown, intent_shown, IsBetween, IsCommand, IsAbout, AreCommands, Say, TablesSay}
 use Rattle.gm_registry.specs.declared.fetching.Fetched.{Fetched}
 use Rattle.gm_registry.specs.declared.fetching.Table.TheVariants.{About, Mirrors, Components, Intents, Commands}
 use Rattle.gm_registry.proofs.Reordering.{same_records}
@@ -221,4 +221,64 @@ tables_said db t f s ts has are says =
       readable = says.readable;
       commands = commands_kept t f commands says.commands;
       count = omega (arith, many, count);
+    }
+
+-- ---- whatever the tables were to hold
+
+nine_again : (row : Row) → columns_at nine (columns_at (shown_places Mirrors) row) ≡ columns_at (shown_places Mirrors) row
+nine_again row = refl
+
+six_again : (row : Row) → columns_at six (columns_at (shown_places Intents) row) ≡ columns_at (shown_places Intents) row
+six_again row = refl
+
+two_again : (row : Row) → columns_at two (columns_at (shown_places About) row) ≡ columns_at (shown_places About) row
+two_again row = refl
+
+-- rows that say something say tables that do
+pub any_tables : (db : Trees) (f : Fetched) (s : Records) (ts : List Intent) → AreShown db f → Say f s ts → TablesSay db s ts
+any_tables db f s ts are says =
+    let one : List Row = (Int (pos 1) ∷ Int (pos 1) ∷ []) ∷ [] in
+    let about : IsPermutation (map (columns_at (shown_places About)) (db 0)) one =
+    subst (IsPermutation (map (columns_at (shown_places About)) (db 0))) says.about (again_shown (columns_at two) (columns_at (shown_places About)) two_again (db 0) f.about.items are.about) in
+    let mirrors = again_shown (columns_at nine) (columns_at (shown_places Mirrors)) nine_again (db 1) f.mirrors.items are.mirrors in
+    let components = again_shown (columns_at nine) (columns_at (shown_places Components)) nine_again (db 4) f.components.items are.components in
+    let intents = again_shown (columns_at six) (columns_at (shown_places Intents)) six_again (db 7) f.intents.items are.intents in
+    let stored = columns_at (shown_places Commands) in
+    let many : length f.commands.items ≡ length (db 8) = length_permutation _ _ are.commands ∙ length-map (db 8) stored in
+    record {
+      state = says.records.state;
+      about = one_permutation (Int (pos 1) ∷ Int (pos 1) ∷ []) _ (IsPermutation-sym _ _ about);
+      mirrors = IsPermutation-trans _ _ _ says.records.mirrors_are (IsPermutation-sym _ _ mirrors);
+      components = IsPermutation-trans _ _ _ says.records.components_are (IsPermutation-sym _ _ components);
+      intents = IsPermutation-sym _ _ (subst (IsPermutation (map (columns_at (shown_places Intents)) (db 7))) says.intents intents);
+      readable = says.readable;
+      count = subst (λ n. n ≤ 100000) many says.commands.count;
+      commands = λ row has. subst (λ n. IsCommand n (stored row)) many (says.commands.each (stored row) (Has-permutation (map stored (db 8)) f.commands.items (stored row) are.commands (has_mapped stored (db 8) row has)));
+    }
+
+-- and tables that say something are shown by rows that do
+pub any_rows : (db : Trees) (f : Fetched) (s : Records) (ts : List Intent) → AreShown db f → TablesSay db s ts → Say f s ts
+any_rows db f s ts are of =
+    let one : List Row = (Int (pos 1) ∷ Int (pos 1) ∷ []) ∷ [] in
+    let about : f.about.items ≡ one = one_permutation (Int (pos 1) ∷ Int (pos 1) ∷ []) f.about.items (subst (λ l. IsPermutation l f.about.items) of.about are.about) in
+    let mirrors = again_shown (columns_at nine) (columns_at (shown_places Mirrors)) nine_again (db 1) f.mirrors.items are.mirrors in
+    let components = again_shown (columns_at nine) (columns_at (shown_places Components)) nine_again (db 4) f.components.items are.components in
+    let intents : f.intents.items ≡ numbered intent_shown 1 ts = one_order intent_shown first_is_number f.intents.items ts (IsPermutation-trans _ _ _ of.intents are.intents) are.in_order in
+    let stored = columns_at (shown_places Commands) in
+    let many : length f.commands.items ≡ length (db 8) = length_permutation _ _ are.commands ∙ length-map (db 8) stored in
+    record {
+      about = ap (map (columns_at two)) about;
+      records = record {
+        state = of.state;
+        mirrors_are = IsPermutation-trans _ _ _ of.mirrors mirrors;
+        components_are = IsPermutation-trans _ _ _ of.components components;
+      };
+      intents = ap (map (columns_at six)) intents ∙ read_again 1 ts;
+      readable = of.readable;
+      commands = record {
+        count = subst (λ n. n ≤ 100000) (sym many) of.count;
+        each = λ row has.
+            let from = mapped_from stored (db 8) row (Has-permutation f.commands.items (map stored (db 8)) row (IsPermutation-sym _ _ are.commands) has) in
+            subst₂ IsCommand (sym many) from.2 (of.commands from.0 from.1);
+      };
     }

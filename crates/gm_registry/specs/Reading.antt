@@ -1,5 +1,5 @@
 -- When the tables are readable, and as what.
-use Rattle.std.specs.Prelude.{◌≤◌, ℕ, List, length, map}
+use Rattle.std.specs.Prelude.{◌≤◌, List, length, map}
 use Rattle.std.specs.List.Sorted.{IsPermutation}
 use Rattle.sqlite.specs.Tree.{Trees}
 use Rattle.gm_state.specs.declared.command.Intent.{Intent}

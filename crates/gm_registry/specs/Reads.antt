@@ -16,3 +16,8 @@ pub record HasRead (old new : State) : Type 0 where
 pub record HasFailed (old new : State) : Type 0 where
   pub refused : HasCleanDisk new → IsOurs old → IsTrue new.is_open → IsUnchanged old new ⊎ IsRolledBack old new
   pub left : Survives old new (λ _. ¬ (IsOurs old))
+
+-- whatever the tables hold, they stay while the connection is open, and a crash leaves them and nothing else
+pub record Leaves (old new : State) : Type 0 where
+  pub tables : HasCleanDisk new → IsTrue new.is_open → new.committed ≡ old.committed
+  pub crash : Survives old new (λ _. ⊥)

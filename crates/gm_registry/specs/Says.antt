@@ -13,6 +13,9 @@ use Rattle.gm_state.specs.Rows.{mirror_row, component_row, intent_row}
 use Rattle.gm_registry.specs.Rows.{mirror_values, component_values}
 use Rattle.gm_state.specs.Readable.{AreReadable}
 use Rattle.gm_registry.specs.Values.{columns_at, numbered, two, six, nine, shown_intent}
+use Rattle.sqlite.specs.Tree.{Trees}
+use Rattle.gm_registry.specs.Queries.{shown_places}
+use Rattle.gm_registry.specs.declared.fetching.Table.TheVariants.{About, Mirrors, Components, Intents, Commands}
 use Rattle.gm_registry.specs.declared.fetching.Fetched.{Fetched}
 
 abbrev pub mirror_shown : Mirror → Row
@@ -56,3 +59,15 @@ pub record Say (f : Fetched) (s : Records) (ts : List Intent) : Type 0 where
   pub intents : map (columns_at six) f.intents.items ≡ numbered intent_shown 1 ts
   pub readable : AreReadable s ts
   pub commands : AreCommands f.commands.items
+
+-- The tables, whatever they were to hold, are those of a state and of intents that are readable for it: their columns say
+-- just these records, and the numbers of commands and replies are in range.
+pub record TablesSay (db : Trees) (s : Records) (ts : List Intent) : Type 0 where
+  pub state : IsState s
+  pub about : map (columns_at (shown_places About)) (db 0) ≡ (Int (pos 1) ∷ Int (pos 1) ∷ []) ∷ []
+  pub mirrors : IsPermutation (map mirror_shown s.mirrors) (map (columns_at (shown_places Mirrors)) (db 1))
+  pub components : IsPermutation (map component_shown s.components) (map (columns_at (shown_places Components)) (db 4))
+  pub intents : IsPermutation (numbered intent_shown 1 ts) (map (columns_at (shown_places Intents)) (db 7))
+  pub readable : AreReadable s ts
+  pub count : length (db 8) ≤ 100000
+  pub commands : (row : Row) → Has (db 8) row → IsCommand (length (db 8)) (columns_at (shown_places Commands) row)

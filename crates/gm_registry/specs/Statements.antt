@@ -33,3 +33,6 @@ find_command_text = codes "SELECT seq, words, copied, of_total FROM commands WHE
 
 abbrev pub last_command_text : List ℕ
 last_command_text = codes "SELECT seq FROM commands ORDER BY seq DESC LIMIT 1"
+
+abbrev pub load_texts_text : List ℕ
+load_texts_text = codes "SELECT sql FROM sqlite_schema WHERE sql IS NOT NULL ORDER BY rowid"

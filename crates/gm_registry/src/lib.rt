@@ -10,15 +10,21 @@ mod cells;
 mod columns;
 mod commands;
 mod components;
+mod creating;
 mod fault;
 mod fetching;
 mod intents;
 mod judging;
 mod loading;
 mod mirrors;
+mod opening;
 mod readable;
 mod reading;
+mod registry;
 mod replies;
 mod rows;
+#[cfg(test)]
+mod tests;
 
 pub use fault::StoreFault;
+pub use registry::{OpenFault, Registry};

@@ -41,7 +41,7 @@ module _ (schema after : Schema) (sql : List ℕ) (table : Table) (defined : tab
 
 module _ (old new : State) where
   -- one CREATE inside a transaction
-  creates : (sql : List ℕ) (schema after : Schema) (table : Table) (defined : table_defined_by sql ≡ Ok table) (is : created schema table ≡ after) → lacks_sequence after ≡ false
+  pub creates : (sql : List ℕ) (schema after : Schema) (table : Table) (defined : table_defined_by sql ≡ Ok table) (is : created schema table ≡ after) → lacks_sequence after ≡ false
       → command_of (understood schema sql) ≡ CreateTable → statement_of sql (understood schema sql) ≡ sql → IsPlain (understood schema sql) → (count : ℕ) → old.now.schema ≡ schema
       → ExecutesInside 0 sql [] old new (Ok count) → Creates schema after old.now new.now × Writes old new None CreateTable sql [] count
   creates sql schema after table defined is whole command text plain count has h =

@@ -122,3 +122,7 @@ module _ {R : Type 0} (of_schema : Schema) (Rows : Trees → R → Type 0) where
   asks_only sql params old new r was plain =
       survives_weaker old new _ _ (λ _ db. never_commits sql params old db (subst (λ s. IsPlain (understood s sql)) (sym (settled_schema of_schema Rows old r was)) plain))
 
+  pub shown_ok : {A : Type 0} (items : A → List Row) (sql : List ℕ) (params : Row) (old new : State) (x : Result A Error) → IsPlain (understood of_schema sql)
+      → IfOk x (λ rows. Shown sql params old new (items rows)) → OnOk x ((r : R) → HasRecords of_schema Rows old r → HasRecords of_schema Rows new r)
+  shown_ok items sql params old new (Ok rows) plain h = λ r was. shown_has sql params old new (items rows) r was plain h
+  shown_ok items sql params old new (Err e) plain h = tt

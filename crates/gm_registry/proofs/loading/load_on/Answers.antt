@@ -1,8 +1,8 @@
 use Rattle.std.proofs.Common.{IfOk, IfErr, OnErr, Result, Ok, Err}
 use Rattle.sqlite.specs.Held.{state}
 use Rattle.sqlite_rows.proofs.Refusing.{if_ok, on_err}
-use Rattle.gm_registry.proofs.Passing.{ours, counted, tables_stay, tables_refused, nothing_new}
-use Rattle.gm_registry.proofs.Telling.{says_tables, tables_said}
+use Rattle.gm_registry.proofs.Passing.{ours, counted, tables_stay, tables_refused, nothing_new, registry_ours, read_leaves, failed_leaves}
+use Rattle.gm_registry.proofs.Telling.{says_tables, tables_said, any_tables, any_rows}
 use Rattle.gm_registry.proofs.loading.load_on.Goals as goal
 
 if_err : {A E : Type 0} (x : Result A E) (P Q : E → Type 0) → ((e : E) → P e → Q e) → IfErr x P → IfErr x Q
@@ -30,3 +30,16 @@ returns-clause-refused g c clean =
 
 pub returns-clause-left : goal.returns-clause-left
 returns-clause-left g c t was = nothing_new (state g.S.Store c.args.conn.now) (state g.S.Store c.fetch.new.conn) t c.in_ok-fetched.ensures.read.left was
+
+pub returns-clause-untouched : goal.returns-clause-untouched
+returns-clause-untouched g c = read_leaves (state g.S.Store c.args.conn.now) (state g.S.Store c.fetch.new.conn) c.in_ok-fetched.ensures.read
+
+pub returns-clause-says : goal.returns-clause-says
+returns-clause-says g c clean =
+    let old = state g.S.Store c.args.conn.now in
+    if_ok c.judge.result _ _ (λ r says was. any_tables old.now.trees c.in_ok-fetched.fetched r.0 r.1.items (c.in_ok-fetched.ensures.rows clean (registry_ours old was)) says) c.judge.ensures.says
+
+pub returns-clause-silent : goal.returns-clause-silent
+returns-clause-silent g c clean =
+    let old = state g.S.Store c.args.conn.now in
+    if_err c.judge.result _ _ (λ e none is s ts was of. none is s ts (any_rows old.now.trees c.in_ok-fetched.fetched s ts (c.in_ok-fetched.ensures.rows clean (registry_ours old was)) of)) c.judge.ensures.unreadable

@@ -1,0 +1,4 @@
+use Rattle.gm_registry.proofs.registry.Registry.open.Goals as goal
+
+pub returns-in-Ok-clause-made : goal.returns-in-Ok-clause-made
+returns-in-Ok-clause-made g c is_open empty clean = c.in-Ok.ensures.made clean is_open empty

@@ -1,0 +1,326 @@
+//! Each statement once over memory, with values worked out by hand, and stores that hold something else.
+
+mod loading;
+
+use crate::{Registry, StoreFault};
+use gm_metadata::{Balance, Label, MirrorFlags};
+use gm_rules::{Change, Fact, Facts, decide};
+use gm_state::{BalanceWord, Command, Component, Disk, Mirror, Reply, Slice, State};
+use sqlite::{Alter, Connection, Error, MemStore};
+use std::alloc::Global;
+use std::test::Fail;
+
+const NO_FLAGS: MirrorFlags = MirrorFlags {
+    no_autosync: false,
+    no_failsync: false,
+};
+
+// One of the five texts alone.
+const MIRRORS: &str = "CREATE TABLE mirrors(name TEXT PRIMARY KEY NOT NULL, mid INTEGER NOT NULL UNIQUE,
+  total INTEGER NOT NULL, genid INTEGER NOT NULL, syncid INTEGER NOT NULL, slice INTEGER NOT NULL,
+  balance INTEGER NOT NULL, mediasize INTEGER NOT NULL, mflags INTEGER NOT NULL) STRICT";
+
+fn label(text: &str) -> Result<Label, Fail> {
+    Ok(Label::new(text).ok_or("no label")?)
+}
+
+fn mirror(all: u8) -> Result<Mirror, Fail> {
+    Ok(Mirror {
+        name: label("gm0")?,
+        mid: 7,
+        all,
+        genid: 0,
+        syncid: 1,
+        slice: 4096,
+        balance: Balance::Load,
+        data_sectors: 3,
+        flags: NO_FLAGS,
+    })
+}
+
+fn component(provider: &str, did: u32) -> Result<Component, Fail> {
+    Ok(Component {
+        provider: label(provider)?,
+        mirror: label("gm0")?,
+        did,
+        syncid: 1,
+        priority: 0,
+        disk: Disk::InSync,
+        hardcoded: false,
+        sectors: 4,
+    })
+}
+
+fn state(alloc: Global, mirrors: &[Mirror], components: &[Component]) -> Result<State, Fail> {
+    let mirrors = mirrors.to_vec(alloc)?;
+    let components = components.to_vec(alloc)?;
+    Ok(State::new(mirrors, components).ok_or("no state")?)
+}
+
+fn bare(provider: &str) -> Result<Fact, Fail> {
+    Ok(Fact {
+        provider: label(provider)?,
+        sectors: 4,
+        last: [0; 512],
+    })
+}
+
+fn change(
+    alloc: Global,
+    state: &State,
+    facts: &[Fact],
+    command: &Command,
+) -> Result<Change, Fail> {
+    let facts = Facts::new(facts.to_vec(alloc)?);
+    match decide(alloc, state, &facts, command)? {
+        Ok(change) => Ok(change),
+        Err(_) => Err("refused")?,
+    }
+}
+
+// gm0 on a.img, of four sectors.
+fn labels(alloc: Global) -> Result<Change, Fail> {
+    let command = Command::Label {
+        name: label("gm0")?,
+        provider: label("a.img")?,
+        mid: 7,
+        did: 1,
+        balance: BalanceWord::Load,
+        slice: Slice::new(4096).ok_or("no slice")?,
+        flags: NO_FLAGS,
+        hardcoded: true,
+    };
+    change(alloc, &state(alloc, &[], &[])?, &[bare("a.img")?], &command)
+}
+
+// b.img beside it.
+fn inserts(alloc: Global) -> Result<Change, Fail> {
+    let command = Command::Insert {
+        name: label("gm0")?,
+        provider: label("b.img")?,
+        did: 2,
+        priority: 9,
+        hardcoded: false,
+    };
+    let state = state(alloc, &[mirror(1)?], &[component("a.img", 1)?])?;
+    change(
+        alloc,
+        &state,
+        &[bare("a.img")?, bare("b.img")?],
+        &command,
+    )
+}
+
+// Both are gone.
+fn destroys(alloc: Global) -> Result<Change, Fail> {
+    let command = Command::Destroy {
+        name: label("gm0")?,
+    };
+    let state = state(
+        alloc,
+        &[mirror(2)?],
+        &[component("a.img", 1)?, component("b.img", 2)?],
+    )?;
+    change(
+        alloc,
+        &state,
+        &[bare("a.img")?, bare("b.img")?],
+        &command,
+    )
+}
+
+// These have no clause, so that the proof of a test doesn't carry the state of each call.
+fn open<S: Alter + Drop>(store: Connection<S>) -> Result<Registry<S>, StoreFault> {
+    if !store.is_autocommit() {
+        return Err(StoreFault::Store);
+    }
+    match Registry::open(store) {
+        Ok(registry) => Ok(registry),
+        Err(fault) => Err(fault.fault),
+    }
+}
+
+fn accept<S: Alter>(
+    registry: &mut Registry<S>,
+    change: &Change,
+    key: &str,
+    words: &str,
+) -> Result<u64, StoreFault> {
+    registry.accept(change, key, words)
+}
+
+fn accepted<S: Alter>(registry: &mut Registry<S>) -> Result<u64, StoreFault> {
+    registry.accepted()
+}
+
+fn settle<S: Alter>(registry: &mut Registry<S>) -> Result<(), StoreFault> {
+    registry.settle()
+}
+
+fn is_kept<S: Alter>(
+    registry: &mut Registry<S>,
+    key: &str,
+    number: u64,
+    words: &str,
+) -> Result<bool, StoreFault> {
+    match registry.reply_of(key)? {
+        None => Ok(false),
+        Some((at, text, reply)) => {
+            Ok(at == number && text.as_str() == words && reply == Reply::Plain)
+        }
+    }
+}
+
+fn is_free<S: Alter>(registry: &mut Registry<S>, key: &str) -> Result<bool, StoreFault> {
+    Ok(registry.reply_of(key)?.is_none())
+}
+
+fn number<S: Alter>(store: &mut Connection<S>, sql: &str) -> Result<i64, Error> {
+    store.query_row(sql, &[])?.get(0)
+}
+
+fn run<S: Alter>(store: &mut Connection<S>, sql: &str) -> Result<usize, Error> {
+    store.execute(sql, &[])
+}
+
+fn fresh(alloc: Global) -> Result<Registry<MemStore>, Fail> {
+    Ok(open(Connection::open_in_memory(alloc)?)?)
+}
+
+// gm0 with a.img and b.img, by two commands.
+fn filled(alloc: Global) -> Result<Registry<MemStore>, Fail> {
+    let mut registry = fresh(alloc)?;
+    accept(&mut registry, &labels(alloc)?, "k1", "label gm0 a.img")?;
+    settle(&mut registry)?;
+    accept(&mut registry, &inserts(alloc)?, "k2", "insert gm0 b.img")?;
+    Ok(registry)
+}
+
+#[test]
+fn an_empty_store_is_a_registry_without_records(rt: HostRuntime) -> Result<(), Fail> {
+    let mut registry = fresh(rt.alloc())?;
+    assert_eq!(rt; accepted(&mut registry)?, 0);
+    assert!(rt; is_free(&mut registry, "k1")?);
+    let mut store = registry.close();
+    assert_eq!(rt; number(&mut store, "SELECT count(*) FROM about WHERE one = 1 AND schema_no = 1")?, 1);
+    assert_eq!(rt; number(&mut store, "SELECT count(*) FROM mirrors")?, 0);
+    Ok(())
+}
+
+#[test]
+fn accepted_commands_are_numbered_and_kept(rt: HostRuntime) -> Result<(), Fail> {
+    let mut registry = filled(rt.alloc())?;
+    assert_eq!(rt; accepted(&mut registry)?, 2);
+    assert!(rt; is_kept(&mut registry, "k1", 1, "label gm0 a.img")?);
+    assert!(rt; is_kept(&mut registry, "k2", 2, "insert gm0 b.img")?);
+    assert!(rt; is_free(&mut registry, "k3")?);
+    Ok(())
+}
+
+#[test]
+fn rows_hold_bytes_codes_and_flags(rt: HostRuntime) -> Result<(), Fail> {
+    let mut store = filled(rt.alloc())?.close();
+    assert_eq!(rt; number(&mut store, "SELECT count(*) FROM mirrors WHERE name = 'gm0' AND mid = 7 AND total = 2 AND genid = 0 AND syncid = 1 AND slice = 4096 AND balance = 2 AND mediasize = 1536 AND mflags = 0")?, 1);
+    assert_eq!(rt; number(&mut store, "SELECT count(*) FROM components WHERE prov = 'a.img' AND mirror = 'gm0' AND did = 1 AND syncid = 1 AND priority = 0 AND sync_offset = 0 AND dflags = 0 AND hard = 1 AND provsize = 2048")?, 1);
+    assert_eq!(rt; number(&mut store, "SELECT count(*) FROM components WHERE prov = 'b.img' AND did = 2 AND priority = 9 AND dflags = 2 AND hard = 0")?, 1);
+    assert_eq!(rt; number(&mut store, "SELECT count(*) FROM commands WHERE copied = 0 AND of_total = 0")?, 2);
+    Ok(())
+}
+
+#[test]
+fn intents_are_numbered_and_settled(rt: HostRuntime) -> Result<(), Fail> {
+    let mut store = filled(rt.alloc())?.close();
+    assert_eq!(rt; number(&mut store, "SELECT count(*) FROM intents WHERE kind = 1 AND source = '' AND first_sector = 0 AND end_sector = 0")?, 2);
+    assert_eq!(rt; number(&mut store, "SELECT ord FROM intents WHERE prov = 'a.img'")?, 1);
+    assert_eq!(rt; number(&mut store, "SELECT ord FROM intents WHERE prov = 'b.img'")?, 2);
+    let mut registry = open(store)?;
+    settle(&mut registry)?;
+    assert_eq!(rt; accepted(&mut registry)?, 2);
+    let mut store = registry.close();
+    assert_eq!(rt; number(&mut store, "SELECT count(*) FROM intents")?, 0);
+    Ok(())
+}
+
+#[test]
+fn a_change_writes_only_what_it_names(rt: HostRuntime) -> Result<(), Fail> {
+    let mut registry = fresh(rt.alloc())?;
+    accept(&mut registry, &labels(rt.alloc())?, "k1", "label gm0 a.img")?;
+    settle(&mut registry)?;
+    let mut store = registry.close();
+    run(&mut store, "INSERT INTO mirrors VALUES ('gm9', 9, 1, 0, 1, 4096, 2, 1536, 0)")?;
+    run(&mut store, "INSERT INTO components VALUES ('z.img', 'gm9', 1, 1, 77, 0, 0, 0, 2048)")?;
+    let mut registry = open(store)?;
+    accept(&mut registry, &inserts(rt.alloc())?, "k2", "insert gm0 b.img")?;
+    let mut store = registry.close();
+    assert_eq!(rt; number(&mut store, "SELECT priority FROM components WHERE prov = 'z.img'")?, 77);
+    assert_eq!(rt; number(&mut store, "SELECT count(*) FROM components")?, 3);
+    Ok(())
+}
+
+#[test]
+fn a_destroyed_mirror_leaves_no_row(rt: HostRuntime) -> Result<(), Fail> {
+    let mut registry = filled(rt.alloc())?;
+    settle(&mut registry)?;
+    accept(&mut registry, &destroys(rt.alloc())?, "k3", "destroy gm0")?;
+    let mut store = registry.close();
+    assert_eq!(rt; number(&mut store, "SELECT count(*) FROM mirrors")?, 0);
+    assert_eq!(rt; number(&mut store, "SELECT count(*) FROM components")?, 0);
+    assert_eq!(rt; number(&mut store, "SELECT count(*) FROM intents WHERE kind = 2")?, 2);
+    Ok(())
+}
+
+#[test]
+fn a_refused_change_leaves_no_trace(rt: HostRuntime) -> Result<(), Fail> {
+    let mut registry = filled(rt.alloc())?;
+    // The key is taken, which the last of its statements finds.
+    settle(&mut registry)?;
+    let refused = accept(&mut registry, &destroys(rt.alloc())?, "k2", "destroy gm0");
+    assert!(rt; refused == Err(StoreFault::Store));
+    let mut store = registry.close();
+    assert_eq!(rt; number(&mut store, "SELECT count(*) FROM components")?, 2);
+    assert_eq!(rt; number(&mut store, "SELECT count(*) FROM intents")?, 0);
+    Ok(())
+}
+
+// What an opening says of a registry after a statement of somebody else's.
+fn after(alloc: Global, sql: &str) -> Result<StoreFault, Fail> {
+    let mut store = filled(alloc)?.close();
+    run(&mut store, sql)?;
+    match open(store) {
+        Ok(_) => Err("it was opened")?,
+        Err(fault) => Ok(fault),
+    }
+}
+
+// What an opening says of a store that this statement made.
+fn over(alloc: Global, sql: &str) -> Result<StoreFault, Fail> {
+    let mut store = Connection::open_in_memory(alloc)?;
+    run(&mut store, sql)?;
+    match open(store) {
+        Ok(_) => Err("it was opened")?,
+        Err(fault) => Ok(fault),
+    }
+}
+
+#[test]
+fn other_stores_are_unreadable(rt: HostRuntime) -> Result<(), Fail> {
+    let unreadable = StoreFault::Unreadable;
+    assert!(rt; after(rt.alloc(), "UPDATE about SET schema_no = 3")? == unreadable);
+    assert!(rt; after(rt.alloc(), "DELETE FROM about")? == unreadable);
+    assert!(rt; after(rt.alloc(), "DROP TABLE intents")? == unreadable);
+    assert!(rt; after(rt.alloc(), "CREATE TABLE other(a INTEGER) STRICT")? == unreadable);
+    assert!(rt; after(rt.alloc(), "CREATE INDEX by_total ON mirrors(total)")? == unreadable);
+    assert!(rt; over(rt.alloc(), "CREATE TABLE note(a INTEGER) STRICT")? == unreadable);
+    assert!(rt; over(rt.alloc(), MIRRORS)? == unreadable);
+    Ok(())
+}
+
+#[test]
+fn faults_are_numbered(rt: HostRuntime) -> Result<(), Fail> {
+    assert_eq!(rt; StoreFault::Memory.number(), 1);
+    assert_eq!(rt; StoreFault::Store.number(), 2);
+    assert_eq!(rt; StoreFault::Unreadable.number(), 3);
+    let text = format!(in rt.alloc(); "{}", StoreFault::Unreadable)?;
+    assert_eq!(rt; text.as_str(), "the registry is unreadable");
+    Ok(())
+}

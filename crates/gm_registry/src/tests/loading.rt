@@ -1,0 +1,259 @@
+//! Tables that say a state, and tables that say none.
+
+use super::{NO_FLAGS, accept, bare, change, fresh, label, open, settle};
+use crate::{Registry, StoreFault};
+use gm_metadata::{Balance, MirrorFlags};
+use gm_rules::Fact;
+use gm_state::{BalanceWord, Command, Component, Disk, Intent, Mirror, Slice, State};
+use sqlite::{Alter, MemStore};
+use std::alloc::Global;
+use std::test::Fail;
+
+// gm0 with three components, of which one is copied to; gm1 with one; gm2 with three, of which one takes no part.
+const ROWS: &str = "INSERT INTO mirrors VALUES ('gm2', 9, 16, 4294967295, 2, 1, 4, 512, 3);
+INSERT INTO mirrors VALUES ('gm0', 7, 3, 0, 1, 4096, 2, 1536, 2);
+INSERT INTO mirrors VALUES ('gm1', 8, 1, 1, 0, 4294967295, 0, 536869888, 0);
+INSERT INTO components VALUES ('a.img', 'gm0', 1, 1, 0, 0, 0, 0, 2048);
+INSERT INTO components VALUES ('b.img', 'gm0', 2, 1, 255, 512, 6, 1, 2560);
+INSERT INTO components VALUES ('c.img', 'gm0', 4294967295, 1, 5, 0, 2, 0, 2048);
+INSERT INTO components VALUES ('d.img', 'gm1', 1, 0, 0, 0, 0, 1, 536870912);
+INSERT INTO components VALUES ('e.img', 'gm2', 1, 2, 0, 0, 0, 0, 1024);
+INSERT INTO components VALUES ('f.img', 'gm2', 2, 2, 0, 0, 0, 0, 1024);
+INSERT INTO components VALUES ('g.img', 'gm2', 3, 1, 0, 0, 8, 0, 1024);
+INSERT INTO commands VALUES ('k1', 1, 'destroy gm9', 0, 0);
+INSERT INTO commands VALUES ('k3', 3, 'advance gm0 b.img', 1048576, 1048576);
+INSERT INTO commands VALUES ('k2', 2, 'destroy gm8', 0, 0);
+INSERT INTO intents VALUES (2, 1, 'b.img', '', 0, 0);
+INSERT INTO intents VALUES (1, 3, 'b.img', 'a.img', 1, 3);
+INSERT INTO intents VALUES (3, 2, 'x.img', '', 0, 0)";
+
+// Edits of those rows, each of which makes them unreadable.
+const EDITS: [&str; 39] = [
+    "UPDATE components SET dflags = 4 WHERE prov = 'a.img'",
+    "UPDATE components SET dflags = 1 WHERE prov = 'a.img'",
+    "UPDATE components SET dflags = -1 WHERE prov = 'a.img'",
+    "UPDATE components SET dflags = 8 WHERE prov = 'b.img'",
+    "UPDATE components SET did = 4294967296 WHERE prov = 'c.img'",
+    "UPDATE components SET did = -1 WHERE prov = 'c.img'",
+    "UPDATE components SET priority = 256 WHERE prov = 'a.img'",
+    "UPDATE components SET syncid = 2 WHERE prov = 'a.img'",
+    "UPDATE components SET hard = 2 WHERE prov = 'a.img'",
+    "UPDATE components SET sync_offset = 100 WHERE prov = 'b.img'",
+    "UPDATE components SET sync_offset = 1536 WHERE prov = 'b.img'",
+    "UPDATE components SET provsize = 1536 WHERE prov = 'c.img'",
+    "UPDATE components SET provsize = 2047 WHERE prov = 'c.img'",
+    "UPDATE components SET provsize = 536871424 WHERE prov = 'd.img'",
+    "UPDATE components SET prov = 'a/img' WHERE prov = 'c.img'",
+    "UPDATE components SET prov = '' WHERE prov = 'c.img'",
+    "UPDATE components SET mirror = 'gm1' WHERE prov = 'c.img'",
+    "UPDATE mirrors SET genid = 4294967296 WHERE name = 'gm2'",
+    "UPDATE mirrors SET total = 17 WHERE name = 'gm2'",
+    "UPDATE mirrors SET total = 2 WHERE name = 'gm0'",
+    "UPDATE mirrors SET balance = 5 WHERE name = 'gm0'",
+    "UPDATE mirrors SET mflags = 4 WHERE name = 'gm0'",
+    "UPDATE mirrors SET mediasize = 0 WHERE name = 'gm2'",
+    "UPDATE mirrors SET mediasize = 1024 WHERE name = 'gm2'",
+    "INSERT INTO mirrors VALUES ('gm3', 10, 1, 0, 1, 4096, 2, 1536, 0)",
+    "UPDATE intents SET kind = 9 WHERE ord = 2",
+    "UPDATE intents SET prov = 'y.img' WHERE ord = 2",
+    "UPDATE intents SET prov = 'a.img' WHERE ord = 3",
+    "UPDATE intents SET source = 'a.img' WHERE ord = 2",
+    "UPDATE intents SET end_sector = 4 WHERE ord = 1",
+    "UPDATE intents SET source = 'b.img' WHERE ord = 1",
+    "UPDATE intents SET source = 'c.img' WHERE ord = 1",
+    "UPDATE intents SET source = 'e.img' WHERE ord = 1",
+    "UPDATE intents SET ord = 5 WHERE ord = 1",
+    "UPDATE intents SET ord = 4 WHERE ord = 3",
+    "INSERT INTO intents VALUES (4, 3, 'c.img', 'a.img', 0, 3); INSERT INTO intents VALUES (5, 1, 'c.img', '', 0, 0)",
+    "UPDATE commands SET seq = 4 WHERE seq = 3",
+    "UPDATE commands SET copied = 1048577 WHERE seq = 3",
+    "UPDATE commands SET of_total = -1 WHERE seq = 3",
+];
+
+fn load<S: Alter>(
+    alloc: Global,
+    registry: &mut Registry<S>,
+) -> Result<(State, Vec<Intent>), StoreFault> {
+    registry.load(alloc)
+}
+
+// A registry with the rows, of which these were edited.
+fn edited(alloc: Global, sql: &str) -> Result<Registry<MemStore>, Fail> {
+    let mut store = fresh(alloc)?.close();
+    store.execute_batch(ROWS)?;
+    store.execute_batch(sql)?;
+    Ok(open(store)?)
+}
+
+// gm0 as its row says it.
+fn gm0() -> Result<Mirror, Fail> {
+    Ok(Mirror {
+        name: label("gm0")?,
+        mid: 7,
+        all: 3,
+        genid: 0,
+        syncid: 1,
+        slice: 4096,
+        balance: Balance::Load,
+        data_sectors: 3,
+        flags: MirrorFlags {
+            no_autosync: false,
+            no_failsync: true,
+        },
+    })
+}
+
+// b.img as its row says it.
+fn b_img() -> Result<Component, Fail> {
+    Ok(Component {
+        provider: label("b.img")?,
+        mirror: label("gm0")?,
+        did: 2,
+        syncid: 1,
+        priority: 255,
+        disk: Disk::Copying {
+            forced: true,
+            held: 1,
+        },
+        hardcoded: true,
+        sectors: 5,
+    })
+}
+
+// What the rows of intents say, in the order of their numbers.
+fn intents() -> Result<[Intent; 3], Fail> {
+    Ok([
+        Intent::Copy {
+            source: label("a.img")?,
+            target: label("b.img")?,
+            first: 1,
+            end: 3,
+        },
+        Intent::Meta {
+            provider: label("b.img")?,
+        },
+        Intent::Clear {
+            provider: label("x.img")?,
+        },
+    ])
+}
+
+#[test]
+fn rows_say_a_state(rt: HostRuntime) -> Result<(), Fail> {
+    let mut registry = edited(rt.alloc(), "")?;
+    let (state, pending) = load(rt.alloc(), &mut registry)?;
+    assert_eq!(rt; state.mirrors().len(), 3);
+    assert_eq!(rt; state.components().len(), 7);
+    assert_eq!(rt; state.mirror(label("gm0")?), Some(gm0()?));
+    assert_eq!(rt; state.component(label("b.img")?), Some(b_img()?));
+    assert_eq!(rt; pending.as_slice(), intents()?.as_slice());
+    Ok(())
+}
+
+#[test]
+fn edited_rows_say_none(rt: HostRuntime) -> Result<(), Fail> {
+    for edit in EDITS {
+        let mut registry = edited(rt.alloc(), edit)?;
+        let fault = load(rt.alloc(), &mut registry).err();
+        assert_eq!(rt; fault, Some(StoreFault::Unreadable), "{edit}");
+    }
+    Ok(())
+}
+
+// Seven images without metadata.
+fn images() -> Result<[Fact; 7], Fail> {
+    Ok([
+        bare("a.img")?,
+        bare("b.img")?,
+        bare("c.img")?,
+        bare("d.img")?,
+        bare("e.img")?,
+        bare("f.img")?,
+        bare("g.img")?,
+    ])
+}
+
+fn new_mirror(name: &str, provider: &str, mid: u32) -> Result<Command, Fail> {
+    Ok(Command::Label {
+        name: label(name)?,
+        provider: label(provider)?,
+        mid,
+        did: 1,
+        balance: BalanceWord::Split,
+        slice: Slice::new(4294967295).ok_or("no slice")?,
+        flags: NO_FLAGS,
+        hardcoded: true,
+    })
+}
+
+fn new_component(name: &str, provider: &str, did: u32) -> Result<Command, Fail> {
+    Ok(Command::Insert {
+        name: label(name)?,
+        provider: label(provider)?,
+        did,
+        priority: 200,
+        hardcoded: false,
+    })
+}
+
+// What the command does to the state that is loaded, accepted and settled.
+fn step(
+    alloc: Global,
+    registry: &mut Registry<MemStore>,
+    key: &str,
+    command: &Command,
+) -> Result<(), Fail> {
+    let (state, _) = load(alloc, registry)?;
+    let change = change(alloc, &state, &images()?, command)?;
+    accept(registry, &change, key, key)?;
+    settle(registry)?;
+    Ok(())
+}
+
+fn three_mirrors(alloc: Global, registry: &mut Registry<MemStore>) -> Result<(), Fail> {
+    step(alloc, registry, "k1", &new_mirror("gm2", "e.img", 9)?)?;
+    step(alloc, registry, "k2", &new_mirror("gm0", "a.img", 7)?)?;
+    step(alloc, registry, "k3", &new_mirror("gm1", "d.img", 8)?)
+}
+
+fn four_more(alloc: Global, registry: &mut Registry<MemStore>) -> Result<(), Fail> {
+    step(alloc, registry, "k4", &new_component("gm0", "c.img", 3)?)?;
+    step(alloc, registry, "k5", &new_component("gm2", "g.img", 2)?)?;
+    step(alloc, registry, "k6", &new_component("gm0", "b.img", 2)?)?;
+    step(
+        alloc,
+        registry,
+        "k7",
+        &new_component("gm2", "f.img", 4294967295)?,
+    )
+}
+
+#[test]
+fn what_is_accepted_is_loaded(rt: HostRuntime) -> Result<(), Fail> {
+    let mut registry = fresh(rt.alloc())?;
+    three_mirrors(rt.alloc(), &mut registry)?;
+    four_more(rt.alloc(), &mut registry)?;
+    let (state, pending) = load(rt.alloc(), &mut open(registry.close())?)?;
+    assert_eq!(rt; state.components().len(), 7);
+    assert_eq!(rt; state.mirrors().len(), 3);
+    assert!(rt; pending.is_empty());
+    assert_eq!(rt; state.component(label("f.img")?), Some(f_img()?));
+    Ok(())
+}
+
+// f.img as the last command made it.
+fn f_img() -> Result<Component, Fail> {
+    Ok(Component {
+        provider: label("f.img")?,
+        mirror: label("gm2")?,
+        did: 4294967295,
+        syncid: 1,
+        priority: 200,
+        disk: Disk::Copying {
+            forced: false,
+            held: 0,
+        },
+        hardcoded: false,
+        sectors: 4,
+    })
+}
