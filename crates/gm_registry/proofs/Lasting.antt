@@ -1,5 +1,5 @@
 -- What the query of the last command finds.
-use Rattle.std.proofs.Common.{◌≡◌, ◌⊎◌, inl, inr, ℕ, zero, suc, pos, ◌+◌, ◌<◌, ◌≤◌, Bool, true, false, ltb, List, [], ◌∷◌, map, flat_map, take, length, get_or, IsPermutation, refl, sym, ap, subst, subst₂, ◌∙◌, arith, slice_get, Some, Option}
+use Rattle.std.proofs.Common.{◌≡◌, inl, inr, ℕ, zero, suc, pos, ◌+◌, ◌<◌, ◌≤◌, Bool, true, false, ltb, List, [], ◌∷◌, map, flat_map, take, length, get_or, IsPermutation, refl, sym, ap, subst, subst₂, ◌∙◌, arith, slice_get, Some, Option}
 use Rattle.std.specs.Ordering.{is_lt, int_cmp}
 use Rattle.std.proofs.lemmas.Bool.{true≢false, ltb-false, cases_Bool}
 use Rattle.std.proofs.lemmas.List.Sorted.{IsPermutation-map, IsPermutation-trans, IsPermutation-sym, Contains-permutation, ranks_by, IsStrictWeakOrder-flip, sorted_far}

@@ -1,5 +1,5 @@
 -- Members of lists, in the words of the rows and in those of the records.
-use Rattle.std.proofs.Common.{◌≡◌, ◌⊎◌, inl, inr, List, [], ◌∷◌, IsPermutation, sym}
+use Rattle.std.proofs.Common.{inl, inr, List, [], ◌∷◌, IsPermutation, sym}
 use Rattle.std.proofs.lemmas.List.Sorted.{Contains-permutation}
 use Rattle.sqlite_rules.specs.Lists.{Has as Stands}
 use Rattle.sqlite_rules.proofs.ListLemmas.{has_contained, contains_had}

@@ -4,7 +4,7 @@ use Rattle.std.specs.List.{AllByRecursion}
 use Rattle.std.proofs.lemmas.List.Sorted.{IsPermutation-refl}
 use Rattle.sqlite.specs.Table.{Table}
 use Rattle.sqlite.specs.Schema.{Schema}
-use Rattle.sqlite.specs.Command.TheVariants.{CreateTable, Insert}
+use Rattle.sqlite.specs.Command.TheVariants.{CreateTable}
 use Rattle.sqlite.specs.Does.{Tally, Does, lacks_sequence}
 use Rattle.sqlite.specs.Effect.{Database}
 use Rattle.sqlite.specs.Listing.{understood}
@@ -13,7 +13,6 @@ use Rattle.sqlite.specs.Held.{Held, state}
 use Rattle.sqlite.specs.Term.{lit}
 use Rattle.sqlite.specs.declared.types.Value.TheVariants.{Null, Int}
 use Rattle.sqlite.specs.declared.error.Error.{Error}
-use Rattle.sqlite.specs.Source.TheVariants.{Values}
 use Rattle.sqlite.proofs.Callers.{statement_of, runs_as}
 use Rattle.sqlite_trees.specs.declared.store.Store as store
 use Rattle.sqlite_trees.specs.Tree.{put_row}
@@ -27,7 +26,7 @@ use Rattle.gm_registry.specs.Texts.{about_text, mirrors_text, components_text, i
 use Rattle.gm_registry.specs.Statements.{put_about_text}
 use Rattle.gm_registry.specs.Schema.{about, mirrors, components, intents, commands, no_schema, with_about, with_mirrors, with_components, with_intents, registry_schema}
 use Rattle.gm_registry.specs.Rows.{about_values, mirror_values, component_values, intent_values, command_values}
-use Rattle.gm_registry.specs.Tables.{HasRows, HasCounted, IsInside, no_tables, AreNumbered}
+use Rattle.gm_registry.specs.Tables.{HasRows, IsInside, no_tables, AreNumbered}
 use Rattle.gm_registry.specs.Opening.{IsBlank, IsBlankInside, IsBareInside}
 use Rattle.gm_registry.proofs.Meaning.{Defines, about_is, mirrors_is, components_is, intents_is, commands_is, put_about, put_about_is}
 

@@ -1,5 +1,5 @@
 -- Flags are small numbers.
-use Rattle.std.proofs.Common.{◌≤◌, ◌+◌, ℕ, Bool, true, false, if◌then◌else◌, arith}
+use Rattle.std.proofs.Common.{◌≤◌, ℕ, Bool, true, false, if◌then◌else◌, arith}
 use Rattle.gm_metadata.specs.declared.flags.MirrorFlags.{MirrorFlags}
 use Rattle.gm_metadata.specs.declared.flags.DiskFlags.{DiskFlags}
 use Rattle.gm_metadata.specs.Flags.{mirror_bits, disk_bits}

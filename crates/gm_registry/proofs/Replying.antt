@@ -1,6 +1,5 @@
 -- What the query of a key finds.
 use Rattle.std.proofs.Common.{◌≡◌, ℕ, pos, Bool, List, [], ◌∷◌, map, filter, length, IsPermutation, sym, ap, subst, subst₂, refl, ◌∙◌, arith}
-use Rattle.std.specs.Str.{bytes_eq}
 use Rattle.std.proofs.lemmas.List.Sorted.{IsPermutation-map, IsPermutation-trans, IsPermutation-sym, length_permutation}
 use Rattle.std.proofs.lemmas.List.Elements.{filter_agree}
 use Rattle.std.proofs.lemmas.Slice.Eq.{bytes_eq-Decides}
@@ -22,7 +21,7 @@ use Rattle.sqlite_rows.proofs.Keyed.{mapped_from}
 use Rattle.sqlite_rows.proofs.Bags.{has_key, key_place}
 use Rattle.sqlite_rows.proofs.Statements.{settled_schema, settled_rows}
 use Rattle.gm_state.specs.declared.command.Reply.{Reply}
-use Rattle.gm_state.specs.Rows.{Tables, CommandRow}
+use Rattle.gm_state.specs.Rows.{Tables}
 use Rattle.gm_registry.specs.Statements.{find_command_text}
 use Rattle.gm_registry.specs.Schema.{registry_schema}
 use Rattle.gm_registry.specs.Rows.{command_values}

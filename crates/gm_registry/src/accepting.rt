@@ -26,10 +26,7 @@ use sqlite::{Alter, Connection, Error, ErrorCode, Transaction};
 const MAX_COMMANDS: u32 = 100_000;
 
 /// Deletes a mirror where there is a name.
-fn drop_some_mirror<S: Alter>(
-    tx: &mut Transaction<'_, S>,
-    name: Option<Label>,
-) -> Result<(), Error>
+fn drop_some_mirror<S: Alter>(tx: &mut Transaction<'_, S>, name: Option<Label>) -> Result<(), Error>
     ensures same_reference { tx.new.conn.ghost_name ≡ tx.old.conn.ghost_name }
     ensures put { HasCleanDisk (state S.Store tx.new.conn.now) → OnOk result ((first : Database) (t : Tables) → IsInside first (state S.Store tx.old.conn.now) t
         → IsInside first (state S.Store tx.new.conn.now) (without_some_mirror name t)) }

@@ -23,7 +23,7 @@ fn put_row<S: Alter>(
     ensures same_reference { tx.new.conn.ghost_name ≡ tx.old.conn.ghost_name }
     ensures put { HasCleanDisk (state S.Store tx.new.conn.now) → OnOk result ((first : Database) (t : Tables) → IsInside first (state S.Store tx.old.conn.now) t
         → IsInside first (state S.Store tx.new.conn.now)
-            (with_command (record { call_key = key.now; seq = number; words = words.now; copied = copied; of_total = of_total }) t)) }
+        (with_command (record { call_key = key.now; seq = number; words = words.now; copied = copied; of_total = of_total }) t)) }
     ensures kept { HasCleanDisk (state S.Store tx.new.conn.now) → KeepsCommit (state S.Store tx.old.conn.now) (state S.Store tx.new.conn.now) }
     ensures survives { Survives (state S.Store tx.old.conn.now) (state S.Store tx.new.conn.now) (λ _. ⊥) }
 {

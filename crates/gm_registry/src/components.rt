@@ -58,10 +58,7 @@ pub(crate) fn put_components<S: Alter>(
 }
 
 /// Deletes the component on a provider.
-fn drop_component<S: Alter>(
-    tx: &mut Transaction<'_, S>,
-    provider: Label,
-) -> Result<usize, Error>
+fn drop_component<S: Alter>(tx: &mut Transaction<'_, S>, provider: Label) -> Result<usize, Error>
     ensures same_reference { tx.new.conn.ghost_name ≡ tx.old.conn.ghost_name }
     ensures put { HasCleanDisk (state S.Store tx.new.conn.now) → OnOk result ((first : Database) (t : Tables) → IsInside first (state S.Store tx.old.conn.now) t
         → IsInside first (state S.Store tx.new.conn.now) (without_component provider t)) }

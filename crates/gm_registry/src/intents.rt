@@ -14,7 +14,9 @@ use sqlite::{Alter, Connection, Error, ErrorCode, Transaction, params};
 
 /// The `kind` of an intent in its row.
 const META: u32 = 1;
+
 const CLEAR: u32 = 2;
+
 const COPY: u32 = 3;
 
 /// Adds the row of an intent under its number.
@@ -30,7 +32,7 @@ fn put_row<S: Alter>(
     ensures same_reference { tx.new.conn.ghost_name ≡ tx.old.conn.ghost_name }
     ensures put { HasCleanDisk (state S.Store tx.new.conn.now) → OnOk result ((at : Database) (t : Tables) → IsInside at (state S.Store tx.old.conn.now) t
         → IsInside at (state S.Store tx.new.conn.now)
-            (with_intents (record { ord = ord; kind = kind; prov = provider.now; source = source.now; first_sector = first; end_sector = end } ∷ []) t)) }
+        (with_intents (record { ord = ord; kind = kind; prov = provider.now; source = source.now; first_sector = first; end_sector = end } ∷ []) t)) }
     ensures kept { HasCleanDisk (state S.Store tx.new.conn.now) → KeepsCommit (state S.Store tx.old.conn.now) (state S.Store tx.new.conn.now) }
     ensures survives { Survives (state S.Store tx.old.conn.now) (state S.Store tx.new.conn.now) (λ _. ⊥) }
 {
@@ -60,15 +62,7 @@ fn put_intent<S: Alter>(
             target,
             first,
             end,
-        } => put_row(
-            tx,
-            ord,
-            COPY,
-            target.as_str(),
-            source.as_str(),
-            first,
-            end,
-        ),
+        } => put_row(tx, ord, COPY, target.as_str(), source.as_str(), first, end),
     }
 }
 

@@ -51,5 +51,8 @@ pub(crate) fn drop_mirror<S: Alter>(
     ensures kept { HasCleanDisk (state S.Store tx.new.conn.now) → KeepsCommit (state S.Store tx.old.conn.now) (state S.Store tx.new.conn.now) }
     ensures survives { Survives (state S.Store tx.old.conn.now) (state S.Store tx.new.conn.now) (λ _. ⊥) }
 {
-    tx.execute("DELETE FROM mirrors WHERE name = ?1", params![name.as_str()])
+    tx.execute(
+        "DELETE FROM mirrors WHERE name = ?1",
+        params![name.as_str()],
+    )
 }

@@ -16,7 +16,8 @@ const NO_FLAGS: MirrorFlags = MirrorFlags {
 };
 
 // One of the five texts alone.
-const MIRRORS: &str = "CREATE TABLE mirrors(name TEXT PRIMARY KEY NOT NULL, mid INTEGER NOT NULL UNIQUE,
+const MIRRORS: &str =
+    "CREATE TABLE mirrors(name TEXT PRIMARY KEY NOT NULL, mid INTEGER NOT NULL UNIQUE,
   total INTEGER NOT NULL, genid INTEGER NOT NULL, syncid INTEGER NOT NULL, slice INTEGER NOT NULL,
   balance INTEGER NOT NULL, mediasize INTEGER NOT NULL, mflags INTEGER NOT NULL) STRICT";
 
@@ -65,12 +66,7 @@ fn bare(provider: &str) -> Result<Fact, Fail> {
     })
 }
 
-fn change(
-    alloc: Global,
-    state: &State,
-    facts: &[Fact],
-    command: &Command,
-) -> Result<Change, Fail> {
+fn change(alloc: Global, state: &State, facts: &[Fact], command: &Command) -> Result<Change, Fail> {
     let facts = Facts::new(facts.to_vec(alloc)?);
     match decide(alloc, state, &facts, command)? {
         Ok(change) => Ok(change),
@@ -103,12 +99,7 @@ fn inserts(alloc: Global) -> Result<Change, Fail> {
         hardcoded: false,
     };
     let state = state(alloc, &[mirror(1)?], &[component("a.img", 1)?])?;
-    change(
-        alloc,
-        &state,
-        &[bare("a.img")?, bare("b.img")?],
-        &command,
-    )
+    change(alloc, &state, &[bare("a.img")?, bare("b.img")?], &command)
 }
 
 // Both are gone.
@@ -121,12 +112,7 @@ fn destroys(alloc: Global) -> Result<Change, Fail> {
         &[mirror(2)?],
         &[component("a.img", 1)?, component("b.img", 2)?],
     )?;
-    change(
-        alloc,
-        &state,
-        &[bare("a.img")?, bare("b.img")?],
-        &command,
-    )
+    change(alloc, &state, &[bare("a.img")?, bare("b.img")?], &command)
 }
 
 // These have no clause, so that the proof of a test doesn't carry the state of each call.
@@ -202,7 +188,13 @@ fn an_empty_store_is_a_registry_without_records(rt: HostRuntime) -> Result<(), F
     assert_eq!(rt; accepted(&mut registry)?, 0);
     assert!(rt; is_free(&mut registry, "k1")?);
     let mut store = registry.close();
-    assert_eq!(rt; number(&mut store, "SELECT count(*) FROM about WHERE one = 1 AND schema_no = 1")?, 1);
+    assert_eq!(rt;
+        number(
+            &mut store,
+            "SELECT count(*) FROM about WHERE one = 1 AND schema_no = 1"
+        )?,
+        1
+    );
     assert_eq!(rt; number(&mut store, "SELECT count(*) FROM mirrors")?, 0);
     Ok(())
 }
@@ -220,19 +212,55 @@ fn accepted_commands_are_numbered_and_kept(rt: HostRuntime) -> Result<(), Fail> 
 #[test]
 fn rows_hold_bytes_codes_and_flags(rt: HostRuntime) -> Result<(), Fail> {
     let mut store = filled(rt.alloc())?.close();
-    assert_eq!(rt; number(&mut store, "SELECT count(*) FROM mirrors WHERE name = 'gm0' AND mid = 7 AND total = 2 AND genid = 0 AND syncid = 1 AND slice = 4096 AND balance = 2 AND mediasize = 1536 AND mflags = 0")?, 1);
-    assert_eq!(rt; number(&mut store, "SELECT count(*) FROM components WHERE prov = 'a.img' AND mirror = 'gm0' AND did = 1 AND syncid = 1 AND priority = 0 AND sync_offset = 0 AND dflags = 0 AND hard = 1 AND provsize = 2048")?, 1);
-    assert_eq!(rt; number(&mut store, "SELECT count(*) FROM components WHERE prov = 'b.img' AND did = 2 AND priority = 9 AND dflags = 2 AND hard = 0")?, 1);
-    assert_eq!(rt; number(&mut store, "SELECT count(*) FROM commands WHERE copied = 0 AND of_total = 0")?, 2);
+    assert_eq!(rt;
+        number(
+            &mut store,
+            "SELECT count(*) FROM mirrors WHERE name = 'gm0' AND mid = 7 AND total = 2 AND genid = 0 AND syncid = 1 AND slice = 4096 AND balance = 2 AND mediasize = 1536 AND mflags = 0"
+        )?,
+        1
+    );
+    assert_eq!(rt;
+        number(
+            &mut store,
+            "SELECT count(*) FROM components WHERE prov = 'a.img' AND mirror = 'gm0' AND did = 1 AND syncid = 1 AND priority = 0 AND sync_offset = 0 AND dflags = 0 AND hard = 1 AND provsize = 2048"
+        )?,
+        1
+    );
+    assert_eq!(rt;
+        number(
+            &mut store,
+            "SELECT count(*) FROM components WHERE prov = 'b.img' AND did = 2 AND priority = 9 AND dflags = 2 AND hard = 0"
+        )?,
+        1
+    );
+    assert_eq!(rt;
+        number(
+            &mut store,
+            "SELECT count(*) FROM commands WHERE copied = 0 AND of_total = 0"
+        )?,
+        2
+    );
     Ok(())
 }
 
 #[test]
 fn intents_are_numbered_and_settled(rt: HostRuntime) -> Result<(), Fail> {
     let mut store = filled(rt.alloc())?.close();
-    assert_eq!(rt; number(&mut store, "SELECT count(*) FROM intents WHERE kind = 1 AND source = '' AND first_sector = 0 AND end_sector = 0")?, 2);
-    assert_eq!(rt; number(&mut store, "SELECT ord FROM intents WHERE prov = 'a.img'")?, 1);
-    assert_eq!(rt; number(&mut store, "SELECT ord FROM intents WHERE prov = 'b.img'")?, 2);
+    assert_eq!(rt;
+        number(
+            &mut store,
+            "SELECT count(*) FROM intents WHERE kind = 1 AND source = '' AND first_sector = 0 AND end_sector = 0"
+        )?,
+        2
+    );
+    assert_eq!(rt;
+        number(&mut store, "SELECT ord FROM intents WHERE prov = 'a.img'")?,
+        1
+    );
+    assert_eq!(rt;
+        number(&mut store, "SELECT ord FROM intents WHERE prov = 'b.img'")?,
+        2
+    );
     let mut registry = open(store)?;
     settle(&mut registry)?;
     assert_eq!(rt; accepted(&mut registry)?, 2);
@@ -247,12 +275,29 @@ fn a_change_writes_only_what_it_names(rt: HostRuntime) -> Result<(), Fail> {
     accept(&mut registry, &labels(rt.alloc())?, "k1", "label gm0 a.img")?;
     settle(&mut registry)?;
     let mut store = registry.close();
-    run(&mut store, "INSERT INTO mirrors VALUES ('gm9', 9, 1, 0, 1, 4096, 2, 1536, 0)")?;
-    run(&mut store, "INSERT INTO components VALUES ('z.img', 'gm9', 1, 1, 77, 0, 0, 0, 2048)")?;
+    run(
+        &mut store,
+        "INSERT INTO mirrors VALUES ('gm9', 9, 1, 0, 1, 4096, 2, 1536, 0)",
+    )?;
+    run(
+        &mut store,
+        "INSERT INTO components VALUES ('z.img', 'gm9', 1, 1, 77, 0, 0, 0, 2048)",
+    )?;
     let mut registry = open(store)?;
-    accept(&mut registry, &inserts(rt.alloc())?, "k2", "insert gm0 b.img")?;
+    accept(
+        &mut registry,
+        &inserts(rt.alloc())?,
+        "k2",
+        "insert gm0 b.img",
+    )?;
     let mut store = registry.close();
-    assert_eq!(rt; number(&mut store, "SELECT priority FROM components WHERE prov = 'z.img'")?, 77);
+    assert_eq!(rt;
+        number(
+            &mut store,
+            "SELECT priority FROM components WHERE prov = 'z.img'"
+        )?,
+        77
+    );
     assert_eq!(rt; number(&mut store, "SELECT count(*) FROM components")?, 3);
     Ok(())
 }
@@ -265,7 +310,10 @@ fn a_destroyed_mirror_leaves_no_row(rt: HostRuntime) -> Result<(), Fail> {
     let mut store = registry.close();
     assert_eq!(rt; number(&mut store, "SELECT count(*) FROM mirrors")?, 0);
     assert_eq!(rt; number(&mut store, "SELECT count(*) FROM components")?, 0);
-    assert_eq!(rt; number(&mut store, "SELECT count(*) FROM intents WHERE kind = 2")?, 2);
+    assert_eq!(rt;
+        number(&mut store, "SELECT count(*) FROM intents WHERE kind = 2")?,
+        2
+    );
     Ok(())
 }
 

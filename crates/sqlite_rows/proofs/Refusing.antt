@@ -1,5 +1,5 @@
 -- A call that is refused leaves the records, and so does one that only reads.
-use Rattle.std.proofs.Common.{◌≡◌, ◌⊎◌, inl, inr, ℕ, Bool, true, false, List, Option, Some, None, IfErr, Result, Ok, Err, IfOk, OnOk, OnErr, IsTrue, MatchBool, refl, sym, ap, subst, ◌∙◌}
+use Rattle.std.proofs.Common.{◌⊎◌, inl, inr, ℕ, Bool, true, false, List, Option, Some, None, IfErr, Result, Ok, Err, IfOk, OnOk, OnErr, IsTrue, MatchBool, refl, sym, ap, subst, ◌∙◌}
 use Rattle.sqlite.specs.Order.{Row}
 use Rattle.sqlite.specs.Effect.{Database}
 use Rattle.sqlite.specs.declared.error.Error.{Error}

@@ -1,8 +1,8 @@
 -- What `INSERT .. ON CONFLICT (key) DO UPDATE` of one row makes of a database, over any schema.
-use Rattle.std.proofs.Common.{◌≡◌, ◌≢◌, ◌⊎◌, inl, inr, ℕ, ℤ, ◌/◌, Bool, true, false, not, ◌&&◌, ◌||◌, cond, List, [], ◌∷◌, ◌++◌, map, filter, drop, length, Option, Some, None, Result, Ok, Err, refl, sym, ap, ap₂, subst, ◌∙◌, IsPermutation, IsTrue, MatchBool}
-use Rattle.std.specs.List.{AllByRecursion, list_any, list_all}
+use Rattle.std.proofs.Common.{◌≡◌, ◌≢◌, inl, inr, ℕ, ℤ, ◌/◌, Bool, true, false, not, ◌&&◌, cond, List, [], ◌∷◌, ◌++◌, map, filter, drop, length, Option, Some, None, Ok, refl, sym, ap, ap₂, subst, ◌∙◌, IsPermutation, IsTrue}
+use Rattle.std.specs.List.{AllByRecursion, list_any}
 use Rattle.std.specs.Ordering.{is_eq}
-use Rattle.std.proofs.lemmas.Bool.{false_from_ne_true, true≢false, and_from, not_from_true}
+use Rattle.std.proofs.lemmas.Bool.{false_from_ne_true, true≢false, and_from}
 use Rattle.std.proofs.lemmas.List.Elements.{filter_agree}
 use Rattle.std.proofs.lemmas.List.Sorted.{IsPermutation-refl}
 use Rattle.sqlite.specs.Order.{Row, column}
@@ -17,33 +17,31 @@ use Rattle.sqlite_sql.specs.declared.ops.CompareOp.TheVariants.{Eq}
 use Rattle.sqlite.specs.Table.{Table}
 use Rattle.sqlite.specs.Schema.{Schema}
 use Rattle.sqlite_schema.specs.declared.schema.Index.{Index}
-use Rattle.sqlite_schema.specs.declared.schema.Constraint.TheVariants.{Unique, ForeignKey}
-use Rattle.sqlite_schema.specs.Rules.{agree, clashes, differ, equal, guards, Keeps, Fits}
+use Rattle.sqlite_schema.specs.declared.schema.Constraint.TheVariants.{Unique}
+use Rattle.sqlite_schema.specs.Rules.{agree, clashes, differ, equal, guards, Fits}
 use Rattle.sqlite_schema.specs.declared.command.Conflict.TheVariants.{Abort}
 use Rattle.sqlite_schema.specs.declared.command.Upsert.{Upsert}
 use Rattle.sqlite.specs.Source.TheVariants.{Values}
 use Rattle.sqlite.specs.Command.TheVariants.{InsertOr}
 use Rattle.sqlite.specs.Query.{IsAnswer}
 use Rattle.sqlite.specs.Tree.{Trees}
-use Rattle.sqlite_trees.specs.Tree.{rowid, has_rowid, put_row, IsTable}
+use Rattle.sqlite_trees.specs.Tree.{rowid, put_row}
 use Rattle.sqlite_trees.specs.View.{is_int, IsShaped}
 use Rattle.sqlite_trees.specs.declared.store.Shape.TheVariants as shape
 use Rattle.sqlite_trees.proofs.ListLemmas.{filter_all, filter_same, all_of}
-use Rattle.sqlite.specs.Edit.{Edit, edit_of}
-use Rattle.sqlite_rules.specs.Edit.{Applies, id_in, is_taken, taken_by, are_fresh, numbered, with_rowid, next_rowid, without_all, put_all}
+use Rattle.sqlite.specs.Edit.{edit_of}
+use Rattle.sqlite_rules.specs.Edit.{Applies, id_in, is_taken, taken_by, are_fresh, with_rowid, next_rowid, without_all}
 use Rattle.sqlite_rules.specs.Action.{works}
 use Rattle.sqlite_rules.specs.Calls.{ids_of}
 use Rattle.sqlite_rules.specs.Keys.{AreConflicts, conflicts}
 use Rattle.sqlite_rules.specs.Lists.{Has}
-use Rattle.sqlite_rules.specs.Steps.{IsJudged}
 use Rattle.sqlite_rules.specs.declared.error.Refusal.{Refusal}
-use Rattle.sqlite_rules.proofs.ListLemmas.{all_has, all_from, test_has, some_from, has_filtered, has_kept}
+use Rattle.sqlite_rules.proofs.ListLemmas.{all_has, all_from, test_has, some_from, has_kept}
 use Rattle.sqlite_rules.proofs.RuleLemmas.{keeps_at}
 use Rattle.sqlite_rules.proofs.TableLemmas.{has_put, put_all_keeps, int_is}
 use Rattle.sqlite_trees.proofs.TreeLemmas.{IsShaped-filter}
 use Rattle.sqlite.specs.Rowids.TheVariants.{Given, Chosen, Above}
-use Rattle.sqlite.specs.Cast.{cast, cast_all, cast_row}
-use Rattle.sqlite.specs.Kind.TheVariants.{Integer}
+use Rattle.sqlite.specs.Cast.{cast_all, cast_row}
 use Rattle.sqlite.specs.Does.{Tally, OnRows}
 use Rattle.sqlite.specs.Rows.{Written, Task, stamped, shown, Judged, Upserts, Meets, Clears, Puts, Updates, nothing, Tries, TriesEach, rowids_for, count_of}
 use Rattle.sqlite.specs.Effect.{Database, value_rows}

@@ -12,10 +12,11 @@ drops-preserved g c =
     let old = state g.S.Store c.args.tx.now.conn.now in
     let mid = state g.S.Store c.drops.tx.conn.now in
     let new = state g.S.Store c.drop_component.new.tx.conn.now in
-    let so = c.drops.invariant in
-    (c.in_ok-drop_component.ensures.same_reference ∙ so.0,
-    goes_on registry_schema HasRows old mid new (without_components (take c.drops.provider-index c.args.providers.now)) (without_component c.provider-item.result) _ so.1 c.drop_component.ensures.survives c.drop_component.ensures.kept c.in_ok-drop_component.ensures.put
-    (λ r. one_more without_component without_components (λ t. refl) (λ x xs t. refl) c.args.providers.now c.drops.provider-index c.provider-item.result r c.drops-test.true c.provider-item.is))
+    let so = c.drops.invariant in (
+      c.in_ok-drop_component.ensures.same_reference ∙ so.0,
+      goes_on registry_schema HasRows old mid new (without_components (take c.drops.provider-index c.args.providers.now)) (without_component c.provider-item.result) _ so.1 c.drop_component.ensures.survives c.drop_component.ensures.kept c.in_ok-drop_component.ensures.put
+          (λ r. one_more without_component without_components (λ t. refl) (λ x xs t. refl) c.args.providers.now c.drops.provider-index c.provider-item.result r c.drops-test.true c.provider-item.is),
+    )
 
 pub returns-clause-put : goal.returns-clause-put
 returns-clause-put g c clean first t was =

@@ -17,8 +17,23 @@ returns-clause-put g c clean =
     let row = mirror_row c.args.mirror in
     at_inside registry_schema HasRows upsert_mirror_text (mirror_values row) _ upsert_mirror_is.command_is upsert_mirror_is.plain (λ old new text count h. h) (with_mirror row) (upserts_mirror row)
     (state g.S.Store c.args.tx.now.conn.now) (state g.S.Store c.execute.new.self.conn.now) c.execute.result
-    (rw (c.params-to_sql.ensures, c.params-to_sql-2.ensures, c.params-to_sql-3.ensures, c.params-to_sql-4.ensures, c.params-to_sql-5.ensures, c.params-to_sql-6.ensures, c.params-to_sql-7.ensures, c.params-to_sql-8.ensures, c.params-to_sql-9.ensures,
-    c.as_str.ensures.text, c.from.ensures, c.balance_number.ensures, c.bytes_in.ensures.value, to_z_pos w64 (512 * c.args.mirror.data_sectors) (omega (arith, c.bytes_in.ensures.fits)), c.mirror_number.ensures) at (c.execute.ensures.runs clean))
+    (rw (
+      c.params-to_sql.ensures,
+      c.params-to_sql-2.ensures,
+      c.params-to_sql-3.ensures,
+      c.params-to_sql-4.ensures,
+      c.params-to_sql-5.ensures,
+      c.params-to_sql-6.ensures,
+      c.params-to_sql-7.ensures,
+      c.params-to_sql-8.ensures,
+      c.params-to_sql-9.ensures,
+      c.as_str.ensures.text,
+      c.from.ensures,
+      c.balance_number.ensures,
+      c.bytes_in.ensures.value,
+      to_z_pos w64 (512 * c.args.mirror.data_sectors) (omega (arith, c.bytes_in.ensures.fits)),
+      c.mirror_number.ensures,
+    ) at (c.execute.ensures.runs clean))
 
 pub returns-clause-kept : goal.returns-clause-kept
 returns-clause-kept g c clean = keeps_held g.S.Store c.args.tx.now.conn.now c.execute.new.self.conn.now _ _ c.execute.result (c.execute.ensures.runs clean) c.execute.ensures.ended

@@ -1,4 +1,4 @@
-use Rattle.std.proofs.Common.{◌≡◌, not, ap, ◌∙◌}
+use Rattle.std.proofs.Common.{not, ap, ◌∙◌}
 use Rattle.sqlite.specs.Held.{state}
 use Rattle.sqlite_rows.proofs.Refusing.{map_ok, on_ok, on_err}
 use Rattle.gm_registry.proofs.Standing.{blank, has_tables, not_empty, not_full, map_err}
