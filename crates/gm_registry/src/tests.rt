@@ -1,6 +1,7 @@
 //! Each statement once over memory, with values worked out by hand, and stores that hold something else.
 
 mod loading;
+mod stops;
 
 use crate::{Registry, StoreFault};
 use gm_metadata::{Balance, Label, MirrorFlags};
