@@ -1,20 +1,17 @@
 -- When rows say records, and when they say none.
-use Rattle.std.proofs.Common.{◌≡◌, ◌∙◌, ℕ, ◌+◌, List, [], ◌∷◌, map, refl, sym, ap, subst, subst₂, All, Result, Ok, Err, IfErr, IsErrAnd}
+use Rattle.std.proofs.Common.{◌≡◌, ◌∙◌, ℕ, ◌+◌, List, [], ◌∷◌, map, refl, sym, ap, subst, All, Result, Ok, Err, IfErr, IsErrAnd}
 use Rattle.std.specs.List.Sorted.{IsPermutation}
-use Rattle.std.proofs.lemmas.List.Sorted.{IsPermutation-map, IsPermutation-sym, IsPermutation-trans}
+use Rattle.std.proofs.lemmas.List.Sorted.{IsPermutation-map, IsPermutation-sym}
 use Rattle.sqlite.specs.Order.{Row}
 use Rattle.gm_state.specs.declared.command.Intent.{Intent}
 use Rattle.gm_state.specs.declared.command.Intent.TheVariants.{Meta, Clear, Copy}
 use Rattle.gm_state.specs.declared.records.Mirror.{Mirror}
 use Rattle.gm_state.specs.declared.records.Component.{Component}
 use Rattle.gm_state.specs.Words.{Has}
-use Rattle.gm_state.specs.Records.{Records, IsState, IsStateOf}
 use Rattle.gm_state.specs.Rows.{mirror_row, component_row}
-use Rattle.gm_registry.specs.Values.{columns_at, numbered, nine, IsMirrorValue, IsComponentValue, IsIntentValue}
-use Rattle.gm_registry.specs.Says.{mirror_shown, component_shown, intent_shown, SayState, Say}
-use Rattle.gm_registry.specs.declared.fetching.Fetched.{Fetched}
-use Rattle.gm_registry.proofs.Reordering.{unmapped, same_records, all_moved, all_each, numbered_map}
-use Rattle.gm_registry.proofs.Typed.{mirror_value, component_value, intent_value}
+use Rattle.gm_registry.specs.Values.{columns_at, numbered, nine}
+use Rattle.gm_registry.specs.Says.{mirror_shown, component_shown, intent_shown}
+use Rattle.gm_registry.proofs.Reordering.{unmapped, same_records, all_moved, numbered_map}
 
 -- one mirror has a row, and one component
 pub one_mirror : (a b : Mirror) → (mirror_row a ≡ mirror_row b → a ≡ b) → mirror_shown a ≡ mirror_shown b → a ≡ b

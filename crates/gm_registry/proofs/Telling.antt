@@ -1,12 +1,12 @@
 -- The rows that are shown of a registry's tables say what the tables hold.
-use Rattle.std.proofs.Common.{◌≡◌, ◌∙◌, inl, inr, ⊎_elim, ℕ, zero, suc, pos, negsuc, ◌+◌, ◌≤◌, List, [], ◌∷◌, map, drop, length, refl, sym, ap, subst, subst₂, arith}
+use Rattle.std.proofs.Common.{◌≡◌, ◌∙◌, inl, inr, ℕ, zero, suc, pos, ◌+◌, ◌≤◌, List, [], ◌∷◌, map, length, refl, sym, ap, subst, subst₂, arith}
 use Rattle.std.specs.List.Sorted.{IsPermutation}
 use Rattle.std.proofs.lemmas.List.{length-map}
 use Rattle.std.proofs.lemmas.List.Sorted.{IsPermutation-map, IsPermutation-sym, IsPermutation-trans, length_permutation}
 use Rattle.sqlite.specs.Order.{Row, column}
 use Rattle.sqlite.specs.Tree.{Trees}
 use Rattle.sqlite_value.specs.declared.value.Value.{Value}
-use Rattle.sqlite.specs.declared.types.Value.TheVariants.{Null, Int, Text, Real, Blob}
+use Rattle.sqlite.specs.declared.types.Value.TheVariants.{Int, Text}
 use Rattle.sqlite.proofs.Callers.{one_permutation}
 use Rattle.sqlite_trees.proofs.ListLemmas.{map-map}
 use Rattle.sqlite_rows.specs.Keeps.{Keeps, columns, whole}
@@ -14,14 +14,14 @@ use Rattle.gm_state.specs.declared.command.Intent.{Intent}
 use Rattle.gm_state.specs.declared.command.Intent.TheVariants.{Meta, Clear, Copy}
 use Rattle.gm_state.specs.Words.{Has}
 use Rattle.gm_state.specs.Records.{Records}
-use Rattle.gm_state.specs.Rows.{Tables, MirrorRow, ComponentRow, IntentRow, CommandRow, mirror_row, component_row, intent_row, intent_rows}
+use Rattle.gm_state.specs.Rows.{Tables, MirrorRow, ComponentRow, IntentRow, CommandRow, mirror_row, component_row, intent_rows}
 use Rattle.gm_state.proofs.Sorting.{Has-permutation}
-use Rattle.gm_registry.specs.Rows.{about_values, mirror_values, component_values, intent_values, command_values}
+use Rattle.gm_registry.specs.Rows.{mirror_values, component_values, intent_values, command_values}
 use Rattle.gm_registry.specs.Tables.{HasRows, HasCounted, AreNumbered, numbers_of}
 use Rattle.gm_registry.specs.Reading.{AreTablesOf, IsInRange}
 use Rattle.gm_registry.specs.Values.{columns_at, numbered, two, six, nine, shown_intent}
 use Rattle.gm_registry.specs.Queries.{AreShown, shown_places}
-use Rattle.gm_registry.specs.Says.{mirror_shown, component_shown, intent_shown, IsBetween, IsCommand, IsAbout, AreCommands, Say, TablesSay}
+use Rattle.gm_registry.specs.Says.{intent_shown, IsBetween, IsCommand, IsAbout, AreCommands, Say, TablesSay}
 use Rattle.gm_registry.specs.declared.fetching.Fetched.{Fetched}
 use Rattle.gm_registry.specs.declared.fetching.Table.TheVariants.{About, Mirrors, Components, Intents, Commands}
 use Rattle.gm_registry.proofs.Reordering.{same_records}

@@ -1,5 +1,5 @@
 -- The records of a state, and the intents that are readable for it, are values of the code.
-use Rattle.std.proofs.Common.{◌≡◌, ◌≢◌, ◌∙◌, ℕ, ◌<◌, ◌≤◌, ◌^◌, IsTrue, List, Option, Some, None, refl, sym, ap, subst, arith}
+use Rattle.std.proofs.Common.{◌≡◌, ◌≢◌, ℕ, ◌<◌, ◌^◌, IsTrue, List, Option, Some, None, refl, sym, subst, arith}
 use Rattle.gm_metadata.specs.Images.{same_label}
 use Rattle.gm_metadata.specs.Labels.{is_label}
 use Rattle.gm_state.specs.declared.command.Intent.{Intent}
@@ -7,12 +7,12 @@ use Rattle.gm_state.specs.declared.command.Intent.TheVariants.{Meta, Clear, Copy
 use Rattle.gm_state.specs.declared.records.Mirror.{Mirror}
 use Rattle.gm_state.specs.declared.records.Component.{Component}
 use Rattle.gm_state.specs.Words.{Has}
-use Rattle.gm_state.specs.Records.{Records, IsState, IsMirror, members}
+use Rattle.gm_state.specs.Records.{Records, IsState, members}
 use Rattle.gm_state.specs.Lookups.{component_of}
 use Rattle.gm_state.specs.Intents.{IsOf}
 use Rattle.gm_state.proofs.Order.{same_from}
 use Rattle.gm_state.proofs.Words.{filter-Has}
-use Rattle.gm_state.specs.Readable.{IsReadable, IsCopyWithin}
+use Rattle.gm_state.specs.Readable.{IsReadable}
 use Rattle.gm_registry.specs.Values.{IsMirrorValue, IsComponentValue, IsIntentValue}
 use Rattle.gm_registry.proofs.Copies.{component_named, member_is}
 

@@ -25,7 +25,10 @@ fn lends(mirror: &Mirror, from: &Component, to: &Component, first: u32, end: u32
 fn is_copy_within(state: &State, source: Label, target: Label, first: u32, end: u32) -> bool
     ensures { IsTrue result ↔ IsCopyWithin state.now source target first end }
 {
-    let (Some(from), Some(to)) = (state.component(source), state.component(target)) else {
+    let Some(from) = state.component(source) else {
+        return false;
+    };
+    let Some(to) = state.component(target) else {
         return false;
     };
     match state.mirror(to.mirror) {

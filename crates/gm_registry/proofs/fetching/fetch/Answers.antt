@@ -2,7 +2,7 @@ use Rattle.std.proofs.Common.{refl}
 use Rattle.sqlite.specs.Held.{state}
 use Rattle.sqlite_rows.proofs.Refusing.{on_err}
 use Rattle.gm_registry.specs.Queries.{IsShown, IsInOrder}
-use Rattle.gm_registry.specs.declared.fetching.Table.TheVariants.{About, Mirrors, Components, Intents, Commands}
+use Rattle.gm_registry.specs.declared.fetching.Table.TheVariants.{Mirrors, Components, Intents, Commands}
 use Rattle.gm_registry.proofs.Passing.{read_then, failed_then, clean_before, carried}
 use Rattle.gm_registry.proofs.fetching.fetch.Goals as goal
 

@@ -1,4 +1,4 @@
-use Rattle.std.proofs.Common.{◌≡◌, ◌∙◌, ◌+◌, sym, subst, true, false, length, drop, not}
+use Rattle.std.proofs.Common.{◌≡◌, ◌∙◌, ◌+◌, sym, subst, true, false, length, drop}
 use Rattle.gm_registry.specs.Says.{IsCommand}
 use Rattle.gm_registry.proofs.Suffixes.{Each, next_is, each_from, each_first, each_rest}
 use Rattle.gm_registry.proofs.judging.are_commands.Goals as goal

@@ -1,6 +1,5 @@
 use Rattle.std.proofs.Common.{◌≡◌, ◌∙◌, sym, ap, subst₂, map, List, true, false}
 use Rattle.sqlite.specs.Order.{Row}
-use Rattle.gm_state.specs.Records.{Records}
 use Rattle.gm_state.specs.Readable.{AreReadable}
 use Rattle.gm_registry.specs.Values.{columns_at, six, IsIntentValue}
 use Rattle.gm_registry.specs.Says.{SayState}

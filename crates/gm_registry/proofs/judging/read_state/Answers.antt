@@ -1,4 +1,4 @@
-use Rattle.std.proofs.Common.{◌≡◌, ◌∙◌, sym}
+use Rattle.std.proofs.Common.{◌∙◌, sym}
 use Rattle.gm_registry.specs.Says.{mirror_shown, component_shown}
 use Rattle.gm_registry.specs.Values.{IsMirrorValue, IsComponentValue}
 use Rattle.gm_registry.proofs.Typed.{mirror_value, component_value}

@@ -1,7 +1,7 @@
-use Rattle.std.proofs.Common.{IfOk, IfErr, OnErr, Result, Ok, Err}
+use Rattle.std.proofs.Common.{IfErr, Result, Ok, Err}
 use Rattle.sqlite.specs.Held.{state}
 use Rattle.sqlite_rows.proofs.Refusing.{if_ok, on_err}
-use Rattle.gm_registry.proofs.Passing.{ours, counted, tables_stay, tables_refused, nothing_new, registry_ours, read_leaves, failed_leaves}
+use Rattle.gm_registry.proofs.Passing.{ours, counted, tables_stay, nothing_new, registry_ours, read_leaves}
 use Rattle.gm_registry.proofs.Telling.{says_tables, tables_said, any_tables, any_rows}
 use Rattle.gm_registry.proofs.loading.load_on.Goals as goal
 
