@@ -2,6 +2,7 @@
 
 mod loading;
 mod stops;
+mod stored;
 
 use crate::{Registry, StoreFault};
 use gm_metadata::{Balance, Label, MirrorFlags};

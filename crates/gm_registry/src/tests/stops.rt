@@ -180,7 +180,7 @@ fn nothing(alloc: Global) -> Result<Files<Fuse<Memory>>, Fail> {
 }
 
 // A registry with one component, settled.
-fn one_command(alloc: Global) -> Result<Files<Fuse<Memory>>, Fail> {
+pub(super) fn one_command(alloc: Global) -> Result<Files<Fuse<Memory>>, Fail> {
     let from = nothing(alloc)?;
     let (reached, stopped, left) = run(
         alloc,
