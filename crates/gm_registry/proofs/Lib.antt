@@ -8,3 +8,4 @@ pub mod Lasting
 pub mod Counting
 pub mod Making
 pub mod Standing
+pub mod Abouts

@@ -16,6 +16,7 @@ mod mirrors;
 mod opening;
 mod registry;
 mod replies;
+mod schema;
 #[cfg(test)]
 mod tests;
 
