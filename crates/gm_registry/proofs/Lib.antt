@@ -18,3 +18,4 @@ pub mod Reordering
 pub mod Typed
 pub mod Saying
 pub mod Telling
+pub mod Abouts

@@ -4,6 +4,7 @@ use Rattle.std.proofs.lemmas.Bool.{true≢false}
 use Rattle.sqlite.specs.Schema.{Schema}
 use Rattle.sqlite.specs.Effect.{Database}
 use Rattle.sqlite.specs.State.{State, IsLive}
+use Rattle.sqlite_catalog.specs.Listing.{IsSound}
 use Rattle.sqlite_rows.proofs.Statements.{settled_schema}
 use Rattle.sqlite_rows.proofs.Showing.{one_schema, opened}
 use Rattle.gm_state.specs.Rows.{Tables}
@@ -28,6 +29,13 @@ some_tables e = let f = ap (λ (s : Schema). s.tables) e in cc
 -- a registry has tables
 pub not_empty : (s : State) (t : Tables) (shown : Schema) (b : Bool) → HasTables s t → shown ≡ s.now.schema → IsTrue b ↔ (shown ≡ no_schema) → b ≡ true → ⊥
 not_empty s t shown b has is tells e = some_tables (sym (is ∙ settled_schema registry_schema HasCounted s t has) ∙ tells.0 e)
+
+pub shows_some : (s : State) (shown : Schema) (b : Bool) → s.now.schema ≡ registry_schema → shown ≡ s.now.schema → IsTrue b ↔ (shown ≡ no_schema) → b ≡ true → ⊥
+shows_some s shown b has is tells e = some_tables (sym (is ∙ has) ∙ tells.0 e)
+
+-- trees that list the registry's tables are seen with them
+pub registry_seen : (s : State) → IsTrue s.is_open → s.now ≡ s.committed → IsLive s → IsSound registry_schema s.committed.trees → s.now.schema ≡ registry_schema
+registry_seen s is_open settled live sound = ap (λ (d : Database). d.schema) settled ∙ one_schema s registry_schema is_open live sound
 
 -- an empty store has none
 pub not_full : (s : State) (shown : Schema) (b : Bool) → IsBlank s → shown ≡ s.now.schema → IsTrue b ↔ (shown ≡ no_schema) → b ≡ false → ⊥

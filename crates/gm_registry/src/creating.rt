@@ -8,6 +8,7 @@ ghost use Rattle.sqlite.specs.Effect.{Database};
 ghost use Rattle.gm_registry.specs.Tables.{Holds, HasTables, IsInside, no_tables};
 ghost use Rattle.gm_registry.specs.Opening.{IsBlank, IsBlankInside, IsBareInside};
 
+use crate::schema::{ABOUT, COMMANDS, COMPONENTS, INTENTS, MIRRORS};
 use sqlite::{Alter, Connection, Error, Transaction};
 
 /// Makes the tables, over a store without any.
@@ -17,32 +18,11 @@ fn create_tables<S: Alter>(tx: &mut Transaction<'_, S>) -> Result<(), Error>
         → IsBareInside first (state S.Store tx.new.conn.now)) }
     ensures survives { Survives (state S.Store tx.old.conn.now) (state S.Store tx.new.conn.now) (λ _. ⊥) }
 {
-    tx.execute(
-        "CREATE TABLE about(one INTEGER PRIMARY KEY CHECK (one = 1), schema_no INTEGER NOT NULL) STRICT",
-        &[],
-    )?;
-    tx.execute(
-        "CREATE TABLE mirrors(name TEXT PRIMARY KEY NOT NULL, mid INTEGER NOT NULL UNIQUE,
-  total INTEGER NOT NULL, genid INTEGER NOT NULL, syncid INTEGER NOT NULL, slice INTEGER NOT NULL,
-  balance INTEGER NOT NULL, mediasize INTEGER NOT NULL, mflags INTEGER NOT NULL) STRICT",
-        &[],
-    )?;
-    tx.execute(
-        "CREATE TABLE components(prov TEXT PRIMARY KEY NOT NULL, mirror TEXT NOT NULL REFERENCES mirrors(name),
-  did INTEGER NOT NULL, syncid INTEGER NOT NULL, priority INTEGER NOT NULL, sync_offset INTEGER NOT NULL,
-  dflags INTEGER NOT NULL, hard INTEGER NOT NULL, provsize INTEGER NOT NULL, UNIQUE (mirror, did)) STRICT",
-        &[],
-    )?;
-    tx.execute(
-        "CREATE TABLE intents(ord INTEGER PRIMARY KEY, kind INTEGER NOT NULL, prov TEXT NOT NULL,
-  source TEXT NOT NULL, first_sector INTEGER NOT NULL, end_sector INTEGER NOT NULL) STRICT",
-        &[],
-    )?;
-    tx.execute(
-        "CREATE TABLE commands(call_key TEXT PRIMARY KEY NOT NULL, seq INTEGER NOT NULL UNIQUE,
-  words TEXT NOT NULL, copied INTEGER NOT NULL, of_total INTEGER NOT NULL) STRICT",
-        &[],
-    )?;
+    tx.execute(ABOUT, &[])?;
+    tx.execute(MIRRORS, &[])?;
+    tx.execute(COMPONENTS, &[])?;
+    tx.execute(INTENTS, &[])?;
+    tx.execute(COMMANDS, &[])?;
     Ok(())
 }
 

@@ -23,6 +23,7 @@ mod reading;
 mod registry;
 mod replies;
 mod rows;
+mod schema;
 #[cfg(test)]
 mod tests;
 

@@ -1,31 +1,22 @@
 //! What is found in a store that is opened: nothing, a registry, or something else.
 
-ghost use Rattle.std.specs.Prelude.{◌≡◌, ◌≤◌, ◌↔◌, false, IsTrue, OnOk, OnErr};
+ghost use Rattle.std.specs.Prelude.{◌≡◌, ◌≤◌, ◌↔◌, false, pos, map, IfOk, IsTrue, OnOk, OnErr, IsPermutation};
 ghost use Rattle.sqlite_trees.specs.View.{doubt};
-ghost use Rattle.sqlite.specs.State.{HasCleanDisk, Survives};
+ghost use Rattle.sqlite.specs.State.{HasCleanDisk, IsUnchanged, Survives};
 ghost use Rattle.sqlite.specs.Held.{state};
 ghost use Rattle.gm_state.specs.Rows.{Tables};
-ghost use Rattle.gm_registry.specs.Schema.{no_schema};
+ghost use Rattle.gm_registry.specs.Schema.{no_schema, registry_schema};
 ghost use Rattle.gm_registry.specs.Tables.{Holds, HasTables, IsEmpty, no_tables};
+ghost use Rattle.gm_registry.specs.Opening.{about_numbers, IsOneOne, IsOfSchema1};
+ghost use Rattle.sqlite_catalog.specs.Listing.{IsSound};
+ghost use Rattle.sqlite.specs.Order.{column};
+ghost use Rattle.sqlite.specs.declared.types.Value.TheVariants.{Int};
 
 use crate::creating::create_all;
 use crate::fault::{StoreFault, readable};
+use crate::schema::TEXTS;
 use sqlite::{Alter, Connection, Error, Row};
 use sqlite_schema::schema::Schema;
-
-const TEXTS: [&str; 5] = [
-    "CREATE TABLE about(one INTEGER PRIMARY KEY CHECK (one = 1), schema_no INTEGER NOT NULL) STRICT",
-    "CREATE TABLE mirrors(name TEXT PRIMARY KEY NOT NULL, mid INTEGER NOT NULL UNIQUE,
-  total INTEGER NOT NULL, genid INTEGER NOT NULL, syncid INTEGER NOT NULL, slice INTEGER NOT NULL,
-  balance INTEGER NOT NULL, mediasize INTEGER NOT NULL, mflags INTEGER NOT NULL) STRICT",
-    "CREATE TABLE components(prov TEXT PRIMARY KEY NOT NULL, mirror TEXT NOT NULL REFERENCES mirrors(name),
-  did INTEGER NOT NULL, syncid INTEGER NOT NULL, priority INTEGER NOT NULL, sync_offset INTEGER NOT NULL,
-  dflags INTEGER NOT NULL, hard INTEGER NOT NULL, provsize INTEGER NOT NULL, UNIQUE (mirror, did)) STRICT",
-    "CREATE TABLE intents(ord INTEGER PRIMARY KEY, kind INTEGER NOT NULL, prov TEXT NOT NULL,
-  source TEXT NOT NULL, first_sector INTEGER NOT NULL, end_sector INTEGER NOT NULL) STRICT",
-    "CREATE TABLE commands(call_key TEXT PRIMARY KEY NOT NULL, seq INTEGER NOT NULL UNIQUE,
-  words TEXT NOT NULL, copied INTEGER NOT NULL, of_total INTEGER NOT NULL) STRICT",
-];
 
 /// Whether a store has no table, no index and no view.
 fn is_empty(schema: &Schema) -> bool
@@ -37,6 +28,7 @@ fn is_empty(schema: &Schema) -> bool
 }
 
 fn load_texts<S: Alter>(conn: &mut Connection<S>) -> Result<Vec<Row>, Error>
+    ensures same { HasCleanDisk (state S.Store conn.new) → OnOk result ((state S.Store conn.old).now.schema ≡ registry_schema → IsUnchanged (state S.Store conn.old) (state S.Store conn.new)) }
     ensures kept { HasCleanDisk (state S.Store conn.new) → OnOk result ((t : Tables) → HasTables (state S.Store conn.old) t → HasTables (state S.Store conn.new) t) }
     ensures refused { HasCleanDisk (state S.Store conn.new) → OnErr result ((t : Tables) → HasTables (state S.Store conn.old) t → IsTrue (state S.Store conn.new).is_open → HasTables (state S.Store conn.new) t) }
     ensures left { (t : Tables) → HasTables (state S.Store conn.old) t → Survives (state S.Store conn.old) (state S.Store conn.new) (λ _. ⊥) }
@@ -49,6 +41,8 @@ fn load_texts<S: Alter>(conn: &mut Connection<S>) -> Result<Vec<Row>, Error>
 }
 
 fn load_about<S: Alter>(conn: &mut Connection<S>) -> Result<Vec<Row>, Error>
+    ensures shown { HasCleanDisk (state S.Store conn.new) → IfOk result (λ rows. (state S.Store conn.old).now.schema ≡ registry_schema
+        → IsPermutation (map about_numbers ((state S.Store conn.old).now.trees 0)) rows.items × IsUnchanged (state S.Store conn.old) (state S.Store conn.new)) }
     ensures kept { HasCleanDisk (state S.Store conn.new) → OnOk result ((t : Tables) → HasTables (state S.Store conn.old) t → HasTables (state S.Store conn.new) t) }
     ensures refused { HasCleanDisk (state S.Store conn.new) → OnErr result ((t : Tables) → HasTables (state S.Store conn.old) t → IsTrue (state S.Store conn.new).is_open → HasTables (state S.Store conn.new) t) }
     ensures left { (t : Tables) → HasTables (state S.Store conn.old) t → Survives (state S.Store conn.old) (state S.Store conn.new) (λ _. ⊥) }
@@ -74,20 +68,26 @@ fn are_texts(rows: &[Row]) -> Result<bool, StoreFault> {
     Ok(true)
 }
 
-fn read_pair(row: &Row) -> Result<(i64, i64), StoreFault> {
+fn read_pair(row: &Row) -> Result<(u32, u32), StoreFault>
+    ensures { IfOk result (λ pair. (column row.now 0 ≡ Int (pos pair.0)) × (column row.now 1 ≡ Int (pos pair.1))) }
+{
     Ok((readable(row.get(0))?, readable(row.get(1))?))
 }
 
 /// Whether the record of `about` is the one of this schema, (1, 1).
-fn is_about(rows: &[Row]) -> Result<bool, StoreFault> {
-    match rows {
-        [row] => Ok(read_pair(row)? == (1, 1)),
-        _ => Ok(false),
+fn is_about(rows: &[Row]) -> Result<bool, StoreFault>
+    ensures { IfOk result (λ yes. IsTrue yes → IsOneOne rows.now) }
+{
+    if rows.len() != 1 {
+        return Ok(false);
     }
+    let (one, number) = read_pair(&rows[0])?;
+    Ok(one == 1 && number == 1)
 }
 
 /// Whether a store with tables is a registry, by the texts of its tables and the record of `about`.
 fn check_registry<S: Alter>(conn: &mut Connection<S>) -> Result<(), StoreFault>
+    ensures about { HasCleanDisk (state S.Store conn.new) → OnOk result ((state S.Store conn.old).now.schema ≡ registry_schema → IsOfSchema1 (state S.Store conn.new).now.trees) }
     ensures kept { HasCleanDisk (state S.Store conn.new) → OnOk result ((t : Tables) → HasTables (state S.Store conn.old) t → HasTables (state S.Store conn.new) t) }
     ensures refused { HasCleanDisk (state S.Store conn.new) → OnErr result ((t : Tables) → HasTables (state S.Store conn.old) t → IsTrue (state S.Store conn.new).is_open → HasTables (state S.Store conn.new) t) }
     ensures left { (t : Tables) → HasTables (state S.Store conn.old) t → Survives (state S.Store conn.old) (state S.Store conn.new) (λ _. ⊥) }
@@ -109,6 +109,7 @@ pub(crate) fn prepare<S: Alter>(conn: &mut Connection<S>) -> Result<(), StoreFau
     requires { conn.old.in_transaction ≡ false }
     ensures made { HasCleanDisk (state S.Store conn.new) → OnOk result (IsTrue (state S.Store conn.old).is_open → IsEmpty (state S.Store conn.old).committed.trees → HasTables (state S.Store conn.new) no_tables) }
     ensures found { HasCleanDisk (state S.Store conn.new) → OnOk result ((t : Tables) → IsTrue (state S.Store conn.old).is_open → Holds (state S.Store conn.old).committed.trees t → HasTables (state S.Store conn.new) t) }
+    ensures about { HasCleanDisk (state S.Store conn.new) → OnOk result (IsTrue (state S.Store conn.old).is_open → IsSound registry_schema (state S.Store conn.old).committed.trees → IsOfSchema1 (state S.Store conn.new).now.trees) }
     ensures refused { HasCleanDisk (state S.Store conn.new) → OnErr result ((t : Tables) → IsTrue (state S.Store conn.old).is_open → Holds (state S.Store conn.old).committed.trees t
         → IsTrue (state S.Store conn.new).is_open → HasTables (state S.Store conn.new) t) }
     ensures left_made { IsTrue (state S.Store conn.old).is_open → IsEmpty (state S.Store conn.old).committed.trees → Survives (state S.Store conn.old) (state S.Store conn.new) (λ db. Holds db no_tables) }

@@ -1,5 +1,5 @@
 -- A call that is refused leaves the records, and so does one that only reads.
-use Rattle.std.proofs.Common.{◌⊎◌, inl, inr, ℕ, Bool, true, false, List, Option, Some, None, IfErr, Result, Ok, Err, IfOk, OnOk, OnErr, IsTrue, MatchBool, refl, sym, ap, subst, ◌∙◌}
+use Rattle.std.proofs.Common.{◌≡◌, ◌⊎◌, inl, inr, ℕ, Bool, true, false, List, Option, Some, None, IfErr, Result, Ok, Err, IfOk, OnOk, OnErr, IsTrue, MatchBool, refl, sym, ap, subst, ◌∙◌}
 use Rattle.sqlite.specs.Order.{Row}
 use Rattle.sqlite.specs.Effect.{Database}
 use Rattle.sqlite.specs.declared.error.Error.{Error}
@@ -78,6 +78,11 @@ over_ok (Err e) A P h = tt
 pub over_err : {X E : Type 0} (x : Result X E) (A : Type 0) (P : A → Type 0) → ((a : A) → OnErr x (P a)) → OnErr x ((a : A) → P a)
 over_err (Ok _) A P h = tt
 over_err (Err e) A P h = h
+
+pub alone_ok : {A : Type 0} (of_schema : Schema) (items : A → List Row) (sql : List ℕ) (params : Row) (old new : State) (x : Result A Error) → IsPlain (understood of_schema sql)
+    → IfOk x (λ rows. Shown sql params old new (items rows)) → OnOk x (old.now.schema ≡ of_schema → IsUnchanged old new)
+alone_ok of_schema items sql params old new (Ok rows) plain h = λ has. left_alone sql params old new (items rows) (subst (λ s. IsPlain (understood s sql)) (sym has) plain) h
+alone_ok of_schema items sql params old new (Err e) plain h = tt
 
 module _ {R : Type 0} (of_schema : Schema) (Rows : Trees → R → Type 0) where
   pub unchanged_has : (old new : State) (r : R) → HasRecords of_schema Rows old r → IsUnchanged old new → HasRecords of_schema Rows new r

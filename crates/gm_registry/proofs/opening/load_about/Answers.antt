@@ -1,11 +1,12 @@
 use Rattle.std.proofs.Common.{[]}
 use Rattle.sqlite.specs.Held.{state}
 use Rattle.sqlite.proofs.StateLemmas.{survives_weaker}
-use Rattle.sqlite_rows.proofs.Refusing.{shown_ok, asked_has, asks_only}
+use Rattle.sqlite_rows.proofs.Refusing.{shown_ok, asked_has, asks_only, if_ok}
 use Rattle.gm_registry.specs.Statements.{load_about_text}
 use Rattle.gm_registry.specs.Schema.{registry_schema}
 use Rattle.gm_registry.specs.Tables.{HasCounted}
 use Rattle.gm_registry.proofs.Meaning.{load_about_is}
+use Rattle.gm_registry.proofs.Abouts.{about_found}
 use Rattle.gm_registry.proofs.opening.load_about.Goals as goal
 
 pub returns-clause-kept : goal.returns-clause-kept
@@ -20,3 +21,6 @@ returns-clause-left g c t was = asks_only registry_schema HasCounted load_about_
 
 pub returns-clause-survives : goal.returns-clause-survives
 returns-clause-survives g c = survives_weaker (state g.S.Store c.args.conn.now) (state g.S.Store c.query_all.new.self) _ _ (λ _ db _. tt) c.query_all.ensures.survives
+
+pub returns-clause-shown : goal.returns-clause-shown
+returns-clause-shown g c clean = if_ok c.query_all.result _ _ (λ rows h has. about_found (state g.S.Store c.args.conn.now) (state g.S.Store c.query_all.new.self) rows.items has h) (c.query_all.ensures.ok clean)

@@ -1,7 +1,7 @@
 use Rattle.std.proofs.Common.{[]}
 use Rattle.sqlite.specs.Held.{state}
 use Rattle.sqlite.proofs.StateLemmas.{survives_weaker}
-use Rattle.sqlite_rows.proofs.Refusing.{shown_ok, asked_has, asks_only}
+use Rattle.sqlite_rows.proofs.Refusing.{shown_ok, asked_has, asks_only, alone_ok}
 use Rattle.gm_registry.specs.Statements.{load_texts_text}
 use Rattle.gm_registry.specs.Schema.{registry_schema}
 use Rattle.gm_registry.specs.Tables.{HasCounted}
@@ -20,3 +20,6 @@ returns-clause-left g c t was = asks_only registry_schema HasCounted load_texts_
 
 pub returns-clause-survives : goal.returns-clause-survives
 returns-clause-survives g c = survives_weaker (state g.S.Store c.args.conn.now) (state g.S.Store c.query_all.new.self) _ _ (λ _ db _. tt) c.query_all.ensures.survives
+
+pub returns-clause-same : goal.returns-clause-same
+returns-clause-same g c clean = alone_ok registry_schema (λ rows. rows.items) load_texts_text [] (state g.S.Store c.args.conn.now) (state g.S.Store c.query_all.new.self) c.query_all.result load_texts_plain (c.query_all.ensures.ok clean)

@@ -1,7 +1,7 @@
 use Rattle.std.proofs.Common.{not, ap, ◌∙◌}
 use Rattle.sqlite.specs.Held.{state}
 use Rattle.sqlite_rows.proofs.Refusing.{map_ok, on_ok, on_err}
-use Rattle.gm_registry.proofs.Standing.{blank, has_tables, not_empty, not_full, map_err}
+use Rattle.gm_registry.proofs.Standing.{blank, has_tables, not_empty, not_full, map_err, shows_some, registry_seen}
 use Rattle.gm_registry.proofs.opening.prepare.Goals as goal
 
 pub returns-in_err-create_all-clause-left_found : goal.returns-in_err-create_all-clause-left_found
@@ -43,3 +43,11 @@ returns-clause-left_made g c is_open empty =
 pub returns-clause-left_found : goal.returns-clause-left_found
 returns-clause-left_found g c t is_open holds =
     c.check_registry.ensures.left t (has_tables (state g.S.Store c.args.conn.now) t is_open c.requires (c.is_autocommit-settled.ensures.settled (c.is_autocommit-settled.ensures.value ∙ ap not c.requires) is_open) c.schema.ensures.live holds)
+
+pub returns-then-is_empty-clause-about : goal.returns-then-is_empty-clause-about
+returns-then-is_empty-clause-about g c clean is_open sound =
+    absurd (shows_some (state g.S.Store c.args.conn.now) c.schema.result.now c.is_empty.result (registry_seen (state g.S.Store c.args.conn.now) is_open (c.is_autocommit-settled.ensures.settled (c.is_autocommit-settled.ensures.value ∙ ap not c.requires) is_open) c.schema.ensures.live sound) c.schema.ensures.value c.is_empty.ensures c.if-is_empty.true)
+
+pub returns-clause-about : goal.returns-clause-about
+returns-clause-about g c clean =
+    map_ok c.check_registry.result _ _ (λ about is_open sound. about (registry_seen (state g.S.Store c.args.conn.now) is_open (c.is_autocommit-settled.ensures.settled (c.is_autocommit-settled.ensures.value ∙ ap not c.requires) is_open) c.schema.ensures.live sound)) (c.check_registry.ensures.about clean)
