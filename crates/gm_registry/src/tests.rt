@@ -3,6 +3,7 @@
 mod loading;
 mod stops;
 mod stored;
+mod untouched;
 
 use crate::{Registry, StoreFault};
 use gm_metadata::{Balance, Label, MirrorFlags};

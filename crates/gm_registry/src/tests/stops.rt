@@ -13,8 +13,8 @@ const MANY: u64 = 400;
 
 // What was acknowledged before the stop.
 #[derive(Clone, Copy)]
-struct Reached {
-    accepted: bool,
+pub(super) struct Reached {
+    pub(super) accepted: bool,
     settled: bool,
 }
 
@@ -35,7 +35,7 @@ fn disk(alloc: Global, bytes: &[u8], calls: u64) -> Result<Fuse<Memory>, Fail> {
 }
 
 // A store of these files, of which each serves so many calls.
-fn files(
+pub(super) fn files(
     alloc: Global,
     from: &Files<Fuse<Memory>>,
     log_calls: u64,
@@ -70,7 +70,7 @@ fn run_on<S: Alter + Drop>(
 }
 
 // The same on files; they come back with whether they stopped.
-fn run(
+pub(super) fn run(
     alloc: Global,
     files: Files<Fuse<Memory>>,
     change: &Change,
