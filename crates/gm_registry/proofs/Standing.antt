@@ -1,16 +1,17 @@
 -- What a connection that was just opened stands on.
-use Rattle.std.proofs.Common.{◌≡◌, ◌↔◌, Bool, true, false, Result, Ok, Err, OnErr, IsTrue, sym, ap, ◌∙◌}
+use Rattle.std.proofs.Common.{◌≡◌, ◌↔◌, Bool, true, false, Result, Ok, Err, OnErr, IsTrue, sym, ap, subst, ◌∙◌}
 use Rattle.std.proofs.lemmas.Bool.{true≢false}
 use Rattle.sqlite.specs.Schema.{Schema}
 use Rattle.sqlite.specs.Effect.{Database}
-use Rattle.sqlite.specs.State.{State, IsLive}
+use Rattle.sqlite.specs.State.{State, IsLive, Shows}
 use Rattle.sqlite_catalog.specs.Listing.{IsSound}
 use Rattle.sqlite_rows.proofs.Statements.{settled_schema}
 use Rattle.sqlite_rows.proofs.Showing.{one_schema, opened}
 use Rattle.gm_state.specs.Rows.{Tables}
 use Rattle.gm_registry.specs.Schema.{registry_schema, no_schema}
-use Rattle.gm_registry.specs.Tables.{HasCounted, HasTables, Holds, IsEmpty}
-use Rattle.gm_registry.specs.Opening.{IsBlank}
+use Rattle.gm_registry.specs.Tables.{HasCounted, HasTables, Holds, IsEmpty, IsRegistry}
+use Rattle.gm_registry.specs.Opening.{IsBlank, IsOfSchema1}
+use Rattle.gm_registry.proofs.Abouts.{about_row}
 
 pub blank : (s : State) → IsTrue s.is_open → s.in_transaction ≡ false → s.now ≡ s.committed → IsLive s → IsEmpty s.committed.trees → IsBlank s
 blank s is_open autocommit settled live empty = record {
@@ -36,6 +37,21 @@ shows_some s shown b has is tells e = some_tables (sym (is ∙ has) ∙ tells.0 
 -- trees that list the registry's tables are seen with them
 pub registry_seen : (s : State) → IsTrue s.is_open → s.now ≡ s.committed → IsLive s → IsSound registry_schema s.committed.trees → s.now.schema ≡ registry_schema
 registry_seen s is_open settled live sound = ap (λ (d : Database). d.schema) settled ∙ one_schema s registry_schema is_open live sound
+
+-- what is unchanged since the opening, with the one record of `about`, is a registry
+pub registry_there : (old new : State) → IsTrue old.is_open → old.in_transaction ≡ false → old.now ≡ old.committed → IsLive old → IsSound registry_schema old.committed.trees
+    → Shows old new old.now old.committed old.in_transaction → IsOfSchema1 new.now.trees → IsRegistry new
+registry_there old new is_open autocommit settled live sound same one =
+    let still : IsSound registry_schema new.committed.trees = subst (λ (d : Database). IsSound registry_schema d.trees) (sym same.committed_is) sound in
+    let now : new.now ≡ new.committed = same.now_is ∙ settled ∙ sym same.committed_is in
+    record {
+      is_open = same.is_open;
+      autocommit = same.mode ∙ autocommit;
+      schema_is = ap (λ (d : Database). d.schema) same.committed_is ∙ one_schema old registry_schema is_open live sound;
+      settled = now;
+      sound = still;
+      about = about_row new.committed.trees still (subst (λ (d : Database). IsOfSchema1 d.trees) now one);
+    }
 
 -- an empty store has none
 pub not_full : (s : State) (shown : Schema) (b : Bool) → IsBlank s → shown ≡ s.now.schema → IsTrue b ↔ (shown ≡ no_schema) → b ≡ false → ⊥

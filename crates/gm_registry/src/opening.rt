@@ -2,11 +2,11 @@
 
 ghost use Rattle.std.specs.Prelude.{◌≡◌, ◌≤◌, ◌↔◌, false, pos, map, IfOk, IsTrue, OnOk, OnErr, IsPermutation};
 ghost use Rattle.sqlite_trees.specs.View.{doubt};
-ghost use Rattle.sqlite.specs.State.{HasCleanDisk, IsUnchanged, Survives};
+ghost use Rattle.sqlite.specs.State.{HasCleanDisk, IsUnchanged, Shows, Survives};
 ghost use Rattle.sqlite.specs.Held.{state};
 ghost use Rattle.gm_state.specs.Rows.{Tables};
 ghost use Rattle.gm_registry.specs.Schema.{no_schema, registry_schema};
-ghost use Rattle.gm_registry.specs.Tables.{Holds, HasTables, IsEmpty, no_tables};
+ghost use Rattle.gm_registry.specs.Tables.{Holds, HasTables, IsEmpty, IsRegistry, no_tables};
 ghost use Rattle.gm_registry.specs.Opening.{about_numbers, IsOneOne, IsOfSchema1};
 ghost use Rattle.sqlite_catalog.specs.Listing.{IsSound};
 ghost use Rattle.sqlite.specs.Order.{column};
@@ -87,7 +87,9 @@ fn is_about(rows: &[Row]) -> Result<bool, StoreFault>
 
 /// Whether a store with tables is a registry, by the texts of its tables and the record of `about`.
 fn check_registry<S: Alter>(conn: &mut Connection<S>) -> Result<(), StoreFault>
-    ensures about { HasCleanDisk (state S.Store conn.new) → OnOk result ((state S.Store conn.old).now.schema ≡ registry_schema → IsOfSchema1 (state S.Store conn.new).now.trees) }
+    ensures about { HasCleanDisk (state S.Store conn.new) → OnOk result ((state S.Store conn.old).now.schema ≡ registry_schema
+        → Shows (state S.Store conn.old) (state S.Store conn.new) (state S.Store conn.old).now (state S.Store conn.old).committed (state S.Store conn.old).in_transaction
+        × IsOfSchema1 (state S.Store conn.new).now.trees) }
     ensures kept { HasCleanDisk (state S.Store conn.new) → OnOk result ((t : Tables) → HasTables (state S.Store conn.old) t → HasTables (state S.Store conn.new) t) }
     ensures refused { HasCleanDisk (state S.Store conn.new) → OnErr result ((t : Tables) → HasTables (state S.Store conn.old) t → IsTrue (state S.Store conn.new).is_open → HasTables (state S.Store conn.new) t) }
     ensures left { (t : Tables) → HasTables (state S.Store conn.old) t → Survives (state S.Store conn.old) (state S.Store conn.new) (λ _. ⊥) }
@@ -109,7 +111,7 @@ pub(crate) fn prepare<S: Alter>(conn: &mut Connection<S>) -> Result<(), StoreFau
     requires { conn.old.in_transaction ≡ false }
     ensures made { HasCleanDisk (state S.Store conn.new) → OnOk result (IsTrue (state S.Store conn.old).is_open → IsEmpty (state S.Store conn.old).committed.trees → HasTables (state S.Store conn.new) no_tables) }
     ensures found { HasCleanDisk (state S.Store conn.new) → OnOk result ((t : Tables) → IsTrue (state S.Store conn.old).is_open → Holds (state S.Store conn.old).committed.trees t → HasTables (state S.Store conn.new) t) }
-    ensures about { HasCleanDisk (state S.Store conn.new) → OnOk result (IsTrue (state S.Store conn.old).is_open → IsSound registry_schema (state S.Store conn.old).committed.trees → IsOfSchema1 (state S.Store conn.new).now.trees) }
+    ensures registry { HasCleanDisk (state S.Store conn.new) → OnOk result (IsTrue (state S.Store conn.old).is_open → IsSound registry_schema (state S.Store conn.old).committed.trees → IsRegistry (state S.Store conn.new)) }
     ensures refused { HasCleanDisk (state S.Store conn.new) → OnErr result ((t : Tables) → IsTrue (state S.Store conn.old).is_open → Holds (state S.Store conn.old).committed.trees t
         → IsTrue (state S.Store conn.new).is_open → HasTables (state S.Store conn.new) t) }
     ensures left_made { IsTrue (state S.Store conn.old).is_open → IsEmpty (state S.Store conn.old).committed.trees → Survives (state S.Store conn.old) (state S.Store conn.new) (λ db. Holds db no_tables) }

@@ -6,10 +6,9 @@ ghost use Rattle.sqlite.specs.State.{HasCleanDisk, Survives};
 ghost use Rattle.sqlite.specs.Held.{state};
 ghost use Rattle.gm_state.specs.Rows.{Tables};
 ghost use Rattle.gm_state.specs.World.{ReplyFits};
-ghost use Rattle.gm_registry.specs.Tables.{Holds, HasTables, IsEmpty, no_tables};
+ghost use Rattle.gm_registry.specs.Tables.{Holds, HasTables, IsEmpty, IsRegistry, no_tables};
 ghost use Rattle.sqlite_catalog.specs.Listing.{IsSound};
 ghost use Rattle.gm_registry.specs.Schema.{registry_schema};
-ghost use Rattle.gm_registry.specs.Opening.{IsOfSchema1};
 ghost use Rattle.gm_registry.specs.Changes.{with_change, settled};
 ghost use Rattle.gm_registry.specs.Replies.{IsKept, IsFree, count_of};
 
@@ -55,8 +54,9 @@ impl<S: Alter> Registry<S> {
             → IfOk result (λ c. HasCleanDisk (state S.Store c) → HasTables (state S.Store c) no_tables) }
         ensures found { (t : Tables) → IsTrue (state S.Store store).is_open → Holds (state S.Store store).committed.trees t
             → IfOk result (λ c. HasCleanDisk (state S.Store c) → HasTables (state S.Store c) t) }
-        ensures about { IsTrue (state S.Store store).is_open → IsSound registry_schema (state S.Store store).committed.trees
-            → IfOk result (λ c. HasCleanDisk (state S.Store c) → IsOfSchema1 (state S.Store c).now.trees) }
+        // Whatever rows the tables of a registry hold.
+        ensures registry { IsTrue (state S.Store store).is_open → IsSound registry_schema (state S.Store store).committed.trees
+            → IfOk result (λ c. HasCleanDisk (state S.Store c) → IsRegistry (state S.Store c)) }
         ensures refused { (t : Tables) → IsTrue (state S.Store store).is_open → Holds (state S.Store store).committed.trees t
             → IfErr result (λ e. HasCleanDisk (state S.Store e.store) → IsTrue (state S.Store e.store).is_open → HasTables (state S.Store e.store) t) }
         ensures left_made { IsTrue (state S.Store store).is_open → IsEmpty (state S.Store store).committed.trees

@@ -1,7 +1,7 @@
 use Rattle.std.proofs.Common.{not, ap, ◌∙◌}
 use Rattle.sqlite.specs.Held.{state}
 use Rattle.sqlite_rows.proofs.Refusing.{map_ok, on_ok, on_err}
-use Rattle.gm_registry.proofs.Standing.{blank, has_tables, not_empty, not_full, map_err, shows_some, registry_seen}
+use Rattle.gm_registry.proofs.Standing.{blank, has_tables, not_empty, not_full, map_err, shows_some, registry_seen, registry_there}
 use Rattle.gm_registry.proofs.opening.prepare.Goals as goal
 
 pub returns-in_err-create_all-clause-left_found : goal.returns-in_err-create_all-clause-left_found
@@ -44,10 +44,13 @@ pub returns-clause-left_found : goal.returns-clause-left_found
 returns-clause-left_found g c t is_open holds =
     c.check_registry.ensures.left t (has_tables (state g.S.Store c.args.conn.now) t is_open c.requires (c.is_autocommit-settled.ensures.settled (c.is_autocommit-settled.ensures.value ∙ ap not c.requires) is_open) c.schema.ensures.live holds)
 
-pub returns-then-is_empty-clause-about : goal.returns-then-is_empty-clause-about
-returns-then-is_empty-clause-about g c clean is_open sound =
+pub returns-then-is_empty-clause-registry : goal.returns-then-is_empty-clause-registry
+returns-then-is_empty-clause-registry g c clean is_open sound =
     absurd (shows_some (state g.S.Store c.args.conn.now) c.schema.result.now c.is_empty.result (registry_seen (state g.S.Store c.args.conn.now) is_open (c.is_autocommit-settled.ensures.settled (c.is_autocommit-settled.ensures.value ∙ ap not c.requires) is_open) c.schema.ensures.live sound) c.schema.ensures.value c.is_empty.ensures c.if-is_empty.true)
 
-pub returns-clause-about : goal.returns-clause-about
-returns-clause-about g c clean =
-    map_ok c.check_registry.result _ _ (λ about is_open sound. about (registry_seen (state g.S.Store c.args.conn.now) is_open (c.is_autocommit-settled.ensures.settled (c.is_autocommit-settled.ensures.value ∙ ap not c.requires) is_open) c.schema.ensures.live sound)) (c.check_registry.ensures.about clean)
+pub returns-clause-registry : goal.returns-clause-registry
+returns-clause-registry g c clean =
+    map_ok c.check_registry.result _ _ (λ about is_open sound.
+    let settled = c.is_autocommit-settled.ensures.settled (c.is_autocommit-settled.ensures.value ∙ ap not c.requires) is_open in
+    let it = about (registry_seen (state g.S.Store c.args.conn.now) is_open settled c.schema.ensures.live sound) in
+    registry_there (state g.S.Store c.args.conn.now) (state g.S.Store c.check_registry.new.conn) is_open c.requires settled c.schema.ensures.live sound it.0 it.1) (c.check_registry.ensures.about clean)
