@@ -41,14 +41,10 @@ pub(super) fn files(
     log_calls: u64,
     db_calls: u64,
 ) -> Result<Files<Fuse<Memory>>, Fail> {
-    let files = Files {
+    Ok(Files {
         log: disk(alloc, from.log.inner().bytes(), log_calls)?,
         db: disk(alloc, from.db.inner().bytes(), db_calls)?,
-    };
-    if !files.may_be_used() {
-        return Err("a sync failed")?;
-    }
-    Ok(files)
+    })
 }
 
 // Opens the registry, accepts the change and settles it, as far as the store serves.
@@ -76,6 +72,9 @@ pub(super) fn run(
     change: &Change,
     key: &str,
 ) -> (Reached, bool, Files<Fuse<Memory>>) {
+    if !files.may_be_used() {
+        return (NOTHING, true, files);
+    }
     let store = match Connection::open_files(alloc, files, Options::new(1)) {
         Ok(store) => store,
         Err((_, left)) => return (NOTHING, true, left.into_files()),
@@ -123,6 +122,9 @@ fn check(
     reached: Reached,
 ) -> Result<(), Fail> {
     let files = files(alloc, left, u64::MAX, u64::MAX)?;
+    if !files.may_be_used() {
+        return Err("a sync failed")?;
+    }
     match Connection::open_files(alloc, files, Options::new(1)) {
         Ok(store) => check_on(store, before, reached),
         Err(_) => Err("not opened again")?,

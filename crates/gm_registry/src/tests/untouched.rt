@@ -16,6 +16,9 @@ const WIDER: &str =
 fn edited(alloc: Global, statements: &[&str]) -> Result<Files<Fuse<Memory>>, Fail> {
     let from = one_command(alloc)?;
     let files = files(alloc, &from, u64::MAX, u64::MAX)?;
+    if !files.may_be_used() {
+        return Err("a sync failed")?;
+    }
     let mut store = Connection::open_files(alloc, files, Options::new(1))
         .ok()
         .ok_or("not opened")?;
