@@ -1,6 +1,7 @@
 -- What the queries of whole tables mean.
 use Rattle.std.proofs.Common.{◌≡◌, ◌⊎◌, inl, inr, ℕ, List, [], ◌∷◌, map, refl, sym, subst, codes, false, IsPermutation}
 use Rattle.sqlite.specs.Order.{Row}
+use Rattle.sqlite.specs.Schema.{Schema}
 use Rattle.sqlite.specs.Collation.TheVariants.{Binary}
 use Rattle.sqlite.specs.declared.types.Value.TheVariants.{Null}
 use Rattle.sqlite.specs.declared.error.Error.{Error}
@@ -18,7 +19,7 @@ use Rattle.sqlite_rows.proofs.Refusing.{left_alone}
 use Rattle.gm_registry.specs.Schema.{registry_schema}
 use Rattle.gm_registry.specs.Values.{columns_at}
 use Rattle.gm_registry.specs.Queries.{query_text, tree_of, shown_places}
-use Rattle.gm_registry.specs.Reads.{IsOurs, HasRead, HasFailed}
+use Rattle.gm_registry.specs.Reads.{HasReadOver, HasFailedOver, IsOurSchema, IsOurs, HasRead, HasFailed}
 use Rattle.gm_registry.specs.declared.fetching.Table.{Table}
 use Rattle.gm_registry.specs.declared.fetching.Table.TheVariants.{About, Mirrors, Components, Intents, Commands}
 use Rattle.gm_registry.proofs.Meaning.{Asks}
@@ -61,9 +62,6 @@ asked Components = (_, components_asked)
 asked Intents = (_, intents_asked)
 asked Commands = (_, commands_asked)
 
-plain_in : (t : Table) (s : State) → IsOurs s → IsPlain (understood s.now.schema (query_text t))
-plain_in t s ours = subst (λ sc. IsPlain (understood sc (query_text t))) (sym ours) (asked t).1.plain
-
 -- the terms of a query are its places
 terms_are : (t : Table) (row : Row) → eval_all (map (col 1) (shown_places t)) ([] ∷ row ∷ []) ≡ columns_at (shown_places t) row
 terms_are About row = refl
@@ -83,25 +81,35 @@ shows t old new rows ours h =
     let got = found_all (tree_of t) (map (col 1) (shown_places t)) (order_of t) old.now.trees [] rows (answers t old new rows ours h) in
     subst (λ (f : Row → Row). IsPermutation (map f (old.now.trees (tree_of t))) rows) (λ i row. terms_are t row i) got
 
-nothing_left : (t : Table) (old new : State) → Survives old new (CommitsShowing (query_text t) [] old) → Survives old new (λ _. ¬ (IsOurs old))
-nothing_left t old new left = survives_weaker old new _ _ (λ _ db commits ours. never_commits (query_text t) [] old db (plain_in t old ours) commits) left
+module _ (Known : Schema → Type 0) (sql : List ℕ) (plain : (s : Schema) → Known s → IsPlain (understood s sql)) where
+  nothing_left : (old new : State) → Survives old new (CommitsShowing sql [] old) → Survives old new (λ _. ¬ (Known old.now.schema))
+  nothing_left old new left = survives_weaker old new _ _ (λ _ db commits known. never_commits sql [] old db (plain old.now.schema known) commits) left
 
-refusal : (sql : List ℕ) (old new : State) (e : Error) → IsPlain (understood old.now.schema sql) → FailsToQuery sql [] old new e → IsUnchanged old new ⊎ IsRolledBack old new
-unfolding FailsToQuery IsNotRun
-refusal sql old new e plain (inl (inl it)) = inl it.1
-refusal sql old new e plain (inl (inr fails)) = inr fails.3
-refusal sql old new e plain (inr h) =
-    let bare = subst IsPlain h.1.is plain in
-    inl (rw bare.0 at h.2).3
+  refusal : (old new : State) (e : Error) → Known old.now.schema → FailsToQuery sql [] old new e → IsUnchanged old new ⊎ IsRolledBack old new
+  unfolding FailsToQuery IsNotRun
+  refusal old new e known (inl (inl it)) = inl it.1
+  refusal old new e known (inl (inr fails)) = inr fails.3
+  refusal old new e known (inr h) =
+      let bare = subst IsPlain h.1.is (plain old.now.schema known) in
+      inl (rw bare.0 at h.2).3
+
+  pub read_by : (old new : State) (rows : List Row) → (HasCleanDisk new → Shown sql [] old new rows) → Survives old new (CommitsShowing sql [] old) → HasReadOver Known old new
+  read_by old new rows shown left = record {
+    unchanged = λ clean known. left_alone sql [] old new rows (plain old.now.schema known) (shown clean);
+    left = nothing_left old new left;
+  }
+
+  pub failed_by : (old new : State) (e : Error) → (HasCleanDisk new → FailsToQuery sql [] old new e) → Survives old new (CommitsShowing sql [] old) → HasFailedOver Known old new
+  failed_by old new e fails left = record {
+    refused = λ clean known _. refusal old new e known (fails clean);
+    left = nothing_left old new left;
+  }
+
+plain_query : (t : Table) (s : Schema) → IsOurSchema s → IsPlain (understood s (query_text t))
+plain_query t s ours = subst (λ sc. IsPlain (understood sc (query_text t))) (sym ours) (asked t).1.plain
 
 pub read : (t : Table) (old new : State) (rows : List Row) → (HasCleanDisk new → Shown (query_text t) [] old new rows) → Survives old new (CommitsShowing (query_text t) [] old) → HasRead old new
-read t old new rows shown left = record {
-  unchanged = λ clean ours. left_alone (query_text t) [] old new rows (plain_in t old ours) (shown clean);
-  left = nothing_left t old new left;
-}
+read t = read_by IsOurSchema (query_text t) (plain_query t)
 
 pub failed : (t : Table) (old new : State) (e : Error) → (HasCleanDisk new → FailsToQuery (query_text t) [] old new e) → Survives old new (CommitsShowing (query_text t) [] old) → HasFailed old new
-failed t old new e fails left = record {
-  refused = λ clean ours _. refusal (query_text t) old new e (plain_in t old ours) (fails clean);
-  left = nothing_left t old new left;
-}
+failed t = failed_by IsOurSchema (query_text t) (plain_query t)

@@ -125,3 +125,11 @@ last_number t rows row n numbered (inl it) first is = absurd (let e = sym (ap (�
 last_number t rows row n numbered (inr it) first is =
     let same : row ≡ Int (pos it.0.seq) ∷ [] = some_same _ _ (sym first ∙ ap (λ l. slice_get l 0) it.3) in
     sym (number_of it.0.seq n (ap (λ x. column x 0) (sym same) ∙ is)) ∙ counted t.commands numbered it.0 it.1 it.2
+
+-- the row that was found shows a number of at most the number of commands
+pub last_in_range : (t : Tables) (rows : List Row) (row : Row) → AreNumbered t.commands → IsLastOf t rows → slice_get rows 0 ≡ Some row → (n : ℕ) × (n ≤ count_of t) × (column row 0 ≡ Int (pos n))
+last_in_range t rows row numbered (inl it) first = absurd (let e = sym (ap (λ l. slice_get l 0) it.1) ∙ first in cc)
+last_in_range t rows row numbered (inr it) first =
+    let same : row ≡ Int (pos it.0.seq) ∷ [] = some_same _ _ (sym first ∙ ap (λ l. slice_get l 0) it.3) in
+    let is = counted t.commands numbered it.0 it.1 it.2 in
+    (it.0.seq, omega (arith, is), ap (λ r. column r 0) same)

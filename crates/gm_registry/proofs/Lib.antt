@@ -19,3 +19,4 @@ pub mod Typed
 pub mod Saying
 pub mod Telling
 pub mod Abouts
+pub mod Texts

@@ -14,12 +14,12 @@ use Rattle.sqlite.specs.declared.types.Value.TheVariants.{Null, Int}
 use Rattle.sqlite.specs.Collation.TheVariants.{Binary}
 use Rattle.sqlite_sql.specs.declared.ops.BinaryOp.TheVariants.{Compare}
 use Rattle.sqlite_sql.specs.declared.ops.CompareOp.TheVariants.{Eq}
-use Rattle.sqlite.specs.Listing.{understood, reads_listing, listing_schema}
+use Rattle.sqlite.specs.Listing.{understood, reads_listing}
 use Rattle.sqlite.proofs.Callers.{IsPlain, command_of, statement_of}
 use Rattle.sqlite_tied.specs.Compute.{everything}
 use Rattle.sqlite_rows.proofs.Finding.{scan}
 use Rattle.gm_registry.specs.Texts.{about_text, mirrors_text, components_text, intents_text, commands_text}
-use Rattle.gm_registry.specs.Statements.{put_about_text, load_about_text, load_texts_text, upsert_mirror_text, drop_mirror_text, upsert_component_text, drop_component_text, put_intent_text, put_command_text, settle_text, find_command_text, last_command_text}
+use Rattle.gm_registry.specs.Statements.{put_about_text, upsert_mirror_text, drop_mirror_text, upsert_component_text, drop_component_text, put_intent_text, put_command_text, settle_text, find_command_text, last_command_text}
 use Rattle.gm_registry.specs.Schema.{about, mirrors, components, intents, commands, no_schema, with_about, with_mirrors, with_components, with_intents, registry_schema}
 
 -- the text makes this table over a schema that was there before
@@ -128,13 +128,6 @@ pub record Asks (text : List ℕ) (query : Query) (names : List (List ℕ)) : Ty
   pub plain : IsPlain (understood registry_schema text)
   pub of_tables : reads_listing registry_schema text ≡ false
 
-abbrev pub about_query : Query
-about_query = scan 0 [] (col 1 0 ∷ col 1 2 ∷ []) []
-
-pub load_about_is : Asks load_about_text about_query (codes "one" ∷ codes "schema_no" ∷ [])
-unfolding understood everything
-load_about_is = record { command_is = refl; plain = (refl, refl); of_tables = refl }
-
 abbrev pub shown_terms : List Term
 shown_terms = col 1 2 ∷ col 1 3 ∷ col 1 4 ∷ col 1 5 ∷ []
 
@@ -151,7 +144,3 @@ last_query = record (scan 8 [] (col 1 2 ∷ []) ((col 1 2, record { collation = 
 pub last_is : Asks last_command_text last_query (codes "seq" ∷ [])
 unfolding understood everything
 last_is = record { command_is = refl; plain = (refl, refl); of_tables = refl }
-
-pub load_texts_plain : IsPlain (understood registry_schema load_texts_text)
-unfolding understood everything listing_schema
-load_texts_plain = (refl, refl)

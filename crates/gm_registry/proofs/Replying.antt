@@ -1,5 +1,5 @@
 -- What the query of a key finds.
-use Rattle.std.proofs.Common.{◌≡◌, ℕ, pos, Bool, List, [], ◌∷◌, map, filter, length, IsPermutation, sym, ap, subst, subst₂, refl, ◌∙◌, arith}
+use Rattle.std.proofs.Common.{◌≡◌, ℕ, pos, Bool, true, List, [], ◌∷◌, map, filter, length, IsPermutation, sym, ap, subst, subst₂, refl, ◌∙◌, arith}
 use Rattle.std.proofs.lemmas.List.Sorted.{IsPermutation-map, IsPermutation-trans, IsPermutation-sym, length_permutation}
 use Rattle.std.proofs.lemmas.List.Elements.{filter_agree}
 use Rattle.std.proofs.lemmas.Slice.Eq.{bytes_eq-Decides}
@@ -21,7 +21,8 @@ use Rattle.sqlite_rows.proofs.Keyed.{mapped_from}
 use Rattle.sqlite_rows.proofs.Bags.{has_key, key_place}
 use Rattle.sqlite_rows.proofs.Statements.{settled_schema, settled_rows}
 use Rattle.gm_state.specs.declared.command.Reply.{Reply}
-use Rattle.gm_state.specs.Rows.{Tables}
+use Rattle.gm_state.specs.Words.{Has}
+use Rattle.gm_state.specs.Rows.{Tables, CommandRow}
 use Rattle.gm_registry.specs.Statements.{find_command_text}
 use Rattle.gm_registry.specs.Schema.{registry_schema}
 use Rattle.gm_registry.specs.Rows.{command_values}
@@ -72,21 +73,27 @@ same_text : (a b : List ℕ) → ◌≡◌ {A = Value} (Text a) (Text b) → a �
 same_text a b e = cc
 
 -- a row that was found is that of a command of that key
+pub found_row : (t : Tables) (key : List ℕ) (rows : List Row) (row : Row) → IsPermutation (map reply_values (filter (is_under key) t.commands)) rows → Stands rows row
+    → (c : CommandRow) × Has t.commands c × (is_under key c ≡ true) × (reply_values c ≡ row)
+found_row t key rows row among has =
+    let back = stands_permuted rows (map reply_values (filter (is_under key) t.commands)) row (IsPermutation-sym _ _ among) has in
+    let from = mapped_from reply_values (filter (is_under key) t.commands) row back in
+    let it = has_filtered (is_under key) t.commands from.0 from.1 in
+    (from.0, has_from t.commands from.0 it.0, it.1, sym from.2)
+
 pub a_reply : (t : Tables) (key : List ℕ) (rows : List Row) (row : Row) (number : ℕ) (words : List ℕ) (copied of_total : ℕ) (reply : Reply)
     → IsPermutation (map reply_values (filter (is_under key) t.commands)) rows → Stands rows row
     → column row 0 ≡ Int (pos number) → column row 1 ≡ Text words → column row 2 ≡ Int (pos copied) → column row 3 ≡ Int (pos of_total) → reply ≡ reply_in copied of_total → IsKept t key number words reply
 a_reply t key rows row number words copied of_total reply among has one two three four is =
-    let back = stands_permuted rows (map reply_values (filter (is_under key) t.commands)) row (IsPermutation-sym _ _ among) has in
-    let from = mapped_from reply_values (filter (is_under key) t.commands) row back in
-    let it = has_filtered (is_under key) t.commands from.0 from.1 in
-    let at : (n : ℕ) → column (reply_values from.0) n ≡ column row n = λ n. ap (λ x. column x n) (sym from.2) in
-    let copied_is : from.0.copied ≡ copied = same_int from.0.copied copied (at 2 ∙ three) in
-    let total_is : from.0.of_total ≡ of_total = same_int from.0.of_total of_total (at 3 ∙ four) in
+    let it = found_row t key rows row among has in
+    let at : (n : ℕ) → column (reply_values it.0) n ≡ column row n = λ n. ap (λ x. column x n) it.3 in
+    let copied_is : it.0.copied ≡ copied = same_int it.0.copied copied (at 2 ∙ three) in
+    let total_is : it.0.of_total ≡ of_total = same_int it.0.of_total of_total (at 3 ∙ four) in
     record {
-      row = from.0;
-      has = has_from t.commands from.0 it.0;
-      key_is = (bytes_eq-Decides from.0.call_key key).0 it.1;
-      number_is = same_int from.0.seq number (at 0 ∙ one);
-      words_are = same_text from.0.words words (at 1 ∙ two);
-      reply_is = ap (λ n. reply_in n from.0.of_total) copied_is ∙ (ap (reply_in copied) total_is ∙ sym is);
+      row = it.0;
+      has = it.1;
+      key_is = (bytes_eq-Decides it.0.call_key key).0 it.2;
+      number_is = same_int it.0.seq number (at 0 ∙ one);
+      words_are = same_text it.0.words words (at 1 ∙ two);
+      reply_is = ap (λ n. reply_in n it.0.of_total) copied_is ∙ (ap (reply_in copied) total_is ∙ sym is);
     }

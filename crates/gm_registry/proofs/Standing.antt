@@ -1,16 +1,17 @@
 -- What a connection that was just opened stands on.
-use Rattle.std.proofs.Common.{◌≡◌, ◌↔◌, Bool, true, false, Result, Ok, Err, OnErr, IsTrue, sym, ap, subst, ◌∙◌}
+use Rattle.std.proofs.Common.{◌≡◌, ◌↔◌, Bool, true, false, Result, Ok, Err, IfErr, OnOk, IsTrue, sym, ap, subst, ◌∙◌}
 use Rattle.std.proofs.lemmas.Bool.{true≢false}
 use Rattle.sqlite.specs.Schema.{Schema}
 use Rattle.sqlite.specs.Effect.{Database}
-use Rattle.sqlite.specs.State.{State, IsLive, Shows}
+use Rattle.sqlite.specs.State.{State, IsLive, IsUnchanged}
 use Rattle.sqlite_catalog.specs.Listing.{IsSound}
 use Rattle.sqlite_rows.proofs.Statements.{settled_schema}
 use Rattle.sqlite_rows.proofs.Showing.{one_schema, opened}
 use Rattle.gm_state.specs.Rows.{Tables}
 use Rattle.gm_registry.specs.Schema.{registry_schema, no_schema}
 use Rattle.gm_registry.specs.Tables.{HasCounted, HasTables, Holds, IsEmpty, IsRegistry}
-use Rattle.gm_registry.specs.Opening.{IsBlank, IsOfSchema1}
+use Rattle.gm_registry.specs.Listing.{ShowsList}
+use Rattle.gm_registry.specs.Opening.{IsBlank, IsForeign, IsOfSchema1}
 use Rattle.gm_registry.proofs.Abouts.{about_row}
 
 pub blank : (s : State) → IsTrue s.is_open → s.in_transaction ≡ false → s.now ≡ s.committed → IsLive s → IsEmpty s.committed.trees → IsBlank s
@@ -40,8 +41,9 @@ registry_seen s is_open settled live sound = ap (λ (d : Database). d.schema) se
 
 -- what is unchanged since the opening, with the one record of `about`, is a registry
 pub registry_there : (old new : State) → IsTrue old.is_open → old.in_transaction ≡ false → old.now ≡ old.committed → IsLive old → IsSound registry_schema old.committed.trees
-    → Shows old new old.now old.committed old.in_transaction → IsOfSchema1 new.now.trees → IsRegistry new
-registry_there old new is_open autocommit settled live sound same one =
+    → IsUnchanged old new → IsOfSchema1 old.now.trees → IsRegistry new
+registry_there old new is_open autocommit settled live sound unchanged one =
+    let same = unchanged.0 in
     let still : IsSound registry_schema new.committed.trees = subst (λ (d : Database). IsSound registry_schema d.trees) (sym same.committed_is) sound in
     let now : new.now ≡ new.committed = same.now_is ∙ settled ∙ sym same.committed_is in
     record {
@@ -50,13 +52,26 @@ registry_there old new is_open autocommit settled live sound same one =
       schema_is = ap (λ (d : Database). d.schema) same.committed_is ∙ one_schema old registry_schema is_open live sound;
       settled = now;
       sound = still;
-      about = about_row new.committed.trees still (subst (λ (d : Database). IsOfSchema1 d.trees) now one);
+      about = about_row new.committed.trees still (subst (λ (d : Database). IsOfSchema1 d.trees) (sym same.now_is ∙ now) one);
     }
 
 -- an empty store has none
 pub not_full : (s : State) (shown : Schema) (b : Bool) → IsBlank s → shown ≡ s.now.schema → IsTrue b ↔ (shown ≡ no_schema) → b ≡ false → ⊥
 not_full s shown b blank is tells e = true≢false (sym (tells.1 (is ∙ blank.schema_is)) ∙ e)
 
-pub map_err : {A E : Type 0} (x : Result A E) (P Q : Type 0) → (P → Q) → OnErr x P → OnErr x Q
-map_err (Ok _) P Q f p = tt
-map_err (Err e) P Q f p = f p
+-- the list of a foreign store is shown
+pub foreign_shown : (s : State) → IsTrue s.is_open → s.now ≡ s.committed → IsLive s → (f : IsForeign s.committed.trees) → ShowsList s.now.schema
+foreign_shown s is_open settled live f = subst ShowsList (sym (ap (λ (d : Database). d.schema) settled ∙ one_schema s f.schema is_open live f.sound)) f.shows
+
+-- and it isn't empty
+pub not_foreign_empty : (s : State) (shown : Schema) (b : Bool) → IsTrue s.is_open → s.now ≡ s.committed → IsLive s → IsForeign s.committed.trees → shown ≡ s.now.schema → IsTrue b ↔ (shown ≡ no_schema) → b ≡ true → ⊥
+not_foreign_empty s shown b is_open settled live f is tells e =
+    f.some (sym (is ∙ (ap (λ (d : Database). d.schema) settled ∙ one_schema s f.schema is_open live f.sound)) ∙ tells.0 e)
+
+pub if_err : {A E : Type 0} (x : Result A E) (P Q : E → Type 0) → ((e : E) → P e → Q e) → IfErr x P → IfErr x Q
+if_err (Ok _) P Q f p = tt
+if_err (Err e) P Q f p = f e p
+
+pub both_ok : {A E : Type 0} (x : Result A E) (P Q R : Type 0) → (P → Q → R) → OnOk x P → OnOk x Q → OnOk x R
+both_ok (Ok _) P Q R f p q = f p q
+both_ok (Err e) P Q R f p q = tt

@@ -1,5 +1,5 @@
 -- What holds of a list, told from what is left of it.
-use Rattle.std.proofs.Common.{◌≡◌, ◌∙◌, inl, inr, ⊎_elim, ℕ, suc, ◌+◌, ◌<◌, List, ◌∷◌, drop, length, get_or, refl, sym, ap, subst, add-one, drop-cons}
+use Rattle.std.proofs.Common.{◌≡◌, ◌∙◌, inl, inr, ⊎_elim, ℕ, zero, suc, ◌+◌, ◌<◌, ◌≤◌, List, [], ◌∷◌, drop, length, get_or, refl, sym, ap, subst, add-one, drop-cons, arith}
 use Rattle.gm_state.specs.declared.command.Intent.{Intent}
 use Rattle.gm_state.specs.declared.command.Intent.TheVariants.{Meta, Clear, Copy}
 use Rattle.gm_state.specs.Words.{Has}
@@ -40,3 +40,19 @@ each_first P x xs all = all x (inl refl)
 
 pub each_rest : {A : Type 0} (P : A → Type 0) (x : A) (xs : List A) → Each P (x ∷ xs) → Each P xs
 each_rest P x xs all = λ y has. all y (inr has)
+
+-- ---- one of a list
+
+-- a list has it where what is left of the list has it
+pub record IsLeft {A : Type 0} (x : A) (all rest : List A) : Type 0 where
+  pub there : Has rest x → Has all x
+  pub back : Has all x → Has rest x
+
+pub passed_over : {A : Type 0} (x y : A) (all rest : List A) → ¬ (y ≡ x) → IsLeft x all (y ∷ rest) → IsLeft x all rest
+passed_over x y all rest other left = record { there = λ h. left.there (inr h); back = λ h. ⊎_elim (λ (s : y ≡ x). absurd (other s)) (λ (k : Has rest x). k) (left.back h) }
+
+pub none_left : {A : Type 0} (xs : List A) (i : ℕ) → length xs ≤ i → drop i xs ≡ []
+none_left [] zero h = refl
+none_left [] (suc i) h = refl
+none_left (x ∷ xs) zero h = absurd (omega arith)
+none_left (x ∷ xs) (suc i) h = none_left xs i (omega arith)

@@ -45,7 +45,7 @@ module _ {A : Type 0} (part pick stored : Row → Row) (values shown : A → Row
       IsPermutation-trans _ _ _ (subst₂ IsPermutation mine theirs (IsPermutation-map pick _ _ keeps.same)) are
 
 -- columns that are read again
-again_shown : {A : Type 0} (again : Row → Row) (shown : A → Row) → ((x : A) → again (shown x) ≡ shown x) → (records : List A) (rows : List Row) → IsPermutation (map shown records) rows
+pub again_shown : {A : Type 0} (again : Row → Row) (shown : A → Row) → ((x : A) → again (shown x) ≡ shown x) → (records : List A) (rows : List Row) → IsPermutation (map shown records) rows
     → IsPermutation (map shown records) (map again rows)
 again_shown again shown same records rows are =
     subst (λ l. IsPermutation l (map again rows)) (map-map again shown records ∙ (λ i. map (λ x. same x i) records)) (IsPermutation-map again _ _ are)

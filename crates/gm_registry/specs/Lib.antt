@@ -6,6 +6,7 @@ pub mod Rows
 pub mod Tables
 pub mod Changes
 pub mod Replies
+pub mod Listing
 pub mod Opening
 pub mod Reading
 pub mod Values

@@ -1,11 +1,15 @@
 -- A store without tables, and a registry that is being made in it.
-use Rattle.std.specs.Prelude.{◌≡◌, true, false, IsTrue, pos, List, [], ◌∷◌, map}
+use Rattle.std.specs.Prelude.{◌≡◌, ◌≢◌, ◌⊎◌, true, false, IsTrue, pos, List, [], ◌∷◌, map}
 use Rattle.sqlite.specs.Order.{Row, column}
 use Rattle.sqlite.specs.Tree.{Trees}
 use Rattle.sqlite.specs.declared.types.Value.TheVariants.{Int}
 use Rattle.sqlite.specs.Effect.{Database}
 use Rattle.sqlite.specs.State.{State}
+use Rattle.sqlite.specs.Schema.{Schema}
+use Rattle.sqlite_catalog.specs.Listing.{IsSound}
 use Rattle.gm_registry.specs.Schema.{no_schema, registry_schema}
+use Rattle.gm_registry.specs.Tables.{IsEmpty}
+use Rattle.gm_registry.specs.Listing.{ListsOurs, ShowsList}
 
 -- an open connection outside a transaction, over a store without tables
 pub record IsBlank (s : State) : Type 0 where
@@ -44,9 +48,14 @@ one_one = Int (pos 1) ∷ Int (pos 1) ∷ []
 abbrev pub IsOfSchema1 : Trees → Type 0
 IsOfSchema1 db = map about_numbers (db 0) ≡ one_one ∷ []
 
--- a query found one row, which begins with 1 and 1
-pub record IsOneOne (rows : List Row) : Type 0 where
-  pub row : Row
-  pub alone : rows ≡ row ∷ []
-  pub one : column row 0 ≡ Int (pos 1)
-  pub number : column row 1 ≡ Int (pos 1)
+-- an opening takes such a store: one without tables, or one that lists those of a registry, with the one record of `about`
+abbrev pub IsOpenable : Trees → Type 0
+IsOpenable db = IsEmpty db ⊎ (IsSound registry_schema db × ListsOurs db × IsOfSchema1 db)
+
+-- tables that aren't listed as those of a registry are
+pub record IsForeign (db : Trees) : Type 0 where
+  pub schema : Schema
+  pub sound : IsSound schema db
+  pub some : schema ≢ no_schema
+  pub shows : ShowsList schema
+  pub other : ¬ (ListsOurs db)

@@ -1,5 +1,5 @@
 -- What is answered of the accepted commands.
-use Rattle.std.specs.Prelude.{◌≡◌, ◌⊎◌, ◌≤◌, ℕ, Bool, pos, ◌==◌, ◌&&◌, List, [], ◌∷◌, filter, length, if◌then◌else◌}
+use Rattle.std.specs.Prelude.{◌≡◌, ◌⊎◌, ◌≤◌, ◌<◌, ◌^◌, IsUtf8, ℕ, Bool, pos, ◌==◌, ◌&&◌, List, [], ◌∷◌, filter, length, if◌then◌else◌}
 use Rattle.std.specs.Str.{bytes_eq}
 use Rattle.sqlite.specs.declared.types.Value.TheVariants.{Int, Text}
 use Rattle.sqlite.specs.Order.{Row}
@@ -31,6 +31,17 @@ IsFree t key = filter (is_under key) t.commands ≡ []
 -- how many commands were accepted
 abbrev pub count_of : Tables → ℕ
 count_of t = length t.commands
+
+-- its numbers have 32 bits, and its words are text
+pub record Fits (c : CommandRow) : Type 0 where
+  pub number : c.seq < 2 ^ 32
+  pub copied : c.copied < 2 ^ 32
+  pub of_total : c.of_total < 2 ^ 32
+  pub words : IsUtf8 c.words
+
+-- the commands are such as are written here
+abbrev pub AreWritten : Tables → Type 0
+AreWritten t = (c : CommandRow) → Has t.commands c → Fits c
 
 -- what a query of a key shows of a command
 abbrev pub reply_values : CommandRow → Row

@@ -4,9 +4,6 @@ use Rattle.std.specs.Prelude.{codes, List, ℕ}
 abbrev pub put_about_text : List ℕ
 put_about_text = codes "INSERT INTO about (one, schema_no) VALUES (1, 1)"
 
-abbrev pub load_about_text : List ℕ
-load_about_text = codes "SELECT one, schema_no FROM about"
-
 abbrev pub upsert_mirror_text : List ℕ
 upsert_mirror_text = codes "INSERT INTO mirrors (name, mid, total, genid, syncid, slice, balance, mediasize, mflags) VALUES (?1, ?2, ?3, ?4, ?5, ?6, ?7, ?8, ?9) ON CONFLICT (name) DO UPDATE SET mid = excluded.mid, total = excluded.total, genid = excluded.genid, syncid = excluded.syncid, slice = excluded.slice, balance = excluded.balance, mediasize = excluded.mediasize, mflags = excluded.mflags"
 
@@ -35,4 +32,4 @@ abbrev pub last_command_text : List ℕ
 last_command_text = codes "SELECT seq FROM commands ORDER BY seq DESC LIMIT 1"
 
 abbrev pub load_texts_text : List ℕ
-load_texts_text = codes "SELECT sql FROM sqlite_schema WHERE sql IS NOT NULL ORDER BY rowid"
+load_texts_text = codes "SELECT rowid, sql FROM sqlite_schema WHERE sql IS NOT NULL"

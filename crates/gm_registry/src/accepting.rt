@@ -1,6 +1,6 @@
 //! A command's change, with its intents and its key, in one transaction.
 
-ghost use Rattle.std.specs.Prelude.{◌≡◌, ◌≤◌, ◌+◌, ◌↔◌, IfOk, OnOk, OnErr, IsTrue};
+ghost use Rattle.std.specs.Prelude.{◌≡◌, ◌≤◌, ◌+◌, ◌↔◌, IfOk, IfErr, OnOk, OnErr, IsTrue};
 ghost use Rattle.sqlite_trees.specs.View.{doubt};
 ghost use Rattle.sqlite.specs.State.{HasCleanDisk, KeepsCommit, Survives};
 ghost use Rattle.sqlite.specs.Held.{state};
@@ -135,6 +135,7 @@ pub(crate) fn accept_on<S: Alter>(
     ensures done { HasCleanDisk (state S.Store conn.new) → IfOk result (λ n. (t : Tables) → HasTables (state S.Store conn.old) t
         → (n ≡ count_of t + 1) × HasTables (state S.Store conn.new) (with_change change.now key.now n words.now t)) }
     ensures limits { IfOk result (λ n. (n ≤ 100000) × ReplyFits change.now.reply) }
+    ensures unreadable { HasCleanDisk (state S.Store conn.new) → IfErr result (λ e. e ≡ StoreFault.Unreadable → (t : Tables) → HasTables (state S.Store conn.old) t → count_of t ≤ 100000 → ⊥) }
     ensures refused { HasCleanDisk (state S.Store conn.new) → OnErr result ((t : Tables) → HasTables (state S.Store conn.old) t → IsTrue (state S.Store conn.new).is_open → HasTables (state S.Store conn.new) t) }
     ensures left { (t : Tables) → HasTables (state S.Store conn.old) t
         → Survives (state S.Store conn.old) (state S.Store conn.new) (λ db. Holds db (with_change change.now key.now (count_of t + 1) words.now t)) }

@@ -1,6 +1,6 @@
-//! What a column of a row says. Nothing here takes memory.
+//! What a column of a row says. Nothing here takes memory but the text of `text_at`.
 
-ghost use Rattle.std.specs.Prelude.{◌≡◌, ◌↔◌, [], ◌<◌, ◌*◌, ◌^◌, ℕ, List, Bool, pos, IsTrue, IfSome, IfNone, if◌then◌else◌};
+ghost use Rattle.std.specs.Prelude.{◌≡◌, ◌↔◌, [], ◌<◌, ◌*◌, ◌^◌, ℕ, List, Bool, pos, IsTrue, IfSome, IfNone, IfOk, IfErr, IsUtf8, string_bytes, if◌then◌else◌};
 ghost use Rattle.gm_metadata.specs.Labels.{is_label};
 ghost use Rattle.gm_metadata.specs.Balance.{balance_code};
 ghost use Rattle.gm_metadata.specs.Flags.{mirror_bits, disk_bits};
@@ -10,6 +10,7 @@ ghost use Rattle.gm_metadata.specs.declared.flags.MirrorFlags.{MirrorFlags};
 ghost use Rattle.sqlite.specs.Order.{column};
 ghost use Rattle.sqlite.specs.declared.types.Value.TheVariants.{Int, Text};
 
+use crate::fault::{StoreFault, readable};
 use gm_metadata::{Balance, DiskFlags, Label, MirrorFlags};
 use gm_state::sectors_of;
 use sqlite::Row;
@@ -97,6 +98,24 @@ pub(crate) fn label_at(row: &Row, at: usize) -> Option<Label>
             Err(_) => None,
         },
         _ => None,
+    }
+}
+
+/// The text in a column, of its own memory; `Unreadable` where it holds none.
+pub(crate) fn text_at(row: &Row, at: usize) -> Result<String, StoreFault>
+    ensures text { IfOk result (λ text. column row.now at ≡ Text (string_bytes text)) }
+    ensures unreadable { IfErr result (λ e. e ≡ StoreFault.Unreadable → (text : List ℕ) → IsUtf8 text → column row.now at ≡ Text text → ⊥) }
+{
+    readable(row.get(at))
+}
+
+/// Whether a column holds this text.
+pub(crate) fn is_text_at(row: &Row, at: usize, text: &str) -> bool
+    ensures { IsTrue result ↔ (column row.now at ≡ Text text.now) }
+{
+    match row.get_ref(at) {
+        Ok(ValueRef::Text(found)) => found == text.as_bytes(),
+        _ => false,
     }
 }
 

@@ -1,6 +1,7 @@
 //! Why a call of the registry fails.
 
-ghost use Rattle.std.specs.Prelude.{◌≡◌, IfOk, Ok};
+ghost use Rattle.std.specs.Prelude.{◌≡◌, IfOk, IfErr, Ok, Err};
+ghost use Rattle.sqlite.specs.declared.error.Error.{Error as SqlError};
 ghost use Rattle.gm_registry.specs.Faults.{fault_number, fault_of, value_fault_of};
 
 use sqlite::{Error, ErrorCode};
@@ -55,7 +56,8 @@ impl From<Error> for StoreFault {
 
 /// The value that was read of a row; a value that the tables aren't to hold is unreadable.
 pub(crate) fn readable<T>(read: Result<T, Error>) -> Result<T, StoreFault>
-    ensures { IfOk result (λ value. read ≡ Ok value) }
+    ensures read { IfOk result (λ value. read ≡ Ok value) }
+    ensures fault { IfErr result (λ fault. (error : SqlError) × (read ≡ Err error) × (fault ≡ value_fault_of error)) }
 {
     match read {
         Ok(value) => Ok(value),

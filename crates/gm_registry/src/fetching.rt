@@ -41,7 +41,10 @@ impl Table {
 }
 
 /// All rows of a table.
-fn rows_of<S: Alter>(conn: &mut Connection<S>, table: Table) -> Result<Vec<Row>, StoreFault>
+pub(crate) fn rows_of<S: Alter>(
+    conn: &mut Connection<S>,
+    table: Table,
+) -> Result<Vec<Row>, StoreFault>
     ensures rows { HasCleanDisk (state S.Store conn.new) → IfOk result (λ rows. IsOurs (state S.Store conn.old) → IsShown (state S.Store conn.old).now.trees table rows.items) }
     ensures in_order { table ≡ Table.Intents → HasCleanDisk (state S.Store conn.new) → IfOk result (λ rows. IsOurs (state S.Store conn.old) → IsInOrder rows.items) }
     ensures read { OnOk result (HasRead (state S.Store conn.old) (state S.Store conn.new)) }

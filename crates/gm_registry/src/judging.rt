@@ -51,7 +51,8 @@ fn are_commands(rows: &[Row]) -> bool
     true
 }
 
-fn is_about(rows: &[Row]) -> bool
+/// Whether the rows of `about` are the one record of this schema, (1, 1).
+pub(crate) fn is_about(rows: &[Row]) -> bool
     ensures { IsTrue result ↔ IsAbout rows.now }
 {
     rows.len() == 1 && is_number_at(&rows[0], 0, 1) && is_number_at(&rows[0], 1, 1)

@@ -1,21 +1,26 @@
 //! What is found in a store that is opened: nothing, a registry, or something else.
 
-ghost use Rattle.std.specs.Prelude.{◌≡◌, ◌≤◌, ◌↔◌, false, pos, map, IfOk, IsTrue, OnOk, OnErr, IsPermutation};
+ghost use Rattle.std.specs.Prelude.{◌≡◌, ◌≢◌, ◌≤◌, ◌↔◌, false, map, IfOk, IfErr, IsTrue, OnOk, OnErr, IsPermutation};
 ghost use Rattle.sqlite_trees.specs.View.{doubt};
-ghost use Rattle.sqlite.specs.State.{HasCleanDisk, IsUnchanged, Shows, Survives};
+ghost use Rattle.sqlite.specs.State.{HasCleanDisk, Survives};
 ghost use Rattle.sqlite.specs.Held.{state};
+ghost use Rattle.sqlite_catalog.specs.Listing.{IsSound};
+ghost use Rattle.gm_state.specs.Words.{Has};
 ghost use Rattle.gm_state.specs.Rows.{Tables};
 ghost use Rattle.gm_registry.specs.Schema.{no_schema, registry_schema};
 ghost use Rattle.gm_registry.specs.Tables.{Holds, HasTables, IsEmpty, IsRegistry, no_tables};
-ghost use Rattle.gm_registry.specs.Opening.{about_numbers, IsOneOne, IsOfSchema1};
-ghost use Rattle.sqlite_catalog.specs.Listing.{IsSound};
-ghost use Rattle.sqlite.specs.Order.{column};
-ghost use Rattle.sqlite.specs.declared.types.Value.TheVariants.{Int};
+ghost use Rattle.gm_registry.specs.Opening.{IsOfSchema1, IsOpenable, IsForeign};
+ghost use Rattle.gm_registry.specs.Listing.{listed, under_number, our_tables, AllStand, ListsOurs, ShowsList};
+ghost use Rattle.gm_registry.specs.Values.{columns_at, two};
+ghost use Rattle.gm_registry.specs.Reads.{IsOurs, HasRead, HasReadOver, HasFailed, HasFailedOver, Leaves};
 
+use crate::cells::{is_number_at, is_text_at};
 use crate::creating::create_all;
-use crate::fault::{StoreFault, readable};
-use crate::schema::TEXTS;
-use sqlite::{Alter, Connection, Error, Row};
+use crate::fault::StoreFault;
+use crate::fetching::{Table, rows_of};
+use crate::judging::is_about;
+use crate::schema::{ABOUT, COMMANDS, COMPONENTS, INTENTS, MIRRORS};
+use sqlite::{Alter, Connection, Row};
 use sqlite_schema::schema::Schema;
 
 /// Whether a store has no table, no index and no view.
@@ -27,80 +32,75 @@ fn is_empty(schema: &Schema) -> bool
         && schema.views.as_slice().is_empty()
 }
 
-fn load_texts<S: Alter>(conn: &mut Connection<S>) -> Result<Vec<Row>, Error>
-    ensures same { HasCleanDisk (state S.Store conn.new) → OnOk result ((state S.Store conn.old).now.schema ≡ registry_schema → IsUnchanged (state S.Store conn.old) (state S.Store conn.new)) }
-    ensures kept { HasCleanDisk (state S.Store conn.new) → OnOk result ((t : Tables) → HasTables (state S.Store conn.old) t → HasTables (state S.Store conn.new) t) }
-    ensures refused { HasCleanDisk (state S.Store conn.new) → OnErr result ((t : Tables) → HasTables (state S.Store conn.old) t → IsTrue (state S.Store conn.new).is_open → HasTables (state S.Store conn.new) t) }
-    ensures left { (t : Tables) → HasTables (state S.Store conn.old) t → Survives (state S.Store conn.old) (state S.Store conn.new) (λ _. ⊥) }
-    ensures survives { Survives (state S.Store conn.old) (state S.Store conn.new) (λ _. Unit {0}) }
+/// The number and the text of each object that has a text.
+fn load_texts<S: Alter>(conn: &mut Connection<S>) -> Result<Vec<Row>, StoreFault>
+    ensures rows { HasCleanDisk (state S.Store conn.new) → IfOk result (λ rows. ShowsList (state S.Store conn.old).now.schema → IsPermutation (listed (state S.Store conn.old).now.trees) rows.items) }
+    ensures read { OnOk result (HasReadOver ShowsList (state S.Store conn.old) (state S.Store conn.new)) }
+    ensures failed { OnErr result (HasFailedOver ShowsList (state S.Store conn.old) (state S.Store conn.new)) }
+    ensures fault { IfErr result (λ e. e ≢ StoreFault.Unreadable) }
 {
-    conn.query_all(
-        "SELECT sql FROM sqlite_schema WHERE sql IS NOT NULL ORDER BY rowid",
+    match conn.query_all(
+        "SELECT rowid, sql FROM sqlite_schema WHERE sql IS NOT NULL",
         &[],
-    )
-}
-
-fn load_about<S: Alter>(conn: &mut Connection<S>) -> Result<Vec<Row>, Error>
-    ensures shown { HasCleanDisk (state S.Store conn.new) → IfOk result (λ rows. (state S.Store conn.old).now.schema ≡ registry_schema
-        → IsPermutation (map about_numbers ((state S.Store conn.old).now.trees 0)) rows.items × IsUnchanged (state S.Store conn.old) (state S.Store conn.new)) }
-    ensures kept { HasCleanDisk (state S.Store conn.new) → OnOk result ((t : Tables) → HasTables (state S.Store conn.old) t → HasTables (state S.Store conn.new) t) }
-    ensures refused { HasCleanDisk (state S.Store conn.new) → OnErr result ((t : Tables) → HasTables (state S.Store conn.old) t → IsTrue (state S.Store conn.new).is_open → HasTables (state S.Store conn.new) t) }
-    ensures left { (t : Tables) → HasTables (state S.Store conn.old) t → Survives (state S.Store conn.old) (state S.Store conn.new) (λ _. ⊥) }
-    ensures survives { Survives (state S.Store conn.old) (state S.Store conn.new) (λ _. Unit {0}) }
-{
-    conn.query_all("SELECT one, schema_no FROM about", &[])
-}
-
-fn read_text(row: &Row) -> Result<String, StoreFault> {
-    readable(row.get(0))
-}
-
-/// Whether the texts are those of the five tables, in order, and no other.
-fn are_texts(rows: &[Row]) -> Result<bool, StoreFault> {
-    if rows.len() != TEXTS.len() {
-        return Ok(false);
+    ) {
+        Ok(rows) => Ok(rows),
+        Err(error) => Err(StoreFault::from(error)),
     }
-    for (row, text) in rows.iter().zip(TEXTS) {
-        if read_text(row)?.as_str() != text {
-            return Ok(false);
+}
+
+fn is_text_under(row: &Row, number: u64, text: &str) -> bool
+    ensures { IsTrue result ↔ (columns_at two row.now ≡ under_number number text.now) }
+{
+    is_number_at(row, 0, number) && is_text_at(row, 1, text)
+}
+
+/// Whether one of the rows shows this text under this number.
+fn shows_text(rows: &[Row], number: u64, text: &str) -> bool
+    ensures { IsTrue result ↔ Has (map (columns_at two) rows.now) (under_number number text.now) }
+{
+    'rows: for row in rows {
+        if is_text_under(row, number, text) {
+            return true;
         }
     }
-    Ok(true)
+    false
 }
 
-fn read_pair(row: &Row) -> Result<(u32, u32), StoreFault>
-    ensures { IfOk result (λ pair. (column row.now 0 ≡ Int (pos pair.0)) × (column row.now 1 ≡ Int (pos pair.1))) }
+/// Whether the rows show the texts of the five tables. The numbers between them are those of the indexes that their keys
+/// make.
+fn show_all_texts(rows: &[Row]) -> bool
+    ensures { IsTrue result ↔ AllStand (map (columns_at two) rows.now) our_tables }
 {
-    Ok((readable(row.get(0))?, readable(row.get(1))?))
+    shows_text(rows, 1, ABOUT)
+        && shows_text(rows, 2, MIRRORS)
+        && shows_text(rows, 5, COMPONENTS)
+        && shows_text(rows, 8, INTENTS)
+        && shows_text(rows, 9, COMMANDS)
 }
 
-/// Whether the record of `about` is the one of this schema, (1, 1).
-fn is_about(rows: &[Row]) -> Result<bool, StoreFault>
-    ensures { IfOk result (λ yes. IsTrue yes → IsOneOne rows.now) }
+/// Whether the rows show the texts of the five tables, and no other.
+fn are_texts(rows: &[Row]) -> bool
+    ensures { IsTrue result ↔ IsPermutation our_tables (map (columns_at two) rows.now) }
 {
-    if rows.len() != 1 {
-        return Ok(false);
-    }
-    let (one, number) = read_pair(&rows[0])?;
-    Ok(one == 1 && number == 1)
+    rows.len() == 5 && show_all_texts(rows)
 }
 
 /// Whether a store with tables is a registry, by the texts of its tables and the record of `about`.
 fn check_registry<S: Alter>(conn: &mut Connection<S>) -> Result<(), StoreFault>
-    ensures about { HasCleanDisk (state S.Store conn.new) → OnOk result ((state S.Store conn.old).now.schema ≡ registry_schema
-        → Shows (state S.Store conn.old) (state S.Store conn.new) (state S.Store conn.old).now (state S.Store conn.old).committed (state S.Store conn.old).in_transaction
-        × IsOfSchema1 (state S.Store conn.new).now.trees) }
-    ensures kept { HasCleanDisk (state S.Store conn.new) → OnOk result ((t : Tables) → HasTables (state S.Store conn.old) t → HasTables (state S.Store conn.new) t) }
-    ensures refused { HasCleanDisk (state S.Store conn.new) → OnErr result ((t : Tables) → HasTables (state S.Store conn.old) t → IsTrue (state S.Store conn.new).is_open → HasTables (state S.Store conn.new) t) }
-    ensures left { (t : Tables) → HasTables (state S.Store conn.old) t → Survives (state S.Store conn.old) (state S.Store conn.new) (λ _. ⊥) }
-    ensures survives { Survives (state S.Store conn.old) (state S.Store conn.new) (λ _. Unit {0}) }
+    ensures texts { HasCleanDisk (state S.Store conn.new) → OnOk result (ShowsList (state S.Store conn.old).now.schema → ListsOurs (state S.Store conn.old).now.trees) }
+    ensures about { HasCleanDisk (state S.Store conn.new) → OnOk result (IsOurs (state S.Store conn.old) → IsOfSchema1 (state S.Store conn.old).now.trees) }
+    ensures unreadable { HasCleanDisk (state S.Store conn.new) → IfErr result (λ e. e ≡ StoreFault.Unreadable → IsOurs (state S.Store conn.old)
+        → ListsOurs (state S.Store conn.old).now.trees → IsOfSchema1 (state S.Store conn.old).now.trees → ⊥) }
+    ensures read { OnOk result (HasRead (state S.Store conn.old) (state S.Store conn.new)) }
+    ensures failed { HasFailed (state S.Store conn.old) (state S.Store conn.new) }
+    ensures foreign { ¬ (ListsOurs (state S.Store conn.old).now.trees) → HasFailedOver ShowsList (state S.Store conn.old) (state S.Store conn.new) }
 {
     let texts = load_texts(conn)?;
-    if !are_texts(&texts)? {
+    if !are_texts(&texts) {
         return Err(StoreFault::Unreadable);
     }
-    let about = load_about(conn)?;
-    if !is_about(&about)? {
+    let about = rows_of(conn, Table::About)?;
+    if !is_about(&about) {
         return Err(StoreFault::Unreadable);
     }
     Ok(())
@@ -116,6 +116,10 @@ pub(crate) fn prepare<S: Alter>(conn: &mut Connection<S>) -> Result<(), StoreFau
         → IsTrue (state S.Store conn.new).is_open → HasTables (state S.Store conn.new) t) }
     ensures left_made { IsTrue (state S.Store conn.old).is_open → IsEmpty (state S.Store conn.old).committed.trees → Survives (state S.Store conn.old) (state S.Store conn.new) (λ db. Holds db no_tables) }
     ensures left_found { (t : Tables) → IsTrue (state S.Store conn.old).is_open → Holds (state S.Store conn.old).committed.trees t → Survives (state S.Store conn.old) (state S.Store conn.new) (λ _. ⊥) }
+    ensures unreadable { HasCleanDisk (state S.Store conn.new) → IfErr result (λ e. e ≡ StoreFault.Unreadable → IsTrue (state S.Store conn.old).is_open → ¬ (IsOpenable (state S.Store conn.old).committed.trees)) }
+    ensures refuses { HasCleanDisk (state S.Store conn.new) → OnOk result (IsTrue (state S.Store conn.old).is_open → ¬ (IsForeign (state S.Store conn.old).committed.trees)) }
+    ensures foreign { IsTrue (state S.Store conn.old).is_open → IsForeign (state S.Store conn.old).committed.trees → Leaves (state S.Store conn.old) (state S.Store conn.new) }
+    ensures untouched { IsTrue (state S.Store conn.old).is_open → IsSound registry_schema (state S.Store conn.old).committed.trees → Leaves (state S.Store conn.old) (state S.Store conn.new) }
     ensures clean { doubt (state S.Store conn.old).is_clean ≤ doubt (state S.Store conn.new).is_clean }
 {
     let _settled = conn.is_autocommit();

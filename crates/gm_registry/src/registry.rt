@@ -1,6 +1,6 @@
 //! The calls of a registry.
 
-ghost use Rattle.std.specs.Prelude.{◌≡◌, ◌≤◌, ◌+◌, false, IfOk, IfErr, OnOk, OnErr, IsTrue, MatchOption, MatchResult, string_bytes};
+ghost use Rattle.std.specs.Prelude.{◌≡◌, ◌≢◌, ◌≤◌, ◌+◌, false, IfOk, IfErr, OnOk, OnErr, IsTrue, MatchOption, MatchResult, string_bytes};
 ghost use Rattle.sqlite_trees.specs.View.{doubt};
 ghost use Rattle.sqlite.specs.State.{HasCleanDisk, Survives};
 ghost use Rattle.sqlite.specs.Held.{state};
@@ -9,8 +9,10 @@ ghost use Rattle.gm_state.specs.World.{ReplyFits};
 ghost use Rattle.gm_registry.specs.Tables.{Holds, HasTables, IsEmpty, IsRegistry, no_tables};
 ghost use Rattle.sqlite_catalog.specs.Listing.{IsSound};
 ghost use Rattle.gm_registry.specs.Schema.{registry_schema};
+ghost use Rattle.gm_registry.specs.Opening.{IsOpenable, IsForeign};
+ghost use Rattle.gm_registry.specs.Reads.{Leaves};
 ghost use Rattle.gm_registry.specs.Changes.{with_change, settled};
-ghost use Rattle.gm_registry.specs.Replies.{IsKept, IsFree, count_of};
+ghost use Rattle.gm_registry.specs.Replies.{IsKept, IsFree, AreWritten, count_of};
 
 use crate::accepting::accept_on;
 use crate::fault::StoreFault;
@@ -63,6 +65,13 @@ impl<S: Alter> Registry<S> {
             → MatchResult result (λ c. Survives (state S.Store store) (state S.Store c) (λ db. Holds db no_tables)) (λ e. Survives (state S.Store store) (state S.Store e.store) (λ db. Holds db no_tables)) }
         ensures left_found { (t : Tables) → IsTrue (state S.Store store).is_open → Holds (state S.Store store).committed.trees t
             → MatchResult result (λ c. Survives (state S.Store store) (state S.Store c) (λ _. ⊥)) (λ e. Survives (state S.Store store) (state S.Store e.store) (λ _. ⊥)) }
+        // Of any other store, `Unreadable` comes only where it can't be opened.
+        ensures unreadable { IsTrue (state S.Store store).is_open → IfErr result (λ e. HasCleanDisk (state S.Store e.store) → e.fault ≡ StoreFault.Unreadable → ¬ (IsOpenable (state S.Store store).committed.trees)) }
+        ensures refuses { IsTrue (state S.Store store).is_open → IsForeign (state S.Store store).committed.trees → IfOk result (λ c. ¬ (HasCleanDisk (state S.Store c))) }
+        ensures foreign { IsTrue (state S.Store store).is_open → IsForeign (state S.Store store).committed.trees
+            → MatchResult result (λ c. Leaves (state S.Store store) (state S.Store c)) (λ e. Leaves (state S.Store store) (state S.Store e.store)) }
+        ensures untouched { IsTrue (state S.Store store).is_open → IsSound registry_schema (state S.Store store).committed.trees
+            → MatchResult result (λ c. Leaves (state S.Store store) (state S.Store c)) (λ e. Leaves (state S.Store store) (state S.Store e.store)) }
         ensures clean { MatchResult result (λ c. doubt (state S.Store store).is_clean ≤ doubt (state S.Store c).is_clean) (λ e. doubt (state S.Store store).is_clean ≤ doubt (state S.Store e.store).is_clean) }
     {
         match prepare(&mut store) {
@@ -83,6 +92,7 @@ impl<S: Alter> Registry<S> {
     pub fn reply_of(&mut self, key: &str) -> Result<Option<(u64, String, Reply)>, StoreFault>
         ensures found { HasCleanDisk (state S.Store self.new) → IfOk result (λ found. (t : Tables) → HasTables (state S.Store self.old) t
             → MatchOption found (IsFree t key.now) (λ it. IsKept t key.now it.0 (string_bytes it.1) it.2) × HasTables (state S.Store self.new) t) }
+        ensures unreadable { HasCleanDisk (state S.Store self.new) → IfErr result (λ e. e ≡ StoreFault.Unreadable → (t : Tables) → HasTables (state S.Store self.old) t → AreWritten t → ⊥) }
         ensures refused { HasCleanDisk (state S.Store self.new) → OnErr result ((t : Tables) → HasTables (state S.Store self.old) t → IsTrue (state S.Store self.new).is_open → HasTables (state S.Store self.new) t) }
         ensures left { (t : Tables) → HasTables (state S.Store self.old) t → Survives (state S.Store self.old) (state S.Store self.new) (λ _. ⊥) }
         ensures clean { doubt (state S.Store self.old).is_clean ≤ doubt (state S.Store self.new).is_clean }
@@ -94,6 +104,7 @@ impl<S: Alter> Registry<S> {
     pub fn accepted(&mut self) -> Result<u64, StoreFault>
         ensures count { HasCleanDisk (state S.Store self.new) → IfOk result (λ n. (t : Tables) → HasTables (state S.Store self.old) t
             → (n ≡ count_of t) × HasTables (state S.Store self.new) t) }
+        ensures unreadable { HasCleanDisk (state S.Store self.new) → IfErr result (λ e. e ≡ StoreFault.Unreadable → (t : Tables) → HasTables (state S.Store self.old) t → count_of t ≤ 100000 → ⊥) }
         ensures refused { HasCleanDisk (state S.Store self.new) → OnErr result ((t : Tables) → HasTables (state S.Store self.old) t → IsTrue (state S.Store self.new).is_open → HasTables (state S.Store self.new) t) }
         ensures left { (t : Tables) → HasTables (state S.Store self.old) t → Survives (state S.Store self.old) (state S.Store self.new) (λ _. ⊥) }
         ensures clean { doubt (state S.Store self.old).is_clean ≤ doubt (state S.Store self.new).is_clean }
@@ -107,6 +118,7 @@ impl<S: Alter> Registry<S> {
         ensures done { HasCleanDisk (state S.Store self.new) → IfOk result (λ n. (t : Tables) → HasTables (state S.Store self.old) t
             → (n ≡ count_of t + 1) × HasTables (state S.Store self.new) (with_change change.now key.now n words.now t)) }
         ensures limits { IfOk result (λ n. (n ≤ 100000) × ReplyFits change.now.reply) }
+        ensures unreadable { HasCleanDisk (state S.Store self.new) → IfErr result (λ e. e ≡ StoreFault.Unreadable → (t : Tables) → HasTables (state S.Store self.old) t → count_of t ≤ 100000 → ⊥) }
         ensures refused { HasCleanDisk (state S.Store self.new) → OnErr result ((t : Tables) → HasTables (state S.Store self.old) t → IsTrue (state S.Store self.new).is_open → HasTables (state S.Store self.new) t) }
         ensures left { (t : Tables) → HasTables (state S.Store self.old) t
             → Survives (state S.Store self.old) (state S.Store self.new) (λ db. Holds db (with_change change.now key.now (count_of t + 1) words.now t)) }
@@ -118,6 +130,7 @@ impl<S: Alter> Registry<S> {
     /// Deletes the pending intents, in one transaction.
     pub fn settle(&mut self) -> Result<(), StoreFault>
         ensures done { HasCleanDisk (state S.Store self.new) → OnOk result ((t : Tables) → HasTables (state S.Store self.old) t → HasTables (state S.Store self.new) (settled t)) }
+        ensures fault { IfErr result (λ e. e ≢ StoreFault.Unreadable) }
         ensures refused { HasCleanDisk (state S.Store self.new) → OnErr result ((t : Tables) → HasTables (state S.Store self.old) t → IsTrue (state S.Store self.new).is_open → HasTables (state S.Store self.new) t) }
         ensures left { (t : Tables) → HasTables (state S.Store self.old) t → Survives (state S.Store self.old) (state S.Store self.new) (λ db. Holds db (settled t)) }
         ensures clean { doubt (state S.Store self.old).is_clean ≤ doubt (state S.Store self.new).is_clean }

@@ -1,18 +1,18 @@
 //! What is read of the accepted commands: the reply under a key, and the greatest number.
 
-ghost use Rattle.std.specs.Prelude.{◌≡◌, ◌≤◌, ◌==◌, List, ℕ, pos, filter, map, string_bytes, IfOk, OnErr, IsTrue, MatchOption, IsPermutation};
+ghost use Rattle.std.specs.Prelude.{◌≡◌, ◌≤◌, ◌<◌, ◌^◌, ◌==◌, List, ℕ, pos, filter, map, string_bytes, IfOk, IfErr, OnErr, IsTrue, MatchOption, IsPermutation};
 ghost use Rattle.std.specs.Str.{bytes_eq};
 ghost use Rattle.sqlite_trees.specs.View.{doubt};
 ghost use Rattle.sqlite.specs.State.{HasCleanDisk, Survives};
 ghost use Rattle.sqlite.specs.Held.{state};
 ghost use Rattle.sqlite.specs.Order.{column};
 ghost use Rattle.sqlite.specs.declared.types.Value.TheVariants.{Int, Text};
-ghost use Rattle.gm_state.specs.Rows.{Tables};
+ghost use Rattle.gm_state.specs.Rows.{Tables, CommandRow};
 ghost use Rattle.gm_registry.specs.Tables.{HasTables};
-ghost use Rattle.gm_registry.specs.Faults.{value_fault_of};
-ghost use Rattle.gm_registry.specs.Replies.{reply_in, is_under, reply_values, IsKept, IsFree, IsLastOf, count_of};
+ghost use Rattle.gm_registry.specs.Replies.{Fits, AreWritten, reply_in, is_under, reply_values, IsKept, IsFree, IsLastOf, count_of};
 
-use crate::fault::{StoreFault, readable};
+use crate::cells::{text_at, u32_at};
+use crate::fault::StoreFault;
 use gm_state::Reply;
 use sqlite::{Alter, Connection, Error, Row, params};
 
@@ -25,15 +25,26 @@ struct Kept {
     of_total: u32,
 }
 
+fn read_number(row: &Row, at: usize) -> Result<u32, StoreFault>
+    ensures number { IfOk result (λ number. column row.now at ≡ Int (pos number)) }
+    ensures unreadable { IfErr result (λ e. (number : ℕ) → number < 2 ^ 32 → column row.now at ≡ Int (pos number) → ⊥) }
+{
+    match u32_at(row, at) {
+        Some(number) => Ok(number),
+        None => Err(StoreFault::Unreadable),
+    }
+}
+
 fn read_kept(row: &Row) -> Result<Kept, StoreFault>
-    ensures { IfOk result (λ kept. (column row.now 0 ≡ Int (pos kept.number)) × (column row.now 1 ≡ Text (string_bytes kept.words))
+    ensures kept { IfOk result (λ kept. (column row.now 0 ≡ Int (pos kept.number)) × (column row.now 1 ≡ Text (string_bytes kept.words))
         × (column row.now 2 ≡ Int (pos kept.copied)) × (column row.now 3 ≡ Int (pos kept.of_total))) }
+    ensures unreadable { IfErr result (λ e. e ≡ StoreFault.Unreadable → (c : CommandRow) → Fits c → row.now ≡ reply_values c → ⊥) }
 {
     Ok(Kept {
-        number: readable(row.get(0))?,
-        words: readable(row.get(1))?,
-        copied: readable(row.get(2))?,
-        of_total: readable(row.get(3))?,
+        number: read_number(row, 0)?,
+        words: text_at(row, 1)?,
+        copied: read_number(row, 2)?,
+        of_total: read_number(row, 3)?,
     })
 }
 
@@ -71,6 +82,7 @@ pub(crate) fn reply_on<S: Alter>(
 ) -> Result<Option<(u64, String, Reply)>, StoreFault>
     ensures found { HasCleanDisk (state S.Store conn.new) → IfOk result (λ found. (t : Tables) → HasTables (state S.Store conn.old) t
         → MatchOption found (IsFree t key.now) (λ it. IsKept t key.now it.0 (string_bytes it.1) it.2) × HasTables (state S.Store conn.new) t) }
+    ensures unreadable { HasCleanDisk (state S.Store conn.new) → IfErr result (λ e. e ≡ StoreFault.Unreadable → (t : Tables) → HasTables (state S.Store conn.old) t → AreWritten t → ⊥) }
     ensures refused { HasCleanDisk (state S.Store conn.new) → OnErr result ((t : Tables) → HasTables (state S.Store conn.old) t → IsTrue (state S.Store conn.new).is_open → HasTables (state S.Store conn.new) t) }
     ensures left { (t : Tables) → HasTables (state S.Store conn.old) t → Survives (state S.Store conn.old) (state S.Store conn.new) (λ _. ⊥) }
     ensures clean { doubt (state S.Store conn.old).is_clean ≤ doubt (state S.Store conn.new).is_clean }
@@ -96,16 +108,11 @@ fn last_command<S: Alter>(conn: &mut Connection<S>) -> Result<Vec<Row>, Error>
     conn.query_all("SELECT seq FROM commands ORDER BY seq DESC LIMIT 1", &[])
 }
 
-fn read_number(row: &Row) -> Result<u32, StoreFault>
-    ensures { IfOk result (λ number. column row.now 0 ≡ Int (pos number)) }
-{
-    readable(row.get(0))
-}
-
 /// How many commands were accepted: the greatest number, since they count from 1 without gaps.
 pub(crate) fn accepted_on<S: Alter>(conn: &mut Connection<S>) -> Result<u32, StoreFault>
     ensures count { HasCleanDisk (state S.Store conn.new) → IfOk result (λ n. (t : Tables) → HasTables (state S.Store conn.old) t
         → (n ≡ count_of t) × HasTables (state S.Store conn.new) t) }
+    ensures unreadable { HasCleanDisk (state S.Store conn.new) → IfErr result (λ e. e ≡ StoreFault.Unreadable → (t : Tables) → HasTables (state S.Store conn.old) t → count_of t ≤ 100000 → ⊥) }
     ensures refused { HasCleanDisk (state S.Store conn.new) → OnErr result ((t : Tables) → HasTables (state S.Store conn.old) t → IsTrue (state S.Store conn.new).is_open → HasTables (state S.Store conn.new) t) }
     ensures left { (t : Tables) → HasTables (state S.Store conn.old) t → Survives (state S.Store conn.old) (state S.Store conn.new) (λ _. ⊥) }
     ensures clean { doubt (state S.Store conn.old).is_clean ≤ doubt (state S.Store conn.new).is_clean }
@@ -113,6 +120,6 @@ pub(crate) fn accepted_on<S: Alter>(conn: &mut Connection<S>) -> Result<u32, Sto
     let rows = last_command(conn)?;
     match rows.first() {
         None => Ok(0),
-        Some(row) => Ok(read_number(row)?),
+        Some(row) => Ok(read_number(row, 0)?),
     }
 }

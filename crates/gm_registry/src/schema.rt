@@ -20,6 +20,3 @@ pub(crate) const INTENTS: &str =
 pub(crate) const COMMANDS: &str =
     "CREATE TABLE commands(call_key TEXT PRIMARY KEY NOT NULL, seq INTEGER NOT NULL UNIQUE,
   words TEXT NOT NULL, copied INTEGER NOT NULL, of_total INTEGER NOT NULL) STRICT";
-
-/// All of them, in the order in which they are made.
-pub(crate) const TEXTS: [&str; 5] = [ABOUT, MIRRORS, COMPONENTS, INTENTS, COMMANDS];

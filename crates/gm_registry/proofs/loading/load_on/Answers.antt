@@ -1,13 +1,9 @@
-use Rattle.std.proofs.Common.{IfErr, Result, Ok, Err}
 use Rattle.sqlite.specs.Held.{state}
 use Rattle.sqlite_rows.proofs.Refusing.{if_ok, on_err}
 use Rattle.gm_registry.proofs.Passing.{ours, counted, tables_stay, nothing_new, registry_ours, read_leaves}
 use Rattle.gm_registry.proofs.Telling.{says_tables, tables_said, any_tables, any_rows}
+use Rattle.gm_registry.proofs.Standing.{if_err}
 use Rattle.gm_registry.proofs.loading.load_on.Goals as goal
-
-if_err : {A E : Type 0} (x : Result A E) (P Q : E → Type 0) → ((e : E) → P e → Q e) → IfErr x P → IfErr x Q
-if_err (Ok a) P Q f p = tt
-if_err (Err e) P Q f p = f e p
 
 pub returns-clause-loaded : goal.returns-clause-loaded
 returns-clause-loaded g c clean =

@@ -1,0 +1,190 @@
+-- The texts that a store lists, as the query of them finds them.
+use Rattle.std.proofs.Common.{◌≡◌, ◌∙◌, ◌⊎◌, inl, inr, ⊎_elim, ℕ, ◌<◌, ◌≤◌, pos, Bool, true, false, not, List, [], ◌∷◌, filter, map, length, if◌then◌else◌, append-nil, codes, Result, IsPermutation, refl, sym, ap, subst, arith}
+use Rattle.std.proofs.lemmas.List.Elements.{filter_agree}
+use Rattle.std.proofs.lemmas.List.Sorted.{IsPermutation-refl, IsPermutation-sym, IsPermutation-trans, IsPermutation-map, IsPermutation-cons, IsPermutation-swap, length_permutation}
+use Rattle.sqlite_trees.proofs.ListLemmas.{map-map}
+use Rattle.sqlite.specs.Order.{Row, column}
+use Rattle.sqlite_value.specs.declared.value.Value.{Value}
+use Rattle.sqlite_value.specs.Order.{value_cmp}
+use Rattle.sqlite_value.proofs.OrderLemmas.{value_cmp-Null}
+use Rattle.sqlite.specs.declared.types.Value.TheVariants.{Null, Int, Real, Text, Blob}
+use Rattle.sqlite_sql.specs.Ops.{is_null, is_true, unary, binary}
+use Rattle.sqlite_sql.specs.declared.ops.UnaryOp.TheVariants.{Not}
+use Rattle.sqlite_sql.specs.declared.ops.BinaryOp.TheVariants.{Is}
+use Rattle.sqlite.specs.Collation.TheVariants.{Binary}
+use Rattle.sqlite.specs.Term.{Term, lit, col, op1, op2, holds}
+use Rattle.sqlite.specs.Query.{Query, IsAnswer}
+use Rattle.sqlite.specs.Schema.{Schema}
+use Rattle.sqlite.specs.Tree.{Trees}
+use Rattle.sqlite.specs.Command.TheVariants.{Select}
+use Rattle.sqlite.specs.Effect.{Reads}
+use Rattle.sqlite_resolve.specs.declared.compiled.Compiled.{Compiled}
+use Rattle.sqlite_resolve.specs.declared.error.CompileError.{CompileError}
+use Rattle.sqlite_resolve.specs.Compile.{compiled}
+use Rattle.sqlite.specs.Listing.{understood, listing_schema, if_select, IsSourceOf}
+use Rattle.sqlite.specs.Given.{IsPlain}
+use Rattle.sqlite.specs.State.{State, HasCleanDisk, Shown}
+use Rattle.sqlite.proofs.StateLemmas.{survives_weaker}
+use Rattle.sqlite.proofs.Callers.{command_of}
+use Rattle.sqlite_tied.specs.Compute.{everything}
+use Rattle.sqlite_rows.proofs.Finding.{scan, found, overlaid}
+use Rattle.gm_state.specs.Words.{Has}
+use Rattle.gm_state.proofs.Sorting.{Has-permutation}
+use Rattle.gm_registry.specs.Statements.{load_texts_text}
+use Rattle.gm_registry.specs.Texts.{about_text, mirrors_text, components_text, intents_text, commands_text}
+use Rattle.gm_registry.specs.Schema.{registry_schema}
+use Rattle.gm_registry.specs.Values.{columns_at, two}
+use Rattle.gm_registry.specs.Reads.{IsOurSchema, HasFailed, HasFailedOver}
+use Rattle.gm_registry.specs.Listing.{listed, under_number, our_tables, AllStand, ListsOurs, ShowsList}
+
+-- ---- the query
+
+abbrev has_text : Term
+has_text = op1 Not (op2 (Is Binary) (col 1 5) (lit Null))
+
+abbrev texts_query : Query
+texts_query = scan 0 (has_text ∷ []) (col 1 0 ∷ col 1 5 ∷ []) []
+
+-- what the text means over the list of objects
+abbrev over_list : Result Compiled CompileError
+over_list = if_select (compiled listing_schema load_texts_text)
+
+record IsTextsQuery : Type 0 where
+  pub command_is : command_of over_list ≡ Select (record { lets = []; body = texts_query }) (codes "rowid" ∷ codes "sql" ∷ [])
+  pub plain : IsPlain over_list
+
+texts_query_is : IsTextsQuery
+unfolding listing_schema everything
+texts_query_is = record { command_is = refl; plain = (refl, refl) }
+
+-- no table of a registry has the name of the list
+pub ours_shows : ShowsList registry_schema
+unfolding everything
+ours_shows = refl
+
+understood_there : (schema : Schema) → ShowsList schema → understood schema load_texts_text ≡ over_list
+unfolding understood
+understood_there schema shows = ap (λ (b : Bool). if b then over_list else compiled schema load_texts_text) shows
+
+pub plain_list : (schema : Schema) → ShowsList schema → IsPlain (understood schema load_texts_text)
+plain_list schema shows = subst IsPlain (sym (understood_there schema shows)) texts_query_is.plain
+
+no_value : is_true (unary Not (binary (Is Binary) Null Null)) ≡ false
+unfolding unary binary
+no_value = rw (value_cmp-Null Null) refl
+
+some_value : (v : Value) → is_true (unary Not (binary (Is Binary) v Null)) ≡ not (is_null v)
+unfolding unary binary value_cmp
+some_value Null = no_value
+some_value (Int n) = refl
+some_value (Real x) = refl
+some_value (Text t) = refl
+some_value (Blob b) = refl
+
+-- the first two columns of what is shown are what is shown
+two_again : (db : Trees) → map (columns_at two) (listed db) ≡ listed db
+two_again db = map-map (columns_at two) _ _
+
+-- the query shows what is listed
+pub lists : (old new : State) (rows : List Row) → ShowsList old.now.schema → Shown load_texts_text [] old new rows → IsPermutation (listed old.now.trees) rows
+unfolding Shown
+lists old new rows shows h =
+    let known = sym h.1.is ∙ understood_there old.now.schema shows in
+    let bare = subst IsPlain (sym known) texts_query_is.plain in
+    let it = rw (bare.0, bare.1) at h.2 in
+    let source = subst (λ b. IsSourceOf b old.now it.0) shows it.1 in
+    let reads = subst (λ k. Reads k it.0 [] rows) (ap command_of known ∙ texts_query_is.command_is) it.2 in
+    let a : IsAnswer texts_query it.0.trees [] rows = subst (λ d. IsAnswer texts_query d [] rows) (overlaid it.0.trees) (reads.answer Null) in
+    let got = found 0 (col 1 0 ∷ col 1 5 ∷ []) [] it.0.trees [] rows has_text a in
+    let kept = filter_agree (λ (r : Row). holds ([] ∷ r ∷ []) has_text) (λ row. not (is_null (column row 5))) (λ row. some_value (column row 5)) (it.0.trees 0) in
+    subst (λ l. IsPermutation (map (λ (row : Row). column row 0 ∷ column row 5 ∷ []) l) rows) (kept ∙ ap (filter (λ (row : Row). not (is_null (column row 5)))) source.1) got
+
+-- ---- five rows that are among others
+
+abbrev AllDiffer : {A : Type 0} → List A → Type 0
+AllDiffer [] = Unit {0}
+AllDiffer (x ∷ xs) = ¬ (Has xs x) × AllDiffer xs
+
+module _ {A : Type 0} where
+  -- one is taken out
+  taken : (xs : List A) (x : A) → Has xs x → (rest : List A) × IsPermutation xs (x ∷ rest)
+  taken [] x h = absurd h
+  taken (y ∷ ys) x (inl same) = (ys, subst (λ z. IsPermutation (y ∷ ys) (z ∷ ys)) same (IsPermutation-refl (y ∷ ys)))
+  taken (y ∷ ys) x (inr h) =
+      let it = taken ys x h in
+      (y ∷ it.0, IsPermutation-trans (y ∷ ys) (y ∷ x ∷ it.0) (x ∷ y ∷ it.0) (IsPermutation-cons y ys (x ∷ it.0) it.1) (IsPermutation-swap (y ∷ x ∷ it.0) (x ∷ y ∷ it.0) 0 1 (omega arith) (omega arith) refl))
+
+  -- as many rows as there are, among which each stands, are all of them
+  covers : (xs rows : List A) → AllDiffer xs → ((x : A) → Has xs x → Has rows x) → length rows ≡ length xs → IsPermutation xs rows
+  covers [] [] differ there many = IsPermutation-refl []
+  covers [] (row ∷ rows) differ there many = absurd (omega (arith, many))
+  covers (x ∷ xs) rows differ there many =
+      let it = taken rows x (there x (inl refl)) in
+      let fewer : length it.0 ≡ length xs = omega (arith, many, length_permutation rows (x ∷ it.0) it.1) in
+      let others : (y : A) → Has xs y → Has it.0 y = λ y h.
+      ⊎_elim (λ (s : x ≡ y). absurd (differ.0 (subst (Has xs) (sym s) h))) (λ (k : Has it.0 y). k) (Has-permutation rows (x ∷ it.0) y it.1 (there y (inr h))) in
+      IsPermutation-trans (x ∷ xs) (x ∷ it.0) rows (IsPermutation-cons x xs it.0 (covers xs it.0 differ.1 others fewer)) (IsPermutation-sym rows (x ∷ it.0) it.1)
+
+same_number : (m n : ℕ) (a b : List ℕ) → under_number m a ≡ under_number n b → m ≡ n
+same_number m n a b e = let first : ◌≡◌ {A = Value} (Int (pos m)) (Int (pos n)) = ap (λ row. column row 0) e in cc
+
+abbrev row_of : ℕ × List ℕ → Row
+row_of p = under_number p.0 p.1
+
+-- each number is greater than the one before it
+abbrev Rise : ℕ → List (ℕ × List ℕ) → Type 0
+Rise n [] = Unit {0}
+Rise n (p ∷ ps) = (n < p.0) × Rise p.0 ps
+
+-- a text stands not among those under greater numbers
+not_above : (n : ℕ) (text : List ℕ) (m : ℕ) (ps : List (ℕ × List ℕ)) → n ≤ m → Rise m ps → ¬ (Has (map row_of ps) (under_number n text))
+not_above n text m [] low up h = h
+not_above n text m (p ∷ ps) low up (inl same) = let e = same_number p.0 n p.1 text same in omega (arith, e, low, up.0)
+not_above n text m (p ∷ ps) low up (inr later) = not_above n text p.0 ps (omega (arith, low, up.0)) up.1 later
+
+differ_by_number : (n : ℕ) (ps : List (ℕ × List ℕ)) → Rise n ps → AllDiffer (map row_of ps)
+differ_by_number n [] up = tt
+differ_by_number n (p ∷ ps) up = (not_above p.0 p.1 p.0 ps (omega arith) up.1, differ_by_number p.0 ps up.1)
+
+abbrev five : List (ℕ × List ℕ)
+five = (1, about_text) ∷ (2, mirrors_text) ∷ (5, components_text) ∷ (8, intents_text) ∷ (9, commands_text) ∷ []
+
+all_differ : AllDiffer our_tables
+all_differ = differ_by_number 0 five (omega arith, (omega arith, (omega arith, (omega arith, (omega arith, tt)))))
+
+pub all_five : (rows : List Row) → length rows ≡ 5 → AllStand rows our_tables → IsPermutation our_tables rows
+all_five rows many all = covers our_tables rows all_differ there many
+  where
+    there : (x : Row) → Has our_tables x → Has rows x
+    there x (inl same) = subst (Has rows) same all.0
+    there x (inr (inl same)) = subst (Has rows) same all.1.0
+    there x (inr (inr (inl same))) = subst (Has rows) same all.1.1.0
+    there x (inr (inr (inr (inl same)))) = subst (Has rows) same all.1.1.1.0
+    there x (inr (inr (inr (inr (inl same))))) = subst (Has rows) same all.1.1.1.1
+    there x (inr (inr (inr (inr (inr none))))) = absurd none
+
+pub five_stand : (rows : List Row) → IsPermutation our_tables rows → (length rows ≡ 5) × AllStand rows our_tables
+five_stand rows same =
+    let stands : (x : Row) → Has our_tables x → Has rows x = λ x. Has-permutation our_tables rows x same in
+    (length_permutation our_tables rows same, (stands _ (inl refl), (stands _ (inr (inl refl)), (stands _ (inr (inr (inl refl))), (stands _ (inr (inr (inr (inl refl)))), stands _ (inr (inr (inr (inr (inl refl))))))))))
+
+-- rows that were shown show our texts exactly where the store lists them
+pub ours_listed : (db : Trees) (rows : List Row) → IsPermutation (listed db) rows → IsPermutation our_tables (map (columns_at two) rows) → ListsOurs db
+ours_listed db rows shown ours =
+    IsPermutation-trans our_tables (map (columns_at two) rows) (listed db) ours (IsPermutation-sym _ _ (subst (λ l. IsPermutation l (map (columns_at two) rows)) (two_again db) (IsPermutation-map (columns_at two) _ _ shown)))
+
+pub ours_shown : (db : Trees) (rows : List Row) → IsPermutation (listed db) rows → ListsOurs db → IsPermutation our_tables (map (columns_at two) rows)
+ours_shown db rows shown lists =
+    IsPermutation-trans our_tables (listed db) (map (columns_at two) rows) lists (subst (λ l. IsPermutation l (map (columns_at two) rows)) (two_again db) (IsPermutation-map (columns_at two) _ _ shown))
+
+-- ---- reads of the list
+
+pub ours_known : (schema : Schema) → IsOurSchema schema → ShowsList schema
+ours_known schema ours = subst ShowsList (sym ours) ours_shows
+
+-- what is known to list our texts is no store of somebody else's
+pub not_foreign : (old new : State) → (HasCleanDisk new → ShowsList old.now.schema → ListsOurs old.now.trees) → HasFailed old new → ¬ (ListsOurs old.now.trees) → HasFailedOver ShowsList old new
+not_foreign old new tells failed other = record {
+  refused = λ clean shows is. absurd (other (tells clean shows));
+  left = survives_weaker old new _ _ (λ clean db _ shows. other (tells clean shows)) failed.left;
+}

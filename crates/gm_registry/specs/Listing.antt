@@ -1,0 +1,40 @@
+-- The texts of its tables, as a store lists them.
+use Rattle.std.specs.Prelude.{codes, not, pos, ◌≡◌, true, List, ℕ, [], ◌∷◌, filter, map}
+use Rattle.std.specs.List.Sorted.{IsPermutation}
+use Rattle.sqlite.specs.Order.{Row, column}
+use Rattle.sqlite.specs.Tree.{Trees}
+use Rattle.sqlite.specs.Schema.{Schema}
+use Rattle.sqlite.specs.Listing.{shown, reads_listing}
+use Rattle.sqlite.specs.declared.types.Value.TheVariants.{Int, Text}
+use Rattle.sqlite_sql.specs.Ops.{is_null}
+use Rattle.sqlite_rules.specs.Edit.{put_all}
+use Rattle.sqlite_trees.specs.Objects.{catalog_tree}
+use Rattle.gm_state.specs.Words.{Has}
+use Rattle.gm_registry.specs.Statements.{load_texts_text}
+use Rattle.gm_registry.specs.Texts.{about_text, mirrors_text, components_text, intents_text, commands_text}
+
+-- the objects that have a text, as sqlite_schema shows them: each by its number and its text
+abbrev pub listed : Trees → List Row
+listed db = map (λ row. column row 0 ∷ column row 5 ∷ []) (filter (λ row. not (is_null (column row 5))) (put_all [] (map shown (db catalog_tree))))
+
+-- a text under its number
+abbrev pub under_number : ℕ → List ℕ → Row
+under_number number text = Int (pos number) ∷ Text text ∷ []
+
+-- the tables of a registry
+abbrev pub our_tables : List Row
+our_tables = under_number 1 about_text ∷ under_number 2 mirrors_text ∷ under_number 5 components_text ∷ under_number 8 intents_text ∷ under_number 9 commands_text ∷ []
+
+-- each of these rows stands among those
+abbrev pub AllStand : List Row → List Row → Type 0
+AllStand rows [] = Unit {0}
+AllStand rows (row ∷ []) = Has rows row
+AllStand rows (row ∷ more) = Has rows row × AllStand rows more
+
+-- a store lists the five tables of a registry by their texts, and nothing else
+abbrev pub ListsOurs : Trees → Type 0
+ListsOurs db = IsPermutation our_tables (listed db)
+
+-- no table of the schema has the name of the list
+abbrev pub ShowsList : Schema → Type 0
+ShowsList schema = reads_listing schema load_texts_text ≡ true
