@@ -1,5 +1,6 @@
 //! Each statement once over memory, with values worked out by hand, and stores that hold something else.
 
+mod counting;
 mod loading;
 mod stops;
 mod stored;
@@ -77,19 +78,29 @@ fn change(alloc: Global, state: &State, facts: &[Fact], command: &Command) -> Re
     }
 }
 
-// gm0 on a.img, of four sectors.
-fn labels(alloc: Global) -> Result<Change, Fail> {
+// A mirror on one provider, of four sectors.
+fn labels_on(alloc: Global, name: &str, provider: &str, mid: u32) -> Result<Change, Fail> {
     let command = Command::Label {
-        name: label("gm0")?,
-        provider: label("a.img")?,
-        mid: 7,
+        name: label(name)?,
+        provider: label(provider)?,
+        mid,
         did: 1,
         balance: BalanceWord::Load,
         slice: Slice::new(4096).ok_or("no slice")?,
         flags: NO_FLAGS,
         hardcoded: true,
     };
-    change(alloc, &state(alloc, &[], &[])?, &[bare("a.img")?], &command)
+    change(
+        alloc,
+        &state(alloc, &[], &[])?,
+        &[bare(provider)?],
+        &command,
+    )
+}
+
+// gm0 on a.img.
+fn labels(alloc: Global) -> Result<Change, Fail> {
+    labels_on(alloc, "gm0", "a.img", 7)
 }
 
 // b.img beside it.
