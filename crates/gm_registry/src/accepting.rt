@@ -11,7 +11,7 @@ ghost use Rattle.gm_state.specs.World.{ReplyFits};
 ghost use Rattle.gm_registry.specs.Replies.{count_of};
 ghost use Rattle.gm_registry.specs.Changes.{with_records, with_change, without_some_mirror, with_some_mirror};
 
-use crate::commands::put_command;
+use crate::commands::{MAX_COMMANDS, put_command};
 use crate::components::{drop_components, put_components};
 use crate::fault::StoreFault;
 use crate::intents::put_intents;
@@ -21,9 +21,6 @@ use gm_metadata::Label;
 use gm_rules::Change;
 use gm_state::{MAX_SECTORS, Mirror, Reply};
 use sqlite::{Alter, Connection, Error, ErrorCode, Transaction};
-
-/// As many commands may be accepted.
-const MAX_COMMANDS: u32 = 100_000;
 
 /// Deletes a mirror where there is a name.
 fn drop_some_mirror<S: Alter>(tx: &mut Transaction<'_, S>, name: Option<Label>) -> Result<(), Error>

@@ -7,6 +7,7 @@ ghost use Rattle.gm_state.specs.Records.{Records};
 ghost use Rattle.gm_registry.specs.Says.{IsBetween, IsCommand, IsAbout, AreCommands, SayState, Say};
 
 use crate::cells::{is_number_at, u64_at};
+use crate::commands::MAX_COMMANDS;
 use crate::fault::StoreFault;
 use crate::fetching::Fetched;
 use crate::readable::are_readable;
@@ -15,8 +16,6 @@ use gm_state::{Component, Intent, Mirror, State, one_row};
 use sqlite::Row;
 use std::alloc::Global;
 
-/// The most commands that are accepted.
-pub const MAX_COMMANDS: usize = 100_000;
 /// The most sectors that a reply can tell.
 const MAX_COPIED: u64 = 1_048_576;
 
@@ -40,7 +39,7 @@ fn is_command(row: &Row, count: usize) -> bool
 fn are_commands(rows: &[Row]) -> bool
     ensures { IsTrue result ↔ AreCommands rows.now }
 {
-    if rows.len() > MAX_COMMANDS {
+    if rows.len() > MAX_COMMANDS as usize {
         return false;
     }
     'rows: for row in rows {
