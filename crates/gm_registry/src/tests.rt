@@ -140,6 +140,10 @@ fn open<S: Alter + Drop>(store: Connection<S>) -> Result<Registry<S>, StoreFault
     }
 }
 
+fn loads<S: Alter>(alloc: Global, registry: &mut Registry<S>) -> bool {
+    registry.load(alloc).is_ok()
+}
+
 fn accept<S: Alter>(
     registry: &mut Registry<S>,
     change: &Change,

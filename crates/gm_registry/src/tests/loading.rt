@@ -10,7 +10,8 @@ use std::alloc::Global;
 use std::test::Fail;
 
 // gm0 with three components, of which one is copied to; gm1 with one; gm2 with three, of which one takes no part.
-const ROWS: &str = "INSERT INTO mirrors VALUES ('gm2', 9, 16, 4294967295, 2, 1, 4, 512, 3);
+pub(super) const ROWS: &str =
+    "INSERT INTO mirrors VALUES ('gm2', 9, 16, 4294967295, 2, 1, 4, 512, 3);
 INSERT INTO mirrors VALUES ('gm0', 7, 3, 0, 1, 4096, 2, 1536, 2);
 INSERT INTO mirrors VALUES ('gm1', 8, 1, 1, 0, 4294967295, 0, 536869888, 0);
 INSERT INTO components VALUES ('a.img', 'gm0', 1, 1, 0, 0, 0, 0, 2048);
@@ -28,7 +29,7 @@ INSERT INTO intents VALUES (1, 3, 'b.img', 'a.img', 1, 3);
 INSERT INTO intents VALUES (3, 2, 'x.img', '', 0, 0)";
 
 // Edits of those rows, each of which makes them unreadable.
-const EDITS: [&str; 39] = [
+pub(super) const EDITS: [&str; 39] = [
     "UPDATE components SET dflags = 4 WHERE prov = 'a.img'",
     "UPDATE components SET dflags = 1 WHERE prov = 'a.img'",
     "UPDATE components SET dflags = -1 WHERE prov = 'a.img'",

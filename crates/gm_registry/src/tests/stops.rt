@@ -1,6 +1,6 @@
 //! A store of two files, of which one stops at each of its calls in turn, and what is found when it is opened again.
 
-use super::{accept, accepted, inserts, labels, number, open, settle};
+use super::{accept, accepted, inserts, labels, loads, number, open, settle};
 use crate::Registry;
 use gm_rules::Change;
 use sqlite::{Alter, Connection, Files, Options};
@@ -14,11 +14,13 @@ const MANY: u64 = 400;
 // What was acknowledged before the stop.
 #[derive(Clone, Copy)]
 pub(super) struct Reached {
-    pub(super) accepted: bool,
+    pub(super) loaded: bool,
+    accepted: bool,
     settled: bool,
 }
 
 const NOTHING: Reached = Reached {
+    loaded: false,
     accepted: false,
     settled: false,
 };
@@ -47,8 +49,9 @@ pub(super) fn files(
     })
 }
 
-// Opens the registry, accepts the change and settles it, as far as the store serves.
+// Opens the registry, loads it, accepts the change and settles it, as far as the store serves and says a state.
 fn run_on<S: Alter + Drop>(
+    alloc: Global,
     store: Connection<S>,
     change: &Change,
     key: &str,
@@ -60,9 +63,15 @@ fn run_on<S: Alter + Drop>(
         Ok(registry) => registry,
         Err(fault) => return (NOTHING, fault.store),
     };
-    let accepted = accept(&mut registry, change, key, "words").is_ok();
+    let loaded = loads(alloc, &mut registry);
+    let accepted = loaded && accept(&mut registry, change, key, "words").is_ok();
     let settled = accepted && settle(&mut registry).is_ok();
-    (Reached { accepted, settled }, registry.close())
+    let reached = Reached {
+        loaded,
+        accepted,
+        settled,
+    };
+    (reached, registry.close())
 }
 
 // The same on files; they come back with whether they stopped.
@@ -79,7 +88,7 @@ pub(super) fn run(
         Ok(store) => store,
         Err((_, left)) => return (NOTHING, true, left.into_files()),
     };
-    let (reached, store) = run_on(store, change, key);
+    let (reached, store) = run_on(alloc, store, change, key);
     match store.close_files() {
         Ok(files) => (reached, false, files),
         Err((_, store)) => (reached, true, store.close()),

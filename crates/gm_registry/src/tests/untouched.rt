@@ -1,50 +1,71 @@
-//! Stores of somebody else's, which an opening leaves as they are.
+//! Stores that can't be read, which an opening and a loading leave as they are.
 
+use super::inserts;
+use super::loading::{EDITS, ROWS};
 use super::stops::{files, one_command, run};
-use super::{inserts, run as execute};
 use sqlite::{Connection, Files, Options};
 use sqlite_disk::{Fuse, Memory};
 use std::alloc::Global;
 use std::test::Fail;
 
-// `intents` with a column more.
-const WIDER: &str =
-    "CREATE TABLE intents(ord INTEGER PRIMARY KEY, kind INTEGER NOT NULL, prov TEXT NOT NULL,
-  source TEXT NOT NULL, first_sector INTEGER NOT NULL, end_sector INTEGER NOT NULL, more INTEGER) STRICT";
+// Each makes another store of a registry; the last gives `intents` a column more.
+const OTHERS: [&str; 3] = [
+    "UPDATE about SET schema_no = 3",
+    "DROP TABLE intents",
+    "DROP TABLE intents; CREATE TABLE intents(ord INTEGER PRIMARY KEY, kind INTEGER NOT NULL, prov TEXT NOT NULL,
+  source TEXT NOT NULL, first_sector INTEGER NOT NULL, end_sector INTEGER NOT NULL, more INTEGER) STRICT",
+];
+
+const EMPTY: &str = "DELETE FROM commands; DELETE FROM components; DELETE FROM mirrors";
 
 // The files of a registry after these statements of somebody else's.
-fn edited(alloc: Global, statements: &[&str]) -> Result<Files<Fuse<Memory>>, Fail> {
-    let from = one_command(alloc)?;
-    let files = files(alloc, &from, u64::MAX, u64::MAX)?;
+fn edited(
+    alloc: Global,
+    from: &Files<Fuse<Memory>>,
+    statements: &str,
+) -> Result<Files<Fuse<Memory>>, Fail> {
+    let files = files(alloc, from, u64::MAX, u64::MAX)?;
     if !files.may_be_used() {
         return Err("a sync failed")?;
     }
     let mut store = Connection::open_files(alloc, files, Options::new(1))
         .ok()
         .ok_or("not opened")?;
-    for sql in statements {
-        execute(&mut store, sql)?;
-    }
+    store.execute_batch(statements)?;
     Ok(store.close_files().ok().ok_or("not closed")?)
 }
 
-// Whether nothing could be accepted, and each byte of the database is as it was.
-fn stays(alloc: Global, from: &Files<Fuse<Memory>>) -> Result<bool, Fail> {
+// Whether it says no state, and each byte of the database is as it was.
+fn is_left_alone(alloc: Global, from: &Files<Fuse<Memory>>) -> Result<bool, Fail> {
     let files = files(alloc, from, u64::MAX, u64::MAX)?;
-    let (reached, stopped, left) = run(alloc, files, &inserts(alloc)?, "k2");
-    Ok(!reached.accepted && !stopped && left.db.inner().bytes() == from.db.inner().bytes())
+    let (reached, stopped, left) = run(alloc, files, &inserts(alloc)?, "k9");
+    Ok(!reached.loaded && !stopped && left.db.inner().bytes() == from.db.inner().bytes())
+}
+
+fn are_left_alone(alloc: Global, from: &Files<Fuse<Memory>>, edits: &[&str]) -> Result<bool, Fail> {
+    for edit in edits {
+        let store = edited(alloc, from, edit)?;
+        if !is_left_alone(alloc, &store)? {
+            return Ok(false);
+        }
+    }
+    Ok(true)
 }
 
 #[test]
-fn an_unreadable_store_keeps_its_bytes(rt: HostRuntime) -> Result<(), Fail> {
-    let alloc = rt.alloc();
-    let about = edited(alloc, &["UPDATE about SET schema_no = 3"])?;
-    assert!(rt; stays(alloc, &about)?);
-    let without = edited(alloc, &["DROP TABLE intents"])?;
-    assert!(rt; stays(alloc, &without)?);
-    let wider = edited(alloc, &["DROP TABLE intents", WIDER])?;
-    assert!(rt; stays(alloc, &wider)?);
-    let registry = one_command(alloc)?;
-    assert!(rt; !stays(alloc, &registry)?);
+fn another_store_keeps_its_bytes(rt: HostRuntime) -> Result<(), Fail> {
+    let registry = one_command(rt.alloc())?;
+    assert!(rt; !is_left_alone(rt.alloc(), &registry)?);
+    assert!(rt; are_left_alone(rt.alloc(), &registry, &OTHERS)?);
+    Ok(())
+}
+
+#[test]
+fn rows_that_say_no_state_keep_their_bytes(rt: HostRuntime) -> Result<(), Fail> {
+    let registry = one_command(rt.alloc())?;
+    let empty = edited(rt.alloc(), &registry, EMPTY)?;
+    let rows = edited(rt.alloc(), &empty, ROWS)?;
+    assert!(rt; !is_left_alone(rt.alloc(), &rows)?);
+    assert!(rt; are_left_alone(rt.alloc(), &rows, &EDITS)?);
     Ok(())
 }
