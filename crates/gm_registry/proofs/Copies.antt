@@ -1,16 +1,15 @@
 -- The components of a copy are found by their names.
-use Rattle.std.proofs.Common.{◌≡◌, ◌≢◌, ◌∙◌, inl, inr, ℕ, ◌≤◌, List, [], ◌∷◌, find, refl, sym, ap, subst, Some, None}
-use Rattle.std.proofs.lemmas.Bool.{cases_Bool}
+use Rattle.std.proofs.Common.{◌≡◌, ◌≢◌, ◌∙◌, ℕ, ◌≤◌, List, sym, ap, subst, Some, None}
 use Rattle.gm_metadata.specs.Images.{same_label}
 use Rattle.gm_state.specs.declared.records.Mirror.{Mirror}
 use Rattle.gm_state.specs.declared.records.Component.{Component}
 use Rattle.gm_state.specs.declared.records.Disk.TheVariants.{InSync}
-use Rattle.gm_state.specs.Words.{Has, Ascends}
+use Rattle.gm_state.specs.Words.{Has}
 use Rattle.gm_state.specs.Records.{Records, IsState, name, provider}
 use Rattle.gm_state.specs.Lookups.{component_of, mirror_of}
 use Rattle.gm_state.specs.Intents.{IsOf}
 use Rattle.gm_state.proofs.Order.{same_from, same_is}
-use Rattle.gm_state.proofs.Words.{one, Has-filter, filter-Has}
+use Rattle.gm_state.proofs.Words.{Has-filter, filter-Has}
 use Rattle.gm_state.proofs.Finding.{found, find_one}
 use Rattle.gm_rules.proofs.Good.{named}
 use Rattle.gm_state.specs.Readable.{IsCopyWithin}

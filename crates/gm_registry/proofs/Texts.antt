@@ -1,5 +1,5 @@
 -- The texts that a store lists, as the query of them finds them.
-use Rattle.std.proofs.Common.{◌≡◌, ◌∙◌, ◌⊎◌, inl, inr, ⊎_elim, ℕ, ◌<◌, ◌≤◌, pos, Bool, true, false, not, List, [], ◌∷◌, filter, map, length, if◌then◌else◌, append-nil, codes, Result, IsPermutation, refl, sym, ap, subst, arith}
+use Rattle.std.proofs.Common.{◌≡◌, ◌∙◌, inl, inr, ⊎_elim, ℕ, ◌<◌, ◌≤◌, pos, Bool, false, not, List, [], ◌∷◌, filter, map, length, if◌then◌else◌, codes, Result, IsPermutation, refl, sym, ap, subst, arith}
 use Rattle.std.proofs.lemmas.List.Elements.{filter_agree}
 use Rattle.std.proofs.lemmas.List.Sorted.{IsPermutation-refl, IsPermutation-sym, IsPermutation-trans, IsPermutation-map, IsPermutation-cons, IsPermutation-swap, length_permutation}
 use Rattle.sqlite_trees.proofs.ListLemmas.{map-map}

@@ -1,5 +1,5 @@
 -- The texts of its tables, as a store lists them.
-use Rattle.std.specs.Prelude.{codes, not, pos, ◌≡◌, true, List, ℕ, [], ◌∷◌, filter, map}
+use Rattle.std.specs.Prelude.{not, pos, ◌≡◌, true, List, ℕ, [], ◌∷◌, filter, map}
 use Rattle.std.specs.List.Sorted.{IsPermutation}
 use Rattle.sqlite.specs.Order.{Row, column}
 use Rattle.sqlite.specs.Tree.{Trees}

@@ -4,13 +4,12 @@ use Rattle.sqlite.specs.State.{HasCleanDisk}
 use Rattle.sqlite.specs.Held.{state}
 use Rattle.gm_registry.specs.Values.{columns_at, two}
 use Rattle.gm_registry.specs.Says.{IsAbout}
-use Rattle.gm_registry.specs.Reads.{IsOurSchema, HasRead}
-use Rattle.gm_registry.specs.Listing.{our_tables, ShowsList, ListsOurs}
-use Rattle.gm_registry.specs.Opening.{IsOfSchema1}
+use Rattle.gm_registry.specs.Reads.{IsOurSchema}
+use Rattle.gm_registry.specs.Listing.{our_tables, ShowsList}
 use Rattle.gm_registry.specs.Queries.{IsShown}
 use Rattle.gm_registry.specs.declared.fetching.Table.TheVariants.{About}
 use Rattle.gm_registry.proofs.Abouts.{about_told, about_shown}
-use Rattle.gm_registry.proofs.Passing.{read_at_most, known_closer, failed_closer, read_then, failed_then, carried, ours_still}
+use Rattle.gm_registry.proofs.Passing.{read_at_most, known_closer, failed_closer, read_then, failed_then, carried}
 use Rattle.gm_registry.proofs.Texts.{ours_known, ours_listed, ours_shown, not_foreign}
 use Rattle.gm_registry.proofs.opening.check_registry.Goals as goal
 

@@ -1,4 +1,4 @@
-use Rattle.std.proofs.Common.{◌≡◌, ◌+◌, ◌∙◌, inl, List, drop, map, true, false, refl, sym, ap, subst, arith}
+use Rattle.std.proofs.Common.{◌≡◌, ◌+◌, ◌∙◌, inl, List, drop, map, true, false, refl, sym, subst, arith}
 use Rattle.sqlite.specs.Order.{Row}
 use Rattle.gm_state.specs.Words.{Has}
 use Rattle.gm_registry.specs.Values.{columns_at, two}
