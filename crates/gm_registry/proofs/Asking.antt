@@ -11,15 +11,14 @@ use Rattle.sqlite.specs.Query.{Query, IsAnswer}
 use Rattle.sqlite.specs.Listing.{understood}
 use Rattle.sqlite.specs.Given.{IsPlain}
 use Rattle.sqlite.specs.State.{State, HasCleanDisk, Shown, FailsToQuery, IsNotRun, IsUnchanged, IsRolledBack, Survives, CommitsShowing}
-use Rattle.sqlite.proofs.Callers.{reads_as, never_commits}
-use Rattle.sqlite.proofs.StateLemmas.{survives_weaker}
+use Rattle.sqlite.proofs.Callers.{reads_as}
 use Rattle.sqlite_tied.specs.Compute.{everything}
 use Rattle.sqlite_rows.proofs.Finding.{scan, found_all, overlaid}
-use Rattle.sqlite_rows.proofs.Refusing.{left_alone}
+use Rattle.sqlite_rows.proofs.Reading.{read_by, failed_by}
 use Rattle.gm_registry.specs.Schema.{registry_schema}
 use Rattle.gm_registry.specs.Values.{columns_at}
 use Rattle.gm_registry.specs.Queries.{query_text, tree_of, shown_places}
-use Rattle.gm_registry.specs.Reads.{HasReadOver, HasFailedOver, IsOurSchema, IsOurs, HasRead, HasFailed}
+use Rattle.gm_registry.specs.Reads.{IsOurSchema, IsOurs, HasRead, HasFailed}
 use Rattle.gm_registry.specs.declared.fetching.Table.{Table}
 use Rattle.gm_registry.specs.declared.fetching.Table.TheVariants.{About, Mirrors, Components, Intents, Commands}
 use Rattle.gm_registry.proofs.Meaning.{Asks}
@@ -80,30 +79,6 @@ pub shows : (t : Table) (old new : State) (rows : List Row) → IsOurs old → S
 shows t old new rows ours h =
     let got = found_all (tree_of t) (map (col 1) (shown_places t)) (order_of t) old.now.trees [] rows (answers t old new rows ours h) in
     subst (λ (f : Row → Row). IsPermutation (map f (old.now.trees (tree_of t))) rows) (λ i row. terms_are t row i) got
-
-module _ (Known : Schema → Type 0) (sql : List ℕ) (plain : (s : Schema) → Known s → IsPlain (understood s sql)) where
-  nothing_left : (old new : State) → Survives old new (CommitsShowing sql [] old) → Survives old new (λ _. ¬ (Known old.now.schema))
-  nothing_left old new left = survives_weaker old new _ _ (λ _ db commits known. never_commits sql [] old db (plain old.now.schema known) commits) left
-
-  refusal : (old new : State) (e : Error) → Known old.now.schema → FailsToQuery sql [] old new e → IsUnchanged old new ⊎ IsRolledBack old new
-  unfolding FailsToQuery IsNotRun
-  refusal old new e known (inl (inl it)) = inl it.1
-  refusal old new e known (inl (inr fails)) = inr fails.3
-  refusal old new e known (inr h) =
-      let bare = subst IsPlain h.1.is (plain old.now.schema known) in
-      inl (rw bare.0 at h.2).3
-
-  pub read_by : (old new : State) (rows : List Row) → (HasCleanDisk new → Shown sql [] old new rows) → Survives old new (CommitsShowing sql [] old) → HasReadOver Known old new
-  read_by old new rows shown left = record {
-    unchanged = λ clean known. left_alone sql [] old new rows (plain old.now.schema known) (shown clean);
-    left = nothing_left old new left;
-  }
-
-  pub failed_by : (old new : State) (e : Error) → (HasCleanDisk new → FailsToQuery sql [] old new e) → Survives old new (CommitsShowing sql [] old) → HasFailedOver Known old new
-  failed_by old new e fails left = record {
-    refused = λ clean known _. refusal old new e known (fails clean);
-    left = nothing_left old new left;
-  }
 
 plain_query : (t : Table) (s : Schema) → IsOurSchema s → IsPlain (understood s (query_text t))
 plain_query t s ours = subst (λ sc. IsPlain (understood sc (query_text t))) (sym ours) (asked t).1.plain

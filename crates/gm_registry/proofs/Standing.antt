@@ -67,11 +67,3 @@ foreign_shown s is_open settled live f = subst ShowsList (sym (ap (λ (d : Datab
 pub not_foreign_empty : (s : State) (shown : Schema) (b : Bool) → IsTrue s.is_open → s.now ≡ s.committed → IsLive s → IsForeign s.committed.trees → shown ≡ s.now.schema → IsTrue b ↔ (shown ≡ no_schema) → b ≡ true → ⊥
 not_foreign_empty s shown b is_open settled live f is tells e =
     f.some (sym (is ∙ (ap (λ (d : Database). d.schema) settled ∙ one_schema s f.schema is_open live f.sound)) ∙ tells.0 e)
-
-pub if_err : {A E : Type 0} (x : Result A E) (P Q : E → Type 0) → ((e : E) → P e → Q e) → IfErr x P → IfErr x Q
-if_err (Ok _) P Q f p = tt
-if_err (Err e) P Q f p = f e p
-
-pub both_ok : {A E : Type 0} (x : Result A E) (P Q R : Type 0) → (P → Q → R) → OnOk x P → OnOk x Q → OnOk x R
-both_ok (Ok _) P Q R f p q = f p q
-both_ok (Err e) P Q R f p q = tt

@@ -34,7 +34,8 @@ use Rattle.gm_registry.specs.Statements.{load_texts_text}
 use Rattle.gm_registry.specs.Texts.{about_text, mirrors_text, components_text, intents_text, commands_text}
 use Rattle.gm_registry.specs.Schema.{registry_schema}
 use Rattle.gm_registry.specs.Values.{columns_at, two}
-use Rattle.gm_registry.specs.Reads.{IsOurSchema, HasFailed, HasFailedOver}
+use Rattle.sqlite_rows.specs.Reads.{HasFailedOver}
+use Rattle.gm_registry.specs.Reads.{IsOurSchema, HasFailed}
 use Rattle.gm_registry.specs.Listing.{listed, under_number, our_tables, AllStand, ListsOurs, ShowsList}
 
 -- ---- the query

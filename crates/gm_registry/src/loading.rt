@@ -8,7 +8,8 @@ ghost use Rattle.gm_state.specs.declared.command.Intent.{Intent};
 ghost use Rattle.gm_state.specs.Records.{Records};
 ghost use Rattle.gm_state.specs.Rows.{Tables};
 ghost use Rattle.gm_registry.specs.Tables.{HasTables, IsRegistry};
-ghost use Rattle.gm_registry.specs.Reads.{Leaves};
+ghost use Rattle.sqlite_rows.specs.Reads.{Leaves};
+ghost use Rattle.gm_registry.specs.Leaving.{LeavesNothingNew, WasClean};
 ghost use Rattle.gm_registry.specs.Reading.{AreTablesOf};
 ghost use Rattle.gm_registry.specs.Says.{TablesSay};
 
@@ -51,9 +52,9 @@ impl<S: Alter> Registry<S> {
         ensures unreadable { HasCleanDisk (state S.Store self.new) → IfErr result (λ e. e ≡ StoreFault.Unreadable
             → (t : Tables) (s : Records) (ts : List Intent) → HasTables (state S.Store self.old) t → AreTablesOf t s ts → ⊥) }
         ensures refused { HasCleanDisk (state S.Store self.new) → OnErr result ((t : Tables) → HasTables (state S.Store self.old) t → IsTrue (state S.Store self.new).is_open → HasTables (state S.Store self.new) t) }
-        ensures left { (t : Tables) → HasTables (state S.Store self.old) t → Survives (state S.Store self.old) (state S.Store self.new) (λ _. ⊥) }
+        ensures left { (t : Tables) → HasTables (state S.Store self.old) t → LeavesNothingNew (state S.Store self.old) (state S.Store self.new) }
         ensures untouched { IsRegistry (state S.Store self.old) → Leaves (state S.Store self.old) (state S.Store self.new) }
-        ensures clean { doubt (state S.Store self.old).is_clean ≤ doubt (state S.Store self.new).is_clean }
+        ensures clean { WasClean (state S.Store self.old) (state S.Store self.new) }
     {
         load_on(alloc, &mut self.conn)
     }

@@ -12,7 +12,8 @@ ghost use Rattle.gm_registry.specs.Tables.{Holds, HasTables, IsEmpty, IsRegistry
 ghost use Rattle.gm_registry.specs.Opening.{IsOfSchema1, IsOpenable, IsForeign};
 ghost use Rattle.gm_registry.specs.Listing.{listed, under_number, our_tables, AllStand, ListsOurs, ShowsList};
 ghost use Rattle.gm_registry.specs.Values.{columns_at, two};
-ghost use Rattle.gm_registry.specs.Reads.{IsOurs, HasRead, HasReadOver, HasFailed, HasFailedOver, Leaves};
+ghost use Rattle.sqlite_rows.specs.Reads.{HasReadOver, HasFailedOver, Leaves};
+ghost use Rattle.gm_registry.specs.Reads.{IsOurs, HasRead, HasFailed};
 
 use crate::cells::{is_number_at, is_text_at};
 use crate::creating::create_all;

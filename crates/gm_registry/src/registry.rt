@@ -1,16 +1,16 @@
 //! The calls of a registry.
 
 ghost use Rattle.std.specs.Prelude.{◌≡◌, ◌≢◌, ◌≤◌, ◌+◌, false, IfOk, IfErr, OnOk, OnErr, IsTrue, MatchOption, MatchResult, string_bytes};
-ghost use Rattle.sqlite_trees.specs.View.{doubt};
-ghost use Rattle.sqlite.specs.State.{HasCleanDisk, Survives};
+ghost use Rattle.sqlite.specs.State.{HasCleanDisk};
 ghost use Rattle.sqlite.specs.Held.{state};
 ghost use Rattle.gm_state.specs.Rows.{Tables};
 ghost use Rattle.gm_state.specs.World.{ReplyFits};
 ghost use Rattle.gm_registry.specs.Tables.{Holds, HasTables, IsEmpty, IsRegistry, no_tables};
 ghost use Rattle.sqlite_catalog.specs.Listing.{IsSound};
 ghost use Rattle.gm_registry.specs.Schema.{registry_schema};
+ghost use Rattle.gm_registry.specs.Leaving.{MayLeave, LeavesNothingNew, WasClean};
 ghost use Rattle.gm_registry.specs.Opening.{IsOpenable, IsForeign};
-ghost use Rattle.gm_registry.specs.Reads.{Leaves};
+ghost use Rattle.sqlite_rows.specs.Reads.{Leaves};
 ghost use Rattle.gm_registry.specs.Changes.{with_change, settled};
 ghost use Rattle.gm_registry.specs.Replies.{IsKept, IsFree, AreWritten, count_of};
 
@@ -62,9 +62,9 @@ impl<S: Alter> Registry<S> {
         ensures refused { (t : Tables) → IsTrue (state S.Store store).is_open → Holds (state S.Store store).committed.trees t
             → IfErr result (λ e. HasCleanDisk (state S.Store e.store) → IsTrue (state S.Store e.store).is_open → HasTables (state S.Store e.store) t) }
         ensures left_made { IsTrue (state S.Store store).is_open → IsEmpty (state S.Store store).committed.trees
-            → MatchResult result (λ c. Survives (state S.Store store) (state S.Store c) (λ db. Holds db no_tables)) (λ e. Survives (state S.Store store) (state S.Store e.store) (λ db. Holds db no_tables)) }
+            → MatchResult result (λ c. MayLeave (state S.Store store) (state S.Store c) no_tables) (λ e. MayLeave (state S.Store store) (state S.Store e.store) no_tables) }
         ensures left_found { (t : Tables) → IsTrue (state S.Store store).is_open → Holds (state S.Store store).committed.trees t
-            → MatchResult result (λ c. Survives (state S.Store store) (state S.Store c) (λ _. ⊥)) (λ e. Survives (state S.Store store) (state S.Store e.store) (λ _. ⊥)) }
+            → MatchResult result (λ c. LeavesNothingNew (state S.Store store) (state S.Store c)) (λ e. LeavesNothingNew (state S.Store store) (state S.Store e.store)) }
         // Of any other store, `Unreadable` comes only where it can't be opened.
         ensures unreadable { IsTrue (state S.Store store).is_open → IfErr result (λ e. HasCleanDisk (state S.Store e.store) → e.fault ≡ StoreFault.Unreadable → ¬ (IsOpenable (state S.Store store).committed.trees)) }
         ensures refuses { IsTrue (state S.Store store).is_open → IsForeign (state S.Store store).committed.trees → IfOk result (λ c. ¬ (HasCleanDisk (state S.Store c))) }
@@ -72,7 +72,7 @@ impl<S: Alter> Registry<S> {
             → MatchResult result (λ c. Leaves (state S.Store store) (state S.Store c)) (λ e. Leaves (state S.Store store) (state S.Store e.store)) }
         ensures untouched { IsTrue (state S.Store store).is_open → IsSound registry_schema (state S.Store store).committed.trees
             → MatchResult result (λ c. Leaves (state S.Store store) (state S.Store c)) (λ e. Leaves (state S.Store store) (state S.Store e.store)) }
-        ensures clean { MatchResult result (λ c. doubt (state S.Store store).is_clean ≤ doubt (state S.Store c).is_clean) (λ e. doubt (state S.Store store).is_clean ≤ doubt (state S.Store e.store).is_clean) }
+        ensures clean { MatchResult result (λ c. WasClean (state S.Store store) (state S.Store c)) (λ e. WasClean (state S.Store store) (state S.Store e.store)) }
     {
         match prepare(&mut store) {
             Ok(()) => Ok(Registry { conn: store }),
@@ -94,8 +94,8 @@ impl<S: Alter> Registry<S> {
             → MatchOption found (IsFree t key.now) (λ it. IsKept t key.now it.0 (string_bytes it.1) it.2) × HasTables (state S.Store self.new) t) }
         ensures unreadable { HasCleanDisk (state S.Store self.new) → IfErr result (λ e. e ≡ StoreFault.Unreadable → (t : Tables) → HasTables (state S.Store self.old) t → AreWritten t → ⊥) }
         ensures refused { HasCleanDisk (state S.Store self.new) → OnErr result ((t : Tables) → HasTables (state S.Store self.old) t → IsTrue (state S.Store self.new).is_open → HasTables (state S.Store self.new) t) }
-        ensures left { (t : Tables) → HasTables (state S.Store self.old) t → Survives (state S.Store self.old) (state S.Store self.new) (λ _. ⊥) }
-        ensures clean { doubt (state S.Store self.old).is_clean ≤ doubt (state S.Store self.new).is_clean }
+        ensures left { (t : Tables) → HasTables (state S.Store self.old) t → LeavesNothingNew (state S.Store self.old) (state S.Store self.new) }
+        ensures clean { WasClean (state S.Store self.old) (state S.Store self.new) }
     {
         reply_on(&mut self.conn, key)
     }
@@ -106,8 +106,8 @@ impl<S: Alter> Registry<S> {
             → (n ≡ count_of t) × HasTables (state S.Store self.new) t) }
         ensures unreadable { HasCleanDisk (state S.Store self.new) → IfErr result (λ e. e ≡ StoreFault.Unreadable → (t : Tables) → HasTables (state S.Store self.old) t → count_of t ≤ 100000 → ⊥) }
         ensures refused { HasCleanDisk (state S.Store self.new) → OnErr result ((t : Tables) → HasTables (state S.Store self.old) t → IsTrue (state S.Store self.new).is_open → HasTables (state S.Store self.new) t) }
-        ensures left { (t : Tables) → HasTables (state S.Store self.old) t → Survives (state S.Store self.old) (state S.Store self.new) (λ _. ⊥) }
-        ensures clean { doubt (state S.Store self.old).is_clean ≤ doubt (state S.Store self.new).is_clean }
+        ensures left { (t : Tables) → HasTables (state S.Store self.old) t → LeavesNothingNew (state S.Store self.old) (state S.Store self.new) }
+        ensures clean { WasClean (state S.Store self.old) (state S.Store self.new) }
     {
         Ok(u64::from(accepted_on(&mut self.conn)?))
     }
@@ -121,8 +121,8 @@ impl<S: Alter> Registry<S> {
         ensures unreadable { HasCleanDisk (state S.Store self.new) → IfErr result (λ e. e ≡ StoreFault.Unreadable → (t : Tables) → HasTables (state S.Store self.old) t → count_of t ≤ 100000 → ⊥) }
         ensures refused { HasCleanDisk (state S.Store self.new) → OnErr result ((t : Tables) → HasTables (state S.Store self.old) t → IsTrue (state S.Store self.new).is_open → HasTables (state S.Store self.new) t) }
         ensures left { (t : Tables) → HasTables (state S.Store self.old) t
-            → Survives (state S.Store self.old) (state S.Store self.new) (λ db. Holds db (with_change change.now key.now (count_of t + 1) words.now t)) }
-        ensures clean { doubt (state S.Store self.old).is_clean ≤ doubt (state S.Store self.new).is_clean }
+            → MayLeave (state S.Store self.old) (state S.Store self.new) (with_change change.now key.now (count_of t + 1) words.now t) }
+        ensures clean { WasClean (state S.Store self.old) (state S.Store self.new) }
     {
         accept_on(&mut self.conn, change, key, words)
     }
@@ -132,8 +132,8 @@ impl<S: Alter> Registry<S> {
         ensures done { HasCleanDisk (state S.Store self.new) → OnOk result ((t : Tables) → HasTables (state S.Store self.old) t → HasTables (state S.Store self.new) (settled t)) }
         ensures fault { IfErr result (λ e. e ≢ StoreFault.Unreadable) }
         ensures refused { HasCleanDisk (state S.Store self.new) → OnErr result ((t : Tables) → HasTables (state S.Store self.old) t → IsTrue (state S.Store self.new).is_open → HasTables (state S.Store self.new) t) }
-        ensures left { (t : Tables) → HasTables (state S.Store self.old) t → Survives (state S.Store self.old) (state S.Store self.new) (λ db. Holds db (settled t)) }
-        ensures clean { doubt (state S.Store self.old).is_clean ≤ doubt (state S.Store self.new).is_clean }
+        ensures left { (t : Tables) → HasTables (state S.Store self.old) t → MayLeave (state S.Store self.old) (state S.Store self.new) (settled t) }
+        ensures clean { WasClean (state S.Store self.old) (state S.Store self.new) }
     {
         settle_on(&mut self.conn)?;
         Ok(())

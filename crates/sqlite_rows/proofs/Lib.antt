@@ -11,3 +11,4 @@ pub mod Refusing
 pub mod Creating
 pub mod Showing
 pub mod Looping
+pub mod Reading

@@ -34,7 +34,7 @@ shown_refusal sql params old new c e (Some what) (inl refused) = inl refused.1
 shown_refusal sql params old new c e (Some what) (inr fails) = inr fails.3
 
 -- so did a refused query
-asking_refusal : (sql : List ℕ) (params : Row) (old new : State) (e : Error) → FailsToQuery sql params old new e → IsUnchanged old new ⊎ IsRolledBack old new
+pub asking_refusal : (sql : List ℕ) (params : Row) (old new : State) (e : Error) → FailsToQuery sql params old new e → IsUnchanged old new ⊎ IsRolledBack old new
 unfolding FailsToQuery IsNotRun
 asking_refusal sql params old new e (inl (inl it)) = inl it.1
 asking_refusal sql params old new e (inl (inr fails)) = inr fails.3
@@ -62,6 +62,14 @@ map_ok (Err e) P Q f p = tt
 pub if_ok : {A E : Type 0} (x : Result A E) (P Q : A → Type 0) → ((a : A) → P a → Q a) → IfOk x P → IfOk x Q
 if_ok (Ok a) P Q f p = f a p
 if_ok (Err e) P Q f p = tt
+
+pub if_err : {A E : Type 0} (x : Result A E) (P Q : E → Type 0) → ((e : E) → P e → Q e) → IfErr x P → IfErr x Q
+if_err (Ok _) P Q f p = tt
+if_err (Err e) P Q f p = f e p
+
+pub both_ok : {A E : Type 0} (x : Result A E) (P Q R : Type 0) → (P → Q → R) → OnOk x P → OnOk x Q → OnOk x R
+both_ok (Ok _) P Q R f p q = f p q
+both_ok (Err e) P Q R f p q = tt
 
 pub under_ok : {X E : Type 0} (x : Result X E) (A P : Type 0) → (A → OnOk x P) → OnOk x (A → P)
 under_ok (Ok _) A P h = h

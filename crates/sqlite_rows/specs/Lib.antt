@@ -1,2 +1,3 @@
 pub mod Keeps
 pub mod Calls
+pub mod Reads

@@ -1,8 +1,7 @@
 use Rattle.sqlite.specs.Held.{state}
-use Rattle.sqlite_rows.proofs.Refusing.{if_ok, on_err}
+use Rattle.sqlite_rows.proofs.Refusing.{if_ok, if_err, on_err}
 use Rattle.gm_registry.proofs.Passing.{ours, counted, tables_stay, nothing_new, registry_ours, read_leaves}
 use Rattle.gm_registry.proofs.Telling.{says_tables, tables_said, any_tables, any_rows}
-use Rattle.gm_registry.proofs.Standing.{if_err}
 use Rattle.gm_registry.proofs.loading.load_on.Goals as goal
 
 pub returns-clause-loaded : goal.returns-clause-loaded

@@ -9,7 +9,8 @@ use Rattle.gm_registry.specs.Listing.{our_tables, ShowsList}
 use Rattle.gm_registry.specs.Queries.{IsShown}
 use Rattle.gm_registry.specs.declared.fetching.Table.TheVariants.{About}
 use Rattle.gm_registry.proofs.Abouts.{about_told, about_shown}
-use Rattle.gm_registry.proofs.Passing.{read_at_most, known_closer, failed_closer, read_then, failed_then, carried}
+use Rattle.sqlite_rows.proofs.Reading.{read_at_most, known_closer, failed_closer}
+use Rattle.gm_registry.proofs.Passing.{read_then, failed_then, carried}
 use Rattle.gm_registry.proofs.Texts.{ours_known, ours_listed, ours_shown, not_foreign}
 use Rattle.gm_registry.proofs.opening.check_registry.Goals as goal
 

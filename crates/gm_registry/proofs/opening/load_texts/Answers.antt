@@ -1,7 +1,7 @@
 use Rattle.sqlite.specs.Held.{state}
 use Rattle.gm_registry.specs.Statements.{load_texts_text}
 use Rattle.gm_registry.specs.Listing.{ShowsList}
-use Rattle.gm_registry.proofs.Asking.{read_by, failed_by}
+use Rattle.sqlite_rows.proofs.Reading.{read_by, failed_by}
 use Rattle.gm_registry.proofs.Texts.{plain_list, lists}
 use Rattle.gm_registry.proofs.opening.load_texts.Goals as goal
 

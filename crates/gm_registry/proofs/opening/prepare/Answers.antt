@@ -1,12 +1,13 @@
 use Rattle.std.proofs.Common.{◌∙◌, inl, inr, not, sym, ap, subst}
 use Rattle.sqlite.specs.Held.{state}
-use Rattle.sqlite_rows.proofs.Refusing.{map_ok, on_ok, on_err}
+use Rattle.sqlite_rows.proofs.Refusing.{map_ok, if_err, both_ok, on_ok, on_err}
+use Rattle.sqlite_rows.proofs.Reading.{failed_leaves_over}
 use Rattle.sqlite.specs.Effect.{Database}
 use Rattle.gm_registry.specs.Listing.{ListsOurs, ShowsList}
 use Rattle.gm_registry.specs.Reads.{IsOurSchema}
 use Rattle.gm_registry.specs.Opening.{IsOfSchema1}
-use Rattle.gm_registry.proofs.Passing.{tables_stay, tables_refused, nothing_new, failed_leaves_over}
-use Rattle.gm_registry.proofs.Standing.{blank, has_tables, not_empty, not_full, if_err, both_ok, shows_some, registry_seen, registry_there, foreign_shown, not_foreign_empty}
+use Rattle.gm_registry.proofs.Passing.{tables_stay, tables_refused, nothing_new}
+use Rattle.gm_registry.proofs.Standing.{blank, has_tables, not_empty, not_full, shows_some, registry_seen, registry_there, foreign_shown, not_foreign_empty}
 use Rattle.gm_registry.proofs.opening.prepare.Goals as goal
 
 pub returns-in_err-create_all-clause-left_found : goal.returns-in_err-create_all-clause-left_found
