@@ -29,7 +29,7 @@ order_of About = []
 order_of Mirrors = []
 order_of Components = []
 order_of Intents = (col 1 0, record { collation = Binary; descending = false }) ∷ []
-order_of Commands = []
+order_of Commands = (col 1 2, record { collation = Binary; descending = false }) ∷ []
 
 abbrev pub query_of : Table → Query
 query_of t = scan (tree_of t) [] (map (col 1) (shown_places t)) (order_of t)

@@ -17,6 +17,7 @@ pub mod Copies
 pub mod Reordering
 pub mod Typed
 pub mod Saying
+pub mod Counted
 pub mod Telling
 pub mod Abouts
 pub mod Texts

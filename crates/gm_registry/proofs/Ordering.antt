@@ -1,4 +1,4 @@
--- The rows of intents stand in the order of their numbers.
+-- Rows that are shown by their numbers stand in that order.
 use Rattle.std.proofs.Common.{◌≡◌, ◌∙◌, ℕ, pos, ◌+◌, ◌<◌, true, false, Bool, cond, ltb, eqb, List, [], ◌∷◌, map, flat_map, length, get_or, All, IsPermutation, refl, sym, ap, subst, subst₂, arith, inl, inr}
 use Rattle.std.specs.Ordering.{is_lt, int_cmp, nat_cmp, ordering_then}
 use Rattle.std.specs.declared.cmp.Ordering.TheVariants.{Equal, Greater}
@@ -15,48 +15,54 @@ use Rattle.sqlite_value.specs.declared.value.Value.{Value}
 use Rattle.sqlite_value.proofs.OrderLemmas.{value_cmp-Int, then-Equal}
 use Rattle.sqlite.specs.declared.types.Value.TheVariants.{Null, Int}
 use Rattle.sqlite.specs.Tree.{Trees}
-use Rattle.sqlite.specs.Query.{IsAnswer, Output, output, output_cmp, matches_as, end}
+use Rattle.sqlite.specs.Collation.TheVariants.{Binary}
+use Rattle.sqlite.specs.Term.{col, eval_all}
+use Rattle.sqlite_rows.proofs.Finding.{scan}
+use Rattle.sqlite.specs.Query.{Query, IsAnswer, Output, output, output_cmp, matches_as, end}
 use Rattle.gm_state.specs.Words.{Ascends, Has, label_lt}
 use Rattle.gm_state.proofs.Sorting.{sorted_is}
-use Rattle.gm_registry.specs.Values.{columns_at, numbered}
-use Rattle.gm_registry.specs.Queries.{shown_places, IsInOrder}
-use Rattle.gm_registry.specs.declared.fetching.Table.TheVariants.{Intents}
-use Rattle.gm_registry.proofs.Asking.{query_of}
-
--- what a row is sorted by, and shows
-abbrev out : Row → Output
-out row = (column row 0 ∷ [], columns_at (shown_places Intents) row)
+use Rattle.gm_registry.specs.Values.{numbered}
+use Rattle.gm_registry.specs.Queries.{IsInOrder}
 
 -- it is sorted by the first column that it shows
 abbrev SortsByFirst : Output → Type 0
 SortsByFirst o = o.0 ≡ column o.1 0 ∷ []
 
-outs : (db : Trees) (xs : List Row) → map (output (query_of Intents)) (flat_map (λ r. matches_as Null db [] end ([] ∷ r ∷ [])) xs) ≡ map out xs
-outs db [] = refl
-outs db (x ∷ xs) = ap (λ l. out x ∷ l) (outs db xs)
+-- a table that is shown by some of its columns, in order of the first of them
+module _ (tree place : ℕ) (more : List ℕ) where
+  abbrev by_first : Query
+  by_first = scan tree [] (map (col 1) (place ∷ more)) ((col 1 place, record { collation = Binary; descending = false }) ∷ [])
 
-all_sort : (xs : List Row) → AllByRecursion SortsByFirst (map out xs)
-all_sort [] = tt
-all_sort (x ∷ xs) = (refl, all_sort xs)
+  -- what a row is sorted by, and shows
+  abbrev out : Row → Output
+  out row = (column row place ∷ [], eval_all (map (col 1) (place ∷ more)) ([] ∷ row ∷ []))
 
-sorts_by : (x y : Output) → output_cmp (query_of Intents) x y ≡ value_cmp (column x.0 0) (column y.0 0)
-sorts_by x y = then-Equal (value_cmp (column x.0 0) (column y.0 0))
+  outs : (db : Trees) (xs : List Row) → map (output by_first) (flat_map (λ r. matches_as Null db [] end ([] ∷ r ∷ [])) xs) ≡ map out xs
+  outs db [] = refl
+  outs db (x ∷ xs) = ap (λ l. out x ∷ l) (outs db xs)
 
-pub in_order : (db : Trees) (rows : List Row) → IsAnswer (query_of Intents) db [] rows → IsInOrder rows
-in_order db rows a =
-    let kept : a.kept ≡ map out (db 7) = a.distinct ∙ (ap (map (output (query_of Intents))) a.grouped ∙ outs db (db 7)) in
-    let first : All SortsByFirst a.ordered = All-permutation SortsByFirst (map out (db 7)) a.ordered (subst (λ k. IsPermutation k a.ordered) kept a.same) (All-from_recursion SortsByFirst (map out (db 7)) (all_sort (db 7))) in
-    let shown : rows ≡ map (λ (o : Output). o.1) a.ordered = a.shown in
-    subst IsInOrder (sym shown) (λ k d low high.
-    let e : Output = (column d 0 ∷ [], d) in
-    let high' : k + 1 < length a.ordered = omega (arith, length-map a.ordered (λ (o : Output). o.1)) in
-    let x = get_or a.ordered (k + 1) e in
-    let y = get_or a.ordered k e in
-    let sorted : is_lt (output_cmp (query_of Intents) x y) ≡ false = a.sorted k e low high' in
-    let x_first : column x.0 0 ≡ column x.1 0 = ap (λ r. column r 0) (first (k + 1) e high') in
-    let y_first : column y.0 0 ≡ column y.1 0 = ap (λ r. column r 0) (first k e (omega arith)) in
-    let by_shown : is_lt (value_cmp (column x.1 0) (column y.1 0)) ≡ false = subst₂ (λ v w. is_lt (value_cmp v w) ≡ false) x_first y_first (ap is_lt (sym (sorts_by x y)) ∙ sorted) in
-    subst₂ (λ v w. is_lt (value_cmp (column v 0) (column w 0)) ≡ false) (sym (get_or-map (λ (o : Output). o.1) a.ordered (k + 1) e d high')) (sym (get_or-map (λ (o : Output). o.1) a.ordered k e d (omega arith))) by_shown)
+  all_sort : (xs : List Row) → AllByRecursion SortsByFirst (map out xs)
+  all_sort [] = tt
+  all_sort (x ∷ xs) = (refl, all_sort xs)
+
+  sorts_by : (x y : Output) → output_cmp by_first x y ≡ value_cmp (column x.0 0) (column y.0 0)
+  sorts_by x y = then-Equal (value_cmp (column x.0 0) (column y.0 0))
+
+  pub in_order : (db : Trees) (rows : List Row) → IsAnswer by_first db [] rows → IsInOrder rows
+  in_order db rows a =
+      let kept : a.kept ≡ map out (db tree) = a.distinct ∙ (ap (map (output by_first)) a.grouped ∙ outs db (db tree)) in
+      let first : All SortsByFirst a.ordered = All-permutation SortsByFirst (map out (db tree)) a.ordered (subst (λ k. IsPermutation k a.ordered) kept a.same) (All-from_recursion SortsByFirst (map out (db tree)) (all_sort (db tree))) in
+      let shown : rows ≡ map (λ (o : Output). o.1) a.ordered = a.shown in
+      subst IsInOrder (sym shown) (λ k d low high.
+      let e : Output = (column d 0 ∷ [], d) in
+      let high' : k + 1 < length a.ordered = omega (arith, length-map a.ordered (λ (o : Output). o.1)) in
+      let x = get_or a.ordered (k + 1) e in
+      let y = get_or a.ordered k e in
+      let sorted : is_lt (output_cmp by_first x y) ≡ false = a.sorted k e low high' in
+      let x_first : column x.0 0 ≡ column x.1 0 = ap (λ r. column r 0) (first (k + 1) e high') in
+      let y_first : column y.0 0 ≡ column y.1 0 = ap (λ r. column r 0) (first k e (omega arith)) in
+      let by_shown : is_lt (value_cmp (column x.1 0) (column y.1 0)) ≡ false = subst₂ (λ v w. is_lt (value_cmp v w) ≡ false) x_first y_first (ap is_lt (sym (sorts_by x y)) ∙ sorted) in
+      subst₂ (λ v w. is_lt (value_cmp (column v 0) (column w 0)) ≡ false) (sym (get_or-map (λ (o : Output). o.1) a.ordered (k + 1) e d high')) (sym (get_or-map (λ (o : Output). o.1) a.ordered k e d (omega arith))) by_shown)
 
 -- the number in a row's first column
 abbrev number_in : Value → List ℕ

@@ -20,12 +20,13 @@ use Rattle.gm_registry.specs.Rows.{mirror_values, component_values, intent_value
 use Rattle.gm_registry.specs.Tables.{HasRows, HasCounted, AreNumbered, numbers_of}
 use Rattle.gm_registry.specs.Reading.{AreTablesOf, IsInRange}
 use Rattle.gm_registry.specs.Values.{columns_at, numbered, two, six, nine, shown_intent}
-use Rattle.gm_registry.specs.Queries.{AreShown, shown_places}
-use Rattle.gm_registry.specs.Says.{intent_shown, IsBetween, IsCommand, IsAbout, AreCommands, Say, TablesSay}
+use Rattle.gm_registry.specs.Queries.{AreShown, IsInOrder, shown_places}
+use Rattle.gm_registry.specs.Says.{number_value, intent_shown, IsBetween, IsAbout, AreCommandsFrom, AreCommands, Say, TablesSay}
 use Rattle.gm_registry.specs.declared.fetching.Fetched.{Fetched}
 use Rattle.gm_registry.specs.declared.fetching.Table.TheVariants.{About, Mirrors, Components, Intents, Commands}
 use Rattle.gm_registry.proofs.Reordering.{same_records}
 use Rattle.gm_registry.proofs.Ordering.{one_order}
+use Rattle.gm_registry.proofs.Counted.{count_from, counted_up, in_their_order, commands_from, numbers_shown, any_command}
 
 -- the text and the number of a value
 abbrev text_in : Value → List ℕ
@@ -145,34 +146,22 @@ mapped_from f [] y h = absurd h
 mapped_from f (x ∷ xs) y (inl same) = (x, inl refl, same)
 mapped_from f (x ∷ xs) y (inr later) = let it = mapped_from f xs y later in (it.0, inr it.1, it.2)
 
-number_within : (n m : ℕ) → Has (numbers_of n) m → (1 ≤ m) × (m ≤ n)
-number_within zero m h = absurd h
-number_within (suc n) m (inl same) = (omega (arith, same), omega (arith, same))
-number_within (suc n) m (inr later) = let it = number_within n m later in (it.0, omega (arith, it.1))
-
 as_many : (t : Tables) (f : Fetched) → IsPermutation (map shown_command t.commands) f.commands.items → length f.commands.items ≡ length t.commands
 as_many t f are = length_permutation _ _ are ∙ length-map t.commands shown_command
 
-commands_said : (t : Tables) (f : Fetched) → IsPermutation (map shown_command t.commands) f.commands.items → AreNumbered t.commands → ((c : CommandRow) → Has t.commands c → IsInRange c) → length t.commands ≤ 100000
-    → AreCommands f.commands.items
-commands_said t f are numbers range few =
+commands_said : (t : Tables) (f : Fetched) → IsPermutation (map shown_command t.commands) f.commands.items → IsInOrder f.commands.items → AreNumbered t.commands
+    → ((c : CommandRow) → Has t.commands c → IsInRange c) → length t.commands ≤ 100000 → AreCommands f.commands.items
+commands_said t f are up numbers range few =
+    let seq : CommandRow → ℕ = λ c. c.seq in
+    let rest : CommandRow → Row = λ c. Int (pos c.copied) ∷ Int (pos c.of_total) ∷ [] in
+    let values = subst (IsPermutation (map number_value (numbers_of (length t.commands)))) (map-map number_value seq t.commands) (IsPermutation-map number_value _ _ numbers) in
+    let it = in_their_order (λ (c : CommandRow). Int (pos c.seq)) rest t.commands f.commands.items values are up in
     let many = as_many t f are in
     record {
       count = omega (arith, many, few);
-      each = λ row has.
-          let back : Has (map shown_command t.commands) row = Has-permutation f.commands.items (map shown_command t.commands) row (IsPermutation-sym _ _ are) has in
-          let from = mapped_from shown_command t.commands row back in
-          let c = from.0 in
-          let seqs = map (λ (k : CommandRow). k.seq) t.commands in
-          let number : Has (numbers_of (length t.commands)) c.seq = Has-permutation seqs (numbers_of (length t.commands)) c.seq (IsPermutation-sym _ _ numbers) (has_mapped (λ (k : CommandRow). k.seq) t.commands c from.1) in
-          let within = number_within (length t.commands) c.seq number in
-          let limits = range c from.1 in
-          let says : IsCommand (length f.commands.items) (shown_command c) = record {
-            number = (c.seq, refl, within.0, omega (arith, many, within.1));
-            copied = (c.copied, refl, omega arith, limits.0);
-            total = (c.of_total, refl, omega arith, limits.1);
-          } in
-          subst (IsCommand (length f.commands.items)) from.2 says;
+      each = subst (AreCommandsFrom 1) (sym it.2) (commands_from (λ (c : CommandRow). Int (pos c.seq)) rest 1 it.0 (λ c has.
+          let limits = range c (Has-permutation it.0 t.commands c (IsPermutation-sym _ _ it.1) has) in
+          ((c.copied, refl, omega arith, limits.0), (c.of_total, refl, omega arith, limits.1))));
     }
 
 at_most : (high n : ℕ) → IsBetween 0 high (Int (pos n)) → n ≤ high
@@ -183,8 +172,8 @@ at_most high n it = let e : n ≡ it.0 = same n it.0 it.1 in omega (arith, e, it
 
 commands_kept : (t : Tables) (f : Fetched) → IsPermutation (map shown_command t.commands) f.commands.items → AreCommands f.commands.items → (c : CommandRow) → Has t.commands c → IsInRange c
 commands_kept t f are says c has =
-    let it = says.each (shown_command c) (Has-permutation (map shown_command t.commands) f.commands.items (shown_command c) are (has_mapped shown_command t.commands c has)) in
-    (at_most 1048576 c.copied it.copied, at_most 1048576 c.of_total it.total)
+    let it = any_command 1 f.commands.items (shown_command c) says.each (Has-permutation (map shown_command t.commands) f.commands.items (shown_command c) are (has_mapped shown_command t.commands c has)) in
+    (at_most 1048576 c.copied it.1.copied, at_most 1048576 c.of_total it.1.total)
 
 -- ---- all tables
 
@@ -204,7 +193,7 @@ says_tables db t f s ts has are of = record {
   };
   intents = intents_said db t f ts has.rows are of.intents;
   readable = of.readable;
-  commands = commands_said t f (commands_shown db t f has.rows are) has.numbered of.commands of.count;
+  commands = commands_said t f (commands_shown db t f has.rows are) are.commands_in_order has.numbered of.commands of.count;
 }
 
 -- and tables that say a state are its
@@ -234,6 +223,18 @@ six_again row = refl
 two_again : (row : Row) → columns_at two (columns_at (shown_places About) row) ≡ columns_at (shown_places About) row
 two_again row = refl
 
+-- the numbers of the commands that are kept
+numbers_told : (db : Trees) (f : Fetched) → length f.commands.items ≡ length (db 8) → AreShown db f → AreCommandsFrom 1 f.commands.items
+    → IsPermutation (map number_value (numbers_of (length (db 8)))) (map (λ (row : Row). column row 2) (db 8))
+numbers_told db f many are each =
+    let rows = f.commands.items in
+    let first : Row → Value = λ row. column row 0 in
+    let kept : IsPermutation (map (λ (row : Row). column row 2) (db 8)) (map first rows) =
+    subst (λ l. IsPermutation l (map first rows)) (map-map first (columns_at (shown_places Commands)) (db 8)) (IsPermutation-map first _ _ are.commands) in
+    let counted = IsPermutation-map number_value _ _ (counted_up (length (db 8))) in
+    let shown : map first rows ≡ map number_value (count_from 1 (length (db 8))) = numbers_shown 1 rows each ∙ ap (λ k. map number_value (count_from 1 k)) many in
+    IsPermutation-trans _ _ _ counted (IsPermutation-sym _ _ (subst (IsPermutation (map (λ (row : Row). column row 2) (db 8))) shown kept))
+
 -- rows that say something say tables that do
 pub any_tables : (db : Trees) (f : Fetched) (s : Records) (ts : List Intent) → AreShown db f → Say f s ts → TablesSay db s ts
 any_tables db f s ts are says =
@@ -253,7 +254,10 @@ any_tables db f s ts are says =
       intents = IsPermutation-sym _ _ (subst (IsPermutation (map (columns_at (shown_places Intents)) (db 7))) says.intents intents);
       readable = says.readable;
       count = subst (λ n. n ≤ 100000) many says.commands.count;
-      commands = λ row has. subst (λ n. IsCommand n (stored row)) many (says.commands.each (stored row) (Has-permutation (map stored (db 8)) f.commands.items (stored row) are.commands (has_mapped stored (db 8) row has)));
+      numbers = numbers_told db f many are says.commands.each;
+      replies = λ row has.
+          let it = any_command 1 f.commands.items (stored row) says.commands.each (Has-permutation (map stored (db 8)) f.commands.items (stored row) are.commands (has_mapped stored (db 8) row has)) in
+          (it.1.copied, it.1.total);
     }
 
 -- and tables that say something are shown by rows that do
@@ -266,6 +270,9 @@ any_rows db f s ts are of =
     let intents : f.intents.items ≡ numbered intent_shown 1 ts = one_order intent_shown first_is_number f.intents.items ts (IsPermutation-trans _ _ _ of.intents are.intents) are.in_order in
     let stored = columns_at (shown_places Commands) in
     let many : length f.commands.items ≡ length (db 8) = length_permutation _ _ are.commands ∙ length-map (db 8) stored in
+    let number : Row → Value = λ row. column row 2 in
+    let rest : Row → Row = λ row. column row 4 ∷ column row 5 ∷ [] in
+    let order = in_their_order number rest (db 8) f.commands.items of.numbers are.commands are.commands_in_order in
     record {
       about = ap (map (columns_at two)) about;
       records = record {
@@ -277,8 +284,6 @@ any_rows db f s ts are of =
       readable = of.readable;
       commands = record {
         count = subst (λ n. n ≤ 100000) (sym many) of.count;
-        each = λ row has.
-            let from = mapped_from stored (db 8) row (Has-permutation f.commands.items (map stored (db 8)) row (IsPermutation-sym _ _ are.commands) has) in
-            subst₂ IsCommand (sym many) from.2 (of.commands from.0 from.1);
+        each = subst (AreCommandsFrom 1) (sym order.2) (commands_from number rest 1 order.0 (λ row has. of.replies row (Has-permutation order.0 (db 8) row (IsPermutation-sym _ _ order.1) has)));
       };
     }

@@ -1,5 +1,5 @@
 -- The queries that read the tables whole.
-use Rattle.std.specs.Prelude.{codes, List, ℕ, [], ◌∷◌, map}
+use Rattle.std.specs.Prelude.{◌≡◌, ◌⊎◌, codes, List, ℕ, [], ◌∷◌, map}
 use Rattle.std.specs.List.Sorted.{IsPermutation, IsSortedByKey}
 use Rattle.sqlite.specs.Order.{Row, column}
 use Rattle.sqlite_value.specs.Order.{value_cmp}
@@ -9,13 +9,13 @@ use Rattle.gm_registry.specs.declared.fetching.Fetched.{Fetched}
 use Rattle.gm_registry.specs.declared.fetching.Table.{Table}
 use Rattle.gm_registry.specs.declared.fetching.Table.TheVariants.{About, Mirrors, Components, Intents, Commands}
 
--- what each table is asked by; intents come in order of their numbers
+-- what each table is asked by; intents and commands come in order of their numbers
 abbrev pub query_text : Table → List ℕ
 query_text About = codes "SELECT one, schema_no FROM about"
 query_text Mirrors = codes "SELECT name, mid, total, genid, syncid, slice, balance, mediasize, mflags FROM mirrors"
 query_text Components = codes "SELECT prov, mirror, did, syncid, priority, sync_offset, dflags, hard, provsize FROM components"
 query_text Intents = codes "SELECT ord, kind, prov, source, first_sector, end_sector FROM intents ORDER BY ord"
-query_text Commands = codes "SELECT seq, copied, of_total FROM commands"
+query_text Commands = codes "SELECT seq, copied, of_total FROM commands ORDER BY seq"
 
 -- where each table is kept
 abbrev pub tree_of : Table → ℕ
@@ -37,6 +37,10 @@ shown_places Commands = 2 ∷ 4 ∷ 5 ∷ []
 abbrev pub IsShown : Trees → Table → List Row → Type 0
 IsShown db table rows = IsPermutation (map (columns_at (shown_places table)) (db (tree_of table))) rows
 
+-- its rows bear numbers, by which they come
+abbrev pub IsNumbered : Table → Type 0
+IsNumbered table = (table ≡ Intents) ⊎ (table ≡ Commands)
+
 -- by the number in the first column
 abbrev pub IsInOrder : List Row → Type 0
 IsInOrder rows = IsSortedByKey (λ (row : Row). column row 0) value_cmp rows
@@ -49,3 +53,4 @@ pub record AreShown (db : Trees) (f : Fetched) : Type 0 where
   pub intents : IsShown db Intents f.intents.items
   pub in_order : IsInOrder f.intents.items
   pub commands : IsShown db Commands f.commands.items
+  pub commands_in_order : IsInOrder f.commands.items

@@ -1,5 +1,5 @@
 -- What the rows that are shown of the tables say.
-use Rattle.std.specs.Prelude.{◌≡◌, ◌≤◌, ℕ, List, [], ◌∷◌, length, map, pos}
+use Rattle.std.specs.Prelude.{◌≡◌, ◌≤◌, ◌+◌, ℕ, List, [], ◌∷◌, length, map, pos}
 use Rattle.std.specs.List.Sorted.{IsPermutation}
 use Rattle.sqlite.specs.Order.{Row, column}
 use Rattle.sqlite_value.specs.declared.value.Value.{Value}
@@ -12,10 +12,11 @@ use Rattle.gm_state.specs.Records.{Records, IsState}
 use Rattle.gm_state.specs.Rows.{mirror_row, component_row, intent_row}
 use Rattle.gm_registry.specs.Rows.{mirror_values, component_values}
 use Rattle.gm_state.specs.Readable.{AreReadable}
+use Rattle.gm_registry.specs.Tables.{numbers_of}
 use Rattle.gm_registry.specs.Values.{columns_at, numbered, two, six, nine, shown_intent}
 use Rattle.sqlite.specs.Tree.{Trees}
 use Rattle.gm_registry.specs.Queries.{shown_places}
-use Rattle.gm_registry.specs.declared.fetching.Table.TheVariants.{About, Mirrors, Components, Intents, Commands}
+use Rattle.gm_registry.specs.declared.fetching.Table.TheVariants.{About, Mirrors, Components, Intents}
 use Rattle.gm_registry.specs.declared.fetching.Fetched.{Fetched}
 
 abbrev pub mirror_shown : Mirror → Row
@@ -27,24 +28,32 @@ component_shown k = component_values (component_row k)
 abbrev pub intent_shown : ℕ → Intent → Row
 intent_shown n t = shown_intent (intent_row n t)
 
+abbrev pub number_value : ℕ → Value
+number_value n = Int (pos n)
+
 -- a number from low to high
 abbrev pub IsBetween : ℕ → ℕ → Value → Type 0
 IsBetween low high value = (n : ℕ) × (value ≡ Int (pos n)) × (low ≤ n) × (n ≤ high)
 
--- the number of one of so many commands, and the two numbers of its reply
-pub record IsCommand (count : ℕ) (row : Row) : Type 0 where
-  pub number : IsBetween 1 count (column row 0)
+-- the number of a command, and the two numbers of its reply
+pub record IsCommand (number : ℕ) (row : Row) : Type 0 where
+  pub number_is : column row 0 ≡ Int (pos number)
   pub copied : IsBetween 0 1048576 (column row 1)
   pub total : IsBetween 0 1048576 (column row 2)
+
+-- each row bears the number after that of the row before
+abbrev pub AreCommandsFrom : ℕ → List Row → Type 0
+AreCommandsFrom n [] = Unit {0}
+AreCommandsFrom n (row ∷ more) = IsCommand n row × AreCommandsFrom (n + 1) more
 
 -- the rows of `about` are the one record (1, 1)
 abbrev pub IsAbout : List Row → Type 0
 IsAbout rows = map (columns_at two) rows ≡ (Int (pos 1) ∷ Int (pos 1) ∷ []) ∷ []
 
--- the rows are those of commands, of which there may be so many
+-- the rows are those of commands, numbered from 1, of which there may be so many
 pub record AreCommands (rows : List Row) : Type 0 where
   pub count : length rows ≤ 100000
-  pub each : (row : Row) → Has rows row → IsCommand (length rows) row
+  pub each : AreCommandsFrom 1 rows
 
 -- the rows are those of the records of a state, in some order
 pub record SayState (mirrors components : List Row) (s : Records) : Type 0 where
@@ -61,7 +70,7 @@ pub record Say (f : Fetched) (s : Records) (ts : List Intent) : Type 0 where
   pub commands : AreCommands f.commands.items
 
 -- The tables, whatever they were to hold, are those of a state and of intents that are readable for it: their columns say
--- just these records, and the numbers of commands and replies are in range.
+-- just these records, the commands count from 1 without gaps, and the numbers of replies are in range.
 pub record TablesSay (db : Trees) (s : Records) (ts : List Intent) : Type 0 where
   pub state : IsState s
   pub about : map (columns_at (shown_places About)) (db 0) ≡ (Int (pos 1) ∷ Int (pos 1) ∷ []) ∷ []
@@ -70,4 +79,5 @@ pub record TablesSay (db : Trees) (s : Records) (ts : List Intent) : Type 0 wher
   pub intents : IsPermutation (numbered intent_shown 1 ts) (map (columns_at (shown_places Intents)) (db 7))
   pub readable : AreReadable s ts
   pub count : length (db 8) ≤ 100000
-  pub commands : (row : Row) → Has (db 8) row → IsCommand (length (db 8)) (columns_at (shown_places Commands) row)
+  pub numbers : IsPermutation (map number_value (numbers_of (length (db 8)))) (map (λ row. column row 2) (db 8))
+  pub replies : (row : Row) → Has (db 8) row → IsBetween 0 1048576 (column row 4) × IsBetween 0 1048576 (column row 5)

@@ -3,7 +3,7 @@
 ghost use Rattle.std.specs.Prelude.{◌≡◌, ◌≢◌, IfOk, IfErr, OnOk, OnErr};
 ghost use Rattle.sqlite.specs.State.{HasCleanDisk};
 ghost use Rattle.sqlite.specs.Held.{state};
-ghost use Rattle.gm_registry.specs.Queries.{query_text, IsShown, IsInOrder, AreShown};
+ghost use Rattle.gm_registry.specs.Queries.{query_text, IsNumbered, IsShown, IsInOrder, AreShown};
 ghost use Rattle.gm_registry.specs.Reads.{IsOurs, HasRead, HasFailed};
 
 use crate::fault::StoreFault;
@@ -20,7 +20,7 @@ pub(crate) enum Table {
 }
 
 impl Table {
-    /// The query that shows all its rows: of intents by their numbers, else in any order.
+    /// The query that shows all its rows: of intents and commands by their numbers, else in any order.
     fn query(self) -> &'static str
         ensures { result.now ≡ query_text self }
     {
@@ -35,7 +35,7 @@ impl Table {
             Table::Intents => {
                 "SELECT ord, kind, prov, source, first_sector, end_sector FROM intents ORDER BY ord"
             }
-            Table::Commands => "SELECT seq, copied, of_total FROM commands",
+            Table::Commands => "SELECT seq, copied, of_total FROM commands ORDER BY seq",
         }
     }
 }
@@ -46,7 +46,7 @@ pub(crate) fn rows_of<S: Alter>(
     table: Table,
 ) -> Result<Vec<Row>, StoreFault>
     ensures rows { HasCleanDisk (state S.Store conn.new) → IfOk result (λ rows. IsOurs (state S.Store conn.old) → IsShown (state S.Store conn.old).now.trees table rows.items) }
-    ensures in_order { table ≡ Table.Intents → HasCleanDisk (state S.Store conn.new) → IfOk result (λ rows. IsOurs (state S.Store conn.old) → IsInOrder rows.items) }
+    ensures in_order { IsNumbered table → HasCleanDisk (state S.Store conn.new) → IfOk result (λ rows. IsOurs (state S.Store conn.old) → IsInOrder rows.items) }
     ensures read { OnOk result (HasRead (state S.Store conn.old) (state S.Store conn.new)) }
     ensures failed { OnErr result (HasFailed (state S.Store conn.old) (state S.Store conn.new)) }
     ensures fault { IfErr result (λ e. e ≢ StoreFault.Unreadable) }

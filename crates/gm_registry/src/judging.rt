@@ -28,22 +28,24 @@ fn is_between(row: &Row, at: usize, low: u64, high: u64) -> bool
     }
 }
 
-fn is_command(row: &Row, count: usize) -> bool
-    ensures { IsTrue result ↔ IsCommand count row.now }
+/// Whether a row of `commands` bears this number.
+fn is_command(row: &Row, number: u64) -> bool
+    ensures { IsTrue result ↔ IsCommand number row.now }
 {
-    is_between(row, 0, 1, count as u64)
+    is_number_at(row, 0, number)
         && is_between(row, 1, 0, MAX_COPIED)
         && is_between(row, 2, 0, MAX_COPIED)
 }
 
+/// Whether the nth row bears the number n, and there aren't too many.
 fn are_commands(rows: &[Row]) -> bool
     ensures { IsTrue result ↔ AreCommands rows.now }
 {
     if rows.len() > MAX_COMMANDS as usize {
         return false;
     }
-    'rows: for row in rows {
-        if !is_command(row, rows.len()) {
+    'rows: for (index, row) in rows.iter().enumerate() {
+        if !is_command(row, index as u64 + 1) {
             return false;
         }
     }

@@ -1,4 +1,4 @@
-use Rattle.std.proofs.Common.{refl}
+use Rattle.std.proofs.Common.{inl, inr, refl}
 use Rattle.sqlite.specs.Held.{state}
 use Rattle.sqlite_rows.proofs.Refusing.{on_err}
 use Rattle.gm_registry.specs.Queries.{IsShown, IsInOrder}
@@ -79,6 +79,7 @@ returns-clause-rows g c clean ours =
       mirrors = carried s0 s1 (λ db. IsShown db Mirrors c.in_ok-mirrors.mirrors.items) c.in_ok-about.ensures.read clean1 (c.in_ok-mirrors.ensures.rows clean2) ours;
       components = carried s0 s2 (λ db. IsShown db Components c.in_ok-components.components.items) first clean2 (c.in_ok-components.ensures.rows clean3) ours;
       intents = carried s0 s3 (λ db. IsShown db Intents c.in_ok-intents.intents.items) second clean3 (c.in_ok-intents.ensures.rows clean4) ours;
-      in_order = carried s0 s3 (λ db. IsInOrder c.in_ok-intents.intents.items) second clean3 (c.in_ok-intents.ensures.in_order refl clean4) ours;
+      in_order = carried s0 s3 (λ db. IsInOrder c.in_ok-intents.intents.items) second clean3 (c.in_ok-intents.ensures.in_order (inl refl) clean4) ours;
       commands = carried s0 s4 (λ db. IsShown db Commands c.in_ok-commands.commands.items) third clean4 (c.in_ok-commands.ensures.rows clean) ours;
+      commands_in_order = carried s0 s4 (λ db. IsInOrder c.in_ok-commands.commands.items) third clean4 (c.in_ok-commands.ensures.in_order (inr refl) clean) ours;
     }

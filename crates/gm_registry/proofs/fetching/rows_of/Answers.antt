@@ -1,7 +1,10 @@
+use Rattle.std.proofs.Common.{inl, inr, [], ◌∷◌, subst}
+use Rattle.sqlite.specs.State.{Shown}
 use Rattle.sqlite.specs.Held.{state}
+use Rattle.gm_registry.specs.Queries.{query_text}
 use Rattle.gm_registry.proofs.Asking.{answers, shows, read, failed}
 use Rattle.gm_registry.proofs.Ordering.{in_order}
-use Rattle.gm_registry.specs.declared.fetching.Table.TheVariants.{Intents}
+use Rattle.gm_registry.specs.declared.fetching.Table.TheVariants.{Intents, Commands}
 use Rattle.gm_registry.proofs.fetching.rows_of.Goals as goal
 
 pub returns-in-Ok-clause-rows : goal.returns-in-Ok-clause-rows
@@ -17,7 +20,11 @@ returns-in-Err-clause-failed g c =
     failed c.args.table (state g.S.Store c.args.conn.now) (state g.S.Store c.query_all.new.self) c.in-Err.error (λ clean. rw c.query.ensures at (c.in-Err.ensures.err clean)) (rw c.query.ensures at c.query_all.ensures.survives)
 
 pub returns-in-Ok-clause-in_order : goal.returns-in-Ok-clause-in_order
-returns-in-Ok-clause-in_order g c is clean ours =
+returns-in-Ok-clause-in_order g c by_number clean ours =
     let old = state g.S.Store c.args.conn.now in
-    let shown = rw is at (rw c.query.ensures at (c.in-Ok.ensures.ok clean)) in
-    in_order old.now.trees c.in-Ok.rows.items (answers Intents old (state g.S.Store c.query_all.new.self) c.in-Ok.rows.items ours shown)
+    let new = state g.S.Store c.query_all.new.self in
+    let shown = rw c.query.ensures at (c.in-Ok.ensures.ok clean) in
+    elim by_number [
+      | inl is ↦ in_order 7 0 (2 ∷ 3 ∷ 4 ∷ 5 ∷ 6 ∷ []) old.now.trees c.in-Ok.rows.items (answers Intents old new c.in-Ok.rows.items ours (subst (λ t. Shown (query_text t) [] old new c.in-Ok.rows.items) is shown))
+      | inr is ↦ in_order 8 2 (4 ∷ 5 ∷ []) old.now.trees c.in-Ok.rows.items (answers Commands old new c.in-Ok.rows.items ours (subst (λ t. Shown (query_text t) [] old new c.in-Ok.rows.items) is shown))
+    ]
