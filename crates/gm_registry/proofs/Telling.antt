@@ -1,5 +1,5 @@
 -- The rows that are shown of a registry's tables say what the tables hold.
-use Rattle.std.proofs.Common.{◌≡◌, ◌∙◌, inl, inr, ℕ, zero, suc, pos, ◌+◌, ◌≤◌, List, [], ◌∷◌, map, length, refl, sym, ap, subst, subst₂, arith}
+use Rattle.std.proofs.Common.{◌≡◌, ◌∙◌, inl, inr, ℕ, pos, ◌+◌, ◌≤◌, List, [], ◌∷◌, map, length, refl, sym, ap, subst, subst₂, arith}
 use Rattle.std.specs.List.Sorted.{IsPermutation}
 use Rattle.std.proofs.lemmas.List.{length-map}
 use Rattle.std.proofs.lemmas.List.Sorted.{IsPermutation-map, IsPermutation-sym, IsPermutation-trans, length_permutation}

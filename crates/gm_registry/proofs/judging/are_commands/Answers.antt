@@ -1,5 +1,4 @@
-use Rattle.std.proofs.Common.{◌≡◌, ◌∙◌, ◌+◌, sym, subst, true, false, List}
-use Rattle.sqlite.specs.Order.{Row}
+use Rattle.std.proofs.Common.{◌≡◌, ◌∙◌, ◌+◌, sym, subst, true, false}
 use Rattle.gm_registry.specs.Says.{AreCommandsFrom}
 use Rattle.gm_registry.proofs.Suffixes.{next_is}
 use Rattle.gm_registry.proofs.judging.are_commands.Goals as goal
