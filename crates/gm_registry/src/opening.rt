@@ -123,6 +123,7 @@ pub(crate) fn prepare<S: Alter>(conn: &mut Connection<S>) -> Result<(), StoreFau
     ensures untouched { IsTrue (state S.Store conn.old).is_open → IsSound registry_schema (state S.Store conn.old).committed.trees → Leaves (state S.Store conn.old) (state S.Store conn.new) }
     ensures clean { doubt (state S.Store conn.old).is_clean ≤ doubt (state S.Store conn.new).is_clean }
 {
+    // Outside a transaction a connection sees what is committed, which this call tells.
     let _settled = conn.is_autocommit();
     if is_empty(conn.schema()) {
         create_all(conn)?;
