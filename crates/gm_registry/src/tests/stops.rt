@@ -25,6 +25,25 @@ const NOTHING: Reached = Reached {
     settled: false,
 };
 
+// What the two files of a store hold.
+#[derive(Drop)]
+pub(super) struct Media {
+    log: Vec<u8>,
+    pub(super) db: Vec<u8>,
+}
+
+// How many calls each file serves.
+#[derive(Clone, Copy)]
+struct Calls {
+    log: u64,
+    db: u64,
+}
+
+const ALL: Calls = Calls {
+    log: u64::MAX,
+    db: u64::MAX,
+};
+
 // A disk with these bytes that serves so many calls.
 fn disk(alloc: Global, bytes: &[u8], calls: u64) -> Result<Fuse<Memory>, Fail> {
     let mut disk = Memory::new(alloc);
@@ -36,16 +55,17 @@ fn disk(alloc: Global, bytes: &[u8], calls: u64) -> Result<Fuse<Memory>, Fail> {
     Ok(Fuse::new(disk, calls))
 }
 
-// A store of these files, of which each serves so many calls.
-pub(super) fn files(
-    alloc: Global,
-    from: &Files<Fuse<Memory>>,
-    log_calls: u64,
-    db_calls: u64,
-) -> Result<Files<Fuse<Memory>>, Fail> {
+fn files(alloc: Global, from: &Media, calls: Calls) -> Result<Files<Fuse<Memory>>, Fail> {
     Ok(Files {
-        log: disk(alloc, from.log.inner().bytes(), log_calls)?,
-        db: disk(alloc, from.db.inner().bytes(), db_calls)?,
+        log: disk(alloc, from.log.as_slice(), calls.log)?,
+        db: disk(alloc, from.db.as_slice(), calls.db)?,
+    })
+}
+
+fn media_of(alloc: Global, files: &Files<Fuse<Memory>>) -> Result<Media, Fail> {
+    Ok(Media {
+        log: files.log.inner().bytes().to_vec(alloc)?,
+        db: files.db.inner().bytes().to_vec(alloc)?,
     })
 }
 
@@ -75,12 +95,12 @@ fn run_on<S: Alter + Drop>(
 }
 
 // The same on files; they come back with whether they stopped.
-pub(super) fn run(
+fn run_on_files<D: Disk + Drop>(
     alloc: Global,
-    files: Files<Fuse<Memory>>,
+    files: Files<D>,
     change: &Change,
     key: &str,
-) -> (Reached, bool, Files<Fuse<Memory>>) {
+) -> (Reached, bool, Files<D>) {
     if !files.may_be_used() {
         return (NOTHING, true, files);
     }
@@ -93,6 +113,66 @@ pub(super) fn run(
         Ok(files) => (reached, false, files),
         Err((_, store)) => (reached, true, store.close()),
     }
+}
+
+// What a run leaves: as the files read, and after a crash.
+#[derive(Drop)]
+pub(super) struct Outcome {
+    pub(super) reached: Reached,
+    pub(super) stopped: bool,
+    pub(super) read: Media,
+    crashed: Media,
+}
+
+fn run_for(
+    alloc: Global,
+    from: &Media,
+    calls: Calls,
+    change: &Change,
+    key: &str,
+) -> Result<Outcome, Fail> {
+    let (reached, stopped, mut left) = run_on_files(alloc, files(alloc, from, calls)?, change, key);
+    let read = media_of(alloc, &left)?;
+    left.log.crash();
+    left.db.crash();
+    let crashed = media_of(alloc, &left)?;
+    Ok(Outcome {
+        reached,
+        stopped,
+        read,
+        crashed,
+    })
+}
+
+// A run over files that don't stop.
+pub(super) fn run(
+    alloc: Global,
+    from: &Media,
+    change: &Change,
+    key: &str,
+) -> Result<Outcome, Fail> {
+    run_for(alloc, from, ALL, change, key)
+}
+
+fn edit_files<D: Disk + Drop>(
+    alloc: Global,
+    files: Files<D>,
+    statements: &str,
+) -> Result<Files<D>, Fail> {
+    if !files.may_be_used() {
+        return Err("a sync failed")?;
+    }
+    let mut store = Connection::open_files(alloc, files, Options::new(1))
+        .ok()
+        .ok_or("not opened")?;
+    store.execute_batch(statements)?;
+    Ok(store.close_files().ok().ok_or("not closed")?)
+}
+
+// The files after these statements of somebody else's.
+pub(super) fn edited(alloc: Global, from: &Media, statements: &str) -> Result<Media, Fail> {
+    let files = edit_files(alloc, files(alloc, from, ALL)?, statements)?;
+    media_of(alloc, &files)
 }
 
 // Each command puts a component more, and asks for the metadata of all.
@@ -124,13 +204,12 @@ fn check_on<S: Alter + Drop>(
     Ok(())
 }
 
-fn check(
+fn check_files<D: Disk + Drop>(
     alloc: Global,
-    left: &Files<Fuse<Memory>>,
+    files: Files<D>,
     before: u64,
     reached: Reached,
 ) -> Result<(), Fail> {
-    let files = files(alloc, left, u64::MAX, u64::MAX)?;
     if !files.may_be_used() {
         return Err("a sync failed")?;
     }
@@ -140,41 +219,33 @@ fn check(
     }
 }
 
+fn check(alloc: Global, left: &Media, before: u64, reached: Reached) -> Result<(), Fail> {
+    check_files(alloc, files(alloc, left, ALL)?, before, reached)
+}
+
 // One run with a stop, and whether it came; the files are checked as they read and as a crash leaves them.
-fn stop_at(
-    alloc: Global,
-    from: &Files<Fuse<Memory>>,
-    before: u64,
-    calls: (u64, u64),
-) -> Result<bool, Fail> {
+fn stop_at(alloc: Global, from: &Media, before: u64, calls: Calls) -> Result<bool, Fail> {
     let (change, key) = if before == 0 {
         (labels(alloc)?, "k1")
     } else {
         (inserts(alloc)?, "k2")
     };
-    let (reached, stopped, mut left) = run(
-        alloc,
-        files(alloc, from, calls.0, calls.1)?,
-        &change,
-        key,
-    );
-    check(alloc, &left, before, reached)?;
-    left.log.crash();
-    left.db.crash();
-    check(alloc, &left, before, reached)?;
-    Ok(stopped)
+    let run = run_for(alloc, from, calls, &change, key)?;
+    check(alloc, &run.read, before, run.reached)?;
+    check(alloc, &run.crashed, before, run.reached)?;
+    Ok(run.stopped)
 }
 
 // Stops at each call of the first file, then of the second, until a run ends without a stop.
-fn stop_at_each(alloc: Global, from: &Files<Fuse<Memory>>, before: u64) -> Result<(), Fail> {
+fn stop_at_each(alloc: Global, from: &Media, before: u64) -> Result<(), Fail> {
     let mut log_ended = false;
     let mut db_ended = false;
     for calls in 0..MANY {
         if !log_ended {
-            log_ended = !stop_at(alloc, from, before, (calls, u64::MAX))?;
+            log_ended = !stop_at(alloc, from, before, Calls { log: calls, ..ALL })?;
         }
         if !db_ended {
-            db_ended = !stop_at(alloc, from, before, (u64::MAX, calls))?;
+            db_ended = !stop_at(alloc, from, before, Calls { db: calls, ..ALL })?;
         }
     }
     if !log_ended || !db_ended {
@@ -183,32 +254,25 @@ fn stop_at_each(alloc: Global, from: &Files<Fuse<Memory>>, before: u64) -> Resul
     Ok(())
 }
 
-fn nothing(alloc: Global) -> Result<Files<Fuse<Memory>>, Fail> {
-    Ok(Files {
-        log: disk(alloc, &[], u64::MAX)?,
-        db: disk(alloc, &[], u64::MAX)?,
-    })
+fn nothing(alloc: Global) -> Media {
+    Media {
+        log: Vec::new(alloc),
+        db: Vec::new(alloc),
+    }
 }
 
 // A registry with one component, settled.
-pub(super) fn one_command(alloc: Global) -> Result<Files<Fuse<Memory>>, Fail> {
-    let from = nothing(alloc)?;
-    let (reached, stopped, left) = run(
-        alloc,
-        files(alloc, &from, u64::MAX, u64::MAX)?,
-        &labels(alloc)?,
-        "k1",
-    );
-    if stopped || !reached.settled {
+pub(super) fn one_command(alloc: Global) -> Result<Media, Fail> {
+    let run = run(alloc, &nothing(alloc), &labels(alloc)?, "k1")?;
+    if run.stopped || !run.reached.settled {
         return Err("it stopped")?;
     }
-    Ok(left)
+    Ok(run.read)
 }
 
 #[test]
 fn a_stop_while_a_registry_is_made(rt: HostRuntime) -> Result<(), Fail> {
-    let from = nothing(rt.alloc())?;
-    stop_at_each(rt.alloc(), &from, 0)
+    stop_at_each(rt.alloc(), &nothing(rt.alloc()), 0)
 }
 
 #[test]

@@ -12,7 +12,7 @@ const STORED: [u8; 16] = [
 #[test]
 fn a_registry_of_one_command_is_the_stored_file(rt: HostRuntime) -> Result<(), Fail> {
     let left = one_command(rt.alloc())?;
-    let bytes = left.db.inner().bytes();
+    let bytes = left.db.as_slice();
     assert_eq!(rt; bytes.len(), 49152);
     let hash: [u8; 16] = Md5::digest(bytes).into();
     assert_eq!(rt; hash, STORED);

@@ -2,9 +2,7 @@
 
 use super::inserts;
 use super::loading::{EDITS, ROWS};
-use super::stops::{files, one_command, run};
-use sqlite::{Connection, Files, Options};
-use sqlite_disk::{Fuse, Memory};
+use super::stops::{Media, edited, one_command, run};
 use std::alloc::Global;
 use std::test::Fail;
 
@@ -18,34 +16,15 @@ const OTHERS: [&str; 3] = [
 
 const EMPTY: &str = "DELETE FROM commands; DELETE FROM components; DELETE FROM mirrors";
 
-// The files of a registry after these statements of somebody else's.
-fn edited(
-    alloc: Global,
-    from: &Files<Fuse<Memory>>,
-    statements: &str,
-) -> Result<Files<Fuse<Memory>>, Fail> {
-    let files = files(alloc, from, u64::MAX, u64::MAX)?;
-    if !files.may_be_used() {
-        return Err("a sync failed")?;
-    }
-    let mut store = Connection::open_files(alloc, files, Options::new(1))
-        .ok()
-        .ok_or("not opened")?;
-    store.execute_batch(statements)?;
-    Ok(store.close_files().ok().ok_or("not closed")?)
-}
-
 // Whether it says no state, and each byte of the database is as it was.
-fn is_left_alone(alloc: Global, from: &Files<Fuse<Memory>>) -> Result<bool, Fail> {
-    let files = files(alloc, from, u64::MAX, u64::MAX)?;
-    let (reached, stopped, left) = run(alloc, files, &inserts(alloc)?, "k9");
-    Ok(!reached.loaded && !stopped && left.db.inner().bytes() == from.db.inner().bytes())
+fn is_left_alone(alloc: Global, from: &Media) -> Result<bool, Fail> {
+    let run = run(alloc, from, &inserts(alloc)?, "k9")?;
+    Ok(!run.reached.loaded && !run.stopped && run.read.db == from.db)
 }
 
-fn are_left_alone(alloc: Global, from: &Files<Fuse<Memory>>, edits: &[&str]) -> Result<bool, Fail> {
+fn are_left_alone(alloc: Global, from: &Media, edits: &[&str]) -> Result<bool, Fail> {
     for edit in edits {
-        let store = edited(alloc, from, edit)?;
-        if !is_left_alone(alloc, &store)? {
+        if !is_left_alone(alloc, &edited(alloc, from, edit)?)? {
             return Ok(false);
         }
     }
