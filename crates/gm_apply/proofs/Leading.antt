@@ -1,34 +1,49 @@
 -- From what is left of an image to where it leads.
-use Rattle.std.proofs.Common.{◌≡◌, ◌∙◌, inl, inr, ⊎_elim, ℕ, ◌+◌, ◌-◌, ◌==◌, ◌&&◌, List, [], ◌∷◌, true, refl, sym, ap, subst, arith, Option, Some, eqb-true}
-use Rattle.std.proofs.lemmas.Bool.{cases_Bool}
+use Rattle.std.proofs.Common.{◌≡◌, ◌∙◌, inl, inr, ⊎_elim, ℕ, ◌+◌, ◌-◌, ◌==◌, ◌&&◌, List, [], ◌∷◌, true, false, refl, sym, ap, subst, arith, Option, Some, eqb-true}
+use Rattle.std.proofs.lemmas.Bool.{cases_Bool, or_parts}
+use Rattle.std.specs.List.{list_any}
+use Rattle.gm_state.proofs.Finding.{not_both}
+use Rattle.gm_state.proofs.Claiming.{some_there}
 use Rattle.std.proofs.lemmas.Bool.Decides.{eqb_tells}
-use Rattle.gm_metadata.specs.Images.{Image, Sizes, Same, same_label, label_tells}
+use Rattle.gm_metadata.specs.Images.{Image, Sizes, Same, SameThere, same_label, label_tells}
 use Rattle.gm_metadata.specs.Sector.{Bears}
 use Rattle.gm_state.specs.declared.command.Intent.{Intent}
 use Rattle.gm_state.specs.declared.command.Intent.TheVariants.{Meta, Clear, Copy}
 use Rattle.gm_state.specs.declared.records.Mirror.{Mirror}
 use Rattle.gm_state.specs.declared.records.Component.{Component}
 use Rattle.gm_state.specs.Records.{Records}
-use Rattle.gm_state.specs.Intents.{IsOf, is_last, names, copies, is_place, any_copies, Agrees, IsRedo, InOrder}
+use Rattle.gm_state.specs.Intents.{IsOf, touches, is_last, names, copies, is_place, any_copies, Agrees, IsRedo, InOrder}
 use Rattle.gm_state.specs.World.{World, Claims}
-use Rattle.gm_apply.specs.Redo.{laid, Mix, Partly}
+use Rattle.gm_apply.specs.Redo.{with_places, SomePlacesNew, IsPartlyDone}
 use Rattle.gm_apply.specs.Continues.{Continues}
-use Rattle.gm_apply.proofs.Going.{laid_in, laid_out}
+use Rattle.gm_apply.proofs.UnderWay.{laid_in, laid_out}
 use Rattle.gm_apply.proofs.Lists.{or_true, or_first, or_second}
 
-agrees_kept : (size : Sizes) (ts : List Intent) (w d x : Image) → Agrees size ts d w → Mix (is_place size ts) w d x → Agrees size ts x w
-agrees_kept size ts w d x agrees mix q j off =
-    ⊎_elim (λ (h : x q j ≡ d q j). h ∙ agrees q j off) (λ (h : (is_place size ts q j ≡ true) × (x q j ≡ w q j)). h.1) (mix q j)
+agrees_kept : (size : Sizes) (ts : List Intent) (w d x : Image) → Agrees size ts d w → SomePlacesNew (is_place size ts) w d x → Agrees size ts x w
+agrees_kept size ts w d x agrees mix q there j off =
+    ⊎_elim (λ (h : x q j ≡ d q j). h ∙ agrees q there j off) (λ (h : (is_place size ts q j ≡ true) × (x q j ≡ w q j)). h.1) (mix q j)
 
-pub leads_on : (s : Records) (size : Sizes) (ts : List Intent) (w d x : Image) → IsRedo s size ts d w → Partly size ts w d x → IsRedo s size ts x w
+pub leads_on : (s : Records) (size : Sizes) (ts : List Intent) (w d x : Image) → IsRedo s size ts d w → IsPartlyDone size ts w d x → IsRedo s size ts x w
 leads_on s size ts w d x redo partly = record { says = redo.says; lends = redo.lends; agrees = agrees_kept size ts w d x redo.agrees partly.mix }
 
-pub ends_there : (s : Records) (size : Sizes) (ts : List Intent) (w d x : Image) → IsRedo s size ts d w → Same x (laid (is_place size ts) w d) → Same x w
-ends_there s size ts w d x redo same q j =
+pub ends_there : (s : Records) (size : Sizes) (ts : List Intent) (w d x : Image) → IsRedo s size ts d w → Same x (with_places (is_place size ts) w d) → SameThere size x w
+ends_there s size ts w d x redo same q there j =
     same q j ∙ elim (cases_Bool (is_place size ts q j)) [
       | inl e ↦ laid_in (is_place size ts) w d q j e
-      | inr e ↦ laid_out (is_place size ts) w d q j e ∙ redo.agrees q j e
+      | inr e ↦ laid_out (is_place size ts) w d q j e ∙ redo.agrees q there j e
     ]
+
+-- a provider that no intent reads or writes has no place
+untouched_one : (size : Sizes) (q : List ℕ) (j : ℕ) (t : Intent) → touches q t ≡ false → names size t q j ≡ false
+untouched_one size q j (Meta p) off = rw off refl
+untouched_one size q j (Clear p) off = rw off refl
+untouched_one size q j (Copy source target a b) off = let apart = or_parts (same_label source q) (same_label target q) off in rw apart.1 refl
+
+pub untouched : (size : Sizes) (q : List ℕ) (j : ℕ) (ts : List Intent) → list_any (touches q) ts ≡ false → is_place size ts q j ≡ false
+untouched size q j [] off = refl
+untouched size q j (t ∷ ts) off =
+    let apart = or_parts (touches q t) (list_any (touches q) ts) off in
+    rw (untouched_one size q j t apart.0, untouched size q j ts apart.1) refl
 
 -- an intent that writes another sector than the last is a copy
 module _ (size : Sizes) (p : List ℕ) (l i : ℕ) (last : size p ≡ Some (l + 1)) (other : i ≡ l → ⊥) where
@@ -54,7 +69,7 @@ module _ (size : Sizes) (p : List ℕ) (l i : ℕ) (last : size p ≡ Some (l + 
       ⊎_elim (λ (h : names size t p i ≡ true). or_first (copies t p i) (any_copies ts p i) (named_copies t h)) (λ (h : is_place size ts p i ≡ true). or_second (copies t p i) (any_copies ts p i) (placed_copies ts h))
       (or_true (names size t p i) (is_place size ts p i) e)
 
-module _ (u w : World) (ts : List Intent) (d x : Image) (goes : Continues u w ts) (order : InOrder u.size ts) (agrees : Agrees u.size ts d w.shelf) (claims : Claims u d) (partly : Partly u.size ts w.shelf d x) where
+module _ (u w : World) (ts : List Intent) (d x : Image) (goes : Continues u w ts) (order : InOrder u.size ts) (agrees : Agrees u.size ts d w.shelf) (claims : Claims u d) (partly : IsPartlyDone u.size ts w.shelf d x) where
   module _ (m : Mirror) (k : Component) (o : IsOf u.state m k) (l : ℕ) (size : u.size k.provider ≡ Some (l + 1)) (i : ℕ) where
     -- a sector whose claim was true before
     was_true : d k.provider i ≡ u.holds m.name i → x k.provider l ≡ d k.provider l → x k.provider i ≡ u.holds m.name i
@@ -74,7 +89,7 @@ module _ (u w : World) (ts : List Intent) (d x : Image) (goes : Continues u w ts
           | inl at ↦ subst (λ (j : ℕ). x k.provider j ≡ w.shelf k.provider j) (sym at.1) same
           | inr off ↦ elim (cases_Bool (is_place u.size ts k.provider i)) [
             | inl e ↦ done i (placed_copies u.size k.provider l i size off.1 ts e)
-            | inr e ↦ agrees_kept u.size ts w.shelf d x agrees partly.mix k.provider i e
+            | inr e ↦ agrees_kept u.size ts w.shelf d x agrees partly.mix k.provider (some_there (u.size k.provider) (l + 1) size) i e
           ]
         ]
 
@@ -83,19 +98,28 @@ module _ (u w : World) (ts : List Intent) (d x : Image) (goes : Continues u w ts
       let l : ℕ = k.sectors - 1 in
       let room = (goes.state.each m o.mirror).sizes k o.component in
       let whole : k.sectors ≡ l + 1 = omega (arith, room) in
-      let size : u.size k.provider ≡ Some (l + 1) = goes.there m k o ∙ ap Some whole in
-      let before : x k.provider l ≡ d k.provider l → d k.provider i ≡ u.holds m.name i = λ same. claims m k e o fits (subst (λ (s : List ℕ). Bears s e) same bears) named mid active i below in
-      ⊎_elim
-      (λ (same : (j : ℕ) → is_last (u.size k.provider) j ≡ true → x k.provider j ≡ d k.provider j).
-      let last : x k.provider l ≡ d k.provider l = same l (is_last_at size) in
-      was_true m k o l size i (before last) last)
-      (λ (done : (j : ℕ) → any_copies ts k.provider j ≡ true → x k.provider j ≡ w.shelf k.provider j).
-      ⊎_elim
-      (λ (last : x k.provider l ≡ d k.provider l). was_true m k o l size i (before last) last)
-      (λ (h : (is_place u.size ts k.provider l ≡ true) × (x k.provider l ≡ w.shelf k.provider l)).
-      is_there m k o l size i done h.1 ∙ goes.claims m k e o fits (subst (λ (s : List ℕ). Bears s e) h.1 bears) named mid active i below)
-      (partly.mix k.provider l))
-      (partly.ordered order k.provider)
+      elim (cases_Bool (list_any (touches k.provider) ts)) [
+        | inr apart ↦
+            let as_before : (j : ℕ) → x k.provider j ≡ d k.provider j = λ j. ⊎_elim
+            (λ (h : x k.provider j ≡ d k.provider j). h)
+            (λ (h : (is_place u.size ts k.provider j ≡ true) × (x k.provider j ≡ w.shelf k.provider j)). not_both (is_place u.size ts k.provider j) h.0 (untouched u.size k.provider j ts apart))
+            (partly.mix k.provider j) in
+            as_before i ∙ claims m k e o fits (subst (λ (s : List ℕ). Bears s e) (as_before l) bears) named mid active i below
+        | inl touched ↦
+            let size : u.size k.provider ≡ Some (l + 1) = goes.there m k o touched ∙ ap Some whole in
+            let before : x k.provider l ≡ d k.provider l → d k.provider i ≡ u.holds m.name i = λ same. claims m k e o fits (subst (λ (s : List ℕ). Bears s e) same bears) named mid active i below in
+            ⊎_elim
+            (λ (same : (j : ℕ) → is_last (u.size k.provider) j ≡ true → x k.provider j ≡ d k.provider j).
+            let last : x k.provider l ≡ d k.provider l = same l (is_last_at size) in
+            was_true m k o l size i (before last) last)
+            (λ (done : (j : ℕ) → any_copies ts k.provider j ≡ true → x k.provider j ≡ w.shelf k.provider j).
+            ⊎_elim
+            (λ (last : x k.provider l ≡ d k.provider l). was_true m k o l size i (before last) last)
+            (λ (h : (is_place u.size ts k.provider l ≡ true) × (x k.provider l ≡ w.shelf k.provider l)).
+            is_there m k o l size i done h.1 ∙ goes.claims m k e o fits (subst (λ (s : List ℕ). Bears s e) h.1 bears) named mid active i below)
+            (partly.mix k.provider l))
+            (partly.ordered order k.provider)
+      ]
     where
       is_last_at : u.size k.provider ≡ Some (k.sectors - 1 + 1) → is_last (u.size k.provider) (k.sectors - 1) ≡ true
       is_last_at size = rw size (itself (k.sectors - 1))

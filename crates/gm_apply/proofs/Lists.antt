@@ -1,5 +1,6 @@
 -- One intent after another.
 use Rattle.std.proofs.Common.{◌≡◌, ◌⊎◌, inl, inr, ⊎_elim, ℕ, ◌≤◌, ◌<◌, ◌+◌, ◌-◌, List, [], ◌∷◌, ◌++◌, Bool, true, false, ◌&&◌, ◌||◌, refl, sym, ◌∙◌, ap, subst, arith, Option, None, Some, if◌then◌else◌, nat_le, nat_lt, length, take, drop, get_or, take-append-drop, eqb-true}
+use Rattle.std.specs.Prelude.{IsSome}
 use Rattle.std.proofs.lemmas.Bool.{cases_Bool}
 use Rattle.std.proofs.lemmas.Bool.Decides.{nat_tests}
 use Rattle.std.proofs.lemmas.List.{take_more, drop_more}
@@ -11,8 +12,8 @@ use Rattle.gm_state.specs.Words.{Has}
 use Rattle.gm_state.specs.Records.{Records}
 use Rattle.gm_state.specs.Intents.{is_last, copies, names, any_copies, is_place, Says, Lends, InOrder, IsRedo}
 use Rattle.gm_state.proofs.Finding.{not_both}
-use Rattle.gm_apply.specs.Redo.{laid, Mix, Follows, Partly, Leaves, Redone, Moments}
-use Rattle.gm_apply.proofs.Going.{leaves_trans, laid_in, laid_out}
+use Rattle.gm_apply.specs.Redo.{with_places, SomePlacesNew, DataBeforeClaim, IsPartlyDone, CrashLeaves, PlacesAreNew, Moments}
+use Rattle.gm_apply.proofs.UnderWay.{leaves_trans, laid_in, laid_out}
 
 pub or_true : (a b : Bool) → (a || b) ≡ true → (a ≡ true) ⊎ (b ≡ true)
 or_true true b e = inl refl
@@ -109,21 +110,21 @@ module _ (s : Records) (size : Sizes) (done : List Intent) (t : Intent) (rest : 
   place_more q j = place_append size q j done (t ∷ []) ∙ ap (λ (b : Bool). is_place size done q j || b) (or_nothing (names size t q j))
 
   -- what the intent says on the way is what it says in w
-  says_here : (now mid : Image) → IsRedo s size (done ++ t ∷ rest) now w → Same mid (laid (is_place size done) w now) → (q : List ℕ) (j : ℕ) → names size t q j ≡ true → Says s mid t j (w q j)
+  says_here : (now mid : Image) → IsRedo s size (done ++ t ∷ rest) now w → Same mid (with_places (is_place size done) w now) → (q : List ℕ) (j : ℕ) → names size t q j ≡ true → Says s mid t j (w q j)
   says_here now mid redo so_far q j named = on_the_way t (redo.says t (has_at done t rest) q j named) (redo.lends t (has_at done t rest)) named
     where
-      outside : (p : List ℕ) (k : ℕ) → is_place size (done ++ t ∷ rest) p k ≡ false → w p k ≡ mid p k
-      outside p k off =
+      outside : (p : List ℕ) → IsSome (size p) → (k : ℕ) → is_place size (done ++ t ∷ rest) p k ≡ false → w p k ≡ mid p k
+      outside p there k off =
           let early : is_place size done p k ≡ false = (or_false _ (is_place size (t ∷ rest) p k) (sym (place_append size p k done (t ∷ rest)) ∙ off)).0 in
-          sym (so_far p k ∙ laid_out (is_place size done) w now p k early ∙ redo.agrees p k off)
+          sym (so_far p k ∙ laid_out (is_place size done) w now p k early ∙ redo.agrees p there k off)
 
       on_the_way : (u : Intent) → Says s w u j (w q j) → Lends size (done ++ t ∷ rest) u → names size u q j ≡ true → Says s mid u j (w q j)
       on_the_way (Meta p) says lends e = says
       on_the_way (Clear p) says lends e = says
-      on_the_way (Copy source target a b) says lends e = let range = copy_range source target a b q j e in says ∙ outside source j (lends j range.0 range.1)
+      on_the_way (Copy source target a b) says lends e = let range = copy_range source target a b q j e in says ∙ outside source lends.0 j (lends.1 j range.0 range.1)
 
-  -- the step laid upon those before it
-  laid_more : (d y x : Image) → Same y (laid (is_place size done) w d) → Same x (laid (names size t) w y) → Same x (laid (is_place size (done ++ t ∷ [])) w d)
+  -- the step with_places upon those before it
+  laid_more : (d y x : Image) → Same y (with_places (is_place size done) w d) → Same x (with_places (names size t) w y) → Same x (with_places (is_place size (done ++ t ∷ [])) w d)
   laid_more d y x before step q j =
       ⊎_elim
       (λ (e : names size t q j ≡ true).
@@ -133,7 +134,7 @@ module _ (s : Records) (size : Sizes) (done : List Intent) (t : Intent) (rest : 
       step q j ∙ laid_out (names size t) w y q j e ∙ before q j ∙ sym (ap (λ (b : Bool). if b then w q j else d q j) more))
       (cases_Bool (names size t q j))
 
-  module _ (d y x : Image) (before : Same y (laid (is_place size done) w d)) (step : Mix (names size t) w y x) where
+  module _ (d y x : Image) (before : Same y (with_places (is_place size done) w d)) (step : SomePlacesNew (names size t) w y x) where
     -- a sector that is done stays so
     kept : (q : List ℕ) (j : ℕ) → is_place size done q j ≡ true → x q j ≡ w q j
     kept q j e = ⊎_elim (λ (h : x q j ≡ y q j). h ∙ before q j ∙ laid_in (is_place size done) w d q j e) (λ (h : (names size t q j ≡ true) × (x q j ≡ w q j)). h.1) (step q j)
@@ -144,7 +145,7 @@ module _ (s : Records) (size : Sizes) (done : List Intent) (t : Intent) (rest : 
     other : (q : List ℕ) (j : ℕ) → is_place size done q j ≡ false → names size t q j ≡ false → x q j ≡ d q j
     other q j e f = ⊎_elim (λ (h : x q j ≡ y q j). h ∙ untouched q j e) (λ (h : (names size t q j ≡ true) × (x q j ≡ w q j)). not_both _ h.0 f) (step q j)
 
-    mixed : Mix (is_place size (done ++ t ∷ rest)) w d x
+    mixed : SomePlacesNew (is_place size (done ++ t ∷ rest)) w d x
     mixed q j =
         ⊎_elim
         (λ (e : is_place size done q j ≡ true). inr (place_done q j e, kept q j e))
@@ -161,7 +162,7 @@ module _ (s : Records) (size : Sizes) (done : List Intent) (t : Intent) (rest : 
         ⊎_elim (λ (h : any_copies done p i ≡ true). kept p i (copies_places size p i done h)) (λ (h : any_copies (t ∷ rest) p i ≡ true). not_both _ h (none i))
         (or_true (any_copies done p i) (any_copies (t ∷ rest) p i) (sym (any_append p i done (t ∷ rest)) ∙ e))
 
-    follows_at : InOrder size (done ++ t ∷ rest) → (p : List ℕ) (l : ℕ) → is_last (size p) l ≡ true → ((j : ℕ) → is_last (size p) j ≡ true → j ≡ l) → Follows size (done ++ t ∷ rest) w d x p
+    follows_at : InOrder size (done ++ t ∷ rest) → (p : List ℕ) (l : ℕ) → is_last (size p) l ≡ true → ((j : ℕ) → is_last (size p) j ≡ true → j ≡ l) → DataBeforeClaim size (done ++ t ∷ rest) w d x p
     follows_at order p l last only =
         ⊎_elim
         (λ (e : is_place size done p l ≡ true). inr (all_done p (order_done size done (t ∷ rest) order p l last e)))
@@ -174,18 +175,18 @@ module _ (s : Records) (size : Sizes) (done : List Intent) (t : Intent) (rest : 
         (cases_Bool (names size t p l)))
         (cases_Bool (is_place size done p l))
 
-    follows : InOrder size (done ++ t ∷ rest) → (p : List ℕ) → Follows size (done ++ t ∷ rest) w d x p
+    follows : InOrder size (done ++ t ∷ rest) → (p : List ℕ) → DataBeforeClaim size (done ++ t ∷ rest) w d x p
     follows order p =
         ⊎_elim
         (λ (e : is_last (size p) (last_of (size p)) ≡ true). follows_at order p (last_of (size p)) e (λ j h. last_only (size p) j h))
         (λ (e : is_last (size p) (last_of (size p)) ≡ false). inl (λ j h. not_both _ (subst (λ (k : ℕ). is_last (size p) k ≡ true) (last_only (size p) j h) h) e))
         (cases_Bool (is_last (size p) (last_of (size p))))
 
-    partly : Partly size (done ++ t ∷ rest) w d x
+    partly : IsPartlyDone size (done ++ t ∷ rest) w d x
     partly = record { mix = mixed; ordered = follows }
 
   -- the whole step, over views
-  pub step_redone : (old mid new : View) → Redone (is_place size done) w old mid → Redone (names size t) w mid new → Redone (is_place size (done ++ t ∷ [])) w old new
+  pub step_redone : (old mid new : View) → PlacesAreNew (is_place size done) w old mid → PlacesAreNew (names size t) w mid new → PlacesAreNew (is_place size (done ++ t ∷ [])) w old new
   step_redone old mid new so_far step = record {
     seen = laid_more old.seen mid.seen new.seen so_far.seen step.seen;
     left = λ x left.
@@ -194,11 +195,11 @@ module _ (s : Records) (size : Sizes) (done : List Intent) (t : Intent) (rest : 
         (from.0, from.1, laid_more from.0 before.0 x from.2 before.2);
   }
 
-  pub step_moments : (old mid new : View) → Redone (is_place size done) w old mid
-      → Leaves old mid (λ x. From old.may_leave (λ d. Partly size (done ++ t ∷ rest) w d x)) → Moments (names size t) w mid new
-      → Leaves old new (λ x. From old.may_leave (λ d. Partly size (done ++ t ∷ rest) w d x))
+  pub step_moments : (old mid new : View) → PlacesAreNew (is_place size done) w old mid
+      → CrashLeaves old mid (λ x. From old.may_leave (λ d. IsPartlyDone size (done ++ t ∷ rest) w d x)) → Moments (names size t) w mid new
+      → CrashLeaves old new (λ x. From old.may_leave (λ d. IsPartlyDone size (done ++ t ∷ rest) w d x))
   step_moments old mid new so_far moments step =
-      leaves_trans old mid new (λ x. From old.may_leave (λ d. Partly size (done ++ t ∷ rest) w d x)) (λ x. From mid.may_leave (λ y. Mix (names size t) w y x)) moments step
+      leaves_trans old mid new (λ x. From old.may_leave (λ d. IsPartlyDone size (done ++ t ∷ rest) w d x)) (λ x. From mid.may_leave (λ y. SomePlacesNew (names size t) w y x)) moments step
       (λ x before.
       let from = so_far.left before.0 before.1 in
       (from.0, from.1, partly from.0 before.0 x from.2 before.2))
@@ -211,7 +212,7 @@ pub has_index : (ts : List Intent) (k : ℕ) (t : Intent) → t ≡ get_or ts k 
 has_index ts k t is within = subst (λ (l : List Intent). Has l t) (sym (split_at ts k t is within)) (has_at (take k ts) t (drop (k + 1) ts))
 
 -- the same at an index
-module _ (s : Records) (size sizes : Sizes) (same : size ≡ sizes) (ts : List Intent) (k : ℕ) (t : Intent) (is : t ≡ get_or ts k t) (w : Image) (old mid new : View) (within : k < length ts) (so_far : Redone (is_place sizes (take k ts)) w old mid) where
+module _ (s : Records) (size sizes : Sizes) (same : size ≡ sizes) (ts : List Intent) (k : ℕ) (t : Intent) (is : t ≡ get_or ts k t) (w : Image) (old mid new : View) (within : k < length ts) (so_far : PlacesAreNew (is_place sizes (take k ts)) w old mid) where
   split : ts ≡ take k ts ++ t ∷ drop (k + 1) ts
   split = split_at ts k t is within
 
@@ -221,15 +222,15 @@ module _ (s : Records) (size sizes : Sizes) (same : size ≡ sizes) (ts : List I
       says_here s sizes (take k ts) t (drop (k + 1) ts) w old.seen mid.seen (subst (λ (l : List Intent). IsRedo s sizes l old.seen w) split redo) so_far.seen q j
       (subst (λ (z : Sizes). names z t q j ≡ true) same named)
 
-  pub index_redone : Redone (names size t) w mid new → Redone (is_place sizes (take (k + 1) ts)) w old new
+  pub index_redone : PlacesAreNew (names size t) w mid new → PlacesAreNew (is_place sizes (take (k + 1) ts)) w old new
   index_redone step =
-      subst (λ (l : List Intent). Redone (is_place sizes l) w old new) (sym (take_more ts k t within ∙ ap (λ (i : Intent). take k ts ++ i ∷ []) (sym is)))
+      subst (λ (l : List Intent). PlacesAreNew (is_place sizes l) w old new) (sym (take_more ts k t within ∙ ap (λ (i : Intent). take k ts ++ i ∷ []) (sym is)))
       (step_redone s sizes (take k ts) t (drop (k + 1) ts) w old mid new so_far
-      (subst (λ (z : Sizes). Redone (names z t) w mid new) same step))
+      (subst (λ (z : Sizes). PlacesAreNew (names z t) w mid new) same step))
 
-  pub index_moments : Leaves old mid (λ x. From old.may_leave (λ d. Partly sizes ts w d x)) → Moments (names size t) w mid new → Leaves old new (λ x. From old.may_leave (λ d. Partly sizes ts w d x))
+  pub index_moments : CrashLeaves old mid (λ x. From old.may_leave (λ d. IsPartlyDone sizes ts w d x)) → Moments (names size t) w mid new → CrashLeaves old new (λ x. From old.may_leave (λ d. IsPartlyDone sizes ts w d x))
   index_moments moments step =
-      subst (λ (l : List Intent). Leaves old new (λ x. From old.may_leave (λ d. Partly sizes l w d x))) (sym split)
+      subst (λ (l : List Intent). CrashLeaves old new (λ x. From old.may_leave (λ d. IsPartlyDone sizes l w d x))) (sym split)
       (step_moments s sizes (take k ts) t (drop (k + 1) ts) w old mid new so_far
-      (subst (λ (l : List Intent). Leaves old mid (λ x. From old.may_leave (λ d. Partly sizes l w d x))) split moments)
+      (subst (λ (l : List Intent). CrashLeaves old mid (λ x. From old.may_leave (λ d. IsPartlyDone sizes l w d x))) split moments)
       (subst (λ (z : Sizes). Moments (names z t) w mid new) same step))

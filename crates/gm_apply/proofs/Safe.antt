@@ -1,7 +1,7 @@
 -- Intents that are readable for a state.
 use Rattle.std.proofs.Common.{◌≡◌, ◌≢◌, ◌∙◌, inl, inr, ⊎_elim, ℕ, ◌+◌, ◌<◌, ◌≤◌, ◌&&◌, ◌||◌, List, [], ◌∷◌, length, filter, Bool, true, false, refl, sym, ap, subst, arith, Option, None, Some}
 use Rattle.std.specs.List.{list_any}
-use Rattle.std.proofs.lemmas.Bool.{or_parts}
+use Rattle.std.proofs.lemmas.Bool.{or_parts, or_left, or_right}
 use Rattle.std.proofs.lemmas.Bool.Decides.{eqb_tells}
 use Rattle.gm_metadata.specs.Images.{Sizes, same_label, label_tells}
 use Rattle.gm_state.specs.declared.command.Intent.{Intent}
@@ -12,13 +12,14 @@ use Rattle.gm_state.specs.Words.{Has}
 use Rattle.gm_state.specs.Records.{Records, IsState, provider}
 use Rattle.gm_state.specs.Lookups.{component_of}
 use Rattle.gm_state.specs.Disks.{held_by}
-use Rattle.gm_state.specs.Intents.{IsOf, is_last, copies, is_place, any_copies, AllSay, Lends, InOrder}
+use Rattle.gm_state.specs.Intents.{IsOf, AreThere, touches, is_last, copies, is_place, any_copies, AllSay, Lends, InOrder}
 use Rattle.gm_state.specs.Readable.{is_copy, is_copy_to, IsCopyWithin, IsReadable, AreOrdered, AreReadable}
-use Rattle.gm_state.specs.World.{World, Sound}
-use Rattle.gm_state.proofs.Finding.{found_none, not_both}
+use Rattle.gm_state.specs.World.{World, Sound, CopiesData}
+use Rattle.gm_state.proofs.Finding.{any_from, found_none, not_both}
+use Rattle.gm_state.proofs.Order.{same_from}
+use Rattle.gm_state.proofs.Claiming.{some_there}
 use Rattle.gm_state.proofs.Testing.{member}
 use Rattle.gm_state.proofs.Words.{one}
-use Rattle.gm_apply.specs.Continues.{AreThere, CopiesData}
 use Rattle.gm_apply.proofs.Lists.{or_true, copy_range}
 use Rattle.gm_apply.proofs.Sectors.{copies_on}
 
@@ -48,14 +49,14 @@ data_not_last (Some x) n j m e room low =
     let h : x ≡ n = cc in
     elim (eqb_tells x (j + 1)) [ inl y ↦ absurd (let f : ⊥ = omega (arith, h, y.1) in f) | inr y ↦ y.0 ]
 
-one_of : {X : Type 0} (xs : List X) → length xs ≤ 1 → (a b : X) → Has xs a → Has xs b → a ≡ b
+pub one_of : {X : Type 0} (xs : List X) → length xs ≤ 1 → (a b : X) → Has xs a → Has xs b → a ≡ b
 one_of [] few a b h g = absurd h
 one_of (x ∷ []) few a b (inl h) (inl g) = sym h ∙ g
 one_of (x ∷ []) few a b (inl h) (inr g) = absurd g
 one_of (x ∷ []) few a b (inr h) g = absurd h
 one_of (x ∷ y ∷ xs) few a b h g = absurd (let f : ⊥ = omega (arith, few) in f)
 
-copies_kept : (ts : List Intent) (s t : List ℕ) (a b : ℕ) → Has ts (Copy s t a b) → Has (filter is_copy ts) (Copy s t a b)
+pub copies_kept : (ts : List Intent) (s t : List ℕ) (a b : ℕ) → Has ts (Copy s t a b) → Has (filter is_copy ts) (Copy s t a b)
 copies_kept [] s t a b h = h
 copies_kept (Meta p ∷ ts) s t a b (inl e) = cc
 copies_kept (Meta p ∷ ts) s t a b (inr h) = copies_kept ts s t a b h
@@ -64,77 +65,88 @@ copies_kept (Clear p ∷ ts) s t a b (inr h) = copies_kept ts s t a b h
 copies_kept (Copy f g c d ∷ ts) s t a b (inl e) = inl e
 copies_kept (Copy f g c d ∷ ts) s t a b (inr h) = inr (copies_kept ts s t a b h)
 
-module _ (s : Records) (size : Sizes) (state : IsState s) (there : AreThere s size) where
+module _ (s : Records) (size : Sizes) (state : IsState s) (all : List Intent) (there : AreThere s all size) where
   -- what a readable copy writes and reads are data
-  module _ (f t : List ℕ) (a b : ℕ) (c : IsCopyWithin s f t a b) where
+  module _ (f t : List ℕ) (a b : ℕ) (c : IsCopyWithin s f t a b) (among : Has all (Copy f t a b)) where
+    target_size : size t ≡ Some c.to.sectors
+    target_size = subst (λ (q : List ℕ). size q ≡ Some c.to.sectors) c.target_is
+        (there c.mirror c.to c.to_is (any_from (touches c.to.provider) all (Copy f t a b) among (or_right (same_label f c.to.provider) (same_label t c.to.provider) (same_from t c.to.provider (sym c.target_is)))))
+
+    pub source_size : size f ≡ Some c.from.sectors
+    source_size = subst (λ (q : List ℕ). size q ≡ Some c.from.sectors) c.source_is
+        (there c.mirror c.from c.from_is (any_from (touches c.from.provider) all (Copy f t a b) among (or_left (same_label f c.from.provider) (same_label t c.from.provider) (same_from f c.from.provider (sym c.source_is)))))
+
     target_data : (j : ℕ) → j < b → is_last (size t) j ≡ false
     target_data j low =
         let room = (state.each c.mirror c.to_is.mirror).sizes c.to c.to_is.component in
         let within = c.within in
-        data_not_last (size t) c.to.sectors j c.mirror.data_sectors (subst (λ (q : List ℕ). size q ≡ Some c.to.sectors) c.target_is (there c.mirror c.to c.to_is)) room (omega (arith, within, low))
+        data_not_last (size t) c.to.sectors j c.mirror.data_sectors target_size room (omega (arith, within, low))
 
     source_data : (j : ℕ) → j < b → is_last (size f) j ≡ false
     source_data j low =
         let room = (state.each c.mirror c.from_is.mirror).sizes c.from c.from_is.component in
         let within = c.within in
-        data_not_last (size f) c.from.sectors j c.mirror.data_sectors (subst (λ (q : List ℕ). size q ≡ Some c.from.sectors) c.source_is (there c.mirror c.from c.from_is)) room (omega (arith, within, low))
+        data_not_last (size f) c.from.sectors j c.mirror.data_sectors source_size room (omega (arith, within, low))
 
-    no_last : (q : List ℕ) (j : ℕ) → copies (Copy f t a b) q j ≡ true → is_last (size q) j ≡ false
+    pub no_last : (q : List ℕ) (j : ℕ) → copies (Copy f t a b) q j ≡ true → is_last (size q) j ≡ false
     no_last q j e = subst (λ (p : List ℕ). is_last (size p) j ≡ false) (sym (copies_on f t a b q j e)) (target_data j (copy_range f t a b q j e).1)
 
   on_last : (p q : List ℕ) (j : ℕ) → (same_label p q && is_last (size q) j) ≡ true → p ≡ q
   on_last p q j e = elim (label_tells p q) [ inl same ↦ same.1 | inr other ↦ (let h = rw other.0 at e in cc) ]
 
-  pub in_order : (ts : List Intent) → ((t : Intent) → Has ts t → IsReadable s t) → AreOrdered ts → InOrder size ts
-  in_order [] each ordered = tt
-  in_order (Meta p ∷ ts) each ordered = (
+  pub in_order : (ts : List Intent) → ((t : Intent) → Has ts t → IsReadable s t) → ((t : Intent) → Has ts t → Has all t) → AreOrdered ts → InOrder size ts
+  in_order [] each among ordered = tt
+  in_order (Meta p ∷ ts) each among ordered = (
     λ q j l n i. subst (λ (x : List ℕ). any_copies ts x i ≡ false) (on_last p q j n) (no_copy ts p ordered.0 i),
     λ q j e. absurd (let f : ⊥ = cc in f),
-    in_order ts (λ t h. each t (inr h)) ordered.1,
+    in_order ts (λ t h. each t (inr h)) (λ t h. among t (inr h)) ordered.1,
   )
-  in_order (Clear p ∷ ts) each ordered =
+  in_order (Clear p ∷ ts) each among ordered =
       let clear : IsReadable s (Clear p) = each (Clear p) (inl refl) in (
         λ q j l n i. subst (λ (x : List ℕ). any_copies ts x i ≡ false) (on_last p q j n) (no_copy ts p (no_component s ts p (λ t h. each t (inr h)) clear.1) i),
         λ q j e. absurd (let f : ⊥ = cc in f),
-        in_order ts (λ t h. each t (inr h)) ordered,
+        in_order ts (λ t h. each t (inr h)) (λ t h. among t (inr h)) ordered,
       )
-  in_order (Copy f t a b ∷ ts) each ordered =
+  in_order (Copy f t a b ∷ ts) each among ordered =
       let c : IsCopyWithin s f t a b = each (Copy f t a b) (inl refl) in (
-        λ q j l n i. not_both (is_last (size q) j) l (no_last f t a b c q j n),
-        λ q j e. no_last f t a b c q j e,
-        in_order ts (λ t h. each t (inr h)) ordered.1,
+        λ q j l n i. not_both (is_last (size q) j) l (no_last f t a b c (among (Copy f t a b) (inl refl)) q j n),
+        λ q j e. no_last f t a b c (among (Copy f t a b) (inl refl)) q j e,
+        in_order ts (λ t h. each t (inr h)) (λ t h. among t (inr h)) ordered.1,
       )
 
   -- no intent writes what a copy lends
-  not_lent : (ts : List Intent) (f t : List ℕ) (a b : ℕ) → IsCopyWithin s f t a b → ((x y : List ℕ) (z v : ℕ) → Has ts (Copy x y z v) → y ≢ f) → (j : ℕ) → j < b → is_place size ts f j ≡ false
-  not_lent [] f t a b c other j low = refl
-  not_lent (Meta p ∷ ts) f t a b c other j low = rw (source_data f t a b c j low, not_lent ts f t a b c (λ x y z v h. other x y z v (inr h)) j low) (and_none (same_label p f))
+  not_lent : (ts : List Intent) (f t : List ℕ) (a b : ℕ) → IsCopyWithin s f t a b → Has all (Copy f t a b) → ((x y : List ℕ) (z v : ℕ) → Has ts (Copy x y z v) → y ≢ f) → (j : ℕ) → j < b → is_place size ts f j ≡ false
+  not_lent [] f t a b c among other j low = refl
+  not_lent (Meta p ∷ ts) f t a b c among other j low = rw (source_data f t a b c among j low, not_lent ts f t a b c among (λ x y z v h. other x y z v (inr h)) j low) (and_none (same_label p f))
     where
       and_none : (b : Bool) → ((b && false) || false) ≡ false
       and_none true = refl
       and_none false = refl
-  not_lent (Clear p ∷ ts) f t a b c other j low = rw (source_data f t a b c j low, not_lent ts f t a b c (λ x y z v h. other x y z v (inr h)) j low) (and_none (same_label p f))
+  not_lent (Clear p ∷ ts) f t a b c among other j low = rw (source_data f t a b c among j low, not_lent ts f t a b c among (λ x y z v h. other x y z v (inr h)) j low) (and_none (same_label p f))
     where
       and_none : (b : Bool) → ((b && false) || false) ≡ false
       and_none true = refl
       and_none false = refl
-  not_lent (Copy x y z v ∷ ts) f t a b c other j low =
+  not_lent (Copy x y z v ∷ ts) f t a b c among other j low =
       elim (label_tells y f) [
         | inl same ↦ absurd (other x y z v (inl refl) same.1)
-        | inr apart ↦ rw (apart.0, not_lent ts f t a b c (λ x y z v h. other x y z v (inr h)) j low) refl
+        | inr apart ↦ rw (apart.0, not_lent ts f t a b c among (λ x y z v h. other x y z v (inr h)) j low) refl
       ]
 
-  pub lent : (ts : List Intent) → AreReadable s ts → (t : Intent) → Has ts t → Lends size ts t
-  lent ts readable (Meta p) h = tt
-  lent ts readable (Clear p) h = tt
-  lent ts readable (Copy f t a b) h = λ j low high.
-      let c : IsCopyWithin s f t a b = readable.each (Copy f t a b) h in
-      not_lent ts f t a b c
-      (λ x y z v g same.
-      let one : Copy x y z v ≡ Copy f t a b = one_of (filter is_copy ts) readable.one_copy (Copy x y z v) (Copy f t a b) (copies_kept ts x y z v g) (copies_kept ts f t a b h) in
-      let targets : y ≡ t = cc in
-      c.other (sym same ∙ targets))
-      j high
+  pub lent : (ts : List Intent) → ((t : Intent) → Has ts t → Has all t) → AreReadable s ts → (t : Intent) → Has ts t → Lends size ts t
+  lent ts among readable (Meta p) h = tt
+  lent ts among readable (Clear p) h = tt
+  lent ts among readable (Copy f t a b) h = (
+    some_there (size f) (readable.each (Copy f t a b) h).from.sectors (source_size f t a b (readable.each (Copy f t a b) h) (among (Copy f t a b) h)),
+    λ j low high.
+        let c : IsCopyWithin s f t a b = readable.each (Copy f t a b) h in
+        not_lent ts f t a b c (among (Copy f t a b) h)
+        (λ x y z v g same.
+        let one : Copy x y z v ≡ Copy f t a b = one_of (filter is_copy ts) readable.one_copy (Copy x y z v) (Copy f t a b) (copies_kept ts x y z v g) (copies_kept ts f t a b h) in
+        let targets : y ≡ t = cc in
+        c.other (sym same ∙ targets))
+        j high,
+  )
 
 -- a sector that is copied is one of some copy
 copied_by : (ts : List Intent) (p : List ℕ) (i : ℕ) → any_copies ts p i ≡ true → (t : Intent) × Has ts t × (copies t p i ≡ true)

@@ -6,8 +6,8 @@ use Rattle.gm_metadata.specs.Images.{Image, Same, put, same_label, label_tells, 
 use Rattle.gm_shelf.specs.Disk.{View, IsQuiet, IsWrite}
 use Rattle.gm_state.specs.declared.command.Intent.TheVariants.{Copy}
 use Rattle.gm_state.specs.Intents.{copies}
-use Rattle.gm_apply.specs.Redo.{laid, Going}
-use Rattle.gm_apply.proofs.Going.{going_write, going_quiet, laid_in, laid_out}
+use Rattle.gm_apply.specs.Redo.{with_places, IsUnderWay}
+use Rattle.gm_apply.proofs.UnderWay.{going_write, going_quiet, laid_in, laid_out}
 
 and_false : (b : Bool) → (b && false) ≡ false
 and_false true = refl
@@ -42,8 +42,8 @@ copies_more s t a i q j low =
 
 -- the sector that was read and written
 copies_seen : (s t : List ℕ) (a i : ℕ) (old mid new : Image) (v : List ℕ) → a ≤ i
-    → Same mid (laid (copies (Copy s t a i)) (λ q j. old s j) old) → v ≡ mid s i → Same new (put t i v mid)
-    → Same new (laid (copies (Copy s t a (i + 1))) (λ q j. old s j) old)
+    → Same mid (with_places (copies (Copy s t a i)) (λ q j. old s j) old) → v ≡ mid s i → Same new (put t i v mid)
+    → Same new (with_places (copies (Copy s t a (i + 1))) (λ q j. old s j) old)
 copies_seen s t a i old mid new v low so_far read written q j =
     let source : mid s i ≡ old s i = so_far s i ∙ laid_out (copies (Copy s t a i)) (λ q j. old s j) old s i (copies_none s t a i s i (omega arith)) in
     written q j ∙ elim (cases_Bool (same_label q t && (j == i))) [
@@ -61,23 +61,23 @@ copies_seen s t a i old mid new v low so_far read written q j =
     on_place e = elim (cases_Bool (same_label q t)) [ inl y ↦ eqb-true j i (rw y at e) | inr n ↦ (let h = rw n at e in cc) ]
 
 module _ (s t : List ℕ) (a b i : ℕ) (low : a ≤ i) (old cur mid : View) (v : List ℕ) where
-  copied_value : Same cur.seen (laid (copies (Copy s t a i)) (λ q j. old.seen s j) old.seen) → v ≡ cur.seen s i → old.seen s i ≡ v
+  copied_value : Same cur.seen (with_places (copies (Copy s t a i)) (λ q j. old.seen s j) old.seen) → v ≡ cur.seen s i → old.seen s i ≡ v
   copied_value so_far read = sym (read ∙ so_far s i ∙ laid_out (copies (Copy s t a i)) (λ q j. old.seen s j) old.seen s i (copies_none s t a i s i (omega arith)))
 
-  pub copy_going : (new : View) → i < b → Going (copies (Copy s t a b)) (λ q j. old.seen s j) old cur
-      → Same cur.seen (laid (copies (Copy s t a i)) (λ q j. old.seen s j) old.seen) → IsQuiet cur mid → v ≡ cur.seen s i → IsWrite t i v mid new
-      → Going (copies (Copy s t a b)) (λ q j. old.seen s j) old new
+  pub copy_going : (new : View) → i < b → IsUnderWay (copies (Copy s t a b)) (λ q j. old.seen s j) old cur
+      → Same cur.seen (with_places (copies (Copy s t a i)) (λ q j. old.seen s j) old.seen) → IsQuiet cur mid → v ≡ cur.seen s i → IsWrite t i v mid new
+      → IsUnderWay (copies (Copy s t a b)) (λ q j. old.seen s j) old new
   copy_going new high going seen quiet read law =
       going_write (copies (Copy s t a b)) (λ q j. old.seen s j) old mid new t i v (copies_here s t a b i low high) (copied_value seen read)
       (going_quiet (copies (Copy s t a b)) (λ q j. old.seen s j) old cur mid going quiet) law
 
-  pub copy_seen : (new : View) → Same cur.seen (laid (copies (Copy s t a i)) (λ q j. old.seen s j) old.seen) → IsQuiet cur mid → v ≡ cur.seen s i → Same new.seen (put t i v mid.seen)
-      → Same new.seen (laid (copies (Copy s t a (i + 1))) (λ q j. old.seen s j) old.seen)
+  pub copy_seen : (new : View) → Same cur.seen (with_places (copies (Copy s t a i)) (λ q j. old.seen s j) old.seen) → IsQuiet cur mid → v ≡ cur.seen s i → Same new.seen (put t i v mid.seen)
+      → Same new.seen (with_places (copies (Copy s t a (i + 1))) (λ q j. old.seen s j) old.seen)
   copy_seen new seen quiet read written =
       copies_seen s t a i old.seen mid.seen new.seen v low (λ q j. quiet.seen q j ∙ seen q j) (read ∙ sym (quiet.seen s i)) written
 
 -- before the first sector
-pub laid_none : (s t : List ℕ) (a : ℕ) (old : Image) → Same old (laid (copies (Copy s t a a)) (λ q j. old s j) old)
+pub laid_none : (s t : List ℕ) (a : ℕ) (old : Image) → Same old (with_places (copies (Copy s t a a)) (λ q j. old s j) old)
 laid_none s t a old q j = sym (laid_out (copies (Copy s t a a)) (λ k i. old s i) old q j (none a j))
   where
     empty : (a j : ℕ) → (nat_le a j && nat_lt j a) ≡ false
@@ -87,7 +87,7 @@ laid_none s t a old q j = sym (laid_out (copies (Copy s t a a)) (λ k i. old s i
     none a j = rw (empty a j) (and_false (same_label t q))
 
 -- behind the last
-pub laid_end : (s t : List ℕ) (a i b : ℕ) (old now : Image) → b ≤ i → (i ≤ b) ⊎ (i ≡ a) → Same now (laid (copies (Copy s t a i)) (λ q j. old s j) old) → Same now (laid (copies (Copy s t a b)) (λ q j. old s j) old)
+pub laid_end : (s t : List ℕ) (a i b : ℕ) (old now : Image) → b ≤ i → (i ≤ b) ⊎ (i ≡ a) → Same now (with_places (copies (Copy s t a i)) (λ q j. old s j) old) → Same now (with_places (copies (Copy s t a b)) (λ q j. old s j) old)
 laid_end s t a i b old now past reach so_far q j =
     so_far q j ∙ ap (λ (r : Bool). if r then old s j else old q j) (ap (λ (r : Bool). same_label t q && r) (same a i b j past reach))
   where

@@ -14,8 +14,8 @@ use Rattle.gm_state.specs.Lookups.{metadata, metadata_of, mirror_of, component_o
 use Rattle.gm_state.specs.Intents.{IsOf, is_last}
 use Rattle.gm_state.proofs.Finding.{find_one, not_both}
 use Rattle.gm_state.proofs.Testing.{member}
-use Rattle.gm_apply.specs.Redo.{Places, laid, Mix, Redone, Moments}
-use Rattle.gm_apply.proofs.Going.{laid_in, laid_out}
+use Rattle.gm_apply.specs.Redo.{Places, with_places, SomePlacesNew, PlacesAreNew, Moments}
+use Rattle.gm_apply.proofs.UnderWay.{laid_in, laid_out}
 
 -- the last sector of the provider is the one place
 abbrev pub last_of : Sizes → List ℕ → Places
@@ -26,14 +26,14 @@ module _ (place : Places) (w : Image) (none : (q : List ℕ) (j : ℕ) → place
   off : (q : List ℕ) (j : ℕ) → place q j ≡ false
   off q j = elim (cases_Bool (place q j)) [ inl e ↦ absurd (none q j e) | inr e ↦ e ]
 
-  pub nothing_redone : (v : View) → Redone place w v v
+  pub nothing_redone : (v : View) → PlacesAreNew place w v v
   nothing_redone v = record {
     seen = λ q j. sym (laid_out place w v.seen q j (off q j));
     left = λ x left. (x, left, λ q j. sym (laid_out place w x q j (off q j)));
   }
 
 module _ (size : Sizes) (p : List ℕ) (i : ℕ) (is : size p ≡ Some (i + 1)) where
-  here : last_of size p p i ≡ true
+  pub here : last_of size p p i ≡ true
   here = rw (label_refl p, is, itself i) refl
     where
       itself : (i : ℕ) → (i + 1 == i + 1) ≡ true
@@ -51,7 +51,7 @@ module _ (size : Sizes) (p : List ℕ) (i : ℕ) (is : size p ≡ Some (i + 1)) 
       ]
 
   module _ (s : List ℕ) (w : Image) (value : w p i ≡ s) where
-    put_laid : (d : Image) → Same (put p i s d) (laid (last_of size p) w d)
+    put_laid : (d : Image) → Same (put p i s d) (with_places (last_of size p) w d)
     put_laid d q j =
         elim (cases_Bool (last_of size p q j)) [
           | inl e ↦
@@ -77,14 +77,14 @@ module _ (size : Sizes) (p : List ℕ) (i : ℕ) (is : size p ≡ Some (i + 1)) 
               ]
             ]
 
-    torn_mix : (d x : Image) → Torn p i s d x → Mix (last_of size p) w d x
+    torn_mix : (d x : Image) → Torn p i s d x → SomePlacesNew (last_of size p) w d x
     torn_mix d x torn q j =
         ⊎_elim (λ (e : x q j ≡ d q j). inl e)
         (λ (h : IsPut p i s q j (x q j)). let a = h.provider in let b = h.place in let v = h.value in
         inr ((let r : last_of size p q j ≡ true = rw (a, b) here in r), (let r : x q j ≡ w q j = v ∙ sym value ∙ (let t : w p i ≡ w q j = rw (a, b) refl in t) in r)))
         (torn q j)
 
-    pub last_redone : (old new : View) → IsDone p i s old new → Redone (last_of size p) w old new
+    pub last_redone : (old new : View) → IsDone p i s old new → PlacesAreNew (last_of size p) w old new
     last_redone old new done = record {
       seen = λ q j. done.seen q j ∙ put_laid old.seen q j;
       left = λ x left. let from = done.left x left in (from.0, from.1, λ q j. from.2 q j ∙ put_laid from.0 q j);
@@ -96,20 +96,21 @@ module _ (size : Sizes) (p : List ℕ) (i : ℕ) (is : size p ≡ Some (i + 1)) 
       since = λ t x le left. ⊎_elim (λ before. inl before) (λ from. inr (from.0, from.1, torn_mix from.0 x from.2)) (moments.since t x le left);
     }
 
+-- a provider has a last sector, or none
+pub by_size : {X : Type 0} (size : Sizes) (p : List ℕ) (o : Option ℕ) → size p ≡ o → ((size p ≡ None) ⊎ (size p ≡ Some 0) → X) → ((i : ℕ) → size p ≡ Some (i + 1) → X) → X
+by_size size p None e none some = none (inl e)
+by_size size p (Some zero) e none some = none (inr e)
+by_size size p (Some (suc i)) e none some = some i (e ∙ ap Some (omega arith))
+
 -- a write of the last sector with what its intent says
 module _ (size : Sizes) (p s : List ℕ) (w : Image) (says : (q : List ℕ) (j : ℕ) → last_of size p q j ≡ true → w q j ≡ s) (old new : View) where
-  by_size : {X : Type 0} (o : Option ℕ) → size p ≡ o → ((size p ≡ None) ⊎ (size p ≡ Some 0) → X) → ((i : ℕ) → size p ≡ Some (i + 1) → X) → X
-  by_size None e none some = none (inl e)
-  by_size (Some zero) e none some = none (inr e)
-  by_size (Some (suc i)) e none some = some i (e ∙ ap Some (omega arith))
-
-  pub done_step : (size p ≡ None → ⊥) → (size p ≡ Some 0 → ⊥) → ((i : ℕ) → size p ≡ Some (i + 1) → IsDone p i s old new) → Redone (last_of size p) w old new
+  pub done_step : (size p ≡ None → ⊥) → (size p ≡ Some 0 → ⊥) → ((i : ℕ) → size p ≡ Some (i + 1) → IsDone p i s old new) → PlacesAreNew (last_of size p) w old new
   done_step there full done =
-      by_size (size p) refl (⊎_elim (λ e. absurd (there e)) (λ e. absurd (full e)))
+      by_size size p (size p) refl (⊎_elim (λ e. absurd (there e)) (λ e. absurd (full e)))
       (λ i is. last_redone size p i is s w (says p i (here size p i is)) old new (done i is))
 
   pub moments_step : ((size p ≡ None) ⊎ (size p ≡ Some 0) → Moments (last_of size p) w old new) → ((i : ℕ) → size p ≡ Some (i + 1) → OldOrNew p i s old new) → Moments (last_of size p) w old new
-  moments_step nothing moments = by_size (size p) refl nothing (λ i is. last_moments size p i is s w (says p i (here size p i is)) old new (moments i is))
+  moments_step nothing moments = by_size size p (size p) refl nothing (λ i is. last_moments size p i is s w (says p i (here size p i is)) old new (moments i is))
 
 -- the metadata of a component are found by its provider
 pub metadata_found : (s : Records) → IsState s → (m : Mirror) (k : Component) → IsOf s m k → metadata_of s k.provider ≡ Some (metadata m k)

@@ -1,12 +1,12 @@
 //! Carries out intents one after another.
 
-ghost use Rattle.std.specs.Prelude.{◌≡◌, ◌≤◌, ◌<◌, ◌⊎◌, ℕ, List, true, OnOk, IsErrOf};
+ghost use Rattle.std.specs.Prelude.{◌≡◌, ◌≤◌, ◌<◌, ◌⊎◌, OnOk, IsErrOf};
 ghost use Rattle.gm_metadata.specs.Images.{Image};
 ghost use Rattle.gm_shelf.specs.Disk.{From};
 ghost use Rattle.gm_state.specs.Words.{Has};
-ghost use Rattle.gm_state.specs.Intents.{names, is_place, Says, IsRedo};
+ghost use Rattle.gm_state.specs.Intents.{names, is_place, IsRedo};
 ghost use Rattle.gm_state.specs.declared.command.Intent.{Intent};
-ghost use Rattle.gm_apply.specs.Redo.{Partly, Leaves, Redone, Moments, LacksProvider, LacksSector};
+ghost use Rattle.gm_apply.specs.Redo.{IsPartlyDone, CrashLeaves, PlacesAreNew, Moments, KeepsOthers, IsSaid, writes, is_written, LacksProvider, LacksSector};
 
 use crate::copying::copy_sectors;
 use gm_shelf::{Shelf, ShelfFault, write_last, write_meta};
@@ -14,11 +14,13 @@ use gm_state::{Intent, State, metadata_of};
 
 fn apply_one<H: Shelf>(shelf: &mut H, state: &State, intent: &Intent) -> Result<(), ShelfFault>
     ensures done { H.honest shelf.old → (w : Image)
-        → ((q : List ℕ) (j : ℕ) → names (H.size shelf.old) intent.now q j ≡ true → Says state.now (H.view shelf.old).seen intent.now j (w q j))
-        → OnOk result (Redone (names (H.size shelf.old) intent.now) w (H.view shelf.old) (H.view shelf.new)) }
+        → IsSaid state.now (H.size shelf.old) intent.now (H.view shelf.old).seen w
+        → OnOk result (PlacesAreNew (names (H.size shelf.old) intent.now) w (H.view shelf.old) (H.view shelf.new)) }
     ensures moments { H.honest shelf.old → (w : Image)
-        → ((q : List ℕ) (j : ℕ) → names (H.size shelf.old) intent.now q j ≡ true → Says state.now (H.view shelf.old).seen intent.now j (w q j))
+        → IsSaid state.now (H.size shelf.old) intent.now (H.view shelf.old).seen w
         → Moments (names (H.size shelf.old) intent.now) w (H.view shelf.old) (H.view shelf.new) }
+    ensures others { H.honest shelf.old →
+        KeepsOthers (writes state.now (H.size shelf.old) intent.now) (H.view shelf.old) (H.view shelf.new) }
 
     ensures absent { IsErrOf result ShelfFault.Absent → LacksProvider (H.size shelf.old) intent.now }
     ensures range { IsErrOf result ShelfFault.Range → LacksSector (H.size shelf.old) intent.now }
@@ -54,12 +56,16 @@ pub fn apply<H: Shelf>(shelf: &mut H, state: &State, intents: &[Intent]) -> Resu
     // At Ok each place holds what its intent says, also in every image that a crash may leave, and all else is as before.
     ensures done { H.honest shelf.old → OnOk result ((w : Image)
         → IsRedo state.now (H.size shelf.old) intents.now (H.view shelf.old).seen w
-        → Redone (is_place (H.size shelf.old) intents.now) w (H.view shelf.old) (H.view shelf.new)) }
+        → PlacesAreNew (is_place (H.size shelf.old) intents.now) w (H.view shelf.old) (H.view shelf.new)) }
     // At every moment of the call a crash leaves a part of that, with data before claims.
     ensures moments { H.honest shelf.old → (w : Image)
         → IsRedo state.now (H.size shelf.old) intents.now (H.view shelf.old).seen w
-        → Leaves (H.view shelf.old) (H.view shelf.new)
-        (λ x. From (H.view shelf.old).may_leave (λ d. Partly (H.size shelf.old) intents.now w d x)) }
+        → CrashLeaves (H.view shelf.old) (H.view shelf.new)
+        (λ x. From (H.view shelf.old).may_leave (λ d. IsPartlyDone (H.size shelf.old) intents.now w d x)) }
+
+    // Whatever the intents are: no sector is touched but those that they write.
+    ensures others { H.honest shelf.old → KeepsOthers
+        (is_written state.now (H.size shelf.old) intents.now) (H.view shelf.old) (H.view shelf.new) }
 
     ensures absent { IsErrOf result ShelfFault.Absent →
         (t : Intent) × Has intents.now t × LacksProvider (H.size shelf.old) t }

@@ -3,7 +3,7 @@
 ghost use Rattle.std.specs.Prelude.{◌≡◌, ◌≤◌, ◌<◌, ◌⊎◌, ℕ, Some, None, OnOk, IsErrOf, IsSomeAnd};
 ghost use Rattle.gm_state.specs.declared.command.Intent.TheVariants.{Copy};
 ghost use Rattle.gm_state.specs.Intents.{copies};
-ghost use Rattle.gm_apply.specs.Redo.{Redone, Moments};
+ghost use Rattle.gm_apply.specs.Redo.{PlacesAreNew, Moments, KeepsOthers};
 
 use gm_metadata::Label;
 use gm_shelf::{Shelf, ShelfFault};
@@ -16,10 +16,12 @@ pub(crate) fn copy_sectors<H: Shelf>(
     first: u64,
     end: u64,
 ) -> Result<(), ShelfFault>
-    ensures done { H.honest shelf.old → OnOk result (Redone (copies (Copy source target first end))
+    ensures done { H.honest shelf.old → OnOk result (PlacesAreNew (copies (Copy source target first end))
         (λ q j. (H.view shelf.old).seen source j) (H.view shelf.old) (H.view shelf.new)) }
     ensures moments { H.honest shelf.old → Moments (copies (Copy source target first end))
         (λ q j. (H.view shelf.old).seen source j) (H.view shelf.old) (H.view shelf.new) }
+    ensures others { H.honest shelf.old →
+        KeepsOthers (copies (Copy source target first end)) (H.view shelf.old) (H.view shelf.new) }
 
     ensures absent { IsErrOf result ShelfFault.Absent →
         (H.size shelf.old source ≡ None) ⊎ (H.size shelf.old target ≡ None) }

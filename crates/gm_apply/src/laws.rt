@@ -1,31 +1,53 @@
 //! What follows of the images that are left on the way: laws, each the contract of a function that does nothing.
 
-ghost use Rattle.std.specs.Prelude.{◌≡◌, ℕ, List};
-ghost use Rattle.gm_metadata.specs.Images.{Image, Sizes, Same};
+ghost use Rattle.std.specs.Prelude.{◌≡◌, ℕ, List, true};
+ghost use Rattle.gm_metadata.specs.Images.{Image, Sizes, Same, SameThere};
 ghost use Rattle.gm_state.specs.declared.command.Intent.{Intent};
 ghost use Rattle.gm_state.specs.Words.{Has};
 ghost use Rattle.gm_state.specs.Records.{Records, IsState};
-ghost use Rattle.gm_state.specs.Intents.{is_place, AllSay, Lends, Agrees, IsRedo, InOrder};
+ghost use Rattle.gm_state.specs.Intents.{names, is_place, Says, AllSay, Lends, Agrees, IsRedo, InOrder, AreThere, LeadSomewhere};
 ghost use Rattle.gm_state.specs.Readable.{AreReadable};
-ghost use Rattle.gm_state.specs.World.{World, Sound, Claims};
-ghost use Rattle.gm_apply.specs.Redo.{laid, Partly};
-ghost use Rattle.gm_apply.specs.Continues.{AreThere, CopiesData, Continues};
+ghost use Rattle.gm_state.specs.World.{World, Sound, Claims, CopiesData};
+ghost use Rattle.gm_apply.specs.Redo.{with_places, IsPartlyDone};
+ghost use Rattle.gm_apply.specs.Continues.{Continues};
 
 /// The intents lead every image that they leave on the way to where they led before.
 pub fn every_image_leads_on()
-    ensures part { (s : Records) (size : Sizes) (ts : List Intent) (w d x : Image) → IsRedo s size ts d w → Partly size ts w d x → IsRedo s size ts x w }
-    ensures end { (s : Records) (size : Sizes) (ts : List Intent) (w d x : Image) → IsRedo s size ts d w → Same x (laid (is_place size ts) w d) → Same x w }
+    ensures part { (s : Records) (size : Sizes) (ts : List Intent) (w d x : Image) → IsRedo s size ts d w
+        → IsPartlyDone size ts w d x → IsRedo s size ts x w }
+    ensures end { (s : Records) (size : Sizes) (ts : List Intent) (w d x : Image) → IsRedo s size ts d w
+        → Same x (with_places (is_place size ts) w d) → SameThere size x w }
 {}
 
 /// A claim that was true stays true on the way: data come before claims.
 pub fn true_claims_stay_true()
-    ensures { (u w : World) (ts : List Intent) (d x : Image) → Continues u w ts → InOrder u.size ts → Agrees u.size ts d w.shelf → Claims u d → Partly u.size ts w.shelf d x → Claims u x }
+    ensures { (u w : World) (ts : List Intent) (d x : Image) → Continues u w ts
+        → InOrder u.size ts → Agrees u.size ts d w.shelf → Claims u d
+        → IsPartlyDone u.size ts w.shelf d x → Claims u x }
 {}
 
 /// Intents that are readable for a state put data before claims, and no copy lends what another intent writes, where
-/// the components have their registered sizes. What they copy to a component is its mirror's data.
+/// the components that they read or write are there with their registered sizes. What they copy to a component is its
+/// mirror's data.
 pub fn readable_intents_are_safe()
-    ensures order { (s : Records) (size : Sizes) (ts : List Intent) → IsState s → AreReadable s ts → AreThere s size → InOrder size ts }
-    ensures lends { (s : Records) (size : Sizes) (ts : List Intent) → IsState s → AreReadable s ts → AreThere s size → (t : Intent) → Has ts t → Lends size ts t }
-    ensures data { (w : World) (size : Sizes) (ts : List Intent) → Sound w → AreReadable w.state ts → AllSay w.state size ts w.shelf → CopiesData w w ts }
+    ensures order { (s : Records) (size : Sizes) (ts : List Intent) → IsState s → AreReadable s ts
+        → AreThere s ts size → InOrder size ts }
+    ensures lends { (s : Records) (size : Sizes) (ts : List Intent) → IsState s → AreReadable s ts
+        → AreThere s ts size → (t : Intent) → Has ts t → Lends size ts t }
+    ensures data { (w : World) (size : Sizes) (ts : List Intent) → Sound w → AreReadable w.state ts
+        → AllSay w.state size ts w.shelf → CopiesData w w ts }
+{}
+
+/// Where two readable intents name one sector, they say the same of it: so it doesn't matter which comes last.
+pub fn one_sector_one_value()
+    ensures { (s : Records) (size : Sizes) (ts : List Intent) (t r : Intent) (q : List ℕ) (j : ℕ)
+        → IsState s → AreReadable s ts → AreThere s ts size → Has ts t → Has ts r
+        → names size t q j ≡ true → names size r q j ≡ true
+        → (w : Image) (x : List ℕ) → Says s w t j x → Says s w r j x }
+{}
+
+/// Readable intents lead somewhere from every image, where the components that they read or write are there.
+pub fn readable_intents_lead_somewhere()
+    ensures { (s : Records) (size : Sizes) (ts : List Intent) (x : Image) → IsState s → AreReadable s ts
+        → AreThere s ts size → LeadSomewhere s size ts x }
 {}

@@ -11,4 +11,7 @@ mod laws;
 mod tests;
 
 pub use applying::apply;
-pub use laws::{every_image_leads_on, readable_intents_are_safe, true_claims_stay_true};
+pub use laws::{
+    every_image_leads_on, one_sector_one_value, readable_intents_are_safe,
+    readable_intents_lead_somewhere, true_claims_stay_true,
+};

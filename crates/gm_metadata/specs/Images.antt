@@ -1,5 +1,5 @@
 -- What providers hold: the words for sectors that shelves and worlds share.
-use Rattle.std.specs.Prelude.{◌≡◌, ◌≢◌, ◌⊎◌, ℕ, List, Bool, true, false, ◌==◌, ◌&&◌, Option, replicate, if◌then◌else◌}
+use Rattle.std.specs.Prelude.{◌≡◌, ◌≢◌, ◌⊎◌, ℕ, List, Bool, true, false, ◌==◌, ◌&&◌, Option, IsSome, replicate, if◌then◌else◌}
 use Rattle.std.specs.Str.{bytes_eq}
 use Rattle.std.proofs.Common.{inl, inr, refl}
 use Rattle.std.proofs.lemmas.Slice.Eq.{bytes_eq-Decides}
@@ -17,6 +17,10 @@ Sizes = Label → Option ℕ
 -- two images hold the same
 abbrev pub Same : Image → Image → Type 0
 Same x y = (p : Label) (i : ℕ) → x p i ≡ y p i
+
+-- two images hold the same on the providers that are there
+abbrev pub SameThere : Sizes → Image → Image → Type 0
+SameThere size x y = (p : Label) → IsSome (size p) → (i : ℕ) → x p i ≡ y p i
 
 -- two labels are one: a label is its text
 abbrev pub same_label : Label → Label → Bool

@@ -79,12 +79,10 @@ adjusts_turns u m m' comps ks gone sound here a there cleared below = record {
 
 -- the mirror kept its data
 pub adjusts_were : (u : World) (m m' : Mirror) (comps ks : List Component) (sound : Sound u) (here : Has u.state.mirrors m) → Adjusts u.state m m' comps ks
-    → ((k : Component) → Has (members u.state.components m.name) k → u.size k.provider ≡ Some k.sectors)
     → Were u m' ks (u.holds m.name)
-adjusts_were u m m' comps ks sound here a there = record {
+adjusts_were u m m' comps ks sound here a = record {
   list_stays = λ b h e i. ap (λ (n : List ℕ). u.holds n i) (sym a.same_name);
   size_stays = λ b h e.
       let same : b ≡ m = one name u.state.mirrors sound.state.mirrors_in_order b m h here (e ∙ a.same_name) in
       ap (λ (x : Mirror). x.data_sectors) same ∙ sym a.same_data;
-  sizes = λ k h. there k (subst (λ (n : List ℕ). Has (members u.state.components n) k) a.same_name h);
 }

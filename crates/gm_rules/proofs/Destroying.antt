@@ -1,8 +1,10 @@
 -- The plan of destroy: the mirror goes with its components.
-use Rattle.std.proofs.Common.{◌≡◌, ◌≢◌, ◌∙◌, inl, inr, ℕ, ◌≤◌, Bool, false, not, refl, sym, ap, subst, arith, List, [], length, filter, Some}
+use Rattle.std.proofs.Common.{◌≡◌, ◌≢◌, ◌∙◌, inl, inr, ℕ, ◌≤◌, Bool, false, not, refl, sym, ap, subst, arith, List, [], length, filter, Some, IsTrue, ◌<◌, ◌+◌, true}
+use Rattle.std.specs.Prelude.{IsSomeAnd}
 use Rattle.std.specs.List.{list_any}
 use Rattle.std.proofs.lemmas.Bool.{cases_Bool, or_parts, not-true}
 use Rattle.gm_metadata.specs.Images.{same_label}
+use Rattle.gm_metadata.specs.Labels.{is_label}
 use Rattle.gm_state.specs.declared.command.Command.TheVariants.{Destroy}
 use Rattle.gm_state.specs.declared.command.Intent.TheVariants.{Clear}
 use Rattle.gm_state.specs.declared.records.Mirror.{Mirror}
@@ -10,7 +12,7 @@ use Rattle.gm_state.specs.declared.records.Component.{Component}
 use Rattle.gm_state.specs.Words.{Has, without}
 use Rattle.gm_state.specs.Records.{Records, IsState, IsMirror, members, name, provider}
 use Rattle.gm_state.specs.Lookups.{mirror_of}
-use Rattle.gm_state.specs.World.{World, Sound}
+use Rattle.gm_state.specs.World.{World, Sound, present}
 use Rattle.gm_state.proofs.Order.{same_is, same_from, same_refl, differ}
 use Rattle.gm_state.proofs.Words.{Has-filter, filter-Has, Ascends-filter, filter_swap, filter_id, length-filter_le, one}
 use Rattle.gm_rules.specs.declared.refusals.Refusal.TheVariants as refusals
@@ -20,11 +22,12 @@ use Rattle.gm_rules.specs.Step.{CanAnswer, HasPlan}
 use Rattle.gm_rules.specs.Worlds.{seen_of}
 use Rattle.gm_state.proofs.Finding.{any_from, some_any, no_members, not_both}
 use Rattle.gm_rules.proofs.Good.{there_from, named}
-use Rattle.gm_rules.proofs.Planned.{has}
+use Rattle.gm_state.proofs.Presence.{some_and}
+use Rattle.gm_rules.proofs.Planned.{Serves, has}
 use Rattle.gm_rules.proofs.RuledOut.{all_there, clears_has, clears_are, clears_plain}
 use Rattle.gm_rules.proofs.Turning.{Turns, Writes, Were}
 
-module _ (u : World) (key : List ℕ) (m : Mirror) (sound : Sound u) (here : Has u.state.mirrors m) (there : (k : Component) → Has (members u.state.components m.name) k → u.size k.provider ≡ Some k.sectors) where
+module _ (u : World) (key : List ℕ) (m : Mirror) (sound : Sound u) (here : Has u.state.mirrors m) (there : (k : Component) → Has (members u.state.components m.name) k → present u k.provider ≡ Some k.sectors) where
   abbrev old : List Component
   old = members u.state.components m.name
 
@@ -109,12 +112,26 @@ module _ (u : World) (key : List ℕ) (m : Mirror) (sound : Sound u) (here : Has
   were = record {
     list_stays = λ a h e i. refl;
     size_stays = λ a h e. ap (λ (x : Mirror). x.data_sectors) (one name u.state.mirrors sound.state.mirrors_in_order a m h here e);
-    sizes = there;
+  }
+
+  rules : IsMirror m old
+  rules = sound.state.each m here
+
+  -- what is cleared is a component of the mirror
+  of_old : (P : List ℕ → Type 0) → ((k : Component) → Has old k → P k.provider) → (q : List ℕ) → gone q ≡ true → P q
+  of_old P each q e = let some = some_any (λ (k : Component). same_label k.provider q) old e in subst P (same_is some.0.provider q some.2) (each some.0 some.1)
+
+  serves : Serves u (Destroy m.name) []
+  serves = record {
+    written = λ k h. absurd h;
+    cleared = of_old (λ q. IsSomeAnd (present u q) (λ x. 0 < x)) (λ k h. some_and (present u k.provider) k.sectors (λ x. 0 < x) (there k h) (let b : m.data_sectors + 1 ≤ k.sectors = rules.sizes k h in omega arith));
+    labels = of_old (λ q. IsTrue (is_label q)) (λ k h. (rules.members_fit k h).provider);
+    reply = tt;
   }
 
   pub destroy_plan : IsGood u.state (seen_of u) (Destroy m.name) → CanAnswer u key (Destroy m.name) → HasPlan u key (Destroy m.name)
   destroy_plan good answer =
-      has u key (Destroy m.name) m [] (u.holds m.name) s (clears_of old) sound turns writes were (clears_plain old) answer
+      has u key (Destroy m.name) m [] (u.holds m.name) s (clears_of old) sound turns writes were (clears_plain old) serves answer
       refl refl good tt (λ j i. inl (Has-filter stays u.state.components j i).0)
 
 pub destroy_has : (u : World) (key n : List ℕ) → Sound u → CanAnswer u key (Destroy n) → IsGood u.state (seen_of u) (Destroy n) → HasPlan u key (Destroy n)
@@ -124,4 +141,4 @@ destroy_has u key n sound answer good =
     let absent = or_parts false (list_any _ (members u.state.components n)) (good refusals.Absent (inr (inl refl))) in
     let P : List ℕ → Type 0 = λ a. CanAnswer u key (Destroy a) → IsGood u.state (seen_of u) (Destroy a) → HasPlan u key (Destroy a) in
     subst P at.1 (λ answer good. destroy_plan u key found.0 sound at.0
-    (λ k h. all_there u.size (members u.state.components n) absent.1 k (subst (λ (a : List ℕ). Has (members u.state.components a) k) at.1 h)) good answer) answer good
+    (λ k h. all_there (present u) (members u.state.components n) absent.1 k (subst (λ (a : List ℕ). Has (members u.state.components a) k) at.1 h)) good answer) answer good

@@ -1,5 +1,6 @@
 -- The plan of insert.
 use Rattle.std.proofs.Common.{◌≡◌, ◌≢◌, inl, inr, ⊎_elim, ℕ, ◌<◌, ◌≤◌, ◌+◌, ◌-◌, ◌==◌, Bool, false, nat_lt, refl, sym, ap, subst, arith, List, [], ◌∷◌, Some, length, is_none, is_some}
+use Rattle.std.specs.Prelude.{IsSomeAnd}
 use Rattle.std.specs.List.{list_any}
 use Rattle.std.proofs.lemmas.Bool.{or_parts}
 use Rattle.gm_metadata.specs.Images.{same_label}
@@ -11,7 +12,7 @@ use Rattle.gm_state.specs.declared.records.Disk.TheVariants.{Inactive}
 use Rattle.gm_state.specs.Words.{Has, put}
 use Rattle.gm_state.specs.Records.{Records, IsMirror, ComponentFits, held_by, held_of, members, provider}
 use Rattle.gm_state.specs.Lookups.{mirror_of, component_of}
-use Rattle.gm_state.specs.World.{World, Sound, Below}
+use Rattle.gm_state.specs.World.{World, Sound, Below, present}
 use Rattle.gm_state.proofs.Order.{same_from, same_refl, differ}
 use Rattle.gm_state.proofs.Words.{Has-filter, filter-put, filter-put_out, put_stays, put_or, Ascends-put, length-put_le}
 use Rattle.gm_rules.specs.declared.refusals.Refusal.TheVariants as refusals
@@ -24,20 +25,21 @@ use Rattle.gm_rules.specs.Worlds.{seen_of, last_of}
 use Rattle.gm_rules.proofs.Adjusting.{Adjusts, adjusts_turns, adjusts_were, adjusted}
 use Rattle.gm_state.proofs.Finding.{any_one, none_any, not_both}
 use Rattle.gm_rules.proofs.Good.{there_from, none_from, named, new_name, at_fails, not_below, not_at, right_size}
-use Rattle.gm_rules.proofs.Planned.{has}
+use Rattle.gm_state.proofs.Presence.{present_size, some_and}
+use Rattle.gm_rules.proofs.Planned.{Serves, has}
 use Rattle.gm_rules.proofs.RuledOut.{all_there, carries_nothing, metas_has, metas_are, metas_plain}
 use Rattle.gm_rules.proofs.Turning.{Turns, Writes}
 
 -- what the refusals of insert rule out
 record CanInsert (u : World) (m : Mirror) (p : List ℕ) (did sectors : ℕ) : Type 0 where
   here : Has u.state.mirrors m
-  size : u.size p ≡ Some sectors
+  size : present u p ≡ Some sectors
   fresh : (k : Component) → Has u.state.components k → same_label k.provider p ≡ false
   big : m.data_sectors + 1 ≤ sectors
   limit : sectors ≤ 1048576
   dids : (k : Component) → Has (members u.state.components m.name) k → k.did ≢ did
   room : m.all < 16
-  there : (k : Component) → Has (members u.state.components m.name) k → u.size k.provider ≡ Some k.sectors
+  there : (k : Component) → Has (members u.state.components m.name) k → present u k.provider ≡ Some k.sectors
   bare : carries (u.shelf p (sectors - 1)) ≡ false
 
 module _ (u : World) (key : List ℕ) (m : Mirror) (p : List ℕ) (did priority : ℕ) (h : Bool) (sectors : ℕ) (sound : Sound u) (can : CanInsert u m p did sectors) (fits : ComponentFits (spare m p did priority h sectors)) where
@@ -103,7 +105,7 @@ module _ (u : World) (key : List ℕ) (m : Mirror) (p : List ℕ) (did priority 
 
   turns : Turns u u.shelf m' ks (λ q. false) (u.holds m.name) s
   turns = adjusts_turns u m m' comps ks (λ q. false) sound can.here adjusts
-      (each (λ j. u.size j.provider ≡ Some j.sectors) can.size can.there)
+      (each (λ j. u.size j.provider ≡ Some j.sectors) (present_size u p sectors can.size) (λ j o. present_size u j.provider j.sectors (can.there j o)))
       (λ j i. refl)
       (each (λ j. Below u.shelf (u.holds m.name) j.provider (held_by j.disk m.data_sectors)) (λ i l. absurd (omega arith)) (λ j o. sound.whole m j (record { mirror = can.here; component = o })))
 
@@ -115,9 +117,19 @@ module _ (u : World) (key : List ℕ) (m : Mirror) (p : List ℕ) (did priority 
     copied = λ q j e. refl;
   }
 
+  serves : (n : List ℕ) → Serves u (Insert n p did priority h) ks
+  serves n = record {
+    written = each (λ j. IsSomeAnd (present u j.provider) (λ x. 0 < x))
+        (some_and (present u p) sectors (λ x. 0 < x) can.size (let b : m.data_sectors + 1 ≤ sectors = can.big in omega arith))
+        (λ j o. some_and (present u j.provider) j.sectors (λ x. 0 < x) (can.there j o) (let b : m.data_sectors + 1 ≤ j.sectors = rules.sizes j o in omega arith));
+    cleared = λ q e. absurd (let f : ⊥ = cc in f);
+    labels = λ q e. absurd (let f : ⊥ = cc in f);
+    reply = tt;
+  }
+
   insert_plan : (n : List ℕ) → mirror_of u.state n ≡ Some m → IsGood u.state (seen_of u) (Insert n p did priority h) → CanAnswer u key (Insert n p did priority h) → HasPlan u key (Insert n p did priority h)
   insert_plan n found good answer =
-      has u key (Insert n p did priority h) m' ks (u.holds m.name) s (metas ks) sound turns writes (adjusts_were u m m' comps ks sound can.here adjusts can.there) (metas_plain ks) answer
+      has u key (Insert n p did priority h) m' ks (u.holds m.name) s (metas ks) sound turns writes (adjusts_were u m m' comps ks sound can.here adjusts) (metas_plain ks) (serves n) answer
       (rw (found, can.size) refl)
       (let at : members comps n ≡ ks = rw (← (named u.state n m found).1) adjusts.mine in ap metas (sym at))
       good tt
@@ -130,13 +142,13 @@ can_insert u n p did priority h sound good =
     let found = there_from (mirror_of u.state n) (good refusals.NoMirror (inl refl)) in
     let m : Mirror = found.0 in
     let at_n = named u.state n m found.1 in
-    let absent = or_parts (list_any (λ q. is_none (u.size q)) (p ∷ [])) _ (good refusals.Absent (inr (inl refl))) in
-    let size = there_from (u.size p) (any_one (λ q. is_none (u.size q)) p absent.0) in
+    let absent = or_parts (list_any (λ q. is_none (present u q)) (p ∷ [])) _ (good refusals.Absent (inr (inl refl))) in
+    let size = there_from (present u p) (any_one (λ q. is_none (present u q)) p absent.0) in
     let sectors : ℕ = size.0 in
-    let wrong : at (u.size p) has_wrong_size ≡ false = any_one (λ q. at (u.size q) has_wrong_size) p (good refusals.WrongSize (inr (inr (inr (inr (inr (inr (inr (inr (inl refl)))))))))) in
-    let range = right_size sectors (at_fails (u.size p) sectors has_wrong_size size.1 wrong) in
-    let small : at (u.size p) (λ n. nat_lt n (m.data_sectors + 1)) ≡ false = any_one (λ q. at (u.size q) (λ n. nat_lt n (m.data_sectors + 1))) p
-    (at_fails (mirror_of u.state n) m (λ a. list_any (λ q. at (u.size q) (λ n. nat_lt n (a.data_sectors + 1))) (p ∷ [])) found.1 (good refusals.TooSmall (inr (inr (inr (inr (inl refl))))))) in
+    let wrong : at (present u p) has_wrong_size ≡ false = any_one (λ q. at (present u q) has_wrong_size) p (good refusals.WrongSize (inr (inr (inr (inr (inr (inr (inr (inr (inl refl)))))))))) in
+    let range = right_size sectors (at_fails (present u p) sectors has_wrong_size size.1 wrong) in
+    let small : at (present u p) (λ n. nat_lt n (m.data_sectors + 1)) ≡ false = any_one (λ q. at (present u q) (λ n. nat_lt n (m.data_sectors + 1))) p
+    (at_fails (mirror_of u.state n) m (λ a. list_any (λ q. at (present u q) (λ n. nat_lt n (a.data_sectors + 1))) (p ∷ [])) found.1 (good refusals.TooSmall (inr (inr (inr (inr (inl refl))))))) in
     let full : (m.all == 16) ≡ false = at_fails (mirror_of u.state n) m (λ a. a.all == 16) found.1 (good refusals.Full (inr (inr (inr (inr (inr (inr (inl refl)))))))) in
     let all : m.all ≤ 16 = (sound.state.each m at_n.0).all in
     let apart : m.all ≢ 16 = not_at m.all 16 full in
@@ -148,11 +160,11 @@ can_insert u n p did priority h sound good =
         here = at_n.0;
         size = size.1;
         fresh = new_name u.state p (none_from (component_of u.state p) (any_one (λ q. is_some (component_of u.state q)) p (good refusals.ProviderTaken (inr (inr (inl refl))))));
-        big = not_below sectors (m.data_sectors + 1) (at_fails (u.size p) sectors (λ n. nat_lt n (m.data_sectors + 1)) size.1 small);
+        big = not_below sectors (m.data_sectors + 1) (at_fails (present u p) sectors (λ n. nat_lt n (m.data_sectors + 1)) size.1 small);
         limit = range.1;
         dids = λ k o. not_at k.did did (none_any _ (members u.state.components n) (good refusals.DidTaken (inr (inr (inr (inr (inr (inl refl))))))) k (subst (λ (a : List ℕ). Has (members u.state.components a) k) at_n.1 o));
         room = omega arith;
-        there = λ k o. all_there u.size (members u.state.components n) absent.1 k (subst (λ (a : List ℕ). Has (members u.state.components a) k) at_n.1 o);
+        there = λ k o. all_there (present u) (members u.state.components n) absent.1 k (subst (λ (a : List ℕ). Has (members u.state.components a) k) at_n.1 o);
         bare = carries_nothing u p sectors size.1 (omega arith) (any_one (λ q. last_carries (last_of u q)) p (good refusals.CarriesMetadata (inr (inr (inr (inl refl))))));
       },
     )

@@ -1,5 +1,6 @@
 -- The plan of label.
 use Rattle.std.proofs.Common.{◌≡◌, ◌≢◌, ◌∙◌, ◌⊎◌, inl, inr, ⊎_elim, ℕ, ◌<◌, ◌≤◌, ◌+◌, ◌-◌, Bool, false, refl, sym, ap, subst, arith, List, [], ◌∷◌, Some, None, length, is_none, is_some}
+use Rattle.std.specs.Prelude.{IsSomeAnd}
 use Rattle.std.specs.List.{list_any}
 use Rattle.std.proofs.lemmas.Bool.{or_parts}
 use Rattle.gm_metadata.specs.Images.{same_label}
@@ -13,7 +14,7 @@ use Rattle.gm_state.specs.declared.records.Disk.TheVariants.{Inactive}
 use Rattle.gm_state.specs.Words.{Has, put}
 use Rattle.gm_state.specs.Records.{Records, IsState, IsMirror, MirrorFits, ComponentFits, held_by, held_of, members, name, provider}
 use Rattle.gm_state.specs.Lookups.{mirror_of, component_of}
-use Rattle.gm_state.specs.World.{World, Sound, Below}
+use Rattle.gm_state.specs.World.{World, Sound, Below, present}
 use Rattle.gm_state.proofs.Order.{same_from, same_refl, differ}
 use Rattle.gm_state.proofs.Words.{filter-put, filter-put_out, put_there, put_stays, put_or, Ascends-put, length-put_le}
 use Rattle.gm_rules.specs.declared.refusals.Refusal.TheVariants as refusals
@@ -25,13 +26,14 @@ use Rattle.gm_rules.specs.Step.{CanAnswer, HasPlan}
 use Rattle.gm_rules.specs.Worlds.{seen_of, last_of}
 use Rattle.gm_state.proofs.Finding.{any_one, none_any, found_none, no_members, not_both}
 use Rattle.gm_rules.proofs.Good.{there_from, none_from, new_name, at_fails, not_at, right_size}
-use Rattle.gm_rules.proofs.Planned.{has}
+use Rattle.gm_state.proofs.Presence.{present_size, some_and}
+use Rattle.gm_rules.proofs.Planned.{Serves, has}
 use Rattle.gm_rules.proofs.RuledOut.{carries_nothing, metas_has, metas_are, metas_plain}
 use Rattle.gm_rules.proofs.Turning.{Turns, Writes, Were}
 
 -- what the refusals of label rule out
 record CanLabel (u : World) (n p : List ℕ) (mid sectors : ℕ) : Type 0 where
-  size : u.size p ≡ Some sectors
+  size : present u p ≡ Some sectors
   big : 2 ≤ sectors
   limit : sectors ≤ 1048576
   new : (a : Mirror) → Has u.state.mirrors a → a.name ≢ n
@@ -126,7 +128,7 @@ module _ (u : World) (key n p : List ℕ) (mid did : ℕ) (balance : BalanceWord
     mirror = each_mirror;
     mine = mine;
     others = others;
-    there = only (λ j. u.size j.provider ≡ Some j.sectors) can.size;
+    there = only (λ j. u.size j.provider ≡ Some j.sectors) (present_size u p sectors can.size);
     cleared = λ j i. refl;
     below = only (λ j. Below u.shelf list j.provider (held_by j.disk m.data_sectors)) (λ i l. refl);
     last = λ q j e. refl;
@@ -145,23 +147,30 @@ module _ (u : World) (key n p : List ℕ) (mid did : ℕ) (balance : BalanceWord
   were = record {
     list_stays = λ a i e j. absurd (can.new a i e);
     size_stays = λ a i e. absurd (can.new a i e);
-    sizes = λ j i. absurd (let g : Has [] j = subst (λ (l : List Component). Has l j) none i in g);
+  }
+
+  serves : Serves u (Label n p mid did balance slice flags h) ks
+  serves = record {
+    written = only (λ j. IsSomeAnd (present u j.provider) (λ x. 0 < x)) (some_and (present u p) sectors (λ x. 0 < x) can.size (let b : 2 ≤ sectors = can.big in omega arith));
+    cleared = λ q e. absurd (let f : ⊥ = cc in f);
+    labels = λ q e. absurd (let f : ⊥ = cc in f);
+    reply = tt;
   }
 
   label_plan : IsGood u.state (seen_of u) (Label n p mid did balance slice flags h) → CanAnswer u key (Label n p mid did balance slice flags h) → HasPlan u key (Label n p mid did balance slice flags h)
   label_plan good answer =
-      has u key (Label n p mid did balance slice flags h) m ks list s (metas ks) sound turns writes were (metas_plain ks) answer
+      has u key (Label n p mid did balance slice flags h) m ks list s (metas ks) sound turns writes were (metas_plain ks) serves answer
       (rw can.size refl) refl good (λ i l. rw (same_refl n) refl)
       (λ j i. ⊎_elim (λ (e : k ≡ j). inr (subst (λ (c : Component). carries (u.shelf c.provider (c.sectors - 1)) ≡ false) e can.bare)) (λ (o : Has u.state.components j). inl o) (put_or provider k u.state.components j i))
 
 -- what the refusals rule out
 can_label : (u : World) (n p : List ℕ) (mid did : ℕ) (balance : BalanceWord) (slice : ℕ) (flags : MirrorFlags) (h : Bool) → Sound u → IsGood u.state (seen_of u) (Label n p mid did balance slice flags h) → (sectors : ℕ) × CanLabel u n p mid sectors
 can_label u n p mid did balance slice flags h sound good =
-    let absent = or_parts (list_any (λ q. is_none (u.size q)) (p ∷ [])) _ (good refusals.Absent (inr (inr (inl refl)))) in
-    let size = there_from (u.size p) (any_one (λ q. is_none (u.size q)) p absent.0) in
+    let absent = or_parts (list_any (λ q. is_none (present u q)) (p ∷ [])) _ (good refusals.Absent (inr (inr (inl refl)))) in
+    let size = there_from (present u p) (any_one (λ q. is_none (present u q)) p absent.0) in
     let sectors : ℕ = size.0 in
-    let wrong : at (u.size p) has_wrong_size ≡ false = any_one (λ q. at (u.size q) has_wrong_size) p (good refusals.WrongSize (inr (inr (inr (inr (inr (inr (inl refl)))))))) in
-    let range = right_size sectors (at_fails (u.size p) sectors has_wrong_size size.1 wrong) in
+    let wrong : at (present u p) has_wrong_size ≡ false = any_one (λ q. at (present u q) has_wrong_size) p (good refusals.WrongSize (inr (inr (inr (inr (inr (inr (inl refl)))))))) in
+    let range = right_size sectors (at_fails (present u p) sectors has_wrong_size size.1 wrong) in
     let free : mirror_of u.state n ≡ None = none_from (mirror_of u.state n) (good refusals.NameTaken (inl refl)) in
     let count : length u.state.mirrors ≤ 64 = sound.state.count in
     let many : length u.state.mirrors ≢ 64 = not_at (length u.state.mirrors) 64 (good refusals.TooManyMirrors (inr (inr (inr (inr (inr (inl refl))))))) in

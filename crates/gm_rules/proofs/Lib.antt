@@ -1,7 +1,6 @@
 pub mod Good
 pub mod Changes
 pub mod Seeing
-pub mod Codec
 pub mod Turning
 pub mod Answering
 pub mod Planned

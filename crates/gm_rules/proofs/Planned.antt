@@ -1,29 +1,32 @@
 -- From what a command makes of the records to its plan.
-use Rattle.std.proofs.Common.{◌≡◌, ◌∙◌, ◌⊎◌, inl, inr, ⊎_elim, ℕ, ◌+◌, ◌-◌, ◌==◌, ◌&&◌, Bool, true, false, refl, sym, ap, subst, List, [], ◌∷◌, find, Option, Some, None}
+use Rattle.std.proofs.Common.{◌≡◌, ◌∙◌, ◌⊎◌, inl, inr, ⊎_elim, ℕ, ◌+◌, ◌-◌, ◌<◌, ◌==◌, ◌&&◌, Bool, true, false, IsTrue, refl, sym, ap, subst, arith, List, [], ◌∷◌, length, filter, find, Option, Some, None}
+use Rattle.std.specs.Prelude.{IsSomeAnd}
+use Rattle.gm_metadata.specs.Labels.{is_label}
 use Rattle.std.specs.List.{list_any}
 use Rattle.std.proofs.lemmas.Bool.{cases_Bool, or_parts}
 use Rattle.gm_metadata.specs.Images.{Sizes, same_label}
 use Rattle.gm_state.specs.declared.command.Command.{Command}
+use Rattle.gm_state.specs.declared.command.Command.TheVariants as commands
 use Rattle.gm_state.specs.declared.command.Intent.{Intent}
 use Rattle.gm_state.specs.declared.command.Intent.TheVariants.{Meta, Clear, Copy}
 use Rattle.gm_state.specs.declared.records.Mirror.{Mirror}
 use Rattle.gm_state.specs.declared.records.Component.{Component}
 use Rattle.gm_state.specs.Words.{Has}
 use Rattle.gm_state.specs.Records.{Records}
-use Rattle.gm_state.specs.Intents.{is_last, any_copies, InOrder, Lends}
-use Rattle.gm_state.specs.World.{World, Sound}
-use Rattle.gm_state.proofs.Order.{same_is, same_refl, same_tells}
-use Rattle.gm_state.specs.declared.command.Reply.TheVariants.{Plain}
+use Rattle.gm_state.specs.Intents.{is_last, any_copies, InOrder, Lends, IsAtHand}
+use Rattle.gm_state.specs.Readable.{is_copy, is_copy_to, IsReadable, AreOrdered, AreReadable}
+use Rattle.gm_state.specs.World.{World, Sound, ReplyFits, present}
+use Rattle.gm_state.proofs.Order.{same_is, same_from, same_refl, same_tells, differ}
 use Rattle.gm_metadata.specs.Sector.{carries}
-use Rattle.gm_rules.proofs.Codec.{bears_carries}
-use Rattle.gm_rules.specs.After.{after, clears, intents_of}
+use Rattle.gm_state.proofs.Codec.{bears_carries}
+use Rattle.gm_rules.specs.After.{after, clears, intents_of, reply_to}
 use Rattle.gm_rules.specs.Bad.{applies}
 use Rattle.gm_rules.specs.Decides.{IsGood}
-use Rattle.gm_rules.specs.Step.{Plan, NewData, CanAnswer, HasPlan, NewWereBare, is_changed, answer}
+use Rattle.gm_rules.specs.Step.{Plan, NewData, CanAnswer, HasPlan, NewAreBare, WereBare, is_changed, answer}
 use Rattle.gm_rules.specs.Worlds.{seen_of}
 use Rattle.gm_rules.proofs.Answering.{answers_after}
-use Rattle.gm_state.proofs.Finding.{any_from, found, found_none, not_both}
-use Rattle.gm_rules.proofs.Turning.{Turns, Writes, Were, w, shelf_after, holds_after, sound_after, says_after, agrees_after, claims_after, in_s, option_cases}
+use Rattle.gm_state.proofs.Finding.{any_from, find_none, found, found_none, not_both, option_cases}
+use Rattle.gm_rules.proofs.Turning.{Turns, Writes, Were, IsOne, w, shelf_after, holds_after, sound_after, says_after, agrees_after, claims_after, in_s}
 
 -- an intent that copies nothing
 abbrev pub IsPlain : Intent → Type 0
@@ -63,13 +66,51 @@ sectors_at (Some k) n j e l = let h : k ≡ n = cc in subst (λ (x : ℕ). (x ==
 abbrev pub IsOldOrBare : World → Component → Type 0
 IsOldOrBare u k = Has u.state.components k ⊎ (carries (u.shelf k.provider (k.sectors - 1)) ≡ false)
 
-were_bare : (u w : World) → ((k : Component) → Has w.state.components k → IsOldOrBare u k) → NewWereBare u w
+were_bare : (u w : World) → ((k : Component) → Has w.state.components k → IsOldOrBare u k) → NewAreBare u w
 were_bare u w each k h none d bears = ⊎_elim
     (λ (old : Has u.state.components k). not_both (same_label k.provider k.provider) (same_refl k.provider) (found_none (λ (j : Component). same_label j.provider k.provider) u.state.components none k old))
     (λ (off : carries (u.shelf k.provider (k.sectors - 1)) ≡ false). not_both (carries (u.shelf k.provider (k.sectors - 1))) (bears_carries _ d bears) off)
     (each k h)
 
-module _ (u : World) (key : List ℕ) (c : Command) (m : Mirror) (ks : List Component) (list : ℕ → List ℕ) (s : Records) (ts : List Intent) (sound : Sound u) (t : Turns u u.shelf m ks (clears u.state c) list s) (writes : Writes u u.shelf m ks (clears u.state c) ts) (were : Were u m ks list) (plain : ArePlain ts) (can : CanAnswer u key c) where
+bare_for : (c : Command) (u w : World) → NewAreBare u w → WereBare c u w
+bare_for (commands.Label n p mid did balance slice flags hardcoded) u w bare = bare
+bare_for (commands.Insert n p did priority hardcoded) u w bare = bare
+bare_for (commands.Remove n p) u w bare = tt
+bare_for (commands.Clear p) u w bare = tt
+bare_for (commands.Destroy n) u w bare = tt
+
+-- ---- intents that copy nothing can be read again
+
+none_to : (p : List ℕ) (ts : List Intent) → ArePlain ts → list_any (is_copy_to p) ts ≡ false
+none_to p [] h = refl
+none_to p (Meta q ∷ ts) h = none_to p ts (λ t k. h t (inr k))
+none_to p (Clear q ∷ ts) h = none_to p ts (λ t k. h t (inr k))
+none_to p (Copy a b c d ∷ ts) h = absurd (h (Copy a b c d) (inl refl))
+
+ordered : (ts : List Intent) → ArePlain ts → AreOrdered ts
+ordered [] h = tt
+ordered (Meta p ∷ ts) h = (none_to p ts (λ t k. h t (inr k)), ordered ts (λ t k. h t (inr k)))
+ordered (Clear p ∷ ts) h = ordered ts (λ t k. h t (inr k))
+ordered (Copy a b c d ∷ ts) h = absurd (h (Copy a b c d) (inl refl))
+
+no_copy : (ts : List Intent) → ArePlain ts → filter is_copy ts ≡ []
+no_copy [] h = refl
+no_copy (Meta p ∷ ts) h = no_copy ts (λ t k. h t (inr k))
+no_copy (Clear p ∷ ts) h = no_copy ts (λ t k. h t (inr k))
+no_copy (Copy a b c d ∷ ts) h = absurd (h (Copy a b c d) (inl refl))
+
+plain_readable : (s : Records) (ts : List Intent) → ArePlain ts → ((t : Intent) → Has ts t → IsReadable s t) → AreReadable s ts
+plain_readable s ts plain each = record { each = each; one_copy = (let e : length (filter is_copy ts) ≡ 0 = ap length (no_copy ts plain) in omega (arith, e)); ordered = ordered ts plain }
+
+-- What the refusals and the words of a command give its intents: the providers of the components that it writes are
+-- there, and so are those that it clears, whose names are labels; its reply fits.
+pub record Serves (u : World) (c : Command) (ks : List Component) : Type 0 where
+  pub written : (k : Component) → Has ks k → IsSomeAnd (present u k.provider) (λ n. 0 < n)
+  pub cleared : (q : List ℕ) → clears u.state c q ≡ true → IsSomeAnd (present u q) (λ n. 0 < n)
+  pub labels : (q : List ℕ) → clears u.state c q ≡ true → IsTrue (is_label q)
+  pub reply : ReplyFits (reply_to c u.state)
+
+module _ (u : World) (key : List ℕ) (c : Command) (m : Mirror) (ks : List Component) (list : ℕ → List ℕ) (s : Records) (ts : List Intent) (sound : Sound u) (t : Turns u u.shelf m ks (clears u.state c) list s) (writes : Writes u u.shelf m ks (clears u.state c) ts) (were : Were u m ks list) (plain : ArePlain ts) (serves : Serves u c ks) (can : CanAnswer u key c) where
   abbrev gone : List ℕ → Bool
   gone = clears u.state c
 
@@ -78,14 +119,15 @@ module _ (u : World) (key : List ℕ) (c : Command) (m : Mirror) (ks : List Comp
   next = record {
     state = s;
     holds = holds_after m.name list u.holds;
-    answered = answer u key c Plain ∷ u.answered;
+    answered = answer u key c (reply_to c u.state) ∷ u.answered;
     shelf = shelf_after u.size m ks gone u.shelf;
     size = u.size;
+    there = u.there;
   }
 
   sound_next : Sound next
   sound_next = let before = sound_after u u.shelf m ks gone list s sound t in
-      record { state = before.state; answers = answers_after u key c sound.answers can; full = before.full; whole = before.whole }
+      record { state = before.state; answers = answers_after u key c (reply_to c u.state) serves.reply sound.answers can; sizes = before.sizes; full = before.full; whole = before.whole }
 
   -- what is neither a last sector of a component nor cleared is as it was
   others : (q : List ℕ) (j : ℕ) → is_changed u c next q j ≡ false → shelf_after u.size m ks gone u.shelf q j ≡ u.shelf q j
@@ -110,7 +152,29 @@ module _ (u : World) (key : List ℕ) (c : Command) (m : Mirror) (ks : List Comp
         ]
       ]
 
-  planned : s ≡ after u.size c u.state → IsGood u.state (seen_of u) c → NewData u c next → NewWereBare u next → Plan u key c ts next
+  readable_one : (r : Intent) → IsPlain r → IsOne u u.shelf ks gone r → IsReadable s r
+  readable_one (Meta p) plain one = λ none.
+      let k : Component = one.0 in
+      let h = (in_s u u.shelf m ks gone list s sound t k one.1).0 in
+      not_both (same_label k.provider p) (same_from k.provider p one.2) (found_none (λ (j : Component). same_label j.provider p) s.components none k h)
+  readable_one (Clear p) plain one = (
+    serves.labels p one,
+    find_none (λ (j : Component). same_label j.provider p) s.components (λ j h. differ j.provider p (λ e. not_both (gone p) one (subst (λ (x : List ℕ). gone x ≡ false) e (t.cleared j h)))),
+  )
+  readable_one (Copy a b x y) plain one = absurd plain
+
+  is_readable : (r : Intent) → Has ts r → IsReadable s r
+  is_readable r h = readable_one r (plain r h) (writes.each r h)
+
+  hand_one : (r : Intent) → IsPlain r → IsOne u u.shelf ks gone r → IsAtHand (present u) r
+  hand_one (Meta p) plain one = subst (λ (x : List ℕ). IsSomeAnd (present u x) (λ n. 0 < n)) one.2 (serves.written one.0 one.1)
+  hand_one (Clear p) plain one = serves.cleared p one
+  hand_one (Copy a b x y) plain one = absurd plain
+
+  is_at_hand : (r : Intent) → Has ts r → IsAtHand (present u) r
+  is_at_hand r h = hand_one r (plain r h) (writes.each r h)
+
+  planned : s ≡ after (present u) c u.state → IsGood u.state (seen_of u) c → NewData u c next → WereBare c u next → Plan u key c ts next
   planned is good new bare = record {
     step = record {
       good = λ r b. not_both (applies u.state (seen_of u) c r) b.met (good r b.listed);
@@ -118,6 +182,7 @@ module _ (u : World) (key : List ℕ) (c : Command) (m : Mirror) (ks : List Comp
       reply = refl;
       answered = refl;
       sizes = λ q. refl;
+      there = λ q. refl;
       holds = λ a h i. elim (same_tells a.name m.name) [ inl y ↦ rw y.0 (were.list_stays a h y.1 i ∙ ap (λ (n : List ℕ). u.holds n i) (sym y.1)) | inr n ↦ rw n.0 refl ];
       new = new;
       full = sound_next.full;
@@ -128,12 +193,15 @@ module _ (u : World) (key : List ℕ) (c : Command) (m : Mirror) (ks : List Comp
     redo = record {
       says = says_after u u.shelf m ks gone list s sound t ts writes;
       lends = λ r h. lent u.size ts r (plain r h);
-      agrees = agrees_after u u.shelf m ks gone list s sound t ts writes;
+      agrees = λ q there j off. agrees_after u u.shelf m ks gone list s sound t ts writes q j off;
     };
     order = in_order u.size ts plain;
     claims = claims_after u u.shelf m ks gone list s sound t were;
+    readable = plain_readable s ts plain is_readable;
+    at_hand = is_at_hand;
+    copies = λ a k o i e. not_both (any_copies ts k.provider i) e (no_copies ts plain k.provider i);
     bare = bare;
   }
 
-  pub has : s ≡ after u.size c u.state → ts ≡ intents_of c u.state s → IsGood u.state (seen_of u) c → NewData u c next → ((k : Component) → Has s.components k → IsOldOrBare u k) → HasPlan u key c
-  has is are good new each = (next, subst (λ (l : List Intent). Plan u key c l next) are (planned is good new (were_bare u next each)))
+  pub has : s ≡ after (present u) c u.state → ts ≡ intents_of c u.state s → IsGood u.state (seen_of u) c → NewData u c next → ((k : Component) → Has s.components k → IsOldOrBare u k) → HasPlan u key c
+  has is are good new each = (next, subst (λ (l : List Intent). Plan u key c l next) are (planned is good new (bare_for c u next (were_bare u next each))))

@@ -1,8 +1,10 @@
 -- The plan of remove.
-use Rattle.std.proofs.Common.{◌≡◌, ◌≢◌, ◌∙◌, inl, inr, ℕ, ◌≤◌, ◌+◌, ◌-◌, ◌&&◌, ◌||◌, Bool, true, false, not, refl, sym, ap, subst, arith, List, ◌∷◌, Some, length}
+use Rattle.std.proofs.Common.{◌≡◌, ◌≢◌, ◌∙◌, inl, inr, ℕ, ◌≤◌, ◌+◌, ◌-◌, ◌&&◌, ◌||◌, Bool, true, false, not, refl, sym, ap, subst, arith, List, ◌∷◌, Some, length, IsTrue, ◌<◌}
+use Rattle.std.specs.Prelude.{IsSomeAnd}
 use Rattle.std.specs.List.{list_any}
 use Rattle.std.proofs.lemmas.Bool.{or_parts, and_parts, not-true, not-false}
 use Rattle.gm_metadata.specs.Images.{same_label}
+use Rattle.gm_metadata.specs.Labels.{is_label}
 use Rattle.gm_state.specs.declared.command.Command.TheVariants.{Remove}
 use Rattle.gm_state.specs.declared.command.Intent.{Intent}
 use Rattle.gm_state.specs.declared.command.Intent.TheVariants.{Clear}
@@ -13,7 +15,7 @@ use Rattle.gm_state.specs.declared.records.Disk.TheVariants.{InSync, Inactive, C
 use Rattle.gm_state.specs.Words.{Has, without}
 use Rattle.gm_state.specs.Records.{Records, IsMirror, members, provider}
 use Rattle.gm_state.specs.Lookups.{mirror_of, is_active}
-use Rattle.gm_state.specs.World.{World, Sound}
+use Rattle.gm_state.specs.World.{World, Sound, present}
 use Rattle.gm_state.proofs.Order.{same_is, same_from, same_refl, differ}
 use Rattle.gm_state.proofs.Words.{Has-filter, filter-Has, Ascends-filter, filter_swap, filter_id, length-filter_lt, one}
 use Rattle.gm_rules.specs.declared.refusals.Refusal.TheVariants as refusals
@@ -24,7 +26,8 @@ use Rattle.gm_rules.specs.Worlds.{seen_of}
 use Rattle.gm_rules.proofs.Adjusting.{Adjusts, adjusts_turns, adjusts_were, adjusted}
 use Rattle.gm_state.proofs.Finding.{any_one, some_any, not_both}
 use Rattle.gm_rules.proofs.Good.{there_from, named}
-use Rattle.gm_rules.proofs.Planned.{has, one_plain}
+use Rattle.gm_state.proofs.Presence.{present_size, some_and}
+use Rattle.gm_rules.proofs.Planned.{Serves, has, one_plain}
 use Rattle.gm_rules.proofs.RuledOut.{all_there, metas_has, metas_are, metas_plain}
 use Rattle.gm_rules.proofs.Turning.{Turns, Writes, IsOne}
 
@@ -33,7 +36,7 @@ record CanRemove (u : World) (m : Mirror) (p : List ℕ) : Type 0 where
   here : Has u.state.mirrors m
   member : (k : Component) × Has (members u.state.components m.name) k × (k.provider ≡ p)
   active : (k : Component) × Has (members u.state.components m.name) k × (k.disk ≡ InSync) × (k.provider ≢ p)
-  there : (k : Component) → Has (members u.state.components m.name) k → u.size k.provider ≡ Some k.sectors
+  there : (k : Component) → Has (members u.state.components m.name) k → present u k.provider ≡ Some k.sectors
 
 module _ (u : World) (key : List ℕ) (m : Mirror) (p : List ℕ) (sound : Sound u) (can : CanRemove u m p) where
   abbrev old : List Component
@@ -104,7 +107,7 @@ module _ (u : World) (key : List ℕ) (m : Mirror) (p : List ℕ) (sound : Sound
 
   turns : Turns u u.shelf m' ks gone (u.holds m.name) s
   turns = adjusts_turns u m m' comps ks gone sound can.here adjusts
-      (λ j i. can.there j (is_old j i))
+      (λ j i. present_size u j.provider j.sectors (can.there j (is_old j i)))
       (λ j i. kept j (Has-filter stays u.state.components j i).1)
       (λ j i. sound.whole m j (record { mirror = can.here; component = is_old j i }))
 
@@ -120,9 +123,20 @@ module _ (u : World) (key : List ℕ) (m : Mirror) (p : List ℕ) (sound : Sound
     copied = λ q j e. refl;
   }
 
+  has_sectors : (j : Component) → Has old j → IsSomeAnd (present u j.provider) (λ x. 0 < x)
+  has_sectors j o = some_and (present u j.provider) j.sectors (λ x. 0 < x) (can.there j o) (let b : m.data_sectors + 1 ≤ j.sectors = rules.sizes j o in omega arith)
+
+  serves : (n : List ℕ) → IsTrue (is_label p) → Serves u (Remove n p) ks
+  serves n label = record {
+    written = λ j i. has_sectors j (is_old j i);
+    cleared = λ q e. subst (λ (x : List ℕ). IsSomeAnd (present u x) (λ y. 0 < y)) (can.member.2 ∙ same_is p q e) (has_sectors can.member.0 can.member.1);
+    labels = λ q e. subst (λ (x : List ℕ). IsTrue (is_label x)) (same_is p q e) label;
+    reply = tt;
+  }
+
   remove_plan : (n : List ℕ) → mirror_of u.state n ≡ Some m → IsGood u.state (seen_of u) (Remove n p) → CanAnswer u key (Remove n p) → HasPlan u key (Remove n p)
   remove_plan n found good answer =
-      has u key (Remove n p) m' ks (u.holds m.name) s (Clear p ∷ metas ks) sound turns writes (adjusts_were u m m' comps ks sound can.here adjusts can.there) (one_plain (Clear p) tt (metas ks) (metas_plain ks)) answer
+      has u key (Remove n p) m' ks (u.holds m.name) s (Clear p ∷ metas ks) sound turns writes (adjusts_were u m m' comps ks sound can.here adjusts) (one_plain (Clear p) tt (metas ks) (metas_plain ks)) (serves n answer.fits.1) answer
       (rw found refl)
       (let at : members comps n ≡ ks = rw (← (named u.state n m found).1) adjusts.mine in ap (λ (js : List Component). Clear p ∷ metas js) (sym at))
       good tt (λ j i. inl (Has-filter stays u.state.components j i).0)
@@ -155,7 +169,7 @@ can_remove u n p sound good =
         here = at.0;
         member = (member.0, subst (λ (a : List ℕ). Has (members u.state.components a) member.0) (sym at.1) member.1, same_is member.0.provider p member.2);
         active = (active.0, subst (λ (a : List ℕ). Has (members u.state.components a) active.0) (sym at.1) active.1, active_is active.0.disk parts.0, λ e. not_both (same_label active.0.provider p) (same_from active.0.provider p e) off);
-        there = λ j i. all_there u.size (members u.state.components n) absent.1 j (subst (λ (a : List ℕ). Has (members u.state.components a) j) at.1 i);
+        there = λ j i. all_there (present u) (members u.state.components n) absent.1 j (subst (λ (a : List ℕ). Has (members u.state.components a) j) at.1 i);
       },
     )
 

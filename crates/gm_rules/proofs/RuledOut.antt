@@ -7,7 +7,7 @@ use Rattle.gm_state.specs.declared.command.Intent.{Intent}
 use Rattle.gm_state.specs.declared.command.Intent.TheVariants.{Meta, Clear}
 use Rattle.gm_state.specs.declared.records.Component.{Component}
 use Rattle.gm_state.specs.Words.{Has}
-use Rattle.gm_state.specs.World.{World}
+use Rattle.gm_state.specs.World.{World, present}
 use Rattle.gm_rules.specs.Bad.{has_size}
 use Rattle.gm_rules.specs.After.{metas, clears_of}
 use Rattle.gm_rules.specs.Facts.{last_carries}
@@ -29,7 +29,7 @@ pub all_there : (size : List ℕ → Option ℕ) (ks : List Component) → list_
 all_there size ks e k h = has_size_is (size k.provider) k.sectors (none_any (λ k. not (has_size (size k.provider) k.sectors)) ks e k h)
 
 -- a provider that carries no metadata: its last sector doesn't
-pub carries_nothing : (u : World) (p : List ℕ) (n : ℕ) → u.size p ≡ Some n → 0 < n → last_carries (last_of u p) ≡ false → carries (u.shelf p (n - 1)) ≡ false
+pub carries_nothing : (u : World) (p : List ℕ) (n : ℕ) → present u p ≡ Some n → 0 < n → last_carries (last_of u p) ≡ false → carries (u.shelf p (n - 1)) ≡ false
 carries_nothing u p n size some off =
     let apart : (n == 0) ≡ false = ne_eqb n 0 (λ e. omega arith) in
     let told : last_carries (last_of u p) ≡ carries (u.shelf p (n - 1)) = rw (size, apart) refl in

@@ -8,7 +8,7 @@ use Rattle.gm_state.specs.declared.records.Mirror.{Mirror}
 use Rattle.gm_state.specs.Words.{Has, put}
 use Rattle.gm_state.specs.Records.{Records, name, provider}
 use Rattle.gm_state.specs.Lookups.{mirror_of}
-use Rattle.gm_state.specs.World.{World}
+use Rattle.gm_state.specs.World.{World, present}
 use Rattle.gm_rules.specs.declared.facts.Fact.{Fact}
 use Rattle.gm_rules.specs.declared.refusals.Refusal.{Refusal}
 use Rattle.gm_rules.specs.declared.refusals.Refusal.TheVariants.{NoMirror, NameTaken, MidTaken, Absent, ProviderTaken, CarriesMetadata, TooSmall, NotMember, DidTaken, Full, TooManyMirrors, SomeLost, LastActive, WrongSize, NoMetadata}
@@ -21,13 +21,13 @@ use Rattle.gm_state.proofs.Finding.{any_agree}
 
 module _ (facts : List Fact) (u : World) (c : Command) (are : AreFacts facts u c) where
   -- a test of what the command names comes out alike
-  by_size : (test : Option ℕ → Bool) → list_any (λ p. test (size_in facts p)) (providers_of c) ≡ list_any (λ p. test (u.size p)) (providers_of c)
+  by_size : (test : Option ℕ → Bool) → list_any (λ p. test (size_in facts p)) (providers_of c) ≡ list_any (λ p. test (present u p)) (providers_of c)
   by_size test = any_agree _ _ (providers_of c) (λ p h. ap test (are.size p (inl h)))
 
   by_last : (test : Option (List ℕ) → Bool) → list_any (λ p. test (last_in facts p)) (providers_of c) ≡ list_any (λ p. test (last_of u p)) (providers_of c)
   by_last test = any_agree _ _ (providers_of c) (λ p h. ap test (are.last p (inl h)))
 
-  small : (o : Option Mirror) → at o (λ m. list_any (λ p. at (size_in facts p) (λ n. nat_lt n (m.data_sectors + 1))) (providers_of c)) ≡ at o (λ m. list_any (λ p. at (u.size p) (λ n. nat_lt n (m.data_sectors + 1))) (providers_of c))
+  small : (o : Option Mirror) → at o (λ m. list_any (λ p. at (size_in facts p) (λ n. nat_lt n (m.data_sectors + 1))) (providers_of c)) ≡ at o (λ m. list_any (λ p. at (present u p) (λ n. nat_lt n (m.data_sectors + 1))) (providers_of c))
   small None = refl
   small (Some m) = by_size (λ o. at o (λ n. nat_lt n (m.data_sectors + 1)))
 
@@ -64,7 +64,7 @@ decides_in facts u c are (Err r) d = record {
   least = λ q h t. d.least q h (same facts u c are q ∙ t);
 }
 decides_in facts u c are (Ok ch) d =
-    let e = same_after (size_in facts) u.size c u.state (λ p h. are.size p (inl h)) in
+    let e = same_after (size_in facts) (present u) c u.state (λ p h. are.size p (inl h)) in
     record {
       good = λ r h. sym (same facts u c are r) ∙ d.good r h;
       records = d.records ∙ e;

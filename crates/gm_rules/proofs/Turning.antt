@@ -19,8 +19,10 @@ use Rattle.gm_state.specs.Intents.{IsOf, is_last, names, is_place, Says}
 use Rattle.gm_state.specs.World.{World, Sound, Claims, claimed, Below}
 use Rattle.gm_state.proofs.Order.{same_tells, same_refl, same_from, same_is, differ}
 use Rattle.gm_state.proofs.Words.{Has-filter, Ascends-filter, one}
-use Rattle.gm_state.proofs.Finding.{found, find_none, find_one, not_both}
-use Rattle.gm_rules.proofs.Codec.{bears_one, bears_not_zeros}
+use Rattle.gm_state.proofs.Finding.{found, find_none, find_one, not_both, option_cases}
+use Rattle.gm_state.proofs.Placing.{place_from}
+use Rattle.gm_state.proofs.Claiming.{claims_of}
+use Rattle.gm_state.proofs.Codec.{bears_one, bears_not_zeros}
 
 -- ---- the image after the command
 
@@ -76,7 +78,7 @@ module _ (u : World) (mid : Image) (m : Mirror) (ks : List Component) (gone : Li
   holds_there a n i = rw (differ a.name m.name n) refl
 
   abbrev pub w : World
-  w = record { state = s; holds = holds_after m.name list u.holds; answered = u.answered; shelf = shelf_after u.size m ks gone mid; size = u.size }
+  w = record { state = s; holds = holds_after m.name list u.holds; answered = u.answered; shelf = shelf_after u.size m ks gone mid; size = u.size; there = u.there }
 
   -- a component of ks is one of s, and of the mirror
   pub in_s : (k : Component) → Has ks k → Has s.components k × (k.mirror ≡ m.name)
@@ -135,6 +137,7 @@ module _ (u : World) (mid : Image) (m : Mirror) (ks : List Component) (gone : Li
   sound_after = record {
     state = t.state;
     answers = sound.answers;
+    sizes = λ a k o. whose a k o (λ e h. t.there k h) (λ n i. sound.sizes a k i);
     full = λ a k o. whose a k o
         (λ e h. last_new k h ∙ ap (λ (x : Mirror). encoded (metadata x k)) (sym e))
         (λ n i. other a k n o.component (k.sectors - 1) ∙ sound.full a k i);
@@ -145,11 +148,6 @@ module _ (u : World) (mid : Image) (m : Mirror) (ks : List Component) (gone : Li
   }
 
 -- ---- the intents carry it out
-
-pub place_from : (size : Sizes) (ts : List Intent) (t : Intent) (q : List ℕ) (j : ℕ) → Has ts t → names size t q j ≡ true → is_place size ts q j ≡ true
-place_from size [] t q j h e = absurd h
-place_from size (r ∷ rs) t q j (inl s) e = or_left (names size r q j) (is_place size rs q j) (subst (λ (x : Intent). names size x q j ≡ true) (sym s) e)
-place_from size (r ∷ rs) t q j (inr h) e = or_right (names size r q j) (is_place size rs q j) (place_from size rs t q j h e)
 
 pub last_is : (o : Option ℕ) (n j : ℕ) → o ≡ Some n → is_last o j ≡ true → j ≡ n - 1
 last_is None n j e l = cc
@@ -167,10 +165,6 @@ pub record Writes (u : World) (mid : Image) (m : Mirror) (ks : List Component) (
   pub metas : (k : Component) → Has ks k → Has ts (Meta k.provider) ⊎ (u.shelf k.provider (k.sectors - 1) ≡ encoded (metadata m k))
   pub clears : (q : List ℕ) → gone q ≡ true → Has ts (Clear q)
   pub copied : (q : List ℕ) (j : ℕ) → is_place u.size ts q j ≡ false → mid q j ≡ u.shelf q j
-
-pub option_cases : {X : Type 0} (o : Option X) → (o ≡ None) ⊎ ((x : X) × (o ≡ Some x))
-option_cases None = inl refl
-option_cases (Some x) = inr (x, refl)
 
 module _ (u : World) (mid : Image) (m : Mirror) (ks : List Component) (gone : List ℕ → Bool) (list : ℕ → List ℕ) (s : Records) (sound : Sound u) (t : Turns u mid m ks gone list s) (ts : List Intent) (writes : Writes u mid m ks gone ts) where
   abbrev shelf : Image
@@ -228,20 +222,10 @@ module _ (u : World) (mid : Image) (m : Mirror) (ks : List Component) (gone : Li
 
 -- ---- what was claimed stays true
 
--- metadata without INACTIVE claim what their component holds
-claims_of : (a m : Mirror) (k : Component) → (metadata m k).dflags.inactive ≡ false → claimed a (metadata m k) ≡ held_by k.disk a.data_sectors
-claims_of a m k e = by k.disk e
-  where
-    by : (d : Disk) → (disk_flags d).inactive ≡ false → (if (disk_flags d).synchronizing then 512 * held_of d / 512 else a.data_sectors) ≡ held_by d a.data_sectors
-    by InSync e = refl
-    by Inactive e = cc
-    by (Copying forced held) e = omega arith
-
 -- what the components of the mirror were before
 pub record Were (u : World) (m : Mirror) (ks : List Component) (list : ℕ → List ℕ) : Type 0 where
   pub list_stays : (a : Mirror) → Has u.state.mirrors a → a.name ≡ m.name → (i : ℕ) → list i ≡ u.holds m.name i
   pub size_stays : (a : Mirror) → Has u.state.mirrors a → a.name ≡ m.name → a.data_sectors ≡ m.data_sectors
-  pub sizes : (k : Component) → Has (members u.state.components m.name) k → u.size k.provider ≡ Some k.sectors
 
 module _ (u : World) (mid : Image) (m : Mirror) (ks : List Component) (gone : List ℕ → Bool) (list : ℕ → List ℕ) (s : Records) (sound : Sound u) (t : Turns u mid m ks gone list s) (were : Were u m ks list) where
   abbrev image : Image
@@ -263,8 +247,7 @@ module _ (u : World) (mid : Image) (m : Mirror) (ks : List Component) (gone : Li
             let there = other u mid m ks gone list s sound t a k n.1 h in
             there i ∙ as_before a k d o ok (subst (λ (x : List ℕ). Bears x d) (there (k.sectors - 1)) bears) inactive i l)
         | inl y ↦
-            let mine : Has (members u.state.components m.name) k = subst (λ (x : List ℕ). Has (members u.state.components x) k) y.1 o.component in
-            let size = were.sizes k mine in
+            let size = sound.sizes a k o in
             let rules = sound.state.each a o.mirror in
             let fits : a.data_sectors + 1 ≤ k.sectors = rules.sizes k o.component in
             let last : is_last (u.size k.provider) (k.sectors - 1) ≡ true = last_at (u.size k.provider) k.sectors size (omega arith) in

@@ -1,5 +1,8 @@
 -- The plan of clear: no mirror turns.
-use Rattle.std.proofs.Common.{◌≡◌, ◌≢◌, ◌∙◌, inl, inr, ℕ, Bool, true, false, refl, sym, ap, subst, List, [], ◌∷◌, is_some, true≢false}
+use Rattle.std.proofs.Common.{◌≡◌, ◌≢◌, ◌∙◌, inl, inr, ℕ, Bool, true, false, refl, sym, ap, subst, List, [], ◌∷◌, is_some, is_none, true≢false, Some, IsTrue, ◌<◌, ◌≤◌, arith}
+use Rattle.std.specs.Prelude.{IsSomeAnd}
+use Rattle.std.specs.List.{list_any}
+use Rattle.std.proofs.lemmas.Bool.{or_parts}
 use Rattle.gm_metadata.specs.Images.{same_label}
 use Rattle.gm_metadata.specs.Labels.{is_label}
 use Rattle.gm_metadata.specs.declared.balance.Balance.TheVariants as balances
@@ -11,15 +14,17 @@ use Rattle.gm_state.specs.declared.records.Component.{Component}
 use Rattle.gm_state.specs.Words.{Has}
 use Rattle.gm_state.specs.Records.{members}
 use Rattle.gm_state.specs.Lookups.{component_of}
-use Rattle.gm_state.specs.World.{World, Sound}
+use Rattle.gm_state.specs.World.{World, Sound, present}
 use Rattle.gm_state.proofs.Order.{same_is, same_from, same_refl, differ}
 use Rattle.gm_rules.specs.declared.refusals.Refusal.TheVariants as refusals
+use Rattle.gm_rules.specs.Bad.{at, has_wrong_size}
 use Rattle.gm_rules.specs.Decides.{IsGood}
 use Rattle.gm_rules.specs.Step.{CanAnswer, HasPlan}
 use Rattle.gm_rules.specs.Worlds.{seen_of}
 use Rattle.gm_state.proofs.Finding.{any_one, no_members, not_both}
-use Rattle.gm_rules.proofs.Good.{none_from, new_name}
-use Rattle.gm_rules.proofs.Planned.{has, one_plain}
+use Rattle.gm_rules.proofs.Good.{there_from, none_from, new_name, at_fails, right_size}
+use Rattle.gm_state.proofs.Presence.{some_and}
+use Rattle.gm_rules.proofs.Planned.{Serves, has, one_plain}
 use Rattle.gm_rules.proofs.Turning.{Turns, Writes, Were, IsOne}
 
 -- a record whose name no mirror has
@@ -30,7 +35,7 @@ no_name : nobody.name ≡ []
 unfolding nobody
 no_name = refl
 
-module _ (u : World) (key p : List ℕ) (sound : Sound u) (fresh : (k : Component) → Has u.state.components k → same_label k.provider p ≡ false) where
+module _ (u : World) (key p : List ℕ) (sound : Sound u) (fresh : (k : Component) → Has u.state.components k → same_label k.provider p ≡ false) (sectors : ℕ) (size : present u p ≡ Some sectors) (some : 0 < sectors) where
   abbrev gone : List ℕ → Bool
   gone q = same_label p q
 
@@ -71,14 +76,27 @@ module _ (u : World) (key p : List ℕ) (sound : Sound u) (fresh : (k : Componen
   were = record {
     list_stays = λ a h e i. absurd (has_name a h e);
     size_stays = λ a h e. absurd (has_name a h e);
-    sizes = λ k h. absurd (let g : Has [] k = subst (λ (l : List Component). Has l k) none h in g);
+  }
+
+  serves : IsTrue (is_label p) → Serves u (commands.Clear p) []
+  serves label = record {
+    written = λ k h. absurd h;
+    cleared = λ q e. subst (λ (x : List ℕ). IsSomeAnd (present u x) (λ y. 0 < y)) (same_is p q e) (some_and (present u p) sectors (λ y. 0 < y) size some);
+    labels = λ q e. subst (λ (x : List ℕ). IsTrue (is_label x)) (same_is p q e) label;
+    reply = tt;
   }
 
   clear_plan : IsGood u.state (seen_of u) (commands.Clear p) → CanAnswer u key (commands.Clear p) → HasPlan u key (commands.Clear p)
   clear_plan good answer =
-      has u key (commands.Clear p) nobody [] (u.holds nobody.name) u.state (Clear p ∷ []) sound turns writes were (one_plain (Clear p) tt [] (λ t h. absurd h)) answer
+      has u key (commands.Clear p) nobody [] (u.holds nobody.name) u.state (Clear p ∷ []) sound turns writes were (one_plain (Clear p) tt [] (λ t h. absurd h)) (serves answer.fits) answer
       refl refl good tt (λ j i. inl i)
 
 pub clear_has : (u : World) (key p : List ℕ) → Sound u → CanAnswer u key (commands.Clear p) → IsGood u.state (seen_of u) (commands.Clear p) → HasPlan u key (commands.Clear p)
 clear_has u key p sound answer good =
-    clear_plan u key p sound (new_name u.state p (none_from (component_of u.state p) (any_one (λ q. is_some (component_of u.state q)) p (good refusals.ProviderTaken (inr (inl refl)))))) good answer
+    let absent = or_parts (list_any (λ q. is_none (present u q)) (p ∷ [])) _ (good refusals.Absent (inl refl)) in
+    let size = there_from (present u p) (any_one (λ q. is_none (present u q)) p absent.0) in
+    let wrong : at (present u p) has_wrong_size ≡ false = any_one (λ q. at (present u q) has_wrong_size) p (good refusals.WrongSize (inr (inr (inl refl)))) in
+    let range = right_size size.0 (at_fails (present u p) size.0 has_wrong_size size.1 wrong) in
+    let big : 2 ≤ size.0 = range.0 in
+    let fresh = new_name u.state p (none_from (component_of u.state p) (any_one (λ q. is_some (component_of u.state q)) p (good refusals.ProviderTaken (inr (inl refl))))) in
+    clear_plan u key p sound fresh size.0 size.1 (omega arith) good answer

@@ -8,6 +8,8 @@ use Rattle.gm_state.specs.declared.command.Command.{Command}
 use Rattle.gm_state.specs.declared.command.Command.TheVariants as commands
 use Rattle.gm_state.specs.declared.command.Intent.{Intent}
 use Rattle.gm_state.specs.declared.command.Intent.TheVariants.{Meta, Clear}
+use Rattle.gm_state.specs.declared.command.Reply.{Reply}
+use Rattle.gm_state.specs.declared.command.Reply.TheVariants.{Plain}
 use Rattle.gm_state.specs.declared.records.Mirror.{Mirror}
 use Rattle.gm_state.specs.declared.records.Component.{Component}
 use Rattle.gm_state.specs.declared.records.Disk.TheVariants.{InSync, Copying}
@@ -80,6 +82,14 @@ after size (commands.Destroy n) s = record {
   mirrors = without name n s.mirrors;
   components = filter (λ k. not (same_label k.mirror n)) s.components;
 }
+
+-- what the command is answered beside its number, where the records before are s
+abbrev pub reply_to : Command → Records → Reply
+reply_to (commands.Label n p mid did balance slice flags hardcoded) s = Plain
+reply_to (commands.Insert n p did priority hardcoded) s = Plain
+reply_to (commands.Remove n p) s = Plain
+reply_to (commands.Clear p) s = Plain
+reply_to (commands.Destroy n) s = Plain
 
 -- Meta of each of the components, and Clear of each
 abbrev pub metas : List Component → List Intent

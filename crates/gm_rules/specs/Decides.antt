@@ -3,7 +3,6 @@ use Rattle.std.specs.Prelude.{◌≡◌, ◌≤◌, ℕ, true, false, List, Opti
 use Rattle.gm_state.specs.declared.command.Command.{Command}
 use Rattle.gm_state.specs.declared.command.Intent.{Intent}
 use Rattle.gm_state.specs.declared.command.Reply.{Reply}
-use Rattle.gm_state.specs.declared.command.Reply.TheVariants.{Plain}
 use Rattle.gm_state.specs.declared.records.Mirror.{Mirror}
 use Rattle.gm_state.specs.declared.records.Component.{Component}
 use Rattle.gm_state.specs.Words.{Has, put, put_all, without, without_all}
@@ -11,7 +10,7 @@ use Rattle.gm_state.specs.Records.{Records, name, provider}
 use Rattle.gm_rules.specs.declared.refusals.Refusal.{Refusal}
 use Rattle.gm_rules.specs.Refusals.{number_of, own}
 use Rattle.gm_rules.specs.Bad.{Seen, applies}
-use Rattle.gm_rules.specs.After.{after, intents_of}
+use Rattle.gm_rules.specs.After.{after, intents_of, reply_to}
 
 -- records to put, names of records to delete, intents, reply
 pub record Changed : Type 0 where
@@ -47,12 +46,12 @@ pub record IsLeast (s : Records) (x : Seen) (c : Command) (r : Refusal) : Type 0
 abbrev pub IsGood : Records → Seen → Command → Type 0
 IsGood s x c = (r : Refusal) → Has (own c) r → applies s x c r ≡ false
 
--- the change is what the command makes of the records, and they keep all rules and limits
+-- no refusal applies, and the change is what the command makes of the records, with its intents and its reply
 pub record Makes (s : Records) (x : Seen) (c : Command) (ch : Changed) : Type 0 where
   pub good : IsGood s x c
   pub records : changed_by ch s ≡ after x.size c s
   pub intents : ch.intents ≡ intents_of c s (after x.size c s)
-  pub reply : ch.reply ≡ Plain
+  pub reply : ch.reply ≡ reply_to c s
 
 -- the least refusal, or the change
 abbrev pub Decides : Records → Seen → Command → Result Changed Refusal → Type 0

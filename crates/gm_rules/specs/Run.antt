@@ -19,14 +19,34 @@ pub data Answer : Type 0 where
   Repeated : ℕ → Reply → Answer
   Refused : ℕ → Answer
 
--- the refusal with this number applies to the call: the key has no form of a key, was accepted for another command,
--- 100,000 commands were accepted, or the command is refused in the world
-abbrev pub IsRefused : World → Call → ℕ → Type 0
-IsRefused u call n =
-    ((n ≡ 2) × (is_key call.key ≡ false))
-    ⊎ (((n ≡ 3) × (a : Answered) × Has u.answered a × (a.key ≡ call.key) × (a.command ≢ call.command))
-    ⊎ (((n ≡ 4) × (100000 ≤ length u.answered))
-    ⊎ ((r : Refusal) × Bad u call.command r × (n ≡ number_of r))))
+-- why a call is refused
+pub data CallRefusal : Type 0 where
+  NoKey : CallRefusal
+  KeyTaken : CallRefusal
+  NoRoom : CallRefusal
+  ByRules : Refusal → CallRefusal
+
+-- its number: where several apply, the least is answered
+abbrev pub number_of_call : CallRefusal → ℕ
+number_of_call NoKey = 2
+number_of_call KeyTaken = 3
+number_of_call NoRoom = 4
+number_of_call (ByRules r) = number_of r
+
+-- the refusal applies to the call: the key has no form of a key, it was accepted for another command, 100,000 commands
+-- were accepted, or the rules refuse the command in the world
+abbrev pub IsBadCall : World → Call → CallRefusal → Type 0
+IsBadCall u call NoKey = is_key call.key ≡ false
+IsBadCall u call KeyTaken = (a : Answered) × Has u.answered a × (a.key ≡ call.key) × (a.command ≢ call.command)
+IsBadCall u call NoRoom = 100000 ≤ length u.answered
+IsBadCall u call (ByRules r) = Bad u call.command r
+
+-- the number is the least of the refusals that apply
+pub record IsRefused (u : World) (call : Call) (n : ℕ) : Type 0 where
+  pub refusal : CallRefusal
+  pub applies : IsBadCall u call refusal
+  pub number : n ≡ number_of_call refusal
+  pub least : (r : CallRefusal) → IsBadCall u call r → n ≤ number_of_call r
 
 -- the call was accepted before: its answer is kept
 pub record IsKept (u : World) (call : Call) (a : Answered) : Type 0 where
@@ -37,8 +57,8 @@ pub record IsKept (u : World) (call : Call) (a : Answered) : Type 0 where
 -- one call takes u to w: an answered key repeats its answer, a call that is refused gets the least number, any other is a step
 abbrev pub Calls : World → Call → World → Answer → Type 0
 Calls u call w (Repeated n r) = (w ≡ u) × (a : Answered) × IsKept u call a × (a.number ≡ n) × (a.reply ≡ r)
-Calls u call w (Refused n) = (w ≡ u) × ((a : Answered) → IsKept u call a → ⊥) × IsRefused u call n × ((k : ℕ) → IsRefused u call k → n ≤ k)
-Calls u call w (Done n r) = ((a : Answered) → IsKept u call a → ⊥) × ((k : ℕ) → IsRefused u call k → ⊥) × (n ≡ length w.answered) × Step u call.key call.command w r
+Calls u call w (Refused n) = (w ≡ u) × ((a : Answered) → IsKept u call a → ⊥) × IsRefused u call n
+Calls u call w (Done n r) = ((a : Answered) → IsKept u call a → ⊥) × ((r : CallRefusal) → IsBadCall u call r → ⊥) × (n ≡ length w.answered) × Step u call.key call.command w r
 
 -- calls one after another
 abbrev pub Run : World → List Call → World → List Answer → Type 0

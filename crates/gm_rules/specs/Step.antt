@@ -9,19 +9,19 @@ use Rattle.gm_state.specs.declared.command.Command.{Command}
 use Rattle.gm_state.specs.declared.command.Command.TheVariants as commands
 use Rattle.gm_state.specs.declared.command.Intent.{Intent}
 use Rattle.gm_state.specs.declared.command.Reply.{Reply}
-use Rattle.gm_state.specs.declared.command.Reply.TheVariants.{Plain}
 use Rattle.gm_state.specs.declared.records.Mirror.{Mirror}
 use Rattle.gm_state.specs.declared.records.Component.{Component}
 use Rattle.gm_state.specs.Commands.{CommandFits}
 use Rattle.gm_state.specs.Words.{Has}
 use Rattle.gm_state.specs.Lookups.{metadata, component_of}
-use Rattle.gm_state.specs.Intents.{IsOf, is_last, IsRedo, InOrder}
-use Rattle.gm_state.specs.World.{World, Answered, Sound, Claims, is_key}
+use Rattle.gm_state.specs.Intents.{IsOf, is_last, IsRedo, InOrder, IsAtHand}
+use Rattle.gm_state.specs.Readable.{AreReadable}
+use Rattle.gm_state.specs.World.{World, Answered, Sound, Claims, CopiesData, is_key, present}
 use Rattle.gm_rules.specs.declared.refusals.Refusal.{Refusal}
 use Rattle.gm_rules.specs.Refusals.{own}
 use Rattle.gm_rules.specs.Bad.{applies}
 use Rattle.gm_rules.specs.Worlds.{seen_of}
-use Rattle.gm_rules.specs.After.{after, intents_of, clears}
+use Rattle.gm_rules.specs.After.{after, intents_of, reply_to, clears}
 
 -- the refusal applies to the command in the world
 pub record Bad (u : World) (c : Command) (r : Refusal) : Type 0 where
@@ -47,10 +47,11 @@ answer u key c r = record { key = key; command = c; number = length u.answered +
 -- the command under the key takes u to w, and is answered by r
 pub record Step (u : World) (key : List ℕ) (c : Command) (w : World) (r : Reply) : Type 0 where
   pub good : (q : Refusal) → Bad u c q → ⊥
-  pub records : w.state ≡ after u.size c u.state
-  pub reply : r ≡ Plain
+  pub records : w.state ≡ after (present u) c u.state
+  pub reply : r ≡ reply_to c u.state
   pub answered : w.answered ≡ answer u key c r ∷ u.answered
   pub sizes : (q : List ℕ) → w.size q ≡ u.size q
+  pub there : (q : List ℕ) → w.there q ≡ u.there q
   pub holds : (m : Mirror) → Has u.state.mirrors m → (i : ℕ) → w.holds m.name i ≡ u.holds m.name i
   pub new : NewData u c w
   pub full : (m : Mirror) (k : Component) → IsOf w.state m k → w.shelf k.provider (k.sectors - 1) ≡ encoded (metadata m k)
@@ -65,18 +66,28 @@ pub record CanAnswer (u : World) (key : List ℕ) (c : Command) : Type 0 where
   pub fits : CommandFits c
 
 -- the last sector of a component that is new bears nothing before the command
-abbrev pub NewWereBare : World → World → Type 0
-NewWereBare u w = (k : Component) → Has w.state.components k → component_of u.state k.provider ≡ None → (d : Metadata) → Bears (u.shelf k.provider (k.sectors - 1)) d → ⊥
+abbrev pub NewAreBare : World → World → Type 0
+NewAreBare u w = (k : Component) → Has w.state.components k → component_of u.state k.provider ≡ None → (d : Metadata) → Bears (u.shelf k.provider (k.sectors - 1)) d → ⊥
+
+-- a provider that label or insert makes a component bore nothing before
+abbrev pub WereBare : Command → World → World → Type 0
+WereBare (commands.Label n p mid did balance slice flags hardcoded) u w = NewAreBare u w
+WereBare (commands.Insert n p did priority hardcoded) u w = NewAreBare u w
+WereBare _ u w = Unit {0}
 
 -- The intents ts carry out the command's step from u to w: they name every sector that it changes and say what w holds there,
--- no source of a copy is a place, data come before claims, and what was claimed on the way stays true.
+-- no source of a copy is a place, data come before claims, and what was claimed on the way stays true. A registry that
+-- keeps them can be read again, what they read and write is there, and what they copy is the data of the mirror.
 pub record Plan (u : World) (key : List ℕ) (c : Command) (ts : List Intent) (w : World) : Type 0 where
-  pub step : Step u key c w Plain
+  pub step : Step u key c w (reply_to c u.state)
   pub sound : Sound w
   pub redo : IsRedo w.state u.size ts u.shelf w.shelf
   pub order : InOrder u.size ts
   pub claims : Claims u w.shelf
-  pub bare : NewWereBare u w
+  pub readable : AreReadable w.state ts
+  pub at_hand : (t : Intent) → Has ts t → IsAtHand (present u) t
+  pub copies : CopiesData u w ts
+  pub bare : WereBare c u w
 
 -- there is a world that the command steps to, and its intents carry that out
 abbrev pub HasPlan : World → List ℕ → Command → Type 0

@@ -4,24 +4,25 @@ use Rattle.gm_metadata.specs.Images.{zeros}
 use Rattle.gm_state.specs.declared.command.Command.{Command}
 use Rattle.gm_state.specs.declared.records.Component.{Component}
 use Rattle.gm_state.specs.Words.{Has}
-use Rattle.gm_state.specs.World.{World}
+use Rattle.gm_state.specs.Records.{Records}
+use Rattle.gm_state.specs.World.{World, present}
 use Rattle.gm_rules.specs.declared.facts.Fact.{Fact}
 use Rattle.gm_rules.specs.Facts.{size_in, last_in, last_carries}
 use Rattle.gm_rules.specs.Bad.{Seen, providers_of, mine}
 
 -- the last sector of a provider that is there; zeros stand for the one of a provider without sectors
 abbrev pub last_of : World → List ℕ → Option (List ℕ)
-last_of u p = option_map (λ n. if n == 0 then zeros else u.shelf p (n - 1)) (u.size p)
+last_of u p = option_map (λ n. if n == 0 then zeros else u.shelf p (n - 1)) (present u p)
 
--- what is seen of a world
+-- what is seen of a world: of the providers that are there
 abbrev pub seen_of : World → Seen
-seen_of u = record { size = u.size; carries = λ p. last_carries (last_of u p) }
+seen_of u = record { size = present u; carries = λ p. last_carries (last_of u p) }
 
 -- a command needs to know of the providers that it names, and of the components of its mirror
-abbrev pub IsNeeded : World → Command → List ℕ → Type 0
-IsNeeded u c q = Has (providers_of c) q ⊎ ((k : Component) × Has (mine u.state c) k × (k.provider ≡ q))
+abbrev pub IsNeeded : Records → Command → List ℕ → Type 0
+IsNeeded s c q = Has (providers_of c) q ⊎ ((k : Component) × Has (mine s c) k × (k.provider ≡ q))
 
 -- the facts are those of the world, for each provider that the command needs
 pub record AreFacts (facts : List Fact) (u : World) (c : Command) : Type 0 where
-  pub size : (q : List ℕ) → IsNeeded u c q → size_in facts q ≡ u.size q
-  pub last : (q : List ℕ) → IsNeeded u c q → last_in facts q ≡ last_of u q
+  pub size : (q : List ℕ) → IsNeeded u.state c q → size_in facts q ≡ present u q
+  pub last : (q : List ℕ) → IsNeeded u.state c q → last_in facts q ≡ last_of u q

@@ -1,7 +1,8 @@
 -- The example is sound, and the others aren't.
-use Rattle.std.proofs.Common.{◌≡◌, ◌∙◌, ◌⊎◌, inl, inr, ⊎_elim, ℕ, ◌<◌, ◌-◌, ◌==◌, false, refl, sym, ap, subst, arith, List, [], ◌∷◌, length, true≢false}
+use Rattle.std.proofs.Common.{◌≡◌, ◌∙◌, ◌⊎◌, inl, inr, ⊎_elim, codes, Some, None, is_some, ℕ, ◌<◌, ◌-◌, ◌==◌, true, false, refl, sym, ap, subst, arith, List, [], ◌∷◌, length, true≢false}
 use Rattle.std.proofs.lemmas.Bool.{ne_eqb}
 use Rattle.std.proofs.lemmas.List.Sorted.{IsPermutation-refl, length_permutation}
+use Rattle.gm_metadata.specs.Images.{SameThere, label_tells}
 use Rattle.gm_metadata.specs.Reading.{encoded}
 use Rattle.gm_state.specs.declared.records.Mirror.{Mirror}
 use Rattle.gm_state.specs.declared.records.Component.{Component}
@@ -9,9 +10,9 @@ use Rattle.gm_state.specs.Words.{Has}
 use Rattle.gm_state.specs.Records.{members, held_by}
 use Rattle.gm_state.specs.Lookups.{metadata}
 use Rattle.gm_state.specs.Intents.{IsOf}
-use Rattle.gm_state.specs.World.{Answered, AnswerFits, Sound, Below}
+use Rattle.gm_state.specs.World.{World, Answered, AnswerFits, Sound, Below, present}
 use Rattle.gm_state.specs.Rows.{AreRows}
-use Rattle.gm_state.specs.Examples.{gm0, a_img, b_img, records, data_of_gm0, sector_of_a, sector_of_b, cleared, example, crowded, misnumbered, unmarked, lacking, overclaiming, example_tables, short_tables, pending_tables}
+use Rattle.gm_state.specs.Examples.{gm0, a_img, b_img, records, data_of_gm0, sector_of_a, sector_of_b, cleared, example, without_b, shown_without_b, resized, crowded, misnumbered, unmarked, lacking, overclaiming, example_tables, short_tables, pending_tables}
 use Rattle.gm_state.proofs.OneCommand.{apart}
 use Rattle.gm_state.proofs.Testing.{is_state_tells, is_state_from}
 
@@ -47,6 +48,7 @@ example_sound = record {
     numbers = (refl, tt);
     keys = answers_apart;
   };
+  sizes = each (λ m k. example.size k.provider ≡ Some k.sectors) refl refl;
   full = each (λ m k. example.shelf k.provider (k.sectors - 1) ≡ encoded (metadata m k)) refl refl;
   whole = each (λ m k. Below example.shelf (example.holds m.name) k.provider (held_by k.disk m.data_sectors)) whole_a part_of_b;
 }
@@ -90,3 +92,26 @@ short_not r = apart 1 2 refl (length_permutation _ _ r.records.components)
 
 pub pending_not : AreRows example pending_tables → ⊥
 pending_not r = apart 1 0 refl (ap length r.intents)
+
+-- b.img goes away and comes back as it was
+pub without_b_sound : Sound without_b
+without_b_sound = record { state = example_sound.state; answers = example_sound.answers; sizes = example_sound.sizes; full = example_sound.full; whole = example_sound.whole }
+
+pub without_b_hides : present without_b (codes "b.img") ≡ None
+without_b_hides = refl
+
+pub without_b_shows : SameThere (present without_b) shown_without_b without_b.shelf
+without_b_shows p there i =
+    elim (label_tells p (codes "a.img")) [
+      | inl a ↦ rw a.0 refl
+      | inr other ↦ elim (label_tells p (codes "b.img")) [
+        | inl b ↦ (let h : is_some (present without_b p) ≡ false = rw b.0 refl in absurd (true≢false (sym there ∙ h)))
+        | inr neither ↦ (let h : is_some (present without_b p) ≡ false = rw (neither.0, other.0) refl in absurd (true≢false (sym there ∙ h)))
+      ]
+    ]
+
+pub without_b_returns : record without_b { there = λ p. true } ≡ example
+without_b_returns = refl
+
+pub resized_not : Sound resized → ⊥
+resized_not s = apart 5 4 refl (let e : Some 5 ≡ Some 4 = s.sizes gm0 a_img of_a in cc)

@@ -1,5 +1,5 @@
 -- Finding one in a list, and what a test of some one tells.
-use Rattle.std.proofs.Common.{◌≡◌, ◌∙◌, inl, inr, ⊎_elim, ℕ, Bool, true, false, ◌||◌, refl, sym, ap, ap₂, List, [], ◌∷◌, filter, find, map, Some, None}
+use Rattle.std.proofs.Common.{◌≡◌, ◌∙◌, ◌⊎◌, Option, inl, inr, ⊎_elim, ℕ, Bool, true, false, ◌||◌, refl, sym, ap, ap₂, List, [], ◌∷◌, filter, find, map, Some, None}
 use Rattle.std.specs.List.{list_any}
 use Rattle.std.proofs.lemmas.Bool.{cases_Bool, or_parts, or_left, or_right}
 use Rattle.gm_metadata.specs.Images.{same_label}
@@ -8,6 +8,11 @@ use Rattle.gm_state.specs.Records.{members}
 use Rattle.gm_state.specs.Words.{Has, Ascends}
 use Rattle.gm_state.proofs.Order.{same_from, same_is}
 use Rattle.gm_state.proofs.Words.{one}
+
+-- there is one, or none
+pub option_cases : {X : Type 0} (o : Option X) → (o ≡ None) ⊎ ((x : X) × (o ≡ Some x))
+option_cases None = inl refl
+option_cases (Some x) = inr (x, refl)
 
 pub found : {X : Type 0} (p : X → Bool) (xs : List X) (x : X) → find p xs ≡ Some x → Has xs x × (p x ≡ true)
 found p [] x e = cc

@@ -9,4 +9,8 @@ pub mod Best
 pub mod Parting
 pub mod OneCommand
 pub mod SameRows
+pub mod Codec
+pub mod Claiming
+pub mod Presence
+pub mod Placing
 pub mod Examples

@@ -8,7 +8,7 @@ use Rattle.gm_state.specs.Rows.{answer_row, copied_of, total_of}
 use Rattle.gm_state.proofs.OneCommand.{same_command}
 
 -- a copy that was answered holds some sectors
-same_reply : (a b : Reply) → ReplyFits a → ReplyFits b → copied_of a ≡ copied_of b → total_of a ≡ total_of b → a ≡ b
+pub same_reply : (a b : Reply) → ReplyFits a → ReplyFits b → copied_of a ≡ copied_of b → total_of a ≡ total_of b → a ≡ b
 same_reply Plain Plain f g p q = refl
 same_reply Plain (Copied held total) f g p q = let some : 0 < held = g.0 in absurd (omega arith)
 same_reply (Copied held total) Plain f g p q = let some : 0 < held = f.0 in absurd (omega arith)

@@ -1,5 +1,5 @@
 -- A world that is sound, and worlds that break one clause each.
-use Rattle.std.specs.Prelude.{◌==◌, ℕ, true, false, List, [], ◌∷◌, codes, Option, Some, None, if◌then◌else◌}
+use Rattle.std.specs.Prelude.{◌==◌, ℕ, Bool, true, false, not, List, [], ◌∷◌, codes, Option, Some, None, if◌then◌else◌}
 use Rattle.gm_metadata.specs.Images.{Image, same_label}
 use Rattle.gm_metadata.specs.Reading.{encoded}
 use Rattle.gm_metadata.specs.declared.balance.Balance.TheVariants as balances
@@ -64,7 +64,22 @@ example = record {
   answered = cleared 1 ∷ [];
   shelf = shelf_with sector_of_a sector_of_b;
   size = size_of;
+  there = λ p. true;
 }
+
+-- the same while b.img is away: what its shelf shows then, and the world
+abbrev pub is_home : List ℕ → Bool
+is_home p = not (same_label p (codes "b.img"))
+
+abbrev pub shown_without_b : Image
+shown_without_b = shelf_with sector_of_a (λ i. [])
+
+abbrev pub without_b : World
+without_b = record example { there = is_home }
+
+-- a.img is registered with another size than it has
+abbrev pub resized : World
+resized = record example { size = λ p. if same_label p (codes "a.img") then Some 5 else size_of p }
 
 -- gm0 has fewer components in all than are registered
 abbrev pub crowded : World

@@ -1,5 +1,5 @@
 -- The abstract bench.
-use Rattle.std.specs.Prelude.{◌≡◌, ◌+◌, ◌-◌, ◌/◌, ◌<◌, ◌≤◌, ℕ, Bool, false, ◌&&◌, nat_lt, IsTrue, List, [], ◌∷◌, length, if◌then◌else◌}
+use Rattle.std.specs.Prelude.{◌≡◌, ◌+◌, ◌-◌, ◌/◌, ◌<◌, ◌≤◌, ℕ, Bool, true, false, ◌&&◌, nat_lt, IsTrue, List, [], ◌∷◌, length, Some, None, if◌then◌else◌}
 use Rattle.std.specs.List.{list_all}
 use Rattle.gm_metadata.specs.Images.{Image, Sizes}
 use Rattle.gm_metadata.specs.Labels.{is_label_byte}
@@ -7,6 +7,7 @@ use Rattle.gm_metadata.specs.Reading.{encoded}
 use Rattle.gm_metadata.specs.Sector.{Bears, IsMetadata}
 use Rattle.gm_metadata.specs.declared.metadata.Metadata.{Metadata}
 use Rattle.gm_state.specs.declared.command.Command.{Command}
+use Rattle.gm_state.specs.declared.command.Intent.{Intent}
 use Rattle.gm_state.specs.declared.command.Reply.{Reply}
 use Rattle.gm_state.specs.declared.command.Reply.TheVariants.{Plain, Copied}
 use Rattle.gm_state.specs.declared.records.Mirror.{Mirror}
@@ -15,7 +16,7 @@ use Rattle.gm_state.specs.Words.{Has}
 use Rattle.gm_state.specs.Records.{Records, IsState, held_by}
 use Rattle.gm_state.specs.Lookups.{metadata}
 use Rattle.gm_state.specs.Commands.{CommandFits}
-use Rattle.gm_state.specs.Intents.{IsOf}
+use Rattle.gm_state.specs.Intents.{IsOf, any_copies}
 
 -- an answered key: its command, the command's number and the reply
 pub record Answered : Type 0 where
@@ -25,13 +26,18 @@ pub record Answered : Type 0 where
   pub reply : Reply
 
 -- the records, the data of each mirror by its name and the sector's number, the answered keys with the newest first,
--- what each provider holds, and how many sectors those have that are there
+-- what each provider holds and how many sectors it has, also while it is away, and which are there
 pub record World : Type 0 where
   pub state : Records
   pub holds : List ℕ → ℕ → List ℕ
   pub answered : List Answered
   pub shelf : Image
   pub size : Sizes
+  pub there : List ℕ → Bool
+
+-- the sizes of the providers that are there
+abbrev pub present : World → Sizes
+present w p = if w.there p then w.size p else None
 
 -- the first k sectors of p are the first k of the list
 abbrev pub Below : Image → (ℕ → List ℕ) → List ℕ → ℕ → Type 0
@@ -67,11 +73,12 @@ pub record AreAnswers (answers : List Answered) : Type 0 where
   pub numbers : AreNumbered answers
   pub keys : (a b : Answered) → Has answers a → Has answers b → a.key ≡ b.key → a ≡ b
 
--- The rules hold, each component's last sector says its metadata, and its data are what its record says:
--- an ACTIVE one is whole, one that is being copied to holds the list below its offset.
+-- The rules hold, each component has its registered size, its last sector says its metadata, and its data are what
+-- its record says: an ACTIVE one is whole, one that is being copied to holds the list below its offset.
 pub record Sound (w : World) : Type 0 where
   pub state : IsState w.state
   pub answers : AreAnswers w.answered
+  pub sizes : (m : Mirror) (k : Component) → IsOf w.state m k → w.size k.provider ≡ Some k.sectors
   pub full : (m : Mirror) (k : Component) → IsOf w.state m k → w.shelf k.provider (k.sectors - 1) ≡ encoded (metadata m k)
   pub whole : (m : Mirror) (k : Component) → IsOf w.state m k → Below w.shelf (w.holds m.name) k.provider (held_by k.disk m.data_sectors)
 
@@ -84,3 +91,7 @@ abbrev pub Claims : World → Image → Type 0
 Claims u x =
     (m : Mirror) (k : Component) (d : Metadata) → IsOf u.state m k → IsMetadata d → Bears (x k.provider (k.sectors - 1)) d
     → d.name ≡ m.name → d.mid ≡ m.mid → d.dflags.inactive ≡ false → Below x (u.holds m.name) k.provider (claimed m d)
+
+-- what the intents copy to a component of u is its mirror's data
+abbrev pub CopiesData : World → World → List Intent → Type 0
+CopiesData u w ts = (m : Mirror) (k : Component) → IsOf u.state m k → (i : ℕ) → any_copies ts k.provider i ≡ true → w.shelf k.provider i ≡ u.holds m.name i

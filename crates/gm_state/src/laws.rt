@@ -1,8 +1,10 @@
 //! What holds of all records and commands: laws, each the contract of a function that does nothing.
 
 ghost use Rattle.std.specs.Prelude.{◌≡◌, ℕ, Bool, List};
+ghost use Rattle.gm_metadata.specs.Images.{Image, SameThere};
 ghost use Rattle.gm_metadata.specs.Sector.{IsMetadata};
 ghost use Rattle.gm_state.specs.declared.command.Command.{Command};
+ghost use Rattle.gm_state.specs.declared.command.Reply.{Reply};
 ghost use Rattle.gm_state.specs.declared.records.Component.{Component};
 ghost use Rattle.gm_state.specs.declared.records.Disk.TheVariants.{InSync, Copying};
 ghost use Rattle.gm_state.specs.declared.records.Mirror.{Mirror};
@@ -10,8 +12,8 @@ ghost use Rattle.gm_state.specs.Commands.{CommandFits, words_of};
 ghost use Rattle.gm_state.specs.Intents.{IsOf};
 ghost use Rattle.gm_state.specs.Lookups.{metadata};
 ghost use Rattle.gm_state.specs.Records.{Records, IsState, IsStateOf};
-ghost use Rattle.gm_state.specs.Rows.{mirror_row, component_row, answer_row};
-ghost use Rattle.gm_state.specs.World.{Answered, AnswerFits, World, Sound, Whole, Below};
+ghost use Rattle.gm_state.specs.Rows.{mirror_row, component_row, answer_row, copied_of, total_of};
+ghost use Rattle.gm_state.specs.World.{Answered, AnswerFits, ReplyFits, World, Sound, Whole, Below, Claims};
 
 /// Two commands have equal words only where they are one command.
 pub fn one_command()
@@ -33,6 +35,17 @@ pub fn one_row()
     ensures mirror { (a b : Mirror) → mirror_row a ≡ mirror_row b → a ≡ b }
     ensures component { (a b : Component) → component_row a ≡ component_row b → a ≡ b }
     ensures answer { (a b : Answered) → AnswerFits a → AnswerFits b → answer_row a ≡ answer_row b → a ≡ b }
+{}
+
+/// The two numbers that a row keeps of a reply say the reply that was written.
+pub fn one_reply()
+    ensures { (a b : Reply) → ReplyFits a → ReplyFits b
+        → copied_of a ≡ copied_of b → total_of a ≡ total_of b → a ≡ b }
+{}
+
+/// In a sound world no component claims a sector that it lacks, in any image that is the world's on its providers.
+pub fn sound_claims()
+    ensures { (w : World) (x : Image) → Sound w → SameThere w.size x w.shelf → Claims w x }
 {}
 
 /// What soundness says of data: an ACTIVE component has all of its mirror's, and one that is being copied to has

@@ -7,6 +7,7 @@
 
 mod checking;
 mod command;
+mod keys;
 mod laws;
 mod lookups;
 mod records;
@@ -20,7 +21,10 @@ mod wording;
 
 pub use checking::{MAX_COMPONENTS, MAX_MIRRORS, MAX_SECTORS};
 pub use command::{BalanceWord, Command, Intent, Reply, Slice};
-pub use laws::{metadata_fits, one_command, one_row, one_state, sound_data};
+pub use keys::is_key;
+pub use laws::{
+    metadata_fits, one_command, one_reply, one_row, one_state, sound_claims, sound_data,
+};
 pub use lookups::{active_count, component_state, metadata, metadata_of, mirror_state};
 pub use records::{Component, Disk, Mirror};
 pub use sizes::{bytes_of, sectors_of};

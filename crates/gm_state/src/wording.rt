@@ -3,7 +3,7 @@
 ghost use Rattle.std.specs.Prelude.{◌≡◌, IfOk, codes, [], ◌∷◌};
 ghost use Rattle.std.specs.List.{join_with_byte};
 ghost use Rattle.std.specs.String.{string_bytes};
-ghost use Rattle.gm_state.specs.Commands.{number_words, on_where, switch_words, words_of};
+ghost use Rattle.gm_state.specs.Commands.{CommandFits, number_words, on_where, switch_words, words_of};
 
 use crate::command::Command;
 use gm_metadata::Label;
@@ -50,11 +50,53 @@ fn label_words(
     format!(in alloc; "label {numbers} {switches} {name} {provider}")
 }
 
+// What the types of its parts say of a command; it does nothing.
+fn command_fits(command: Command)
+    ensures { CommandFits command }
+{
+    match command {
+        Command::Label {
+            name,
+            provider,
+            mid: _mid,
+            did: _did,
+            slice,
+            ..
+        } => {
+            let _ = name.as_bytes();
+            let _ = provider.as_bytes();
+            let _ = slice.bytes();
+        }
+        Command::Insert {
+            name,
+            provider,
+            did: _did,
+            priority: _priority,
+            ..
+        } => {
+            let _ = name.as_bytes();
+            let _ = provider.as_bytes();
+        }
+        Command::Remove { name, provider } => {
+            let _ = name.as_bytes();
+            let _ = provider.as_bytes();
+        }
+        Command::Clear { provider } => {
+            let _ = provider.as_bytes();
+        }
+        Command::Destroy { name } => {
+            let _ = name.as_bytes();
+        }
+    }
+}
+
 /// The canonical words of a command: its name, the options in their order, each with its value and each default
 /// written out, and then the names; joined by one space, numbers in plain decimals (this project's own).
 pub fn words_of(alloc: Global, command: &Command) -> Result<String, AllocError>
-    ensures { IfOk result (λ text. string_bytes text ≡ words_of command.now) }
+    ensures words { IfOk result (λ text. string_bytes text ≡ words_of command.now) }
+    ensures fits { CommandFits command.now }
 {
+    command_fits(*command);
     match *command {
         Command::Label {
             name,

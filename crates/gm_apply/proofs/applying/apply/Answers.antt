@@ -3,7 +3,8 @@ use Rattle.std.proofs.lemmas.List.{take_all}
 use Rattle.gm_metadata.specs.Images.{Sizes}
 use Rattle.gm_state.specs.declared.command.Intent.{Intent}
 use Rattle.gm_state.specs.Intents.{is_place}
-use Rattle.gm_apply.specs.Redo.{Redone, LacksProvider, LacksSector}
+use Rattle.gm_apply.specs.Redo.{PlacesAreNew, KeepsOthers, LacksProvider, LacksSector, writes, is_written}
+use Rattle.gm_apply.proofs.Others.{keeps_trans, keeps_within, written_by}
 use Rattle.gm_apply.proofs.Lists.{has_index, index_says, index_redone, index_moments}
 use Rattle.gm_apply.proofs.applying.apply.Goals as goal
 
@@ -24,6 +25,10 @@ loop-intent-preserved g c =
           let so_far = inv.redone h w redo in
           index_moments c.args.state.now (size c.loop-intent.shelf) (size c.args.shelf.now) inv.sizes c.args.intents.now c.loop-intent.intent-index c.intent-item.result c.intent-item.is w (view c.args.shelf.now) (view c.loop-intent.shelf) (view c.apply_one.new.shelf) (omega arith) so_far (inv.moments h w redo)
           (c.apply_one.ensures.moments (inv.honest h) w (index_says c.args.state.now (size c.loop-intent.shelf) (size c.args.shelf.now) inv.sizes c.args.intents.now c.loop-intent.intent-index c.intent-item.result c.intent-item.is w (view c.args.shelf.now) (view c.loop-intent.shelf) (view c.apply_one.new.shelf) (omega arith) so_far redo));
+      others = λ h. keeps_trans (is_written c.args.state.now (size c.args.shelf.now) c.args.intents.now) (view c.args.shelf.now) (view c.loop-intent.shelf) (view c.apply_one.new.shelf) (inv.others h)
+          (keeps_within (writes c.args.state.now (size c.args.shelf.now) c.intent-item.result) (is_written c.args.state.now (size c.args.shelf.now) c.args.intents.now) (view c.loop-intent.shelf) (view c.apply_one.new.shelf)
+          (written_by c.args.state.now (size c.args.shelf.now) c.args.intents.now c.intent-item.result (has_index c.args.intents.now c.loop-intent.intent-index c.intent-item.result c.intent-item.is (omega arith)))
+          (subst (λ (z : Sizes). KeepsOthers (writes c.args.state.now z c.intent-item.result) (view c.loop-intent.shelf) (view c.apply_one.new.shelf)) inv.sizes (c.apply_one.ensures.others (inv.honest h))));
     }
 
 pub returns-in_err-apply_one-clause-moments : goal.returns-in_err-apply_one-clause-moments
@@ -39,7 +44,7 @@ pub returns-clause-done : goal.returns-clause-done
 returns-clause-done g c h w redo =
     let inv = c.loop-intent.invariant in
     let view = g.H.Shelf.view in
-    subst (λ (l : List Intent). Redone (is_place (g.H.Shelf.size c.args.shelf.now) l) w (view c.args.shelf.now) (view c.loop-intent.shelf)) (take_all c.loop-intent.intent-index c.args.intents.now (omega arith)) (inv.redone h w redo)
+    subst (λ (l : List Intent). PlacesAreNew (is_place (g.H.Shelf.size c.args.shelf.now) l) w (view c.args.shelf.now) (view c.loop-intent.shelf)) (take_all c.loop-intent.intent-index c.args.intents.now (omega arith)) (inv.redone h w redo)
 
 pub returns-in_err-apply_one-clause-absent : goal.returns-in_err-apply_one-clause-absent
 returns-in_err-apply_one-clause-absent g c e =
@@ -56,3 +61,13 @@ returns-in_err-apply_one-clause-range g c e =
       has_index c.args.intents.now c.loop-intent.intent-index c.intent-item.result c.intent-item.is (omega arith),
       subst (λ (z : Sizes). LacksSector z c.intent-item.result) c.loop-intent.invariant.sizes here,
     )
+
+pub returns-in_err-apply_one-clause-others : goal.returns-in_err-apply_one-clause-others
+returns-in_err-apply_one-clause-others g c h =
+    let inv = c.loop-intent.invariant in
+    let view = g.H.Shelf.view in
+    let size = g.H.Shelf.size in
+    keeps_trans (is_written c.args.state.now (size c.args.shelf.now) c.args.intents.now) (view c.args.shelf.now) (view c.loop-intent.shelf) (view c.apply_one.new.shelf) (inv.others h)
+    (keeps_within (writes c.args.state.now (size c.args.shelf.now) c.intent-item.result) (is_written c.args.state.now (size c.args.shelf.now) c.args.intents.now) (view c.loop-intent.shelf) (view c.apply_one.new.shelf)
+    (written_by c.args.state.now (size c.args.shelf.now) c.args.intents.now c.intent-item.result (has_index c.args.intents.now c.loop-intent.intent-index c.intent-item.result c.intent-item.is (omega arith)))
+    (subst (λ (z : Sizes). KeepsOthers (writes c.args.state.now z c.intent-item.result) (view c.loop-intent.shelf) (view c.apply_one.new.shelf)) inv.sizes (c.apply_one.ensures.others (inv.honest h))))

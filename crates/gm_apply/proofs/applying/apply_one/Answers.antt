@@ -1,9 +1,13 @@
-use Rattle.std.proofs.Common.{sym, ◌∙◌, subst, ◌≡◌, Ok, Err}
+use Rattle.std.proofs.Common.{refl, sym, ◌∙◌, subst, ◌≡◌, Ok, Err}
 use Rattle.gm_shelf.specs.declared.fault.ShelfFault.TheVariants.{Absent, Range}
 use Rattle.gm_metadata.specs.Images.{zeros}
 use Rattle.gm_metadata.specs.Reading.{encoded}
-use Rattle.gm_apply.specs.Redo.{Moments}
-use Rattle.gm_apply.proofs.Going.{at_start}
+use Rattle.std.specs.Prelude.{is_some}
+use Rattle.gm_state.specs.Lookups.{metadata_of}
+use Rattle.gm_state.specs.declared.command.Intent.TheVariants.{Meta}
+use Rattle.gm_apply.specs.Redo.{Moments, KeepsOthers, writes}
+use Rattle.gm_apply.proofs.Others.{keeps_start, keeps_within, others_step, written_meta}
+use Rattle.gm_apply.proofs.UnderWay.{at_start}
 use Rattle.gm_apply.proofs.Written.{last_of, done_step, moments_step, nothing_redone, says_found, says_of_none}
 use Rattle.gm_apply.proofs.applying.apply_one.Goals as goal
 
@@ -63,4 +67,43 @@ returns-in_ok-write_last-in-Clear-clause-moments g c = rw c.in-Clear.is (λ h w 
     let size = g.H.Shelf.size c.args.shelf.now in
     moments_step size c.in-Clear.provider zeros w says (view c.args.shelf.now) (view c.write_last.new.shelf)
     (λ e. subst (λ z. Moments (last_of size c.in-Clear.provider) w (view c.args.shelf.now) (view z)) (sym (c.write_last.ensures.nothing_done e)) (at_start (view c.args.shelf.now) _))
+    (λ i is. c.write_last.ensures.moments i h is))
+
+pub returns-in_err-write_meta-in-Meta-clause-others : goal.returns-in_err-write_meta-in-Meta-clause-others
+returns-in_err-write_meta-in-Meta-clause-others g c = rw c.in-Meta.is (λ h.
+    let view = g.H.Shelf.view in
+    let size = g.H.Shelf.size c.args.shelf.now in
+    keeps_within (last_of size c.in-Meta.provider) (writes c.args.state.now size (Meta c.in-Meta.provider)) (view c.args.shelf.now) (view c.write_meta.new.shelf)
+    (written_meta (is_some (metadata_of c.args.state.now c.in-Meta.provider)) (last_of size c.in-Meta.provider) (rw (sym (sym c.in-Some.is ∙ c.metadata_of.ensures.value)) refl))
+    (others_step size c.in-Meta.provider (encoded c.in-Some.metadata) (view c.args.shelf.now) (view c.write_meta.new.shelf)
+    (λ e. subst (λ z. KeepsOthers (last_of size c.in-Meta.provider) (view c.args.shelf.now) (view z)) (sym (c.write_meta.ensures.nothing_done e)) (keeps_start (last_of size c.in-Meta.provider) (view c.args.shelf.now)))
+    (λ i is. c.write_meta.ensures.moments i h is)))
+
+pub returns-in_ok-write_meta-in-Meta-clause-others : goal.returns-in_ok-write_meta-in-Meta-clause-others
+returns-in_ok-write_meta-in-Meta-clause-others g c = rw c.in-Meta.is (λ h.
+    let view = g.H.Shelf.view in
+    let size = g.H.Shelf.size c.args.shelf.now in
+    keeps_within (last_of size c.in-Meta.provider) (writes c.args.state.now size (Meta c.in-Meta.provider)) (view c.args.shelf.now) (view c.write_meta.new.shelf)
+    (written_meta (is_some (metadata_of c.args.state.now c.in-Meta.provider)) (last_of size c.in-Meta.provider) (rw (sym (sym c.in-Some.is ∙ c.metadata_of.ensures.value)) refl))
+    (others_step size c.in-Meta.provider (encoded c.in-Some.metadata) (view c.args.shelf.now) (view c.write_meta.new.shelf)
+    (λ e. subst (λ z. KeepsOthers (last_of size c.in-Meta.provider) (view c.args.shelf.now) (view z)) (sym (c.write_meta.ensures.nothing_done e)) (keeps_start (last_of size c.in-Meta.provider) (view c.args.shelf.now)))
+    (λ i is. c.write_meta.ensures.moments i h is)))
+
+pub returns-in_default-clause-others : goal.returns-in_default-clause-others
+returns-in_default-clause-others g c = rw c.in-Meta.is (λ h. keeps_start (writes c.args.state.now (g.H.Shelf.size c.args.shelf.now) (Meta c.in-Meta.provider)) (g.H.Shelf.view c.args.shelf.now))
+
+pub returns-in_err-write_last-in-Clear-clause-others : goal.returns-in_err-write_last-in-Clear-clause-others
+returns-in_err-write_last-in-Clear-clause-others g c = rw c.in-Clear.is (λ h.
+    let view = g.H.Shelf.view in
+    let size = g.H.Shelf.size c.args.shelf.now in
+    others_step size c.in-Clear.provider zeros (view c.args.shelf.now) (view c.write_last.new.shelf)
+    (λ e. subst (λ z. KeepsOthers (last_of size c.in-Clear.provider) (view c.args.shelf.now) (view z)) (sym (c.write_last.ensures.nothing_done e)) (keeps_start (last_of size c.in-Clear.provider) (view c.args.shelf.now)))
+    (λ i is. c.write_last.ensures.moments i h is))
+
+pub returns-in_ok-write_last-in-Clear-clause-others : goal.returns-in_ok-write_last-in-Clear-clause-others
+returns-in_ok-write_last-in-Clear-clause-others g c = rw c.in-Clear.is (λ h.
+    let view = g.H.Shelf.view in
+    let size = g.H.Shelf.size c.args.shelf.now in
+    others_step size c.in-Clear.provider zeros (view c.args.shelf.now) (view c.write_last.new.shelf)
+    (λ e. subst (λ z. KeepsOthers (last_of size c.in-Clear.provider) (view c.args.shelf.now) (view z)) (sym (c.write_last.ensures.nothing_done e)) (keeps_start (last_of size c.in-Clear.provider) (view c.args.shelf.now)))
     (λ i is. c.write_last.ensures.moments i h is))

@@ -1,8 +1,9 @@
 use Rattle.std.proofs.Common.{inr, inl, ◌∙◌, arith, refl}
 use Rattle.gm_state.specs.Intents.{copies}
 use Rattle.gm_state.specs.declared.command.Intent.TheVariants.{Copy}
-use Rattle.gm_apply.proofs.Going.{fixed, going_quiet, going_start}
-use Rattle.gm_apply.proofs.Sectors.{copies_on, copy_going, copy_seen, laid_none, laid_end}
+use Rattle.gm_apply.proofs.UnderWay.{fixed, going_quiet, going_start}
+use Rattle.gm_apply.proofs.Others.{keeps_start, keeps_quiet, keeps_write, keeps_trans}
+use Rattle.gm_apply.proofs.Sectors.{copies_here, copies_on, copy_going, copy_seen, laid_none, laid_end}
 use Rattle.gm_apply.proofs.copying.copy_sectors.Goals as goal
 
 pub loop-place-init : goal.loop-place-init
@@ -12,6 +13,7 @@ loop-place-init g c = record {
   honest = λ h. h;
   size = refl;
   going = λ h. going_start _ _ _;
+  others = λ h. keeps_start _ _;
   seen = λ h. laid_none c.args.source c.args.target c.args.first (g.H.Shelf.view c.args.shelf.now).seen;
 }
 
@@ -28,6 +30,12 @@ loop-place-preserved g c =
           let here = inv.honest h in
           copy_going c.args.source c.args.target c.args.first c.args.end c.loop-place.place c.loop-place.auto.place (view c.args.shelf.now) (view c.loop-place.shelf) (view c.read.new.self) c.read.new.out (view c.write.new.self)
           (omega arith) (inv.going h) (inv.seen h) (c.read.ensures.quiet here) (c.in_ok-read.ensures.bytes here) (c.write.ensures.law (c.read.ensures.honest here));
+      others = λ h.
+          let here = inv.honest h in
+          let place = copies (Copy c.args.source c.args.target c.args.first c.args.end) in
+          keeps_trans place (view c.args.shelf.now) (view c.read.new.self) (view c.write.new.self)
+          (keeps_trans place (view c.args.shelf.now) (view c.loop-place.shelf) (view c.read.new.self) (inv.others h) (keeps_quiet place (view c.loop-place.shelf) (view c.read.new.self) (c.read.ensures.quiet here)))
+          (keeps_write place c.args.target c.loop-place.place c.read.new.out (view c.read.new.self) (view c.write.new.self) (copies_here c.args.source c.args.target c.args.first c.args.end c.loop-place.place c.loop-place.auto.place (omega arith)) (c.write.ensures.law (c.read.ensures.honest here)));
       seen = λ h.
           let here = inv.honest h in
           copy_seen c.args.source c.args.target c.args.first c.args.end c.loop-place.place c.loop-place.auto.place (view c.args.shelf.now) (view c.loop-place.shelf) (view c.read.new.self) c.read.new.out (view c.write.new.self)
@@ -73,3 +81,34 @@ returns-clause-done g c h =
     (inv.going h)
     (laid_end c.args.source c.args.target c.args.first c.loop-place.place c.args.end (view c.args.shelf.now).seen (view c.loop-place.shelf).seen (omega arith) inv.reach (inv.seen h))
     (c.sync.ensures.quiet (inv.honest h)) (c.in_ok-sync.ensures.fixed (inv.honest h))
+
+pub returns-in_err-read-clause-others : goal.returns-in_err-read-clause-others
+returns-in_err-read-clause-others g c h =
+    let inv = c.loop-place.invariant in
+    let view = g.H.Shelf.view in
+    let place = copies (Copy c.args.source c.args.target c.args.first c.args.end) in
+    keeps_trans place (view c.args.shelf.now) (view c.loop-place.shelf) (view c.read.new.self) (inv.others h) (keeps_quiet place (view c.loop-place.shelf) (view c.read.new.self) (c.read.ensures.quiet (inv.honest h)))
+
+pub returns-in_err-write-clause-others : goal.returns-in_err-write-clause-others
+returns-in_err-write-clause-others g c h =
+    let inv = c.loop-place.invariant in
+    let view = g.H.Shelf.view in
+    let here = inv.honest h in
+    let place = copies (Copy c.args.source c.args.target c.args.first c.args.end) in
+    keeps_trans place (view c.args.shelf.now) (view c.read.new.self) (view c.write.new.self)
+    (keeps_trans place (view c.args.shelf.now) (view c.loop-place.shelf) (view c.read.new.self) (inv.others h) (keeps_quiet place (view c.loop-place.shelf) (view c.read.new.self) (c.read.ensures.quiet here)))
+    (keeps_write place c.args.target c.loop-place.place c.read.new.out (view c.read.new.self) (view c.write.new.self) (copies_here c.args.source c.args.target c.args.first c.args.end c.loop-place.place c.loop-place.auto.place (omega arith)) (c.write.ensures.law (c.read.ensures.honest here)))
+
+pub returns-in_err-sync-clause-others : goal.returns-in_err-sync-clause-others
+returns-in_err-sync-clause-others g c h =
+    let inv = c.loop-place.invariant in
+    let view = g.H.Shelf.view in
+    let place = copies (Copy c.args.source c.args.target c.args.first c.args.end) in
+    keeps_trans place (view c.args.shelf.now) (view c.loop-place.shelf) (view c.sync.new.self) (inv.others h) (keeps_quiet place (view c.loop-place.shelf) (view c.sync.new.self) (c.sync.ensures.quiet (inv.honest h)))
+
+pub returns-clause-others : goal.returns-clause-others
+returns-clause-others g c h =
+    let inv = c.loop-place.invariant in
+    let view = g.H.Shelf.view in
+    let place = copies (Copy c.args.source c.args.target c.args.first c.args.end) in
+    keeps_trans place (view c.args.shelf.now) (view c.loop-place.shelf) (view c.sync.new.self) (inv.others h) (keeps_quiet place (view c.loop-place.shelf) (view c.sync.new.self) (c.sync.ensures.quiet (inv.honest h)))

@@ -1,7 +1,7 @@
 use Rattle.std.proofs.Common.{◌≡◌, ◌≤◌, ◌⊎◌}
 use Rattle.gm_metadata.specs.Images.{Same}
 use Rattle.gm_state.specs.Intents.{copies}
-use Rattle.gm_apply.specs.Redo.{laid, Going}
+use Rattle.gm_apply.specs.Redo.{with_places, IsUnderWay, KeepsOthers}
 use Rattle.gm_state.specs.declared.command.Intent.TheVariants.{Copy}
 use Rattle.gm_apply.proofs.copying.copy_sectors.Given as goal
 
@@ -14,6 +14,7 @@ invariant-loop-place g l =
       count : old.faults ≤ (H.view l.shelf).faults;
       honest : H.honest l.fn.shelf → H.honest l.shelf;
       size : H.size l.shelf ≡ H.size l.fn.shelf;
-      going : H.honest l.fn.shelf → Going (copies (Copy l.source l.target l.first l.end)) (λ q j. old.seen l.source j) old (H.view l.shelf);
-      seen : H.honest l.fn.shelf → Same (H.view l.shelf).seen (laid (copies (Copy l.source l.target l.first l.place)) (λ q j. old.seen l.source j) old.seen);
+      going : H.honest l.fn.shelf → IsUnderWay (copies (Copy l.source l.target l.first l.end)) (λ q j. old.seen l.source j) old (H.view l.shelf);
+      others : H.honest l.fn.shelf → KeepsOthers (copies (Copy l.source l.target l.first l.end)) old (H.view l.shelf);
+      seen : H.honest l.fn.shelf → Same (H.view l.shelf).seen (with_places (copies (Copy l.source l.target l.first l.place)) (λ q j. old.seen l.source j) old.seen);
     }

@@ -1,4 +1,4 @@
-use Rattle.gm_state.proofs.Examples.{example_sound, crowded_not, misnumbered_not, unmarked_not, lacking_not, overclaiming_not}
+use Rattle.gm_state.proofs.Examples.{example_sound, crowded_not, misnumbered_not, unmarked_not, lacking_not, overclaiming_not, resized_not}
 use Rattle.gm_state.proofs.tests.examples.worlds.Goals as goal
 
 pub returns : goal.returns
@@ -9,4 +9,5 @@ returns c = record {
   a_last_sector_says_something_else = unmarked_not;
   an_active_component_lacks_data = lacking_not;
   a_copy_claims_too_much = overclaiming_not;
+  a_registered_size_is_another = resized_not;
 }
