@@ -7,13 +7,14 @@ use Rattle.gm_state.proofs.Claiming.{some_there}
 use Rattle.std.proofs.lemmas.Bool.Decides.{eqb_tells}
 use Rattle.gm_metadata.specs.Images.{Image, Sizes, Same, SameThere, same_label, label_tells}
 use Rattle.gm_metadata.specs.Sector.{Bears}
+use Rattle.gm_metadata.specs.declared.metadata.Metadata.{Metadata}
 use Rattle.gm_state.specs.declared.command.Intent.{Intent}
 use Rattle.gm_state.specs.declared.command.Intent.TheVariants.{Meta, Clear, Copy}
 use Rattle.gm_state.specs.declared.records.Mirror.{Mirror}
 use Rattle.gm_state.specs.declared.records.Component.{Component}
 use Rattle.gm_state.specs.Records.{Records}
 use Rattle.gm_state.specs.Intents.{IsOf, touches, is_last, names, copies, is_place, any_copies, Agrees, IsRedo, InOrder}
-use Rattle.gm_state.specs.World.{World, Claims}
+use Rattle.gm_state.specs.World.{World, Claims, NewClaims, Below, claimed}
 use Rattle.gm_apply.specs.Redo.{with_places, SomePlacesNew, IsPartlyDone}
 use Rattle.gm_apply.specs.Continues.{Continues}
 use Rattle.gm_apply.proofs.UnderWay.{laid_in, laid_out}
@@ -69,60 +70,80 @@ module _ (size : Sizes) (p : List ℕ) (l i : ℕ) (last : size p ≡ Some (l + 
       ⊎_elim (λ (h : names size t p i ≡ true). or_first (copies t p i) (any_copies ts p i) (named_copies t h)) (λ (h : is_place size ts p i ≡ true). or_second (copies t p i) (any_copies ts p i) (placed_copies ts h))
       (or_true (names size t p i) (is_place size ts p i) e)
 
-module _ (u w : World) (ts : List Intent) (d x : Image) (goes : Continues u w ts) (order : InOrder u.size ts) (agrees : Agrees u.size ts d w.shelf) (claims : Claims u d) (partly : IsPartlyDone u.size ts w.shelf d x) where
-  module _ (m : Mirror) (k : Component) (o : IsOf u.state m k) (l : ℕ) (size : u.size k.provider ≡ Some (l + 1)) (i : ℕ) where
+-- What a provider p holds on the way from d to w, whose last sector is l: what was true of a claim stays true.
+module _ (size : Sizes) (ts : List Intent) (w d x : Image) (order : InOrder size ts) (agrees : Agrees size ts d w) (partly : IsPartlyDone size ts w d x)
+    (p : List ℕ) (l : ℕ) (list : ℕ → List ℕ) (copied : (i : ℕ) → any_copies ts p i ≡ true → w p i ≡ list i) where
+  module _ (is : size p ≡ Some (l + 1)) (i : ℕ) where
     -- a sector whose claim was true before
-    was_true : d k.provider i ≡ u.holds m.name i → x k.provider l ≡ d k.provider l → x k.provider i ≡ u.holds m.name i
+    was_true : d p i ≡ list i → x p l ≡ d p l → x p i ≡ list i
     was_true true_before same =
         elim (eqb_tells i l) [
-          | inl at ↦ subst (λ (j : ℕ). x k.provider j ≡ d k.provider j) (sym at.1) same ∙ true_before
+          | inl at ↦ subst (λ (j : ℕ). x p j ≡ d p j) (sym at.1) same ∙ true_before
           | inr off ↦
-              ⊎_elim (λ (h : x k.provider i ≡ d k.provider i). h ∙ true_before)
-              (λ (h : (is_place u.size ts k.provider i ≡ true) × (x k.provider i ≡ w.shelf k.provider i)). h.1 ∙ goes.copies m k o i (placed_copies u.size k.provider l i size off.1 ts h.0))
-              (partly.mix k.provider i)
+              ⊎_elim (λ (h : x p i ≡ d p i). h ∙ true_before)
+              (λ (h : (is_place size ts p i ≡ true) × (x p i ≡ w p i)). h.1 ∙ copied i (placed_copies size p l i is off.1 ts h.0))
+              (partly.mix p i)
         ]
 
     -- a sector that is as in w, as soon as all that is copied is there
-    is_there : ((j : ℕ) → any_copies ts k.provider j ≡ true → x k.provider j ≡ w.shelf k.provider j) → x k.provider l ≡ w.shelf k.provider l → x k.provider i ≡ w.shelf k.provider i
+    is_there : ((j : ℕ) → any_copies ts p j ≡ true → x p j ≡ w p j) → x p l ≡ w p l → x p i ≡ w p i
     is_there done same =
         elim (eqb_tells i l) [
-          | inl at ↦ subst (λ (j : ℕ). x k.provider j ≡ w.shelf k.provider j) (sym at.1) same
-          | inr off ↦ elim (cases_Bool (is_place u.size ts k.provider i)) [
-            | inl e ↦ done i (placed_copies u.size k.provider l i size off.1 ts e)
-            | inr e ↦ agrees_kept u.size ts w.shelf d x agrees partly.mix k.provider (some_there (u.size k.provider) (l + 1) size) i e
+          | inl at ↦ subst (λ (j : ℕ). x p j ≡ w p j) (sym at.1) same
+          | inr off ↦ elim (cases_Bool (is_place size ts p i)) [
+            | inl e ↦ done i (placed_copies size p l i is off.1 ts e)
+            | inr e ↦ agrees_kept size ts w d x agrees partly.mix p (some_there (size p) (l + 1) is) i e
           ]
         ]
 
-  pub claims_kept : Claims u x
-  claims_kept m k e o fits bears named mid active i below =
-      let l : ℕ = k.sectors - 1 in
-      let room = (goes.state.each m o.mirror).sizes k o.component in
-      let whole : k.sectors ≡ l + 1 = omega (arith, room) in
-      elim (cases_Bool (list_any (touches k.provider) ts)) [
-        | inr apart ↦
-            let as_before : (j : ℕ) → x k.provider j ≡ d k.provider j = λ j. ⊎_elim
-            (λ (h : x k.provider j ≡ d k.provider j). h)
-            (λ (h : (is_place u.size ts k.provider j ≡ true) × (x k.provider j ≡ w.shelf k.provider j)). not_both (is_place u.size ts k.provider j) h.0 (untouched u.size k.provider j ts apart))
-            (partly.mix k.provider j) in
-            as_before i ∙ claims m k e o fits (subst (λ (s : List ℕ). Bears s e) (as_before l) bears) named mid active i below
-        | inl touched ↦
-            let size : u.size k.provider ≡ Some (l + 1) = goes.there m k o touched ∙ ap Some whole in
-            let before : x k.provider l ≡ d k.provider l → d k.provider i ≡ u.holds m.name i = λ same. claims m k e o fits (subst (λ (s : List ℕ). Bears s e) same bears) named mid active i below in
-            ⊎_elim
-            (λ (same : (j : ℕ) → is_last (u.size k.provider) j ≡ true → x k.provider j ≡ d k.provider j).
-            let last : x k.provider l ≡ d k.provider l = same l (is_last_at size) in
-            was_true m k o l size i (before last) last)
-            (λ (done : (j : ℕ) → any_copies ts k.provider j ≡ true → x k.provider j ≡ w.shelf k.provider j).
-            ⊎_elim
-            (λ (last : x k.provider l ≡ d k.provider l). was_true m k o l size i (before last) last)
-            (λ (h : (is_place u.size ts k.provider l ≡ true) × (x k.provider l ≡ w.shelf k.provider l)).
-            is_there m k o l size i done h.1 ∙ goes.claims m k e o fits (subst (λ (s : List ℕ). Bears s e) h.1 bears) named mid active i below)
-            (partly.mix k.provider l))
-            (partly.ordered order k.provider)
-      ]
+  is_last_at : size p ≡ Some (l + 1) → is_last (size p) l ≡ true
+  is_last_at is = rw is (itself l)
     where
-      is_last_at : u.size k.provider ≡ Some (k.sectors - 1 + 1) → is_last (u.size k.provider) (k.sectors - 1) ≡ true
-      is_last_at size = rw size (itself (k.sectors - 1))
-        where
-          itself : (n : ℕ) → (n + 1 == n + 1) ≡ true
-          itself n = elim (eqb_tells (n + 1) (n + 1)) [ inl e ↦ e.0 | inr e ↦ absurd (e.1 refl) ]
+      itself : (n : ℕ) → (n + 1 == n + 1) ≡ true
+      itself n = elim (eqb_tells (n + 1) (n + 1)) [ inl e ↦ e.0 | inr e ↦ absurd (e.1 refl) ]
+
+  -- what the metadata e claim, the first n sectors of the list
+  pub claim_kept : (list_any (touches p) ts ≡ true → size p ≡ Some (l + 1)) → (e : Metadata) (n : ℕ) → (Bears (d p l) e → Below d list p n) → (Bears (w p l) e → Below w list p n) → Bears (x p l) e → Below x list p n
+  claim_kept there e n before after bears i below =
+      elim (cases_Bool (list_any (touches p) ts)) [
+        | inr apart ↦
+            let as_before : (j : ℕ) → x p j ≡ d p j = λ j. ⊎_elim
+            (λ (h : x p j ≡ d p j). h)
+            (λ (h : (is_place size ts p j ≡ true) × (x p j ≡ w p j)). not_both (is_place size ts p j) h.0 (untouched size p j ts apart))
+            (partly.mix p j) in
+            as_before i ∙ before (subst (λ (s : List ℕ). Bears s e) (as_before l) bears) i below
+        | inl touched ↦
+            let is : size p ≡ Some (l + 1) = there touched in
+            let old : x p l ≡ d p l → d p i ≡ list i = λ same. before (subst (λ (s : List ℕ). Bears s e) same bears) i below in
+            ⊎_elim
+            (λ (same : (j : ℕ) → is_last (size p) j ≡ true → x p j ≡ d p j).
+            let last : x p l ≡ d p l = same l (is_last_at is) in
+            was_true is i (old last) last)
+            (λ (done : (j : ℕ) → any_copies ts p j ≡ true → x p j ≡ w p j).
+            ⊎_elim
+            (λ (last : x p l ≡ d p l). was_true is i (old last) last)
+            (λ (h : (is_place size ts p l ≡ true) × (x p l ≡ w p l)).
+            is_there is i done h.1 ∙ after (subst (λ (s : List ℕ). Bears s e) h.1 bears) i below)
+            (partly.mix p l))
+            (partly.ordered order p)
+      ]
+
+module _ (u w : World) (ts : List Intent) (goes : Continues u w ts) where
+  -- the last sector of a component that the intents read or write
+  last_there : (m : Mirror) (k : Component) → IsOf u.state m k → list_any (touches k.provider) ts ≡ true → u.size k.provider ≡ Some (k.sectors - 1 + 1)
+  last_there m k o touched =
+      let room = (goes.state.each m o.mirror).sizes k o.component in
+      let whole : k.sectors ≡ k.sectors - 1 + 1 = omega (arith, room) in
+      goes.there m k o touched ∙ ap Some whole
+
+-- the components of before
+pub claims_kept : (u w : World) (ts : List Intent) (d x : Image) → Continues u w ts → InOrder u.size ts → Agrees u.size ts d w.shelf → Claims u d → IsPartlyDone u.size ts w.shelf d x → Claims u x
+claims_kept u w ts d x goes order agrees claims partly m k e o fits bears named mid active =
+    claim_kept u.size ts w.shelf d x order agrees partly k.provider (k.sectors - 1) (u.holds m.name) (goes.copies m k o) (last_there u w ts goes m k o) e (claimed m e)
+    (λ b. claims m k e o fits b named mid active) (λ b. goes.claims m k e o fits b named mid active) bears
+
+-- those that are new in w
+pub new_claims_kept : (u w : World) (ts : List Intent) (d x : Image) → Continues w w ts → InOrder w.size ts → Agrees w.size ts d w.shelf → NewClaims u w d → IsPartlyDone w.size ts w.shelf d x → NewClaims u w x
+new_claims_kept u w ts d x goes order agrees claims partly m k e o new fits bears named mid active =
+    claim_kept w.size ts w.shelf d x order agrees partly k.provider (k.sectors - 1) (w.holds m.name) (goes.copies m k o) (last_there w w ts goes m k o) e (claimed m e)
+    (λ b. claims m k e o new fits b named mid active) (λ b. goes.claims m k e o fits b named mid active) bears

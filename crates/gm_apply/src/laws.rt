@@ -7,7 +7,7 @@ ghost use Rattle.gm_state.specs.Words.{Has};
 ghost use Rattle.gm_state.specs.Records.{Records, IsState};
 ghost use Rattle.gm_state.specs.Intents.{names, is_place, Says, AllSay, Lends, Agrees, IsRedo, InOrder, AreThere, LeadSomewhere};
 ghost use Rattle.gm_state.specs.Readable.{AreReadable};
-ghost use Rattle.gm_state.specs.World.{World, Sound, Claims, CopiesData};
+ghost use Rattle.gm_state.specs.World.{World, Sound, Claims, NewClaims, CopiesData};
 ghost use Rattle.gm_apply.specs.Redo.{with_places, IsPartlyDone};
 ghost use Rattle.gm_apply.specs.Continues.{Continues};
 
@@ -19,11 +19,15 @@ pub fn every_image_leads_on()
         → Same x (with_places (is_place size ts) w d) → SameThere size x w }
 {}
 
-/// A claim that was true stays true on the way: data come before claims.
+/// A claim that was true stays true on the way, since data come before claims: of the components of before, and of
+/// those that are new where the intents lead.
 pub fn true_claims_stay_true()
-    ensures { (u w : World) (ts : List Intent) (d x : Image) → Continues u w ts
+    ensures old { (u w : World) (ts : List Intent) (d x : Image) → Continues u w ts
         → InOrder u.size ts → Agrees u.size ts d w.shelf → Claims u d
         → IsPartlyDone u.size ts w.shelf d x → Claims u x }
+    ensures new { (u w : World) (ts : List Intent) (d x : Image) → Continues w w ts
+        → InOrder w.size ts → Agrees w.size ts d w.shelf → NewClaims u w d
+        → IsPartlyDone w.size ts w.shelf d x → NewClaims u w x }
 {}
 
 /// Intents that are readable for a state put data before claims, and no copy lends what another intent writes, where

@@ -14,7 +14,7 @@ use Rattle.gm_state.specs.declared.records.Mirror.{Mirror}
 use Rattle.gm_state.specs.declared.records.Component.{Component}
 use Rattle.gm_state.specs.Words.{Has}
 use Rattle.gm_state.specs.Records.{Records, IsState, held_by}
-use Rattle.gm_state.specs.Lookups.{metadata}
+use Rattle.gm_state.specs.Lookups.{metadata, component_of}
 use Rattle.gm_state.specs.Commands.{CommandFits}
 use Rattle.gm_state.specs.Intents.{IsOf, any_copies}
 
@@ -91,6 +91,12 @@ abbrev pub Claims : World → Image → Type 0
 Claims u x =
     (m : Mirror) (k : Component) (d : Metadata) → IsOf u.state m k → IsMetadata d → Bears (x k.provider (k.sectors - 1)) d
     → d.name ≡ m.name → d.mid ≡ m.mid → d.dflags.inactive ≡ false → Below x (u.holds m.name) k.provider (claimed m d)
+
+-- The same of the components that w has and u hasn't: they claim of w's data.
+abbrev pub NewClaims : World → World → Image → Type 0
+NewClaims u w x =
+    (m : Mirror) (k : Component) (d : Metadata) → IsOf w.state m k → component_of u.state k.provider ≡ None → IsMetadata d → Bears (x k.provider (k.sectors - 1)) d
+    → d.name ≡ m.name → d.mid ≡ m.mid → d.dflags.inactive ≡ false → Below x (w.holds m.name) k.provider (claimed m d)
 
 -- what the intents copy to a component of u is its mirror's data
 abbrev pub CopiesData : World → World → List Intent → Type 0

@@ -1,5 +1,8 @@
-use Rattle.gm_apply.proofs.Leading.{claims_kept}
+use Rattle.gm_apply.proofs.Leading.{claims_kept, new_claims_kept}
 use Rattle.gm_apply.proofs.laws.true_claims_stay_true.Goals as goal
 
-pub returns : goal.returns
-returns c = claims_kept
+pub returns-clause-old : goal.returns-clause-old
+returns-clause-old c = claims_kept
+
+pub returns-clause-new : goal.returns-clause-new
+returns-clause-new c = new_claims_kept
