@@ -19,6 +19,7 @@ use Rattle.gm_rules.specs.declared.refusals.Refusal.TheVariants.{Absent, WrongSi
 use Rattle.gm_rules.specs.Refusals.{number_of, own}
 use Rattle.gm_rules.specs.Bad.{Seen, applies, at, has_wrong_size}
 use Rattle.gm_rules.specs.Decides.{IsLeast, IsGood}
+use Rattle.gm_rules.specs.Parts.{IsGoodButCount}
 use Rattle.gm_state.proofs.Finding.{found, found_none, any_one}
 
 pub some_from : {X : Type 0} (o : Option X) → is_none o ≡ false → IsSome o
@@ -120,9 +121,9 @@ few_all s n m state e = let l : m.all ≤ 16 = (rules_of s n m state e).all in o
 
 -- the provider of a good label is there with a right size
 pub label_size : (s : Records) (x : Seen) (c : Command) (n p : List ℕ) (mid did : ℕ) (balance : BalanceWord) (slice : ℕ) (flags : MirrorFlags) (hardcoded : Bool)
-    → c ≡ Label n p mid did balance slice flags hardcoded → IsGood s x c → (is_none (x.size p) ≡ false) × (at (x.size p) has_wrong_size ≡ false)
+    → c ≡ Label n p mid did balance slice flags hardcoded → IsGoodButCount s x c → (is_none (x.size p) ≡ false) × (at (x.size p) has_wrong_size ≡ false)
 label_size s x c n p mid did balance slice flags hardcoded is good =
-    let g : IsGood s x (Label n p mid did balance slice flags hardcoded) = subst (λ (d : Command). IsGood s x d) is good in (
-      any_one (λ q. is_none (x.size q)) p (or_parts _ _ (g Absent (inr (inr (inl refl))))).0,
-      any_one (λ q. at (x.size q) has_wrong_size) p (g WrongSize (inr (inr (inr (inr (inr (inr (inl refl)))))))),
+    let g : IsGoodButCount s x (Label n p mid did balance slice flags hardcoded) = subst (λ (d : Command). IsGoodButCount s x d) is good in (
+      any_one (λ q. is_none (x.size q)) p (or_parts _ _ (g Absent (inr (inr (inl refl))) refl)).0,
+      any_one (λ q. at (x.size q) has_wrong_size) p (g WrongSize (inr (inr (inr (inr (inr (inr (inl refl))))))) refl),
     )

@@ -1,6 +1,8 @@
 pub mod Good
 pub mod Changes
 pub mod Seeing
+pub mod Agreeing
+pub mod Partly
 pub mod Turning
 pub mod Answering
 pub mod Planned

@@ -3,6 +3,7 @@ pub mod Facts
 pub mod Bad
 pub mod After
 pub mod Decides
+pub mod Parts
 pub mod Worlds
 pub mod Step
 pub mod Run

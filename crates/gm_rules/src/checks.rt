@@ -7,7 +7,8 @@ ghost use Rattle.gm_state.specs.Lookups.{component_of, is_active};
 ghost use Rattle.gm_state.specs.Records.{Records};
 ghost use Rattle.gm_rules.specs.Facts.{size_in, last_in, last_carries};
 ghost use Rattle.gm_rules.specs.Refusals.{own};
-ghost use Rattle.gm_rules.specs.Bad.{applies, name_of, providers_of, has_mid, has_did, is_mine, has_size, has_wrong_size, at, mirror_named, seen_in};
+ghost use Rattle.gm_rules.specs.Bad.{name_of, providers_of, has_mid, has_did, is_mine, has_size, has_wrong_size, at, mirror_named, seen_in};
+ghost use Rattle.gm_rules.specs.Parts.{applies_to_part};
 
 use crate::facts::Facts;
 use crate::refusals::{Refusal, own};
@@ -17,13 +18,13 @@ use std::slice;
 
 const MAX_COMPONENTS: u8 = 16;
 
-const MAX_MIRRORS: usize = 64;
+const MAX_MIRRORS: u64 = 64;
 
 const MIN_SECTORS: u64 = 2;
 
 const MAX_SECTORS: u64 = 1_048_576;
 
-fn name_of(command: &Command) -> Option<Label>
+pub(crate) fn name_of(command: &Command) -> Option<Label>
     ensures { result ≡ name_of command.now }
 {
     match command {
@@ -35,7 +36,7 @@ fn name_of(command: &Command) -> Option<Label>
     }
 }
 
-fn providers_of(command: &Command) -> &[Label]
+pub(crate) fn providers_of(command: &Command) -> &[Label]
     ensures { result.now ≡ providers_of command.now }
 {
     match command {
@@ -47,7 +48,7 @@ fn providers_of(command: &Command) -> &[Label]
     }
 }
 
-fn has_mid(command: &Command, mirror: &Mirror) -> bool
+pub(crate) fn has_mid(command: &Command, mirror: &Mirror) -> bool
     ensures { result ≡ has_mid command.now mirror.now }
 {
     match command {
@@ -191,7 +192,7 @@ fn count_of(components: &[Component], name: Option<Label>) -> usize
     components.iter().filter(|k| is_mine(name, k)).count()
 }
 
-fn is_named(providers: &[Label], component: &Component) -> bool
+pub(crate) fn is_on_any(providers: &[Label], component: &Component) -> bool
     ensures { result ≡ list_any (λ p. same_label component.now.provider p) providers.now }
 {
     providers.iter().any(|p| component.provider == *p)
@@ -200,7 +201,7 @@ fn is_named(providers: &[Label], component: &Component) -> bool
 fn stays_active(providers: &[Label], component: &Component) -> bool
     ensures { result ≡ (is_active component.now.disk && not (list_any (λ p. same_label component.now.provider p) providers.now)) }
 {
-    component.disk.is_active() && !is_named(providers, component)
+    component.disk.is_active() && !is_on_any(providers, component)
 }
 
 fn keeps_active(components: &[Component], name: Option<Label>, providers: &[Label]) -> bool
@@ -221,9 +222,9 @@ fn mirror_named(state: &State, command: &Command) -> Option<Mirror>
     }
 }
 
-// Whether the refusal applies.
-fn applies(state: &State, facts: &Facts, command: &Command, refusal: Refusal) -> bool
-    ensures { result ≡ applies state.now (seen_in facts.now) command.now refusal }
+// Whether the refusal applies, where so many mirrors are registered.
+fn applies(state: &State, count: u64, facts: &Facts, command: &Command, refusal: Refusal) -> bool
+    ensures { result ≡ applies_to_part state.now count (seen_in facts.now) command.now refusal }
 {
     let name = name_of(command);
     let providers = providers_of(command);
@@ -246,7 +247,7 @@ fn applies(state: &State, facts: &Facts, command: &Command, refusal: Refusal) ->
             None => false,
             Some(m) => m.all == MAX_COMPONENTS,
         },
-        Refusal::TooManyMirrors => state.mirrors().len() == MAX_MIRRORS,
+        Refusal::TooManyMirrors => count == MAX_MIRRORS,
         Refusal::SomeLost => match mirror {
             None => false,
             Some(m) => count_of(components, name) < usize::from(m.all),
@@ -257,12 +258,18 @@ fn applies(state: &State, facts: &Facts, command: &Command, refusal: Refusal) ->
     }
 }
 
-/// The least refusal that applies, if any does.
-pub(crate) fn least_refusal(state: &State, facts: &Facts, command: &Command) -> Option<Refusal>
-    ensures { result ≡ find (applies state.now (seen_in facts.now) command.now) (own command.now) }
+/// The least refusal that applies, if any does, where so many mirrors are registered.
+pub(crate) fn least_refusal(
+    state: &State,
+    count: u64,
+    facts: &Facts,
+    command: &Command,
+) -> Option<Refusal>
+    ensures { result ≡ find (applies_to_part state.now count (seen_in facts.now) command.now)
+        (own command.now) }
 {
     own(command)
         .iter()
         .copied()
-        .find(|r| applies(state, facts, command, *r))
+        .find(|r| applies(state, count, facts, command, *r))
 }

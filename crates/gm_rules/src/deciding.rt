@@ -1,12 +1,14 @@
 //! What a command does to the records, or why it is refused.
 
-ghost use Rattle.std.specs.Prelude.{◌≡◌, ◌<◌, ◌^◌, IfOk, Some, IsSome};
+ghost use Rattle.std.specs.Prelude.{◌≡◌, ◌<◌, ◌^◌, IfOk, OnErr, Some, IsSome, length};
 ghost use Rattle.std.specs.Option.{ForSome};
-ghost use Rattle.gm_state.specs.World.{World};
 ghost use Rattle.gm_state.specs.declared.command.Command.TheVariants as commands;
+ghost use Rattle.gm_state.specs.Records.{Records};
+ghost use Rattle.gm_state.specs.World.{World};
 ghost use Rattle.gm_rules.specs.Bad.{seen_in};
-ghost use Rattle.gm_rules.specs.Decides.{Decides, Makes, IsGood};
+ghost use Rattle.gm_rules.specs.Decides.{Decides, IsGood};
 ghost use Rattle.gm_rules.specs.Facts.{size_in};
+ghost use Rattle.gm_rules.specs.Parts.{IsPartOf, IsGoodButCount, IsMade};
 ghost use Rattle.gm_rules.specs.Worlds.{AreFacts, seen_of};
 
 use crate::change::Change;
@@ -31,24 +33,50 @@ pub fn decide(
 ) -> Result<Result<Change, Refusal>, AllocError>
     ensures facts { IfOk result (λ r. Decides state.now (seen_in facts.now) command.now r) }
     // In each world that the state and the facts are of.
-    ensures world { IfOk result (λ r. (u : World) → u.state ≡ state.now → AreFacts facts.now u command.now → Decides u.state (seen_of u) command.now r) }
+    ensures world { IfOk result (λ r. (u : World) → u.state ≡ state.now → AreFacts facts.now u command.now
+        → Decides u.state (seen_of u) command.now r) }
+    // Where memory is wanting, no refusal applies.
+    ensures memory { OnErr result (IsGood state.now (seen_in facts.now) command.now) }
 {
-    if let Some(refusal) = least_refusal(state, facts, command) {
+    let count = state.mirrors().len() as u64;
+    let decided = decide_part(alloc, state, count, facts, command)?;
+    Ok(decided)
+}
+
+/// What `decide` answers on a whole state, from the command's part of it and the number of its mirrors.
+pub fn decide_part(
+    alloc: Global,
+    part: &State,
+    count: u64,
+    facts: &Facts,
+    command: &Command,
+) -> Result<Result<Change, Refusal>, AllocError>
+    ensures facts { IfOk result (λ r. (s : Records) → IsPartOf part.now command.now s
+        → count ≡ length s.mirrors → Decides s (seen_in facts.now) command.now r) }
+    // In each world that the part and the facts are of.
+    ensures world { IfOk result (λ r. (u : World) → IsPartOf part.now command.now u.state
+        → count ≡ length u.state.mirrors → AreFacts facts.now u command.now
+        → Decides u.state (seen_of u) command.now r) }
+    // Where memory is wanting, no refusal applies.
+    ensures memory { OnErr result ((s : Records) → IsPartOf part.now command.now s
+        → count ≡ length s.mirrors → IsGood s (seen_in facts.now) command.now) }
+{
+    if let Some(refusal) = least_refusal(part, count, facts, command) {
         return Ok(Err(refusal));
     }
-    let change = change_of(alloc, state, facts, command)?;
+    let change = change_of(alloc, part, facts, command)?;
     Ok(Ok(change))
 }
 
 // What a command changes that nothing refuses.
 fn change_of(
     alloc: Global,
-    state: &State,
+    part: &State,
     facts: &Facts,
     command: &Command,
 ) -> Result<Change, AllocError>
-    requires { IsGood state.now (seen_in facts.now) command.now }
-    ensures { IfOk result (λ ch. Makes state.now (seen_in facts.now) command.now ch) }
+    requires { IsGoodButCount part.now (seen_in facts.now) command.now }
+    ensures { IfOk result (λ ch. IsMade part.now (seen_in facts.now) command.now ch) }
 {
     match *command {
         Command::Label {
@@ -73,15 +101,13 @@ fn change_of(
             did,
             priority,
             hardcoded,
-        } => insert(
-            alloc, state, facts, name, provider, did, priority, hardcoded,
-        ),
-        Command::Remove { name, provider } => remove(alloc, state, facts, name, provider),
+        } => insert(alloc, part, facts, name, provider, did, priority, hardcoded),
+        Command::Remove { name, provider } => remove(alloc, part, facts, name, provider),
         Command::Clear { provider } => {
             let change = cleared(alloc, provider)?;
             Ok(change)
         }
-        Command::Destroy { name } => destroy(alloc, state, facts, name),
+        Command::Destroy { name } => destroy(alloc, part, facts, name),
     }
 }
 
@@ -96,7 +122,7 @@ fn sectors_of(facts: &Facts, provider: Label) -> u32
 
 fn insert(
     alloc: Global,
-    state: &State,
+    part: &State,
     facts: &Facts,
     name: Label,
     provider: Label,
@@ -104,38 +130,38 @@ fn insert(
     priority: u8,
     hardcoded: bool,
 ) -> Result<Change, AllocError>
-    requires { IsGood state.now (seen_in facts.now) (commands.Insert name provider did priority hardcoded) }
-    ensures { IfOk result (λ ch. Makes state.now (seen_in facts.now) (commands.Insert name provider did priority hardcoded) ch) }
+    requires { IsGoodButCount part.now (seen_in facts.now) (commands.Insert name provider did priority hardcoded) }
+    ensures { IfOk result (λ ch. IsMade part.now (seen_in facts.now) (commands.Insert name provider did priority hardcoded) ch) }
 {
-    let mirror = state.mirror(name).unwrap();
+    let mirror = part.mirror(name).unwrap();
     let sectors = sectors_of(facts, provider);
     let spare = spare(&mirror, provider, did, priority, hardcoded, sectors);
-    let members = state.members(alloc, name)?;
+    let members = part.members(alloc, name)?;
     let change = inserted(alloc, mirror, members, spare)?;
     Ok(change)
 }
 
 fn remove(
     alloc: Global,
-    state: &State,
+    part: &State,
     facts: &Facts,
     name: Label,
     provider: Label,
 ) -> Result<Change, AllocError>
-    requires { IsGood state.now (seen_in facts.now) (commands.Remove name provider) }
-    ensures { IfOk result (λ ch. Makes state.now (seen_in facts.now) (commands.Remove name provider) ch) }
+    requires { IsGoodButCount part.now (seen_in facts.now) (commands.Remove name provider) }
+    ensures { IfOk result (λ ch. IsMade part.now (seen_in facts.now) (commands.Remove name provider) ch) }
 {
-    let mirror = state.mirror(name).unwrap();
-    let members = state.members(alloc, name)?;
+    let mirror = part.mirror(name).unwrap();
+    let members = part.members(alloc, name)?;
     let change = removed(alloc, mirror, &members, provider)?;
     Ok(change)
 }
 
-fn destroy(alloc: Global, state: &State, facts: &Facts, name: Label) -> Result<Change, AllocError>
-    requires { IsGood state.now (seen_in facts.now) (commands.Destroy name) }
-    ensures { IfOk result (λ ch. Makes state.now (seen_in facts.now) (commands.Destroy name) ch) }
+fn destroy(alloc: Global, part: &State, facts: &Facts, name: Label) -> Result<Change, AllocError>
+    requires { IsGoodButCount part.now (seen_in facts.now) (commands.Destroy name) }
+    ensures { IfOk result (λ ch. IsMade part.now (seen_in facts.now) (commands.Destroy name) ch) }
 {
-    let members = state.members(alloc, name)?;
+    let members = part.members(alloc, name)?;
     let change = destroyed(alloc, name, &members)?;
     Ok(change)
 }

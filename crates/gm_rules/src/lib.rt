@@ -1,7 +1,7 @@
 //! What a command does, or why it is refused: pure decisions over the records and what the shelf says.
 //!
 //! Begin with `refusals.rt` and `change.rt`, the answers; `deciding.rt` makes them. `checks.rt` has a test for each
-//! refusal, `making.rt` the change of each command.
+//! refusal, `making.rt` the change of each command. `parts.rt` says which records it takes to decide.
 #![tactic(auto)]
 
 mod change;
@@ -10,12 +10,14 @@ mod deciding;
 mod facts;
 mod laws;
 mod making;
+mod parts;
 mod refusals;
 #[cfg(test)]
 mod tests;
 
 pub use change::Change;
-pub use deciding::decide;
+pub use deciding::{decide, decide_part};
 pub use facts::{Fact, Facts};
 pub use laws::every_command_has_a_plan;
+pub use parts::{a_part_is_a_state, part};
 pub use refusals::Refusal;

@@ -1,19 +1,23 @@
-use Rattle.std.proofs.Common.{rules, ◌∙◌, sym, Ok, Err}
+use Rattle.std.proofs.Common.{◌≡◌, ◌∙◌, refl, sym, ap, length, subst}
+use Rattle.gm_state.specs.Records.{Records}
 use Rattle.gm_rules.specs.Bad.{seen_in}
-use Rattle.gm_rules.specs.Decides.{IsLeast, Makes}
-use Rattle.gm_rules.proofs.Good.{is_least, is_good}
-use Rattle.gm_rules.proofs.Seeing.{in_world}
+use Rattle.gm_rules.specs.Decides.{IsGood}
+use Rattle.gm_rules.specs.Parts.{IsPartOf}
+use Rattle.gm_rules.proofs.Agreeing.{whole_is_part}
+use Rattle.gm_rules.proofs.Partly.{on_err}
 use Rattle.gm_rules.proofs.deciding.decide.Goals as goal
 
-pub returns-in-Some : goal.returns-in-Some
-returns-in-Some c =
-    let least : IsLeast c.args.state.now (seen_in c.args.facts.now) c.args.command.now c.in-Some.refusal = is_least _ _ _ _ (sym c.least_refusal.ensures ∙ c.in-Some.is) in
-    record { facts = least; world = in_world c.args.facts.now c.args.state.now c.args.command.now (Err c.in-Some.refusal) least }
+pub returns-in_err-decided-clause-memory : goal.returns-in_err-decided-clause-memory
+returns-in_err-decided-clause-memory c =
+    on_err c.from_residual.result (IsGood c.args.state.now (seen_in c.args.facts.now) c.args.command.now)
+    (c.in_err-decided.ensures.memory c.args.state.now (whole_is_part c.args.state.now c.args.command.now c.mirrors.ensures.state) (ap length c.mirrors.ensures.value))
 
-pub change_of-requires : goal.change_of-requires
-change_of-requires c = is_good c.args.state.now (seen_in c.args.facts.now) c.args.command.now (search rules)
+pub returns-clause-facts : goal.returns-clause-facts
+returns-clause-facts c =
+    c.in_ok-decided.ensures.facts c.args.state.now (whole_is_part c.args.state.now c.args.command.now c.mirrors.ensures.state) (ap length c.mirrors.ensures.value)
 
-pub returns : goal.returns
-returns c =
-    let makes : Makes c.args.state.now (seen_in c.args.facts.now) c.args.command.now c.in_ok-change.change = search rules in
-    record { facts = makes; world = in_world c.args.facts.now c.args.state.now c.args.command.now (Ok c.in_ok-change.change) makes }
+pub returns-clause-world : goal.returns-clause-world
+returns-clause-world c u e are =
+    let of : IsPartOf c.args.state.now c.args.command.now u.state
+    = subst (λ (s : Records). IsPartOf c.args.state.now c.args.command.now s) (sym e) (whole_is_part c.args.state.now c.args.command.now c.mirrors.ensures.state) in
+    c.in_ok-decided.ensures.world u of (ap length (c.mirrors.ensures.value ∙ sym (ap (λ (s : Records). s.mirrors) e))) are

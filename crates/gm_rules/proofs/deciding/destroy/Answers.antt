@@ -1,9 +1,8 @@
 use Rattle.std.proofs.Common.{◌∙◌, sym}
 use Rattle.gm_rules.specs.Bad.{seen_in}
-use Rattle.gm_rules.proofs.Changes.{destroy_makes}
+use Rattle.gm_rules.proofs.Partly.{destroy_made}
 use Rattle.gm_rules.proofs.deciding.destroy.Goals as goal
 
 pub returns : goal.returns
 returns c =
-    destroy_makes c.args.state.now (seen_in c.args.facts.now) c.args.name _ _ c.requires c.in_ok-members.ensures.state
-    (sym (c.deref.ensures.value ∙ c.in_ok-members.ensures.value)) c.in_ok-change.ensures
+    destroy_made c.args.part.now (seen_in c.args.facts.now) c.args.name _ _ (sym (c.deref.ensures.value ∙ c.in_ok-members.ensures.value)) c.in_ok-change.ensures

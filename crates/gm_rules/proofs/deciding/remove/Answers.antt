@@ -2,16 +2,16 @@ use Rattle.std.proofs.Common.{◌∙◌, sym, inl, refl}
 use Rattle.gm_rules.specs.declared.refusals.Refusal.TheVariants as refusals
 use Rattle.gm_rules.specs.Bad.{seen_in}
 use Rattle.gm_rules.proofs.Good.{some_from, some_all}
-use Rattle.gm_rules.proofs.Changes.{remove_makes}
+use Rattle.gm_rules.proofs.Partly.{remove_made}
 use Rattle.gm_rules.proofs.deciding.remove.Goals as goal
 
 pub unwrap-mirror-requires : goal.unwrap-mirror-requires
-unwrap-mirror-requires c = rw c.mirror.ensures.value (some_from _ (c.requires refusals.NoMirror (inl refl)))
+unwrap-mirror-requires c = rw c.mirror.ensures.value (some_from _ (c.requires refusals.NoMirror (inl refl) refl))
 
 pub removed-requires : goal.removed-requires
 removed-requires c = some_all _ _ _ c.mirror.ensures.state (sym c.mirror.ensures.value ∙ c.unwrap-mirror.ensures)
 
 pub returns : goal.returns
 returns c =
-    remove_makes c.args.state.now (seen_in c.args.facts.now) c.args.name c.args.provider _ _ _ c.requires (sym c.mirror.ensures.value ∙ c.unwrap-mirror.ensures)
+    remove_made c.args.part.now (seen_in c.args.facts.now) c.args.name c.args.provider _ _ _ (sym c.mirror.ensures.value ∙ c.unwrap-mirror.ensures)
     (sym (c.deref.ensures.value ∙ c.in_ok-members.ensures.value)) c.in_ok-change.ensures

@@ -1,0 +1,176 @@
+-- What a command asks for is found in its part as in the whole state.
+use Rattle.std.proofs.Common.{◌≡◌, ◌∙◌, inl, inr, ℕ, ◌≤◌, ◌==◌, ◌||◌, Bool, true, false, nat_lt, not, ◌&&◌, refl, sym, ap, ap₂, List, [], ◌∷◌, Option, Some, None, filter, find, map, length, is_none, is_some, eq-eqb, arith}
+use Rattle.std.specs.Prelude.{option_and_then}
+use Rattle.std.specs.List.{list_any}
+use Rattle.std.proofs.lemmas.Bool.{cases_Bool, or_left, or_right}
+use Rattle.gm_metadata.specs.Images.{same_label}
+use Rattle.gm_state.specs.declared.command.Command.{Command}
+use Rattle.gm_state.specs.declared.records.Mirror.{Mirror}
+use Rattle.gm_state.specs.declared.records.Component.{Component}
+use Rattle.gm_state.specs.Words.{Has}
+use Rattle.gm_state.specs.Records.{Records, IsState, IsMirror, members, name, provider}
+use Rattle.gm_state.specs.Lookups.{mirror_of, component_of, is_active}
+use Rattle.gm_state.proofs.Order.{same_from, same_is}
+use Rattle.gm_state.proofs.Words.{Has-filter, filter-Has, Ascends-filter, filter_id, length-filter_le}
+use Rattle.gm_state.proofs.Finding.{any_from, some_any, any_agree}
+use Rattle.gm_rules.specs.declared.refusals.Refusal.{Refusal}
+use Rattle.gm_rules.specs.declared.refusals.Refusal.TheVariants.{NoMirror, NameTaken, MidTaken, Absent, ProviderTaken, CarriesMetadata, TooSmall, NotMember, DidTaken, Full, TooManyMirrors, SomeLost, LastActive, WrongSize, NoMetadata}
+use Rattle.gm_rules.specs.Bad.{Seen, applies, name_of, providers_of, has_mid, has_did, has_size, is_mine, mine, mirror_named, at}
+use Rattle.gm_rules.specs.Parts.{is_named, any_named, is_asked, with_components, part_of, IsPartOf, applies_to_part}
+
+-- ---- lists of which the rest was left out
+
+-- where all that passes one test passes another
+module _ {X : Type 0} (p q : X → Bool) where
+  filter_within : (xs : List X) → ((x : X) → Has xs x → p x ≡ true → q x ≡ true) → filter p (filter q xs) ≡ filter p xs
+  filter_within [] h = refl
+  filter_within (x ∷ xs) h =
+      let rest : filter p (filter q xs) ≡ filter p xs = filter_within xs (λ y k. h y (inr k)) in
+      elim (cases_Bool (p x)) [
+        | inl t ↦ (let u : q x ≡ true = h x (inl refl) t in rw (u, t) (ap (λ ys. x ∷ ys) rest))
+        | inr t ↦ elim (cases_Bool (q x)) [ inl u ↦ rw (u, t) rest | inr u ↦ rw (u, t) rest ]
+      ]
+
+  find_within : (xs : List X) → ((x : X) → Has xs x → p x ≡ true → q x ≡ true) → find p (filter q xs) ≡ find p xs
+  find_within [] h = refl
+  find_within (x ∷ xs) h =
+      let rest : find p (filter q xs) ≡ find p xs = find_within xs (λ y k. h y (inr k)) in
+      elim (cases_Bool (p x)) [
+        | inl t ↦ (let u : q x ≡ true = h x (inl refl) t in rw (u, t) refl)
+        | inr t ↦ elim (cases_Bool (q x)) [ inl u ↦ rw (u, t) rest | inr u ↦ rw (u, t) rest ]
+      ]
+
+  any_within : (xs : List X) → ((x : X) → Has xs x → p x ≡ true → q x ≡ true) → list_any p (filter q xs) ≡ list_any p xs
+  any_within [] h = refl
+  any_within (x ∷ xs) h =
+      let rest : list_any p (filter q xs) ≡ list_any p xs = any_within xs (λ y k. h y (inr k)) in
+      elim (cases_Bool (q x)) [
+        | inl u ↦ rw u (ap (λ b. p x || b) rest)
+        | inr u ↦ elim (cases_Bool (p x)) [
+          | inl t ↦ absurd (let both : true ≡ false = sym (h x (inl refl) t) ∙ u in let f : ⊥ = cc in f)
+          | inr t ↦ rw (u, t) rest
+        ]
+      ]
+
+-- nothing passes a test that always fails
+no_one : {X : Type 0} (xs : List X) → filter (λ x. false) xs ≡ []
+no_one [] = refl
+no_one (x ∷ xs) = no_one xs
+
+-- ---- what the command asks for
+
+module _ (s : Records) (c : Command) (mids : List ℕ) (state : IsState s) where
+  abbrev kept : List Mirror
+  kept = filter (is_asked s c mids) s.mirrors
+
+  abbrev is_kept : Component → Bool
+  is_kept k = list_any (λ m. same_label k.mirror m.name) kept
+
+  -- a component of a mirror that is asked for is kept
+  keeps : (k : Component) (m : Mirror) → Has s.mirrors m → m.name ≡ k.mirror → is_asked s c mids m ≡ true → is_kept k ≡ true
+  keeps k m h e asked = any_from (λ (a : Mirror). same_label k.mirror a.name) kept m (filter-Has (is_asked s c mids) s.mirrors m h asked) (same_from k.mirror m.name (sym e))
+
+  asked_name : (n : List ℕ) → name_of c ≡ Some n → (m : Mirror) → m.name ≡ n → is_asked s c mids m ≡ true
+  asked_name n e m is =
+      let named : is_named c m ≡ true = rw e (same_from m.name n is) in
+      or_left _ _ (or_left _ _ (or_left (is_named c m) (has_mid c m) named))
+
+  asked_mid : (m : Mirror) → has_mid c m ≡ true → is_asked s c mids m ≡ true
+  asked_mid m e = or_left _ _ (or_left _ _ (or_right (is_named c m) (has_mid c m) e))
+
+  asked_provider : (p : List ℕ) → Has (providers_of c) p → (k : Component) → Has s.components k → k.provider ≡ p → (m : Mirror) → m.name ≡ k.mirror → is_asked s c mids m ≡ true
+  asked_provider p h k there e m home =
+      let on : list_any (λ q. same_label k.provider q) (providers_of c) ≡ true = any_from (λ (q : List ℕ). same_label k.provider q) (providers_of c) p h (same_from k.provider p e) in
+      let of : Has (members s.components m.name) k = filter-Has (λ (j : Component). same_label j.mirror m.name) s.components k there (same_from k.mirror m.name (sym home)) in
+      or_right _ _ (any_from (λ (j : Component). list_any (λ q. same_label j.provider q) (providers_of c)) (members s.components m.name) k of on)
+
+  -- ---- is found in the part as in the whole
+
+  pub same_mirror : (n : List ℕ) → name_of c ≡ Some n → mirror_of (part_of s c mids) n ≡ mirror_of s n
+  same_mirror n e = find_within (λ (m : Mirror). same_label m.name n) (is_asked s c mids) s.mirrors (λ m h t. asked_name n e m (same_is m.name n t))
+
+  pub same_members : (n : List ℕ) → name_of c ≡ Some n → members (part_of s c mids).components n ≡ members s.components n
+  same_members n e = filter_within (λ (k : Component). same_label k.mirror n) is_kept s.components (λ k h t.
+      let home = state.homes k h in
+      keeps k home.0 home.1 home.2 (asked_name n e home.0 (home.2 ∙ same_is k.mirror n t)))
+
+  pub same_component : (p : List ℕ) → Has (providers_of c) p → component_of (part_of s c mids) p ≡ component_of s p
+  same_component p i = find_within (λ (k : Component). same_label k.provider p) is_kept s.components (λ k h t.
+      let home = state.homes k h in
+      keeps k home.0 home.1 home.2 (asked_provider p i k h (same_is k.provider p t) home.0 home.2))
+
+  same_mids : list_any (has_mid c) kept ≡ list_any (has_mid c) s.mirrors
+  same_mids = any_within (has_mid c) (is_asked s c mids) s.mirrors (λ m h t. asked_mid m t)
+
+  named_by : (o : Option (List ℕ)) → name_of c ≡ o → option_and_then (λ n. mirror_of (part_of s c mids) n) o ≡ option_and_then (λ n. mirror_of s n) o
+  named_by None e = refl
+  named_by (Some n) e = same_mirror n e
+
+  same_named : mirror_named (part_of s c mids) c ≡ mirror_named s c
+  same_named = named_by (name_of c) refl
+
+  mine_by : (o : Option (List ℕ)) → name_of c ≡ o → filter (λ k. is_mine o k) (part_of s c mids).components ≡ filter (λ k. is_mine o k) s.components
+  mine_by None e = no_one (part_of s c mids).components ∙ sym (no_one s.components)
+  mine_by (Some n) e = same_members n e
+
+  same_mine : mine (part_of s c mids) c ≡ mine s c
+  same_mine = mine_by (name_of c) refl
+
+  -- so each refusal applies to the part where it applies to the whole, but for the one that asks for the count
+  pub same_applies : (count : ℕ) → count ≡ length s.mirrors → (x : Seen) (r : Refusal) → applies_to_part (part_of s c mids) count x c r ≡ applies s x c r
+  same_applies count is x NoMirror = ap is_none same_named
+  same_applies count is x NameTaken = ap is_some same_named
+  same_applies count is x MidTaken = same_mids
+  same_applies count is x Absent = rw same_mine refl
+  same_applies count is x ProviderTaken = any_agree _ _ (providers_of c) (λ p h. ap is_some (same_component p h))
+  same_applies count is x CarriesMetadata = refl
+  same_applies count is x TooSmall = rw same_named refl
+  same_applies count is x NotMember = rw same_mine refl
+  same_applies count is x DidTaken = rw same_mine refl
+  same_applies count is x Full = rw same_named refl
+  same_applies count is x TooManyMirrors = rw is refl
+  same_applies count is x SomeLost = rw (same_mine, same_named) refl
+  same_applies count is x LastActive = rw same_mine refl
+  same_applies count is x WrongSize = refl
+  same_applies count is x NoMetadata = refl
+
+  -- ---- the part is a state
+
+  pub is_state : IsState (part_of s c mids)
+  is_state = record {
+    mirrors_in_order = Ascends-filter (is_asked s c mids) name s.mirrors state.mirrors_in_order;
+    components_in_order = Ascends-filter is_kept provider s.components state.components_in_order;
+    count = (let less : length kept ≤ length s.mirrors = length-filter_le (is_asked s c mids) s.mirrors in let most : length s.mirrors ≤ 64 = state.count in omega arith);
+    each = λ m h.
+        let r = Has-filter (is_asked s c mids) s.mirrors m h in
+        let all : members (filter is_kept s.components) m.name ≡ members s.components m.name
+        = filter_within (λ (k : Component). same_label k.mirror m.name) is_kept s.components (λ k i t. keeps k m r.0 (sym (same_is k.mirror m.name t)) r.1) in
+        rw all (state.each m r.0);
+    mids = λ a b h k e. state.mids a b (Has-filter (is_asked s c mids) s.mirrors a h).0 (Has-filter (is_asked s c mids) s.mirrors b k).0 e;
+    homes = λ k h.
+        let r = Has-filter is_kept s.components k h in
+        let home = some_any (λ (m : Mirror). same_label k.mirror m.name) kept r.1 in
+        (home.0, home.1, sym (same_is k.mirror home.0.name home.2));
+  }
+
+  -- the same of lists that are known to be its own
+  pub lists_are : (ms : List Mirror) (ks : List Component) → ms ≡ kept → ks ≡ (with_components ms s.components).components → IsState (record { mirrors = ms; components = ks })
+  lists_are ms ks e f = rw (f, e) is_state
+
+-- ---- the whole is a part
+
+Has-map : (ms : List Mirror) (m : Mirror) → Has ms m → Has (map (λ a. a.mid) ms) m.mid
+Has-map [] m h = absurd h
+Has-map (a ∷ ms) m (inl e) = inl (ap (λ (x : Mirror). x.mid) e)
+Has-map (a ∷ ms) m (inr h) = inr (Has-map ms m h)
+
+pub whole_is_part : (s : Records) (c : Command) → IsState s → IsPartOf s c s
+whole_is_part s c state =
+    let mids : List ℕ = map (λ m. m.mid) s.mirrors in
+    let asked : (m : Mirror) → Has s.mirrors m → is_asked s c mids m ≡ true = λ m h.
+    or_left _ _ (or_right (is_named c m || has_mid c m) _ (any_from (λ (i : ℕ). m.mid == i) mids m.mid (Has-map s.mirrors m h) (eq-eqb m.mid m.mid refl))) in
+    let mirrors : filter (is_asked s c mids) s.mirrors ≡ s.mirrors = filter_id (is_asked s c mids) s.mirrors asked in
+    let components : filter (λ k. list_any (λ m. same_label k.mirror m.name) s.mirrors) s.components ≡ s.components
+    = filter_id _ s.components (λ k h. let home = state.homes k h in any_from (λ (m : Mirror). same_label k.mirror m.name) s.mirrors home.0 home.1 (same_from k.mirror home.0.name (sym home.2))) in
+    let is : s ≡ part_of s c mids = sym (ap (λ ms. with_components ms s.components) mirrors ∙ ap (λ ks. let r : Records = record { mirrors = s.mirrors; components = ks } in r) components) in
+    record { state = state; mids = mids; is = is }

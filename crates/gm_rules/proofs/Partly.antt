@@ -1,0 +1,94 @@
+-- What is made of a part is what the command makes of the whole.
+use Rattle.std.proofs.Common.{◌≡◌, ◌∙◌, inl, ℕ, ◌+◌, ◌-◌, Bool, true, false, refl, sym, ap, ap₂, subst, List, [], ◌∷◌, Option, Some, None, Result, Ok, Err, OnErr, map, find, length, if◌then◌else◌}
+use Rattle.gm_metadata.specs.declared.flags.MirrorFlags.{MirrorFlags}
+use Rattle.gm_state.specs.declared.command.BalanceWord.{BalanceWord}
+use Rattle.gm_state.specs.declared.command.Command.{Command}
+use Rattle.gm_state.specs.declared.command.Command.TheVariants.{Label, Insert, Remove, Destroy}
+use Rattle.gm_state.specs.declared.command.Command.TheVariants as commands
+use Rattle.gm_state.specs.declared.command.Intent.TheVariants.{Meta, Clear}
+use Rattle.gm_state.specs.declared.command.Reply.TheVariants.{Plain}
+use Rattle.gm_state.specs.declared.records.Mirror.{Mirror}
+use Rattle.gm_state.specs.declared.records.Component.{Component}
+use Rattle.gm_state.specs.Words.{Has, put, without}
+use Rattle.gm_state.specs.Records.{Records, members, provider}
+use Rattle.gm_state.specs.Lookups.{mirror_of, component_of}
+use Rattle.gm_rules.specs.After.{metas, clears_of, new_mirror, first_component, spare}
+use Rattle.gm_rules.specs.Bad.{Seen, applies, name_of, providers_of}
+use Rattle.gm_rules.specs.Decides.{Changed, IsGood}
+use Rattle.gm_rules.specs.Parts.{IsPartOf, IsMade, IsGoodButCount, applies_to_part, asks_count}
+use Rattle.gm_rules.specs.Refusals.{own}
+use Rattle.gm_rules.specs.declared.refusals.Refusal.{Refusal}
+use Rattle.gm_rules.proofs.Agreeing.{same_mirror, same_members, same_component, same_applies}
+use Rattle.gm_state.proofs.Finding.{found_none}
+use Rattle.gm_rules.proofs.Good.{is_good}
+use Rattle.gm_rules.proofs.Changes.{label_makes, insert_makes, remove_makes, clear_makes, destroy_makes}
+
+module _ (part s : Records) (c : Command) (of : IsPartOf part c s) where
+  -- what is found in the part is found in the whole
+  mirror_in : (n : List ℕ) (m : Mirror) → name_of c ≡ Some n → mirror_of part n ≡ Some m → mirror_of s n ≡ Some m
+  mirror_in n m e found = sym (same_mirror s c of.mids of.state n e) ∙ (sym (ap (λ (r : Records). mirror_of r n) of.is) ∙ found)
+
+  members_in : (n : List ℕ) (ks : List Component) → name_of c ≡ Some n → members part.components n ≡ ks → members s.components n ≡ ks
+  members_in n ks e found = sym (same_members s c of.mids of.state n e) ∙ (sym (ap (λ (r : Records). members r.components n) of.is) ∙ found)
+
+  free_in : (p : List ℕ) → Has (providers_of c) p → component_of part p ≡ None → component_of s p ≡ None
+  free_in p h free = sym (same_component s c of.mids of.state p h) ∙ (sym (ap (λ (r : Records). component_of r p) of.is) ∙ free)
+
+pub label_made : (part : Records) (x : Seen) (n p : List ℕ) (mid did : ℕ) (balance : BalanceWord) (slice : ℕ) (flags : MirrorFlags) (hardcoded : Bool) (sectors : ℕ) (ch : Changed)
+    → x.size p ≡ Some sectors
+    → ch ≡ record { mirror = Some (new_mirror n mid balance slice flags sectors); gone_mirror = None; components = first_component n p did hardcoded sectors ∷ []; gone_components = []; intents = Meta p ∷ []; reply = Plain }
+    → IsMade part x (Label n p mid did balance slice flags hardcoded) ch
+label_made part x n p mid did balance slice flags hardcoded sectors ch size is s of good = label_makes s x n p mid did balance slice flags hardcoded sectors ch good size is
+
+pub insert_made : (part : Records) (x : Seen) (n p : List ℕ) (did priority : ℕ) (h : Bool) (m : Mirror) (ks : List Component) (sectors : ℕ) (k : Component) (ch : Changed)
+    → mirror_of part n ≡ Some m → members part.components n ≡ ks → x.size p ≡ Some sectors → component_of part p ≡ None → k ≡ spare m p did priority h sectors
+    → ch ≡ record { mirror = Some (record m { all = m.all + 1 }); gone_mirror = None; components = k ∷ []; gone_components = []; intents = metas (put provider k ks); reply = Plain }
+    → IsMade part x (Insert n p did priority h) ch
+insert_made part x n p did priority h m ks sectors k ch found mine size none made is s of good =
+    let c : Command = Insert n p did priority h in
+    insert_makes s x n p did priority h m ks sectors k ch good of.state (mirror_in part s c of n m refl found) (members_in part s c of n ks refl mine) size (free_in part s c of p (inl refl) none) made is
+
+pub remove_made : (part : Records) (x : Seen) (n p : List ℕ) (m : Mirror) (ks : List Component) (ch : Changed)
+    → mirror_of part n ≡ Some m → members part.components n ≡ ks
+    → ch ≡ record { mirror = Some (record m { all = m.all - 1 }); gone_mirror = None; components = []; gone_components = p ∷ []; intents = Clear p ∷ metas (without provider p ks); reply = Plain }
+    → IsMade part x (Remove n p) ch
+remove_made part x n p m ks ch found mine is s of good =
+    let c : Command = Remove n p in
+    remove_makes s x n p m ks ch good (mirror_in part s c of n m refl found) (members_in part s c of n ks refl mine) is
+
+pub clear_made : (part : Records) (x : Seen) (p : List ℕ) (ch : Changed)
+    → ch ≡ record { mirror = None; gone_mirror = None; components = []; gone_components = []; intents = Clear p ∷ []; reply = Plain }
+    → IsMade part x (commands.Clear p) ch
+clear_made part x p ch is s of good = clear_makes s x p ch good is
+
+pub destroy_made : (part : Records) (x : Seen) (n : List ℕ) (ks : List Component) (ch : Changed)
+    → members part.components n ≡ ks
+    → ch ≡ record { mirror = None; gone_mirror = Some n; components = []; gone_components = map provider ks; intents = clears_of ks; reply = Plain }
+    → IsMade part x (Destroy n) ch
+destroy_made part x n ks ch mine is s of good =
+    let c : Command = Destroy n in
+    destroy_makes s x n ks ch good of.state (members_in part s c of n ks refl mine) is
+
+-- the test of the first in a list that pass: tests that agree find one and the same
+pub find_agree : {X : Type 0} (p q : X → Bool) → ((x : X) → p x ≡ q x) → (xs : List X) → find p xs ≡ find q xs
+find_agree p q e [] = refl
+find_agree p q e (x ∷ xs) = ap₂ (λ b o. if b then Some x else o) (e x) (find_agree p q e xs)
+
+-- what is found to apply on the part is what applies on the whole
+pub found_on : (part s : Records) (count : ℕ) (x : Seen) (c : Command) → IsPartOf part c s → count ≡ length s.mirrors → find (applies_to_part part count x c) (own c) ≡ find (applies s x c) (own c)
+found_on part s count x c of is = find_agree _ _ (λ r. subst (λ (t : Records). applies_to_part t count x c r ≡ applies s x c r) (sym of.is) (same_applies s c of.mids of.state count is x r)) (own c)
+
+-- where nothing is found on the part
+pub none_on : (part : Records) (count : ℕ) (x : Seen) (c : Command) → find (applies_to_part part count x c) (own c) ≡ None → IsGoodButCount part x c
+none_on part count x c e r h other =
+    let off : applies_to_part part count x c r ≡ false = found_none (applies_to_part part count x c) (own c) e r h in
+    rw other at off
+
+pub good_on : (part : Records) (count : ℕ) (x : Seen) (c : Command) → find (applies_to_part part count x c) (own c) ≡ None
+    → (s : Records) → IsPartOf part c s → count ≡ length s.mirrors → IsGood s x c
+good_on part count x c e s of is = is_good s x c (sym (found_on part s count x c of is) ∙ e)
+
+-- a fact of its own is a fact of an error
+pub on_err : {T E : Type 0} (r : Result T E) (P : Type 0) → P → OnErr r P
+on_err (Ok x) P p = tt
+on_err (Err e) P p = p
