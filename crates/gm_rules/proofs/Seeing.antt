@@ -1,10 +1,11 @@
 -- What facts decide is what the world decides.
-use Rattle.std.proofs.Common.{◌≡◌, ◌∙◌, inl, inr, ℕ, ◌||◌, ◌+◌, Bool, not, nat_lt, refl, sym, ap, ap₂, subst, List, Option, Some, None, Result, Ok, Err, is_none, unwrap_or}
+use Rattle.std.proofs.Common.{◌≡◌, ◌∙◌, inl, inr, ℕ, ◌||◌, ◌+◌, Bool, not, nat_lt, refl, sym, ap, ap₂, subst, List, Option, map, Some, None, Result, Ok, Err, is_none, unwrap_or}
 use Rattle.std.specs.List.{list_any}
 use Rattle.gm_metadata.specs.Images.{Sizes}
 use Rattle.gm_state.specs.declared.command.Command.{Command}
 use Rattle.gm_state.specs.declared.command.Command.TheVariants.{Label, Insert, Remove, Clear, Destroy}
 use Rattle.gm_state.specs.declared.records.Mirror.{Mirror}
+use Rattle.gm_state.specs.declared.records.Component.{Component}
 use Rattle.gm_state.specs.Words.{Has, put}
 use Rattle.gm_state.specs.Records.{Records, name, provider}
 use Rattle.gm_state.specs.Lookups.{mirror_of}
@@ -15,17 +16,23 @@ use Rattle.gm_rules.specs.declared.refusals.Refusal.TheVariants.{NoMirror, NameT
 use Rattle.gm_rules.specs.Facts.{size_in, last_in, last_carries}
 use Rattle.gm_rules.specs.Bad.{applies, seen_in, has_size, has_wrong_size, providers_of, mine, mirror_named, at}
 use Rattle.gm_rules.specs.After.{after, intents_of, new_mirror, first_component, spare, on_mirror}
-use Rattle.gm_rules.specs.Worlds.{AreFacts, seen_of, last_of}
+use Rattle.gm_rules.specs.Worlds.{AreFacts, needed_by, seen_of, last_of}
 use Rattle.gm_rules.specs.Decides.{Changed, Decides}
-use Rattle.gm_state.proofs.Finding.{any_agree}
+use Rattle.gm_state.proofs.Finding.{any_agree, Has-append_left, Has-append_right, Has-map}
 
 module _ (facts : List Fact) (u : World) (c : Command) (are : AreFacts facts u c) where
+  named : (p : List ℕ) → Has (providers_of c) p → Has (needed_by u.state c) p
+  named p h = Has-append_left (providers_of c) (map provider (mine u.state c)) p h
+
+  of_mirror : (k : Component) → Has (mine u.state c) k → Has (needed_by u.state c) k.provider
+  of_mirror k h = Has-append_right (providers_of c) (map provider (mine u.state c)) k.provider (Has-map provider (mine u.state c) k h)
+
   -- a test of what the command names comes out alike
   by_size : (test : Option ℕ → Bool) → list_any (λ p. test (size_in facts p)) (providers_of c) ≡ list_any (λ p. test (present u p)) (providers_of c)
-  by_size test = any_agree _ _ (providers_of c) (λ p h. ap test (are.size p (inl h)))
+  by_size test = any_agree _ _ (providers_of c) (λ p h. ap test (are.size p (named p h)))
 
   by_last : (test : Option (List ℕ) → Bool) → list_any (λ p. test (last_in facts p)) (providers_of c) ≡ list_any (λ p. test (last_of u p)) (providers_of c)
-  by_last test = any_agree _ _ (providers_of c) (λ p h. ap test (are.last p (inl h)))
+  by_last test = any_agree _ _ (providers_of c) (λ p h. ap test (are.last p (named p h)))
 
   small : (o : Option Mirror) → at o (λ m. list_any (λ p. at (size_in facts p) (λ n. nat_lt n (m.data_sectors + 1))) (providers_of c)) ≡ at o (λ m. list_any (λ p. at (present u p) (λ n. nat_lt n (m.data_sectors + 1))) (providers_of c))
   small None = refl
@@ -35,7 +42,7 @@ module _ (facts : List Fact) (u : World) (c : Command) (are : AreFacts facts u c
   same NoMirror = refl
   same NameTaken = refl
   same MidTaken = refl
-  same Absent = ap₂ (λ a b. a || b) (by_size is_none) (any_agree _ _ (mine u.state c) (λ k h. ap (λ o. not (has_size o k.sectors)) (are.size k.provider (inr (k, h, refl)))))
+  same Absent = ap₂ (λ a b. a || b) (by_size is_none) (any_agree _ _ (mine u.state c) (λ k h. ap (λ o. not (has_size o k.sectors)) (are.size k.provider (of_mirror k h))))
   same ProviderTaken = refl
   same CarriesMetadata = by_last last_carries
   same TooSmall = small (mirror_named u.state c)
@@ -64,7 +71,7 @@ decides_in facts u c are (Err r) d = record {
   least = λ q h t. d.least q h (same facts u c are q ∙ t);
 }
 decides_in facts u c are (Ok ch) d =
-    let e = same_after (size_in facts) (present u) c u.state (λ p h. are.size p (inl h)) in
+    let e = same_after (size_in facts) (present u) c u.state (λ p h. are.size p (Has-append_left (providers_of c) (map provider (mine u.state c)) p h)) in
     record {
       good = λ r h. sym (same facts u c are r) ∙ d.good r h;
       records = d.records ∙ e;

@@ -1,10 +1,9 @@
 -- What is seen of a world, and facts of it.
-use Rattle.std.specs.Prelude.{◌≡◌, ◌-◌, ◌⊎◌, ◌==◌, ℕ, List, Option, option_map, if◌then◌else◌}
+use Rattle.std.specs.Prelude.{◌≡◌, ◌-◌, ◌++◌, ◌==◌, ℕ, List, map, Option, option_map, if◌then◌else◌}
 use Rattle.gm_metadata.specs.Images.{zeros}
 use Rattle.gm_state.specs.declared.command.Command.{Command}
-use Rattle.gm_state.specs.declared.records.Component.{Component}
 use Rattle.gm_state.specs.Words.{Has}
-use Rattle.gm_state.specs.Records.{Records}
+use Rattle.gm_state.specs.Records.{Records, provider}
 use Rattle.gm_state.specs.World.{World, present}
 use Rattle.gm_rules.specs.declared.facts.Fact.{Fact}
 use Rattle.gm_rules.specs.Facts.{size_in, last_in, last_carries}
@@ -18,11 +17,11 @@ last_of u p = option_map (λ n. if n == 0 then zeros else u.shelf p (n - 1)) (pr
 abbrev pub seen_of : World → Seen
 seen_of u = record { size = present u; carries = λ p. last_carries (last_of u p) }
 
--- a command needs to know of the providers that it names, and of the components of its mirror
-abbrev pub IsNeeded : Records → Command → List ℕ → Type 0
-IsNeeded s c q = Has (providers_of c) q ⊎ ((k : Component) × Has (mine s c) k × (k.provider ≡ q))
+-- the providers that a command needs to know of: those that it names, and those of the components of its mirror
+abbrev pub needed_by : Records → Command → List (List ℕ)
+needed_by s c = providers_of c ++ map provider (mine s c)
 
 -- the facts are those of the world, for each provider that the command needs
 pub record AreFacts (facts : List Fact) (u : World) (c : Command) : Type 0 where
-  pub size : (q : List ℕ) → IsNeeded u.state c q → size_in facts q ≡ present u q
-  pub last : (q : List ℕ) → IsNeeded u.state c q → last_in facts q ≡ last_of u q
+  pub size : (q : List ℕ) → Has (needed_by u.state c) q → size_in facts q ≡ present u q
+  pub last : (q : List ℕ) → Has (needed_by u.state c) q → last_in facts q ≡ last_of u q

@@ -66,7 +66,7 @@ fn has_did(command: &Command, component: &Component) -> bool
     }
 }
 
-fn is_mine(name: Option<Label>, component: &Component) -> bool
+pub(crate) fn is_mine(name: Option<Label>, component: &Component) -> bool
     ensures { result ≡ is_mine name component.now }
 {
     match name {

@@ -1,7 +1,8 @@
 //! What a command does, or why it is refused: pure decisions over the records and what the shelf says.
 //!
 //! Begin with `refusals.rt` and `change.rt`, the answers; `deciding.rt` makes them. `checks.rt` has a test for each
-//! refusal, `making.rt` the change of each command. `parts.rt` says which records it takes to decide.
+//! refusal, `making.rt` the change of each command. `parts.rt` says which records it
+//! takes to decide, and `needs.rt` which providers.
 #![tactic(auto)]
 
 mod change;
@@ -10,6 +11,7 @@ mod deciding;
 mod facts;
 mod laws;
 mod making;
+mod needs;
 mod parts;
 mod refusals;
 #[cfg(test)]
@@ -19,5 +21,6 @@ pub use change::Change;
 pub use deciding::{decide, decide_part};
 pub use facts::{Fact, Facts};
 pub use laws::every_command_has_a_plan;
+pub use needs::needed;
 pub use parts::{a_part_is_a_state, part};
 pub use refusals::Refusal;

@@ -1,5 +1,5 @@
 -- Finding one in a list, and what a test of some one tells.
-use Rattle.std.proofs.Common.{◌≡◌, ◌∙◌, ◌⊎◌, Option, inl, inr, ⊎_elim, ℕ, Bool, true, false, ◌||◌, refl, sym, ap, ap₂, List, [], ◌∷◌, filter, find, map, Some, None}
+use Rattle.std.proofs.Common.{◌≡◌, ◌∙◌, ◌⊎◌, Option, inl, inr, ⊎_elim, ℕ, Bool, true, false, ◌||◌, refl, sym, ap, ap₂, List, [], ◌∷◌, ◌++◌, filter, find, map, Some, None}
 use Rattle.std.specs.List.{list_any}
 use Rattle.std.proofs.lemmas.Bool.{cases_Bool, or_parts, or_left, or_right}
 use Rattle.gm_metadata.specs.Images.{same_label}
@@ -94,3 +94,19 @@ find_one key (y ∷ ys) a x (inr h) =
 pub no_members : (ks : List Component) (n : List ℕ) → ((k : Component) → Has ks k → same_label k.mirror n ≡ false) → members ks n ≡ []
 no_members [] n h = refl
 no_members (k ∷ ks) n h = rw (h k (inl refl)) (no_members ks n (λ j g. h j (inr g)))
+
+-- ---- what stands in a list that is made of others
+
+pub Has-append_left : {X : Type 0} (xs ys : List X) (x : X) → Has xs x → Has (xs ++ ys) x
+Has-append_left [] ys x h = absurd h
+Has-append_left (z ∷ xs) ys x (inl e) = inl e
+Has-append_left (z ∷ xs) ys x (inr h) = inr (Has-append_left xs ys x h)
+
+pub Has-append_right : {X : Type 0} (xs ys : List X) (x : X) → Has ys x → Has (xs ++ ys) x
+Has-append_right [] ys x h = h
+Has-append_right (z ∷ xs) ys x h = inr (Has-append_right xs ys x h)
+
+pub Has-map : {X Y : Type 0} (f : X → Y) (xs : List X) (x : X) → Has xs x → Has (map f xs) (f x)
+Has-map f [] x h = absurd h
+Has-map f (z ∷ xs) x (inl e) = inl (ap f e)
+Has-map f (z ∷ xs) x (inr h) = inr (Has-map f xs x h)
