@@ -12,7 +12,7 @@ use Rattle.gm_state.specs.Records.{Records, IsState, IsMirror, members, name, pr
 use Rattle.gm_state.specs.Lookups.{mirror_of, component_of, is_active}
 use Rattle.gm_state.proofs.Order.{same_from, same_is}
 use Rattle.gm_state.proofs.Words.{Has-filter, filter-Has, Ascends-filter, filter_id, length-filter_le}
-use Rattle.gm_state.proofs.Finding.{any_from, some_any, any_agree}
+use Rattle.gm_state.proofs.Finding.{any_from, some_any, any_agree, Has-map}
 use Rattle.gm_rules.specs.declared.refusals.Refusal.{Refusal}
 use Rattle.gm_rules.specs.declared.refusals.Refusal.TheVariants.{NoMirror, NameTaken, MidTaken, Absent, ProviderTaken, CarriesMetadata, TooSmall, NotMember, DidTaken, Full, TooManyMirrors, SomeLost, LastActive, WrongSize, NoMetadata}
 use Rattle.gm_rules.specs.Bad.{Seen, applies, name_of, providers_of, has_mid, has_did, has_size, is_mine, mine, mirror_named, at}
@@ -113,7 +113,7 @@ module _ (s : Records) (c : Command) (mids : List ℕ) (state : IsState s) where
   mine_by None e = no_one (part_of s c mids).components ∙ sym (no_one s.components)
   mine_by (Some n) e = same_members n e
 
-  same_mine : mine (part_of s c mids) c ≡ mine s c
+  pub same_mine : mine (part_of s c mids) c ≡ mine s c
   same_mine = mine_by (name_of c) refl
 
   -- so each refusal applies to the part where it applies to the whole, but for the one that asks for the count
@@ -159,16 +159,11 @@ module _ (s : Records) (c : Command) (mids : List ℕ) (state : IsState s) where
 
 -- ---- the whole is a part
 
-Has-map : (ms : List Mirror) (m : Mirror) → Has ms m → Has (map (λ a. a.mid) ms) m.mid
-Has-map [] m h = absurd h
-Has-map (a ∷ ms) m (inl e) = inl (ap (λ (x : Mirror). x.mid) e)
-Has-map (a ∷ ms) m (inr h) = inr (Has-map ms m h)
-
 pub whole_is_part : (s : Records) (c : Command) → IsState s → IsPartOf s c s
 whole_is_part s c state =
     let mids : List ℕ = map (λ m. m.mid) s.mirrors in
     let asked : (m : Mirror) → Has s.mirrors m → is_asked s c mids m ≡ true = λ m h.
-    or_left _ _ (or_right (is_named c m || has_mid c m) _ (any_from (λ (i : ℕ). m.mid == i) mids m.mid (Has-map s.mirrors m h) (eq-eqb m.mid m.mid refl))) in
+    or_left _ _ (or_right (is_named c m || has_mid c m) _ (any_from (λ (i : ℕ). m.mid == i) mids m.mid (Has-map (λ (a : Mirror). a.mid) s.mirrors m h) (eq-eqb m.mid m.mid refl))) in
     let mirrors : filter (is_asked s c mids) s.mirrors ≡ s.mirrors = filter_id (is_asked s c mids) s.mirrors asked in
     let components : filter (λ k. list_any (λ m. same_label k.mirror m.name) s.mirrors) s.components ≡ s.components
     = filter_id _ s.components (λ k h. let home = state.homes k h in any_from (λ (m : Mirror). same_label k.mirror m.name) s.mirrors home.0 home.1 (same_from k.mirror home.0.name (sym home.2))) in

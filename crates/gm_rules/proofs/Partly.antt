@@ -1,5 +1,5 @@
 -- What is made of a part is what the command makes of the whole.
-use Rattle.std.proofs.Common.{◌≡◌, ◌∙◌, inl, ℕ, ◌+◌, ◌-◌, Bool, true, false, refl, sym, ap, ap₂, subst, List, [], ◌∷◌, Option, Some, None, Result, Ok, Err, OnErr, map, find, length, if◌then◌else◌}
+use Rattle.std.proofs.Common.{◌≡◌, ◌∙◌, inl, ℕ, ◌+◌, ◌-◌, Bool, true, false, refl, sym, ap, ap₂, subst, List, [], ◌∷◌, ◌++◌, Option, Some, None, Result, Ok, Err, OnErr, map, find, length, if◌then◌else◌}
 use Rattle.gm_metadata.specs.declared.flags.MirrorFlags.{MirrorFlags}
 use Rattle.gm_state.specs.declared.command.BalanceWord.{BalanceWord}
 use Rattle.gm_state.specs.declared.command.Command.{Command}
@@ -13,12 +13,13 @@ use Rattle.gm_state.specs.Words.{Has, put, without}
 use Rattle.gm_state.specs.Records.{Records, members, provider}
 use Rattle.gm_state.specs.Lookups.{mirror_of, component_of}
 use Rattle.gm_rules.specs.After.{metas, clears_of, new_mirror, first_component, spare}
-use Rattle.gm_rules.specs.Bad.{Seen, applies, name_of, providers_of}
+use Rattle.gm_rules.specs.Bad.{Seen, applies, name_of, providers_of, mine}
+use Rattle.gm_rules.specs.Worlds.{needed_by}
 use Rattle.gm_rules.specs.Decides.{Changed, IsGood}
 use Rattle.gm_rules.specs.Parts.{IsPartOf, IsMade, IsGoodButCount, applies_to_part, asks_count}
 use Rattle.gm_rules.specs.Refusals.{own}
 use Rattle.gm_rules.specs.declared.refusals.Refusal.{Refusal}
-use Rattle.gm_rules.proofs.Agreeing.{same_mirror, same_members, same_component, same_applies}
+use Rattle.gm_rules.proofs.Agreeing.{same_mirror, same_members, same_component, same_mine, same_applies}
 use Rattle.gm_state.proofs.Finding.{found_none}
 use Rattle.gm_rules.proofs.Good.{is_good}
 use Rattle.gm_rules.proofs.Changes.{label_makes, insert_makes, remove_makes, clear_makes, destroy_makes}
@@ -92,3 +93,7 @@ good_on part count x c e s of is = is_good s x c (sym (found_on part s count x c
 pub on_err : {T E : Type 0} (r : Result T E) (P : Type 0) → P → OnErr r P
 on_err (Ok x) P p = tt
 on_err (Err e) P p = p
+
+-- a part needs what the whole needs
+pub needed_on : (part s : Records) (c : Command) → IsPartOf part c s → needed_by part c ≡ needed_by s c
+needed_on part s c of = ap (λ (ks : List Component). providers_of c ++ map provider ks) (subst (λ (r : Records). mine r c ≡ mine s c) (sym of.is) (same_mine s c of.mids of.state))
