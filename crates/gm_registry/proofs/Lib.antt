@@ -21,3 +21,4 @@ pub mod Counted
 pub mod Telling
 pub mod Abouts
 pub mod Texts
+pub mod Saving

@@ -77,16 +77,32 @@ module _ {S : Type 0} (g : Ghosts S) where
   abbrev pub KeepsCommit : Held S → Held S → Type 0
   KeepsCommit old new = DiskKept new → sql.KeepsCommit (state g old) (state g new)
 
+  -- it has these tables, and a crash now leaves them and nothing else
+  pub record HasSaved (r : Held S) (t : Tables) : Type 0 where
+    pub tables : HasTables r t
+    pub crash : CrashLeavesOnly r t
+
+  -- A call that writes nothing, at each of its exits: the tables are as before while it is open, and a crash finds
+  -- nothing new.
+  pub record Reads (old new : Held S) : Type 0 where
+    pub kept : DiskKept new → (t : Tables) → HasTables old t → IsOpen new → HasSaved new t
+    pub left : (t : Tables) → HasTables old t → LeavesNothingNew old new
+    pub clean : WasClean old new
+
   module _ {X E : Type 0} (old new : Held S) (result : Result X E) where
     -- at Err the tables are as before, while it is open
     abbrev pub Refuses : Type 0
     Refuses = DiskKept new → OnErr result ((t : Tables) → HasTables old t → IsOpen new → HasTables new t)
 
-    -- at Ok it makes these of the tables
-    abbrev pub Makes : (Tables → Tables) → Type 0
-    Makes after = DiskKept new → OnOk result ((t : Tables) → HasTables old t → HasTables new (after t))
-
-    -- the same within a transaction
+    -- within a transaction, at Ok it makes these of the tables
     abbrev pub MakesInside : (Tables → Tables) → Type 0
     MakesInside after =
         DiskKept new → OnOk result ((first : Database) (t : Tables) → IsInside first (state g old) t → IsInside first (state g new) (after t))
+
+    -- A call that makes these of the tables: at Ok they are saved, at Err the tables are as before while it is open, and
+    -- at each of its exits a crash finds what it could find before, or what the call makes.
+    pub record Writes (after : Tables → Tables) : Type 0 where
+      pub done : DiskKept new → OnOk result ((t : Tables) → HasTables old t → HasSaved new (after t))
+      pub refused : DiskKept new → OnErr result ((t : Tables) → HasTables old t → IsOpen new → HasSaved new t)
+      pub left : (t : Tables) → HasTables old t → MayLeave old new (after t)
+      pub clean : WasClean old new

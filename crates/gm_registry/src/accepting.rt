@@ -6,8 +6,8 @@ ghost use Rattle.sqlite.specs.Held.{state};
 ghost use Rattle.gm_state.specs.Rows.{Tables};
 ghost use Rattle.gm_state.specs.World.{ReplyFits};
 ghost use Rattle.gm_registry.specs.Replies.{count_of};
-ghost use Rattle.gm_registry.specs.Changes.{with_records, with_change, without_some_mirror, with_some_mirror};
-ghost use Rattle.gm_registry.specs.Registry.{DiskKept, IsOpen, HasTables, WasClean, MayLeave, LeavesNothingNew, KeepsCommit, Refuses, MakesInside};
+ghost use Rattle.gm_registry.specs.Changes.{with_accepted, with_records, with_change, without_some_mirror, with_some_mirror};
+ghost use Rattle.gm_registry.specs.Registry.{DiskKept, IsOpen, HasTables, MayLeave, LeavesNothingNew, KeepsCommit, MakesInside, Writes};
 ghost use Rattle.gm_registry.specs.Faults.{OnUnreadable};
 
 use crate::commands::{MAX_COMMANDS, put_command};
@@ -130,19 +130,14 @@ pub(crate) fn accept_on<S: Alter>(
     key: &str,
     words: &str,
 ) -> Result<u64, StoreFault>
-    ensures done { DiskKept S.Store conn.new → IfOk result (λ n. (t : Tables)
-        → HasTables S.Store conn.old t
-        → (n ≡ count_of t + 1)
-        × HasTables S.Store conn.new (with_change change.now key.now n words.now t)) }
+    ensures number { DiskKept S.Store conn.new
+        → IfOk result (λ n. (t : Tables) → HasTables S.Store conn.old t → n ≡ count_of t + 1) }
     ensures limits { IfOk result (λ n. (n ≤ 100000) × ReplyFits change.now.reply) }
     ensures unreadable { DiskKept S.Store conn.new
         → OnUnreadable result ((t : Tables) → HasTables S.Store conn.old t → count_of t ≤ 100000
         → ⊥) }
-    ensures refused { Refuses S.Store conn.old conn.new result }
-    ensures left { (t : Tables) → HasTables S.Store conn.old t
-        → MayLeave S.Store conn.old conn.new (with_change change.now key.now
-        (count_of t + 1) words.now t) }
-    ensures clean { WasClean S.Store conn.old conn.new }
+    ensures writes { Writes S.Store conn.old conn.new result
+        (with_accepted change.now key.now words.now) }
 {
     let count = accepted_on(conn)?;
     if count >= MAX_COMMANDS || !is_in_range(change.reply()) {

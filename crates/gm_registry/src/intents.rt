@@ -1,9 +1,9 @@
 //! The table of intents: written inside a transaction, numbered from 1 in their order, and emptied in one of its own.
 
 ghost use Rattle.std.specs.Prelude.{◌≡◌, [], ◌∷◌};
-ghost use Rattle.gm_state.specs.Rows.{Tables, intent_row, intent_rows};
+ghost use Rattle.gm_state.specs.Rows.{intent_row, intent_rows};
 ghost use Rattle.gm_registry.specs.Changes.{with_intents, settled};
-ghost use Rattle.gm_registry.specs.Registry.{HasTables, WasClean, MayLeave, LeavesNothingNew, KeepsCommit, Refuses, Makes, MakesInside};
+ghost use Rattle.gm_registry.specs.Registry.{LeavesNothingNew, KeepsCommit, MakesInside, Writes};
 
 use gm_state::Intent;
 use sqlite::{Alter, Connection, Error, ErrorCode, Transaction, params};
@@ -86,11 +86,7 @@ pub(crate) fn put_intents<S: Alter>(
 
 /// Deletes all intents, in one transaction.
 pub(crate) fn settle_on<S: Alter>(conn: &mut Connection<S>) -> Result<usize, Error>
-    ensures done { Makes S.Store conn.old conn.new result settled }
-    ensures refused { Refuses S.Store conn.old conn.new result }
-    ensures left { (t : Tables) → HasTables S.Store conn.old t
-        → MayLeave S.Store conn.old conn.new (settled t) }
-    ensures clean { WasClean S.Store conn.old conn.new }
+    ensures writes { Writes S.Store conn.old conn.new result settled }
 {
     conn.execute("DELETE FROM intents", &[])
 }

@@ -7,7 +7,7 @@ ghost use Rattle.gm_state.specs.Records.{Records};
 ghost use Rattle.gm_state.specs.Rows.{Tables};
 ghost use Rattle.gm_registry.specs.Reading.{AreTablesOf};
 ghost use Rattle.gm_registry.specs.Says.{TablesSay};
-ghost use Rattle.gm_registry.specs.Registry.{DiskKept, seen, HasTables, IsRegistry, WasClean, LeavesNothingNew, LeavesAlone, Refuses};
+ghost use Rattle.gm_registry.specs.Registry.{DiskKept, seen, HasTables, IsRegistry, LeavesAlone, HasSaved, Reads};
 ghost use Rattle.gm_registry.specs.Faults.{OnUnreadable};
 
 use crate::fault::StoreFault;
@@ -30,15 +30,12 @@ pub(crate) fn load_on<S: Alter>(
         → TablesSay (seen S.Store conn.old) s ts → ⊥) }
     ensures loaded { DiskKept S.Store conn.new
         → IfOk result (λ r. (t : Tables) → HasTables S.Store conn.old t
-        → AreTablesOf t r.0 r.1.items × HasTables S.Store conn.new t) }
+        → AreTablesOf t r.0 r.1.items × HasSaved S.Store conn.new t) }
     ensures unreadable { DiskKept S.Store conn.new
         → OnUnreadable result ((t : Tables) (s : Records) (ts : List Intent)
         → HasTables S.Store conn.old t → AreTablesOf t s ts → ⊥) }
-    ensures refused { Refuses S.Store conn.old conn.new result }
-    ensures left { (t : Tables) → HasTables S.Store conn.old t
-        → LeavesNothingNew S.Store conn.old conn.new }
+    ensures reads { Reads S.Store conn.old conn.new }
     ensures untouched { IsRegistry S.Store conn.old → LeavesAlone S.Store conn.old conn.new }
-    ensures clean { WasClean S.Store conn.old conn.new }
 {
     let fetched = fetch(conn)?;
     judge(alloc, &fetched)
@@ -56,15 +53,12 @@ impl<S: Alter> Registry<S> {
             → TablesSay (seen S.Store self.old) s ts → ⊥) }
         ensures loaded { DiskKept S.Store self.new
             → IfOk result (λ r. (t : Tables) → HasTables S.Store self.old t
-            → AreTablesOf t r.0 r.1.items × HasTables S.Store self.new t) }
+            → AreTablesOf t r.0 r.1.items × HasSaved S.Store self.new t) }
         ensures unreadable { DiskKept S.Store self.new
             → OnUnreadable result ((t : Tables) (s : Records) (ts : List Intent)
             → HasTables S.Store self.old t → AreTablesOf t s ts → ⊥) }
-        ensures refused { Refuses S.Store self.old self.new result }
-        ensures left { (t : Tables) → HasTables S.Store self.old t
-            → LeavesNothingNew S.Store self.old self.new }
+        ensures reads { Reads S.Store self.old self.new }
         ensures untouched { IsRegistry S.Store self.old → LeavesAlone S.Store self.old self.new }
-        ensures clean { WasClean S.Store self.old self.new }
     {
         load_on(alloc, &mut self.conn)
     }

@@ -7,9 +7,9 @@ ghost use Rattle.gm_registry.specs.Tables.{Holds, IsEmpty, no_tables};
 ghost use Rattle.sqlite_catalog.specs.Listing.{IsSound};
 ghost use Rattle.gm_registry.specs.Schema.{registry_schema};
 ghost use Rattle.gm_registry.specs.Opening.{IsOpenable, IsForeign};
-ghost use Rattle.gm_registry.specs.Changes.{with_change, settled};
-ghost use Rattle.gm_registry.specs.Replies.{IsKept, IsFree, AreWritten, count_of};
-ghost use Rattle.gm_registry.specs.Registry.{DiskKept, IsOpen, stored, HasTables, IsRegistry, WasClean, MayLeave, LeavesNothingNew, LeavesAlone, Refuses, Makes};
+ghost use Rattle.gm_registry.specs.Changes.{with_accepted, settled};
+ghost use Rattle.gm_registry.specs.Replies.{IsKept, IsFree, AreWrittenUnder, count_of};
+ghost use Rattle.gm_registry.specs.Registry.{DiskKept, IsOpen, stored, HasTables, IsRegistry, WasClean, MayLeave, LeavesNothingNew, LeavesAlone, HasSaved, Reads, Writes};
 ghost use Rattle.gm_registry.specs.Faults.{OnUnreadable};
 
 use crate::accepting::accept_on;
@@ -100,13 +100,11 @@ impl<S: Alter> Registry<S> {
         ensures found { DiskKept S.Store self.new
             → IfOk result (λ found. (t : Tables) → HasTables S.Store self.old t
             → MatchOption found (IsFree t key.now)
-            (λ it. IsKept t key.now it.0 (string_bytes it.1) it.2) × HasTables S.Store self.new t) }
+            (λ it. IsKept t key.now it.0 (string_bytes it.1) it.2) × HasSaved S.Store self.new t) }
         ensures unreadable { DiskKept S.Store self.new
-            → OnUnreadable result ((t : Tables) → HasTables S.Store self.old t → AreWritten t → ⊥) }
-        ensures refused { Refuses S.Store self.old self.new result }
-        ensures left { (t : Tables) → HasTables S.Store self.old t
-            → LeavesNothingNew S.Store self.old self.new }
-        ensures clean { WasClean S.Store self.old self.new }
+            → OnUnreadable result ((t : Tables) → HasTables S.Store self.old t
+            → AreWrittenUnder key.now t → ⊥) }
+        ensures reads { Reads S.Store self.old self.new }
     {
         reply_on(&mut self.conn, key)
     }
@@ -115,14 +113,11 @@ impl<S: Alter> Registry<S> {
     pub fn accepted(&mut self) -> Result<u64, StoreFault>
         ensures count { DiskKept S.Store self.new
             → IfOk result (λ n. (t : Tables) → HasTables S.Store self.old t
-            → (n ≡ count_of t) × HasTables S.Store self.new t) }
+            → (n ≡ count_of t) × HasSaved S.Store self.new t) }
         ensures unreadable { DiskKept S.Store self.new
             → OnUnreadable result ((t : Tables) → HasTables S.Store self.old t
             → count_of t ≤ 100000 → ⊥) }
-        ensures refused { Refuses S.Store self.old self.new result }
-        ensures left { (t : Tables) → HasTables S.Store self.old t
-            → LeavesNothingNew S.Store self.old self.new }
-        ensures clean { WasClean S.Store self.old self.new }
+        ensures reads { Reads S.Store self.old self.new }
     {
         Ok(u64::from(accepted_on(&mut self.conn)?))
     }
@@ -130,31 +125,22 @@ impl<S: Alter> Registry<S> {
     /// Writes a change, its intents and its key in one transaction, and answers the command's number. `Store` before
     /// anything is written where 100,000 commands were accepted already, or the numbers of the reply are out of range.
     pub fn accept(&mut self, change: &Change, key: &str, words: &str) -> Result<u64, StoreFault>
-        ensures done { DiskKept S.Store self.new
-            → IfOk result (λ n. (t : Tables) → HasTables S.Store self.old t
-            → (n ≡ count_of t + 1)
-            × HasTables S.Store self.new (with_change change.now key.now n words.now t)) }
+        ensures number { DiskKept S.Store self.new
+            → IfOk result (λ n. (t : Tables) → HasTables S.Store self.old t → n ≡ count_of t + 1) }
         ensures limits { IfOk result (λ n. (n ≤ 100000) × ReplyFits change.now.reply) }
         ensures unreadable { DiskKept S.Store self.new
             → OnUnreadable result ((t : Tables) → HasTables S.Store self.old t
             → count_of t ≤ 100000 → ⊥) }
-        ensures refused { Refuses S.Store self.old self.new result }
-        ensures left { (t : Tables) → HasTables S.Store self.old t
-            → MayLeave S.Store self.old self.new
-            (with_change change.now key.now (count_of t + 1) words.now t) }
-        ensures clean { WasClean S.Store self.old self.new }
+        ensures writes { Writes S.Store self.old self.new result
+            (with_accepted change.now key.now words.now) }
     {
         accept_on(&mut self.conn, change, key, words)
     }
 
     /// Deletes the pending intents, in one transaction.
     pub fn settle(&mut self) -> Result<(), StoreFault>
-        ensures done { Makes S.Store self.old self.new result settled }
+        ensures writes { Writes S.Store self.old self.new result settled }
         ensures fault { IfErr result (λ e. e ≢ StoreFault.Unreadable) }
-        ensures refused { Refuses S.Store self.old self.new result }
-        ensures left { (t : Tables) → HasTables S.Store self.old t
-            → MayLeave S.Store self.old self.new (settled t) }
-        ensures clean { WasClean S.Store self.old self.new }
     {
         settle_on(&mut self.conn)?;
         Ok(())

@@ -4,8 +4,8 @@ ghost use Rattle.std.specs.Prelude.{◌≡◌, ◌≤◌, ◌<◌, ◌^◌, ◌=
 ghost use Rattle.sqlite.specs.Order.{column};
 ghost use Rattle.sqlite.specs.declared.types.Value.TheVariants.{Int, Text};
 ghost use Rattle.gm_state.specs.Rows.{Tables, CommandRow};
-ghost use Rattle.gm_registry.specs.Replies.{Fits, AreWritten, reply_in, is_under, reply_values, IsKept, IsFree, IsLastOf, count_of};
-ghost use Rattle.gm_registry.specs.Registry.{DiskKept, HasTables, WasClean, LeavesNothingNew, Refuses};
+ghost use Rattle.gm_registry.specs.Replies.{Fits, AreWrittenUnder, reply_in, is_under, reply_values, IsKept, IsFree, IsLastOf, count_of};
+ghost use Rattle.gm_registry.specs.Registry.{DiskKept, HasTables, HasSaved, Reads};
 ghost use Rattle.gm_registry.specs.Faults.{OnUnreadable};
 
 use crate::cells::{text_at, u32_at};
@@ -68,10 +68,7 @@ fn find_command<S: Alter>(conn: &mut Connection<S>, key: &str) -> Result<Vec<Row
         → HasTables S.Store conn.old t
         → IsPermutation (map reply_values (filter (is_under key.now) t.commands)) rows.items
         × HasTables S.Store conn.new t) }
-    ensures refused { Refuses S.Store conn.old conn.new result }
-    ensures left { (t : Tables) → HasTables S.Store conn.old t
-        → LeavesNothingNew S.Store conn.old conn.new }
-    ensures clean { WasClean S.Store conn.old conn.new }
+    ensures reads { Reads S.Store conn.old conn.new }
 {
     conn.query_all(
         "SELECT seq, words, copied, of_total FROM commands WHERE call_key = ?1",
@@ -87,13 +84,11 @@ pub(crate) fn reply_on<S: Alter>(
     ensures found { DiskKept S.Store conn.new
         → IfOk result (λ found. (t : Tables) → HasTables S.Store conn.old t
         → MatchOption found (IsFree t key.now)
-        (λ it. IsKept t key.now it.0 (string_bytes it.1) it.2) × HasTables S.Store conn.new t) }
+        (λ it. IsKept t key.now it.0 (string_bytes it.1) it.2) × HasSaved S.Store conn.new t) }
     ensures unreadable { DiskKept S.Store conn.new
-        → OnUnreadable result ((t : Tables) → HasTables S.Store conn.old t → AreWritten t → ⊥) }
-    ensures refused { Refuses S.Store conn.old conn.new result }
-    ensures left { (t : Tables) → HasTables S.Store conn.old t
-        → LeavesNothingNew S.Store conn.old conn.new }
-    ensures clean { WasClean S.Store conn.old conn.new }
+        → OnUnreadable result ((t : Tables) → HasTables S.Store conn.old t
+        → AreWrittenUnder key.now t → ⊥) }
+    ensures reads { Reads S.Store conn.old conn.new }
 {
     let rows = find_command(conn, key)?;
     match rows.first() {
@@ -110,10 +105,7 @@ fn last_command<S: Alter>(conn: &mut Connection<S>) -> Result<Vec<Row>, Error>
     ensures rows { DiskKept S.Store conn.new → IfOk result (λ rows. (t : Tables)
         → HasTables S.Store conn.old t
         → IsLastOf t rows.items × HasTables S.Store conn.new t) }
-    ensures refused { Refuses S.Store conn.old conn.new result }
-    ensures left { (t : Tables) → HasTables S.Store conn.old t
-        → LeavesNothingNew S.Store conn.old conn.new }
-    ensures clean { WasClean S.Store conn.old conn.new }
+    ensures reads { Reads S.Store conn.old conn.new }
 {
     conn.query_all("SELECT seq FROM commands ORDER BY seq DESC LIMIT 1", &[])
 }
@@ -122,14 +114,11 @@ fn last_command<S: Alter>(conn: &mut Connection<S>) -> Result<Vec<Row>, Error>
 pub(crate) fn accepted_on<S: Alter>(conn: &mut Connection<S>) -> Result<u32, StoreFault>
     ensures count { DiskKept S.Store conn.new
         → IfOk result (λ n. (t : Tables) → HasTables S.Store conn.old t
-        → (n ≡ count_of t) × HasTables S.Store conn.new t) }
+        → (n ≡ count_of t) × HasSaved S.Store conn.new t) }
     ensures unreadable { DiskKept S.Store conn.new
         → OnUnreadable result ((t : Tables) → HasTables S.Store conn.old t → count_of t ≤ 100000
         → ⊥) }
-    ensures refused { Refuses S.Store conn.old conn.new result }
-    ensures left { (t : Tables) → HasTables S.Store conn.old t
-        → LeavesNothingNew S.Store conn.old conn.new }
-    ensures clean { WasClean S.Store conn.old conn.new }
+    ensures reads { Reads S.Store conn.old conn.new }
 {
     let rows = last_command(conn)?;
     match rows.first() {
