@@ -22,3 +22,5 @@ pub mod Telling
 pub mod Abouts
 pub mod Texts
 pub mod Saving
+pub mod OneReading
+pub mod Written
