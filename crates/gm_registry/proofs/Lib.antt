@@ -24,3 +24,4 @@ pub mod Texts
 pub mod Saving
 pub mod OneReading
 pub mod Written
+pub mod Keys

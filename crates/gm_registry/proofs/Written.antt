@@ -141,25 +141,27 @@ module _ (ch : Changed) (s : Records) (t : Tables) where
       (each_without component_row provider component_key (λ k. refl) ch.gone_components s.components t.components p)
 
 -- the tables of the whole change
-abbrev committed : Changed → List ℕ → List ℕ → Tables → Tables
-committed ch key words t = record {
+abbrev committed : Changed → List ℕ → ℕ → List ℕ → Tables → Tables
+committed ch key n words t = record {
   mirrors = (written ch t).mirrors;
   components = (written ch t).components;
   intents = intent_rows 1 ch.intents ++ t.intents;
-  commands = command_row key (length t.commands + 1) words ch.reply ∷ t.commands;
+  commands = command_row key n words ch.reply ∷ t.commands;
 }
 
-accepted_is : (ch : Changed) (key words : List ℕ) (t : Tables) → with_accepted ch key words t ≡ committed ch key words t
-accepted_is ch key words t =
-    ap (λ (s : Tables). with_command (command_row key (length t.commands + 1) words ch.reply) (with_intents (intent_rows 1 ch.intents) s)) (with_records_is ch t)
+with_change_is : (ch : Changed) (key : List ℕ) (n : ℕ) (words : List ℕ) (t : Tables) → with_change ch key n words t ≡ committed ch key n words t
+with_change_is ch key n words t = ap (λ (s : Tables). with_command (command_row key n words ch.reply) (with_intents (intent_rows 1 ch.intents) s)) (with_records_is ch t)
+
+pub commands_with : (ch : Changed) (key : List ℕ) (n : ℕ) (words : List ℕ) (t : Tables) → (with_change ch key n words t).commands ≡ command_row key n words ch.reply ∷ t.commands
+commands_with ch key n words t = ap (λ (a : Tables). a.commands) (with_change_is ch key n words t)
 
 pub change_held : (ch : Changed) (key words : List ℕ) (s : Records) (t : Tables) → IsState s → HoldState s t → HoldState (changed_by ch s) (with_accepted ch key words t)
 change_held ch key words s t state held =
-    subst (λ (a : Tables). HoldState (changed_by ch s) a) (sym (accepted_is ch key words t))
+    subst (λ (a : Tables). HoldState (changed_by ch s) a) (sym (with_change_is ch key (length t.commands + 1) words t))
     (record { mirrors = mirrors_written ch s t state.mirrors_in_order held.mirrors; components = components_written ch s t state.components_in_order held.components })
 
 pub change_intents : (ch : Changed) (key words : List ℕ) (t : Tables) → (with_accepted ch key words t).intents ≡ intent_rows 1 ch.intents ++ t.intents
-change_intents ch key words t = ap (λ (a : Tables). a.intents) (accepted_is ch key words t)
+change_intents ch key words t = ap (λ (a : Tables). a.intents) (with_change_is ch key (length t.commands + 1) words t)
 
 pub change_commands : (ch : Changed) (key words : List ℕ) (t : Tables) → (with_accepted ch key words t).commands ≡ command_row key (length t.commands + 1) words ch.reply ∷ t.commands
-change_commands ch key words t = ap (λ (a : Tables). a.commands) (accepted_is ch key words t)
+change_commands ch key words t = commands_with ch key (length t.commands + 1) words t

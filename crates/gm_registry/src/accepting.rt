@@ -5,7 +5,7 @@ ghost use Rattle.sqlite.specs.State.{Survives};
 ghost use Rattle.sqlite.specs.Held.{state};
 ghost use Rattle.gm_state.specs.Rows.{Tables};
 ghost use Rattle.gm_state.specs.World.{ReplyFits};
-ghost use Rattle.gm_registry.specs.Replies.{count_of};
+ghost use Rattle.gm_registry.specs.Replies.{count_of, IsFree};
 ghost use Rattle.gm_registry.specs.Changes.{with_accepted, with_records, with_change, without_some_mirror, with_some_mirror};
 ghost use Rattle.gm_registry.specs.Registry.{DiskKept, IsOpen, HasTables, MayLeave, LeavesNothingNew, KeepsCommit, MakesInside, Writes};
 ghost use Rattle.gm_registry.specs.Faults.{OnUnreadable};
@@ -133,6 +133,8 @@ pub(crate) fn accept_on<S: Alter>(
     ensures number { DiskKept S.Store conn.new
         → IfOk result (λ n. (t : Tables) → HasTables S.Store conn.old t → n ≡ count_of t + 1) }
     ensures limits { IfOk result (λ n. (n ≤ 100000) × ReplyFits change.now.reply) }
+    ensures key { DiskKept S.Store conn.new
+        → OnOk result ((t : Tables) → HasTables S.Store conn.old t → IsFree t key.now) }
     ensures unreadable { DiskKept S.Store conn.new
         → OnUnreadable result ((t : Tables) → HasTables S.Store conn.old t → count_of t ≤ 100000
         → ⊥) }

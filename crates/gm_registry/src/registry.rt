@@ -1,6 +1,6 @@
 //! The calls of a registry.
 
-ghost use Rattle.std.specs.Prelude.{◌≡◌, ◌≢◌, ◌≤◌, ◌+◌, false, IfOk, IfErr, MatchOption, MatchResult, string_bytes};
+ghost use Rattle.std.specs.Prelude.{OnOk, ◌≡◌, ◌≢◌, ◌≤◌, ◌+◌, false, IfOk, IfErr, MatchOption, MatchResult, string_bytes};
 ghost use Rattle.gm_state.specs.Rows.{Tables};
 ghost use Rattle.gm_state.specs.World.{ReplyFits};
 ghost use Rattle.gm_registry.specs.Tables.{Holds, IsEmpty, no_tables};
@@ -128,6 +128,8 @@ impl<S: Alter> Registry<S> {
         ensures number { DiskKept S.Store self.new
             → IfOk result (λ n. (t : Tables) → HasTables S.Store self.old t → n ≡ count_of t + 1) }
         ensures limits { IfOk result (λ n. (n ≤ 100000) × ReplyFits change.now.reply) }
+        ensures key { DiskKept S.Store self.new
+            → OnOk result ((t : Tables) → HasTables S.Store self.old t → IsFree t key.now) }
         ensures unreadable { DiskKept S.Store self.new
             → OnUnreadable result ((t : Tables) → HasTables S.Store self.old t
             → count_of t ≤ 100000 → ⊥) }

@@ -1,10 +1,13 @@
 use Rattle.std.proofs.Common.{◌≡◌, ◌+◌, ℕ, Ok, arith, subst}
+use Rattle.sqlite.specs.Held.{state}
 use Rattle.gm_state.specs.Rows.{Tables}
-use Rattle.gm_registry.specs.Changes.{with_accepted, with_change}
+use Rattle.gm_registry.specs.Changes.{command_row, with_accepted, with_change}
 use Rattle.gm_registry.specs.Registry.{HasTables, MayLeave}
 use Rattle.gm_registry.specs.Replies.{count_of}
 use Rattle.sqlite_rows.proofs.Refusing.{on_err}
 use Rattle.gm_registry.proofs.Saving.{then_writes, never_ok}
+use Rattle.gm_registry.proofs.Keys.{others_apart}
+use Rattle.gm_registry.proofs.Written.{commands_with}
 use Rattle.gm_registry.proofs.accepting.accept_on.Goals as goal
 
 pub returns-in_err-write_change-clause-writes : goal.returns-in_err-write_change-clause-writes
@@ -33,3 +36,11 @@ returns-clause-writes g c =
     c.write_change.ensures.survives (Ok c.from.result)
     (λ clean t is n. subst (λ (k : ℕ). HasTables g.S.Store end (with_change c.args.change.now c.args.key.now k c.args.words.now t)) n (c.in_ok-write_change.ensures.done clean t is n))
     (λ clean. tt)
+
+pub returns-clause-key : goal.returns-clause-key
+returns-clause-key g c clean t was =
+    let it = c.in_ok-count.ensures.count (omega (arith, c.write_change.ensures.survives.clean)) t was in
+    let after = c.in_ok-write_change.ensures.done clean t it.1.tables (omega (arith, it.0)) in
+    others_apart (state g.S.Store c.write_change.new.conn).committed.trees (with_change c.args.change.now c.args.key.now (c.in_ok-count.count + 1) c.args.words.now t)
+    (command_row c.args.key.now (c.in_ok-count.count + 1) c.args.words.now c.args.change.now.reply) t.commands after.tables
+    (commands_with c.args.change.now c.args.key.now (c.in_ok-count.count + 1) c.args.words.now t)
