@@ -12,7 +12,7 @@ use Rattle.gm_state.specs.declared.records.Component.{Component}
 use Rattle.gm_state.specs.Rows.{Tables, CommandRow, component_row}
 use Rattle.gm_rules.specs.Decides.{Changed}
 use Rattle.gm_registry.specs.Schema.{registry_schema}
-use Rattle.gm_registry.specs.Tables.{HasRows, HasCounted, HasTables, IsInside, AreNumbered, numbers_of}
+use Rattle.gm_registry.specs.Tables.{HasRows, HasCounted, SeesTables, IsInside, AreNumbered, numbers_of}
 use Rattle.gm_registry.specs.Changes.{with_component, without_component, with_components, without_components, with_some_mirror, without_some_mirror, with_records, with_change, settled, command_row}
 use Rattle.gm_registry.specs.Replies.{count_of}
 use Rattle.gm_registry.proofs.Meaning.{settle}
@@ -53,7 +53,7 @@ change_numbered ch key n words t next numbered =
     more_numbered (command_row key n words ch.reply) (with_records ch t).commands (next ∙ ap (λ (l : List CommandRow). length l + 1) (sym same)) (subst AreNumbered (sym same) numbered)
 
 -- at the beginning of a transaction the rows are those of the tables
-pub begun_rows : {S : Type 0} (g : store.Ghosts S) (old : Held S) (t : Tables) → HasTables (state g old) t → IsInside (state g old).committed (state g (record old { in_transaction = true })) t
+pub begun_rows : {S : Type 0} (g : store.Ghosts S) (old : Held S) (t : Tables) → SeesTables (state g old) t → IsInside (state g old).committed (state g (record old { in_transaction = true })) t
 begun_rows g old t was =
     inside_as registry_schema HasCounted HasRows t t (state g old).committed (state g (record old { in_transaction = true })) (λ counted. counted.rows) (begun registry_schema HasCounted g old t was)
 

@@ -25,7 +25,7 @@ use Rattle.gm_state.specs.Rows.{Tables, CommandRow}
 use Rattle.gm_registry.specs.Statements.{last_command_text}
 use Rattle.gm_registry.specs.Schema.{registry_schema}
 use Rattle.gm_registry.specs.Rows.{command_values}
-use Rattle.gm_registry.specs.Tables.{HasTables, HasCounted, AreNumbered, numbers_of}
+use Rattle.gm_registry.specs.Tables.{SeesTables, HasCounted, AreNumbered, numbers_of}
 use Rattle.gm_registry.specs.Replies.{IsLastOf, count_of}
 use Rattle.gm_registry.proofs.Meaning.{last_query, last_is}
 use Rattle.gm_registry.proofs.Replying.{nothing_found}
@@ -76,7 +76,7 @@ finish t rows (o ∷ more) among up shows =
     at_most from.0.seq d.seq (ap is_lt (sym (value_cmp-Int (pos from.0.seq) (pos d.seq))) ∙ subst₂ (λ x y. is_lt (value_cmp (key x) (key y)) ≡ false) from.2 it.2 far) in
     inr (from.0, has_from t.commands from.0 from.1, most, shows ∙ ap (λ (x : Output). x.1 ∷ []) from.2)
 
-pub lasts : (old new : State) (rows : List Row) (t : Tables) → HasTables old t → Shown last_command_text [] old new rows → IsLastOf t rows
+pub lasts : (old new : State) (rows : List Row) (t : Tables) → SeesTables old t → Shown last_command_text [] old new rows → IsLastOf t rows
 lasts old new rows t was h =
     let db = old.now.trees in
     let all = reads_as last_command_text [] old new registry_schema (settled_schema registry_schema HasCounted old t was) _ last_is.command_is last_is.plain last_is.of_tables rows h in

@@ -21,3 +21,7 @@ pub mod Counted
 pub mod Telling
 pub mod Abouts
 pub mod Texts
+pub mod Saving
+pub mod OneReading
+pub mod Written
+pub mod Keys

@@ -26,7 +26,7 @@ use Rattle.gm_state.specs.Rows.{Tables, CommandRow}
 use Rattle.gm_registry.specs.Statements.{find_command_text}
 use Rattle.gm_registry.specs.Schema.{registry_schema}
 use Rattle.gm_registry.specs.Rows.{command_values}
-use Rattle.gm_registry.specs.Tables.{HasTables, HasCounted}
+use Rattle.gm_registry.specs.Tables.{SeesTables, HasCounted}
 use Rattle.gm_registry.specs.Replies.{reply_in, reply_values, is_under, IsKept, IsFree}
 use Rattle.gm_registry.proofs.Meaning.{find_query, find_is, shown_terms, by_key}
 use Rattle.gm_registry.proofs.Listed.{has_from, stands_permuted}
@@ -42,7 +42,7 @@ shown_place : (row : Row) → of_columns (columns row) ≡ of_row row
 shown_place [] = refl
 shown_place (x ∷ xs) = refl
 
-pub finds : (old new : State) (key : List ℕ) (rows : List Row) (t : Tables) → HasTables old t → Shown find_command_text (Text key ∷ []) old new rows → IsPermutation (map reply_values (filter (is_under key) t.commands)) rows
+pub finds : (old new : State) (key : List ℕ) (rows : List Row) (t : Tables) → SeesTables old t → Shown find_command_text (Text key ∷ []) old new rows → IsPermutation (map reply_values (filter (is_under key) t.commands)) rows
 finds old new key rows t was h =
     let db = old.now.trees in
     let all = reads_as find_command_text (Text key ∷ []) old new registry_schema (settled_schema registry_schema HasCounted old t was) _ find_is.command_is find_is.plain find_is.of_tables rows h in

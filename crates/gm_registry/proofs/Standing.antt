@@ -9,7 +9,7 @@ use Rattle.sqlite_rows.proofs.Statements.{settled_schema}
 use Rattle.sqlite_rows.proofs.Showing.{one_schema, opened}
 use Rattle.gm_state.specs.Rows.{Tables}
 use Rattle.gm_registry.specs.Schema.{registry_schema, no_schema}
-use Rattle.gm_registry.specs.Tables.{HasCounted, HasTables, Holds, IsEmpty, IsRegistry}
+use Rattle.gm_registry.specs.Tables.{HasCounted, SeesTables, Holds, IsEmpty, SeesRegistry}
 use Rattle.gm_registry.specs.Listing.{ShowsList}
 use Rattle.gm_registry.specs.Opening.{IsBlank, IsForeign, IsOfSchema1}
 use Rattle.gm_registry.proofs.Abouts.{about_row}
@@ -22,14 +22,14 @@ blank s is_open autocommit settled live empty = record {
   schema_is = ap (λ (d : Database). d.schema) settled ∙ one_schema s no_schema is_open live empty;
 }
 
-pub has_tables : (s : State) (t : Tables) → IsTrue s.is_open → s.in_transaction ≡ false → s.now ≡ s.committed → IsLive s → Holds s.committed.trees t → HasTables s t
+pub has_tables : (s : State) (t : Tables) → IsTrue s.is_open → s.in_transaction ≡ false → s.now ≡ s.committed → IsLive s → Holds s.committed.trees t → SeesTables s t
 has_tables = opened registry_schema HasCounted
 
 some_tables : registry_schema ≡ no_schema → ⊥
 some_tables e = let f = ap (λ (s : Schema). s.tables) e in cc
 
 -- a registry has tables
-pub not_empty : (s : State) (t : Tables) (shown : Schema) (b : Bool) → HasTables s t → shown ≡ s.now.schema → IsTrue b ↔ (shown ≡ no_schema) → b ≡ true → ⊥
+pub not_empty : (s : State) (t : Tables) (shown : Schema) (b : Bool) → SeesTables s t → shown ≡ s.now.schema → IsTrue b ↔ (shown ≡ no_schema) → b ≡ true → ⊥
 not_empty s t shown b has is tells e = some_tables (sym (is ∙ settled_schema registry_schema HasCounted s t has) ∙ tells.0 e)
 
 pub shows_some : (s : State) (shown : Schema) (b : Bool) → s.now.schema ≡ registry_schema → shown ≡ s.now.schema → IsTrue b ↔ (shown ≡ no_schema) → b ≡ true → ⊥
@@ -41,7 +41,7 @@ registry_seen s is_open settled live sound = ap (λ (d : Database). d.schema) se
 
 -- what is unchanged since the opening, with the one record of `about`, is a registry
 pub registry_there : (old new : State) → IsTrue old.is_open → old.in_transaction ≡ false → old.now ≡ old.committed → IsLive old → IsSound registry_schema old.committed.trees
-    → IsUnchanged old new → IsOfSchema1 old.now.trees → IsRegistry new
+    → IsUnchanged old new → IsOfSchema1 old.now.trees → SeesRegistry new
 registry_there old new is_open autocommit settled live sound unchanged one =
     let same = unchanged.0 in
     let still : IsSound registry_schema new.committed.trees = subst (λ (d : Database). IsSound registry_schema d.trees) (sym same.committed_is) sound in

@@ -94,7 +94,7 @@ intents_shown : (db : Trees) (t : Tables) (f : Fetched) → HasRows db t → Are
 intents_shown db t f has are =
     shows_records whole (columns_at (shown_places Intents)) (columns_at (shown_places Intents)) intent_values shown_intent intent_picked (λ i. refl) t.intents f.intents.items (db 7) has.intents are.intents
 
-rows_numbered : (n : ℕ) (ts : List Intent) → map shown_intent (intent_rows n ts) ≡ numbered intent_shown n ts
+pub rows_numbered : (n : ℕ) (ts : List Intent) → map shown_intent (intent_rows n ts) ≡ numbered intent_shown n ts
 rows_numbered n [] = refl
 rows_numbered n (t ∷ ts) = ap (λ more. intent_shown n t ∷ more) (rows_numbered (n + 1) ts)
 

@@ -1,5 +1,5 @@
 -- What a command and its end make of the tables.
-use Rattle.std.specs.Prelude.{ℕ, List, [], ◌∷◌, ◌++◌, Option, Some, None}
+use Rattle.std.specs.Prelude.{ℕ, ◌+◌, length, List, [], ◌∷◌, ◌++◌, Option, Some, None}
 use Rattle.gm_state.specs.declared.records.Mirror.{Mirror}
 use Rattle.gm_state.specs.declared.records.Component.{Component}
 use Rattle.gm_state.specs.declared.command.Reply.{Reply}
@@ -67,6 +67,10 @@ command_row key number words reply = record { call_key = key; seq = number; word
 abbrev pub with_change : Changed → List ℕ → ℕ → List ℕ → Tables → Tables
 with_change ch key number words t =
     with_command (command_row key number words ch.reply) (with_intents (intent_rows 1 ch.intents) (with_records ch t))
+
+-- the same under the next number
+abbrev pub with_accepted : Changed → List ℕ → List ℕ → Tables → Tables
+with_accepted ch key words t = with_change ch key (length t.commands + 1) words t
 
 -- no intent is pending
 abbrev pub settled : Tables → Tables

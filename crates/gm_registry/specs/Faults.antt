@@ -1,5 +1,5 @@
 -- How the faults of the store are numbered, and from which errors of `sqlite` they come.
-use Rattle.std.specs.Prelude.{ℕ}
+use Rattle.std.specs.Prelude.{◌≡◌, ℕ, Result, IfErr}
 use Rattle.sqlite.specs.declared.error.Error.{Error}
 use Rattle.sqlite.specs.declared.error.Error.TheVariants.{SqliteFailure}
 use Rattle.sqlite.specs.declared.error.ErrorCode.TheVariants as code
@@ -20,3 +20,7 @@ fault_of _ = Store
 abbrev pub value_fault_of : Error → StoreFault
 value_fault_of (SqliteFailure code.OutOfMemory) = Memory
 value_fault_of _ = Unreadable
+
+-- where the registry is found unreadable
+abbrev pub OnUnreadable : {T : Type 0} → Result T StoreFault → Type 0 → Type 0
+OnUnreadable result P = IfErr result (λ e. e ≡ Unreadable → P)

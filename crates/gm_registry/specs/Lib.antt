@@ -4,7 +4,7 @@ pub mod Statements
 pub mod Schema
 pub mod Rows
 pub mod Tables
-pub mod Leaving
+pub mod Registry
 pub mod Changes
 pub mod Replies
 pub mod Listing

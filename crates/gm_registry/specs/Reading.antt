@@ -13,6 +13,11 @@ use Rattle.gm_registry.specs.Tables.{Holds}
 abbrev pub IsInRange : CommandRow → Type 0
 IsInRange c = (c.copied ≤ 1048576) × (c.of_total ≤ 1048576)
 
+-- the rows of mirrors and components are those of the records, in some order
+pub record HoldState (s : Records) (t : Tables) : Type 0 where
+  pub mirrors : IsPermutation (map mirror_row s.mirrors) t.mirrors
+  pub components : IsPermutation (map component_row s.components) t.components
+
 -- The tables are those of a state with these intents pending, which are numbered from 1 in their order.
 pub record AreTablesOf (t : Tables) (s : Records) (ts : List Intent) : Type 0 where
   pub state : IsState s

@@ -39,9 +39,9 @@ pub record Fits (c : CommandRow) : Type 0 where
   pub of_total : c.of_total < 2 ^ 32
   pub words : IsUtf8 c.words
 
--- the commands are such as are written here
-abbrev pub AreWritten : Tables → Type 0
-AreWritten t = (c : CommandRow) → Has t.commands c → Fits c
+-- the commands under this key are such as are written here
+abbrev pub AreWrittenUnder : List ℕ → Tables → Type 0
+AreWrittenUnder key t = (c : CommandRow) → Has t.commands c → c.call_key ≡ key → Fits c
 
 -- what a query of a key shows of a command
 abbrev pub reply_values : CommandRow → Row

@@ -38,8 +38,8 @@ abbrev pub Holds : Trees → Tables → Type 0
 Holds = HoldsBy registry_schema HasCounted
 
 -- an open connection outside a transaction, over a registry with these tables
-abbrev pub HasTables : State → Tables → Type 0
-HasTables = HasRecords registry_schema HasCounted
+abbrev pub SeesTables : State → Tables → Type 0
+SeesTables = HasRecords registry_schema HasCounted
 
 -- within a transaction over this commit, whose rows are those of the tables so far
 abbrev pub IsInside : Database → State → Tables → Type 0
@@ -53,7 +53,7 @@ abbrev pub IsEmpty : Trees → Type 0
 IsEmpty db = IsSound no_schema db
 
 -- an open connection outside a transaction, over the tables of a registry and the one record of `about`, whatever else they hold
-pub record IsRegistry (s : State) : Type 0 where
+pub record SeesRegistry (s : State) : Type 0 where
   pub is_open : IsTrue s.is_open
   pub autocommit : s.in_transaction ≡ false
   pub schema_is : s.committed.schema ≡ registry_schema

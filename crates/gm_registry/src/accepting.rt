@@ -1,15 +1,14 @@
 //! A command's change, with its intents and its key, in one transaction.
 
-ghost use Rattle.std.specs.Prelude.{◌≡◌, ◌≤◌, ◌+◌, ◌↔◌, IfOk, IfErr, OnOk, OnErr, IsTrue};
-ghost use Rattle.sqlite_trees.specs.View.{doubt};
-ghost use Rattle.sqlite.specs.State.{HasCleanDisk, KeepsCommit, Survives};
+ghost use Rattle.std.specs.Prelude.{◌≡◌, ◌≤◌, ◌+◌, ◌↔◌, IfOk, OnOk, OnErr, IsTrue};
+ghost use Rattle.sqlite.specs.State.{Survives};
 ghost use Rattle.sqlite.specs.Held.{state};
-ghost use Rattle.sqlite.specs.Effect.{Database};
 ghost use Rattle.gm_state.specs.Rows.{Tables};
-ghost use Rattle.gm_registry.specs.Tables.{Holds, HasTables, IsInside};
 ghost use Rattle.gm_state.specs.World.{ReplyFits};
-ghost use Rattle.gm_registry.specs.Replies.{count_of};
-ghost use Rattle.gm_registry.specs.Changes.{with_records, with_change, without_some_mirror, with_some_mirror};
+ghost use Rattle.gm_registry.specs.Replies.{count_of, IsFree};
+ghost use Rattle.gm_registry.specs.Changes.{with_accepted, with_records, with_change, without_some_mirror, with_some_mirror};
+ghost use Rattle.gm_registry.specs.Registry.{DiskKept, IsOpen, HasTables, MayLeave, LeavesNothingNew, KeepsCommit, MakesInside, Writes};
+ghost use Rattle.gm_registry.specs.Faults.{OnUnreadable};
 
 use crate::commands::{MAX_COMMANDS, put_command};
 use crate::components::{drop_components, put_components};
@@ -25,10 +24,10 @@ use sqlite::{Alter, Connection, Error, ErrorCode, Transaction};
 /// Deletes a mirror where there is a name.
 fn drop_some_mirror<S: Alter>(tx: &mut Transaction<'_, S>, name: Option<Label>) -> Result<(), Error>
     ensures same_reference { tx.new.conn.ghost_name ≡ tx.old.conn.ghost_name }
-    ensures put { HasCleanDisk (state S.Store tx.new.conn.now) → OnOk result ((first : Database) (t : Tables) → IsInside first (state S.Store tx.old.conn.now) t
-        → IsInside first (state S.Store tx.new.conn.now) (without_some_mirror name t)) }
-    ensures kept { HasCleanDisk (state S.Store tx.new.conn.now) → KeepsCommit (state S.Store tx.old.conn.now) (state S.Store tx.new.conn.now) }
-    ensures survives { Survives (state S.Store tx.old.conn.now) (state S.Store tx.new.conn.now) (λ _. ⊥) }
+    ensures put { MakesInside S.Store tx.old.conn.now tx.new.conn.now result
+        (without_some_mirror name) }
+    ensures kept { KeepsCommit S.Store tx.old.conn.now tx.new.conn.now }
+    ensures survives { LeavesNothingNew S.Store tx.old.conn.now tx.new.conn.now }
 {
     if let Some(name) = name {
         drop_mirror(tx, name)?;
@@ -42,10 +41,10 @@ fn put_some_mirror<S: Alter>(
     mirror: Option<Mirror>,
 ) -> Result<(), Error>
     ensures same_reference { tx.new.conn.ghost_name ≡ tx.old.conn.ghost_name }
-    ensures put { HasCleanDisk (state S.Store tx.new.conn.now) → OnOk result ((first : Database) (t : Tables) → IsInside first (state S.Store tx.old.conn.now) t
-        → IsInside first (state S.Store tx.new.conn.now) (with_some_mirror mirror t)) }
-    ensures kept { HasCleanDisk (state S.Store tx.new.conn.now) → KeepsCommit (state S.Store tx.old.conn.now) (state S.Store tx.new.conn.now) }
-    ensures survives { Survives (state S.Store tx.old.conn.now) (state S.Store tx.new.conn.now) (λ _. ⊥) }
+    ensures put { MakesInside S.Store tx.old.conn.now tx.new.conn.now result
+        (with_some_mirror mirror) }
+    ensures kept { KeepsCommit S.Store tx.old.conn.now tx.new.conn.now }
+    ensures survives { LeavesNothingNew S.Store tx.old.conn.now tx.new.conn.now }
 {
     if let Some(mirror) = mirror {
         put_mirror(tx, mirror)?;
@@ -56,10 +55,10 @@ fn put_some_mirror<S: Alter>(
 /// Writes the records of a change. A component refers to its mirror: it goes before it, and comes after it.
 fn put_records<S: Alter>(tx: &mut Transaction<'_, S>, change: &Change) -> Result<(), Error>
     ensures same_reference { tx.new.conn.ghost_name ≡ tx.old.conn.ghost_name }
-    ensures put { HasCleanDisk (state S.Store tx.new.conn.now) → OnOk result ((first : Database) (t : Tables) → IsInside first (state S.Store tx.old.conn.now) t
-        → IsInside first (state S.Store tx.new.conn.now) (with_records change.now t)) }
-    ensures kept { HasCleanDisk (state S.Store tx.new.conn.now) → KeepsCommit (state S.Store tx.old.conn.now) (state S.Store tx.new.conn.now) }
-    ensures survives { Survives (state S.Store tx.old.conn.now) (state S.Store tx.new.conn.now) (λ _. ⊥) }
+    ensures put { MakesInside S.Store tx.old.conn.now tx.new.conn.now result
+        (with_records change.now) }
+    ensures kept { KeepsCommit S.Store tx.old.conn.now tx.new.conn.now }
+    ensures survives { LeavesNothingNew S.Store tx.old.conn.now tx.new.conn.now }
 {
     drop_components(tx, change.gone_components())?;
     drop_some_mirror(tx, change.gone_mirror())?;
@@ -76,10 +75,10 @@ fn put_change<S: Alter>(
     words: &str,
 ) -> Result<(), Error>
     ensures same_reference { tx.new.conn.ghost_name ≡ tx.old.conn.ghost_name }
-    ensures put { HasCleanDisk (state S.Store tx.new.conn.now) → OnOk result ((first : Database) (t : Tables) → IsInside first (state S.Store tx.old.conn.now) t
-        → IsInside first (state S.Store tx.new.conn.now) (with_change change.now key.now number words.now t)) }
-    ensures kept { HasCleanDisk (state S.Store tx.new.conn.now) → KeepsCommit (state S.Store tx.old.conn.now) (state S.Store tx.new.conn.now) }
-    ensures survives { Survives (state S.Store tx.old.conn.now) (state S.Store tx.new.conn.now) (λ _. ⊥) }
+    ensures put { MakesInside S.Store tx.old.conn.now tx.new.conn.now result
+        (with_change change.now key.now number words.now) }
+    ensures kept { KeepsCommit S.Store tx.old.conn.now tx.new.conn.now }
+    ensures survives { LeavesNothingNew S.Store tx.old.conn.now tx.new.conn.now }
 {
     put_records(tx, change)?;
     put_intents(tx, change.intents())?;
@@ -95,12 +94,14 @@ fn write_change<S: Alter>(
     number: u32,
     words: &str,
 ) -> Result<(), Error>
-    ensures done { HasCleanDisk (state S.Store conn.new) → OnOk result ((t : Tables) → HasTables (state S.Store conn.old) t → number ≡ count_of t + 1
-        → HasTables (state S.Store conn.new) (with_change change.now key.now number words.now t)) }
-    ensures refused { HasCleanDisk (state S.Store conn.new) → OnErr result ((t : Tables) → HasTables (state S.Store conn.old) t → number ≡ count_of t + 1
-        → IsTrue (state S.Store conn.new).is_open → HasTables (state S.Store conn.new) t) }
-    ensures left { (t : Tables) → HasTables (state S.Store conn.old) t → number ≡ count_of t + 1
-        → Survives (state S.Store conn.old) (state S.Store conn.new) (λ db. Holds db (with_change change.now key.now number words.now t)) }
+    ensures done { DiskKept S.Store conn.new → OnOk result ((t : Tables)
+        → HasTables S.Store conn.old t → number ≡ count_of t + 1
+        → HasTables S.Store conn.new (with_change change.now key.now number words.now t)) }
+    ensures refused { DiskKept S.Store conn.new
+        → OnErr result ((t : Tables) → HasTables S.Store conn.old t → number ≡ count_of t + 1
+        → IsOpen S.Store conn.new → HasTables S.Store conn.new t) }
+    ensures left { (t : Tables) → HasTables S.Store conn.old t → number ≡ count_of t + 1
+        → MayLeave S.Store conn.old conn.new (with_change change.now key.now number words.now t) }
     ensures survives { Survives (state S.Store conn.old) (state S.Store conn.new) (λ _. Unit {0}) }
 {
     if !conn.is_autocommit() {
@@ -129,14 +130,16 @@ pub(crate) fn accept_on<S: Alter>(
     key: &str,
     words: &str,
 ) -> Result<u64, StoreFault>
-    ensures done { HasCleanDisk (state S.Store conn.new) → IfOk result (λ n. (t : Tables) → HasTables (state S.Store conn.old) t
-        → (n ≡ count_of t + 1) × HasTables (state S.Store conn.new) (with_change change.now key.now n words.now t)) }
+    ensures number { DiskKept S.Store conn.new
+        → IfOk result (λ n. (t : Tables) → HasTables S.Store conn.old t → n ≡ count_of t + 1) }
     ensures limits { IfOk result (λ n. (n ≤ 100000) × ReplyFits change.now.reply) }
-    ensures unreadable { HasCleanDisk (state S.Store conn.new) → IfErr result (λ e. e ≡ StoreFault.Unreadable → (t : Tables) → HasTables (state S.Store conn.old) t → count_of t ≤ 100000 → ⊥) }
-    ensures refused { HasCleanDisk (state S.Store conn.new) → OnErr result ((t : Tables) → HasTables (state S.Store conn.old) t → IsTrue (state S.Store conn.new).is_open → HasTables (state S.Store conn.new) t) }
-    ensures left { (t : Tables) → HasTables (state S.Store conn.old) t
-        → Survives (state S.Store conn.old) (state S.Store conn.new) (λ db. Holds db (with_change change.now key.now (count_of t + 1) words.now t)) }
-    ensures clean { doubt (state S.Store conn.old).is_clean ≤ doubt (state S.Store conn.new).is_clean }
+    ensures key { DiskKept S.Store conn.new
+        → OnOk result ((t : Tables) → HasTables S.Store conn.old t → IsFree t key.now) }
+    ensures unreadable { DiskKept S.Store conn.new
+        → OnUnreadable result ((t : Tables) → HasTables S.Store conn.old t → count_of t ≤ 100000
+        → ⊥) }
+    ensures writes { Writes S.Store conn.old conn.new result
+        (with_accepted change.now key.now words.now) }
 {
     let count = accepted_on(conn)?;
     if count >= MAX_COMMANDS || !is_in_range(change.reply()) {

@@ -1,6 +1,6 @@
 //! What a column of a row says. Nothing here takes memory but the text of `text_at`.
 
-ghost use Rattle.std.specs.Prelude.{◌≡◌, ◌↔◌, [], ◌<◌, ◌*◌, ◌^◌, ℕ, List, Bool, pos, IsTrue, IfSome, IfNone, IfOk, IfErr, IsUtf8, string_bytes, if◌then◌else◌};
+ghost use Rattle.std.specs.Prelude.{◌≡◌, ◌↔◌, [], ◌<◌, ◌*◌, ◌^◌, ℕ, List, Bool, pos, IsTrue, IfSome, IfNone, IfOk, IsUtf8, string_bytes, if◌then◌else◌};
 ghost use Rattle.gm_metadata.specs.Labels.{is_label};
 ghost use Rattle.gm_metadata.specs.Balance.{balance_code};
 ghost use Rattle.gm_metadata.specs.Flags.{mirror_bits, disk_bits};
@@ -9,6 +9,7 @@ ghost use Rattle.gm_metadata.specs.declared.flags.DiskFlags.{DiskFlags};
 ghost use Rattle.gm_metadata.specs.declared.flags.MirrorFlags.{MirrorFlags};
 ghost use Rattle.sqlite.specs.Order.{column};
 ghost use Rattle.sqlite.specs.declared.types.Value.TheVariants.{Int, Text};
+ghost use Rattle.gm_registry.specs.Faults.{OnUnreadable};
 
 use crate::fault::{StoreFault, readable};
 use gm_metadata::{Balance, DiskFlags, Label, MirrorFlags};
@@ -46,7 +47,8 @@ pub(crate) fn u8_at(row: &Row, at: usize) -> Option<u8>
 /// The sectors that a column tells in bytes.
 pub(crate) fn sectors_at(row: &Row, at: usize) -> Option<u32>
     ensures some { IfSome result (λ n. column row.now at ≡ Int (pos (512 * n))) }
-    ensures none { IfNone result ((n : ℕ) → n < 2 ^ 32 → column row.now at ≡ Int (pos (512 * n)) → ⊥) }
+    ensures none { IfNone result ((n : ℕ) → n < 2 ^ 32 → column row.now at ≡ Int (pos (512 * n))
+        → ⊥) }
 {
     sectors_of(u64_at(row, at)?)
 }
@@ -54,7 +56,8 @@ pub(crate) fn sectors_at(row: &Row, at: usize) -> Option<u32>
 /// The truth value that a column tells as 0 or 1.
 pub(crate) fn truth_at(row: &Row, at: usize) -> Option<bool>
     ensures some { IfSome result (λ b. column row.now at ≡ Int (pos (if b then 1 else 0))) }
-    ensures none { IfNone result ((b : Bool) → column row.now at ≡ Int (pos (if b then 1 else 0)) → ⊥) }
+    ensures none { IfNone result ((b : Bool) → column row.now at ≡ Int (pos (if b then 1 else 0))
+        → ⊥) }
 {
     match u64_at(row, at)? {
         0 => Some(false),
@@ -66,7 +69,8 @@ pub(crate) fn truth_at(row: &Row, at: usize) -> Option<bool>
 /// The balance that a column tells by its code.
 pub(crate) fn balance_at(row: &Row, at: usize) -> Option<Balance>
     ensures some { IfSome result (λ b. column row.now at ≡ Int (pos (balance_code b))) }
-    ensures none { IfNone result ((b : Balance) → column row.now at ≡ Int (pos (balance_code b)) → ⊥) }
+    ensures none { IfNone result ((b : Balance) → column row.now at ≡ Int (pos (balance_code b))
+        → ⊥) }
 {
     Balance::from_code(u8_at(row, at)?)
 }
@@ -74,7 +78,8 @@ pub(crate) fn balance_at(row: &Row, at: usize) -> Option<Balance>
 /// The flags of a mirror that a column tells as a number.
 pub(crate) fn mirror_flags_at(row: &Row, at: usize) -> Option<MirrorFlags>
     ensures some { IfSome result (λ f. column row.now at ≡ Int (pos (mirror_bits f))) }
-    ensures none { IfNone result ((f : MirrorFlags) → column row.now at ≡ Int (pos (mirror_bits f)) → ⊥) }
+    ensures none { IfNone result ((f : MirrorFlags) → column row.now at ≡ Int (pos (mirror_bits f))
+        → ⊥) }
 {
     MirrorFlags::from_bits(u64_at(row, at)?)
 }
@@ -82,7 +87,8 @@ pub(crate) fn mirror_flags_at(row: &Row, at: usize) -> Option<MirrorFlags>
 /// The flags of a component that a column tells as a number.
 pub(crate) fn disk_flags_at(row: &Row, at: usize) -> Option<DiskFlags>
     ensures some { IfSome result (λ f. column row.now at ≡ Int (pos (disk_bits f))) }
-    ensures none { IfNone result ((f : DiskFlags) → column row.now at ≡ Int (pos (disk_bits f)) → ⊥) }
+    ensures none { IfNone result ((f : DiskFlags) → column row.now at ≡ Int (pos (disk_bits f))
+        → ⊥) }
 {
     DiskFlags::from_bits(u64_at(row, at)?)
 }
@@ -90,7 +96,8 @@ pub(crate) fn disk_flags_at(row: &Row, at: usize) -> Option<DiskFlags>
 /// The label in a column.
 pub(crate) fn label_at(row: &Row, at: usize) -> Option<Label>
     ensures some { IfSome result (λ name. column row.now at ≡ Text name) }
-    ensures none { IfNone result ((name : List ℕ) → IsTrue (is_label name) → column row.now at ≡ Text name → ⊥) }
+    ensures none { IfNone result ((name : List ℕ) → IsTrue (is_label name)
+        → column row.now at ≡ Text name → ⊥) }
 {
     match row.get_ref(at) {
         Ok(ValueRef::Text(text)) => match str::from_utf8(text) {
@@ -104,7 +111,8 @@ pub(crate) fn label_at(row: &Row, at: usize) -> Option<Label>
 /// The text in a column, of its own memory; `Unreadable` where it holds none.
 pub(crate) fn text_at(row: &Row, at: usize) -> Result<String, StoreFault>
     ensures text { IfOk result (λ text. column row.now at ≡ Text (string_bytes text)) }
-    ensures unreadable { IfErr result (λ e. e ≡ StoreFault.Unreadable → (text : List ℕ) → IsUtf8 text → column row.now at ≡ Text text → ⊥) }
+    ensures unreadable { OnUnreadable result ((text : List ℕ) → IsUtf8 text
+        → column row.now at ≡ Text text → ⊥) }
 {
     readable(row.get(at))
 }

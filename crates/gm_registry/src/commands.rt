@@ -1,12 +1,8 @@
 //! The table of accepted commands: written inside a transaction, read by the key or from the end of its numbers.
 
-ghost use Rattle.std.specs.Prelude.{◌≡◌, OnOk};
-ghost use Rattle.sqlite.specs.State.{HasCleanDisk, KeepsCommit, Survives};
-ghost use Rattle.sqlite.specs.Held.{state};
-ghost use Rattle.sqlite.specs.Effect.{Database};
-ghost use Rattle.gm_state.specs.Rows.{Tables};
-ghost use Rattle.gm_registry.specs.Tables.{IsInside};
+ghost use Rattle.std.specs.Prelude.{◌≡◌};
 ghost use Rattle.gm_registry.specs.Changes.{with_command, command_row};
+ghost use Rattle.gm_registry.specs.Registry.{LeavesNothingNew, KeepsCommit, MakesInside};
 
 use gm_state::Reply;
 use sqlite::{Alter, Error, Transaction, params};
@@ -24,11 +20,11 @@ fn put_row<S: Alter>(
     of_total: u32,
 ) -> Result<usize, Error>
     ensures same_reference { tx.new.conn.ghost_name ≡ tx.old.conn.ghost_name }
-    ensures put { HasCleanDisk (state S.Store tx.new.conn.now) → OnOk result ((first : Database) (t : Tables) → IsInside first (state S.Store tx.old.conn.now) t
-        → IsInside first (state S.Store tx.new.conn.now)
-        (with_command (record { call_key = key.now; seq = number; words = words.now; copied = copied; of_total = of_total }) t)) }
-    ensures kept { HasCleanDisk (state S.Store tx.new.conn.now) → KeepsCommit (state S.Store tx.old.conn.now) (state S.Store tx.new.conn.now) }
-    ensures survives { Survives (state S.Store tx.old.conn.now) (state S.Store tx.new.conn.now) (λ _. ⊥) }
+    ensures put { MakesInside S.Store tx.old.conn.now tx.new.conn.now result
+        (with_command
+        (record { call_key = key.now; seq = number; words = words.now; copied = copied; of_total = of_total })) }
+    ensures kept { KeepsCommit S.Store tx.old.conn.now tx.new.conn.now }
+    ensures survives { LeavesNothingNew S.Store tx.old.conn.now tx.new.conn.now }
 {
     tx.execute(
         "INSERT INTO commands (call_key, seq, words, copied, of_total) VALUES (?1, ?2, ?3, ?4, ?5)",
@@ -45,10 +41,10 @@ pub(crate) fn put_command<S: Alter>(
     reply: Reply,
 ) -> Result<usize, Error>
     ensures same_reference { tx.new.conn.ghost_name ≡ tx.old.conn.ghost_name }
-    ensures put { HasCleanDisk (state S.Store tx.new.conn.now) → OnOk result ((first : Database) (t : Tables) → IsInside first (state S.Store tx.old.conn.now) t
-        → IsInside first (state S.Store tx.new.conn.now) (with_command (command_row key.now number words.now reply) t)) }
-    ensures kept { HasCleanDisk (state S.Store tx.new.conn.now) → KeepsCommit (state S.Store tx.old.conn.now) (state S.Store tx.new.conn.now) }
-    ensures survives { Survives (state S.Store tx.old.conn.now) (state S.Store tx.new.conn.now) (λ _. ⊥) }
+    ensures put { MakesInside S.Store tx.old.conn.now tx.new.conn.now result
+        (with_command (command_row key.now number words.now reply)) }
+    ensures kept { KeepsCommit S.Store tx.old.conn.now tx.new.conn.now }
+    ensures survives { LeavesNothingNew S.Store tx.old.conn.now tx.new.conn.now }
 {
     match reply {
         Reply::Plain => put_row(tx, key, number, words, 0, 0),

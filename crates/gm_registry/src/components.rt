@@ -1,12 +1,9 @@
 //! The table of components, written by the provider, inside a transaction.
 
-ghost use Rattle.std.specs.Prelude.{◌≡◌, OnOk};
-ghost use Rattle.sqlite.specs.State.{HasCleanDisk, KeepsCommit, Survives};
-ghost use Rattle.sqlite.specs.Held.{state};
-ghost use Rattle.sqlite.specs.Effect.{Database};
-ghost use Rattle.gm_state.specs.Rows.{Tables, component_row};
-ghost use Rattle.gm_registry.specs.Tables.{IsInside};
+ghost use Rattle.std.specs.Prelude.{◌≡◌};
+ghost use Rattle.gm_state.specs.Rows.{component_row};
 ghost use Rattle.gm_registry.specs.Changes.{with_component, without_component, with_components, without_components};
+ghost use Rattle.gm_registry.specs.Registry.{LeavesNothingNew, KeepsCommit, MakesInside};
 
 use crate::columns::{bytes_in, disk_number, truth_number};
 use gm_metadata::Label;
@@ -19,10 +16,10 @@ fn put_component<S: Alter>(
     component: Component,
 ) -> Result<usize, Error>
     ensures same_reference { tx.new.conn.ghost_name ≡ tx.old.conn.ghost_name }
-    ensures put { HasCleanDisk (state S.Store tx.new.conn.now) → OnOk result ((first : Database) (t : Tables) → IsInside first (state S.Store tx.old.conn.now) t
-        → IsInside first (state S.Store tx.new.conn.now) (with_component (component_row component) t)) }
-    ensures kept { HasCleanDisk (state S.Store tx.new.conn.now) → KeepsCommit (state S.Store tx.old.conn.now) (state S.Store tx.new.conn.now) }
-    ensures survives { Survives (state S.Store tx.old.conn.now) (state S.Store tx.new.conn.now) (λ _. ⊥) }
+    ensures put { MakesInside S.Store tx.old.conn.now tx.new.conn.now result
+        (with_component (component_row component)) }
+    ensures kept { KeepsCommit S.Store tx.old.conn.now tx.new.conn.now }
+    ensures survives { LeavesNothingNew S.Store tx.old.conn.now tx.new.conn.now }
 {
     tx.execute(
         "INSERT INTO components (prov, mirror, did, syncid, priority, sync_offset, dflags, hard, provsize) VALUES (?1, ?2, ?3, ?4, ?5, ?6, ?7, ?8, ?9) ON CONFLICT (prov) DO UPDATE SET mirror = excluded.mirror, did = excluded.did, syncid = excluded.syncid, priority = excluded.priority, sync_offset = excluded.sync_offset, dflags = excluded.dflags, hard = excluded.hard, provsize = excluded.provsize",
@@ -46,10 +43,10 @@ pub(crate) fn put_components<S: Alter>(
     components: &[Component],
 ) -> Result<(), Error>
     ensures same_reference { tx.new.conn.ghost_name ≡ tx.old.conn.ghost_name }
-    ensures put { HasCleanDisk (state S.Store tx.new.conn.now) → OnOk result ((first : Database) (t : Tables) → IsInside first (state S.Store tx.old.conn.now) t
-        → IsInside first (state S.Store tx.new.conn.now) (with_components components.now t)) }
-    ensures kept { HasCleanDisk (state S.Store tx.new.conn.now) → KeepsCommit (state S.Store tx.old.conn.now) (state S.Store tx.new.conn.now) }
-    ensures survives { Survives (state S.Store tx.old.conn.now) (state S.Store tx.new.conn.now) (λ _. ⊥) }
+    ensures put { MakesInside S.Store tx.old.conn.now tx.new.conn.now result
+        (with_components components.now) }
+    ensures kept { KeepsCommit S.Store tx.old.conn.now tx.new.conn.now }
+    ensures survives { LeavesNothingNew S.Store tx.old.conn.now tx.new.conn.now }
 {
     'puts: for component in components {
         put_component(tx, *component)?;
@@ -60,10 +57,10 @@ pub(crate) fn put_components<S: Alter>(
 /// Deletes the component on a provider.
 fn drop_component<S: Alter>(tx: &mut Transaction<'_, S>, provider: Label) -> Result<usize, Error>
     ensures same_reference { tx.new.conn.ghost_name ≡ tx.old.conn.ghost_name }
-    ensures put { HasCleanDisk (state S.Store tx.new.conn.now) → OnOk result ((first : Database) (t : Tables) → IsInside first (state S.Store tx.old.conn.now) t
-        → IsInside first (state S.Store tx.new.conn.now) (without_component provider t)) }
-    ensures kept { HasCleanDisk (state S.Store tx.new.conn.now) → KeepsCommit (state S.Store tx.old.conn.now) (state S.Store tx.new.conn.now) }
-    ensures survives { Survives (state S.Store tx.old.conn.now) (state S.Store tx.new.conn.now) (λ _. ⊥) }
+    ensures put { MakesInside S.Store tx.old.conn.now tx.new.conn.now result
+        (without_component provider) }
+    ensures kept { KeepsCommit S.Store tx.old.conn.now tx.new.conn.now }
+    ensures survives { LeavesNothingNew S.Store tx.old.conn.now tx.new.conn.now }
 {
     tx.execute(
         "DELETE FROM components WHERE prov = ?1",
@@ -77,10 +74,10 @@ pub(crate) fn drop_components<S: Alter>(
     providers: &[Label],
 ) -> Result<(), Error>
     ensures same_reference { tx.new.conn.ghost_name ≡ tx.old.conn.ghost_name }
-    ensures put { HasCleanDisk (state S.Store tx.new.conn.now) → OnOk result ((first : Database) (t : Tables) → IsInside first (state S.Store tx.old.conn.now) t
-        → IsInside first (state S.Store tx.new.conn.now) (without_components providers.now t)) }
-    ensures kept { HasCleanDisk (state S.Store tx.new.conn.now) → KeepsCommit (state S.Store tx.old.conn.now) (state S.Store tx.new.conn.now) }
-    ensures survives { Survives (state S.Store tx.old.conn.now) (state S.Store tx.new.conn.now) (λ _. ⊥) }
+    ensures put { MakesInside S.Store tx.old.conn.now tx.new.conn.now result
+        (without_components providers.now) }
+    ensures kept { KeepsCommit S.Store tx.old.conn.now tx.new.conn.now }
+    ensures survives { LeavesNothingNew S.Store tx.old.conn.now tx.new.conn.now }
 {
     'drops: for provider in providers {
         drop_component(tx, *provider)?;

@@ -57,7 +57,8 @@ impl From<Error> for StoreFault {
 /// The value that was read of a row; a value that the tables aren't to hold is unreadable.
 pub(crate) fn readable<T>(read: Result<T, Error>) -> Result<T, StoreFault>
     ensures read { IfOk result (λ value. read ≡ Ok value) }
-    ensures fault { IfErr result (λ fault. (error : SqlError) × (read ≡ Err error) × (fault ≡ value_fault_of error)) }
+    ensures fault { IfErr result (λ fault. (error : SqlError) × (read ≡ Err error)
+        × (fault ≡ value_fault_of error)) }
 {
     match read {
         Ok(value) => Ok(value),

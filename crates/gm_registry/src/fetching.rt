@@ -1,10 +1,8 @@
 //! The tables as the store shows them.
 
 ghost use Rattle.std.specs.Prelude.{◌≡◌, ◌≢◌, IfOk, IfErr, OnOk, OnErr};
-ghost use Rattle.sqlite.specs.State.{HasCleanDisk};
-ghost use Rattle.sqlite.specs.Held.{state};
 ghost use Rattle.gm_registry.specs.Queries.{query_text, IsNumbered, IsShown, IsInOrder, AreShown};
-ghost use Rattle.gm_registry.specs.Reads.{IsOurs, HasRead, HasFailed};
+ghost use Rattle.gm_registry.specs.Registry.{DiskKept, seen, HasRead, HasFailed, IsOurs};
 
 use crate::fault::StoreFault;
 use sqlite::{Alter, Connection, Row};
@@ -45,10 +43,12 @@ pub(crate) fn rows_of<S: Alter>(
     conn: &mut Connection<S>,
     table: Table,
 ) -> Result<Vec<Row>, StoreFault>
-    ensures rows { HasCleanDisk (state S.Store conn.new) → IfOk result (λ rows. IsOurs (state S.Store conn.old) → IsShown (state S.Store conn.old).now.trees table rows.items) }
-    ensures in_order { IsNumbered table → HasCleanDisk (state S.Store conn.new) → IfOk result (λ rows. IsOurs (state S.Store conn.old) → IsInOrder rows.items) }
-    ensures read { OnOk result (HasRead (state S.Store conn.old) (state S.Store conn.new)) }
-    ensures failed { OnErr result (HasFailed (state S.Store conn.old) (state S.Store conn.new)) }
+    ensures rows { DiskKept S.Store conn.new → IfOk result (λ rows. IsOurs S.Store conn.old
+        → IsShown (seen S.Store conn.old) table rows.items) }
+    ensures in_order { IsNumbered table → DiskKept S.Store conn.new
+        → IfOk result (λ rows. IsOurs S.Store conn.old → IsInOrder rows.items) }
+    ensures read { OnOk result (HasRead S.Store conn.old conn.new) }
+    ensures failed { OnErr result (HasFailed S.Store conn.old conn.new) }
     ensures fault { IfErr result (λ e. e ≢ StoreFault.Unreadable) }
 {
     match conn.query_all(table.query(), &[]) {
@@ -69,9 +69,10 @@ pub(crate) struct Fetched {
 
 /// Reads all tables.
 pub(crate) fn fetch<S: Alter>(conn: &mut Connection<S>) -> Result<Fetched, StoreFault>
-    ensures rows { HasCleanDisk (state S.Store conn.new) → IfOk result (λ f. IsOurs (state S.Store conn.old) → AreShown (state S.Store conn.old).now.trees f) }
-    ensures read { OnOk result (HasRead (state S.Store conn.old) (state S.Store conn.new)) }
-    ensures failed { OnErr result (HasFailed (state S.Store conn.old) (state S.Store conn.new)) }
+    ensures rows { DiskKept S.Store conn.new → IfOk result (λ f. IsOurs S.Store conn.old
+        → AreShown (seen S.Store conn.old) f) }
+    ensures read { OnOk result (HasRead S.Store conn.old conn.new) }
+    ensures failed { OnErr result (HasFailed S.Store conn.old conn.new) }
     ensures fault { IfErr result (λ e. e ≢ StoreFault.Unreadable) }
 {
     let about = rows_of(conn, Table::About)?;

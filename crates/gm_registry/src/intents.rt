@@ -1,13 +1,9 @@
 //! The table of intents: written inside a transaction, numbered from 1 in their order, and emptied in one of its own.
 
-ghost use Rattle.std.specs.Prelude.{◌≡◌, ◌≤◌, [], ◌∷◌, OnOk, OnErr, IsTrue};
-ghost use Rattle.sqlite_trees.specs.View.{doubt};
-ghost use Rattle.sqlite.specs.State.{HasCleanDisk, KeepsCommit, Survives};
-ghost use Rattle.sqlite.specs.Held.{state};
-ghost use Rattle.sqlite.specs.Effect.{Database};
-ghost use Rattle.gm_state.specs.Rows.{Tables, intent_row, intent_rows};
-ghost use Rattle.gm_registry.specs.Tables.{Holds, HasTables, IsInside};
+ghost use Rattle.std.specs.Prelude.{◌≡◌, [], ◌∷◌};
+ghost use Rattle.gm_state.specs.Rows.{intent_row, intent_rows};
 ghost use Rattle.gm_registry.specs.Changes.{with_intents, settled};
+ghost use Rattle.gm_registry.specs.Registry.{LeavesNothingNew, KeepsCommit, MakesInside, Writes};
 
 use gm_state::Intent;
 use sqlite::{Alter, Connection, Error, ErrorCode, Transaction, params};
@@ -30,11 +26,11 @@ fn put_row<S: Alter>(
     end: u32,
 ) -> Result<usize, Error>
     ensures same_reference { tx.new.conn.ghost_name ≡ tx.old.conn.ghost_name }
-    ensures put { HasCleanDisk (state S.Store tx.new.conn.now) → OnOk result ((at : Database) (t : Tables) → IsInside at (state S.Store tx.old.conn.now) t
-        → IsInside at (state S.Store tx.new.conn.now)
-        (with_intents (record { ord = ord; kind = kind; prov = provider.now; source = source.now; first_sector = first; end_sector = end } ∷ []) t)) }
-    ensures kept { HasCleanDisk (state S.Store tx.new.conn.now) → KeepsCommit (state S.Store tx.old.conn.now) (state S.Store tx.new.conn.now) }
-    ensures survives { Survives (state S.Store tx.old.conn.now) (state S.Store tx.new.conn.now) (λ _. ⊥) }
+    ensures put { MakesInside S.Store tx.old.conn.now tx.new.conn.now result
+        (with_intents
+        (record { ord = ord; kind = kind; prov = provider.now; source = source.now; first_sector = first; end_sector = end } ∷ [])) }
+    ensures kept { KeepsCommit S.Store tx.old.conn.now tx.new.conn.now }
+    ensures survives { LeavesNothingNew S.Store tx.old.conn.now tx.new.conn.now }
 {
     tx.execute(
         "INSERT INTO intents (ord, kind, prov, source, first_sector, end_sector) VALUES (?1, ?2, ?3, ?4, ?5, ?6)",
@@ -49,10 +45,10 @@ fn put_intent<S: Alter>(
     intent: Intent,
 ) -> Result<usize, Error>
     ensures same_reference { tx.new.conn.ghost_name ≡ tx.old.conn.ghost_name }
-    ensures put { HasCleanDisk (state S.Store tx.new.conn.now) → OnOk result ((at : Database) (t : Tables) → IsInside at (state S.Store tx.old.conn.now) t
-        → IsInside at (state S.Store tx.new.conn.now) (with_intents (intent_row ord intent ∷ []) t)) }
-    ensures kept { HasCleanDisk (state S.Store tx.new.conn.now) → KeepsCommit (state S.Store tx.old.conn.now) (state S.Store tx.new.conn.now) }
-    ensures survives { Survives (state S.Store tx.old.conn.now) (state S.Store tx.new.conn.now) (λ _. ⊥) }
+    ensures put { MakesInside S.Store tx.old.conn.now tx.new.conn.now result
+        (with_intents (intent_row ord intent ∷ [])) }
+    ensures kept { KeepsCommit S.Store tx.old.conn.now tx.new.conn.now }
+    ensures survives { LeavesNothingNew S.Store tx.old.conn.now tx.new.conn.now }
 {
     match intent {
         Intent::Meta { provider } => put_row(tx, ord, META, provider.as_str(), "", 0, 0),
@@ -72,10 +68,10 @@ pub(crate) fn put_intents<S: Alter>(
     intents: &[Intent],
 ) -> Result<(), Error>
     ensures same_reference { tx.new.conn.ghost_name ≡ tx.old.conn.ghost_name }
-    ensures put { HasCleanDisk (state S.Store tx.new.conn.now) → OnOk result ((at : Database) (t : Tables) → IsInside at (state S.Store tx.old.conn.now) t
-        → IsInside at (state S.Store tx.new.conn.now) (with_intents (intent_rows 1 intents.now) t)) }
-    ensures kept { HasCleanDisk (state S.Store tx.new.conn.now) → KeepsCommit (state S.Store tx.old.conn.now) (state S.Store tx.new.conn.now) }
-    ensures survives { Survives (state S.Store tx.old.conn.now) (state S.Store tx.new.conn.now) (λ _. ⊥) }
+    ensures put { MakesInside S.Store tx.old.conn.now tx.new.conn.now result
+        (with_intents (intent_rows 1 intents.now)) }
+    ensures kept { KeepsCommit S.Store tx.old.conn.now tx.new.conn.now }
+    ensures survives { LeavesNothingNew S.Store tx.old.conn.now tx.new.conn.now }
 {
     let mut ord = 0u32;
     'puts: for intent in intents {
@@ -90,10 +86,7 @@ pub(crate) fn put_intents<S: Alter>(
 
 /// Deletes all intents, in one transaction.
 pub(crate) fn settle_on<S: Alter>(conn: &mut Connection<S>) -> Result<usize, Error>
-    ensures done { HasCleanDisk (state S.Store conn.new) → OnOk result ((t : Tables) → HasTables (state S.Store conn.old) t → HasTables (state S.Store conn.new) (settled t)) }
-    ensures refused { HasCleanDisk (state S.Store conn.new) → OnErr result ((t : Tables) → HasTables (state S.Store conn.old) t → IsTrue (state S.Store conn.new).is_open → HasTables (state S.Store conn.new) t) }
-    ensures left { (t : Tables) → HasTables (state S.Store conn.old) t → Survives (state S.Store conn.old) (state S.Store conn.new) (λ db. Holds db (settled t)) }
-    ensures clean { doubt (state S.Store conn.old).is_clean ≤ doubt (state S.Store conn.new).is_clean }
+    ensures writes { Writes S.Store conn.old conn.new result settled }
 {
     conn.execute("DELETE FROM intents", &[])
 }

@@ -1,10 +1,11 @@
 //! What the rows of all tables say, where they say a state.
 
-ghost use Rattle.std.specs.Prelude.{◌≡◌, ◌↔◌, IsTrue, List, IfOk, IfErr};
+ghost use Rattle.std.specs.Prelude.{◌≡◌, ◌↔◌, IsTrue, List, IfOk};
 ghost use Rattle.sqlite.specs.Order.{column};
 ghost use Rattle.gm_state.specs.declared.command.Intent.{Intent};
 ghost use Rattle.gm_state.specs.Records.{Records};
 ghost use Rattle.gm_registry.specs.Says.{IsBetween, IsCommand, IsAbout, AreCommands, SayState, Say};
+ghost use Rattle.gm_registry.specs.Faults.{OnUnreadable};
 
 use crate::cells::{is_number_at, u64_at};
 use crate::commands::MAX_COMMANDS;
@@ -62,8 +63,10 @@ pub(crate) fn is_about(rows: &[Row]) -> bool
 /// The state that the rows of mirrors and components say; `Unreadable` where they say none.
 fn read_state(alloc: Global, mirrors: &[Row], components: &[Row]) -> Result<State, StoreFault>
     ensures says { IfOk result (λ s. SayState mirrors.now components.now s) }
-    ensures only { IfOk result (λ s. (other : Records) → SayState mirrors.now components.now other → other ≡ s) }
-    ensures unreadable { IfErr result (λ e. e ≡ StoreFault.Unreadable → (s : Records) → SayState mirrors.now components.now s → ⊥) }
+    ensures only { IfOk result (λ s. (other : Records) → SayState mirrors.now components.now other
+        → other ≡ s) }
+    ensures unreadable { OnUnreadable result ((s : Records) → SayState mirrors.now components.now s
+        → ⊥) }
 {
     one_row();
     let mirrors: Vec<Mirror> = read_all(alloc, mirrors)?;
@@ -77,7 +80,8 @@ fn read_state(alloc: Global, mirrors: &[Row], components: &[Row]) -> Result<Stat
 /// The state and the intents that all rows say; `Unreadable` where they say none.
 pub(crate) fn judge(alloc: Global, fetched: &Fetched) -> Result<(State, Vec<Intent>), StoreFault>
     ensures says { IfOk result (λ r. Say fetched.now r.0 r.1.items) }
-    ensures unreadable { IfErr result (λ e. e ≡ StoreFault.Unreadable → (s : Records) (ts : List Intent) → Say fetched.now s ts → ⊥) }
+    ensures unreadable { OnUnreadable result ((s : Records) (ts : List Intent)
+        → Say fetched.now s ts → ⊥) }
 {
     if !is_about(&fetched.about) || !are_commands(&fetched.commands) {
         return Err(StoreFault::Unreadable);

@@ -15,6 +15,7 @@ mod fault;
 mod fetching;
 mod intents;
 mod judging;
+mod laws;
 mod loading;
 mod mirrors;
 mod opening;
@@ -28,4 +29,5 @@ mod schema;
 mod tests;
 
 pub use fault::StoreFault;
+pub use laws::{change_holds, one_reading, tables_are_saved};
 pub use registry::{OpenFault, Registry};

@@ -1,12 +1,9 @@
 //! The table of mirrors, written by the name, inside a transaction.
 
-ghost use Rattle.std.specs.Prelude.{◌≡◌, OnOk};
-ghost use Rattle.sqlite.specs.State.{HasCleanDisk, KeepsCommit, Survives};
-ghost use Rattle.sqlite.specs.Held.{state};
-ghost use Rattle.sqlite.specs.Effect.{Database};
-ghost use Rattle.gm_state.specs.Rows.{Tables, mirror_row};
-ghost use Rattle.gm_registry.specs.Tables.{IsInside};
+ghost use Rattle.std.specs.Prelude.{◌≡◌};
+ghost use Rattle.gm_state.specs.Rows.{mirror_row};
 ghost use Rattle.gm_registry.specs.Changes.{with_mirror, without_mirror};
+ghost use Rattle.gm_registry.specs.Registry.{LeavesNothingNew, KeepsCommit, MakesInside};
 
 use crate::columns::{balance_number, bytes_in, mirror_number};
 use gm_metadata::Label;
@@ -19,10 +16,10 @@ pub(crate) fn put_mirror<S: Alter>(
     mirror: Mirror,
 ) -> Result<usize, Error>
     ensures same_reference { tx.new.conn.ghost_name ≡ tx.old.conn.ghost_name }
-    ensures put { HasCleanDisk (state S.Store tx.new.conn.now) → OnOk result ((first : Database) (t : Tables) → IsInside first (state S.Store tx.old.conn.now) t
-        → IsInside first (state S.Store tx.new.conn.now) (with_mirror (mirror_row mirror) t)) }
-    ensures kept { HasCleanDisk (state S.Store tx.new.conn.now) → KeepsCommit (state S.Store tx.old.conn.now) (state S.Store tx.new.conn.now) }
-    ensures survives { Survives (state S.Store tx.old.conn.now) (state S.Store tx.new.conn.now) (λ _. ⊥) }
+    ensures put { MakesInside S.Store tx.old.conn.now tx.new.conn.now result
+        (with_mirror (mirror_row mirror)) }
+    ensures kept { KeepsCommit S.Store tx.old.conn.now tx.new.conn.now }
+    ensures survives { LeavesNothingNew S.Store tx.old.conn.now tx.new.conn.now }
 {
     tx.execute(
         "INSERT INTO mirrors (name, mid, total, genid, syncid, slice, balance, mediasize, mflags) VALUES (?1, ?2, ?3, ?4, ?5, ?6, ?7, ?8, ?9) ON CONFLICT (name) DO UPDATE SET mid = excluded.mid, total = excluded.total, genid = excluded.genid, syncid = excluded.syncid, slice = excluded.slice, balance = excluded.balance, mediasize = excluded.mediasize, mflags = excluded.mflags",
@@ -46,10 +43,9 @@ pub(crate) fn drop_mirror<S: Alter>(
     name: Label,
 ) -> Result<usize, Error>
     ensures same_reference { tx.new.conn.ghost_name ≡ tx.old.conn.ghost_name }
-    ensures put { HasCleanDisk (state S.Store tx.new.conn.now) → OnOk result ((first : Database) (t : Tables) → IsInside first (state S.Store tx.old.conn.now) t
-        → IsInside first (state S.Store tx.new.conn.now) (without_mirror name t)) }
-    ensures kept { HasCleanDisk (state S.Store tx.new.conn.now) → KeepsCommit (state S.Store tx.old.conn.now) (state S.Store tx.new.conn.now) }
-    ensures survives { Survives (state S.Store tx.old.conn.now) (state S.Store tx.new.conn.now) (λ _. ⊥) }
+    ensures put { MakesInside S.Store tx.old.conn.now tx.new.conn.now result (without_mirror name) }
+    ensures kept { KeepsCommit S.Store tx.old.conn.now tx.new.conn.now }
+    ensures survives { LeavesNothingNew S.Store tx.old.conn.now tx.new.conn.now }
 {
     tx.execute(
         "DELETE FROM mirrors WHERE name = ?1",

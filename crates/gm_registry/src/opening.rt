@@ -1,19 +1,18 @@
 //! What is found in a store that is opened: nothing, a registry, or something else.
 
-ghost use Rattle.std.specs.Prelude.{◌≡◌, ◌≢◌, ◌≤◌, ◌↔◌, false, map, IfOk, IfErr, IsTrue, OnOk, OnErr, IsPermutation};
-ghost use Rattle.sqlite_trees.specs.View.{doubt};
-ghost use Rattle.sqlite.specs.State.{HasCleanDisk, Survives};
+ghost use Rattle.std.specs.Prelude.{◌≡◌, ◌≢◌, ◌↔◌, false, map, IfOk, IfErr, IsTrue, OnOk, OnErr, IsPermutation};
 ghost use Rattle.sqlite.specs.Held.{state};
 ghost use Rattle.sqlite_catalog.specs.Listing.{IsSound};
 ghost use Rattle.gm_state.specs.Words.{Has};
 ghost use Rattle.gm_state.specs.Rows.{Tables};
 ghost use Rattle.gm_registry.specs.Schema.{no_schema, registry_schema};
-ghost use Rattle.gm_registry.specs.Tables.{Holds, HasTables, IsEmpty, IsRegistry, no_tables};
+ghost use Rattle.gm_registry.specs.Tables.{Holds, IsEmpty, no_tables};
 ghost use Rattle.gm_registry.specs.Opening.{IsOfSchema1, IsOpenable, IsForeign};
 ghost use Rattle.gm_registry.specs.Listing.{listed, under_number, our_tables, AllStand, ListsOurs, ShowsList};
 ghost use Rattle.gm_registry.specs.Values.{columns_at, two};
-ghost use Rattle.sqlite_rows.specs.Reads.{HasReadOver, HasFailedOver, Leaves};
-ghost use Rattle.gm_registry.specs.Reads.{IsOurs, HasRead, HasFailed};
+ghost use Rattle.sqlite_rows.specs.Reads.{HasReadOver, HasFailedOver};
+ghost use Rattle.gm_registry.specs.Registry.{DiskKept, IsOpen, stored, seen, HasTables, IsRegistry, WasClean, MayLeave, LeavesNothingNew, LeavesAlone, HasRead, HasFailed, IsOurs};
+ghost use Rattle.gm_registry.specs.Faults.{OnUnreadable};
 
 use crate::cells::{is_number_at, is_text_at};
 use crate::creating::create_all;
@@ -35,9 +34,13 @@ fn is_empty(schema: &Schema) -> bool
 
 /// The number and the text of each object that has a text.
 fn load_texts<S: Alter>(conn: &mut Connection<S>) -> Result<Vec<Row>, StoreFault>
-    ensures rows { HasCleanDisk (state S.Store conn.new) → IfOk result (λ rows. ShowsList (state S.Store conn.old).now.schema → IsPermutation (listed (state S.Store conn.old).now.trees) rows.items) }
-    ensures read { OnOk result (HasReadOver ShowsList (state S.Store conn.old) (state S.Store conn.new)) }
-    ensures failed { OnErr result (HasFailedOver ShowsList (state S.Store conn.old) (state S.Store conn.new)) }
+    ensures rows { DiskKept S.Store conn.new
+        → IfOk result (λ rows. ShowsList (state S.Store conn.old).now.schema
+        → IsPermutation (listed (seen S.Store conn.old)) rows.items) }
+    ensures read { OnOk result (HasReadOver ShowsList (state S.Store conn.old)
+        (state S.Store conn.new)) }
+    ensures failed { OnErr result (HasFailedOver ShowsList (state S.Store conn.old)
+        (state S.Store conn.new)) }
     ensures fault { IfErr result (λ e. e ≢ StoreFault.Unreadable) }
 {
     match conn.query_all(
@@ -88,13 +91,17 @@ fn are_texts(rows: &[Row]) -> bool
 
 /// Whether a store with tables is a registry, by the texts of its tables and the record of `about`.
 fn check_registry<S: Alter>(conn: &mut Connection<S>) -> Result<(), StoreFault>
-    ensures texts { HasCleanDisk (state S.Store conn.new) → OnOk result (ShowsList (state S.Store conn.old).now.schema → ListsOurs (state S.Store conn.old).now.trees) }
-    ensures about { HasCleanDisk (state S.Store conn.new) → OnOk result (IsOurs (state S.Store conn.old) → IsOfSchema1 (state S.Store conn.old).now.trees) }
-    ensures unreadable { HasCleanDisk (state S.Store conn.new) → IfErr result (λ e. e ≡ StoreFault.Unreadable → IsOurs (state S.Store conn.old)
-        → ListsOurs (state S.Store conn.old).now.trees → IsOfSchema1 (state S.Store conn.old).now.trees → ⊥) }
-    ensures read { OnOk result (HasRead (state S.Store conn.old) (state S.Store conn.new)) }
-    ensures failed { HasFailed (state S.Store conn.old) (state S.Store conn.new) }
-    ensures foreign { ¬ (ListsOurs (state S.Store conn.old).now.trees) → HasFailedOver ShowsList (state S.Store conn.old) (state S.Store conn.new) }
+    ensures texts { DiskKept S.Store conn.new
+        → OnOk result (ShowsList (state S.Store conn.old).now.schema
+        → ListsOurs (seen S.Store conn.old)) }
+    ensures about { DiskKept S.Store conn.new
+        → OnOk result (IsOurs S.Store conn.old → IsOfSchema1 (seen S.Store conn.old)) }
+    ensures unreadable { DiskKept S.Store conn.new → OnUnreadable result (IsOurs S.Store conn.old
+        → ListsOurs (seen S.Store conn.old) → IsOfSchema1 (seen S.Store conn.old) → ⊥) }
+    ensures read { OnOk result (HasRead S.Store conn.old conn.new) }
+    ensures failed { HasFailed S.Store conn.old conn.new }
+    ensures foreign { ¬ (ListsOurs (seen S.Store conn.old))
+        → HasFailedOver ShowsList (state S.Store conn.old) (state S.Store conn.new) }
 {
     let texts = load_texts(conn)?;
     if !are_texts(&texts) {
@@ -110,18 +117,30 @@ fn check_registry<S: Alter>(conn: &mut Connection<S>) -> Result<(), StoreFault>
 /// Makes the tables in a store without any; `Unreadable` where there are others than a registry's.
 pub(crate) fn prepare<S: Alter>(conn: &mut Connection<S>) -> Result<(), StoreFault>
     requires { conn.old.in_transaction ≡ false }
-    ensures made { HasCleanDisk (state S.Store conn.new) → OnOk result (IsTrue (state S.Store conn.old).is_open → IsEmpty (state S.Store conn.old).committed.trees → HasTables (state S.Store conn.new) no_tables) }
-    ensures found { HasCleanDisk (state S.Store conn.new) → OnOk result ((t : Tables) → IsTrue (state S.Store conn.old).is_open → Holds (state S.Store conn.old).committed.trees t → HasTables (state S.Store conn.new) t) }
-    ensures registry { HasCleanDisk (state S.Store conn.new) → OnOk result (IsTrue (state S.Store conn.old).is_open → IsSound registry_schema (state S.Store conn.old).committed.trees → IsRegistry (state S.Store conn.new)) }
-    ensures refused { HasCleanDisk (state S.Store conn.new) → OnErr result ((t : Tables) → IsTrue (state S.Store conn.old).is_open → Holds (state S.Store conn.old).committed.trees t
-        → IsTrue (state S.Store conn.new).is_open → HasTables (state S.Store conn.new) t) }
-    ensures left_made { IsTrue (state S.Store conn.old).is_open → IsEmpty (state S.Store conn.old).committed.trees → Survives (state S.Store conn.old) (state S.Store conn.new) (λ db. Holds db no_tables) }
-    ensures left_found { (t : Tables) → IsTrue (state S.Store conn.old).is_open → Holds (state S.Store conn.old).committed.trees t → Survives (state S.Store conn.old) (state S.Store conn.new) (λ _. ⊥) }
-    ensures unreadable { HasCleanDisk (state S.Store conn.new) → IfErr result (λ e. e ≡ StoreFault.Unreadable → IsTrue (state S.Store conn.old).is_open → ¬ (IsOpenable (state S.Store conn.old).committed.trees)) }
-    ensures refuses { HasCleanDisk (state S.Store conn.new) → OnOk result (IsTrue (state S.Store conn.old).is_open → ¬ (IsForeign (state S.Store conn.old).committed.trees)) }
-    ensures foreign { IsTrue (state S.Store conn.old).is_open → IsForeign (state S.Store conn.old).committed.trees → Leaves (state S.Store conn.old) (state S.Store conn.new) }
-    ensures untouched { IsTrue (state S.Store conn.old).is_open → IsSound registry_schema (state S.Store conn.old).committed.trees → Leaves (state S.Store conn.old) (state S.Store conn.new) }
-    ensures clean { doubt (state S.Store conn.old).is_clean ≤ doubt (state S.Store conn.new).is_clean }
+    ensures made { DiskKept S.Store conn.new → OnOk result (IsOpen S.Store conn.old
+        → IsEmpty (stored S.Store conn.old) → HasTables S.Store conn.new no_tables) }
+    ensures found { DiskKept S.Store conn.new
+        → OnOk result ((t : Tables) → IsOpen S.Store conn.old → Holds (stored S.Store conn.old) t
+        → HasTables S.Store conn.new t) }
+    ensures registry { DiskKept S.Store conn.new
+        → OnOk result (IsOpen S.Store conn.old → IsSound registry_schema (stored S.Store conn.old)
+        → IsRegistry S.Store conn.new) }
+    ensures refused { DiskKept S.Store conn.new
+        → OnErr result ((t : Tables) → IsOpen S.Store conn.old → Holds (stored S.Store conn.old) t
+        → IsOpen S.Store conn.new → HasTables S.Store conn.new t) }
+    ensures left_made { IsOpen S.Store conn.old → IsEmpty (stored S.Store conn.old)
+        → MayLeave S.Store conn.old conn.new no_tables }
+    ensures left_found { (t : Tables) → IsOpen S.Store conn.old → Holds (stored S.Store conn.old) t
+        → LeavesNothingNew S.Store conn.old conn.new }
+    ensures unreadable { DiskKept S.Store conn.new
+        → OnUnreadable result (IsOpen S.Store conn.old → ¬ (IsOpenable (stored S.Store conn.old))) }
+    ensures refuses { DiskKept S.Store conn.new
+        → OnOk result (IsOpen S.Store conn.old → ¬ (IsForeign (stored S.Store conn.old))) }
+    ensures foreign { IsOpen S.Store conn.old → IsForeign (stored S.Store conn.old)
+        → LeavesAlone S.Store conn.old conn.new }
+    ensures untouched { IsOpen S.Store conn.old → IsSound registry_schema (stored S.Store conn.old)
+        → LeavesAlone S.Store conn.old conn.new }
+    ensures clean { WasClean S.Store conn.old conn.new }
 {
     // Outside a transaction a connection sees what is committed, which this call tells.
     let _settled = conn.is_autocommit();

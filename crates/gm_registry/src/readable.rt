@@ -13,7 +13,9 @@ use gm_state::{Component, Intent, Mirror, State};
 
 /// Whether sectors of the mirror's data, up to this end, can be copied from one component to the other.
 fn lends(mirror: &Mirror, from: &Component, to: &Component, first: u32, end: u32) -> bool
-    ensures { IsTrue result ↔ ((from.now.mirror ≡ to.now.mirror) × (from.now.provider ≢ to.now.provider) × (from.now.disk ≡ InSync) × (first ≤ end) × (end ≤ mirror.now.data_sectors)) }
+    ensures { IsTrue result ↔ ((from.now.mirror ≡ to.now.mirror)
+        × (from.now.provider ≢ to.now.provider) × (from.now.disk ≡ InSync) × (first ≤ end)
+        × (end ≤ mirror.now.data_sectors)) }
 {
     from.mirror == to.mirror
         && from.provider != to.provider

@@ -24,7 +24,8 @@ use sqlite::Row;
 /// The mirror of a row of `mirrors`, whose columns are shown in their order; `None` where the values are of no mirror.
 pub(crate) fn read_mirror(row: &Row) -> Option<Mirror>
     ensures some { IfSome result (λ m. columns_at nine row.now ≡ mirror_values (mirror_row m)) }
-    ensures none { IfNone result ((m : Mirror) → IsMirrorValue m → columns_at nine row.now ≡ mirror_values (mirror_row m) → ⊥) }
+    ensures none { IfNone result ((m : Mirror) → IsMirrorValue m
+        → columns_at nine row.now ≡ mirror_values (mirror_row m) → ⊥) }
 {
     Some(Mirror {
         name: label_at(row, 0)?,
@@ -41,8 +42,11 @@ pub(crate) fn read_mirror(row: &Row) -> Option<Mirror>
 
 /// How the data of a row of `components` stand.
 fn read_disk(row: &Row) -> Option<Disk>
-    ensures some { IfSome result (λ d. (column row.now 5 ≡ Int (pos (512 * held_of d))) × (column row.now 6 ≡ Int (pos (disk_bits (disk_flags d))))) }
-    ensures none { IfNone result ((d : Disk) → held_of d < 2 ^ 32 → column row.now 5 ≡ Int (pos (512 * held_of d)) → column row.now 6 ≡ Int (pos (disk_bits (disk_flags d))) → ⊥) }
+    ensures some { IfSome result (λ d. (column row.now 5 ≡ Int (pos (512 * held_of d)))
+        × (column row.now 6 ≡ Int (pos (disk_bits (disk_flags d))))) }
+    ensures none { IfNone result ((d : Disk) → held_of d < 2 ^ 32
+        → column row.now 5 ≡ Int (pos (512 * held_of d))
+        → column row.now 6 ≡ Int (pos (disk_bits (disk_flags d))) → ⊥) }
 {
     let held = sectors_at(row, 5)?;
     let flags = disk_flags_at(row, 6)?;
@@ -52,8 +56,10 @@ fn read_disk(row: &Row) -> Option<Disk>
 /// The component of a row of `components`, whose columns are shown in their order; `None` where the values are of no
 /// component.
 pub(crate) fn read_component(row: &Row) -> Option<Component>
-    ensures some { IfSome result (λ k. columns_at nine row.now ≡ component_values (component_row k)) }
-    ensures none { IfNone result ((k : Component) → IsComponentValue k → columns_at nine row.now ≡ component_values (component_row k) → ⊥) }
+    ensures some { IfSome result (λ k. columns_at nine row.now ≡ component_values
+        (component_row k)) }
+    ensures none { IfNone result ((k : Component) → IsComponentValue k
+        → columns_at nine row.now ≡ component_values (component_row k) → ⊥) }
 {
     Some(Component {
         provider: label_at(row, 0)?,
@@ -69,15 +75,18 @@ pub(crate) fn read_component(row: &Row) -> Option<Component>
 
 /// Whether the row of an intent names no source and no sectors, as each does but that of a copy.
 fn is_without_source(row: &Row) -> bool
-    ensures { IsTrue result ↔ ((column row.now 3 ≡ Text []) × (column row.now 4 ≡ Int (pos 0)) × (column row.now 5 ≡ Int (pos 0))) }
+    ensures { IsTrue result ↔ ((column row.now 3 ≡ Text []) × (column row.now 4 ≡ Int (pos 0))
+        × (column row.now 5 ≡ Int (pos 0))) }
 {
     is_empty_at(row, 3) && (is_number_at(row, 4, 0) && is_number_at(row, 5, 0))
 }
 
 /// What is said by the row of an intent of this kind on this provider.
 fn read_kind(row: &Row, kind: u32, provider: Label) -> Option<Intent>
-    ensures some { IfSome result (λ i. (n : ℕ) → AreFirst row.now n kind provider → columns_at six row.now ≡ shown_intent (intent_row n i)) }
-    ensures none { IfNone result ((n : ℕ) (i : Intent) → AreFirst row.now n kind provider → IsIntentValue i → columns_at six row.now ≡ shown_intent (intent_row n i) → ⊥) }
+    ensures some { IfSome result (λ i. (n : ℕ) → AreFirst row.now n kind provider
+        → columns_at six row.now ≡ shown_intent (intent_row n i)) }
+    ensures none { IfNone result ((n : ℕ) (i : Intent) → AreFirst row.now n kind provider
+        → IsIntentValue i → columns_at six row.now ≡ shown_intent (intent_row n i) → ⊥) }
 {
     match kind {
         1 if is_without_source(row) => Some(Intent::Meta { provider }),
@@ -95,8 +104,10 @@ fn read_kind(row: &Row, kind: u32, provider: Label) -> Option<Intent>
 /// The intent of a row of `intents`, whose columns are shown in their order, where it has this number; `None` where it
 /// has another, or the values are of no intent.
 pub(crate) fn read_intent(row: &Row, number: u64) -> Option<Intent>
-    ensures some { IfSome result (λ i. columns_at six row.now ≡ shown_intent (intent_row number i)) }
-    ensures none { IfNone result ((i : Intent) → IsIntentValue i → columns_at six row.now ≡ shown_intent (intent_row number i) → ⊥) }
+    ensures some { IfSome result (λ i. columns_at six row.now ≡ shown_intent
+        (intent_row number i)) }
+    ensures none { IfNone result ((i : Intent) → IsIntentValue i
+        → columns_at six row.now ≡ shown_intent (intent_row number i) → ⊥) }
 {
     if !is_number_at(row, 0, number) {
         return None;

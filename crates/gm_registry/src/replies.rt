@@ -1,15 +1,12 @@
 //! What is read of the accepted commands: the reply under a key, and the greatest number.
 
-ghost use Rattle.std.specs.Prelude.{◌≡◌, ◌≤◌, ◌<◌, ◌^◌, ◌==◌, List, ℕ, pos, filter, map, string_bytes, IfOk, IfErr, OnErr, IsTrue, MatchOption, IsPermutation};
-ghost use Rattle.std.specs.Str.{bytes_eq};
-ghost use Rattle.sqlite_trees.specs.View.{doubt};
-ghost use Rattle.sqlite.specs.State.{HasCleanDisk, Survives};
-ghost use Rattle.sqlite.specs.Held.{state};
+ghost use Rattle.std.specs.Prelude.{◌≡◌, ◌≤◌, ◌<◌, ◌^◌, ◌==◌, ℕ, pos, filter, map, string_bytes, IfOk, IfErr, MatchOption, IsPermutation};
 ghost use Rattle.sqlite.specs.Order.{column};
 ghost use Rattle.sqlite.specs.declared.types.Value.TheVariants.{Int, Text};
 ghost use Rattle.gm_state.specs.Rows.{Tables, CommandRow};
-ghost use Rattle.gm_registry.specs.Tables.{HasTables};
-ghost use Rattle.gm_registry.specs.Replies.{Fits, AreWritten, reply_in, is_under, reply_values, IsKept, IsFree, IsLastOf, count_of};
+ghost use Rattle.gm_registry.specs.Replies.{Fits, AreWrittenUnder, reply_in, is_under, reply_values, IsKept, IsFree, IsLastOf, count_of};
+ghost use Rattle.gm_registry.specs.Registry.{DiskKept, HasTables, HasSaved, Reads};
+ghost use Rattle.gm_registry.specs.Faults.{OnUnreadable};
 
 use crate::cells::{text_at, u32_at};
 use crate::fault::StoreFault;
@@ -27,7 +24,8 @@ struct Kept {
 
 fn read_number(row: &Row, at: usize) -> Result<u32, StoreFault>
     ensures number { IfOk result (λ number. column row.now at ≡ Int (pos number)) }
-    ensures unreadable { IfErr result (λ e. (number : ℕ) → number < 2 ^ 32 → column row.now at ≡ Int (pos number) → ⊥) }
+    ensures unreadable { IfErr result (λ e. (number : ℕ) → number < 2 ^ 32
+        → column row.now at ≡ Int (pos number) → ⊥) }
 {
     match u32_at(row, at) {
         Some(number) => Ok(number),
@@ -36,9 +34,12 @@ fn read_number(row: &Row, at: usize) -> Result<u32, StoreFault>
 }
 
 fn read_kept(row: &Row) -> Result<Kept, StoreFault>
-    ensures kept { IfOk result (λ kept. (column row.now 0 ≡ Int (pos kept.number)) × (column row.now 1 ≡ Text (string_bytes kept.words))
-        × (column row.now 2 ≡ Int (pos kept.copied)) × (column row.now 3 ≡ Int (pos kept.of_total))) }
-    ensures unreadable { IfErr result (λ e. e ≡ StoreFault.Unreadable → (c : CommandRow) → Fits c → row.now ≡ reply_values c → ⊥) }
+    ensures kept { IfOk result (λ kept. (column row.now 0 ≡ Int (pos kept.number))
+        × (column row.now 1 ≡ Text (string_bytes kept.words))
+        × (column row.now 2 ≡ Int (pos kept.copied))
+        × (column row.now 3 ≡ Int (pos kept.of_total))) }
+    ensures unreadable { OnUnreadable result ((c : CommandRow) → Fits c → row.now ≡ reply_values c
+        → ⊥) }
 {
     Ok(Kept {
         number: read_number(row, 0)?,
@@ -63,11 +64,11 @@ fn reply_from(copied: u32, of_total: u32) -> Reply
 }
 
 fn find_command<S: Alter>(conn: &mut Connection<S>, key: &str) -> Result<Vec<Row>, Error>
-    ensures rows { HasCleanDisk (state S.Store conn.new) → IfOk result (λ rows. (t : Tables) → HasTables (state S.Store conn.old) t
-        → IsPermutation (map reply_values (filter (is_under key.now) t.commands)) rows.items × HasTables (state S.Store conn.new) t) }
-    ensures refused { HasCleanDisk (state S.Store conn.new) → OnErr result ((t : Tables) → HasTables (state S.Store conn.old) t → IsTrue (state S.Store conn.new).is_open → HasTables (state S.Store conn.new) t) }
-    ensures left { (t : Tables) → HasTables (state S.Store conn.old) t → Survives (state S.Store conn.old) (state S.Store conn.new) (λ _. ⊥) }
-    ensures clean { doubt (state S.Store conn.old).is_clean ≤ doubt (state S.Store conn.new).is_clean }
+    ensures rows { DiskKept S.Store conn.new → IfOk result (λ rows. (t : Tables)
+        → HasTables S.Store conn.old t
+        → IsPermutation (map reply_values (filter (is_under key.now) t.commands)) rows.items
+        × HasTables S.Store conn.new t) }
+    ensures reads { Reads S.Store conn.old conn.new }
 {
     conn.query_all(
         "SELECT seq, words, copied, of_total FROM commands WHERE call_key = ?1",
@@ -80,12 +81,14 @@ pub(crate) fn reply_on<S: Alter>(
     conn: &mut Connection<S>,
     key: &str,
 ) -> Result<Option<(u64, String, Reply)>, StoreFault>
-    ensures found { HasCleanDisk (state S.Store conn.new) → IfOk result (λ found. (t : Tables) → HasTables (state S.Store conn.old) t
-        → MatchOption found (IsFree t key.now) (λ it. IsKept t key.now it.0 (string_bytes it.1) it.2) × HasTables (state S.Store conn.new) t) }
-    ensures unreadable { HasCleanDisk (state S.Store conn.new) → IfErr result (λ e. e ≡ StoreFault.Unreadable → (t : Tables) → HasTables (state S.Store conn.old) t → AreWritten t → ⊥) }
-    ensures refused { HasCleanDisk (state S.Store conn.new) → OnErr result ((t : Tables) → HasTables (state S.Store conn.old) t → IsTrue (state S.Store conn.new).is_open → HasTables (state S.Store conn.new) t) }
-    ensures left { (t : Tables) → HasTables (state S.Store conn.old) t → Survives (state S.Store conn.old) (state S.Store conn.new) (λ _. ⊥) }
-    ensures clean { doubt (state S.Store conn.old).is_clean ≤ doubt (state S.Store conn.new).is_clean }
+    ensures found { DiskKept S.Store conn.new
+        → IfOk result (λ found. (t : Tables) → HasTables S.Store conn.old t
+        → MatchOption found (IsFree t key.now)
+        (λ it. IsKept t key.now it.0 (string_bytes it.1) it.2) × HasSaved S.Store conn.new t) }
+    ensures unreadable { DiskKept S.Store conn.new
+        → OnUnreadable result ((t : Tables) → HasTables S.Store conn.old t
+        → AreWrittenUnder key.now t → ⊥) }
+    ensures reads { Reads S.Store conn.old conn.new }
 {
     let rows = find_command(conn, key)?;
     match rows.first() {
@@ -99,23 +102,23 @@ pub(crate) fn reply_on<S: Alter>(
 }
 
 fn last_command<S: Alter>(conn: &mut Connection<S>) -> Result<Vec<Row>, Error>
-    ensures rows { HasCleanDisk (state S.Store conn.new) → IfOk result (λ rows. (t : Tables) → HasTables (state S.Store conn.old) t
-        → IsLastOf t rows.items × HasTables (state S.Store conn.new) t) }
-    ensures refused { HasCleanDisk (state S.Store conn.new) → OnErr result ((t : Tables) → HasTables (state S.Store conn.old) t → IsTrue (state S.Store conn.new).is_open → HasTables (state S.Store conn.new) t) }
-    ensures left { (t : Tables) → HasTables (state S.Store conn.old) t → Survives (state S.Store conn.old) (state S.Store conn.new) (λ _. ⊥) }
-    ensures clean { doubt (state S.Store conn.old).is_clean ≤ doubt (state S.Store conn.new).is_clean }
+    ensures rows { DiskKept S.Store conn.new → IfOk result (λ rows. (t : Tables)
+        → HasTables S.Store conn.old t
+        → IsLastOf t rows.items × HasTables S.Store conn.new t) }
+    ensures reads { Reads S.Store conn.old conn.new }
 {
     conn.query_all("SELECT seq FROM commands ORDER BY seq DESC LIMIT 1", &[])
 }
 
 /// How many commands were accepted: the greatest number, since they count from 1 without gaps.
 pub(crate) fn accepted_on<S: Alter>(conn: &mut Connection<S>) -> Result<u32, StoreFault>
-    ensures count { HasCleanDisk (state S.Store conn.new) → IfOk result (λ n. (t : Tables) → HasTables (state S.Store conn.old) t
-        → (n ≡ count_of t) × HasTables (state S.Store conn.new) t) }
-    ensures unreadable { HasCleanDisk (state S.Store conn.new) → IfErr result (λ e. e ≡ StoreFault.Unreadable → (t : Tables) → HasTables (state S.Store conn.old) t → count_of t ≤ 100000 → ⊥) }
-    ensures refused { HasCleanDisk (state S.Store conn.new) → OnErr result ((t : Tables) → HasTables (state S.Store conn.old) t → IsTrue (state S.Store conn.new).is_open → HasTables (state S.Store conn.new) t) }
-    ensures left { (t : Tables) → HasTables (state S.Store conn.old) t → Survives (state S.Store conn.old) (state S.Store conn.new) (λ _. ⊥) }
-    ensures clean { doubt (state S.Store conn.old).is_clean ≤ doubt (state S.Store conn.new).is_clean }
+    ensures count { DiskKept S.Store conn.new
+        → IfOk result (λ n. (t : Tables) → HasTables S.Store conn.old t
+        → (n ≡ count_of t) × HasSaved S.Store conn.new t) }
+    ensures unreadable { DiskKept S.Store conn.new
+        → OnUnreadable result ((t : Tables) → HasTables S.Store conn.old t → count_of t ≤ 100000
+        → ⊥) }
+    ensures reads { Reads S.Store conn.old conn.new }
 {
     let rows = last_command(conn)?;
     match rows.first() {

@@ -1,10 +1,11 @@
 //! All rows that a query shows, as records.
 
-ghost use Rattle.std.specs.Prelude.{◌≡◌, ℕ, List, map, All, IfOk, IfErr, IfSome, IfNone};
+ghost use Rattle.std.specs.Prelude.{◌≡◌, ℕ, List, map, All, IfOk, IfSome, IfNone};
 ghost use Rattle.sqlite.specs.Order.{Row};
 ghost use Rattle.gm_state.specs.Rows.{mirror_row, component_row, intent_row};
 ghost use Rattle.gm_registry.specs.Rows.{mirror_values, component_values};
 ghost use Rattle.gm_registry.specs.Values.{columns_at, numbered, six, nine, shown_intent, IsMirrorValue, IsComponentValue, IsIntentValue};
+ghost use Rattle.gm_registry.specs.Faults.{OnUnreadable};
 
 use crate::fault::StoreFault;
 use crate::reading::{read_component, read_intent, read_mirror};
@@ -23,7 +24,8 @@ pub(crate) trait Shown: Copy {
 
     fn read(row: &SqlRow, number: u64) -> Option<Self>
         ensures some { IfSome result (λ x. columns_at places row.now ≡ values number x) }
-        ensures none { IfNone result ((x : Self) → is_value x → columns_at places row.now ≡ values number x → ⊥) };
+        ensures none { IfNone result ((x : Self) → is_value x
+            → columns_at places row.now ≡ values number x → ⊥) };
 }
 
 impl Shown for Mirror {
@@ -64,8 +66,10 @@ impl Shown for Intent {
 
 /// The records of the rows, in their order; `Unreadable` where the rows are of no such records.
 pub(crate) fn read_all<T: Shown>(alloc: Global, rows: &[SqlRow]) -> Result<Vec<T>, StoreFault>
-    ensures read { IfOk result (λ list. map (columns_at T.Shown.places) rows.now ≡ numbered T.Shown.values 1 list.items) }
-    ensures unreadable { IfErr result (λ e. e ≡ StoreFault.Unreadable → (list : List T) → All T.Shown.is_value list → map (columns_at T.Shown.places) rows.now ≡ numbered T.Shown.values 1 list → ⊥) }
+    ensures read { IfOk result
+        (λ list. map (columns_at T.Shown.places) rows.now ≡ numbered T.Shown.values 1 list.items) }
+    ensures unreadable { OnUnreadable result ((list : List T) → All T.Shown.is_value list
+        → map (columns_at T.Shown.places) rows.now ≡ numbered T.Shown.values 1 list → ⊥) }
 {
     let mut list = Vec::new(alloc);
     'rows: for (index, row) in rows.iter().enumerate() {

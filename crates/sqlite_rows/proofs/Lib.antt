@@ -12,3 +12,4 @@ pub mod Creating
 pub mod Showing
 pub mod Looping
 pub mod Reading
+pub mod Unique

@@ -9,7 +9,7 @@ use Rattle.sqlite.specs.Listing.{understood}
 use Rattle.sqlite.specs.State.{State, HasCleanDisk, Shown, FailsToQuery, IsUnchanged, IsRolledBack, Survives, CommitsShowing}
 use Rattle.sqlite.proofs.Callers.{IsPlain, never_commits, unchanged_then}
 use Rattle.sqlite.proofs.StateLemmas.{survives_then, survives_weaker}
-use Rattle.sqlite_rows.specs.Reads.{HasReadOver, HasFailedOver, Leaves}
+use Rattle.sqlite_rows.specs.Reads.{HasReadOver, HasFailedOver, LeavesAlone}
 use Rattle.sqlite_rows.proofs.Refusing.{left_alone, asking_refusal}
 
 -- ---- a text that is a plain query over each schema that is known
@@ -69,7 +69,7 @@ module _ (Known : Schema → Type 0) where
   read_at_most a b first = record { refused = λ clean known is. inl (first.unchanged clean known); left = first.left }
 
   -- what was committed is as it was
-  pub failed_leaves_over : (old new : State) → Known old.now.schema → HasFailedOver Known old new → Leaves old new
+  pub failed_leaves_over : (old new : State) → Known old.now.schema → HasFailedOver Known old new → LeavesAlone old new
   failed_leaves_over old new known failed = record {
     tables = λ clean is. elim (failed.refused clean known is) [ inl same ↦ same.0.committed_is | inr undone ↦ (undone.undone is).1 ];
     crash = survives_weaker old new _ _ (λ _ db none. none known) failed.left;

@@ -71,7 +71,7 @@ fresh_alone : (b : Bool) → not b && true ≡ true → b ≡ false
 fresh_alone true e = cc
 fresh_alone false e = refl
 
-not_both : (a b : Bool) → not (a && b) ≡ true → a ≡ true → b ≡ false
+pub not_both : (a b : Bool) → not (a && b) ≡ true → a ≡ true → b ≡ false
 not_both true true h e = absurd (let f : false ≡ true = h in cc)
 not_both true false h e = refl
 not_both false b h e = absurd (true≢false (sym e))

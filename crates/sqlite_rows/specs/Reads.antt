@@ -14,6 +14,6 @@ pub record HasFailedOver (Known : Schema → Type 0) (old new : State) : Type 0 
   pub left : Survives old new (λ _. ¬ (Known old.now.schema))
 
 -- whatever the tables hold, they stay while the connection is open, and a crash leaves them and nothing else
-pub record Leaves (old new : State) : Type 0 where
+pub record LeavesAlone (old new : State) : Type 0 where
   pub tables : HasCleanDisk new → IsTrue new.is_open → new.committed ≡ old.committed
   pub crash : Survives old new (λ _. ⊥)

@@ -8,7 +8,7 @@ use Rattle.sqlite_rows.proofs.Statements.{rolled, not_committed, committed}
 use Rattle.sqlite_rows.proofs.Refusing.{on_err, under_ok, under_err, over_ok, over_err}
 use Rattle.gm_state.specs.Rows.{Tables}
 use Rattle.gm_registry.specs.Schema.{registry_schema}
-use Rattle.gm_registry.specs.Tables.{HasTables, HasCounted, IsInside, Holds}
+use Rattle.gm_registry.specs.Tables.{SeesTables, HasCounted, IsInside, Holds}
 use Rattle.gm_registry.specs.Changes.{with_change}
 use Rattle.gm_registry.specs.Replies.{count_of}
 use Rattle.gm_registry.proofs.Counting.{begun_rows, change_numbered, counted_inside}
@@ -36,10 +36,10 @@ returns-clause-done g c clean =
     let same : end ≡ c.conn-2-1.given.0 = search rules in
     let late : HasCleanDisk (state g.S.Store end) = rw (sym same) at clean in
     let early : HasCleanDisk (state g.S.Store mid) = omega (arith, c.commit.ensures.survives.clean) in
-    over_ok c.commit.result Tables _ (λ t. under_ok c.commit.result (HasTables (state g.S.Store old) t) _ (λ was. under_ok c.commit.result (c.args.number ≡ count_of t + 1) _ (λ next.
+    over_ok c.commit.result Tables _ (λ t. under_ok c.commit.result (SeesTables (state g.S.Store old) t) _ (λ was. under_ok c.commit.result (c.args.number ≡ count_of t + 1) _ (λ next.
     let inside = c.in_ok-put_change.ensures.put early first t (subst (λ h. IsInside first (state g.S.Store h) t) (sym c.transaction-tx.ensures.begun) (begun_rows g.S.Store old t was)) in
     let numbered = change_numbered c.args.change.now c.args.key.now c.args.number c.args.words.now t next was.tables.rows.numbered in
-    subst (λ h. OnOk c.commit.result (HasTables (state g.S.Store h) (change t))) same
+    subst (λ h. OnOk c.commit.result (SeesTables (state g.S.Store h) (change t))) same
     (committed registry_schema HasCounted first (state g.S.Store mid) (state g.S.Store end) _ c.commit.result (counted_inside first (state g.S.Store mid) (change t) numbered inside) (c.commit.ensures.ok late)))))
 
 pub returns-clause-left : goal.returns-clause-left
@@ -82,9 +82,9 @@ returns-clause-refused g c clean =
     let same : end ≡ c.conn-2-1.given.0 = search rules in
     let late : HasCleanDisk (state g.S.Store end) = rw (sym same) at clean in
     let early : HasCleanDisk (state g.S.Store mid) = omega (arith, c.commit.ensures.survives.clean) in
-    over_err c.commit.result Tables _ (λ t. under_err c.commit.result (HasTables (state g.S.Store old) t) _ (λ was. under_err c.commit.result (c.args.number ≡ count_of t + 1) _ (λ next.
+    over_err c.commit.result Tables _ (λ t. under_err c.commit.result (SeesTables (state g.S.Store old) t) _ (λ was. under_err c.commit.result (c.args.number ≡ count_of t + 1) _ (λ next.
     let numbered = change_numbered c.args.change.now c.args.key.now c.args.number c.args.words.now t next was.tables.rows.numbered in
     let inside = counted_inside first (state g.S.Store mid) (change t) numbered
     (c.in_ok-put_change.ensures.put early first t (subst (λ h. IsInside first (state g.S.Store h) t) (sym begin) (begun_rows g.S.Store old t was))) in
-    subst (λ h. OnErr c.commit.result (IsTrue (state g.S.Store h).is_open → HasTables (state g.S.Store h) t)) same
+    subst (λ h. OnErr c.commit.result (IsTrue (state g.S.Store h).is_open → SeesTables (state g.S.Store h) t)) same
     (not_committed registry_schema HasCounted first (state g.S.Store old) start (state g.S.Store mid) (state g.S.Store end) t _ c.commit.result was (rw begin) (c.in_ok-put_change.ensures.kept early) inside (c.commit.ensures.err late)))))

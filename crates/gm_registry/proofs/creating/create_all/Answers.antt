@@ -8,7 +8,7 @@ use Rattle.sqlite_rows.specs.Calls.{IsInside as IsInsideBy}
 use Rattle.sqlite_rows.proofs.Statements.{committed}
 use Rattle.sqlite_rows.proofs.Refusing.{under_ok}
 use Rattle.gm_registry.specs.Schema.{registry_schema}
-use Rattle.gm_registry.specs.Tables.{HasCounted, HasTables, Holds, no_tables}
+use Rattle.gm_registry.specs.Tables.{HasCounted, SeesTables, Holds, no_tables}
 use Rattle.gm_registry.specs.Opening.{IsBlank, IsBlankInside}
 use Rattle.gm_registry.proofs.Making.{blank_begun, none_numbered}
 use Rattle.gm_registry.proofs.Counting.{counted_inside}
@@ -26,7 +26,7 @@ returns-clause-made g c clean =
     let earlier : HasCleanDisk (state g.S.Store c.create_tables.new.tx.conn.now) = omega (arith, early, c.put_about.ensures.survives.clean) in
     under_ok c.commit.result (IsBlank (state g.S.Store old)) _ (λ was.
     let bare = c.in_ok-create_tables.ensures.made earlier first (subst (λ h. IsBlankInside first (state g.S.Store h)) (sym c.transaction-tx.ensures.begun) (blank_begun g.S.Store old was)) in
-    subst (λ h. OnOk c.commit.result (HasTables (state g.S.Store h) no_tables)) same
+    subst (λ h. OnOk c.commit.result (SeesTables (state g.S.Store h) no_tables)) same
     (committed registry_schema HasCounted first (state g.S.Store mid) (state g.S.Store end) no_tables c.commit.result (counted_inside first (state g.S.Store mid) no_tables none_numbered (c.in_ok-put_about.ensures.made early first bare)) (c.commit.ensures.ok late)))
 
 pub returns-clause-left : goal.returns-clause-left

@@ -1,7 +1,8 @@
 use Rattle.sqlite.specs.Held.{state}
-use Rattle.sqlite_rows.proofs.Refusing.{if_ok, if_err, on_err}
-use Rattle.gm_registry.proofs.Passing.{ours, counted, tables_stay, nothing_new, registry_ours, read_leaves}
+use Rattle.sqlite_rows.proofs.Refusing.{if_ok, if_err}
+use Rattle.gm_registry.proofs.Passing.{ours, counted, tables_stay, registry_ours, read_leaves}
 use Rattle.gm_registry.proofs.Telling.{says_tables, tables_said, any_tables, any_rows}
+use Rattle.gm_registry.proofs.Saving.{saved, answered_reads, failed_reads}
 use Rattle.gm_registry.proofs.loading.load_on.Goals as goal
 
 pub returns-clause-loaded : goal.returns-clause-loaded
@@ -10,7 +11,7 @@ returns-clause-loaded g c clean =
     let new = state g.S.Store c.fetch.new.conn in
     if_ok c.judge.result _ _ (λ r says t was. (
       tables_said old.now.trees t c.in_ok-fetched.fetched r.0 r.1.items (counted old t was) (c.in_ok-fetched.ensures.rows clean (ours old t was)) says,
-      tables_stay old new t c.in_ok-fetched.ensures.read clean was,
+      saved g.S.Store g.met.S.Store.settled c.fetch.new.conn t (tables_stay old new t c.in_ok-fetched.ensures.read clean was),
     )) c.judge.ensures.says
 
 pub returns-clause-unreadable : goal.returns-clause-unreadable
@@ -19,12 +20,11 @@ returns-clause-unreadable g c clean =
     if_err c.judge.result _ _ (λ e none is t s ts was of.
     none is s ts (says_tables old.now.trees t c.in_ok-fetched.fetched s ts (counted old t was) (c.in_ok-fetched.ensures.rows clean (ours old t was)) of)) c.judge.ensures.unreadable
 
-pub returns-clause-refused : goal.returns-clause-refused
-returns-clause-refused g c clean =
-    on_err c.judge.result _ (λ t was is. tables_stay (state g.S.Store c.args.conn.now) (state g.S.Store c.fetch.new.conn) t c.in_ok-fetched.ensures.read clean was)
+pub returns-clause-reads : goal.returns-clause-reads
+returns-clause-reads g c = answered_reads g.S.Store g.met.S.Store.settled c.args.conn.now c.fetch.new.conn c.in_ok-fetched.ensures.read
 
-pub returns-clause-left : goal.returns-clause-left
-returns-clause-left g c t was = nothing_new (state g.S.Store c.args.conn.now) (state g.S.Store c.fetch.new.conn) t c.in_ok-fetched.ensures.read.left was
+pub returns-in_err-fetched-clause-reads : goal.returns-in_err-fetched-clause-reads
+returns-in_err-fetched-clause-reads g c = failed_reads g.S.Store g.met.S.Store.settled c.args.conn.now c.fetch.new.conn c.in_err-fetched.ensures.failed
 
 pub returns-clause-untouched : goal.returns-clause-untouched
 returns-clause-untouched g c = read_leaves (state g.S.Store c.args.conn.now) (state g.S.Store c.fetch.new.conn) c.in_ok-fetched.ensures.read

@@ -1,17 +1,18 @@
 use Rattle.std.proofs.Common.{arith, sym, ap, ◌∙◌, length, slice_get}
 use Rattle.gm_registry.proofs.Lasting.{no_command, last_number, last_in_range}
 use Rattle.gm_registry.proofs.Saying.{passed_on}
+use Rattle.gm_registry.proofs.Saving.{saved}
 use Rattle.gm_registry.proofs.replies.accepted_on.Goals as goal
 
 pub returns-in-None-clause-count : goal.returns-in-None-clause-count
 returns-in-None-clause-count g c clean t was =
     let it = c.in_ok-rows.ensures.rows clean t was in
-    (no_command t c.in_ok-rows.rows.items it.0 (omega (arith, c.in-None.ensures.item.3, ap length c.deref.ensures.value)), it.1)
+    (no_command t c.in_ok-rows.rows.items it.0 (omega (arith, c.in-None.ensures.item.3, ap length c.deref.ensures.value)), saved g.S.Store g.met.S.Store.settled c.last_command.new.conn t it.1)
 
 pub returns-clause-count : goal.returns-clause-count
 returns-clause-count g c clean t was =
     let it = c.in_ok-rows.ensures.rows clean t was in
-    (last_number t c.in_ok-rows.rows.items c.in-Some.row.now _ it.1.tables.rows.numbered it.0 (ap (λ l. slice_get l 0) (sym c.deref.ensures.value) ∙ sym c.in-Some.ensures.value) c.in_ok-read_number-in-Some.ensures.number, it.1)
+    (last_number t c.in_ok-rows.rows.items c.in-Some.row.now _ it.1.tables.rows.numbered it.0 (ap (λ l. slice_get l 0) (sym c.deref.ensures.value) ∙ sym c.in-Some.ensures.value) c.in_ok-read_number-in-Some.ensures.number, saved g.S.Store g.met.S.Store.settled c.last_command.new.conn t it.1)
 
 pub returns-in_err-read_number-in-Some-clause-unreadable : goal.returns-in_err-read_number-in-Some-clause-unreadable
 returns-in_err-read_number-in-Some-clause-unreadable g c clean =

@@ -1,12 +1,13 @@
 use Rattle.std.proofs.Common.{[], ◌∷◌}
 use Rattle.sqlite.specs.declared.types.Value.TheVariants.{Text}
 use Rattle.sqlite.specs.Held.{state}
-use Rattle.sqlite_rows.proofs.Refusing.{if_ok, shown_has, asked_has, asks_only}
+use Rattle.sqlite_rows.proofs.Refusing.{if_ok, shown_has, shown_ok, asked_has, asks_only}
 use Rattle.gm_registry.specs.Statements.{find_command_text}
 use Rattle.gm_registry.specs.Schema.{registry_schema}
 use Rattle.gm_registry.specs.Tables.{HasCounted}
 use Rattle.gm_registry.proofs.Meaning.{find_is}
 use Rattle.gm_registry.proofs.Replying.{finds}
+use Rattle.gm_registry.proofs.Saving.{reads}
 use Rattle.gm_registry.proofs.replies.find_command.Goals as goal
 
 pub returns-clause-rows : goal.returns-clause-rows
@@ -16,8 +17,11 @@ returns-clause-rows g c clean =
     if_ok c.query_all.result _ _ (λ rows h t was. (finds old new c.args.key.now rows.items t was h, shown_has registry_schema HasCounted find_command_text (Text c.args.key.now ∷ []) old new rows.items t was find_is.plain h))
     (rw (c.params-to_sql.ensures) at (c.query_all.ensures.ok clean))
 
-pub returns-clause-refused : goal.returns-clause-refused
-returns-clause-refused g c clean = asked_has registry_schema HasCounted find_command_text _ (state g.S.Store c.args.conn.now) (state g.S.Store c.query_all.new.self) c.query_all.result (c.query_all.ensures.err clean)
-
-pub returns-clause-left : goal.returns-clause-left
-returns-clause-left g c t was = asks_only registry_schema HasCounted find_command_text _ (state g.S.Store c.args.conn.now) (state g.S.Store c.query_all.new.self) t was find_is.plain c.query_all.ensures.survives
+pub returns-clause-reads : goal.returns-clause-reads
+returns-clause-reads g c =
+    let old = state g.S.Store c.args.conn.now in
+    let new = state g.S.Store c.query_all.new.self in
+    reads g.S.Store g.met.S.Store.settled c.args.conn.now c.query_all.new.self c.query_all.result
+    (λ clean. shown_ok registry_schema HasCounted (λ rows. rows.items) find_command_text _ old new c.query_all.result find_is.plain (c.query_all.ensures.ok clean))
+    (λ clean. asked_has registry_schema HasCounted find_command_text _ old new c.query_all.result (c.query_all.ensures.err clean))
+    (λ t was. asks_only registry_schema HasCounted find_command_text _ old new t was find_is.plain c.query_all.ensures.survives) c.query_all.ensures.survives.clean

@@ -1,0 +1,5 @@
+use Rattle.gm_registry.proofs.Written.{change_held, change_intents, change_commands}
+use Rattle.gm_registry.proofs.laws.change_holds.Goals as goal
+
+pub returns : goal.returns
+returns c = record { records = change_held; intents = change_intents; commands = change_commands }

@@ -1,0 +1,108 @@
+-- What is said of a registry, and of a store before it is opened and after it is closed.
+use Rattle.std.specs.Prelude.{◌≤◌, IsTrue, Result, OnOk, OnErr}
+use Rattle.sqlite_trees.specs.declared.store.Store.{Ghosts}
+use Rattle.sqlite_trees.specs.View.{doubt}
+use Rattle.sqlite.specs.Tree.{Trees}
+use Rattle.sqlite.specs.Effect.{Database}
+use Rattle.sqlite.specs.Held.{Held, state}
+use Rattle.sqlite.specs.State.{HasCleanDisk, Survives}
+use Rattle.sqlite.specs.State as sql
+use Rattle.sqlite_rows.specs.Reads as rows
+use Rattle.gm_state.specs.Rows.{Tables}
+use Rattle.gm_registry.specs.Tables.{Holds, SeesTables, SeesRegistry, IsInside}
+use Rattle.gm_registry.specs.Reads as reads
+
+module _ {S : Type 0} (g : Ghosts S) where
+  -- whatever was written until now the disk returned
+  abbrev pub DiskKept : Held S → Type 0
+  DiskKept r = HasCleanDisk (state g r)
+
+  abbrev pub IsOpen : Held S → Type 0
+  IsOpen r = IsTrue (state g r).is_open
+
+  -- what the last commit left
+  abbrev pub stored : Held S → Trees
+  stored r = (state g r).committed.trees
+
+  -- what is seen of it now
+  abbrev pub seen : Held S → Trees
+  seen r = (state g r).now.trees
+
+  -- a crash now may leave this store
+  abbrev pub CrashLeaves : Held S → Trees → Type 0
+  CrashLeaves r db = (state g r).may_leave db
+
+  -- it is open, outside a transaction, over a registry with these tables
+  abbrev pub HasTables : Held S → Tables → Type 0
+  HasTables r t = SeesTables (state g r) t
+
+  -- it is open, outside a transaction, over the tables of a registry, whatever they hold
+  abbrev pub IsRegistry : Held S → Type 0
+  IsRegistry r = SeesRegistry (state g r)
+
+  -- whatever a crash now leaves is a registry with these tables
+  abbrev pub CrashLeavesOnly : Held S → Tables → Type 0
+  CrashLeavesOnly r t = (db : Trees) → CrashLeaves r db → Holds db t
+
+  -- ---- what a call leaves
+
+  -- where the disk kept what was written until now, it did so before the call
+  abbrev pub WasClean : Held S → Held S → Type 0
+  WasClean old new = doubt (state g old).is_clean ≤ doubt (state g new).is_clean
+
+  -- a crash finds what it could find before the call, or a registry with these tables
+  abbrev pub MayLeave : Held S → Held S → Tables → Type 0
+  MayLeave old new t = Survives (state g old) (state g new) (λ db. Holds db t)
+
+  -- a crash finds only what it could find before the call
+  abbrev pub LeavesNothingNew : Held S → Held S → Type 0
+  LeavesNothingNew old new = Survives (state g old) (state g new) (λ _. ⊥)
+
+  -- what is stored stays while it is open, and a crash finds only what it could find before the call
+  abbrev pub LeavesAlone : Held S → Held S → Type 0
+  LeavesAlone old new = rows.LeavesAlone (state g old) (state g new)
+
+  -- a read of our tables that was answered, and one that may have failed
+  abbrev pub HasRead : Held S → Held S → Type 0
+  HasRead old new = reads.HasRead (state g old) (state g new)
+
+  abbrev pub HasFailed : Held S → Held S → Type 0
+  HasFailed old new = reads.HasFailed (state g old) (state g new)
+
+  -- it sees the tables of a registry
+  abbrev pub IsOurs : Held S → Type 0
+  IsOurs r = reads.IsOurs (state g r)
+
+  -- within a transaction: nothing was committed
+  abbrev pub KeepsCommit : Held S → Held S → Type 0
+  KeepsCommit old new = DiskKept new → sql.KeepsCommit (state g old) (state g new)
+
+  -- it has these tables, and a crash now leaves them and nothing else
+  pub record HasSaved (r : Held S) (t : Tables) : Type 0 where
+    pub tables : HasTables r t
+    pub crash : CrashLeavesOnly r t
+
+  -- A call that writes nothing, at each of its exits: the tables are as before while it is open, and a crash finds
+  -- nothing new.
+  pub record Reads (old new : Held S) : Type 0 where
+    pub kept : DiskKept new → (t : Tables) → HasTables old t → IsOpen new → HasSaved new t
+    pub left : (t : Tables) → HasTables old t → LeavesNothingNew old new
+    pub clean : WasClean old new
+
+  module _ {X E : Type 0} (old new : Held S) (result : Result X E) where
+    -- at Err the tables are as before, while it is open
+    abbrev pub Refuses : Type 0
+    Refuses = DiskKept new → OnErr result ((t : Tables) → HasTables old t → IsOpen new → HasTables new t)
+
+    -- within a transaction, at Ok it makes these of the tables
+    abbrev pub MakesInside : (Tables → Tables) → Type 0
+    MakesInside after =
+        DiskKept new → OnOk result ((first : Database) (t : Tables) → IsInside first (state g old) t → IsInside first (state g new) (after t))
+
+    -- A call that makes these of the tables: at Ok they are saved, at Err the tables are as before while it is open, and
+    -- at each of its exits a crash finds what it could find before, or what the call makes.
+    pub record Writes (after : Tables → Tables) : Type 0 where
+      pub done : DiskKept new → OnOk result ((t : Tables) → HasTables old t → HasSaved new (after t))
+      pub refused : DiskKept new → OnErr result ((t : Tables) → HasTables old t → IsOpen new → HasSaved new t)
+      pub left : (t : Tables) → HasTables old t → MayLeave old new (after t)
+      pub clean : WasClean old new

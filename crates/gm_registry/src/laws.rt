@@ -1,0 +1,39 @@
+//! What holds of all tables of a registry: laws, each the contract of a function that does nothing.
+
+ghost use Rattle.std.specs.Prelude.{◌≡◌, ◌∷◌, ◌++◌, ◌+◌, ℕ, List, length};
+ghost use Rattle.sqlite.specs.Held.{Held};
+ghost use Rattle.gm_state.specs.declared.command.Intent.{Intent};
+ghost use Rattle.gm_state.specs.Records.{Records, IsState};
+ghost use Rattle.gm_state.specs.Rows.{Tables, intent_rows};
+ghost use Rattle.gm_rules.specs.Decides.{Changed, changed_by};
+ghost use Rattle.gm_registry.specs.Changes.{command_row, with_accepted};
+ghost use Rattle.gm_registry.specs.Reading.{AreTablesOf, HoldState};
+ghost use Rattle.gm_registry.specs.Registry.{HasTables, HasSaved};
+
+use gm_state::one_row;
+use sqlite::Alter;
+
+/// Tables are of one state with one list of intents.
+pub fn one_reading()
+    ensures { (t : Tables) (s r : Records) (ts us : List Intent)
+        → AreTablesOf t s ts → AreTablesOf t r us → (s ≡ r) × (ts ≡ us) }
+{
+    one_row();
+}
+
+/// With a change the tables hold the rows of the records with the change, its intents before those that were pending,
+/// and the command under its key.
+pub fn change_holds()
+    ensures records { (ch : Changed) (key words : List ℕ) (s : Records) (t : Tables) → IsState s
+        → HoldState s t → HoldState (changed_by ch s) (with_accepted ch key words t) }
+    ensures intents { (ch : Changed) (key words : List ℕ) (t : Tables)
+        → (with_accepted ch key words t).intents ≡ intent_rows 1 ch.intents ++ t.intents }
+    ensures commands { (ch : Changed) (key words : List ℕ) (t : Tables)
+        → (with_accepted ch key words t).commands
+        ≡ command_row key (length t.commands + 1) words ch.reply ∷ t.commands }
+{}
+
+/// A registry that has tables has them saved: a crash between two calls leaves them and nothing else.
+pub fn tables_are_saved<S: Alter>()
+    ensures { (r : Held S) (t : Tables) → HasTables S.Store r t → HasSaved S.Store r t }
+{}
