@@ -2,7 +2,7 @@
 
 ghost use Rattle.std.specs.Prelude.{◌≡◌, ◌≤◌, ◌<◌, ◌-◌, ◌↔◌, None, OnOk, IsErr, IsErrOf, IsSomeAnd, IsTrue};
 ghost use Rattle.gm_metadata.specs.Images.{Image, Same, put};
-ghost use Rattle.gm_shelf.specs.Disk.{IsQuiet, IsWrite, IsFixed};
+ghost use Rattle.gm_shelf.specs.Disk.{IsQuiet, IsWrite, IsFixed, faults_after};
 ghost use Rattle.gm_shelf.specs.Stopping.{with_failures, lawful_with};
 
 use crate::fault::{ShelfFault, check_place, check_provider, device_failed};
@@ -86,6 +86,7 @@ impl<H: Shelf> Shelf for FaultShelf<H> {
         ensures honest { H.honest (inner_of self.old) → H.honest (inner_of self.new) }
         ensures size { H.size (inner_of self.new) ≡ H.size (inner_of self.old) }
         ensures count { (view_of H.view self.old).faults ≤ (view_of H.view self.new).faults }
+        ensures counted { (view_of H.view self.new).faults ≡ faults_after result (view_of H.view self.old).faults }
         ensures absent { IsErrOf result ShelfFault.Absent ↔ (H.size (inner_of self.old) provider ≡ None) }
         ensures range { IsErrOf result ShelfFault.Range ↔
             IsSomeAnd (H.size (inner_of self.old) provider) (λ n. n ≤ place) }
@@ -113,6 +114,7 @@ impl<H: Shelf> Shelf for FaultShelf<H> {
         ensures honest { H.honest (inner_of self.old) → H.honest (inner_of self.new) }
         ensures size { H.size (inner_of self.new) ≡ H.size (inner_of self.old) }
         ensures count { (view_of H.view self.old).faults ≤ (view_of H.view self.new).faults }
+        ensures counted { (view_of H.view self.new).faults ≡ faults_after result (view_of H.view self.old).faults }
         ensures absent { IsErrOf result ShelfFault.Absent ↔ (H.size (inner_of self.old) provider ≡ None) }
         ensures range { IsErrOf result ShelfFault.Range ↔
             IsSomeAnd (H.size (inner_of self.old) provider) (λ n. n ≤ place) }
@@ -139,6 +141,7 @@ impl<H: Shelf> Shelf for FaultShelf<H> {
         ensures honest { H.honest (inner_of self.old) → H.honest (inner_of self.new) }
         ensures size { H.size (inner_of self.new) ≡ H.size (inner_of self.old) }
         ensures count { (view_of H.view self.old).faults ≤ (view_of H.view self.new).faults }
+        ensures counted { (view_of H.view self.new).faults ≡ faults_after result (view_of H.view self.old).faults }
         ensures absent { IsErrOf result ShelfFault.Absent ↔ (H.size (inner_of self.old) provider ≡ None) }
         ensures range { IsErrOf result ShelfFault.Range → ⊥ }
         ensures device { IsErrOf result ShelfFault.Device →

@@ -1,7 +1,10 @@
 //! A folder of image files.
 
-ghost use Rattle.std.specs.Prelude.{◌≡◌, ◌≤◌, ◌<◌, ◌/◌, ◌*◌, ◌↔◌, ℕ, Option, Some, None, IfOk, IfErr, IsErrOf};
-ghost use Rattle.gm_shelf.specs.Disk.{View};
+ghost use Rattle.std.specs.Prelude.{◌≡◌, ◌≢◌, ◌≤◌, ◌<◌, ◌/◌, ◌*◌, ◌↔◌, ℕ, Option, Some, None, IsOk, IfOk, IfErr, IsErrOf};
+ghost use Rattle.std.specs.IoError.{error_kind};
+ghost use Rattle.std.specs.declared.io.ErrorKind.TheVariants.{OutOfMemory};
+ghost use Rattle.gm_shelf.specs.Disk.{View, faults_after};
+ghost use Rattle.gm_shelf.specs.Faults.{fault_after};
 ghost use Rattle.gm_shelf.specs.Folder.{unknown, sectors_of};
 
 use crate::fault::{ShelfFault, device_failed};
@@ -151,10 +154,13 @@ fn offset_in(length: u64, place: u64) -> Result<u64, ShelfFault>
     Ok(place * 512)
 }
 
-// The fault of a call that a file refused.
+// How a call is answered where its file did this.
 fn outcome(done: io::Result<()>, failures: &mut u64) -> Result<(), ShelfFault>
-    ensures device { IsErrOf result ShelfFault.Device → failures.old < failures.new }
-    ensures count { failures.old ≤ failures.new }
+    ensures ok { IsOk done ↔ IsOk result }
+    ensures memory { IfErr done (λ e. error_kind e ≡ OutOfMemory → IsErrOf result ShelfFault.Memory) }
+    ensures device { IfErr done (λ e. error_kind e ≢ OutOfMemory →
+        IsErrOf result (fault_after failures.old)) }
+    ensures counted { failures.new ≡ faults_after result failures.old }
     ensures not_absent { IsErrOf result ShelfFault.Absent → ⊥ }
     ensures not_range { IsErrOf result ShelfFault.Range → ⊥ }
 {

@@ -2,7 +2,7 @@
 
 ghost use Rattle.std.specs.Prelude.{◌≡◌, ◌≤◌, ◌<◌, ◌↔◌, ℕ, None, IfOk, OnOk, IsErrOf, IsSomeAnd};
 ghost use Rattle.gm_metadata.specs.Images.{Image, Sizes, Same, put};
-ghost use Rattle.gm_shelf.specs.Disk.{View, AreNames, IsQuiet, IsWrite, IsFixed, IsLawful};
+ghost use Rattle.gm_shelf.specs.Disk.{View, AreNames, IsQuiet, IsWrite, IsFixed, IsLawful, faults_after};
 
 use crate::fault::ShelfFault;
 use gm_metadata::Label;
@@ -13,6 +13,9 @@ use std::alloc::AllocError;
 /// Between two syncs of a provider a crash leaves each of its sectors with the value of the last sync
 /// or with any value that was written since; each sector is chosen by itself. What is said of contents
 /// holds of a shelf that is honest.
+///
+/// Failures of the device are counted, one for each call that answers `Device`. A shelf whose counter stands
+/// at its last value answers `Memory` in its place.
 pub trait Shelf {
     /// The laws on contents hold of it.
     ghost honest: { Self → Type 0 };
@@ -40,6 +43,7 @@ pub trait Shelf {
         ensures honest { honest self.old → honest self.new }
         ensures size { size self.new ≡ size self.old }
         ensures count { (view self.old).faults ≤ (view self.new).faults }
+        ensures counted { (view self.new).faults ≡ faults_after result (view self.old).faults }
         ensures absent { IsErrOf result ShelfFault.Absent ↔ (size self.old provider ≡ None) }
         ensures range { IsErrOf result ShelfFault.Range ↔
             IsSomeAnd (size self.old provider) (λ n. n ≤ place) }
@@ -55,6 +59,7 @@ pub trait Shelf {
         ensures honest { honest self.old → honest self.new }
         ensures size { size self.new ≡ size self.old }
         ensures count { (view self.old).faults ≤ (view self.new).faults }
+        ensures counted { (view self.new).faults ≡ faults_after result (view self.old).faults }
         ensures absent { IsErrOf result ShelfFault.Absent ↔ (size self.old provider ≡ None) }
         ensures range { IsErrOf result ShelfFault.Range ↔
             IsSomeAnd (size self.old provider) (λ n. n ≤ place) }
@@ -69,6 +74,7 @@ pub trait Shelf {
         ensures honest { honest self.old → honest self.new }
         ensures size { size self.new ≡ size self.old }
         ensures count { (view self.old).faults ≤ (view self.new).faults }
+        ensures counted { (view self.new).faults ≡ faults_after result (view self.old).faults }
         ensures absent { IsErrOf result ShelfFault.Absent ↔ (size self.old provider ≡ None) }
         ensures range { IsErrOf result ShelfFault.Range → ⊥ }
         ensures device { IsErrOf result ShelfFault.Device →

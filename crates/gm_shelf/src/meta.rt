@@ -2,6 +2,7 @@
 
 ghost use Rattle.std.specs.Prelude.{◌≡◌, ◌≤◌, ◌<◌, ◌+◌, ◌↔◌, ◌⊎◌, ℕ, Some, None, OnOk, IsErrOf};
 ghost use Rattle.gm_metadata.specs.Reading.{encoded};
+ghost use Rattle.gm_shelf.specs.Disk.{faults_after};
 ghost use Rattle.gm_shelf.specs.LastSector.{OldOrNew, IsDone};
 
 use crate::fault::ShelfFault;
@@ -30,6 +31,7 @@ pub fn write_last<H: Shelf>(
     ensures honest { H.honest shelf.old → H.honest shelf.new }
     ensures size { H.size shelf.new ≡ H.size shelf.old }
     ensures count { (H.view shelf.old).faults ≤ (H.view shelf.new).faults }
+    ensures counted { (H.view shelf.new).faults ≡ faults_after result (H.view shelf.old).faults }
 {
     let Some(count) = shelf.sectors(provider) else {
         return Err(ShelfFault::Absent);
@@ -64,6 +66,7 @@ pub fn write_meta<H: Shelf>(
     ensures honest { H.honest shelf.old → H.honest shelf.new }
     ensures size { H.size shelf.new ≡ H.size shelf.old }
     ensures count { (H.view shelf.old).faults ≤ (H.view shelf.new).faults }
+    ensures counted { (H.view shelf.new).faults ≡ faults_after result (H.view shelf.old).faults }
 {
     write_last(shelf, provider, &encode(metadata))?;
     Ok(())
