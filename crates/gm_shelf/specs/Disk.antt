@@ -52,8 +52,12 @@ pub record IsWrite (p : Label) (i : ℕ) (s : List ℕ) (old new : View) : Type 
 abbrev pub IsFixed : Label → View → View → Type 0
 IsFixed p old new = (x : Image) → new.may_leave x → (j : ℕ) → x p j ≡ old.seen p j
 
--- the count of failures after a call that is answered so: one more where it answers `Device`, and else as it was
-abbrev pub faults_after : {A : Type 0} → Result A ShelfFault → ℕ → ℕ
+-- how a read, a write or a sync is answered
+abbrev pub Answer : Type 0
+Answer = Result (Unit {0}) ShelfFault
+
+-- the count of failures after a call: one more where it answers `Device`, and else as it was
+abbrev pub faults_after : Answer → ℕ → ℕ
 faults_after (Err Device) n = n + 1
 faults_after _ n = n
 

@@ -1,6 +1,6 @@
 //! A folder of image files.
 
-ghost use Rattle.std.specs.Prelude.{◌≡◌, ◌≢◌, ◌≤◌, ◌<◌, ◌/◌, ◌*◌, ◌↔◌, ℕ, Option, Some, None, IsOk, IfOk, IfErr, IsErrOf};
+ghost use Rattle.std.specs.Prelude.{⊤, ◌≡◌, ◌≢◌, ◌≤◌, ◌<◌, ◌/◌, ◌*◌, ◌↔◌, ℕ, Option, Some, None, IsOk, IfOk, IfErr, IsErrOf};
 ghost use Rattle.std.specs.IoError.{error_kind};
 ghost use Rattle.std.specs.declared.io.ErrorKind.TheVariants.{OutOfMemory};
 ghost use Rattle.gm_shelf.specs.Disk.{View, faults_after};
@@ -177,6 +177,13 @@ impl<R: Files<File = File> + AllocGlobal + Clone + Drop> Shelf for FileShelf<R> 
     ghost view = { λ s. unknown s.failures };
 
     ghost size = { λ s. sectors_of s.lengths };
+
+    // Nothing is known of its files but what the law says.
+    ghost read_gives = { λ s p i answer out t. ⊤ };
+
+    ghost write_gives = { λ s p i sector answer t. ⊤ };
+
+    ghost sync_gives = { λ s p answer t. ⊤ };
 
     ghost lawful = { λ s h. absurd h };
 

@@ -1,8 +1,9 @@
 //! The trait that every shelf keeps to.
 
-ghost use Rattle.std.specs.Prelude.{◌≡◌, ◌≤◌, ◌<◌, ◌↔◌, ℕ, None, IfOk, OnOk, IsErrOf, IsSomeAnd};
+ghost use Rattle.std.specs.Prelude.{◌≡◌, ◌≤◌, ◌<◌, ◌↔◌, ℕ, List, None, IfOk, OnOk, IsErrOf, IsSomeAnd};
+ghost use Rattle.gm_metadata.specs.declared.label.Label.{Label};
 ghost use Rattle.gm_metadata.specs.Images.{Image, Sizes, Same, put};
-ghost use Rattle.gm_shelf.specs.Disk.{View, AreNames, IsQuiet, IsWrite, IsFixed, IsLawful, faults_after};
+ghost use Rattle.gm_shelf.specs.Disk.{View, Answer, AreNames, IsQuiet, IsWrite, IsFixed, IsLawful, faults_after};
 
 use crate::fault::ShelfFault;
 use gm_metadata::Label;
@@ -26,6 +27,15 @@ pub trait Shelf {
     /// How many sectors each provider has.
     ghost size: { Self → Sizes };
 
+    /// What else its reads do: the shelf before, provider, place, answer, what `out` holds, the shelf after.
+    ghost read_gives: { Self → Label → ℕ → Answer → List ℕ → Self → Type 0 };
+
+    /// What else its writes do: the shelf before, provider, place, sector, answer, the shelf after.
+    ghost write_gives: { Self → Label → ℕ → List ℕ → Answer → Self → Type 0 };
+
+    /// What else its syncs do: the shelf before, provider, answer, the shelf after.
+    ghost sync_gives: { Self → Label → Answer → Self → Type 0 };
+
     /// The names of the providers, in byte order.
     fn names(&self) -> Result<Vec<Label>, AllocError>
         ensures { IfOk result (λ v. AreNames (size self.now) v.items) };
@@ -48,7 +58,8 @@ pub trait Shelf {
         ensures range { IsErrOf result ShelfFault.Range ↔
             IsSomeAnd (size self.old provider) (λ n. n ≤ place) }
         ensures device { IsErrOf result ShelfFault.Device →
-            (view self.old).faults < (view self.new).faults };
+            (view self.old).faults < (view self.new).faults }
+        ensures gives { read_gives self.old provider place result out.new self.new };
 
     /// Writes the sector at this place. After a fault a read gives the old or the new value, the same one
     /// until the next write.
@@ -64,7 +75,8 @@ pub trait Shelf {
         ensures range { IsErrOf result ShelfFault.Range ↔
             IsSomeAnd (size self.old provider) (λ n. n ≤ place) }
         ensures device { IsErrOf result ShelfFault.Device →
-            (view self.old).faults < (view self.new).faults };
+            (view self.old).faults < (view self.new).faults }
+        ensures gives { write_gives self.old provider place sector.now result self.new };
 
     /// Fixes what the provider holds: after it a crash leaves that. After a sync that failed a crash leaves
     /// nothing but what it could leave before.
@@ -78,7 +90,8 @@ pub trait Shelf {
         ensures absent { IsErrOf result ShelfFault.Absent ↔ (size self.old provider ≡ None) }
         ensures range { IsErrOf result ShelfFault.Range → ⊥ }
         ensures device { IsErrOf result ShelfFault.Device →
-            (view self.old).faults < (view self.new).faults };
+            (view self.old).faults < (view self.new).faults }
+        ensures gives { sync_gives self.old provider result self.new };
 
     ghost lawful: { (shelf : Self) → honest shelf → IsLawful (view shelf) };
 }

@@ -91,11 +91,21 @@ impl MemShelf {
 }
 
 impl Shelf for MemShelf {
+    ghost use Rattle.gm_shelf.specs.History.{OnlyReads, OnlyDoes};
+    ghost use Rattle.gm_shelf.specs.declared.event.Event.TheVariants.{Wrote, Synced};
+
     ghost honest = { λ m. Unit };
 
     ghost view = { λ m. view_after (reverse m.log.items) };
 
     ghost size = { λ m. size_after (reverse m.log.items) };
+
+    ghost read_gives = { λ m p i answer out n. OnlyReads answer (reverse m.log.items) (reverse n.log.items) };
+
+    ghost write_gives = { λ m p i sector answer n.
+        OnlyDoes (Wrote p i sector) answer (reverse m.log.items) (reverse n.log.items) };
+
+    ghost sync_gives = { λ m p answer n. OnlyDoes (Synced p) answer (reverse m.log.items) (reverse n.log.items) };
 
     ghost lawful = { λ m h. lawful_after (reverse m.log.items) };
 
