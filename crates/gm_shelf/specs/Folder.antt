@@ -11,6 +11,6 @@ use Rattle.gm_shelf.specs.Disk.{View}
 abbrev pub sectors_of : BTreeMap (List ℕ) ℕ → Sizes
 sectors_of lengths p = option_map (λ length. length / 512) (get (slice_cmp nat_cmp) lengths p)
 
--- nothing is known of what is held or left, so any image may be left, now or since any moment; the failures are counted
+-- nothing is known of what is held or left: any image may be left, now or since any moment
 abbrev pub unknown : ℕ → View
 unknown failures = record { seen = λ p i. []; may_leave = λ x. ⊤; moment = 0; left_since = λ t x. ⊤; faults = failures }

@@ -66,13 +66,16 @@ impl<H: Shelf> Shelf for FaultShelf<H> {
 
     ghost size = { λ s. H.size s.inner };
 
-    ghost read_gives = { λ s p i answer out t. PassesOrStops (H.read_gives s.inner p i answer out t.inner)
+    ghost read_gives = { λ s p i answer out t.
+        PassesOrStops (H.read_gives s.inner p i answer out t.inner)
         (IsSomeAnd (H.size s.inner p) (λ n. i < n)) answer s t };
 
-    ghost write_gives = { λ s p i sector answer t. PassesOrStops (H.write_gives s.inner p i sector answer t.inner)
+    ghost write_gives = { λ s p i sector answer t.
+        PassesOrStops (H.write_gives s.inner p i sector answer t.inner)
         (IsSomeAnd (H.size s.inner p) (λ n. i < n)) answer s t };
 
-    ghost sync_gives = { λ s p answer t. PassesOrStops (H.sync_gives s.inner p answer t.inner)
+    ghost sync_gives = { λ s p answer t.
+        PassesOrStops (H.sync_gives s.inner p answer t.inner)
         (IsSome (H.size s.inner p)) answer s t };
 
     ghost lawful = { λ s h. lawful_with _ _ (H.lawful s.inner h) };

@@ -9,7 +9,8 @@ use crate::fault::ShelfFault;
 use crate::law::Shelf;
 use gm_metadata::{Label, Metadata, encode};
 
-/// Writes the provider's last sector, then syncs the provider. A provider without sectors answers `Range`.
+/// Writes the provider's last sector, then syncs the provider. A provider without sectors answers
+/// `Range`.
 pub fn write_last<H: Shelf>(
     shelf: &mut H,
     provider: Label,
@@ -52,7 +53,8 @@ pub fn write_meta<H: Shelf>(
 ) -> Result<(), ShelfFault>
     // At Ok the sector is fixed, and at every moment of the call it was old or new.
     ensures done { (i : ℕ) → H.honest shelf.old → H.size shelf.old provider ≡ Some (i + 1) →
-        OnOk result (IsDone provider i (encoded metadata.now) (H.view shelf.old) (H.view shelf.new)) }
+        OnOk result (
+        IsDone provider i (encoded metadata.now) (H.view shelf.old) (H.view shelf.new)) }
     ensures moments { (i : ℕ) → H.honest shelf.old → H.size shelf.old provider ≡ Some (i + 1) →
         OldOrNew provider i (encoded metadata.now) (H.view shelf.old) (H.view shelf.new) }
 
