@@ -42,6 +42,11 @@ pub record IsQuiet (old new : View) : Type 0 where
   pub crash : (x : Image) → new.may_leave x → old.may_leave x
   pub time : Elapses old new
 
+-- reads, one or several: quiet, and what a crash might have left it may leave still
+pub record AreReads (old new : View) : Type 0 where
+  pub quiet : IsQuiet old new
+  pub kept : (x : Image) → old.may_leave x → new.may_leave x
+
 -- a write, also one that failed
 pub record IsWrite (p : Label) (i : ℕ) (s : List ℕ) (old new : View) : Type 0 where
   pub seen : Torn p i s old.seen new.seen
