@@ -99,3 +99,6 @@ pub(crate) fn check_place(sectors: Option<u64>, place: u64) -> Result<(), ShelfF
         Some(_) => Ok(()),
     }
 }
+
+#[cfg(test)]
+mod tests;
