@@ -292,29 +292,36 @@ fn each_fault_is_told_as_what_it_is(rt: HostRuntime) -> Result<(), Fail> {
     Ok(())
 }
 
-// A folder below this one, whose path leaves no room for the name of an entry.
-fn deep_folder(rt: &HostRuntime, folder: &String) -> io::Result<String> {
-    let mut path = folder.clone()?;
+// The rest of a path below this folder, so that the whole has 4090 bytes.
+fn path_below(rt: &HostRuntime, folder: &String) -> io::Result<String> {
+    let mut path = String::new(rt.alloc());
     for i in 0..4090usize.saturating_sub(folder.len()) {
         path.push(if i % 200 == 0 { '/' } else { 'd' })?;
     }
-    fs::create_dir_all(rt, path.as_str())?;
     Ok(path)
 }
 
+// In the end the folder can be listed, but its path leaves no room for the name of the image.
 #[test]
 fn an_entry_that_cant_be_looked_at_fails_the_opening(rt: HostRuntime) -> Result<(), Fail> {
     let folder = new_folder(&rt, "deep")?;
-    let deep = deep_folder(&rt, &folder)?;
-    let short = path_in(&rt, &folder, "short")?;
-    symlink(&rt, deep.as_str(), short.as_str())?;
-    assert!(rt; FileShelf::open(&rt, deep.as_str())?.names()?.is_empty());
-    put_file(&rt, &short, "image", &[7; 512])?;
+    let (short, long) = (
+        path_in(&rt, &folder, "short")?,
+        path_in(&rt, &folder, "a-longer-name")?,
+    );
+    let below = path_below(&rt, &long)?;
+    let before = format!(in rt.alloc(); "{short}{below}")?;
+    let after = format!(in rt.alloc(); "{long}{below}")?;
+    fs::create_dir_all(&rt, before.as_str())?;
+    put_file(&rt, &before, "a", &[7; 512])?;
     assert_eq!(rt;
-        FileShelf::open(&rt, short.as_str())?.sectors(label("image")?),
+        FileShelf::open(&rt, before.as_str())?.sectors(label("a")?),
         Some(1)
     );
-    assert!(rt; FileShelf::open(&rt, deep.as_str()).is_err());
+    put_file(&rt, &before, "image", &[7; 512])?;
+    fs::rename(&rt, short.as_str(), long.as_str())?;
+    assert!(rt; fs::read_dir(&rt, after.as_str()).is_ok());
+    assert!(rt; FileShelf::open(&rt, after.as_str()).is_err());
     fs::remove_dir_all(&rt, folder.as_str())?;
     Ok(())
 }
