@@ -5,6 +5,7 @@ pub mod OneSector
 pub mod EachPicked
 pub mod Fresh
 pub mod Picking
+pub mod InTurn
 pub mod SoFar
 pub mod Steps
 pub mod Walking

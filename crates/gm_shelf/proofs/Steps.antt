@@ -10,6 +10,7 @@ use Rattle.gm_shelf.specs.Disk.{IsPut, Elapses, IsQuiet, IsWrite, IsFixed}
 use Rattle.gm_shelf.specs.History.{seen_after, synced_after, written_after, may_leave_after, view_after}
 use Rattle.gm_shelf.specs.Lawful.{MayHold, put_tells, holds_seen}
 use Rattle.gm_shelf.specs.declared.event.Event.{Event}
+use Rattle.gm_shelf.proofs.InTurn.{elapses_itself}
 use Rattle.gm_shelf.specs.declared.event.Event.TheVariants.{Wrote, Synced}
 
 elapses : (event : Event) (older : List Event) → Elapses (view_after older) (view_after (event ∷ older))
@@ -19,14 +20,8 @@ elapses event older = record {
   keeps = λ t x le left. inr (le, left);
 }
 
-still : (history : List Event) → Elapses (view_after history) (view_after history)
-still history = record { later = omega arith; nothing_else = λ t x le left. inl left; keeps = λ t x le left. left }
-
-pub quiet_same : (history : List Event) → IsQuiet (view_after history) (view_after history)
-quiet_same history = record { seen = λ q j. refl; crash = λ x left. left; time = still history }
-
 pub write_same : (p : Label) (i : ℕ) (s : List ℕ) (history : List Event) → IsWrite p i s (view_after history) (view_after history)
-write_same p i s history = record { seen = λ q j. inl refl; crash = λ x left. (x, left, λ q j. inl refl); time = still history }
+write_same p i s history = record { seen = λ q j. inl refl; crash = λ x left. (x, left, λ q j. inl refl); time = elapses_itself (view_after history) }
 
 no_more : {A : Type 0} (v : A) → Contains [] v → ⊥
 no_more v among = omega (arith, among.1)

@@ -1,10 +1,12 @@
 -- A shelf as contracts see it, and what its calls may do to what it holds and to what a crash may leave.
-use Rattle.std.specs.Prelude.{◌≡◌, ◌≤◌, ◌⊎◌, ◌↔◌, ℕ, List, IsSome, Contains}
+use Rattle.std.specs.Prelude.{◌≡◌, ◌≤◌, ◌⊎◌, ◌↔◌, ◌+◌, ℕ, List, Result, Err, IsSome, Contains}
 use Rattle.std.specs.Ordering.{nat_cmp}
 use Rattle.std.specs.Cmp.Lexicographic.{slice_cmp}
 use Rattle.std.specs.List.Sorted.{IsStrictlySortedBy}
 use Rattle.gm_metadata.specs.declared.label.Label.{Label}
 use Rattle.gm_metadata.specs.Images.{Image, Sizes, Same}
+use Rattle.gm_shelf.specs.declared.fault.ShelfFault.{ShelfFault}
+use Rattle.gm_shelf.specs.declared.fault.ShelfFault.TheVariants.{Device}
 
 -- the four facts of a shelf, with the moment that the third counts from
 pub record View : Type 1 where
@@ -40,6 +42,11 @@ pub record IsQuiet (old new : View) : Type 0 where
   pub crash : (x : Image) → new.may_leave x → old.may_leave x
   pub time : Elapses old new
 
+-- reads, one or several: quiet, and what a crash might have left it may leave still
+pub record AreReads (old new : View) : Type 0 where
+  pub quiet : IsQuiet old new
+  pub kept : (x : Image) → old.may_leave x → new.may_leave x
+
 -- a write, also one that failed
 pub record IsWrite (p : Label) (i : ℕ) (s : List ℕ) (old new : View) : Type 0 where
   pub seen : Torn p i s old.seen new.seen
@@ -49,6 +56,15 @@ pub record IsWrite (p : Label) (i : ℕ) (s : List ℕ) (old new : View) : Type 
 -- a sync that succeeded fixes what the provider holds
 abbrev pub IsFixed : Label → View → View → Type 0
 IsFixed p old new = (x : Image) → new.may_leave x → (j : ℕ) → x p j ≡ old.seen p j
+
+-- how a read, a write or a sync is answered
+abbrev pub Answer : Type 0
+Answer = Result (Unit {0}) ShelfFault
+
+-- the count of failures after a call: one more where it answers `Device`, and else as it was
+abbrev pub faults_after : Answer → ℕ → ℕ
+faults_after (Err Device) n = n + 1
+faults_after _ n = n
 
 -- what any shelf keeps to at any time
 pub record IsLawful (v : View) : Type 0 where

@@ -1,5 +1,5 @@
 -- A folder of image files as contracts see it: sizes and failures, and nothing of what a file holds.
-use Rattle.std.specs.Prelude.{ℕ, List, [], ◌/◌}
+use Rattle.std.specs.Prelude.{⊤, ℕ, List, [], ◌/◌}
 use Rattle.std.specs.Option.{option_map}
 use Rattle.std.specs.Ordering.{nat_cmp}
 use Rattle.std.specs.Cmp.Lexicographic.{slice_cmp}
@@ -11,6 +11,6 @@ use Rattle.gm_shelf.specs.Disk.{View}
 abbrev pub sectors_of : BTreeMap (List ℕ) ℕ → Sizes
 sectors_of lengths p = option_map (λ length. length / 512) (get (slice_cmp nat_cmp) lengths p)
 
--- nothing is known of what is held or left, but the failures are counted
+-- nothing is known of what is held or left: any image may be left, now or since any moment
 abbrev pub unknown : ℕ → View
-unknown failures = record { seen = λ p i. []; may_leave = λ x. ⊥; moment = 0; left_since = λ t x. ⊥; faults = failures }
+unknown failures = record { seen = λ p i. []; may_leave = λ x. ⊤; moment = 0; left_since = λ t x. ⊤; faults = failures }

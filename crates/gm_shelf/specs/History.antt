@@ -1,10 +1,11 @@
 -- A shelf in memory, by what was done to it: the providers that were added, the writes and the syncs, the newest first.
-use Rattle.std.specs.Prelude.{◌≡◌, ◌≤◌, ◌⊎◌, ℕ, List, [], ◌∷◌, ◌++◌, length, ◌==◌, ◌&&◌, if◌then◌else◌, None, Some, slice_index_or, Contains, vec_len}
+use Rattle.std.specs.Prelude.{◌≡◌, ◌≤◌, ◌⊎◌, ℕ, List, [], ◌∷◌, ◌++◌, length, ◌==◌, ◌&&◌, if◌then◌else◌, None, Some, OnOk, OnErr, IsErrOf, slice_index_or, Contains, vec_len}
 use Rattle.gm_metadata.specs.declared.label.Label.{Label}
 use Rattle.gm_metadata.specs.Images.{Image, Sizes, put, same_label}
-use Rattle.gm_shelf.specs.Disk.{View}
+use Rattle.gm_shelf.specs.Disk.{View, Answer}
 use Rattle.gm_shelf.specs.declared.event.Event.{Event}
 use Rattle.gm_shelf.specs.declared.event.Event.TheVariants.{Added, Wrote, Synced}
+use Rattle.gm_shelf.specs.declared.fault.ShelfFault.TheVariants.{Memory}
 
 -- one of these sectors
 abbrev pub sector_at : List (List ℕ) → ℕ → List ℕ
@@ -56,3 +57,13 @@ view_after history = record {
   left_since = left_since_after history;
   faults = 0;
 }
+
+-- a read does nothing, and takes no memory
+pub record OnlyReads (answer : Answer) (older newer : List Event) : Type 0 where
+  pub nothing_done : newer ≡ older
+  pub no_memory : IsErrOf answer Memory → ⊥
+
+-- a write or a sync does this one thing alone, or answers a fault and does nothing
+pub record OnlyDoes (event : Event) (answer : Answer) (older newer : List Event) : Type 0 where
+  pub done : OnOk answer (newer ≡ event ∷ older)
+  pub nothing_done : OnErr answer (newer ≡ older)

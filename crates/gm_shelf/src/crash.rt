@@ -57,7 +57,8 @@ fn picked_sector(log: &[Event], provider: Label, place: u64, pick: u32) -> ([u8;
     requires { length log.now < 2 ^ 63 }
     ensures value { let history = reverse log.now in
         IsSomeAnd (size_after history provider) (λ n. place < n) →
-        result.0 ≡ picked_value (synced_after history provider place) (written_after history provider place) pick }
+        result.0 ≡ picked_value (synced_after history provider place)
+        (written_after history provider place) pick }
     ensures unsynced { result.1 ≡ is_unsynced (reverse log.now) provider place }
 {
     let mut walk = Walk {
@@ -83,9 +84,10 @@ fn choice_at(pick: &[u32], n: usize) -> u32
     pick.get(n).copied().unwrap_or(0)
 }
 
-// How many picks are taken after one sector more: one for each unsynced sector, as long as there are some.
+// How many picks are taken after one sector more: one for each unsynced sector, while there are some.
 fn taken_after(taken: usize, is_unsynced: bool, picks: usize) -> usize
-    ensures { (n : ℕ) → taken ≡ min n picks → result ≡ min (n + (if is_unsynced then 1 else 0)) picks }
+    ensures { (n : ℕ) → taken ≡ min n picks →
+        result ≡ min (n + (if is_unsynced then 1 else 0)) picks }
 {
     if is_unsynced && taken < picks {
         taken + 1
@@ -94,7 +96,8 @@ fn taken_after(taken: usize, is_unsynced: bool, picks: usize) -> usize
     }
 }
 
-// The sectors of a provider, with the picks behind those that were taken. One is taken for each unsynced sector.
+// The sectors of a provider, with the picks behind those that were taken. One is taken for each
+// unsynced sector.
 pub(crate) fn picked_sectors(
     log: &Vec<Event>,
     provider: Label,

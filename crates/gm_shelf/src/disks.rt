@@ -32,6 +32,7 @@ pub(crate) fn sector_in(disks: &Disks, provider: Label, place: u64) -> Result<[u
     ensures range { IsErrOf result ShelfFault.Range ↔
         IsSomeAnd (size_in disks.now provider) (λ n. n ≤ place) }
     ensures not_device { IsErrOf result ShelfFault.Device → ⊥ }
+    ensures not_memory { IsErrOf result ShelfFault.Memory → ⊥ }
 {
     let Some(sectors) = disks.get(&provider) else {
         return Err(ShelfFault::Absent);

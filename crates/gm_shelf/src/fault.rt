@@ -1,6 +1,6 @@
 //! Why a call of a shelf fails, and the count of failures.
 
-ghost use Rattle.std.specs.Prelude.{◌≡◌, ◌≤◌, ◌<◌, ◌+◌, ◌==◌, ◌↔◌, None, IfErr, OnOk, IsErrOf, IsSomeAnd, if◌then◌else◌};
+ghost use Rattle.std.specs.Prelude.{◌≡◌, ◌≤◌, ◌<◌, ◌+◌, ◌==◌, ◌↔◌, None, IfErr, IsOk, IsErrOf, IsSomeAnd, if◌then◌else◌};
 ghost use Rattle.gm_shelf.specs.Faults.{fault_number, fault_after, count_after};
 
 use std::alloc::AllocFailed;
@@ -89,8 +89,9 @@ pub(crate) fn check_provider(sectors: Option<u64>) -> Result<(), ShelfFault>
 pub(crate) fn check_place(sectors: Option<u64>, place: u64) -> Result<(), ShelfFault>
     ensures absent { IsErrOf result ShelfFault.Absent ↔ (sectors ≡ None) }
     ensures range { IsErrOf result ShelfFault.Range ↔ IsSomeAnd sectors (λ n. n ≤ place) }
-    ensures there { OnOk result (IsSomeAnd sectors (λ n. place < n)) }
+    ensures there { IsOk result ↔ IsSomeAnd sectors (λ n. place < n) }
     ensures not_device { IsErrOf result ShelfFault.Device → ⊥ }
+    ensures not_memory { IsErrOf result ShelfFault.Memory → ⊥ }
 {
     match sectors {
         None => Err(ShelfFault::Absent),
@@ -98,3 +99,6 @@ pub(crate) fn check_place(sectors: Option<u64>, place: u64) -> Result<(), ShelfF
         Some(_) => Ok(()),
     }
 }
+
+#[cfg(test)]
+mod tests;

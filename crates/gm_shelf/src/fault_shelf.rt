@@ -1,8 +1,6 @@
 //! A shelf whose calls fail, to see what a stop leaves.
 
-ghost use Rattle.std.specs.Prelude.{◌≡◌, ◌≤◌, ◌<◌, ◌-◌, ◌↔◌, None, OnOk, IsErr, IsErrOf, IsSomeAnd, IsTrue};
-ghost use Rattle.gm_metadata.specs.Images.{Image, Same, put};
-ghost use Rattle.gm_shelf.specs.Disk.{IsQuiet, IsWrite, IsFixed};
+ghost use Rattle.std.specs.Prelude.{◌≡◌, ◌<◌, ◌-◌, ◌↔◌, IsSome, IsSomeAnd, IsTrue};
 ghost use Rattle.gm_shelf.specs.Stopping.{with_failures, lawful_with};
 
 use crate::fault::{ShelfFault, check_place, check_provider, device_failed};
@@ -60,13 +58,25 @@ fn passes(passing: &mut u64) -> bool
 }
 
 impl<H: Shelf> Shelf for FaultShelf<H> {
-    ghost use Rattle.gm_shelf.specs.FaultShelves.{inner_of, passing_of, view_of};
+    ghost use Rattle.gm_shelf.specs.FaultShelves.{PassesOrStops};
 
     ghost honest = { λ s. H.honest s.inner };
 
     ghost view = { λ s. with_failures (H.view s.inner) s.failures };
 
     ghost size = { λ s. H.size s.inner };
+
+    ghost read_gives = { λ s p i answer out t.
+        PassesOrStops (H.read_gives s.inner p i answer out t.inner)
+        (IsSomeAnd (H.size s.inner p) (λ n. i < n)) answer s t };
+
+    ghost write_gives = { λ s p i sector answer t.
+        PassesOrStops (H.write_gives s.inner p i sector answer t.inner)
+        (IsSomeAnd (H.size s.inner p) (λ n. i < n)) answer s t };
+
+    ghost sync_gives = { λ s p answer t.
+        PassesOrStops (H.sync_gives s.inner p answer t.inner)
+        (IsSome (H.size s.inner p)) answer s t };
 
     ghost lawful = { λ s h. lawful_with _ _ (H.lawful s.inner h) };
 
@@ -78,25 +88,7 @@ impl<H: Shelf> Shelf for FaultShelf<H> {
         self.inner.sectors(provider)
     }
 
-    fn read(&mut self, provider: Label, place: u64, out: &mut [u8; 512]) -> Result<(), ShelfFault>
-        ensures bytes { H.honest (inner_of self.old) → OnOk result (out.new ≡ (view_of H.view self.old).seen provider place) }
-        ensures quiet { H.honest (inner_of self.old) → IsQuiet (view_of H.view self.old) (view_of H.view self.new) }
-        ensures kept { H.honest (inner_of self.old) → (x : Image) →
-            (view_of H.view self.old).may_leave x → (view_of H.view self.new).may_leave x }
-        ensures honest { H.honest (inner_of self.old) → H.honest (inner_of self.new) }
-        ensures size { H.size (inner_of self.new) ≡ H.size (inner_of self.old) }
-        ensures count { (view_of H.view self.old).faults ≤ (view_of H.view self.new).faults }
-        ensures absent { IsErrOf result ShelfFault.Absent ↔ (H.size (inner_of self.old) provider ≡ None) }
-        ensures range { IsErrOf result ShelfFault.Range ↔
-            IsSomeAnd (H.size (inner_of self.old) provider) (λ n. n ≤ place) }
-        ensures device { IsErrOf result ShelfFault.Device →
-            (view_of H.view self.old).faults < (view_of H.view self.new).faults }
-
-        // Beyond the law: where no more calls pass, it fails before it acts.
-        ensures stopped { passing_of self.old ≡ 0 → IsErr result }
-        ensures untouched { passing_of self.old ≡ 0 → inner_of self.new ≡ inner_of self.old }
-        ensures passing { passing_of self.new ≡ passing_of self.old - 1 }
-    {
+    fn read(&mut self, provider: Label, place: u64, out: &mut [u8; 512]) -> Result<(), ShelfFault> {
         if passes(&mut self.passing) {
             self.inner.read(provider, place, out)?;
             return Ok(());
@@ -105,25 +97,7 @@ impl<H: Shelf> Shelf for FaultShelf<H> {
         Err(device_failed(&mut self.failures))
     }
 
-    fn write(&mut self, provider: Label, place: u64, sector: &[u8; 512]) -> Result<(), ShelfFault>
-        ensures written { H.honest (inner_of self.old) →
-            OnOk result (Same (view_of H.view self.new).seen (put provider place sector.now (view_of H.view self.old).seen)) }
-        ensures law { H.honest (inner_of self.old) →
-            IsWrite provider place sector.now (view_of H.view self.old) (view_of H.view self.new) }
-        ensures honest { H.honest (inner_of self.old) → H.honest (inner_of self.new) }
-        ensures size { H.size (inner_of self.new) ≡ H.size (inner_of self.old) }
-        ensures count { (view_of H.view self.old).faults ≤ (view_of H.view self.new).faults }
-        ensures absent { IsErrOf result ShelfFault.Absent ↔ (H.size (inner_of self.old) provider ≡ None) }
-        ensures range { IsErrOf result ShelfFault.Range ↔
-            IsSomeAnd (H.size (inner_of self.old) provider) (λ n. n ≤ place) }
-        ensures device { IsErrOf result ShelfFault.Device →
-            (view_of H.view self.old).faults < (view_of H.view self.new).faults }
-
-        // Beyond the law: where no more calls pass, it fails before it acts.
-        ensures stopped { passing_of self.old ≡ 0 → IsErr result }
-        ensures untouched { passing_of self.old ≡ 0 → inner_of self.new ≡ inner_of self.old }
-        ensures passing { passing_of self.new ≡ passing_of self.old - 1 }
-    {
+    fn write(&mut self, provider: Label, place: u64, sector: &[u8; 512]) -> Result<(), ShelfFault> {
         if passes(&mut self.passing) {
             self.inner.write(provider, place, sector)?;
             return Ok(());
@@ -132,23 +106,7 @@ impl<H: Shelf> Shelf for FaultShelf<H> {
         Err(device_failed(&mut self.failures))
     }
 
-    fn sync(&mut self, provider: Label) -> Result<(), ShelfFault>
-        ensures fixed { H.honest (inner_of self.old) →
-            OnOk result (IsFixed provider (view_of H.view self.old) (view_of H.view self.new)) }
-        ensures quiet { H.honest (inner_of self.old) → IsQuiet (view_of H.view self.old) (view_of H.view self.new) }
-        ensures honest { H.honest (inner_of self.old) → H.honest (inner_of self.new) }
-        ensures size { H.size (inner_of self.new) ≡ H.size (inner_of self.old) }
-        ensures count { (view_of H.view self.old).faults ≤ (view_of H.view self.new).faults }
-        ensures absent { IsErrOf result ShelfFault.Absent ↔ (H.size (inner_of self.old) provider ≡ None) }
-        ensures range { IsErrOf result ShelfFault.Range → ⊥ }
-        ensures device { IsErrOf result ShelfFault.Device →
-            (view_of H.view self.old).faults < (view_of H.view self.new).faults }
-
-        // Beyond the law: where no more calls pass, it fails before it acts.
-        ensures stopped { passing_of self.old ≡ 0 → IsErr result }
-        ensures untouched { passing_of self.old ≡ 0 → inner_of self.new ≡ inner_of self.old }
-        ensures passing { passing_of self.new ≡ passing_of self.old - 1 }
-    {
+    fn sync(&mut self, provider: Label) -> Result<(), ShelfFault> {
         if passes(&mut self.passing) {
             self.inner.sync(provider)?;
             return Ok(());

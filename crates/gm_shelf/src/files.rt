@@ -1,7 +1,10 @@
 //! A folder of image files.
 
-ghost use Rattle.std.specs.Prelude.{◌≡◌, ◌≤◌, ◌<◌, ◌/◌, ◌*◌, ◌↔◌, ℕ, Option, Some, None, IfOk, IfErr, IsErrOf};
-ghost use Rattle.gm_shelf.specs.Disk.{View};
+ghost use Rattle.std.specs.Prelude.{⊤, ◌≡◌, ◌≢◌, ◌≤◌, ◌<◌, ◌/◌, ◌*◌, ◌↔◌, ℕ, Option, Some, None, IsOk, IfOk, IfErr, IsErrOf};
+ghost use Rattle.std.specs.IoError.{error_kind};
+ghost use Rattle.std.specs.declared.io.ErrorKind.TheVariants.{OutOfMemory};
+ghost use Rattle.gm_shelf.specs.Disk.{View, faults_after};
+ghost use Rattle.gm_shelf.specs.Faults.{fault_after};
 ghost use Rattle.gm_shelf.specs.Folder.{unknown, sectors_of};
 
 use crate::fault::{ShelfFault, device_failed};
@@ -49,7 +52,8 @@ impl<R: Files<File = File> + AllocGlobal + Clone + Drop> OpenFiles<R> {
             .open(&self.rt, path.as_str())
     }
 
-    // Acts on a file, which is opened at its first use and kept. Where too many are open, another one is closed.
+    // Acts on a file, which is opened at its first use and kept. Where too many are open, another one
+    // is closed.
     fn with<F: FnOnce(&File) -> io::Result<()>>(&mut self, name: Label, act: F) -> io::Result<()>
         requires { F.IsAlwaysCallable act }
     {
@@ -64,7 +68,8 @@ impl<R: Files<File = File> + AllocGlobal + Clone + Drop> OpenFiles<R> {
     }
 }
 
-/// The images of a folder, each file's bytes 512 to a sector. Nothing is claimed of what a file holds.
+/// The images of a folder, each file's bytes 512 to a sector. Nothing is claimed of what a file
+/// holds.
 #[derive(Drop)]
 pub struct FileShelf<R: Files<File = File> + AllocGlobal + Clone + Drop> {
     files: OpenFiles<R>,
@@ -107,8 +112,8 @@ fn check_image(file: &File, length: u64) -> io::Result<()> {
 impl<R: Files<File = File> + AllocGlobal + Clone + Drop> FileShelf<R> {
     ghost use Rattle.gm_shelf.specs.FileShelves.{failures_of, folder_of};
 
-    /// Opens a folder: its regular files whose names are labels and whose lengths are multiples of 512,
-    /// as they are now. Every other entry is skipped. Fails where the folder can't be listed.
+    /// Opens a folder: its regular files whose names are labels and whose lengths are multiples of
+    /// 512, as they are now. Every other entry is skipped. Fails where the folder can't be listed.
     pub fn open(rt: &R, folder: &str) -> io::Result<FileShelf<R>>
         ensures folder { IfOk result (λ shelf. folder_of shelf ≡ folder.now) }
         ensures no_failures { IfOk result (λ shelf. failures_of shelf ≡ 0) }
@@ -151,10 +156,14 @@ fn offset_in(length: u64, place: u64) -> Result<u64, ShelfFault>
     Ok(place * 512)
 }
 
-// The fault of a call that a file refused.
+// How a call is answered where its file did this.
 fn outcome(done: io::Result<()>, failures: &mut u64) -> Result<(), ShelfFault>
-    ensures device { IsErrOf result ShelfFault.Device → failures.old < failures.new }
-    ensures count { failures.old ≤ failures.new }
+    ensures ok { IsOk done ↔ IsOk result }
+    ensures memory { IfErr done (λ e. error_kind e ≡ OutOfMemory →
+        IsErrOf result ShelfFault.Memory) }
+    ensures device { IfErr done (λ e. error_kind e ≢ OutOfMemory →
+        IsErrOf result (fault_after failures.old)) }
+    ensures counted { failures.new ≡ faults_after result failures.old }
     ensures not_absent { IsErrOf result ShelfFault.Absent → ⊥ }
     ensures not_range { IsErrOf result ShelfFault.Range → ⊥ }
 {
@@ -171,6 +180,13 @@ impl<R: Files<File = File> + AllocGlobal + Clone + Drop> Shelf for FileShelf<R> 
     ghost view = { λ s. unknown s.failures };
 
     ghost size = { λ s. sectors_of s.lengths };
+
+    // Nothing is known of its files but what the law says.
+    ghost read_gives = { λ s p i answer out t. ⊤ };
+
+    ghost write_gives = { λ s p i sector answer t. ⊤ };
+
+    ghost sync_gives = { λ s p answer t. ⊤ };
 
     ghost lawful = { λ s h. absurd h };
 

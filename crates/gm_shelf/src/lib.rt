@@ -1,11 +1,11 @@
-//! Providers of 512-byte sectors, as disks are: what a read gives, what a crash may leave, and when a call
-//! fails.
+//! Providers of 512-byte sectors, as disks are: what a read gives, what a crash may leave, and when
+//! a call fails.
 //!
-//! Begin with `law.rt`, the trait `Shelf` and its law; `fault.rt` has the four faults and when each comes.
-//! `meta.rt` writes a last sector so that it is old or new at every moment.
-//! Three shelves keep to the law: `files.rt` is a folder of image files, of whose contents nothing is claimed;
-//! `memory.rt` is a disk in memory, of which `crash.rt` makes the images that a crash may leave; and
-//! `fault_shelf.rt` makes the calls of another shelf fail.
+//! Begin with `law.rt`, the trait `Shelf` and its law; `fault.rt` has the four faults and when each
+//! comes. `meta.rt` writes a last sector so that it is old or new at every moment.
+//! Three shelves keep to the law: `files.rt` is a folder of image files, of whose contents nothing is
+//! claimed; `memory.rt` is a disk in memory, of which `crash.rt` makes the images that a crash may
+//! leave; and `fault_shelf.rt` makes the calls of another shelf fail.
 #![tactic(auto)]
 
 mod crash;

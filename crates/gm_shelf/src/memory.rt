@@ -19,8 +19,8 @@ use gm_metadata::Label;
 use std::alloc::{AllocError, Global};
 use std::collections::BTreeMap;
 
-/// Providers in memory. It keeps what was done to it, so want of memory may refuse a write or a sync,
-/// before anything changed.
+/// Providers in memory. It keeps what was done to it, so want of memory may refuse a write or a
+/// sync, before anything changed.
 #[derive(Drop)]
 pub struct MemShelf {
     log: Vec<Event>,
@@ -42,8 +42,8 @@ impl MemShelf {
         }
     }
 
-    /// Adds a provider with these sectors, which count as synced. The label must be new: `sectors` answers
-    /// `None` to it.
+    /// Adds a provider with these sectors, which count as synced. The label must be new: `sectors`
+    /// answers `None` to it.
     pub fn add(&mut self, label: Label, sectors: Vec<[u8; 512]>) -> Result<(), AllocError>
         requires { size_after (history self.old) label ≡ None }
         ensures ok { OnOk result (history self.new ≡ Added label sectors ∷ history self.old) }
@@ -56,17 +56,19 @@ impl MemShelf {
         Ok(())
     }
 
-    /// What a crash now leaves, by these picks. The i-th unsynced sector, by provider in byte order and by
-    /// place, takes its synced value where `pick[i]` is 0, else the `pick[i]`-th that was written to it since,
-    /// or the last where there are fewer. A missing pick counts as 0.
+    /// What a crash now leaves, by these picks. The i-th unsynced sector, by provider in byte order
+    /// and by place, takes its synced value where `pick[i]` is 0, else the `pick[i]`-th that was
+    /// written to it since, or the last where there are fewer. A missing pick counts as 0.
     pub fn crash_image(&self, pick: &[u32]) -> Result<MemShelf, AllocError>
         ensures sizes { IfOk result (λ m.
             (q : Label) → size_after (history m) q ≡ size_after (history self.now) q) }
-        ensures picked { IfOk result (λ m. IsPicked (history self.now) pick.now (seen_after (history m))) }
+        ensures picked { IfOk result (λ m.
+            IsPicked (history self.now) pick.now (seen_after (history m))) }
         // Nothing of it is unsynced, and it is an image that a crash may leave.
         ensures settled { IfOk result (λ m.
             (x : Image) → may_leave_after (history m) x → Same x (seen_after (history m))) }
-        ensures left { IfOk result (λ m. may_leave_after (history self.now) (seen_after (history m))) }
+        ensures left { IfOk result (λ m.
+            may_leave_after (history self.now) (seen_after (history m))) }
     {
         let names = self.names()?;
         let mut image = MemShelf::new(*self.log.allocator());
@@ -79,8 +81,8 @@ impl MemShelf {
         Ok(image)
     }
 
-    /// A law: some picks name each image that a crash may leave, where no sector was written 2^32 times
-    /// since its sync.
+    /// A law: some picks name each image that a crash may leave, where no sector was written 2^32
+    /// times since its sync.
     pub fn every_image_has_picks(&self)
         ensures { (x : Image) → may_leave_after (history self.now) x →
             ((p : Label) (j : ℕ) → length (written_after (history self.now) p j) < 2 ^ 32) →
@@ -91,11 +93,23 @@ impl MemShelf {
 }
 
 impl Shelf for MemShelf {
+    ghost use Rattle.gm_shelf.specs.History.{OnlyReads, OnlyDoes};
+    ghost use Rattle.gm_shelf.specs.declared.event.Event.TheVariants.{Wrote, Synced};
+
     ghost honest = { λ m. Unit };
 
     ghost view = { λ m. view_after (reverse m.log.items) };
 
     ghost size = { λ m. size_after (reverse m.log.items) };
+
+    ghost read_gives = { λ m p i answer out n.
+        OnlyReads answer (reverse m.log.items) (reverse n.log.items) };
+
+    ghost write_gives = { λ m p i sector answer n.
+        OnlyDoes (Wrote p i sector) answer (reverse m.log.items) (reverse n.log.items) };
+
+    ghost sync_gives = { λ m p answer n.
+        OnlyDoes (Synced p) answer (reverse m.log.items) (reverse n.log.items) };
 
     ghost lawful = { λ m h. lawful_after (reverse m.log.items) };
 

@@ -2,13 +2,15 @@
 
 ghost use Rattle.std.specs.Prelude.{◌≡◌, ◌≤◌, ◌<◌, ◌+◌, ◌↔◌, ◌⊎◌, ℕ, Some, None, OnOk, IsErrOf};
 ghost use Rattle.gm_metadata.specs.Reading.{encoded};
+ghost use Rattle.gm_shelf.specs.Disk.{faults_after};
 ghost use Rattle.gm_shelf.specs.LastSector.{OldOrNew, IsDone};
 
 use crate::fault::ShelfFault;
 use crate::law::Shelf;
 use gm_metadata::{Label, Metadata, encode};
 
-/// Writes the provider's last sector, then syncs the provider. A provider without sectors answers `Range`.
+/// Writes the provider's last sector, then syncs the provider. A provider without sectors answers
+/// `Range`.
 pub fn write_last<H: Shelf>(
     shelf: &mut H,
     provider: Label,
@@ -30,6 +32,7 @@ pub fn write_last<H: Shelf>(
     ensures honest { H.honest shelf.old → H.honest shelf.new }
     ensures size { H.size shelf.new ≡ H.size shelf.old }
     ensures count { (H.view shelf.old).faults ≤ (H.view shelf.new).faults }
+    ensures counted { (H.view shelf.new).faults ≡ faults_after result (H.view shelf.old).faults }
 {
     let Some(count) = shelf.sectors(provider) else {
         return Err(ShelfFault::Absent);
@@ -50,7 +53,8 @@ pub fn write_meta<H: Shelf>(
 ) -> Result<(), ShelfFault>
     // At Ok the sector is fixed, and at every moment of the call it was old or new.
     ensures done { (i : ℕ) → H.honest shelf.old → H.size shelf.old provider ≡ Some (i + 1) →
-        OnOk result (IsDone provider i (encoded metadata.now) (H.view shelf.old) (H.view shelf.new)) }
+        OnOk result (
+        IsDone provider i (encoded metadata.now) (H.view shelf.old) (H.view shelf.new)) }
     ensures moments { (i : ℕ) → H.honest shelf.old → H.size shelf.old provider ≡ Some (i + 1) →
         OldOrNew provider i (encoded metadata.now) (H.view shelf.old) (H.view shelf.new) }
 
@@ -64,6 +68,7 @@ pub fn write_meta<H: Shelf>(
     ensures honest { H.honest shelf.old → H.honest shelf.new }
     ensures size { H.size shelf.new ≡ H.size shelf.old }
     ensures count { (H.view shelf.old).faults ≤ (H.view shelf.new).faults }
+    ensures counted { (H.view shelf.new).faults ≡ faults_after result (H.view shelf.old).faults }
 {
     write_last(shelf, provider, &encode(metadata))?;
     Ok(())

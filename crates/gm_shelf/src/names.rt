@@ -17,7 +17,8 @@ pub(crate) fn names_in<T>(
 ) -> Result<Vec<Label>, AllocError>
     ensures names { IfOk result (λ v. v.items ≡ keys entries.now) }
     ensures ascending { IsOrdered (slice_cmp nat_cmp) entries.now }
-    ensures found { (q : List ℕ) → is_some (get (slice_cmp nat_cmp) entries.now q) ≡ is_member (eq_by_cmp (slice_cmp nat_cmp)) (keys entries.now) q }
+    ensures found { (q : List ℕ) → is_some (get (slice_cmp nat_cmp) entries.now q)
+        ≡ is_member (eq_by_cmp (slice_cmp nat_cmp)) (keys entries.now) q }
 {
     entries.keys().copied().collect(alloc)
 }

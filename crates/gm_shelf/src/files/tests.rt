@@ -162,6 +162,166 @@ fn a_file_that_goes_is_a_device_that_fails(rt: HostRuntime) -> Result<(), Fail> 
     }
     assert!(rt; holds(&rt, &folder, "short", 0, &[7; 512])?);
     assert!(rt; !holds(&rt, &folder, "short", 1, &[7; 512])?);
+    for name in ["before", "after"] {
+        assert!(rt; fs::metadata(&rt, path_in(&rt, &folder, name)?.as_str()).is_err());
+    }
+    fs::remove_dir_all(&rt, folder.as_str())?;
+    Ok(())
+}
+
+#[test]
+fn an_empty_folder_has_no_names(rt: HostRuntime) -> Result<(), Fail> {
+    let folder = new_folder(&rt, "empty")?;
+    let mut shelf = FileShelf::open(&rt, folder.as_str())?;
+    assert!(rt; shelf.names()?.is_empty());
+    assert_eq!(rt; shelf.sync(label("a.img")?), Err(ShelfFault::Absent));
+    fs::remove_dir_all(&rt, folder.as_str())?;
+    Ok(())
+}
+
+// The byte that fills a sector of the i-th image.
+fn byte_at(i: usize, place: u64) -> u8 {
+    (i % 100 * 2 + (place % 2) as usize) as u8
+}
+
+// Writes two sectors of each image, from one image to the next.
+fn fill_in_turn(shelf: &mut FileShelf<HostRuntime>, names: &[Label]) -> Result<(), ShelfFault> {
+    for place in 0..2 {
+        for (i, name) in names.iter().enumerate() {
+            shelf.write(*name, place, &[byte_at(i, place); 512])?;
+            shelf.sync(*name)?;
+        }
+    }
+    Ok(())
+}
+
+// Whether a read and the file give what was written, at each sector of each image.
+fn are_filled(
+    rt: &HostRuntime,
+    folder: &String,
+    shelf: &mut FileShelf<HostRuntime>,
+    names: &[Label],
+) -> Result<bool, Fail> {
+    let mut sector = [0; 512];
+    for place in 0..2 {
+        for (i, name) in names.iter().enumerate() {
+            let wanted = [byte_at(i, place); 512];
+            shelf.read(*name, place, &mut sector)?;
+            if sector != wanted || !holds(rt, folder, name.as_str(), place as usize, &wanted)? {
+                return Ok(false);
+            }
+        }
+    }
+    Ok(true)
+}
+
+// Two that are open at once, and more than are kept open.
+#[test]
+fn images_are_kept_apart(rt: HostRuntime) -> Result<(), Fail> {
+    for count in [2, OPEN_FILES + 2] {
+        let folder = new_folder(&rt, "apart")?;
+        for i in 0..count {
+            let name = format!(in rt.alloc(); "{i}.img")?;
+            put_file(&rt, &folder, name.as_str(), &[255; 1024])?;
+        }
+        let mut shelf = FileShelf::open(&rt, folder.as_str())?;
+        let names = shelf.names()?;
+        assert_eq!(rt; names.len(), count);
+        fill_in_turn(&mut shelf, &names)?;
+        assert!(rt; are_filled(&rt, &folder, &mut shelf, &names)?, "of {count}");
+        fs::remove_dir_all(&rt, folder.as_str())?;
+    }
+    Ok(())
+}
+
+#[test]
+fn zeros_are_written_over_data(rt: HostRuntime) -> Result<(), Fail> {
+    let folder = new_folder(&rt, "zeros")?;
+    put_file(&rt, &folder, "a.img", &[7; 2048])?;
+    let a = label("a.img")?;
+    let mut shelf = FileShelf::open(&rt, folder.as_str())?;
+    shelf.write(a, 1, &[0; 512])?;
+    for (place, byte) in [(0, 7), (1, 0), (2, 7), (3, 7)] {
+        assert!(rt; holds(&rt, &folder, "a.img", place, &[byte; 512])?);
+    }
+    let mut sector = [7; 512];
+    shelf.read(a, 1, &mut sector)?;
+    assert!(rt; sector == [0; 512]);
+    fs::remove_dir_all(&rt, folder.as_str())?;
+    Ok(())
+}
+
+// What a read, a write and a sync answer, in this order.
+fn answers_of(
+    shelf: &mut FileShelf<HostRuntime>,
+    name: Label,
+    place: u64,
+) -> [Result<(), ShelfFault>; 3] {
+    let mut sector = [0; 512];
+    [
+        shelf.read(name, place, &mut sector),
+        shelf.write(name, place, &sector),
+        shelf.sync(name),
+    ]
+}
+
+#[test]
+fn each_fault_is_told_as_what_it_is(rt: HostRuntime) -> Result<(), Fail> {
+    let (absent, range) = (Err(ShelfFault::Absent), Err(ShelfFault::Range));
+    let (device, memory) = (Err(ShelfFault::Device), Err(ShelfFault::Memory));
+    let folder = new_folder(&rt, "faults")?;
+    put_file(&rt, &folder, "a.img", &[7; 1024])?;
+    let a = label("a.img")?;
+    let mut shelf = FileShelf::open(&rt, folder.as_str())?;
+    assert_eq!(rt;
+        answers_of(&mut shelf, label("b.img")?, 0),
+        [absent, absent, absent]
+    );
+    assert_eq!(rt; answers_of(&mut shelf, a, 2), [range, range, Ok(())]);
+    assert_eq!(rt; answers_of(&mut shelf, a, 1), [Ok(()), Ok(()), Ok(())]);
+    assert_eq!(rt; shelf.failures, 0);
+    fs::remove_file(&rt, path_in(&rt, &folder, "a.img")?.as_str())?;
+    assert_eq!(rt; answers_of(&mut shelf, a, 2), [range, range, device]);
+    assert_eq!(rt; answers_of(&mut shelf, a, 1), [device, device, device]);
+    assert_eq!(rt; shelf.failures, 4);
+    // At its last value the count stays.
+    shelf.failures = u64::MAX - 1;
+    assert_eq!(rt; answers_of(&mut shelf, a, 1), [device, memory, memory]);
+    assert_eq!(rt; shelf.failures, u64::MAX);
+    fs::remove_dir_all(&rt, folder.as_str())?;
+    Ok(())
+}
+
+// The rest of a path below this folder, so that the whole has 4090 bytes.
+fn path_below(rt: &HostRuntime, folder: &String) -> io::Result<String> {
+    let mut path = String::new(rt.alloc());
+    for i in 0..4090usize.saturating_sub(folder.len()) {
+        path.push(if i % 200 == 0 { '/' } else { 'd' })?;
+    }
+    Ok(path)
+}
+
+// In the end the folder can be listed, but its path leaves no room for the name of the image.
+#[test]
+fn an_entry_that_cant_be_looked_at_fails_the_opening(rt: HostRuntime) -> Result<(), Fail> {
+    let folder = new_folder(&rt, "deep")?;
+    let (short, long) = (
+        path_in(&rt, &folder, "short")?,
+        path_in(&rt, &folder, "a-longer-name")?,
+    );
+    let below = path_below(&rt, &long)?;
+    let before = format!(in rt.alloc(); "{short}{below}")?;
+    let after = format!(in rt.alloc(); "{long}{below}")?;
+    fs::create_dir_all(&rt, before.as_str())?;
+    put_file(&rt, &before, "a", &[7; 512])?;
+    assert_eq!(rt;
+        FileShelf::open(&rt, before.as_str())?.sectors(label("a")?),
+        Some(1)
+    );
+    put_file(&rt, &before, "image", &[7; 512])?;
+    fs::rename(&rt, short.as_str(), long.as_str())?;
+    assert!(rt; fs::read_dir(&rt, after.as_str()).is_ok());
+    assert!(rt; FileShelf::open(&rt, after.as_str()).is_err());
     fs::remove_dir_all(&rt, folder.as_str())?;
     Ok(())
 }

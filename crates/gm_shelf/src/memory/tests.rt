@@ -55,18 +55,30 @@ fn a_crash_takes_the_picks(rt: HostRuntime) -> Result<(), Fail> {
     shelf.write(a, 2, &[11; 512])?;
     shelf.write(a, 0, &[12; 512])?;
     // The unsynced ones are a 0, a 2 and b 2.
-    let picks: [(&[u32], [u8; 6]); 6] = [
+    let picks: [(&[u32], [u8; 6]); 7] = [
         (&[], [1, 1, 1, 20, 2, 2]),
         (&[0, 1], [1, 1, 10, 20, 2, 2]),
         (&[0, 2], [1, 1, 11, 20, 2, 2]),
         (&[1, 9, 1], [12, 1, 11, 20, 2, 21]),
         (&[5, 0, 0], [12, 1, 1, 20, 2, 2]),
         (&[0, 0, 1, 1], [1, 1, 1, 20, 2, 21]),
+        // More picks than there are unsynced sectors: what is left over picks nothing.
+        (&[1, 2, 0, 1, 2, 1, 1, 1], [12, 1, 11, 20, 2, 2]),
     ];
     for (pick, wanted) in picks {
         let mut image = shelf.crash_image(pick)?;
         assert_eq!(rt; bytes_of(&mut image)?, wanted);
     }
+    Ok(())
+}
+
+#[test]
+fn picks_are_left_over_where_all_is_synced(rt: HostRuntime) -> Result<(), Fail> {
+    let mut shelf = two_disks(&rt)?;
+    shelf.write(label("a")?, 0, &[9; 512])?;
+    shelf.sync(label("a")?)?;
+    let mut image = shelf.crash_image(&[1, 1, 1, 1, 1, 1, 1])?;
+    assert_eq!(rt; bytes_of(&mut image)?, [9, 1, 1, 2, 2, 2]);
     Ok(())
 }
 
