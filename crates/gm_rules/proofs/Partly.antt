@@ -1,5 +1,5 @@
 -- What is made of a part is what the command makes of the whole.
-use Rattle.std.proofs.Common.{◌≡◌, ◌∙◌, inl, ℕ, ◌+◌, ◌-◌, Bool, true, false, refl, sym, ap, ap₂, subst, List, [], ◌∷◌, Option, Some, None, Result, Ok, Err, OnErr, map, find, length, if◌then◌else◌}
+use Rattle.std.proofs.Common.{◌≡◌, ◌∙◌, inl, ℕ, ◌+◌, ◌-◌, Bool, false, refl, sym, ap, ap₂, subst, List, [], ◌∷◌, Some, None, Result, Ok, Err, OnErr, map, find, length, if◌then◌else◌}
 use Rattle.gm_metadata.specs.declared.flags.MirrorFlags.{MirrorFlags}
 use Rattle.gm_state.specs.declared.command.BalanceWord.{BalanceWord}
 use Rattle.gm_state.specs.declared.command.Command.{Command}
@@ -15,9 +15,8 @@ use Rattle.gm_state.specs.Lookups.{mirror_of, component_of}
 use Rattle.gm_rules.specs.After.{metas, clears_of, new_mirror, first_component, spare}
 use Rattle.gm_rules.specs.Bad.{Seen, applies, name_of, providers_of}
 use Rattle.gm_rules.specs.Decides.{Changed, IsGood}
-use Rattle.gm_rules.specs.Parts.{IsPartOf, IsMade, IsGoodButCount, applies_to_part, asks_count}
+use Rattle.gm_rules.specs.Parts.{IsPartOf, IsMade, IsGoodButCount, applies_to_part}
 use Rattle.gm_rules.specs.Refusals.{own}
-use Rattle.gm_rules.specs.declared.refusals.Refusal.{Refusal}
 use Rattle.gm_rules.proofs.Agreeing.{same_mirror, same_members, same_component, same_applies}
 use Rattle.gm_state.proofs.Finding.{found_none}
 use Rattle.gm_rules.proofs.Good.{is_good}
