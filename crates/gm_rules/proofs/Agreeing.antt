@@ -1,5 +1,5 @@
 -- What a command asks for is found in its part as in the whole state.
-use Rattle.std.proofs.Common.{◌≡◌, ◌∙◌, inl, inr, ℕ, ◌≤◌, ◌==◌, ◌||◌, Bool, true, false, nat_lt, not, ◌&&◌, refl, sym, ap, ap₂, List, [], ◌∷◌, Option, Some, None, filter, find, map, length, is_none, is_some, eq-eqb, arith}
+use Rattle.std.proofs.Common.{◌≡◌, ◌∙◌, inl, inr, ℕ, ◌≤◌, ◌==◌, ◌||◌, Bool, true, false, refl, sym, ap, List, [], ◌∷◌, Option, Some, None, filter, find, map, length, is_none, is_some, eq-eqb, arith}
 use Rattle.std.specs.Prelude.{option_and_then}
 use Rattle.std.specs.List.{list_any}
 use Rattle.std.proofs.lemmas.Bool.{cases_Bool, or_left, or_right}
@@ -8,15 +8,15 @@ use Rattle.gm_state.specs.declared.command.Command.{Command}
 use Rattle.gm_state.specs.declared.records.Mirror.{Mirror}
 use Rattle.gm_state.specs.declared.records.Component.{Component}
 use Rattle.gm_state.specs.Words.{Has}
-use Rattle.gm_state.specs.Records.{Records, IsState, IsMirror, members, name, provider}
-use Rattle.gm_state.specs.Lookups.{mirror_of, component_of, is_active}
+use Rattle.gm_state.specs.Records.{Records, IsState, members, name, provider}
+use Rattle.gm_state.specs.Lookups.{mirror_of, component_of}
 use Rattle.gm_state.proofs.Order.{same_from, same_is}
 use Rattle.gm_state.proofs.Words.{Has-filter, filter-Has, Ascends-filter, filter_id, length-filter_le}
 use Rattle.gm_state.proofs.Finding.{any_from, some_any, any_agree, Has-map}
 use Rattle.gm_rules.specs.declared.refusals.Refusal.{Refusal}
 use Rattle.gm_rules.specs.declared.refusals.Refusal.TheVariants.{NoMirror, NameTaken, MidTaken, Absent, ProviderTaken, CarriesMetadata, TooSmall, NotMember, DidTaken, Full, TooManyMirrors, SomeLost, LastActive, WrongSize, NoMetadata}
-use Rattle.gm_rules.specs.Bad.{Seen, applies, name_of, providers_of, has_mid, has_did, has_size, is_mine, mine, mirror_named, at}
-use Rattle.gm_rules.specs.Parts.{is_named, any_named, is_asked, with_components, part_of, IsPartOf, applies_to_part}
+use Rattle.gm_rules.specs.Bad.{Seen, applies, name_of, providers_of, has_mid, is_mine, mine, mirror_named}
+use Rattle.gm_rules.specs.Parts.{is_named, is_asked, with_components, part_of, IsPartOf, applies_to_part}
 
 -- ---- lists of which the rest was left out
 

@@ -16,9 +16,8 @@ use Rattle.gm_rules.specs.After.{metas, clears_of, new_mirror, first_component, 
 use Rattle.gm_rules.specs.Bad.{Seen, applies, name_of, providers_of, mine}
 use Rattle.gm_rules.specs.Worlds.{needed_by}
 use Rattle.gm_rules.specs.Decides.{Changed, IsGood}
-use Rattle.gm_rules.specs.Parts.{IsPartOf, IsMade, IsGoodButCount, applies_to_part, asks_count}
+use Rattle.gm_rules.specs.Parts.{IsPartOf, IsMade, IsGoodButCount, applies_to_part}
 use Rattle.gm_rules.specs.Refusals.{own}
-use Rattle.gm_rules.specs.declared.refusals.Refusal.{Refusal}
 use Rattle.gm_rules.proofs.Agreeing.{same_mirror, same_members, same_component, same_mine, same_applies}
 use Rattle.gm_state.proofs.Finding.{found_none}
 use Rattle.gm_rules.proofs.Good.{is_good}

@@ -22,17 +22,22 @@ is_named c m = option_map_or (λ n. same_label m.name n) (name_of c) false
 abbrev pub any_named : Command → List Component → Bool
 any_named c ks = list_any (λ k. list_any (λ p. same_label k.provider p) (providers_of c)) ks
 
--- The command asks for the mirror: it names it, or gives its mid, or that is one of the further mids,
--- or a component of the mirror is on a provider that the command names.
+-- The command asks for the mirror: it names it, or gives its mid, or that is one of the further
+-- mids, or a component of the mirror is on a provider that the command names.
 abbrev pub is_asked : Records → Command → List ℕ → Mirror → Bool
 is_asked s c mids m =
-    ((is_named c m || has_mid c m) || list_any (λ mid. m.mid == mid) mids) || any_named c (members s.components m.name)
+    ((is_named c m || has_mid c m) || list_any (λ mid. m.mid == mid) mids)
+    || any_named c (members s.components m.name)
 
 -- these mirrors, each with all its components
 abbrev pub with_components : List Mirror → List Component → Records
-with_components ms ks = record { mirrors = ms; components = filter (λ k. list_any (λ m. same_label k.mirror m.name) ms) ks }
+with_components ms ks = record {
+  mirrors = ms;
+  components = filter (λ k. list_any (λ m. same_label k.mirror m.name) ms) ks;
+}
 
--- the part of a command: the mirrors that it asks for, each with all its components, in the order in which they stand
+-- the part of a command: the mirrors that it asks for, each with all its components, in the order
+-- in which they stand
 abbrev pub part_of : Records → Command → List ℕ → Records
 part_of s c mids = with_components (filter (is_asked s c mids) s.mirrors) s.components
 
@@ -47,14 +52,17 @@ abbrev pub asks_count : Refusal → Bool
 asks_count TooManyMirrors = true
 asks_count _ = false
 
--- the refusal applies to the command, where a part of the records is known, and how many mirrors there are in all
+-- the refusal applies to the command, where a part of the records is known, and how many mirrors
+-- there are in all
 abbrev pub applies_to_part : Records → ℕ → Seen → Command → Refusal → Bool
 applies_to_part part count x c r = if asks_count r then count == 64 else applies part x c r
 
 -- of the refusals that the command lists, those that don't ask for the count don't apply
 abbrev pub IsGoodButCount : Records → Seen → Command → Type 0
-IsGoodButCount part x c = (r : Refusal) → Has (own c) r → asks_count r ≡ false → applies part x c r ≡ false
+IsGoodButCount part x c =
+    (r : Refusal) → Has (own c) r → asks_count r ≡ false → applies part x c r ≡ false
 
--- the change is what the command makes of each whole state that the part is of, where no refusal applies
+-- the change is what the command makes of each whole state that the part is of, where no refusal
+-- applies
 abbrev pub IsMade : Records → Seen → Command → Changed → Type 0
 IsMade part x c ch = (s : Records) → IsPartOf part c s → IsGood s x c → Makes s x c ch

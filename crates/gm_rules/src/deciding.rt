@@ -33,8 +33,8 @@ pub fn decide(
 ) -> Result<Result<Change, Refusal>, AllocError>
     ensures facts { IfOk result (λ r. Decides state.now (seen_in facts.now) command.now r) }
     // In each world that the state and the facts are of.
-    ensures world { IfOk result (λ r. (u : World) → u.state ≡ state.now → AreFacts facts.now u command.now
-        → Decides u.state (seen_of u) command.now r) }
+    ensures world { IfOk result (λ r. (u : World) → u.state ≡ state.now
+        → AreFacts facts.now u command.now → Decides u.state (seen_of u) command.now r) }
     // Where memory is wanting, no refusal applies.
     ensures memory { OnErr result (IsGood state.now (seen_in facts.now) command.now) }
 {
@@ -43,7 +43,8 @@ pub fn decide(
     Ok(decided)
 }
 
-/// What `decide` answers on a whole state, from the command's part of it and the number of its mirrors.
+/// What `decide` answers on a whole state, from the command's part of it and the number of its
+/// mirrors.
 pub fn decide_part(
     alloc: Global,
     part: &State,
@@ -130,8 +131,10 @@ fn insert(
     priority: u8,
     hardcoded: bool,
 ) -> Result<Change, AllocError>
-    requires { IsGoodButCount part.now (seen_in facts.now) (commands.Insert name provider did priority hardcoded) }
-    ensures { IfOk result (λ ch. IsMade part.now (seen_in facts.now) (commands.Insert name provider did priority hardcoded) ch) }
+    requires { IsGoodButCount part.now (seen_in facts.now)
+        (commands.Insert name provider did priority hardcoded) }
+    ensures { IfOk result (λ ch. IsMade part.now (seen_in facts.now)
+        (commands.Insert name provider did priority hardcoded) ch) }
 {
     let mirror = part.mirror(name).unwrap();
     let sectors = sectors_of(facts, provider);
@@ -148,8 +151,10 @@ fn remove(
     name: Label,
     provider: Label,
 ) -> Result<Change, AllocError>
-    requires { IsGoodButCount part.now (seen_in facts.now) (commands.Remove name provider) }
-    ensures { IfOk result (λ ch. IsMade part.now (seen_in facts.now) (commands.Remove name provider) ch) }
+    requires { IsGoodButCount part.now (seen_in facts.now)
+        (commands.Remove name provider) }
+    ensures { IfOk result (λ ch. IsMade part.now (seen_in facts.now)
+        (commands.Remove name provider) ch) }
 {
     let mirror = part.mirror(name).unwrap();
     let members = part.members(alloc, name)?;
@@ -158,8 +163,10 @@ fn remove(
 }
 
 fn destroy(alloc: Global, part: &State, facts: &Facts, name: Label) -> Result<Change, AllocError>
-    requires { IsGoodButCount part.now (seen_in facts.now) (commands.Destroy name) }
-    ensures { IfOk result (λ ch. IsMade part.now (seen_in facts.now) (commands.Destroy name) ch) }
+    requires { IsGoodButCount part.now (seen_in facts.now)
+        (commands.Destroy name) }
+    ensures { IfOk result (λ ch. IsMade part.now (seen_in facts.now)
+        (commands.Destroy name) ch) }
 {
     let members = part.members(alloc, name)?;
     let change = destroyed(alloc, name, &members)?;

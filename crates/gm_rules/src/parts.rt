@@ -1,4 +1,5 @@
-//! The part of the records that a command asks for: what is decided on it is what is decided on them all.
+//! The part of the records that a command asks for: what is decided on it is what is decided on
+//! them all.
 
 ghost use Rattle.std.specs.Prelude.{◌≡◌, ◌==◌, ℕ, List, IfOk, filter};
 ghost use Rattle.std.specs.List.{list_any};
@@ -12,8 +13,8 @@ use gm_metadata::Label;
 use gm_state::{Command, Component, Mirror, State};
 use std::alloc::{AllocError, Global};
 
-/// The part of a command: each mirror that it names, whose mid it gives or that has one of the further mids, or that a
-/// named provider is a component of, with all its components.
+/// The part of a command: each mirror that it names, whose mid it gives or that has one of the
+/// further mids, or that a named provider is a component of, with all its components.
 pub fn part(
     alloc: Global,
     state: &State,
@@ -72,7 +73,8 @@ fn asked(
     command: &Command,
     mids: &[u32],
 ) -> Result<Vec<Mirror>, AllocError>
-    ensures { IfOk result (λ v. v.items ≡ filter (is_asked state.now command.now mids.now) state.now.mirrors) }
+    ensures { IfOk result (λ v. v.items ≡ filter (is_asked state.now command.now mids.now)
+        state.now.mirrors) }
 {
     state
         .mirrors()

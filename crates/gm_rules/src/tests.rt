@@ -1,6 +1,6 @@
 //! Each refusal by an example that meets just it, the least where two apply, and the changes of accepted commands.
 
-use crate::{Change, Fact, Facts, Refusal, decide};
+use crate::{Change, Fact, Facts, Refusal, decide, decide_part, part};
 use gm_metadata::{Balance, Label, MirrorFlags, encode};
 use gm_state::{
     BalanceWord, Command, Component, Disk, Intent, Mirror, Reply, Slice, State, metadata,
@@ -129,6 +129,16 @@ fn destroy_of(name: &str) -> Result<Command, Fail> {
     Ok(Command::Destroy { name: label(name)? })
 }
 
+fn is_same(a: &Change, b: &Change) -> bool {
+    a.mirror() == b.mirror()
+        && a.gone_mirror() == b.gone_mirror()
+        && a.components() == b.components()
+        && a.gone_components() == b.gone_components()
+        && a.intents() == b.intents()
+        && a.reply() == b.reply()
+}
+
+// What is decided on the whole state, which is what is decided on the command's part of it.
 fn decided(
     alloc: Global,
     state: &State,
@@ -136,7 +146,19 @@ fn decided(
     command: &Command,
 ) -> Result<Result<Change, Refusal>, Fail> {
     let facts = Facts::new(facts.to_vec(alloc)?);
-    Ok(decide(alloc, state, &facts, command)?)
+    let part = part(alloc, state, command, &[])?;
+    let count = state.mirrors().len() as u64;
+    let on_part = decide_part(alloc, &part, count, &facts, command)?;
+    let on_whole = decide(alloc, state, &facts, command)?;
+    let same = match (&on_part, &on_whole) {
+        (Ok(a), Ok(b)) => is_same(a, b),
+        (Err(a), Err(b)) => a == b,
+        _ => false,
+    };
+    if !same {
+        Err("another answer on the part")?;
+    }
+    Ok(on_whole)
 }
 
 fn change(alloc: Global, state: &State, facts: &[Fact], command: &Command) -> Result<Change, Fail> {
@@ -466,4 +488,85 @@ fn destroys_a_mirror(rt: HostRuntime) -> Result<(), Fail> {
         &destroy_of("gm0")?,
         8,
     )
+}
+
+fn expect_mirrors(rt: &impl Abort, part: &State, names: &[&str]) -> Result<(), Fail> {
+    assert_eq!(rt; part.mirrors().len(), names.len());
+    for (mirror, name) in part.mirrors().iter().zip(names) {
+        assert_eq!(rt; mirror.name, label(name)?);
+    }
+    Ok(())
+}
+
+#[test]
+fn a_part_has_the_mirrors_that_a_command_asks_for(rt: HostRuntime) -> Result<(), Fail> {
+    let alloc = rt.alloc();
+    let state = state(
+        alloc,
+        &[
+            mirror("gm0", 7, 1)?,
+            mirror("gm1", 8, 2)?,
+            mirror("gm2", 9, 1)?,
+            mirror("gm3", 10, 1)?,
+        ],
+        &[
+            component("gm0", "a.img", 1)?,
+            component("gm1", "b.img", 1)?,
+            component("gm1", "c.img", 2)?,
+            component("gm2", "d.img", 1)?,
+            component("gm3", "e.img", 1)?,
+        ],
+    )?;
+    // It names gm0, gives the mid of gm2, and c.img is a component of gm1.
+    let command = label_of("gm0", "c.img", 9)?;
+    let part_of_label = part(alloc, &state, &command, &[])?;
+    expect_mirrors(&rt, &part_of_label, &["gm0", "gm1", "gm2"])?;
+    assert_eq!(rt;
+        part_of_label.components(),
+        [
+            component("gm0", "a.img", 1)?,
+            component("gm1", "b.img", 1)?,
+            component("gm1", "c.img", 2)?,
+            component("gm2", "d.img", 1)?,
+        ]
+        .as_slice()
+    );
+    // The mid of gm3 is one of the further mids.
+    let part_of_clear = part(alloc, &state, &clear_of("a.img")?, &[10, 11])?;
+    expect_mirrors(&rt, &part_of_clear, &["gm0", "gm3"])?;
+    let part_of_nothing = part(alloc, &state, &clear_of("f.img")?, &[])?;
+    expect_mirrors(&rt, &part_of_nothing, &[])
+}
+
+#[test]
+fn a_part_answers_for_the_whole(rt: HostRuntime) -> Result<(), Fail> {
+    let alloc = rt.alloc();
+    let state = state(
+        alloc,
+        &[mirror("gm0", 7, 2)?, mirror("gm1", 8, 1)?],
+        &[
+            component("gm0", "a.img", 1)?,
+            component("gm0", "b.img", 2)?,
+            component("gm1", "c.img", 1)?,
+        ],
+    )?;
+    let facts = Facts::new(vec![in alloc; carrying("c.img", 4)?]?);
+    let command = clear_of("c.img")?;
+    let part = part(alloc, &state, &command, &[])?;
+    match decide_part(alloc, &part, 2, &facts, &command)? {
+        Ok(_) => Err("accepted")?,
+        Err(refusal) => assert_eq!(rt; refusal, Refusal::ProviderTaken),
+    }
+    // One mirror is in the part of this label, and 64 are told of.
+    let facts = Facts::new(vec![in alloc; bare("d.img", 4)?]?);
+    let command = label_of("gm2", "d.img", 9)?;
+    match decide_part(alloc, &part, 64, &facts, &command)? {
+        Ok(_) => Err("accepted")?,
+        Err(refusal) => assert_eq!(rt; refusal, Refusal::TooManyMirrors),
+    }
+    match decide_part(alloc, &part, 63, &facts, &command)? {
+        Ok(change) => assert_eq!(rt; change.mirror(), Some(mirror("gm2", 9, 1)?)),
+        Err(_) => Err("refused")?,
+    }
+    Ok(())
 }

@@ -1,4 +1,4 @@
-use Rattle.std.proofs.Common.{◌≡◌, ◌∙◌, refl, sym, ap, length, subst}
+use Rattle.std.proofs.Common.{◌∙◌, sym, ap, length, subst}
 use Rattle.gm_state.specs.Records.{Records}
 use Rattle.gm_rules.specs.Bad.{seen_in}
 use Rattle.gm_rules.specs.Decides.{IsGood}
