@@ -1,5 +1,5 @@
 -- What a command asks for is found in its part as in the whole state.
-use Rattle.std.proofs.Common.{◌≡◌, ◌∙◌, inl, inr, ℕ, ◌≤◌, ◌==◌, ◌||◌, Bool, true, false, refl, sym, ap, List, [], ◌∷◌, Option, Some, None, filter, find, map, length, is_none, is_some, eq-eqb, arith}
+use Rattle.std.proofs.Common.{◌≡◌, ◌∙◌, inl, inr, ℕ, ◌≤◌, ◌==◌, ◌||◌, Bool, true, false, refl, sym, ap, subst, List, [], ◌∷◌, Option, Some, None, filter, find, map, length, is_none, is_some, eq-eqb, arith}
 use Rattle.std.specs.Prelude.{option_and_then}
 use Rattle.std.specs.List.{list_any}
 use Rattle.std.proofs.lemmas.Bool.{cases_Bool, or_left, or_right}
@@ -9,6 +9,7 @@ use Rattle.gm_state.specs.declared.records.Mirror.{Mirror}
 use Rattle.gm_state.specs.declared.records.Component.{Component}
 use Rattle.gm_state.specs.Words.{Has}
 use Rattle.gm_state.specs.Records.{Records, IsState, members, name, provider}
+use Rattle.gm_state.specs.Intents.{IsOf}
 use Rattle.gm_state.specs.Lookups.{mirror_of, component_of}
 use Rattle.gm_state.proofs.Order.{same_from, same_is}
 use Rattle.gm_state.proofs.Words.{Has-filter, filter-Has, Ascends-filter, filter_id, length-filter_le}
@@ -93,6 +94,13 @@ module _ (s : Records) (c : Command) (mids : List ℕ) (state : IsState s) where
   same_members n e = filter_within (λ (k : Component). same_label k.mirror n) is_kept s.components (λ k h t.
       let home = state.homes k h in
       keeps k home.0 home.1 home.2 (asked_name n e home.0 (home.2 ∙ same_is k.mirror n t)))
+
+  -- a component of the named mirror is one of the part
+  pub of_part : (n : List ℕ) → name_of c ≡ Some n → (m : Mirror) (k : Component) → IsOf s m k → m.name ≡ n → IsOf (part_of s c mids) m k
+  of_part n e m k o is = record {
+    mirror = filter-Has (is_asked s c mids) s.mirrors m o.mirror (asked_name n e m is);
+    component = subst (λ (x : List ℕ). Has (members (part_of s c mids).components x) k) (sym is) (subst (λ (l : List Component). Has l k) (sym (same_members n e)) (subst (λ (x : List ℕ). Has (members s.components x) k) is o.component));
+  }
 
   pub same_component : (p : List ℕ) → Has (providers_of c) p → component_of (part_of s c mids) p ≡ component_of s p
   same_component p i = find_within (λ (k : Component). same_label k.provider p) is_kept s.components (λ k h t.

@@ -121,8 +121,9 @@ module _ (u : World) (key : List ℕ) (m : Mirror) (sound : Sound u) (here : Has
   of_old : (P : List ℕ → Type 0) → ((k : Component) → Has old k → P k.provider) → (q : List ℕ) → gone q ≡ true → P q
   of_old P each q e = let some = some_any (λ (k : Component). same_label k.provider q) old e in subst P (same_is some.0.provider q some.2) (each some.0 some.1)
 
-  serves : Serves u (Destroy m.name) []
+  serves : Serves u (Destroy m.name) m []
   serves = record {
+    named = λ k h. absurd h;
     written = λ k h. absurd h;
     cleared = of_old (λ q. IsSomeAnd (present u q) (λ x. 0 < x)) (λ k h. some_and (present u k.provider) k.sectors (λ x. 0 < x) (there k h) (let b : m.data_sectors + 1 ≤ k.sectors = rules.sizes k h in omega arith));
     labels = of_old (λ q. IsTrue (is_label q)) (λ k h. (rules.members_fit k h).provider);

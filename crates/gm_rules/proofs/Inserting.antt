@@ -117,8 +117,9 @@ module _ (u : World) (key : List ℕ) (m : Mirror) (p : List ℕ) (did priority 
     copied = λ q j e. refl;
   }
 
-  serves : (n : List ℕ) → Serves u (Insert n p did priority h) ks
-  serves n = record {
+  serves : (n : List ℕ) → m.name ≡ n → Serves u (Insert n p did priority h) m' ks
+  serves n is = record {
+    named = λ j i. ap Some (sym is);
     written = each (λ j. IsSomeAnd (present u j.provider) (λ x. 0 < x))
         (some_and (present u p) sectors (λ x. 0 < x) can.size (let b : m.data_sectors + 1 ≤ sectors = can.big in omega arith))
         (λ j o. some_and (present u j.provider) j.sectors (λ x. 0 < x) (can.there j o) (let b : m.data_sectors + 1 ≤ j.sectors = rules.sizes j o in omega arith));
@@ -129,7 +130,7 @@ module _ (u : World) (key : List ℕ) (m : Mirror) (p : List ℕ) (did priority 
 
   insert_plan : (n : List ℕ) → mirror_of u.state n ≡ Some m → IsGood u.state (seen_of u) (Insert n p did priority h) → CanAnswer u key (Insert n p did priority h) → HasPlan u key (Insert n p did priority h)
   insert_plan n found good answer =
-      has u key (Insert n p did priority h) m' ks (u.holds m.name) s (metas ks) sound turns writes (adjusts_were u m m' comps ks sound can.here adjusts) (metas_plain ks) (serves n) answer
+      has u key (Insert n p did priority h) m' ks (u.holds m.name) s (metas ks) sound turns writes (adjusts_were u m m' comps ks sound can.here adjusts) (metas_plain ks) (serves n (named u.state n m found).1) answer
       (rw (found, can.size) refl)
       (let at : members comps n ≡ ks = rw (← (named u.state n m found).1) adjusts.mine in ap metas (sym at))
       good tt

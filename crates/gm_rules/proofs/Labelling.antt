@@ -149,8 +149,9 @@ module _ (u : World) (key n p : List ℕ) (mid did : ℕ) (balance : BalanceWord
     size_stays = λ a i e. absurd (can.new a i e);
   }
 
-  serves : Serves u (Label n p mid did balance slice flags h) ks
+  serves : Serves u (Label n p mid did balance slice flags h) m ks
   serves = record {
+    named = λ j i. refl;
     written = only (λ j. IsSomeAnd (present u j.provider) (λ x. 0 < x)) (some_and (present u p) sectors (λ x. 0 < x) can.size (let b : 2 ≤ sectors = can.big in omega arith));
     cleared = λ q e. absurd (let f : ⊥ = cc in f);
     labels = λ q e. absurd (let f : ⊥ = cc in f);

@@ -12,7 +12,7 @@ use Rattle.gm_state.specs.declared.command.Intent.TheVariants.{Meta, Clear, Copy
 use Rattle.gm_state.specs.declared.records.Mirror.{Mirror}
 use Rattle.gm_state.specs.declared.records.Component.{Component}
 use Rattle.gm_state.specs.Words.{Has}
-use Rattle.gm_state.specs.Records.{Records}
+use Rattle.gm_state.specs.Records.{Records, members}
 use Rattle.gm_state.specs.Intents.{is_last, any_copies, InOrder, Lends, IsAtHand}
 use Rattle.gm_state.specs.Readable.{is_copy, is_copy_to, IsReadable, AreOrdered, AreReadable}
 use Rattle.gm_state.specs.World.{World, Sound, ReplyFits, present}
@@ -20,9 +20,9 @@ use Rattle.gm_state.proofs.Order.{same_is, same_from, same_refl, same_tells, dif
 use Rattle.gm_metadata.specs.Sector.{carries}
 use Rattle.gm_state.proofs.Codec.{bears_carries}
 use Rattle.gm_rules.specs.After.{after, clears, intents_of, reply_to}
-use Rattle.gm_rules.specs.Bad.{applies}
+use Rattle.gm_rules.specs.Bad.{applies, name_of, is_mine}
 use Rattle.gm_rules.specs.Decides.{IsGood}
-use Rattle.gm_rules.specs.Step.{Plan, NewData, CanAnswer, HasPlan, NewAreBare, WereBare, is_changed, answer}
+use Rattle.gm_rules.specs.Step.{Plan, IsOwn, NewData, CanAnswer, HasPlan, NewAreBare, WereBare, is_changed, answer}
 use Rattle.gm_rules.specs.Worlds.{seen_of}
 use Rattle.gm_rules.proofs.Answering.{answers_after}
 use Rattle.gm_state.proofs.Finding.{any_from, find_none, found, found_none, not_both, option_cases}
@@ -102,15 +102,17 @@ no_copy (Copy a b c d ∷ ts) h = absurd (h (Copy a b c d) (inl refl))
 plain_readable : (s : Records) (ts : List Intent) → ArePlain ts → ((t : Intent) → Has ts t → IsReadable s t) → AreReadable s ts
 plain_readable s ts plain each = record { each = each; one_copy = (let e : length (filter is_copy ts) ≡ 0 = ap length (no_copy ts plain) in omega (arith, e)); ordered = ordered ts plain }
 
--- What the refusals and the words of a command give its intents: the providers of the components that it writes are
+-- What the refusals and the words of a command give its intents: it names the mirror of the components that it writes,
+-- the providers of the components that it writes are
 -- there, and so are those that it clears, whose names are labels; its reply fits.
-pub record Serves (u : World) (c : Command) (ks : List Component) : Type 0 where
+pub record Serves (u : World) (c : Command) (m : Mirror) (ks : List Component) : Type 0 where
+  pub named : (k : Component) → Has ks k → name_of c ≡ Some m.name
   pub written : (k : Component) → Has ks k → IsSomeAnd (present u k.provider) (λ n. 0 < n)
   pub cleared : (q : List ℕ) → clears u.state c q ≡ true → IsSomeAnd (present u q) (λ n. 0 < n)
   pub labels : (q : List ℕ) → clears u.state c q ≡ true → IsTrue (is_label q)
   pub reply : ReplyFits (reply_to c u.state)
 
-module _ (u : World) (key : List ℕ) (c : Command) (m : Mirror) (ks : List Component) (list : ℕ → List ℕ) (s : Records) (ts : List Intent) (sound : Sound u) (t : Turns u u.shelf m ks (clears u.state c) list s) (writes : Writes u u.shelf m ks (clears u.state c) ts) (were : Were u m ks list) (plain : ArePlain ts) (serves : Serves u c ks) (can : CanAnswer u key c) where
+module _ (u : World) (key : List ℕ) (c : Command) (m : Mirror) (ks : List Component) (list : ℕ → List ℕ) (s : Records) (ts : List Intent) (sound : Sound u) (t : Turns u u.shelf m ks (clears u.state c) list s) (writes : Writes u u.shelf m ks (clears u.state c) ts) (were : Were u m ks list) (plain : ArePlain ts) (serves : Serves u c m ks) (can : CanAnswer u key c) where
   abbrev gone : List ℕ → Bool
   gone = clears u.state c
 
@@ -171,6 +173,15 @@ module _ (u : World) (key : List ℕ) (c : Command) (m : Mirror) (ks : List Comp
   hand_one (Clear p) plain one = serves.cleared p one
   hand_one (Copy a b x y) plain one = absurd plain
 
+  own_one : (p : List ℕ) → IsOne u u.shelf ks gone (Meta p) → IsOwn s c p
+  own_one p one =
+      let k : Component = one.0 in
+      let all : Has (members s.components m.name) k = subst (λ (l : List Component). Has l k) (sym t.mine) one.1 in
+      (k, subst (λ (o : Option (List ℕ)). Has (filter (λ j. is_mine o j) s.components) k) (sym (serves.named k one.1)) all, one.2)
+
+  is_own : (p : List ℕ) → Has ts (Meta p) → IsOwn s c p
+  is_own p h = own_one p (writes.each (Meta p) h)
+
   is_at_hand : (r : Intent) → Has ts r → IsAtHand (present u) r
   is_at_hand r h = hand_one r (plain r h) (writes.each r h)
 
@@ -199,6 +210,7 @@ module _ (u : World) (key : List ℕ) (c : Command) (m : Mirror) (ks : List Comp
     claims = claims_after u u.shelf m ks gone list s sound t were;
     readable = plain_readable s ts plain is_readable;
     at_hand = is_at_hand;
+    own = is_own;
     copies = λ a k o i e. not_both (any_copies ts k.provider i) e (no_copies ts plain k.provider i);
     bare = bare;
   }

@@ -126,8 +126,9 @@ module _ (u : World) (key : List ℕ) (m : Mirror) (p : List ℕ) (sound : Sound
   has_sectors : (j : Component) → Has old j → IsSomeAnd (present u j.provider) (λ x. 0 < x)
   has_sectors j o = some_and (present u j.provider) j.sectors (λ x. 0 < x) (can.there j o) (let b : m.data_sectors + 1 ≤ j.sectors = rules.sizes j o in omega arith)
 
-  serves : (n : List ℕ) → IsTrue (is_label p) → Serves u (Remove n p) ks
-  serves n label = record {
+  serves : (n : List ℕ) → m.name ≡ n → IsTrue (is_label p) → Serves u (Remove n p) m' ks
+  serves n is label = record {
+    named = λ j i. ap Some (sym is);
     written = λ j i. has_sectors j (is_old j i);
     cleared = λ q e. subst (λ (x : List ℕ). IsSomeAnd (present u x) (λ y. 0 < y)) (can.member.2 ∙ same_is p q e) (has_sectors can.member.0 can.member.1);
     labels = λ q e. subst (λ (x : List ℕ). IsTrue (is_label x)) (same_is p q e) label;
@@ -136,7 +137,7 @@ module _ (u : World) (key : List ℕ) (m : Mirror) (p : List ℕ) (sound : Sound
 
   remove_plan : (n : List ℕ) → mirror_of u.state n ≡ Some m → IsGood u.state (seen_of u) (Remove n p) → CanAnswer u key (Remove n p) → HasPlan u key (Remove n p)
   remove_plan n found good answer =
-      has u key (Remove n p) m' ks (u.holds m.name) s (Clear p ∷ metas ks) sound turns writes (adjusts_were u m m' comps ks sound can.here adjusts) (one_plain (Clear p) tt (metas ks) (metas_plain ks)) (serves n answer.fits.1) answer
+      has u key (Remove n p) m' ks (u.holds m.name) s (Clear p ∷ metas ks) sound turns writes (adjusts_were u m m' comps ks sound can.here adjusts) (one_plain (Clear p) tt (metas ks) (metas_plain ks)) (serves n (named u.state n m found).1 answer.fits.1) answer
       (rw found refl)
       (let at : members comps n ≡ ks = rw (← (named u.state n m found).1) adjusts.mine in ap (λ (js : List Component). Clear p ∷ metas js) (sym at))
       good tt (λ j i. inl (Has-filter stays u.state.components j i).0)

@@ -78,8 +78,9 @@ module _ (u : World) (key p : List ℕ) (sound : Sound u) (fresh : (k : Componen
     size_stays = λ a h e. absurd (has_name a h e);
   }
 
-  serves : IsTrue (is_label p) → Serves u (commands.Clear p) []
+  serves : IsTrue (is_label p) → Serves u (commands.Clear p) nobody []
   serves label = record {
+    named = λ k h. absurd h;
     written = λ k h. absurd h;
     cleared = λ q e. subst (λ (x : List ℕ). IsSomeAnd (present u x) (λ y. 0 < y)) (same_is p q e) (some_and (present u p) sectors (λ y. 0 < y) size some);
     labels = λ q e. subst (λ (x : List ℕ). IsTrue (is_label x)) (same_is p q e) label;

@@ -8,6 +8,7 @@ use Rattle.gm_metadata.specs.declared.metadata.Metadata.{Metadata}
 use Rattle.gm_state.specs.declared.command.Command.{Command}
 use Rattle.gm_state.specs.declared.command.Command.TheVariants as commands
 use Rattle.gm_state.specs.declared.command.Intent.{Intent}
+use Rattle.gm_state.specs.declared.command.Intent.TheVariants.{Meta}
 use Rattle.gm_state.specs.declared.command.Reply.{Reply}
 use Rattle.gm_state.specs.declared.records.Mirror.{Mirror}
 use Rattle.gm_state.specs.declared.records.Component.{Component}
@@ -19,7 +20,8 @@ use Rattle.gm_state.specs.Readable.{AreReadable}
 use Rattle.gm_state.specs.World.{World, Answered, Sound, Claims, CopiesData, is_key, present}
 use Rattle.gm_rules.specs.declared.refusals.Refusal.{Refusal}
 use Rattle.gm_rules.specs.Refusals.{own}
-use Rattle.gm_rules.specs.Bad.{applies}
+use Rattle.gm_state.specs.Records.{Records}
+use Rattle.gm_rules.specs.Bad.{applies, mine}
 use Rattle.gm_rules.specs.Worlds.{seen_of}
 use Rattle.gm_rules.specs.After.{after, intents_of, reply_to, clears}
 
@@ -75,9 +77,14 @@ WereBare (commands.Label n p mid did balance slice flags hardcoded) u w = NewAre
 WereBare (commands.Insert n p did priority hardcoded) u w = NewAreBare u w
 WereBare _ u w = Unit {0}
 
+-- the provider is that of a component of the mirror that the command names
+abbrev pub IsOwn : Records → Command → List ℕ → Type 0
+IsOwn s c p = (k : Component) × Has (mine s c) k × (k.provider ≡ p)
+
 -- The intents ts carry out the command's step from u to w: they name every sector that it changes and say what w holds there,
 -- no source of a copy is a place, data come before claims, and what was claimed on the way stays true. A registry that
--- keeps them can be read again, what they read and write is there, and what they copy is the data of the mirror.
+-- keeps them can be read again, what they read and write is there, they write metadata of the command's mirror alone,
+-- and what they copy is the data of the mirror.
 pub record Plan (u : World) (key : List ℕ) (c : Command) (ts : List Intent) (w : World) : Type 0 where
   pub step : Step u key c w (reply_to c u.state)
   pub sound : Sound w
@@ -86,6 +93,7 @@ pub record Plan (u : World) (key : List ℕ) (c : Command) (ts : List Intent) (w
   pub claims : Claims u w.shelf
   pub readable : AreReadable w.state ts
   pub at_hand : (t : Intent) → Has ts t → IsAtHand (present u) t
+  pub own : (p : List ℕ) → Has ts (Meta p) → IsOwn w.state c p
   pub copies : CopiesData u w ts
   pub bare : WereBare c u w
 
