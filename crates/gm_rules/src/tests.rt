@@ -490,10 +490,36 @@ fn destroys_a_mirror(rt: HostRuntime) -> Result<(), Fail> {
     )
 }
 
-fn expect_mirrors(rt: &impl Abort, part: &State, names: &[&str]) -> Result<(), Fail> {
-    assert_eq!(rt; part.mirrors().len(), names.len());
-    for (mirror, name) in part.mirrors().iter().zip(names) {
+// A state of mirrors by name, mid and count, and components by mirror, provider and did.
+fn state_of(
+    alloc: Global,
+    mirrors: &[(&str, u32, u8)],
+    components: &[(&str, &str, u32)],
+) -> Result<State, Fail> {
+    let mut all_mirrors = Vec::new(alloc);
+    for (name, mid, all) in mirrors {
+        all_mirrors.push(mirror(name, *mid, *all)?)?;
+    }
+    let mut all_components = Vec::new(alloc);
+    for (name, provider, did) in components {
+        all_components.push(component(name, provider, *did)?)?;
+    }
+    Ok(State::new(all_mirrors, all_components).ok_or("no state")?)
+}
+
+fn expect_records(
+    rt: &impl Abort,
+    state: &State,
+    mirrors: &[&str],
+    components: &[&str],
+) -> Result<(), Fail> {
+    assert_eq!(rt; state.mirrors().len(), mirrors.len());
+    for (mirror, name) in state.mirrors().iter().zip(mirrors) {
         assert_eq!(rt; mirror.name, label(name)?);
+    }
+    assert_eq!(rt; state.components().len(), components.len());
+    for (component, provider) in state.components().iter().zip(components) {
+        assert_eq!(rt; component.provider, label(provider)?);
     }
     Ok(())
 }
@@ -501,72 +527,37 @@ fn expect_mirrors(rt: &impl Abort, part: &State, names: &[&str]) -> Result<(), F
 #[test]
 fn a_part_has_the_mirrors_that_a_command_asks_for(rt: HostRuntime) -> Result<(), Fail> {
     let alloc = rt.alloc();
-    let state = state(
+    let state = state_of(
         alloc,
+        &[("gm0", 7, 1), ("gm1", 8, 2), ("gm2", 9, 1), ("gm3", 10, 1)],
         &[
-            mirror("gm0", 7, 1)?,
-            mirror("gm1", 8, 2)?,
-            mirror("gm2", 9, 1)?,
-            mirror("gm3", 10, 1)?,
-        ],
-        &[
-            component("gm0", "a.img", 1)?,
-            component("gm1", "b.img", 1)?,
-            component("gm1", "c.img", 2)?,
-            component("gm2", "d.img", 1)?,
-            component("gm3", "e.img", 1)?,
+            ("gm0", "a.img", 1),
+            ("gm1", "b.img", 1),
+            ("gm1", "c.img", 2),
+            ("gm2", "d.img", 1),
+            ("gm3", "e.img", 1),
         ],
     )?;
     // It names gm0, gives the mid of gm2, and c.img is a component of gm1.
-    let command = label_of("gm0", "c.img", 9)?;
-    let part_of_label = part(alloc, &state, &command, &[])?;
-    expect_mirrors(&rt, &part_of_label, &["gm0", "gm1", "gm2"])?;
-    assert_eq!(rt;
-        part_of_label.components(),
-        [
-            component("gm0", "a.img", 1)?,
-            component("gm1", "b.img", 1)?,
-            component("gm1", "c.img", 2)?,
-            component("gm2", "d.img", 1)?,
-        ]
-        .as_slice()
-    );
+    let of_label = part(alloc, &state, &label_of("gm0", "c.img", 9)?, &[])?;
+    let providers = ["a.img", "b.img", "c.img", "d.img"];
+    expect_records(&rt, &of_label, &["gm0", "gm1", "gm2"], &providers)?;
     // The mid of gm3 is one of the further mids.
-    let part_of_clear = part(alloc, &state, &clear_of("a.img")?, &[10, 11])?;
-    expect_mirrors(&rt, &part_of_clear, &["gm0", "gm3"])?;
-    let part_of_nothing = part(alloc, &state, &clear_of("f.img")?, &[])?;
-    expect_mirrors(&rt, &part_of_nothing, &[])
+    let of_clear = part(alloc, &state, &clear_of("a.img")?, &[10, 11])?;
+    expect_records(&rt, &of_clear, &["gm0", "gm3"], &["a.img", "e.img"])?;
+    let of_none = part(alloc, &state, &clear_of("f.img")?, &[])?;
+    expect_records(&rt, &of_none, &[], &[])
 }
 
 #[test]
-fn a_part_answers_for_the_whole(rt: HostRuntime) -> Result<(), Fail> {
+fn the_count_of_all_mirrors_is_handed_in(rt: HostRuntime) -> Result<(), Fail> {
     let alloc = rt.alloc();
-    let state = state(
-        alloc,
-        &[mirror("gm0", 7, 2)?, mirror("gm1", 8, 1)?],
-        &[
-            component("gm0", "a.img", 1)?,
-            component("gm0", "b.img", 2)?,
-            component("gm1", "c.img", 1)?,
-        ],
-    )?;
-    let facts = Facts::new(vec![in alloc; carrying("c.img", 4)?]?);
-    let command = clear_of("c.img")?;
-    let part = part(alloc, &state, &command, &[])?;
-    match decide_part(alloc, &part, 2, &facts, &command)? {
-        Ok(_) => Err("accepted")?,
-        Err(refusal) => assert_eq!(rt; refusal, Refusal::ProviderTaken),
-    }
-    // One mirror is in the part of this label, and 64 are told of.
+    let part = labelled(alloc)?;
     let facts = Facts::new(vec![in alloc; bare("d.img", 4)?]?);
     let command = label_of("gm2", "d.img", 9)?;
-    match decide_part(alloc, &part, 64, &facts, &command)? {
-        Ok(_) => Err("accepted")?,
-        Err(refusal) => assert_eq!(rt; refusal, Refusal::TooManyMirrors),
-    }
-    match decide_part(alloc, &part, 63, &facts, &command)? {
-        Ok(change) => assert_eq!(rt; change.mirror(), Some(mirror("gm2", 9, 1)?)),
-        Err(_) => Err("refused")?,
-    }
+    let full = decide_part(alloc, &part, 64, &facts, &command)?;
+    assert_eq!(rt; full.err(), Some(Refusal::TooManyMirrors));
+    let room = decide_part(alloc, &part, 63, &facts, &command)?;
+    assert!(rt; room.is_ok());
     Ok(())
 }
