@@ -1,10 +1,12 @@
 -- Answered keys with one row are one.
-use Rattle.std.proofs.Common.{◌≡◌, ◌∙◌, ℕ, ◌<◌, refl, ap, arith, List}
+use Rattle.std.proofs.Common.{rules, ◌≡◌, ◌∙◌, ℕ, ◌<◌, refl, ap, arith, List}
 use Rattle.gm_state.specs.declared.command.Command.{Command}
 use Rattle.gm_state.specs.declared.command.Reply.{Reply}
 use Rattle.gm_state.specs.declared.command.Reply.TheVariants.{Plain, Copied}
 use Rattle.gm_state.specs.World.{Answered, AnswerFits, ReplyFits}
-use Rattle.gm_state.specs.Rows.{answer_row, copied_of, total_of}
+use Rattle.gm_state.specs.declared.records.Mirror.{Mirror}
+use Rattle.gm_state.specs.declared.records.Component.{Component}
+use Rattle.gm_state.specs.Rows.{mirror_row, component_row, answer_row, copied_of, total_of}
 use Rattle.gm_state.proofs.OneCommand.{same_command}
 
 -- a copy that was answered holds some sectors
@@ -24,3 +26,10 @@ same_answer a b f g e =
     ∙ (ap (λ (x : Command). let r : Answered = record { key = b.key; command = x; number = a.number; reply = a.reply } in r) commands
     ∙ (ap (λ (x : ℕ). let r : Answered = record { key = b.key; command = b.command; number = x; reply = a.reply } in r) numbers
     ∙ ap (λ (x : Reply). let r : Answered = record { key = b.key; command = b.command; number = b.number; reply = x } in r) replies))
+
+-- a row says its mirror, and its component
+pub same_mirror : (a b : Mirror) → mirror_row a ≡ mirror_row b → a ≡ b
+same_mirror a b e = search rules
+
+pub same_component : (a b : Component) → component_row a ≡ component_row b → a ≡ b
+same_component a b e = search rules
