@@ -35,7 +35,8 @@ module _ {H : Type 0} where
     pub uncounted : (is_there → ⊥) → new.failures ≡ old.failures
 
   -- a call passes while some still do, and counts as one of them; then each is stopped
-  pub record PassesOrStops (inner_gives is_there : Type 0) (answer : Answer) (old new : FaultShelf H) : Type 0 where
+  pub record PassesOrStops (inner_gives is_there : Type 0) (answer : Answer)
+      (old new : FaultShelf H) : Type 0 where
     pub passes : 0 < old.passing → IsPassed inner_gives old new
     pub stops : old.passing ≡ 0 → IsStopped is_there answer old new
     pub counts_down : new.passing ≡ old.passing - 1

@@ -1,5 +1,5 @@
 -- What contracts see of a folder of image files.
-use Rattle.std.specs.Prelude.{ℕ, List}
+use Rattle.std.specs.Prelude.{◌≡◌, ℕ, List}
 use Rattle.std.specs.String.{string_bytes}
 use Rattle.gm_shelf.specs.declared.files.FileShelf.{FileShelf}
 
@@ -10,3 +10,8 @@ failures_of shelf = shelf.failures
 -- the path of its folder
 abbrev pub folder_of : {R D : Type 0} → FileShelf R D → List ℕ
 folder_of shelf = string_bytes shelf.files.folder
+
+-- the same images of the same folder
+pub record IsSameFolder {R D : Type 0} (old new : FileShelf R D) : Type 0 where
+  pub folder : folder_of new ≡ folder_of old
+  pub lengths : new.lengths ≡ old.lengths

@@ -1,8 +1,8 @@
 -- One sector that is written and then fixed.
-use Rattle.std.specs.Prelude.{◌≡◌, ◌≤◌, ◌⊎◌, ℕ, List}
+use Rattle.std.specs.Prelude.{◌≡◌, ◌≤◌, ◌⊎◌, ℕ, List, OnOk, OnErr}
 use Rattle.gm_metadata.specs.declared.label.Label.{Label}
 use Rattle.gm_metadata.specs.Images.{Image, Same, put}
-use Rattle.gm_shelf.specs.Disk.{View, Torn, From}
+use Rattle.gm_shelf.specs.Disk.{View, Answer, Torn, From}
 
 -- the sector is old or new, and every other is as it was: in what a read gives, and in each image
 -- that a crash may leave, now or at any moment since
@@ -18,3 +18,12 @@ pub record IsDone (p : Label) (i : ℕ) (s : List ℕ) (old new : View) : Type 0
   pub seen : Same new.seen (put p i s old.seen)
   pub left : (x : Image) → new.may_leave x → From old.may_leave (λ d. Same x (put p i s d))
   pub fixed : (x : Image) → new.may_leave x → (j : ℕ) → x p j ≡ new.seen p j
+
+-- one write, then one sync where the write was done, and nothing else; the answer is that of the last of them
+pub record WritesThenSyncs {S : Type 0} (write_gives sync_gives : Answer → S → S → Type 0)
+    (answer : Answer) (old new : S) : Type 0 where
+  pub between : S
+  pub wrote : Answer
+  pub write : write_gives wrote old between
+  pub failed : OnErr wrote ((answer ≡ wrote) × (new ≡ between))
+  pub synced : OnOk wrote (sync_gives answer between new)

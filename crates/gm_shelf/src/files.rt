@@ -1,6 +1,6 @@
 //! A folder of image files.
 
-ghost use Rattle.std.specs.Prelude.{⊤, ◌≡◌, ◌≢◌, ◌≤◌, ◌<◌, ◌/◌, ◌*◌, ◌↔◌, ℕ, Option, Some, None, IsOk, IfOk, IfErr, IsErrOf};
+ghost use Rattle.std.specs.Prelude.{◌≡◌, ◌≢◌, ◌≤◌, ◌<◌, ◌/◌, ◌*◌, ◌↔◌, ℕ, Option, Some, None, IsOk, IfOk, IfErr, IsErrOf};
 ghost use Rattle.std.specs.IoError.{error_kind};
 ghost use Rattle.std.specs.declared.io.ErrorKind.TheVariants.{OutOfMemory};
 ghost use Rattle.gm_shelf.specs.Disk.{View, faults_after};
@@ -56,6 +56,7 @@ impl<R: Files<File = File> + AllocGlobal + Clone + Drop> OpenFiles<R> {
     // is closed.
     fn with<F: FnOnce(&File) -> io::Result<()>>(&mut self, name: Label, act: F) -> io::Result<()>
         requires { F.IsAlwaysCallable act }
+        ensures { self.new.folder ≡ self.old.folder }
     {
         if let Some(file) = self.opened.get(&name) {
             return act(file);
@@ -175,18 +176,20 @@ fn outcome(done: io::Result<()>, failures: &mut u64) -> Result<(), ShelfFault>
 }
 
 impl<R: Files<File = File> + AllocGlobal + Clone + Drop> Shelf for FileShelf<R> {
+    ghost use Rattle.gm_shelf.specs.FileShelves.{IsSameFolder};
+
     ghost honest = { λ s. ⊥ };
 
     ghost view = { λ s. unknown s.failures };
 
     ghost size = { λ s. sectors_of s.lengths };
 
-    // Nothing is known of its files but what the law says.
-    ghost read_gives = { λ s p i answer out t. ⊤ };
+    // Nothing is known of what its files hold.
+    ghost read_gives = { λ s p i answer out t. IsSameFolder s t };
 
-    ghost write_gives = { λ s p i sector answer t. ⊤ };
+    ghost write_gives = { λ s p i sector answer t. IsSameFolder s t };
 
-    ghost sync_gives = { λ s p answer t. ⊤ };
+    ghost sync_gives = { λ s p answer t. IsSameFolder s t };
 
     ghost lawful = { λ s h. absurd h };
 

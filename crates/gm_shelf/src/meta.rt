@@ -3,7 +3,7 @@
 ghost use Rattle.std.specs.Prelude.{◌≡◌, ◌≤◌, ◌<◌, ◌+◌, ◌↔◌, ◌⊎◌, ℕ, Some, None, OnOk, IsErrOf};
 ghost use Rattle.gm_metadata.specs.Reading.{encoded};
 ghost use Rattle.gm_shelf.specs.Disk.{faults_after};
-ghost use Rattle.gm_shelf.specs.LastSector.{OldOrNew, IsDone};
+ghost use Rattle.gm_shelf.specs.LastSector.{OldOrNew, IsDone, WritesThenSyncs};
 
 use crate::fault::ShelfFault;
 use crate::law::Shelf;
@@ -28,6 +28,11 @@ pub fn write_last<H: Shelf>(
         shelf.new ≡ shelf.old }
     ensures device { IsErrOf result ShelfFault.Device →
         (H.view shelf.old).faults < (H.view shelf.new).faults }
+
+    // It writes once and syncs once, and does nothing else.
+    ensures calls { (i : ℕ) → H.size shelf.old provider ≡ Some (i + 1) → WritesThenSyncs
+        (λ answer old new. H.write_gives old provider i sector.now answer new)
+        (λ answer old new. H.sync_gives old provider answer new) result shelf.old shelf.new }
 
     ensures honest { H.honest shelf.old → H.honest shelf.new }
     ensures size { H.size shelf.new ≡ H.size shelf.old }
@@ -64,6 +69,11 @@ pub fn write_meta<H: Shelf>(
         shelf.new ≡ shelf.old }
     ensures device { IsErrOf result ShelfFault.Device →
         (H.view shelf.old).faults < (H.view shelf.new).faults }
+
+    // It writes once and syncs once, and does nothing else.
+    ensures calls { (i : ℕ) → H.size shelf.old provider ≡ Some (i + 1) → WritesThenSyncs
+        (λ answer old new. H.write_gives old provider i (encoded metadata.now) answer new)
+        (λ answer old new. H.sync_gives old provider answer new) result shelf.old shelf.new }
 
     ensures honest { H.honest shelf.old → H.honest shelf.new }
     ensures size { H.size shelf.new ≡ H.size shelf.old }

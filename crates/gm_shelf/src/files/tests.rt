@@ -189,7 +189,6 @@ fn fill_in_turn(shelf: &mut FileShelf<HostRuntime>, names: &[Label]) -> Result<(
     for place in 0..2 {
         for (i, name) in names.iter().enumerate() {
             shelf.write(*name, place, &[byte_at(i, place); 512])?;
-            shelf.sync(*name)?;
         }
     }
     Ok(())
