@@ -6,6 +6,7 @@
 #![tactic(auto)]
 
 mod change;
+mod changing;
 mod checks;
 mod deciding;
 mod facts;
@@ -18,6 +19,7 @@ mod refusals;
 mod tests;
 
 pub use change::Change;
+pub use changing::changed_by;
 pub use deciding::{decide, decide_part};
 pub use facts::{Fact, Facts};
 pub use laws::every_command_has_a_plan;
