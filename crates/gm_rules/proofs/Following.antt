@@ -14,7 +14,6 @@ use Rattle.gm_state.specs.Words.{Has, put, without}
 use Rattle.gm_state.specs.Records.{Records, IsState, name, provider}
 use Rattle.gm_state.proofs.Order.{same_is}
 use Rattle.gm_state.proofs.Words.{filter-put, filter_swap, length-filter_le}
-use Rattle.gm_rules.specs.declared.refusals.Refusal.{Refusal}
 use Rattle.gm_rules.specs.declared.refusals.Refusal.TheVariants.{NoMirror, NameTaken, MidTaken, Absent, ProviderTaken, CarriesMetadata, TooSmall, NotMember, DidTaken, Full, TooManyMirrors, SomeLost, LastActive, WrongSize, NoMetadata}
 use Rattle.gm_rules.specs.After.{new_mirror, first_component, spare, on_mirror, after}
 use Rattle.gm_rules.specs.Bad.{Seen, name_of, providers_of}

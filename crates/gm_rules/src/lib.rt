@@ -2,7 +2,7 @@
 //!
 //! Begin with `refusals.rt` and `change.rt`, the answers; `deciding.rt` makes them. `checks.rt` has a test for each
 //! refusal, `making.rt` the change of each command. `parts.rt` says which records it
-//! takes to decide, and `needs.rt` which providers.
+//! takes to decide, and `needs.rt` which providers; `changing.rt` makes the change.
 #![tactic(auto)]
 
 mod change;

@@ -1,4 +1,4 @@
-use Rattle.std.proofs.Common.{◌≡◌, ◌∙◌, sym, ap, ap₂, subst}
+use Rattle.std.proofs.Common.{◌≡◌, ◌∙◌, sym, ap₂, subst}
 use Rattle.gm_state.specs.Records.{Records, provider, name}
 use Rattle.gm_state.specs.Words.{Ascends, put_all, without_all}
 use Rattle.gm_rules.specs.Decides.{Changed, changed_by, put_some, without_some}

@@ -1,4 +1,4 @@
-use Rattle.std.proofs.Common.{◌≡◌, ◌∙◌, ap, ap₂, ℕ}
+use Rattle.std.proofs.Common.{◌≡◌, ◌∙◌, ap, ap₂}
 use Rattle.std.specs.List.{insert, prefix_len}
 use Rattle.gm_state.specs.Records.{name}
 use Rattle.gm_state.specs.Words.{label_lt, without}
