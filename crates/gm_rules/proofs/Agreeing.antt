@@ -1,7 +1,8 @@
 -- What a command asks for is found in its part as in the whole state.
-use Rattle.std.proofs.Common.{◌≡◌, ◌∙◌, inl, inr, ℕ, ◌≤◌, ◌==◌, ◌||◌, Bool, true, false, refl, sym, ap, subst, List, [], ◌∷◌, Option, Some, None, filter, find, map, length, is_none, is_some, eq-eqb, arith}
+use Rattle.std.proofs.Common.{◌≡◌, ◌∙◌, inl, inr, ℕ, ◌≤◌, ◌==◌, ◌||◌, Bool, true, false, refl, sym, ap, ap₂, subst, List, [], ◌∷◌, Option, Some, None, filter, find, map, length, is_none, is_some, eq-eqb, arith}
 use Rattle.std.specs.Prelude.{option_and_then}
 use Rattle.std.specs.List.{list_any}
+use Rattle.std.specs.Option.{option_map_or}
 use Rattle.std.proofs.lemmas.Bool.{cases_Bool, or_left, or_right}
 use Rattle.gm_metadata.specs.Images.{same_label}
 use Rattle.gm_state.specs.declared.command.Command.{Command}
@@ -11,9 +12,9 @@ use Rattle.gm_state.specs.Words.{Has}
 use Rattle.gm_state.specs.Records.{Records, IsState, members, name, provider}
 use Rattle.gm_state.specs.Intents.{IsOf}
 use Rattle.gm_state.specs.Lookups.{mirror_of, component_of}
-use Rattle.gm_state.proofs.Order.{same_from, same_is}
-use Rattle.gm_state.proofs.Words.{Has-filter, filter-Has, Ascends-filter, filter_id, length-filter_le}
-use Rattle.gm_state.proofs.Finding.{any_from, some_any, any_agree, Has-map}
+use Rattle.gm_state.proofs.Order.{same_from, same_is, same_refl}
+use Rattle.gm_state.proofs.Words.{Has-filter, filter-Has, Ascends-filter, filter_id, length-filter_le, one}
+use Rattle.gm_state.proofs.Finding.{any_from, some_any, any_agree, filter_agree, not_both, Has-map}
 use Rattle.gm_rules.specs.declared.refusals.Refusal.{Refusal}
 use Rattle.gm_rules.specs.declared.refusals.Refusal.TheVariants.{NoMirror, NameTaken, MidTaken, Absent, ProviderTaken, CarriesMetadata, TooSmall, NotMember, DidTaken, Full, TooManyMirrors, SomeLost, LastActive, WrongSize, NoMetadata}
 use Rattle.gm_rules.specs.Bad.{Seen, applies, name_of, providers_of, has_mid, is_mine, mine, mirror_named}
@@ -32,7 +33,7 @@ module _ {X : Type 0} (p q : X → Bool) where
         | inr t ↦ elim (cases_Bool (q x)) [ inl u ↦ rw (u, t) rest | inr u ↦ rw (u, t) rest ]
       ]
 
-  find_within : (xs : List X) → ((x : X) → Has xs x → p x ≡ true → q x ≡ true) → find p (filter q xs) ≡ find p xs
+  pub find_within : (xs : List X) → ((x : X) → Has xs x → p x ≡ true → q x ≡ true) → find p (filter q xs) ≡ find p xs
   find_within [] h = refl
   find_within (x ∷ xs) h =
       let rest : find p (filter q xs) ≡ find p xs = find_within xs (λ y k. h y (inr k)) in
@@ -57,6 +58,40 @@ module _ {X : Type 0} (p q : X → Bool) where
 no_one : {X : Type 0} (xs : List X) → filter (λ x. false) xs ≡ []
 no_one [] = refl
 no_one (x ∷ xs) = no_one xs
+
+-- ---- the records of the mirrors whose names pass a test
+
+module _ (t : List ℕ → Bool) (s : Records) where
+  abbrev pub by_names : Records
+  by_names = record {
+    mirrors = filter (λ m. t m.name) s.mirrors;
+    components = filter (λ k. t k.mirror) s.components;
+  }
+
+  -- with each of them its components
+  same_of : (n : List ℕ) → t n ≡ true → members by_names.components n ≡ members s.components n
+  same_of n e = filter_within (λ (k : Component). same_label k.mirror n) (λ (k : Component). t k.mirror) s.components (λ k h u. rw (same_is k.mirror n u) e)
+
+  pub by_names_of : (m : Mirror) (k : Component) → IsOf s m k → t m.name ≡ true → IsOf by_names m k
+  by_names_of m k o e = record {
+    mirror = filter-Has (λ (a : Mirror). t a.name) s.mirrors m o.mirror e;
+    component = rw (same_of m.name e) o.component;
+  }
+
+  pub by_names_state : IsState s → IsState by_names
+  by_names_state state = record {
+    mirrors_in_order = Ascends-filter (λ (m : Mirror). t m.name) name s.mirrors state.mirrors_in_order;
+    components_in_order = Ascends-filter (λ (k : Component). t k.mirror) provider s.components state.components_in_order;
+    count = (let less : length by_names.mirrors ≤ length s.mirrors = length-filter_le (λ (m : Mirror). t m.name) s.mirrors in let most : length s.mirrors ≤ 64 = state.count in omega arith);
+    each = λ m h.
+        let r = Has-filter (λ (a : Mirror). t a.name) s.mirrors m h in
+        rw (same_of m.name r.1) (state.each m r.0);
+    mids = λ a b h k e. state.mids a b (Has-filter (λ (m : Mirror). t m.name) s.mirrors a h).0 (Has-filter (λ (m : Mirror). t m.name) s.mirrors b k).0 e;
+    homes = λ k h.
+        let r = Has-filter (λ (j : Component). t j.mirror) s.components k h in
+        let home = state.homes k r.0 in
+        (home.0, filter-Has (λ (m : Mirror). t m.name) s.mirrors home.0 home.1 (rw home.2 r.1), home.2);
+  }
 
 -- ---- what the command asks for
 
@@ -142,24 +177,54 @@ module _ (s : Records) (c : Command) (mids : List ℕ) (state : IsState s) where
   same_applies count is x WrongSize = refl
   same_applies count is x NoMetadata = refl
 
-  -- ---- the part is a state
+  -- ---- the part has the mirrors of these names, and is a state
+
+  -- a mirror that the command names, or one that is kept
+  abbrev pub chosen : List ℕ → Bool
+  chosen n = option_map_or (λ a. same_label n a) (name_of c) false || list_any (λ m. same_label n m.name) kept
+
+  -- of a mirror's name there is one that is kept just where it is asked for
+  kept_is : (n : List ℕ) (m : Mirror) → Has s.mirrors m → m.name ≡ n → list_any (λ a. same_label n a.name) kept ≡ is_asked s c mids m
+  kept_is n m h e =
+      elim (cases_Bool (is_asked s c mids m)) [
+        | inl t ↦ any_from (λ (a : Mirror). same_label n a.name) kept m (filter-Has (is_asked s c mids) s.mirrors m h t) (same_from n m.name (sym e)) ∙ sym t
+        | inr t ↦ elim (cases_Bool (list_any (λ a. same_label n a.name) kept)) [
+          | inr u ↦ u ∙ sym t
+          | inl u ↦
+              let some = some_any (λ (a : Mirror). same_label n a.name) kept u in
+              let r = Has-filter (is_asked s c mids) s.mirrors some.0 some.1 in
+              let same : some.0 ≡ m = one name s.mirrors state.mirrors_in_order some.0 m r.0 h (sym (same_is n some.0.name some.2) ∙ sym e) in
+              not_both (is_asked s c mids m) (sym (ap (is_asked s c mids) same) ∙ r.1) t
+        ]
+      ]
+
+  chosen_is : (n : List ℕ) (m : Mirror) → Has s.mirrors m → m.name ≡ n → chosen n ≡ is_asked s c mids m
+  chosen_is n m h e =
+      elim (cases_Bool (is_named c m)) [
+        | inl u ↦
+            let named : option_map_or (λ a. same_label n a) (name_of c) false ≡ true = rw (← e) u in
+            or_left _ _ named ∙ sym (or_left _ _ (or_left _ _ (or_left (is_named c m) (has_mid c m) u)))
+        | inr u ↦
+            let other : option_map_or (λ a. same_label n a) (name_of c) false ≡ false = rw (← e) u in
+            ap (λ b. b || list_any (λ a. same_label n a.name) kept) other ∙ kept_is n m h e
+      ]
+
+  pub part_is : part_of s c mids ≡ by_names chosen s
+  part_is =
+      let ms : kept ≡ filter (λ m. chosen m.name) s.mirrors = filter_agree _ _ s.mirrors (λ m h. sym (chosen_is m.name m h refl)) in
+      let ks : filter is_kept s.components ≡ filter (λ k. chosen k.mirror) s.components
+      = filter_agree _ _ s.components (λ k h. let home = state.homes k h in kept_is k.mirror home.0 home.1 home.2 ∙ sym (chosen_is k.mirror home.0 home.1 home.2)) in
+      ap₂ (λ l r. let p : Records = record { mirrors = l; components = r } in p) ms ks
 
   pub is_state : IsState (part_of s c mids)
-  is_state = record {
-    mirrors_in_order = Ascends-filter (is_asked s c mids) name s.mirrors state.mirrors_in_order;
-    components_in_order = Ascends-filter is_kept provider s.components state.components_in_order;
-    count = (let less : length kept ≤ length s.mirrors = length-filter_le (is_asked s c mids) s.mirrors in let most : length s.mirrors ≤ 64 = state.count in omega arith);
-    each = λ m h.
-        let r = Has-filter (is_asked s c mids) s.mirrors m h in
-        let all : members (filter is_kept s.components) m.name ≡ members s.components m.name
-        = filter_within (λ (k : Component). same_label k.mirror m.name) is_kept s.components (λ k i t. keeps k m r.0 (sym (same_is k.mirror m.name t)) r.1) in
-        rw all (state.each m r.0);
-    mids = λ a b h k e. state.mids a b (Has-filter (is_asked s c mids) s.mirrors a h).0 (Has-filter (is_asked s c mids) s.mirrors b k).0 e;
-    homes = λ k h.
-        let r = Has-filter is_kept s.components k h in
-        let home = some_any (λ (m : Mirror). same_label k.mirror m.name) kept r.1 in
-        (home.0, home.1, sym (same_is k.mirror home.0.name home.2));
-  }
+  is_state = rw part_is (by_names_state chosen s state)
+
+  -- the mirrors of the components on providers that the command names are chosen
+  pub chosen_owner : (p : List ℕ) → Has (providers_of c) p → (k : Component) → Has s.components k → k.provider ≡ p → chosen k.mirror ≡ true
+  chosen_owner p i k h e = let home = state.homes k h in chosen_is k.mirror home.0 home.1 home.2 ∙ asked_provider p i k h e home.0 home.2
+
+  pub chosen_name : (n : List ℕ) → name_of c ≡ Some n → chosen n ≡ true
+  chosen_name n e = let named : option_map_or (λ a. same_label n a) (name_of c) false ≡ true = rw e (same_refl n) in or_left _ _ named
 
   -- the same of lists that are known to be its own
   pub lists_are : (ms : List Mirror) (ks : List Component) → ms ≡ kept → ks ≡ (with_components ms s.components).components → IsState (record { mirrors = ms; components = ks })

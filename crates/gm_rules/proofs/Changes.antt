@@ -67,7 +67,7 @@ filter-filter p q (x ∷ xs) =
     ]
 
 -- to delete by names is to keep what has none of them
-without_all-filter : (names : List (List ℕ)) (ks : List Component) → without_all provider names ks ≡ filter (λ k. not (list_any (λ p. same_label k.provider p) names)) ks
+pub without_all-filter : (names : List (List ℕ)) (ks : List Component) → without_all provider names ks ≡ filter (λ k. not (list_any (λ p. same_label k.provider p) names)) ks
 without_all-filter [] ks = sym (filter_id (λ k. true) ks (λ x h. refl))
 without_all-filter (p ∷ names) ks =
     without_all-filter names (without provider p ks) ∙ filter-filter (λ k. list_any (λ q. same_label k.provider q) names) (λ k. same_label k.provider p) ks

@@ -3,6 +3,8 @@ pub mod Changes
 pub mod Seeing
 pub mod Agreeing
 pub mod Partly
+pub mod Following
+pub mod Replacing
 pub mod Turning
 pub mod Answering
 pub mod Planned

@@ -1,5 +1,5 @@
 -- What facts decide is what the world decides.
-use Rattle.std.proofs.Common.{◌≡◌, ◌∙◌, inl, inr, ℕ, ◌||◌, ◌+◌, Bool, not, nat_lt, refl, sym, ap, ap₂, subst, List, Option, map, Some, None, Result, Ok, Err, is_none, unwrap_or}
+use Rattle.std.proofs.Common.{◌≡◌, ◌∙◌, inl, ℕ, ◌||◌, ◌+◌, Bool, not, nat_lt, refl, sym, ap, ap₂, subst, List, Option, map, Some, None, Result, Ok, Err, is_none, unwrap_or}
 use Rattle.std.specs.List.{list_any}
 use Rattle.gm_metadata.specs.Images.{Sizes}
 use Rattle.gm_state.specs.declared.command.Command.{Command}

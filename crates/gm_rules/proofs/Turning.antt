@@ -1,7 +1,7 @@
 -- A command changes one mirror, and may copy data within it. From what its records become, the world that it leads to.
 -- mid is the image with the data copied, before any last sector is written.
-use Rattle.std.proofs.Common.{◌≡◌, ◌≢◌, ◌∙◌, ◌⊎◌, inl, inr, ⊎_elim, ℕ, ◌<◌, ◌≤◌, ◌+◌, ◌-◌, ◌*◌, ◌/◌, if◌then◌else◌, ◌&&◌, Bool, true, false, refl, sym, ap, subst, arith, List, [], ◌∷◌, cond, find, nat_le, nat_lt, ltb-true, Option, Some, None, eqb-true, eq-eqb}
-use Rattle.std.proofs.lemmas.Bool.{cases_Bool, and_parts, leb-true, or_left, or_right, ne_eqb}
+use Rattle.std.proofs.Common.{◌≡◌, ◌≢◌, ◌∙◌, ◌⊎◌, inl, inr, ⊎_elim, ℕ, ◌<◌, ◌≤◌, ◌+◌, ◌-◌, ◌&&◌, Bool, true, false, refl, sym, ap, subst, arith, List, cond, find, nat_le, nat_lt, ltb-true, Option, Some, None, eqb-true, eq-eqb}
+use Rattle.std.proofs.lemmas.Bool.{cases_Bool, and_parts, leb-true, ne_eqb}
 use Rattle.gm_metadata.specs.Images.{Image, Sizes, same_label, zeros}
 use Rattle.gm_metadata.specs.Reading.{encoded}
 use Rattle.gm_metadata.specs.Sector.{IsMetadata, Bears}
@@ -14,7 +14,7 @@ use Rattle.gm_state.specs.declared.records.Disk.{Disk}
 use Rattle.gm_state.specs.declared.records.Disk.TheVariants.{InSync, Inactive, Copying}
 use Rattle.gm_state.specs.Words.{Has, Ascends}
 use Rattle.gm_state.specs.Records.{Records, IsState, IsMirror, held_by, members, name, provider}
-use Rattle.gm_state.specs.Lookups.{metadata, disk_flags, held_of}
+use Rattle.gm_state.specs.Lookups.{metadata, held_of}
 use Rattle.gm_state.specs.Intents.{IsOf, is_last, names, is_place, Says}
 use Rattle.gm_state.specs.World.{World, Sound, Claims, claimed, Below}
 use Rattle.gm_state.proofs.Order.{same_tells, same_refl, same_from, same_is, differ}

@@ -1,17 +1,18 @@
 -- The part of the records that a command asks for, and what is decided on it.
-use Rattle.std.specs.Prelude.{◌≡◌, ℕ, Bool, true, false, ◌==◌, ◌||◌, List, filter, if◌then◌else◌}
+use Rattle.std.specs.Prelude.{◌≡◌, ℕ, Bool, true, false, ◌==◌, ◌||◌, List, Some, filter, if◌then◌else◌}
 use Rattle.std.specs.List.{list_any}
 use Rattle.std.specs.Option.{option_map_or}
 use Rattle.gm_metadata.specs.Images.{same_label}
 use Rattle.gm_state.specs.declared.command.Command.{Command}
 use Rattle.gm_state.specs.declared.records.Mirror.{Mirror}
 use Rattle.gm_state.specs.declared.records.Component.{Component}
+use Rattle.gm_state.specs.Intents.{IsOf}
 use Rattle.gm_state.specs.Words.{Has}
 use Rattle.gm_state.specs.Records.{Records, IsState, members}
 use Rattle.gm_rules.specs.declared.refusals.Refusal.{Refusal}
 use Rattle.gm_rules.specs.declared.refusals.Refusal.TheVariants.{TooManyMirrors}
 use Rattle.gm_rules.specs.Bad.{Seen, applies, name_of, providers_of, has_mid}
-use Rattle.gm_rules.specs.Decides.{Changed, IsGood, Makes}
+use Rattle.gm_rules.specs.Decides.{Changed, IsGood, Makes, changed_by}
 use Rattle.gm_rules.specs.Refusals.{own}
 
 -- the command names the mirror
@@ -66,3 +67,10 @@ IsGoodButCount part x c =
 -- applies
 abbrev pub IsMade : Records → Seen → Command → Changed → Type 0
 IsMade part x c ch = (s : Records) → IsPartOf part c s → IsGood s x c → Makes s x c ch
+
+-- The change leaves of the part what it leaves of the whole, as far as the command's mirror: a state
+-- where that is one, and each component of the mirror that the command names.
+pub record LeavesPart (part : Records) (c : Command) (s : Records) (ch : Changed) : Type 0 where
+  pub state : IsState (changed_by ch s) → IsState (changed_by ch part)
+  pub own : (m : Mirror) (k : Component) → IsOf (changed_by ch s) m k → name_of c ≡ Some m.name
+      → IsOf (changed_by ch part) m k

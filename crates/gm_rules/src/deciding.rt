@@ -8,7 +8,7 @@ ghost use Rattle.gm_state.specs.World.{World};
 ghost use Rattle.gm_rules.specs.Bad.{seen_in};
 ghost use Rattle.gm_rules.specs.Decides.{Decides, IsGood};
 ghost use Rattle.gm_rules.specs.Facts.{size_in};
-ghost use Rattle.gm_rules.specs.Parts.{IsPartOf, IsGoodButCount, IsMade};
+ghost use Rattle.gm_rules.specs.Parts.{IsPartOf, IsGoodButCount, IsMade, LeavesPart};
 ghost use Rattle.gm_rules.specs.Worlds.{AreFacts, seen_of};
 
 use crate::change::Change;
@@ -58,6 +58,9 @@ pub fn decide_part(
     ensures world { IfOk result (λ r. (u : World) → IsPartOf part.now command.now u.state
         → count ≡ length u.state.mirrors → AreFacts facts.now u command.now
         → Decides u.state (seen_of u) command.now r) }
+    // The change can be made of the part alone.
+    ensures part { IfOk result (λ r. IfOk r (λ ch. (s : Records) → IsPartOf part.now command.now s
+        → count ≡ length s.mirrors → LeavesPart part.now command.now s ch)) }
     // Where memory is wanting, no refusal applies.
     ensures memory { OnErr result ((s : Records) → IsPartOf part.now command.now s
         → count ≡ length s.mirrors → IsGood s (seen_in facts.now) command.now) }

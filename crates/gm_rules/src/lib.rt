@@ -2,10 +2,11 @@
 //!
 //! Begin with `refusals.rt` and `change.rt`, the answers; `deciding.rt` makes them. `checks.rt` has a test for each
 //! refusal, `making.rt` the change of each command. `parts.rt` says which records it
-//! takes to decide, and `needs.rt` which providers.
+//! takes to decide, and `needs.rt` which providers; `changing.rt` makes the change.
 #![tactic(auto)]
 
 mod change;
+mod changing;
 mod checks;
 mod deciding;
 mod facts;
@@ -18,6 +19,7 @@ mod refusals;
 mod tests;
 
 pub use change::Change;
+pub use changing::changed_by;
 pub use deciding::{decide, decide_part};
 pub use facts::{Fact, Facts};
 pub use laws::every_command_has_a_plan;

@@ -155,7 +155,7 @@ pub(crate) fn inserted(
     })
 }
 
-fn others_of(
+pub(crate) fn others_of(
     alloc: Global,
     components: &[Component],
     provider: Label,

@@ -1,6 +1,6 @@
 //! Each refusal by an example that meets just it, the least where two apply, and the changes of accepted commands.
 
-use crate::{Change, Fact, Facts, Refusal, decide, decide_part, part};
+use crate::{Change, Fact, Facts, Refusal, changed_by, decide, decide_part, part};
 use gm_metadata::{Balance, Label, MirrorFlags, encode};
 use gm_state::{
     BalanceWord, Command, Component, Disk, Intent, Mirror, Reply, Slice, State, metadata,
@@ -138,6 +138,25 @@ fn is_same(a: &Change, b: &Change) -> bool {
         && a.reply() == b.reply()
 }
 
+fn after(alloc: Global, state: &State, change: &Change) -> Result<State, Fail> {
+    Ok(changed_by(alloc, state, change)?.ok_or("no state")?)
+}
+
+// Whether the change makes of the part what is the part of the state that it makes of the whole.
+fn is_part_after(
+    alloc: Global,
+    state: &State,
+    part_before: &State,
+    command: &Command,
+    change: &Change,
+) -> Result<bool, Fail> {
+    let made = after(alloc, part_before, change)?;
+    let whole = after(alloc, state, change)?;
+    let of_whole = part(alloc, &whole, command, &[])?;
+    let same_mirrors = made.mirrors() == of_whole.mirrors();
+    Ok(same_mirrors && made.components() == of_whole.components())
+}
+
 // What is decided on the whole state, which is what is decided on the command's part of it.
 fn decided(
     alloc: Global,
@@ -151,7 +170,7 @@ fn decided(
     let on_part = decide_part(alloc, &part, count, &facts, command)?;
     let on_whole = decide(alloc, state, &facts, command)?;
     let same = match (&on_part, &on_whole) {
-        (Ok(a), Ok(b)) => is_same(a, b),
+        (Ok(a), Ok(b)) => is_same(a, b) && is_part_after(alloc, state, &part, command, b)?,
         (Err(a), Err(b)) => a == b,
         _ => false,
     };
@@ -559,5 +578,51 @@ fn the_count_of_all_mirrors_is_handed_in(rt: HostRuntime) -> Result<(), Fail> {
     assert_eq!(rt; full.err(), Some(Refusal::TooManyMirrors));
     let room = decide_part(alloc, &part, 63, &facts, &command)?;
     assert!(rt; room.is_ok());
+    Ok(())
+}
+
+// gm0 with a.img and b.img, and gm1 with c.img.
+fn two_mirrors(alloc: Global) -> Result<State, Fail> {
+    state(
+        alloc,
+        &[mirror("gm0", 7, 2)?, mirror("gm1", 8, 1)?],
+        &[
+            component("gm0", "a.img", 1)?,
+            component("gm0", "b.img", 2)?,
+            component("gm1", "c.img", 1)?,
+        ],
+    )
+}
+
+#[test]
+fn a_change_leaves_what_it_does_not_name(rt: HostRuntime) -> Result<(), Fail> {
+    let alloc = rt.alloc();
+    let state = two_mirrors(alloc)?;
+    let facts = [carrying("a.img", 4)?, carrying("b.img", 4)?];
+    let remove = change(alloc, &state, &facts, &remove_of("gm0", "b.img")?)?;
+    let removed = after(alloc, &state, &remove)?;
+    assert_eq!(rt;
+        removed.mirrors(),
+        [mirror("gm0", 7, 1)?, mirror("gm1", 8, 1)?].as_slice()
+    );
+    expect_records(&rt, &removed, &["gm0", "gm1"], &["a.img", "c.img"])?;
+    let destroy = change(alloc, &state, &facts, &destroy_of("gm0")?)?;
+    let destroyed = after(alloc, &state, &destroy)?;
+    expect_records(&rt, &destroyed, &["gm1"], &["c.img"])?;
+    let fact = [bare("aa.img", 4)?];
+    let label = change(alloc, &state, &fact, &label_of("gm00", "aa.img", 9)?)?;
+    let labelled = after(alloc, &state, &label)?;
+    let providers = ["a.img", "aa.img", "b.img", "c.img"];
+    expect_records(&rt, &labelled, &["gm0", "gm00", "gm1"], &providers)
+}
+
+#[test]
+fn a_change_that_breaks_a_rule_leaves_no_state(rt: HostRuntime) -> Result<(), Fail> {
+    let alloc = rt.alloc();
+    let command = label_of("gm2", "d.img", 8)?;
+    let change = change(alloc, &labelled(alloc)?, &[bare("d.img", 4)?], &command)?;
+    // Its mid is that of gm1.
+    let none = changed_by(alloc, &two_mirrors(alloc)?, &change)?;
+    assert!(rt; none.is_none());
     Ok(())
 }

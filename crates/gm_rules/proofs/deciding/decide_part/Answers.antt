@@ -2,9 +2,10 @@ use Rattle.std.proofs.Common.{rules, ◌≡◌, ◌∙◌, refl, sym, length, Ok
 use Rattle.gm_state.specs.Records.{Records}
 use Rattle.gm_rules.specs.Bad.{seen_in}
 use Rattle.gm_rules.specs.Decides.{IsLeast, IsGood}
-use Rattle.gm_rules.specs.Parts.{IsPartOf, IsMade}
+use Rattle.gm_rules.specs.Parts.{IsPartOf, IsGoodButCount, IsMade}
 use Rattle.gm_rules.proofs.Good.{is_least}
 use Rattle.gm_rules.proofs.Seeing.{in_world}
+use Rattle.gm_rules.proofs.Following.{made_leaves}
 use Rattle.gm_rules.proofs.Partly.{found_on, none_on, good_on, on_err}
 use Rattle.gm_rules.proofs.deciding.decide_part.Goals as goal
 
@@ -16,6 +17,7 @@ returns-in-Some c =
     record {
       facts = least;
       world = λ u of is are. in_world c.args.facts.now u.state c.args.command.now (Err c.in-Some.refusal) (least u.state of is) u refl are;
+      part = tt;
       memory = tt;
     }
 
@@ -31,9 +33,11 @@ pub returns : goal.returns
 returns c =
     let good : (s : Records) → IsPartOf c.args.part.now c.args.command.now s → c.args.count ≡ length s.mirrors → IsGood s (seen_in c.args.facts.now) c.args.command.now
     = good_on c.args.part.now c.args.count (seen_in c.args.facts.now) c.args.command.now (search rules) in
+    let but : IsGoodButCount c.args.part.now (seen_in c.args.facts.now) c.args.command.now = none_on c.args.part.now c.args.count (seen_in c.args.facts.now) c.args.command.now (search rules) in
     let made : IsMade c.args.part.now (seen_in c.args.facts.now) c.args.command.now c.in_ok-change.change = search rules in
     record {
       facts = λ s of is. made s of (good s of is);
       world = λ u of is are. in_world c.args.facts.now u.state c.args.command.now (Ok c.in_ok-change.change) (made u.state of (good u.state of is)) u refl are;
+      part = λ s of is. made_leaves c.args.part.now s c.args.command.now of (seen_in c.args.facts.now) c.in_ok-change.change made but (good s of is);
       memory = tt;
     }

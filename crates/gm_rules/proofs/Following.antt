@@ -1,0 +1,138 @@
+-- What a change leaves of the command's part is the part of what it leaves of the whole.
+use Rattle.std.proofs.Common.{◌≡◌, ◌≢◌, ◌∙◌, inl, ℕ, ◌+◌, ◌-◌, ◌≤◌, ◌==◌, Bool, true, false, not, refl, sym, ap, ap₂, subst, List, Option, Some, None, filter, length, arith}
+use Rattle.std.specs.Prelude.{unwrap_or}
+use Rattle.std.proofs.lemmas.Bool.{ne_eqb}
+use Rattle.gm_metadata.specs.Images.{Sizes, same_label}
+use Rattle.gm_state.specs.declared.command.Command.{Command}
+use Rattle.gm_state.specs.declared.command.Command.TheVariants.{Label, Insert, Remove, Destroy}
+use Rattle.gm_state.specs.declared.command.Command.TheVariants as commands
+use Rattle.gm_state.specs.declared.records.Mirror.{Mirror}
+use Rattle.gm_state.specs.declared.records.Component.{Component}
+use Rattle.gm_state.specs.Intents.{IsOf}
+use Rattle.gm_state.specs.Lookups.{mirror_of}
+use Rattle.gm_state.specs.Words.{Has, put, without}
+use Rattle.gm_state.specs.Records.{Records, IsState, name, provider}
+use Rattle.gm_state.proofs.Order.{same_is}
+use Rattle.gm_state.proofs.Words.{filter-put, filter_swap, length-filter_le}
+use Rattle.gm_rules.specs.declared.refusals.Refusal.TheVariants.{NoMirror, NameTaken, MidTaken, Absent, ProviderTaken, CarriesMetadata, TooSmall, NotMember, DidTaken, Full, TooManyMirrors, SomeLost, LastActive, WrongSize, NoMetadata}
+use Rattle.gm_rules.specs.After.{new_mirror, first_component, spare, on_mirror, after}
+use Rattle.gm_rules.specs.Bad.{Seen, name_of, providers_of}
+use Rattle.gm_rules.specs.Decides.{Changed, Makes, IsGood, changed_by}
+use Rattle.gm_rules.specs.Parts.{IsPartOf, IsGoodButCount, IsMade, LeavesPart, is_asked, part_of}
+use Rattle.gm_rules.proofs.Agreeing.{find_within, by_names, by_names_state, by_names_of, chosen, chosen_name, chosen_owner, part_is, is_state, whole_is_part}
+use Rattle.gm_rules.proofs.Good.{named, not_at}
+
+-- the test passes the mirror that the command names, and those whose components are on providers that it names
+record TakesIn (t : List ℕ → Bool) (c : Command) (s : Records) : Type 0 where
+  name : (n : List ℕ) → name_of c ≡ Some n → t n ≡ true
+  owners : (p : List ℕ) → Has (providers_of c) p → (k : Component) → Has s.components k → k.provider ≡ p → t k.mirror ≡ true
+
+-- ---- what the command makes of the records of some names is what it makes of the whole, of these names
+
+module _ (t : List ℕ → Bool) (s : Records) (state : IsState s) where
+  two : (ms : List Mirror) (ks : List Component) (r : Records) → ms ≡ filter (λ m. t m.name) r.mirrors → ks ≡ filter (λ k. t k.mirror) r.components → record { mirrors = ms; components = ks } ≡ by_names t r
+  two ms ks r e f = ap₂ (λ a b. let p : Records = record { mirrors = a; components = b } in p) e f
+
+  -- a record is put among the mirrors of these names
+  puts_mirror : (m : Mirror) → t m.name ≡ true → put name m (by_names t s).mirrors ≡ filter (λ a. t a.name) (put name m s.mirrors)
+  puts_mirror m e = sym (filter-put name (λ (a : Mirror). t a.name) m s.mirrors state.mirrors_in_order e (λ z h i. ap t i ∙ e))
+
+  puts_component : (c : Command) → TakesIn t c s → (k : Component) → t k.mirror ≡ true → Has (providers_of c) k.provider → put provider k (by_names t s).components ≡ filter (λ j. t j.mirror) (put provider k s.components)
+  puts_component c takes k e i = sym (filter-put provider (λ (j : Component). t j.mirror) k s.components state.components_in_order e (λ z h o. takes.owners k.provider i z h o))
+
+  -- the mirror of a name that passes
+  same_found : (n : List ℕ) → t n ≡ true → mirror_of (by_names t s) n ≡ mirror_of s n
+  same_found n e = find_within (λ (m : Mirror). same_label m.name n) (λ (m : Mirror). t m.name) s.mirrors (λ m h u. ap t (same_is m.name n u) ∙ e)
+
+  on_found : (o : Option Mirror) (f g : Mirror → Records) → ((m : Mirror) → o ≡ Some m → f m ≡ by_names t (g m)) → on_mirror o (by_names t s) f ≡ by_names t (on_mirror o s g)
+  on_found None f g h = refl
+  on_found (Some m) f g h = h m refl
+
+  on_named : (n : List ℕ) → t n ≡ true → (f g : Mirror → Records) → ((m : Mirror) → mirror_of s n ≡ Some m → f m ≡ by_names t (g m)) → on_mirror (mirror_of (by_names t s) n) (by_names t s) f ≡ by_names t (on_mirror (mirror_of s n) s g)
+  on_named n e f g h = ap (λ o. on_mirror o (by_names t s) f) (same_found n e) ∙ on_found (mirror_of s n) f g h
+
+  -- the found mirror has a name that passes
+  found_passes : (n : List ℕ) → t n ≡ true → (m : Mirror) → mirror_of s n ≡ Some m → t m.name ≡ true
+  found_passes n e m is = ap t (named s n m is).1 ∙ e
+
+  after_names : (size : Sizes) (c : Command) → TakesIn t c s → after size c (by_names t s) ≡ by_names t (after size c s)
+  after_names size (Label n p mid did balance slice flags hardcoded) takes =
+      let m : Mirror = new_mirror n mid balance slice flags (unwrap_or (size p) 0) in
+      let k : Component = first_component n p did hardcoded (unwrap_or (size p) 0) in
+      let e : t n ≡ true = takes.name n refl in
+      two _ _ (record { mirrors = put name m s.mirrors; components = put provider k s.components })
+      (puts_mirror m e) (puts_component (Label n p mid did balance slice flags hardcoded) takes k e (inl refl))
+  after_names size (Insert n p did priority h) takes =
+      let e : t n ≡ true = takes.name n refl in
+      on_named n e _ _ (λ m is.
+      let k : Component = spare m p did priority h (unwrap_or (size p) 0) in
+      let u : t m.name ≡ true = found_passes n e m is in
+      two _ _ (record { mirrors = put name (record m { all = m.all + 1 }) s.mirrors; components = put provider k s.components })
+      (puts_mirror (record m { all = m.all + 1 }) u) (puts_component (Insert n p did priority h) takes k u (inl refl)))
+  after_names size (Remove n p) takes =
+      let e : t n ≡ true = takes.name n refl in
+      on_named n e _ _ (λ m is.
+      two _ _ (record { mirrors = put name (record m { all = m.all - 1 }) s.mirrors; components = without provider p s.components })
+      (puts_mirror (record m { all = m.all - 1 }) (found_passes n e m is))
+      (filter_swap (λ (k : Component). not (same_label k.provider p)) (λ (k : Component). t k.mirror) s.components))
+  after_names size (commands.Clear p) takes = refl
+  after_names size (Destroy n) takes =
+      two _ _ (record { mirrors = without name n s.mirrors; components = filter (λ k. not (same_label k.mirror n)) s.components })
+      (filter_swap (λ (m : Mirror). not (same_label m.name n)) (λ (m : Mirror). t m.name) s.mirrors)
+      (filter_swap (λ (k : Component). not (same_label k.mirror n)) (λ (k : Component). t k.mirror) s.components)
+
+-- ---- so of a part
+
+module _ (part s : Records) (c : Command) (of : IsPartOf part c s) where
+  abbrev passes : List ℕ → Bool
+  passes = chosen s c of.mids of.state
+
+  takes_in : TakesIn passes c s
+  takes_in = record { name = chosen_name s c of.mids of.state; owners = chosen_owner s c of.mids of.state }
+
+  part_state : IsState part
+  part_state = subst IsState (sym of.is) (is_state s c of.mids of.state)
+
+  follows : (x : Seen) (ch : Changed) → Makes part x c ch → Makes s x c ch → changed_by ch part ≡ by_names passes (changed_by ch s)
+  follows x ch p w =
+      p.records ∙ (ap (after x.size c) (of.is ∙ part_is s c of.mids of.state) ∙ (after_names passes s of.state x.size c takes_in ∙ ap (by_names passes) (sym w.records)))
+
+  pub leaves_part : (x : Seen) (ch : Changed) → Makes part x c ch → Makes s x c ch → LeavesPart part c s ch
+  leaves_part x ch p w =
+      let is : by_names passes (changed_by ch s) ≡ changed_by ch part = sym (follows x ch p w) in
+      record {
+        state = λ state. subst IsState is (by_names_state passes (changed_by ch s) state);
+        own = λ m k o e. subst (λ (r : Records). IsOf r m k) is (by_names_of passes (changed_by ch s) m k o (chosen_name s c of.mids of.state m.name e));
+      }
+
+  -- ---- what nothing refuses on the whole, nothing refuses on the part
+
+  few : (length s.mirrors == 64) ≡ false → (length part.mirrors == 64) ≡ false
+  few e =
+      let less : length (part_of s c of.mids).mirrors ≤ length s.mirrors = length-filter_le (is_asked s c of.mids) s.mirrors in
+      let fewer : length part.mirrors ≤ length s.mirrors = subst (λ (r : Records). length r.mirrors ≤ length s.mirrors) (sym of.is) less in
+      let most : length s.mirrors ≤ 64 = of.state.count in
+      let apart : length s.mirrors ≢ 64 = not_at (length s.mirrors) 64 e in
+      let other : length part.mirrors ≢ 64 = omega arith in
+      ne_eqb (length part.mirrors) 64 other
+
+  good_part : (x : Seen) → IsGoodButCount part x c → IsGood s x c → IsGood part x c
+  good_part x but good TooManyMirrors h = few (good TooManyMirrors h)
+  good_part x but good NoMirror h = but NoMirror h refl
+  good_part x but good NameTaken h = but NameTaken h refl
+  good_part x but good MidTaken h = but MidTaken h refl
+  good_part x but good Absent h = but Absent h refl
+  good_part x but good ProviderTaken h = but ProviderTaken h refl
+  good_part x but good CarriesMetadata h = but CarriesMetadata h refl
+  good_part x but good TooSmall h = but TooSmall h refl
+  good_part x but good NotMember h = but NotMember h refl
+  good_part x but good DidTaken h = but DidTaken h refl
+  good_part x but good Full h = but Full h refl
+  good_part x but good SomeLost h = but SomeLost h refl
+  good_part x but good LastActive h = but LastActive h refl
+  good_part x but good WrongSize h = but WrongSize h refl
+  good_part x but good NoMetadata h = but NoMetadata h refl
+
+  pub made_leaves : (x : Seen) (ch : Changed) → IsMade part x c ch → IsGoodButCount part x c → IsGood s x c → LeavesPart part c s ch
+  made_leaves x ch made but good =
+      leaves_part x ch (made part (whole_is_part part c part_state) (good_part x but good)) (made s of good)
