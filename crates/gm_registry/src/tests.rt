@@ -386,7 +386,18 @@ fn faults_are_numbered(rt: HostRuntime) -> Result<(), Fail> {
     assert_eq!(rt; StoreFault::Memory.number(), 1);
     assert_eq!(rt; StoreFault::Store.number(), 2);
     assert_eq!(rt; StoreFault::Unreadable.number(), 3);
-    let text = format!(in rt.alloc(); "{}", StoreFault::Unreadable)?;
-    assert_eq!(rt; text.as_str(), "the registry is unreadable");
+    Ok(())
+}
+
+#[test]
+fn faults_have_texts(rt: HostRuntime) -> Result<(), Fail> {
+    for (fault, text) in [
+        (StoreFault::Memory, "out of memory"),
+        (StoreFault::Store, "the store failed"),
+        (StoreFault::Unreadable, "the registry is unreadable"),
+    ] {
+        let shown = format!(in rt.alloc(); "{fault}")?;
+        assert_eq!(rt; shown.as_str(), text);
+    }
     Ok(())
 }
