@@ -1,5 +1,5 @@
 -- Why the queries of a registry fail.
-use Rattle.std.proofs.Common.{◌≡◌, ◌⊎◌, inl, inr, ℕ, true, List, [], ◌∷◌, map, IsTrue, IsSome, refl, sym, ap, subst, ◌∙◌}
+use Rattle.std.proofs.Common.{◌≡◌, ◌⊎◌, inl, inr, ℕ, true, List, [], ◌∷◌, map, IsTrue, IsSome, ◌≤◌, arith, refl, sym, ap, subst, ◌∙◌}
 use Rattle.std.specs.List.{Any}
 use Rattle.sqlite_disk.specs.Disk.{MoreFaults}
 use Rattle.sqlite.specs.Order.{Row}
@@ -27,7 +27,9 @@ use Rattle.gm_registry.specs.declared.fault.StoreFault.{StoreFault}
 use Rattle.gm_registry.specs.declared.fault.StoreFault.TheVariants.{Memory, Store}
 use Rattle.gm_registry.specs.declared.fetching.Table.{Table}
 use Rattle.gm_registry.specs.declared.fetching.Table.TheVariants.{About, Mirrors, Components, Intents, Commands}
+use Rattle.gm_registry.specs.Reads.{IsOurs, HasRead}
 use Rattle.gm_registry.proofs.Asking.{query_of, asked}
+use Rattle.gm_registry.proofs.Passing.{ours_still}
 use Rattle.gm_registry.proofs.Meaning.{find_query, find_is, last_query, last_is}
 
 find_whole : is_all_of find_command_text 1 (understood registry_schema find_command_text) ≡ true
@@ -95,3 +97,15 @@ module _ (old new : State) (e : Error) (has : old.now.schema ≡ registry_schema
   table_failed t fails =
       let asks = (asked t).1 in
       told old new e (read_fault old new (query_text t) [] e registry_schema (query_of t) _ has asks.command_is asks.plain asks.of_tables (tables_whole t) (tables_typed t) (tables_safe t) is_open fails)
+
+-- a failure after a read is one since before it
+pub failed_later : (a b c : State) → HasRead a b → HasCleanDisk b → IsOurs a → IsTrue a.is_open → (IsOurs b → IsTrue b.is_open → MoreFaults b.faults c.faults ⊎ IsSome b.step_limit)
+    → MoreFaults a.faults c.faults ⊎ IsSome a.step_limit
+failed_later a b c read clean ours is_open failed =
+    elim (failed (ours_still a b read clean ours) (read.unchanged clean ours).0.is_open) [
+      | inl more ↦ inl (later a.faults b.faults c.faults read.left.counts more)
+      | inr limit ↦ inr (subst IsSome read.left.limit limit)
+    ]
+  where
+    later : (x y z : ℕ) → x ≤ y → MoreFaults y z → MoreFaults x z
+    later x y z le more = omega (arith, le, more)
