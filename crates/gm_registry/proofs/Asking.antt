@@ -54,7 +54,7 @@ commands_asked : Asks (query_text Commands) (query_of Commands) (codes "seq" ∷
 unfolding understood everything
 commands_asked = record { command_is = refl; plain = (refl, refl); of_tables = refl }
 
-asked : (t : Table) → (names : List (List ℕ)) × Asks (query_text t) (query_of t) names
+pub asked : (t : Table) → (names : List (List ℕ)) × Asks (query_text t) (query_of t) names
 asked About = (_, about_asked)
 asked Mirrors = (_, mirrors_asked)
 asked Components = (_, components_asked)

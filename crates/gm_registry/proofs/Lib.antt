@@ -25,3 +25,4 @@ pub mod Saving
 pub mod OneReading
 pub mod Written
 pub mod Keys
+pub mod Failures

@@ -24,3 +24,11 @@ value_fault_of _ = Unreadable
 -- where the registry is found unreadable
 abbrev pub OnUnreadable : {T : Type 0} → Result T StoreFault → Type 0 → Type 0
 OnUnreadable result P = IfErr result (λ e. e ≡ Unreadable → P)
+
+-- where the store is said to have failed
+abbrev pub OnStore : {T : Type 0} → Result T StoreFault → Type 0 → Type 0
+OnStore result P = IfErr result (λ e. e ≡ Store → P)
+
+-- the same of the error of `sqlite` that is told
+abbrev pub OnOther : {T : Type 0} → Result T Error → Type 0 → Type 0
+OnOther result P = IfErr result (λ e. fault_of e ≡ Store → P)

@@ -1,4 +1,4 @@
--- The queries that read the tables whole.
+-- The form that code goes by: the queries that read the tables whole.
 use Rattle.std.specs.Prelude.{◌≡◌, ◌⊎◌, codes, List, ℕ, [], ◌∷◌, map}
 use Rattle.std.specs.List.Sorted.{IsPermutation, IsSortedByKey}
 use Rattle.sqlite.specs.Order.{Row, column}

@@ -1,4 +1,4 @@
--- Calls that only read, over the schema of a registry.
+-- The form that code goes by: calls that only read, over the schema of a registry.
 use Rattle.std.specs.Prelude.{◌≡◌}
 use Rattle.sqlite.specs.Schema.{Schema}
 use Rattle.sqlite.specs.State.{State}

@@ -1,5 +1,6 @@
 -- What is said of a registry, and of a store before it is opened and after it is closed.
-use Rattle.std.specs.Prelude.{◌≤◌, IsTrue, Result, OnOk, OnErr}
+use Rattle.std.specs.Prelude.{◌≤◌, ◌⊎◌, IsTrue, IsSome, Result, OnOk, OnErr}
+use Rattle.sqlite_disk.specs.Disk.{MoreFaults}
 use Rattle.sqlite_trees.specs.declared.store.Store.{Ghosts}
 use Rattle.sqlite_trees.specs.View.{doubt}
 use Rattle.sqlite.specs.Tree.{Trees}
@@ -76,6 +77,10 @@ module _ {S : Type 0} (g : Ghosts S) where
   -- within a transaction: nothing was committed
   abbrev pub KeepsCommit : Held S → Held S → Type 0
   KeepsCommit old new = DiskKept new → sql.KeepsCommit (state g old) (state g new)
+
+  -- the disk failed or refused a call, or a query may take only so many steps
+  abbrev pub StoreFailed : Held S → Held S → Type 0
+  StoreFailed old new = MoreFaults (state g old).faults (state g new).faults ⊎ IsSome (state g old).step_limit
 
   -- it has these tables, and a crash now leaves them and nothing else
   pub record HasSaved (r : Held S) (t : Tables) : Type 0 where

@@ -1,4 +1,4 @@
--- What the rows that are shown of the tables say.
+-- The form that code goes by: what the rows that are shown of the tables say. `Reading` defines readable tables.
 use Rattle.std.specs.Prelude.{◌≡◌, ◌≤◌, ◌+◌, ℕ, List, [], ◌∷◌, length, map, pos}
 use Rattle.std.specs.List.Sorted.{IsPermutation}
 use Rattle.sqlite.specs.Order.{Row, column}

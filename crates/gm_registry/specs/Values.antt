@@ -1,4 +1,4 @@
--- What a query shows of rows, and the records that values of the code can say.
+-- The form that code goes by: what a query shows of rows, and the records that values of the code can say.
 use Rattle.std.specs.Prelude.{true, false, ◌≡◌, ◌+◌, ◌<◌, ◌^◌, ℕ, IsTrue, List, [], ◌∷◌, map, pos}
 use Rattle.std.specs.List.{list_any}
 use Rattle.gm_state.specs.Readable.{is_copy_to, is_meta_of}

@@ -1,6 +1,6 @@
 //! What a column of a row says. Nothing here takes memory but the text of `text_at`.
 
-ghost use Rattle.std.specs.Prelude.{◌≡◌, ◌↔◌, [], ◌<◌, ◌*◌, ◌^◌, ℕ, List, Bool, pos, IsTrue, IfSome, IfNone, IfOk, IsUtf8, string_bytes, if◌then◌else◌};
+ghost use Rattle.std.specs.Prelude.{IfErr, ◌≡◌, ◌≢◌, ◌↔◌, [], ◌<◌, ◌*◌, ◌^◌, ℕ, List, Bool, pos, IsTrue, IfSome, IfNone, IfOk, IsUtf8, string_bytes, if◌then◌else◌};
 ghost use Rattle.gm_metadata.specs.Labels.{is_label};
 ghost use Rattle.gm_metadata.specs.Balance.{balance_code};
 ghost use Rattle.gm_metadata.specs.Flags.{mirror_bits, disk_bits};
@@ -111,6 +111,7 @@ pub(crate) fn label_at(row: &Row, at: usize) -> Option<Label>
 /// The text in a column, of its own memory; `Unreadable` where it holds none.
 pub(crate) fn text_at(row: &Row, at: usize) -> Result<String, StoreFault>
     ensures text { IfOk result (λ text. column row.now at ≡ Text (string_bytes text)) }
+    ensures fault { IfErr result (λ e. e ≢ StoreFault.Store) }
     ensures unreadable { OnUnreadable result ((text : List ℕ) → IsUtf8 text
         → column row.now at ≡ Text text → ⊥) }
 {

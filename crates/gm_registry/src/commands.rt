@@ -22,7 +22,13 @@ fn put_row<S: Alter>(
     ensures same_reference { tx.new.conn.ghost_name ≡ tx.old.conn.ghost_name }
     ensures put { MakesInside S.Store tx.old.conn.now tx.new.conn.now result
         (with_command
-        (record { call_key = key.now; seq = number; words = words.now; copied = copied; of_total = of_total })) }
+        (record {
+          call_key = key.now;
+          seq = number;
+          words = words.now;
+          copied = copied;
+          of_total = of_total;
+        })) }
     ensures kept { KeepsCommit S.Store tx.old.conn.now tx.new.conn.now }
     ensures survives { LeavesNothingNew S.Store tx.old.conn.now tx.new.conn.now }
 {

@@ -1,6 +1,6 @@
 //! Why a call of the registry fails.
 
-ghost use Rattle.std.specs.Prelude.{◌≡◌, IfOk, IfErr, Ok, Err};
+ghost use Rattle.std.specs.Prelude.{◌≡◌, ◌≢◌, IfOk, IfErr, Ok, Err};
 ghost use Rattle.sqlite.specs.declared.error.Error.{Error as SqlError};
 ghost use Rattle.gm_registry.specs.Faults.{fault_number, fault_of, value_fault_of};
 
@@ -34,7 +34,8 @@ impl StoreFault {
 
     /// The fault that an error in reading a value is.
     fn of_value(error: Error) -> StoreFault
-        ensures { result ≡ value_fault_of error }
+        ensures value { result ≡ value_fault_of error }
+        ensures other { result ≢ StoreFault.Store }
     {
         match error {
             Error::SqliteFailure(ErrorCode::OutOfMemory) => StoreFault::Memory,
@@ -57,6 +58,7 @@ impl From<Error> for StoreFault {
 /// The value that was read of a row; a value that the tables aren't to hold is unreadable.
 pub(crate) fn readable<T>(read: Result<T, Error>) -> Result<T, StoreFault>
     ensures read { IfOk result (λ value. read ≡ Ok value) }
+    ensures other { IfErr result (λ fault. fault ≢ StoreFault.Store) }
     ensures fault { IfErr result (λ fault. (error : SqlError) × (read ≡ Err error)
         × (fault ≡ value_fault_of error)) }
 {

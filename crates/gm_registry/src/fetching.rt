@@ -2,7 +2,8 @@
 
 ghost use Rattle.std.specs.Prelude.{◌≡◌, ◌≢◌, IfOk, IfErr, OnOk, OnErr};
 ghost use Rattle.gm_registry.specs.Queries.{query_text, IsNumbered, IsShown, IsInOrder, AreShown};
-ghost use Rattle.gm_registry.specs.Registry.{DiskKept, seen, HasRead, HasFailed, IsOurs};
+ghost use Rattle.gm_registry.specs.Registry.{DiskKept, IsOpen, seen, HasRead, HasFailed, IsOurs, StoreFailed};
+ghost use Rattle.gm_registry.specs.Faults.{OnStore};
 
 use crate::fault::StoreFault;
 use sqlite::{Alter, Connection, Row};
@@ -49,6 +50,9 @@ pub(crate) fn rows_of<S: Alter>(
         → IfOk result (λ rows. IsOurs S.Store conn.old → IsInOrder rows.items) }
     ensures read { OnOk result (HasRead S.Store conn.old conn.new) }
     ensures failed { OnErr result (HasFailed S.Store conn.old conn.new) }
+    ensures store { DiskKept S.Store conn.new
+        → OnStore result (IsOurs S.Store conn.old → IsOpen S.Store conn.old
+        → StoreFailed S.Store conn.old conn.new) }
     ensures fault { IfErr result (λ e. e ≢ StoreFault.Unreadable) }
 {
     match conn.query_all(table.query(), &[]) {
@@ -73,6 +77,9 @@ pub(crate) fn fetch<S: Alter>(conn: &mut Connection<S>) -> Result<Fetched, Store
         → AreShown (seen S.Store conn.old) f) }
     ensures read { OnOk result (HasRead S.Store conn.old conn.new) }
     ensures failed { OnErr result (HasFailed S.Store conn.old conn.new) }
+    ensures store { DiskKept S.Store conn.new
+        → OnStore result (IsOurs S.Store conn.old → IsOpen S.Store conn.old
+        → StoreFailed S.Store conn.old conn.new) }
     ensures fault { IfErr result (λ e. e ≢ StoreFault.Unreadable) }
 {
     let about = rows_of(conn, Table::About)?;

@@ -28,7 +28,14 @@ fn put_row<S: Alter>(
     ensures same_reference { tx.new.conn.ghost_name ≡ tx.old.conn.ghost_name }
     ensures put { MakesInside S.Store tx.old.conn.now tx.new.conn.now result
         (with_intents
-        (record { ord = ord; kind = kind; prov = provider.now; source = source.now; first_sector = first; end_sector = end } ∷ [])) }
+        (record {
+          ord = ord;
+          kind = kind;
+          prov = provider.now;
+          source = source.now;
+          first_sector = first;
+          end_sector = end;
+        } ∷ [])) }
     ensures kept { KeepsCommit S.Store tx.old.conn.now tx.new.conn.now }
     ensures survives { LeavesNothingNew S.Store tx.old.conn.now tx.new.conn.now }
 {

@@ -1,6 +1,6 @@
 //! What the rows of all tables say, where they say a state.
 
-ghost use Rattle.std.specs.Prelude.{◌≡◌, ◌↔◌, IsTrue, List, IfOk};
+ghost use Rattle.std.specs.Prelude.{IfErr, ◌≡◌, ◌≢◌, ◌↔◌, IsTrue, List, IfOk};
 ghost use Rattle.sqlite.specs.Order.{column};
 ghost use Rattle.gm_state.specs.declared.command.Intent.{Intent};
 ghost use Rattle.gm_state.specs.Records.{Records};
@@ -65,6 +65,7 @@ fn read_state(alloc: Global, mirrors: &[Row], components: &[Row]) -> Result<Stat
     ensures says { IfOk result (λ s. SayState mirrors.now components.now s) }
     ensures only { IfOk result (λ s. (other : Records) → SayState mirrors.now components.now other
         → other ≡ s) }
+    ensures fault { IfErr result (λ e. e ≢ StoreFault.Store) }
     ensures unreadable { OnUnreadable result ((s : Records) → SayState mirrors.now components.now s
         → ⊥) }
 {
@@ -80,6 +81,7 @@ fn read_state(alloc: Global, mirrors: &[Row], components: &[Row]) -> Result<Stat
 /// The state and the intents that all rows say; `Unreadable` where they say none.
 pub(crate) fn judge(alloc: Global, fetched: &Fetched) -> Result<(State, Vec<Intent>), StoreFault>
     ensures says { IfOk result (λ r. Say fetched.now r.0 r.1.items) }
+    ensures fault { IfErr result (λ e. e ≢ StoreFault.Store) }
     ensures unreadable { OnUnreadable result ((s : Records) (ts : List Intent)
         → Say fetched.now s ts → ⊥) }
 {

@@ -1,8 +1,9 @@
 //! The registry: five tables of SQLite that hold the records of a state, the intents that are pending and the commands
 //! that were accepted.
 //!
-//! Begin with `registry.rt`, the calls; `specs/Tables.antt`, what a store holds; `specs/Changes.antt`, what a command
-//! makes of it; and `specs/Reading.antt`, which tables are readable.
+//! Begin with `registry.rt`, the calls, and `specs/Registry.antt`, the words that their contracts say; then
+//! `specs/Tables.antt`, what a store holds; `specs/Changes.antt`, what a command makes of it; and
+//! `specs/Reading.antt`, which tables are readable.
 #![tactic(auto)]
 
 mod accepting;

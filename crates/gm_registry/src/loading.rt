@@ -7,8 +7,8 @@ ghost use Rattle.gm_state.specs.Records.{Records};
 ghost use Rattle.gm_state.specs.Rows.{Tables};
 ghost use Rattle.gm_registry.specs.Reading.{AreTablesOf};
 ghost use Rattle.gm_registry.specs.Says.{TablesSay};
-ghost use Rattle.gm_registry.specs.Registry.{DiskKept, seen, HasTables, IsRegistry, LeavesAlone, HasSaved, Reads};
-ghost use Rattle.gm_registry.specs.Faults.{OnUnreadable};
+ghost use Rattle.gm_registry.specs.Registry.{DiskKept, seen, HasTables, IsRegistry, LeavesAlone, StoreFailed, HasSaved, Reads};
+ghost use Rattle.gm_registry.specs.Faults.{OnUnreadable, OnStore};
 
 use crate::fault::StoreFault;
 use crate::fetching::fetch;
@@ -34,6 +34,8 @@ pub(crate) fn load_on<S: Alter>(
     ensures unreadable { DiskKept S.Store conn.new
         → OnUnreadable result ((t : Tables) (s : Records) (ts : List Intent)
         → HasTables S.Store conn.old t → AreTablesOf t s ts → ⊥) }
+    ensures store { DiskKept S.Store conn.new
+        → OnStore result (IsRegistry S.Store conn.old → StoreFailed S.Store conn.old conn.new) }
     ensures reads { Reads S.Store conn.old conn.new }
     ensures untouched { IsRegistry S.Store conn.old → LeavesAlone S.Store conn.old conn.new }
 {
@@ -57,6 +59,10 @@ impl<S: Alter> Registry<S> {
         ensures unreadable { DiskKept S.Store self.new
             → OnUnreadable result ((t : Tables) (s : Records) (ts : List Intent)
             → HasTables S.Store self.old t → AreTablesOf t s ts → ⊥) }
+        // On a disk that didn't fail, without a limit on steps, it is never `Store`.
+        ensures store { DiskKept S.Store self.new
+            → OnStore result (IsRegistry S.Store self.old
+            → StoreFailed S.Store self.old self.new) }
         ensures reads { Reads S.Store self.old self.new }
         ensures untouched { IsRegistry S.Store self.old → LeavesAlone S.Store self.old self.new }
     {

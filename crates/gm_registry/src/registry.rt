@@ -9,8 +9,8 @@ ghost use Rattle.gm_registry.specs.Schema.{registry_schema};
 ghost use Rattle.gm_registry.specs.Opening.{IsOpenable, IsForeign};
 ghost use Rattle.gm_registry.specs.Changes.{with_accepted, settled};
 ghost use Rattle.gm_registry.specs.Replies.{IsKept, IsFree, AreWrittenUnder, count_of};
-ghost use Rattle.gm_registry.specs.Registry.{DiskKept, IsOpen, stored, HasTables, IsRegistry, WasClean, MayLeave, LeavesNothingNew, LeavesAlone, HasSaved, Reads, Writes};
-ghost use Rattle.gm_registry.specs.Faults.{OnUnreadable};
+ghost use Rattle.gm_registry.specs.Registry.{DiskKept, IsOpen, stored, HasTables, IsRegistry, WasClean, MayLeave, LeavesNothingNew, LeavesAlone, StoreFailed, HasSaved, Reads, Writes};
+ghost use Rattle.gm_registry.specs.Faults.{OnUnreadable, OnStore};
 
 use crate::accepting::accept_on;
 use crate::fault::StoreFault;
@@ -104,6 +104,10 @@ impl<S: Alter> Registry<S> {
         ensures unreadable { DiskKept S.Store self.new
             → OnUnreadable result ((t : Tables) → HasTables S.Store self.old t
             → AreWrittenUnder key.now t → ⊥) }
+        // On a disk that didn't fail, without a limit on steps, it is never `Store`.
+        ensures store { DiskKept S.Store self.new
+            → OnStore result ((t : Tables) → HasTables S.Store self.old t
+            → StoreFailed S.Store self.old self.new) }
         ensures reads { Reads S.Store self.old self.new }
     {
         reply_on(&mut self.conn, key)
@@ -117,6 +121,10 @@ impl<S: Alter> Registry<S> {
         ensures unreadable { DiskKept S.Store self.new
             → OnUnreadable result ((t : Tables) → HasTables S.Store self.old t
             → count_of t ≤ 100000 → ⊥) }
+        // On a disk that didn't fail, without a limit on steps, it is never `Store`.
+        ensures store { DiskKept S.Store self.new
+            → OnStore result ((t : Tables) → HasTables S.Store self.old t
+            → StoreFailed S.Store self.old self.new) }
         ensures reads { Reads S.Store self.old self.new }
     {
         Ok(u64::from(accepted_on(&mut self.conn)?))

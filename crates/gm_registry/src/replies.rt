@@ -1,12 +1,12 @@
 //! What is read of the accepted commands: the reply under a key, and the greatest number.
 
-ghost use Rattle.std.specs.Prelude.{◌≡◌, ◌≤◌, ◌<◌, ◌^◌, ◌==◌, ℕ, pos, filter, map, string_bytes, IfOk, IfErr, MatchOption, IsPermutation};
+ghost use Rattle.std.specs.Prelude.{◌≡◌, ◌≢◌, ◌≤◌, ◌<◌, ◌^◌, ◌==◌, ℕ, pos, filter, map, string_bytes, IfOk, IfErr, MatchOption, IsPermutation};
 ghost use Rattle.sqlite.specs.Order.{column};
 ghost use Rattle.sqlite.specs.declared.types.Value.TheVariants.{Int, Text};
 ghost use Rattle.gm_state.specs.Rows.{Tables, CommandRow};
 ghost use Rattle.gm_registry.specs.Replies.{Fits, AreWrittenUnder, reply_in, is_under, reply_values, IsKept, IsFree, IsLastOf, count_of};
-ghost use Rattle.gm_registry.specs.Registry.{DiskKept, HasTables, HasSaved, Reads};
-ghost use Rattle.gm_registry.specs.Faults.{OnUnreadable};
+ghost use Rattle.gm_registry.specs.Registry.{DiskKept, HasTables, StoreFailed, HasSaved, Reads};
+ghost use Rattle.gm_registry.specs.Faults.{OnUnreadable, OnStore, OnOther};
 
 use crate::cells::{text_at, u32_at};
 use crate::fault::StoreFault;
@@ -24,6 +24,7 @@ struct Kept {
 
 fn read_number(row: &Row, at: usize) -> Result<u32, StoreFault>
     ensures number { IfOk result (λ number. column row.now at ≡ Int (pos number)) }
+    ensures fault { IfErr result (λ e. e ≢ StoreFault.Store) }
     ensures unreadable { IfErr result (λ e. (number : ℕ) → number < 2 ^ 32
         → column row.now at ≡ Int (pos number) → ⊥) }
 {
@@ -38,6 +39,7 @@ fn read_kept(row: &Row) -> Result<Kept, StoreFault>
         × (column row.now 1 ≡ Text (string_bytes kept.words))
         × (column row.now 2 ≡ Int (pos kept.copied))
         × (column row.now 3 ≡ Int (pos kept.of_total))) }
+    ensures fault { IfErr result (λ e. e ≢ StoreFault.Store) }
     ensures unreadable { OnUnreadable result ((c : CommandRow) → Fits c → row.now ≡ reply_values c
         → ⊥) }
 {
@@ -68,6 +70,9 @@ fn find_command<S: Alter>(conn: &mut Connection<S>, key: &str) -> Result<Vec<Row
         → HasTables S.Store conn.old t
         → IsPermutation (map reply_values (filter (is_under key.now) t.commands)) rows.items
         × HasTables S.Store conn.new t) }
+    ensures store { DiskKept S.Store conn.new
+        → OnOther result ((t : Tables) → HasTables S.Store conn.old t
+        → StoreFailed S.Store conn.old conn.new) }
     ensures reads { Reads S.Store conn.old conn.new }
 {
     conn.query_all(
@@ -88,6 +93,9 @@ pub(crate) fn reply_on<S: Alter>(
     ensures unreadable { DiskKept S.Store conn.new
         → OnUnreadable result ((t : Tables) → HasTables S.Store conn.old t
         → AreWrittenUnder key.now t → ⊥) }
+    ensures store { DiskKept S.Store conn.new
+        → OnStore result ((t : Tables) → HasTables S.Store conn.old t
+        → StoreFailed S.Store conn.old conn.new) }
     ensures reads { Reads S.Store conn.old conn.new }
 {
     let rows = find_command(conn, key)?;
@@ -105,6 +113,9 @@ fn last_command<S: Alter>(conn: &mut Connection<S>) -> Result<Vec<Row>, Error>
     ensures rows { DiskKept S.Store conn.new → IfOk result (λ rows. (t : Tables)
         → HasTables S.Store conn.old t
         → IsLastOf t rows.items × HasTables S.Store conn.new t) }
+    ensures store { DiskKept S.Store conn.new
+        → OnOther result ((t : Tables) → HasTables S.Store conn.old t
+        → StoreFailed S.Store conn.old conn.new) }
     ensures reads { Reads S.Store conn.old conn.new }
 {
     conn.query_all("SELECT seq FROM commands ORDER BY seq DESC LIMIT 1", &[])
@@ -118,6 +129,9 @@ pub(crate) fn accepted_on<S: Alter>(conn: &mut Connection<S>) -> Result<u32, Sto
     ensures unreadable { DiskKept S.Store conn.new
         → OnUnreadable result ((t : Tables) → HasTables S.Store conn.old t → count_of t ≤ 100000
         → ⊥) }
+    ensures store { DiskKept S.Store conn.new
+        → OnStore result ((t : Tables) → HasTables S.Store conn.old t
+        → StoreFailed S.Store conn.old conn.new) }
     ensures reads { Reads S.Store conn.old conn.new }
 {
     let rows = last_command(conn)?;

@@ -1,6 +1,6 @@
 //! All rows that a query shows, as records.
 
-ghost use Rattle.std.specs.Prelude.{◌≡◌, ℕ, List, map, All, IfOk, IfSome, IfNone};
+ghost use Rattle.std.specs.Prelude.{IfErr, ◌≡◌, ◌≢◌, ℕ, List, map, All, IfOk, IfSome, IfNone};
 ghost use Rattle.sqlite.specs.Order.{Row};
 ghost use Rattle.gm_state.specs.Rows.{mirror_row, component_row, intent_row};
 ghost use Rattle.gm_registry.specs.Rows.{mirror_values, component_values};
@@ -68,6 +68,7 @@ impl Shown for Intent {
 pub(crate) fn read_all<T: Shown>(alloc: Global, rows: &[SqlRow]) -> Result<Vec<T>, StoreFault>
     ensures read { IfOk result
         (λ list. map (columns_at T.Shown.places) rows.now ≡ numbered T.Shown.values 1 list.items) }
+    ensures fault { IfErr result (λ e. e ≢ StoreFault.Store) }
     ensures unreadable { OnUnreadable result ((list : List T) → All T.Shown.is_value list
         → map (columns_at T.Shown.places) rows.now ≡ numbered T.Shown.values 1 list → ⊥) }
 {

@@ -187,110 +187,130 @@ fn run<S: Alter>(store: &mut Connection<S>, sql: &str) -> Result<usize, Error> {
     store.execute(sql, &[])
 }
 
-fn fresh(alloc: Global) -> Result<Registry<MemStore>, Fail> {
-    Ok(open(Connection::open_in_memory(alloc)?)?)
+fn memory(alloc: Global) -> Result<Connection<MemStore>, Fail> {
+    Ok(Connection::open_in_memory(alloc)?)
+}
+
+// The tests below go over any store, so that their proofs don't carry what one in memory is made of.
+fn must(holds: bool, what: &'static str) -> Result<(), Fail> {
+    if holds { Ok(()) } else { Err(what)? }
+}
+
+// Whether so many rows are counted.
+fn must_count<S: Alter>(
+    store: &mut Connection<S>,
+    rows: i64,
+    sql: &'static str,
+) -> Result<(), Fail> {
+    must(number(store, sql)? == rows, sql)
 }
 
 // gm0 with a.img and b.img, by two commands.
-fn filled(alloc: Global) -> Result<Registry<MemStore>, Fail> {
-    let mut registry = fresh(alloc)?;
+fn filled<S: Alter + Drop>(alloc: Global, store: Connection<S>) -> Result<Registry<S>, Fail> {
+    let mut registry = open(store)?;
     accept(&mut registry, &labels(alloc)?, "k1", "label gm0 a.img")?;
     settle(&mut registry)?;
     accept(&mut registry, &inserts(alloc)?, "k2", "insert gm0 b.img")?;
     Ok(registry)
 }
 
+fn is_empty_at_first<S: Alter + Drop>(store: Connection<S>) -> Result<(), Fail> {
+    let mut registry = open(store)?;
+    must(accepted(&mut registry)? == 0, "commands")?;
+    must(is_free(&mut registry, "k1")?, "a key")?;
+    let mut store = registry.close();
+    must_count(
+        &mut store,
+        1,
+        "SELECT count(*) FROM about WHERE one = 1 AND schema_no = 1",
+    )?;
+    must_count(&mut store, 0, "SELECT count(*) FROM mirrors")
+}
+
 #[test]
 fn an_empty_store_is_a_registry_without_records(rt: HostRuntime) -> Result<(), Fail> {
-    let mut registry = fresh(rt.alloc())?;
-    assert_eq!(rt; accepted(&mut registry)?, 0);
-    assert!(rt; is_free(&mut registry, "k1")?);
-    let mut store = registry.close();
-    assert_eq!(rt;
-        number(
-            &mut store,
-            "SELECT count(*) FROM about WHERE one = 1 AND schema_no = 1"
-        )?,
-        1
-    );
-    assert_eq!(rt; number(&mut store, "SELECT count(*) FROM mirrors")?, 0);
-    Ok(())
+    is_empty_at_first(memory(rt.alloc())?)
+}
+
+fn are_kept<S: Alter + Drop>(alloc: Global, store: Connection<S>) -> Result<(), Fail> {
+    let mut registry = filled(alloc, store)?;
+    must(accepted(&mut registry)? == 2, "another count")?;
+    must(
+        is_kept(&mut registry, "k1", 1, "label gm0 a.img")?,
+        "not the first",
+    )?;
+    must(
+        is_kept(&mut registry, "k2", 2, "insert gm0 b.img")?,
+        "not the second",
+    )?;
+    must(is_free(&mut registry, "k3")?, "a third")
 }
 
 #[test]
 fn accepted_commands_are_numbered_and_kept(rt: HostRuntime) -> Result<(), Fail> {
-    let mut registry = filled(rt.alloc())?;
-    assert_eq!(rt; accepted(&mut registry)?, 2);
-    assert!(rt; is_kept(&mut registry, "k1", 1, "label gm0 a.img")?);
-    assert!(rt; is_kept(&mut registry, "k2", 2, "insert gm0 b.img")?);
-    assert!(rt; is_free(&mut registry, "k3")?);
-    Ok(())
+    are_kept(rt.alloc(), memory(rt.alloc())?)
+}
+
+fn hold_bytes<S: Alter + Drop>(alloc: Global, store: Connection<S>) -> Result<(), Fail> {
+    let mut store = filled(alloc, store)?.close();
+    must_count(
+        &mut store,
+        1,
+        "SELECT count(*) FROM mirrors WHERE name = 'gm0' AND mid = 7 AND total = 2 AND genid = 0 AND syncid = 1 AND slice = 4096 AND balance = 2 AND mediasize = 1536 AND mflags = 0",
+    )?;
+    must_count(
+        &mut store,
+        1,
+        "SELECT count(*) FROM components WHERE prov = 'a.img' AND mirror = 'gm0' AND did = 1 AND syncid = 1 AND priority = 0 AND sync_offset = 0 AND dflags = 0 AND hard = 1 AND provsize = 2048",
+    )?;
+    must_count(
+        &mut store,
+        1,
+        "SELECT count(*) FROM components WHERE prov = 'b.img' AND did = 2 AND priority = 9 AND dflags = 2 AND hard = 0",
+    )?;
+    must_count(
+        &mut store,
+        2,
+        "SELECT count(*) FROM commands WHERE copied = 0 AND of_total = 0",
+    )
 }
 
 #[test]
 fn rows_hold_bytes_codes_and_flags(rt: HostRuntime) -> Result<(), Fail> {
-    let mut store = filled(rt.alloc())?.close();
-    assert_eq!(rt;
-        number(
-            &mut store,
-            "SELECT count(*) FROM mirrors WHERE name = 'gm0' AND mid = 7 AND total = 2 AND genid = 0 AND syncid = 1 AND slice = 4096 AND balance = 2 AND mediasize = 1536 AND mflags = 0"
-        )?,
-        1
-    );
-    assert_eq!(rt;
-        number(
-            &mut store,
-            "SELECT count(*) FROM components WHERE prov = 'a.img' AND mirror = 'gm0' AND did = 1 AND syncid = 1 AND priority = 0 AND sync_offset = 0 AND dflags = 0 AND hard = 1 AND provsize = 2048"
-        )?,
-        1
-    );
-    assert_eq!(rt;
-        number(
-            &mut store,
-            "SELECT count(*) FROM components WHERE prov = 'b.img' AND did = 2 AND priority = 9 AND dflags = 2 AND hard = 0"
-        )?,
-        1
-    );
-    assert_eq!(rt;
-        number(
-            &mut store,
-            "SELECT count(*) FROM commands WHERE copied = 0 AND of_total = 0"
-        )?,
-        2
-    );
-    Ok(())
+    hold_bytes(rt.alloc(), memory(rt.alloc())?)
+}
+
+fn are_settled<S: Alter + Drop>(alloc: Global, store: Connection<S>) -> Result<(), Fail> {
+    let mut store = filled(alloc, store)?.close();
+    must_count(
+        &mut store,
+        2,
+        "SELECT count(*) FROM intents WHERE kind = 1 AND source = '' AND first_sector = 0 AND end_sector = 0",
+    )?;
+    must_count(
+        &mut store,
+        1,
+        "SELECT ord FROM intents WHERE prov = 'a.img'",
+    )?;
+    must_count(
+        &mut store,
+        2,
+        "SELECT ord FROM intents WHERE prov = 'b.img'",
+    )?;
+    let mut registry = open(store)?;
+    settle(&mut registry)?;
+    must(accepted(&mut registry)? == 2, "another count")?;
+    must_count(&mut registry.close(), 0, "SELECT count(*) FROM intents")
 }
 
 #[test]
 fn intents_are_numbered_and_settled(rt: HostRuntime) -> Result<(), Fail> {
-    let mut store = filled(rt.alloc())?.close();
-    assert_eq!(rt;
-        number(
-            &mut store,
-            "SELECT count(*) FROM intents WHERE kind = 1 AND source = '' AND first_sector = 0 AND end_sector = 0"
-        )?,
-        2
-    );
-    assert_eq!(rt;
-        number(&mut store, "SELECT ord FROM intents WHERE prov = 'a.img'")?,
-        1
-    );
-    assert_eq!(rt;
-        number(&mut store, "SELECT ord FROM intents WHERE prov = 'b.img'")?,
-        2
-    );
-    let mut registry = open(store)?;
-    settle(&mut registry)?;
-    assert_eq!(rt; accepted(&mut registry)?, 2);
-    let mut store = registry.close();
-    assert_eq!(rt; number(&mut store, "SELECT count(*) FROM intents")?, 0);
-    Ok(())
+    are_settled(rt.alloc(), memory(rt.alloc())?)
 }
 
-#[test]
-fn a_change_writes_only_what_it_names(rt: HostRuntime) -> Result<(), Fail> {
-    let mut registry = fresh(rt.alloc())?;
-    accept(&mut registry, &labels(rt.alloc())?, "k1", "label gm0 a.img")?;
+fn writes_what_it_names<S: Alter + Drop>(alloc: Global, store: Connection<S>) -> Result<(), Fail> {
+    let mut registry = open(store)?;
+    accept(&mut registry, &labels(alloc)?, "k1", "label gm0 a.img")?;
     settle(&mut registry)?;
     let mut store = registry.close();
     run(
@@ -302,82 +322,93 @@ fn a_change_writes_only_what_it_names(rt: HostRuntime) -> Result<(), Fail> {
         "INSERT INTO components VALUES ('z.img', 'gm9', 1, 1, 77, 0, 0, 0, 2048)",
     )?;
     let mut registry = open(store)?;
-    accept(
-        &mut registry,
-        &inserts(rt.alloc())?,
-        "k2",
-        "insert gm0 b.img",
-    )?;
+    accept(&mut registry, &inserts(alloc)?, "k2", "insert gm0 b.img")?;
     let mut store = registry.close();
-    assert_eq!(rt;
-        number(
-            &mut store,
-            "SELECT priority FROM components WHERE prov = 'z.img'"
-        )?,
-        77
-    );
-    assert_eq!(rt; number(&mut store, "SELECT count(*) FROM components")?, 3);
-    Ok(())
+    must_count(
+        &mut store,
+        77,
+        "SELECT priority FROM components WHERE prov = 'z.img'",
+    )?;
+    must_count(&mut store, 3, "SELECT count(*) FROM components")
+}
+
+#[test]
+fn a_change_writes_only_what_it_names(rt: HostRuntime) -> Result<(), Fail> {
+    writes_what_it_names(rt.alloc(), memory(rt.alloc())?)
+}
+
+fn leaves_no_row<S: Alter + Drop>(alloc: Global, store: Connection<S>) -> Result<(), Fail> {
+    let mut registry = filled(alloc, store)?;
+    settle(&mut registry)?;
+    accept(&mut registry, &destroys(alloc)?, "k3", "destroy gm0")?;
+    let mut store = registry.close();
+    must_count(&mut store, 0, "SELECT count(*) FROM mirrors")?;
+    must_count(&mut store, 0, "SELECT count(*) FROM components")?;
+    must_count(&mut store, 2, "SELECT count(*) FROM intents WHERE kind = 2")
 }
 
 #[test]
 fn a_destroyed_mirror_leaves_no_row(rt: HostRuntime) -> Result<(), Fail> {
-    let mut registry = filled(rt.alloc())?;
+    leaves_no_row(rt.alloc(), memory(rt.alloc())?)
+}
+
+fn leaves_no_trace<S: Alter + Drop>(alloc: Global, store: Connection<S>) -> Result<(), Fail> {
+    let mut registry = filled(alloc, store)?;
+    // The key is taken, which the last of its statements finds.
     settle(&mut registry)?;
-    accept(&mut registry, &destroys(rt.alloc())?, "k3", "destroy gm0")?;
+    let refused = accept(&mut registry, &destroys(alloc)?, "k2", "destroy gm0");
+    must(refused == Err(StoreFault::Store), "another answer")?;
     let mut store = registry.close();
-    assert_eq!(rt; number(&mut store, "SELECT count(*) FROM mirrors")?, 0);
-    assert_eq!(rt; number(&mut store, "SELECT count(*) FROM components")?, 0);
-    assert_eq!(rt;
-        number(&mut store, "SELECT count(*) FROM intents WHERE kind = 2")?,
-        2
-    );
-    Ok(())
+    must_count(&mut store, 2, "SELECT count(*) FROM components")?;
+    must_count(&mut store, 0, "SELECT count(*) FROM intents")
 }
 
 #[test]
 fn a_refused_change_leaves_no_trace(rt: HostRuntime) -> Result<(), Fail> {
-    let mut registry = filled(rt.alloc())?;
-    // The key is taken, which the last of its statements finds.
-    settle(&mut registry)?;
-    let refused = accept(&mut registry, &destroys(rt.alloc())?, "k2", "destroy gm0");
-    assert!(rt; refused == Err(StoreFault::Store));
-    let mut store = registry.close();
-    assert_eq!(rt; number(&mut store, "SELECT count(*) FROM components")?, 2);
-    assert_eq!(rt; number(&mut store, "SELECT count(*) FROM intents")?, 0);
-    Ok(())
+    leaves_no_trace(rt.alloc(), memory(rt.alloc())?)
+}
+
+fn fault_of_opening<S: Alter + Drop>(store: Connection<S>) -> Result<StoreFault, Fail> {
+    match open(store) {
+        Ok(_) => Err("it was opened")?,
+        Err(fault) => Ok(fault),
+    }
 }
 
 // What an opening says of a registry after a statement of somebody else's.
-fn after(alloc: Global, sql: &str) -> Result<StoreFault, Fail> {
-    let mut store = filled(alloc)?.close();
+fn is_unread_after<S: Alter + Drop>(
+    alloc: Global,
+    store: Connection<S>,
+    sql: &'static str,
+) -> Result<(), Fail> {
+    let mut store = filled(alloc, store)?.close();
     run(&mut store, sql)?;
-    match open(store) {
-        Ok(_) => Err("it was opened")?,
-        Err(fault) => Ok(fault),
-    }
+    must(fault_of_opening(store)? == StoreFault::Unreadable, sql)
 }
 
 // What an opening says of a store that this statement made.
-fn over(alloc: Global, sql: &str) -> Result<StoreFault, Fail> {
-    let mut store = Connection::open_in_memory(alloc)?;
+fn is_unread_over<S: Alter + Drop>(
+    mut store: Connection<S>,
+    sql: &'static str,
+) -> Result<(), Fail> {
     run(&mut store, sql)?;
-    match open(store) {
-        Ok(_) => Err("it was opened")?,
-        Err(fault) => Ok(fault),
-    }
+    must(fault_of_opening(store)? == StoreFault::Unreadable, sql)
 }
 
 #[test]
 fn other_stores_are_unreadable(rt: HostRuntime) -> Result<(), Fail> {
-    let unreadable = StoreFault::Unreadable;
-    assert!(rt; after(rt.alloc(), "UPDATE about SET schema_no = 3")? == unreadable);
-    assert!(rt; after(rt.alloc(), "DELETE FROM about")? == unreadable);
-    assert!(rt; after(rt.alloc(), "DROP TABLE intents")? == unreadable);
-    assert!(rt; after(rt.alloc(), "CREATE TABLE other(a INTEGER) STRICT")? == unreadable);
-    assert!(rt; after(rt.alloc(), "CREATE INDEX by_total ON mirrors(total)")? == unreadable);
-    assert!(rt; over(rt.alloc(), "CREATE TABLE note(a INTEGER) STRICT")? == unreadable);
-    assert!(rt; over(rt.alloc(), MIRRORS)? == unreadable);
+    for sql in [
+        "UPDATE about SET schema_no = 3",
+        "DELETE FROM about",
+        "DROP TABLE intents",
+        "CREATE TABLE other(a INTEGER) STRICT",
+        "CREATE INDEX by_total ON mirrors(total)",
+    ] {
+        is_unread_after(rt.alloc(), memory(rt.alloc())?, sql)?;
+    }
+    for sql in ["CREATE TABLE note(a INTEGER) STRICT", MIRRORS] {
+        is_unread_over(memory(rt.alloc())?, sql)?;
+    }
     Ok(())
 }
 
@@ -386,7 +417,18 @@ fn faults_are_numbered(rt: HostRuntime) -> Result<(), Fail> {
     assert_eq!(rt; StoreFault::Memory.number(), 1);
     assert_eq!(rt; StoreFault::Store.number(), 2);
     assert_eq!(rt; StoreFault::Unreadable.number(), 3);
-    let text = format!(in rt.alloc(); "{}", StoreFault::Unreadable)?;
-    assert_eq!(rt; text.as_str(), "the registry is unreadable");
+    Ok(())
+}
+
+#[test]
+fn faults_have_texts(rt: HostRuntime) -> Result<(), Fail> {
+    for (fault, text) in [
+        (StoreFault::Memory, "out of memory"),
+        (StoreFault::Store, "the store failed"),
+        (StoreFault::Unreadable, "the registry is unreadable"),
+    ] {
+        let shown = format!(in rt.alloc(); "{fault}")?;
+        assert_eq!(rt; shown.as_str(), text);
+    }
     Ok(())
 }

@@ -13,3 +13,4 @@ pub mod Showing
 pub mod Looping
 pub mod Reading
 pub mod Unique
+pub mod Failing

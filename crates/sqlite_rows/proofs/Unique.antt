@@ -1,5 +1,5 @@
 -- A table whose key is a text in its first column, guarded by an index, has one row of a key.
-use Rattle.std.proofs.Common.{◌≡◌, ◌≤◌, inl, inr, Bool, true, false, not, ◌&&◌, ℕ, List, [], ◌∷◌, filter, length, refl, sym, ap, subst, ◌∙◌, arith}
+use Rattle.std.proofs.Common.{◌≡◌, ◌≤◌, inl, inr, true, false, not, ◌&&◌, ℕ, List, [], ◌∷◌, filter, length, refl, sym, ap, subst, ◌∙◌, arith}
 use Rattle.std.specs.List.{list_any}
 use Rattle.std.specs.Ordering.{is_eq}
 use Rattle.std.proofs.lemmas.Bool.{true≢false, and_from}

@@ -1,11 +1,11 @@
 //! Tables that say a state, and tables that say none.
 
-use super::{NO_FLAGS, accept, bare, change, fresh, label, open, settle};
+use super::{NO_FLAGS, accept, bare, change, label, memory, must, open, settle};
 use crate::{Registry, StoreFault};
 use gm_metadata::{Balance, MirrorFlags};
 use gm_rules::Fact;
 use gm_state::{BalanceWord, Command, Component, Disk, Intent, Mirror, Slice, State};
-use sqlite::{Alter, MemStore};
+use sqlite::{Alter, Connection};
 use std::alloc::Global;
 use std::test::Fail;
 
@@ -79,8 +79,8 @@ fn load<S: Alter>(
 }
 
 // A registry with the rows, of which these were edited.
-fn edited(alloc: Global, sql: &str) -> Result<Registry<MemStore>, Fail> {
-    let mut store = fresh(alloc)?.close();
+fn edited<S: Alter + Drop>(store: Connection<S>, sql: &str) -> Result<Registry<S>, Fail> {
+    let mut store = open(store)?.close();
     store.execute_batch(ROWS)?;
     store.execute_batch(sql)?;
     Ok(open(store)?)
@@ -139,24 +139,35 @@ fn intents() -> Result<[Intent; 3], Fail> {
     ])
 }
 
+fn say_a_state<S: Alter + Drop>(alloc: Global, store: Connection<S>) -> Result<(), Fail> {
+    let mut registry = edited(store, "")?;
+    let (state, pending) = load(alloc, &mut registry)?;
+    must(state.mirrors().len() == 3, "mirrors")?;
+    must(state.components().len() == 7, "components")?;
+    must(state.mirror(label("gm0")?) == Some(gm0()?), "gm0")?;
+    must(state.component(label("b.img")?) == Some(b_img()?), "b.img")?;
+    must(pending.as_slice() == intents()?.as_slice(), "intents")
+}
+
 #[test]
 fn rows_say_a_state(rt: HostRuntime) -> Result<(), Fail> {
-    let mut registry = edited(rt.alloc(), "")?;
-    let (state, pending) = load(rt.alloc(), &mut registry)?;
-    assert_eq!(rt; state.mirrors().len(), 3);
-    assert_eq!(rt; state.components().len(), 7);
-    assert_eq!(rt; state.mirror(label("gm0")?), Some(gm0()?));
-    assert_eq!(rt; state.component(label("b.img")?), Some(b_img()?));
-    assert_eq!(rt; pending.as_slice(), intents()?.as_slice());
-    Ok(())
+    say_a_state(rt.alloc(), memory(rt.alloc())?)
+}
+
+fn say_none<S: Alter + Drop>(
+    alloc: Global,
+    store: Connection<S>,
+    edit: &'static str,
+) -> Result<(), Fail> {
+    let mut registry = edited(store, edit)?;
+    let fault = load(alloc, &mut registry).err();
+    must(fault == Some(StoreFault::Unreadable), edit)
 }
 
 #[test]
 fn edited_rows_say_none(rt: HostRuntime) -> Result<(), Fail> {
     for edit in EDITS {
-        let mut registry = edited(rt.alloc(), edit)?;
-        let fault = load(rt.alloc(), &mut registry).err();
-        assert_eq!(rt; fault, Some(StoreFault::Unreadable), "{edit}");
+        say_none(rt.alloc(), memory(rt.alloc())?, edit)?;
     }
     Ok(())
 }
@@ -198,9 +209,9 @@ fn new_component(name: &str, provider: &str, did: u32) -> Result<Command, Fail> 
 }
 
 // What the command does to the state that is loaded, accepted and settled.
-fn step(
+fn step<S: Alter>(
     alloc: Global,
-    registry: &mut Registry<MemStore>,
+    registry: &mut Registry<S>,
     key: &str,
     command: &Command,
 ) -> Result<(), Fail> {
@@ -211,13 +222,13 @@ fn step(
     Ok(())
 }
 
-fn three_mirrors(alloc: Global, registry: &mut Registry<MemStore>) -> Result<(), Fail> {
+fn three_mirrors<S: Alter>(alloc: Global, registry: &mut Registry<S>) -> Result<(), Fail> {
     step(alloc, registry, "k1", &new_mirror("gm2", "e.img", 9)?)?;
     step(alloc, registry, "k2", &new_mirror("gm0", "a.img", 7)?)?;
     step(alloc, registry, "k3", &new_mirror("gm1", "d.img", 8)?)
 }
 
-fn four_more(alloc: Global, registry: &mut Registry<MemStore>) -> Result<(), Fail> {
+fn four_more<S: Alter>(alloc: Global, registry: &mut Registry<S>) -> Result<(), Fail> {
     step(alloc, registry, "k4", &new_component("gm0", "c.img", 3)?)?;
     step(alloc, registry, "k5", &new_component("gm2", "g.img", 2)?)?;
     step(alloc, registry, "k6", &new_component("gm0", "b.img", 2)?)?;
@@ -229,17 +240,20 @@ fn four_more(alloc: Global, registry: &mut Registry<MemStore>) -> Result<(), Fai
     )
 }
 
+fn is_loaded<S: Alter + Drop>(alloc: Global, store: Connection<S>) -> Result<(), Fail> {
+    let mut registry = open(store)?;
+    three_mirrors(alloc, &mut registry)?;
+    four_more(alloc, &mut registry)?;
+    let (state, pending) = load(alloc, &mut open(registry.close())?)?;
+    must(state.components().len() == 7, "components")?;
+    must(state.mirrors().len() == 3, "mirrors")?;
+    must(pending.is_empty(), "intents")?;
+    must(state.component(label("f.img")?) == Some(f_img()?), "f.img")
+}
+
 #[test]
 fn what_is_accepted_is_loaded(rt: HostRuntime) -> Result<(), Fail> {
-    let mut registry = fresh(rt.alloc())?;
-    three_mirrors(rt.alloc(), &mut registry)?;
-    four_more(rt.alloc(), &mut registry)?;
-    let (state, pending) = load(rt.alloc(), &mut open(registry.close())?)?;
-    assert_eq!(rt; state.components().len(), 7);
-    assert_eq!(rt; state.mirrors().len(), 3);
-    assert!(rt; pending.is_empty());
-    assert_eq!(rt; state.component(label("f.img")?), Some(f_img()?));
-    Ok(())
+    is_loaded(rt.alloc(), memory(rt.alloc())?)
 }
 
 // f.img as the last command made it.

@@ -1,6 +1,6 @@
 //! A store of two files, of which one stops at each of its calls in turn, and what is found when it is opened again.
 
-use super::{accept, accepted, inserts, labels, loads, number, open, settle};
+use super::{accept, accepted, inserts, labels, loads, number, settle};
 use crate::Registry;
 use gm_rules::Change;
 use sqlite::{Alter, Connection, Files, Options};
@@ -69,49 +69,132 @@ fn media_of(alloc: Global, files: &Files<Fuse<Memory>>) -> Result<Media, Fail> {
     })
 }
 
-// Opens the registry, loads it, accepts the change and settles it, as far as the store serves and says a state.
-fn run_on<S: Alter + Drop>(
-    alloc: Global,
-    store: Connection<S>,
-    change: &Change,
-    key: &str,
-) -> (Reached, Connection<S>) {
-    if !store.is_autocommit() {
-        return (NOTHING, store);
-    }
-    let mut registry = match Registry::open(store) {
-        Ok(registry) => registry,
-        Err(fault) => return (NOTHING, fault.store),
-    };
-    let loaded = loads(alloc, &mut registry);
-    let accepted = loaded && accept(&mut registry, change, key, "words").is_ok();
-    let settled = accepted && settle(&mut registry).is_ok();
-    let reached = Reached {
-        loaded,
-        accepted,
-        settled,
-    };
-    (reached, registry.close())
+// What is asked of a store that is opened over files.
+#[derive(Clone, Copy)]
+enum Job<'a> {
+    // To load it, accept the change and settle it, as far as the store serves and says a state.
+    Run(&'a Change, &'a str),
+    // To run somebody else's statements.
+    Edit(&'a str),
+    // To tell what it holds.
+    Look,
 }
 
-// The same on files; they come back with whether they stopped.
-fn run_on_files<D: Disk + Drop>(
+// How many rows are found.
+#[derive(Clone, Copy)]
+struct Found {
+    commands: u64,
+    components: i64,
+    intents: i64,
+}
+
+// What was done of a job.
+#[derive(Clone, Copy)]
+struct Told {
+    reached: Reached,
+    edited: bool,
+    found: Option<Found>,
+}
+
+const NOTHING_TOLD: Told = Told {
+    reached: NOTHING,
+    edited: false,
+    found: None,
+};
+
+fn run_on<S: Alter + Drop>(
     alloc: Global,
-    files: Files<D>,
+    registry: &mut Registry<S>,
     change: &Change,
     key: &str,
-) -> (Reached, bool, Files<D>) {
+) -> Told {
+    let loaded = loads(alloc, registry);
+    let accepted = loaded && accept(registry, change, key, "words").is_ok();
+    let settled = accepted && settle(registry).is_ok();
+    Told {
+        reached: Reached {
+            loaded,
+            accepted,
+            settled,
+        },
+        ..NOTHING_TOLD
+    }
+}
+
+fn rows_in<S: Alter>(commands: u64, store: &mut Connection<S>) -> Option<Found> {
+    let components = number(store, "SELECT count(*) FROM components").ok()?;
+    let intents = number(store, "SELECT count(*) FROM intents").ok()?;
+    Some(Found {
+        commands,
+        components,
+        intents,
+    })
+}
+
+// Does a job that asks for the registry.
+fn serve<S: Alter + Drop>(
+    alloc: Global,
+    mut registry: Registry<S>,
+    job: &Job<'_>,
+) -> (Told, Connection<S>) {
+    match job {
+        Job::Run(change, key) => {
+            let told = run_on(alloc, &mut registry, change, key);
+            (told, registry.close())
+        }
+        Job::Edit(_) => (NOTHING_TOLD, registry.close()),
+        Job::Look => {
+            let count = accepted(&mut registry).ok();
+            let mut store = registry.close();
+            let found = count.and_then(|commands| rows_in(commands, &mut store));
+            let told = Told {
+                found,
+                ..NOTHING_TOLD
+            };
+            (told, store)
+        }
+    }
+}
+
+// Opens the registry for a job, unless it is somebody else's.
+fn perform<S: Alter + Drop>(
+    alloc: Global,
+    mut store: Connection<S>,
+    job: &Job<'_>,
+) -> (Told, Connection<S>) {
+    if let Job::Edit(statements) = job {
+        let told = Told {
+            edited: store.execute_batch(statements).is_ok(),
+            ..NOTHING_TOLD
+        };
+        return (told, store);
+    }
+    if !store.is_autocommit() {
+        return (NOTHING_TOLD, store);
+    }
+    match Registry::open(store) {
+        Ok(registry) => serve(alloc, registry, job),
+        Err(fault) => (NOTHING_TOLD, fault.store),
+    }
+}
+
+// The same on files; they come back with whether they stopped. No other function owns a store of two files.
+fn perform_on_files<D: Disk + Drop>(
+    alloc: Global,
+    files: Files<D>,
+    job: &Job<'_>,
+) -> (Told, bool, Files<D>) {
     if !files.may_be_used() {
-        return (NOTHING, true, files);
+        return (NOTHING_TOLD, true, files);
     }
     let store = match Connection::open_files(alloc, files, Options::new(1)) {
         Ok(store) => store,
-        Err((_, left)) => return (NOTHING, true, left.into_files()),
+        Err((_, left)) => return (NOTHING_TOLD, true, left.into_files()),
     };
-    let (reached, store) = run_on(alloc, store, change, key);
+    let (told, store) = perform(alloc, store, job);
     match store.close_files() {
-        Ok(files) => (reached, false, files),
-        Err((_, store)) => (reached, true, store.close()),
+        Ok(files) => (told, false, files),
+        Err((_, store)) => (told, true, store.close()),
     }
 }
 
@@ -131,13 +214,14 @@ fn run_for(
     change: &Change,
     key: &str,
 ) -> Result<Outcome, Fail> {
-    let (reached, stopped, mut left) = run_on_files(alloc, files(alloc, from, calls)?, change, key);
+    let job = Job::Run(change, key);
+    let (told, stopped, mut left) = perform_on_files(alloc, files(alloc, from, calls)?, &job);
     let read = media_of(alloc, &left)?;
     left.log.crash();
     left.db.crash();
     let crashed = media_of(alloc, &left)?;
     Ok(Outcome {
-        reached,
+        reached: told.reached,
         stopped,
         read,
         crashed,
@@ -154,73 +238,41 @@ pub(super) fn run(
     run_for(alloc, from, ALL, change, key)
 }
 
-fn edit_files<D: Disk + Drop>(
-    alloc: Global,
-    files: Files<D>,
-    statements: &str,
-) -> Result<Files<D>, Fail> {
-    if !files.may_be_used() {
-        return Err("a sync failed")?;
-    }
-    let mut store = Connection::open_files(alloc, files, Options::new(1))
-        .ok()
-        .ok_or("not opened")?;
-    store.execute_batch(statements)?;
-    Ok(store.close_files().ok().ok_or("not closed")?)
-}
-
 // The files after these statements of somebody else's.
 pub(super) fn edited(alloc: Global, from: &Media, statements: &str) -> Result<Media, Fail> {
-    let files = edit_files(alloc, files(alloc, from, ALL)?, statements)?;
-    media_of(alloc, &files)
+    let job = Job::Edit(statements);
+    let (told, stopped, left) = perform_on_files(alloc, files(alloc, from, ALL)?, &job);
+    if stopped || !told.edited {
+        return Err("not edited")?;
+    }
+    media_of(alloc, &left)
 }
 
 // Each command puts a component more, and asks for the metadata of all.
-fn check_on<S: Alter + Drop>(
-    store: Connection<S>,
-    before: u64,
-    reached: Reached,
-) -> Result<(), Fail> {
-    let mut registry = open(store)?;
-    let count = accepted(&mut registry)?;
-    let mut store = registry.close();
-    let components = number(&mut store, "SELECT count(*) FROM components")?;
-    let intents = number(&mut store, "SELECT count(*) FROM intents")?;
+fn is_between(found: Found, before: u64, reached: Reached) -> Result<(), Fail> {
+    let count = found.commands;
     if count != before && count.checked_sub(1) != Some(before) {
         return Err("neither before nor after")?;
     }
-    if i64::try_from(count) != Ok(components) {
+    if i64::try_from(count) != Ok(found.components) {
         return Err("half a transaction")?;
     }
-    if intents != 0 && (count == before || intents != components) {
+    if found.intents != 0 && (count == before || found.intents != found.components) {
         return Err("intents of no command, or some of them")?;
     }
     if reached.accepted && count == before {
         return Err("an acknowledged command is lost")?;
     }
-    if reached.settled && intents != 0 {
+    if reached.settled && found.intents != 0 {
         return Err("settled intents are back")?;
     }
     Ok(())
 }
 
-fn check_files<D: Disk + Drop>(
-    alloc: Global,
-    files: Files<D>,
-    before: u64,
-    reached: Reached,
-) -> Result<(), Fail> {
-    if !files.may_be_used() {
-        return Err("a sync failed")?;
-    }
-    match Connection::open_files(alloc, files, Options::new(1)) {
-        Ok(store) => check_on(store, before, reached),
-        Err(_) => Err("not opened again")?,
-    }
-}
-
 fn check(alloc: Global, left: &Media, before: u64, reached: Reached) -> Result<(), Fail> {
-    check_files(alloc, files(alloc, left, ALL)?, before, reached)
+    let (told, _, _) = perform_on_files(alloc, files(alloc, left, ALL)?, &Job::Look);
+    let found = told.found.ok_or("not opened again")?;
+    is_between(found, before, reached)
 }
 
 // One run with a stop, and whether it came; the files are checked as they read and as a crash leaves them.

@@ -1,10 +1,11 @@
-use Rattle.std.proofs.Common.{inl, inr, [], ◌∷◌, subst}
+use Rattle.std.proofs.Common.{inl, inr, [], ◌∷◌, sym, ◌∙◌, subst}
 use Rattle.sqlite.specs.State.{Shown}
 use Rattle.sqlite.specs.Held.{state}
 use Rattle.gm_registry.specs.Queries.{query_text}
 use Rattle.gm_registry.proofs.Asking.{answers, shows, read, failed}
 use Rattle.gm_registry.proofs.Ordering.{in_order}
 use Rattle.gm_registry.specs.declared.fetching.Table.TheVariants.{Intents, Commands}
+use Rattle.gm_registry.proofs.Failures.{table_failed}
 use Rattle.gm_registry.proofs.fetching.rows_of.Goals as goal
 
 pub returns-in-Ok-clause-rows : goal.returns-in-Ok-clause-rows
@@ -28,3 +29,7 @@ returns-in-Ok-clause-in_order g c by_number clean ours =
       | inl is ↦ in_order 7 0 (2 ∷ 3 ∷ 4 ∷ 5 ∷ 6 ∷ []) old.now.trees c.in-Ok.rows.items (answers Intents old new c.in-Ok.rows.items ours (subst (λ t. Shown (query_text t) [] old new c.in-Ok.rows.items) is shown))
       | inr is ↦ in_order 8 2 (4 ∷ 5 ∷ []) old.now.trees c.in-Ok.rows.items (answers Commands old new c.in-Ok.rows.items ours (subst (λ t. Shown (query_text t) [] old new c.in-Ok.rows.items) is shown))
     ]
+
+pub returns-in-Err-clause-store : goal.returns-in-Err-clause-store
+returns-in-Err-clause-store g c clean is ours is_open =
+    table_failed (state g.S.Store c.args.conn.now) (state g.S.Store c.query_all.new.self) c.in-Err.error ours is_open c.args.table (rw c.query.ensures at (c.in-Err.ensures.err clean)) (sym c.from.ensures ∙ is)

@@ -20,3 +20,7 @@ returns-in_err-read_number-in-Some-clause-unreadable g c clean =
     let it = c.in_ok-rows.ensures.rows clean t was in
     let last = last_in_range t c.in_ok-rows.rows.items c.in-Some.row.now it.1.tables.rows.numbered it.0 (ap (λ l. slice_get l 0) (sym c.deref.ensures.value) ∙ sym c.in-Some.ensures.value) in
     c.in_err-read_number-in-Some.ensures.unreadable last.0 (omega (arith, last.1, few)) last.2) c.from_residual-in_err-read_number-in-Some.ensures.1
+
+pub returns-in_err-read_number-in-Some-clause-store : goal.returns-in_err-read_number-in-Some-clause-store
+returns-in_err-read_number-in-Some-clause-store g c clean =
+    passed_on c.from_residual-in_err-read_number-in-Some.result _ _ (λ e same is t was. absurd (c.in_err-read_number-in-Some.ensures.fault (sym same ∙ is))) c.from_residual-in_err-read_number-in-Some.ensures.1

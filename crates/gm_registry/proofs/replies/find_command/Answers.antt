@@ -1,13 +1,15 @@
 use Rattle.std.proofs.Common.{[], ◌∷◌}
 use Rattle.sqlite.specs.declared.types.Value.TheVariants.{Text}
 use Rattle.sqlite.specs.Held.{state}
-use Rattle.sqlite_rows.proofs.Refusing.{if_ok, shown_has, shown_ok, asked_has, asks_only}
+use Rattle.sqlite_rows.proofs.Refusing.{if_ok, if_err, shown_has, shown_ok, asked_has, asks_only}
 use Rattle.gm_registry.specs.Statements.{find_command_text}
 use Rattle.gm_registry.specs.Schema.{registry_schema}
 use Rattle.gm_registry.specs.Tables.{HasCounted}
 use Rattle.gm_registry.proofs.Meaning.{find_is}
 use Rattle.gm_registry.proofs.Replying.{finds}
 use Rattle.gm_registry.proofs.Saving.{reads}
+use Rattle.gm_registry.proofs.Failures.{find_failed}
+use Rattle.gm_registry.proofs.Passing.{ours}
 use Rattle.gm_registry.proofs.replies.find_command.Goals as goal
 
 pub returns-clause-rows : goal.returns-clause-rows
@@ -25,3 +27,10 @@ returns-clause-reads g c =
     (λ clean. shown_ok registry_schema HasCounted (λ rows. rows.items) find_command_text _ old new c.query_all.result find_is.plain (c.query_all.ensures.ok clean))
     (λ clean. asked_has registry_schema HasCounted find_command_text _ old new c.query_all.result (c.query_all.ensures.err clean))
     (λ t was. asks_only registry_schema HasCounted find_command_text _ old new t was find_is.plain c.query_all.ensures.survives) c.query_all.ensures.survives.clean
+
+pub returns-clause-store : goal.returns-clause-store
+returns-clause-store g c clean =
+    let old = state g.S.Store c.args.conn.now in
+    let new = state g.S.Store c.query_all.new.self in
+    if_err c.query_all.result _ _ (λ e fails is t was. find_failed old new e (ours old t was) was.is_open c.args.key.now fails is)
+    (rw (c.params-to_sql.ensures) at (c.query_all.ensures.err clean))

@@ -1,12 +1,14 @@
 use Rattle.std.proofs.Common.{[]}
 use Rattle.sqlite.specs.Held.{state}
-use Rattle.sqlite_rows.proofs.Refusing.{if_ok, shown_has, shown_ok, asked_has, asks_only}
+use Rattle.sqlite_rows.proofs.Refusing.{if_ok, if_err, shown_has, shown_ok, asked_has, asks_only}
 use Rattle.gm_registry.specs.Statements.{last_command_text}
 use Rattle.gm_registry.specs.Schema.{registry_schema}
 use Rattle.gm_registry.specs.Tables.{HasCounted}
 use Rattle.gm_registry.proofs.Meaning.{last_is}
 use Rattle.gm_registry.proofs.Lasting.{lasts}
 use Rattle.gm_registry.proofs.Saving.{reads}
+use Rattle.gm_registry.proofs.Failures.{last_failed}
+use Rattle.gm_registry.proofs.Passing.{ours}
 use Rattle.gm_registry.proofs.replies.last_command.Goals as goal
 
 pub returns-clause-rows : goal.returns-clause-rows
@@ -24,3 +26,10 @@ returns-clause-reads g c =
     (λ clean. shown_ok registry_schema HasCounted (λ rows. rows.items) last_command_text _ old new c.query_all.result last_is.plain (c.query_all.ensures.ok clean))
     (λ clean. asked_has registry_schema HasCounted last_command_text _ old new c.query_all.result (c.query_all.ensures.err clean))
     (λ t was. asks_only registry_schema HasCounted last_command_text _ old new t was last_is.plain c.query_all.ensures.survives) c.query_all.ensures.survives.clean
+
+pub returns-clause-store : goal.returns-clause-store
+returns-clause-store g c clean =
+    let old = state g.S.Store c.args.conn.now in
+    let new = state g.S.Store c.query_all.new.self in
+    if_err c.query_all.result _ _ (λ e fails is t was. last_failed old new e (ours old t was) was.is_open fails is)
+    (c.query_all.ensures.err clean)

@@ -25,3 +25,7 @@ returns-in_err-kept-in-Some-clause-unreadable g c clean =
     let row = has_got c.in_ok-rows.rows.items 0 c.in-Some.row.now (ap (λ l. slice_get l 0) (sym c.deref.ensures.value) ∙ sym c.in-Some.ensures.value) in
     let command = found_row t c.args.key.now c.in_ok-rows.rows.items c.in-Some.row.now it.0 row in
     c.in_err-kept-in-Some.ensures.unreadable (sym same ∙ is) command.0 (written command.0 command.1 ((bytes_eq-Decides command.0.call_key c.args.key.now).0 command.2)) (sym command.3)) c.from_residual-in_err-kept-in-Some.ensures.1
+
+pub returns-in_err-kept-in-Some-clause-store : goal.returns-in_err-kept-in-Some-clause-store
+returns-in_err-kept-in-Some-clause-store g c clean =
+    passed_on c.from_residual-in_err-kept-in-Some.result _ _ (λ e same is t was. absurd (c.in_err-kept-in-Some.ensures.fault (sym same ∙ is))) c.from_residual-in_err-kept-in-Some.ensures.1

@@ -1,0 +1,111 @@
+-- Why the queries of a registry fail.
+use Rattle.std.proofs.Common.{◌≡◌, ◌⊎◌, inl, inr, ℕ, true, List, [], ◌∷◌, map, IsTrue, IsSome, ◌≤◌, arith, refl, sym, ap, subst, ◌∙◌}
+use Rattle.std.specs.List.{Any}
+use Rattle.sqlite_disk.specs.Disk.{MoreFaults}
+use Rattle.sqlite.specs.Order.{Row}
+use Rattle.sqlite.specs.Tree.{Trees}
+use Rattle.sqlite.specs.Held.{Held, state}
+use Rattle.sqlite.specs.Listing.{understood}
+use Rattle.sqlite.specs.Query.{Query}
+use Rattle.sqlite.specs.State.{State, HasCleanDisk, FailsToQuery}
+use Rattle.sqlite.specs.Term.{Term}
+use Rattle.sqlite.specs.declared.error.Error.{Error}
+use Rattle.sqlite.specs.declared.error.Error.TheVariants.{SqliteFailure}
+use Rattle.sqlite.specs.declared.error.ErrorCode.TheVariants as code
+use Rattle.sqlite.specs.declared.types.Value.TheVariants.{Text}
+use Rattle.sqlite_sql.specs.Program.{QueryOverflows}
+use Rattle.sqlite_tied.specs.Compute.{everything}
+use Rattle.sqlite_trees.specs.declared.store.Store.{Ghosts}
+use Rattle.sqlite_typing.specs.Types.{accepts_program}
+use Rattle.sqlite_rows.proofs.Failing.{is_all_of, IsReadFault, read_fault}
+use Rattle.gm_registry.specs.Faults.{fault_of}
+use Rattle.gm_registry.specs.Queries.{query_text, tree_of}
+use Rattle.gm_registry.specs.Registry as of
+use Rattle.gm_registry.specs.Schema.{registry_schema}
+use Rattle.gm_registry.specs.Statements.{find_command_text, last_command_text}
+use Rattle.gm_registry.specs.declared.fault.StoreFault.{StoreFault}
+use Rattle.gm_registry.specs.declared.fault.StoreFault.TheVariants.{Memory, Store}
+use Rattle.gm_registry.specs.declared.fetching.Table.{Table}
+use Rattle.gm_registry.specs.declared.fetching.Table.TheVariants.{About, Mirrors, Components, Intents, Commands}
+use Rattle.gm_registry.specs.Reads.{IsOurs, HasRead}
+use Rattle.gm_registry.proofs.Asking.{query_of, asked}
+use Rattle.gm_registry.proofs.Passing.{ours_still}
+use Rattle.gm_registry.proofs.Meaning.{find_query, find_is, last_query, last_is}
+
+find_whole : is_all_of find_command_text 1 (understood registry_schema find_command_text) ≡ true
+unfolding understood everything
+find_whole = refl
+
+last_whole : is_all_of last_command_text 0 (understood registry_schema last_command_text) ≡ true
+unfolding understood everything
+last_whole = refl
+
+tables_whole : (t : Table) → is_all_of (query_text t) 0 (understood registry_schema (query_text t)) ≡ true
+unfolding understood everything
+tables_whole About = refl
+tables_whole Mirrors = refl
+tables_whole Components = refl
+tables_whole Intents = refl
+tables_whole Commands = refl
+
+find_typed : (key : List ℕ) → accepts_program registry_schema [] find_query (Text key ∷ []) ≡ true
+unfolding everything
+find_typed key = refl
+
+last_typed : accepts_program registry_schema [] last_query [] ≡ true
+unfolding everything
+last_typed = refl
+
+tables_typed : (t : Table) → accepts_program registry_schema [] (query_of t) [] ≡ true
+unfolding everything
+tables_typed About = refl
+tables_typed Mirrors = refl
+tables_typed Components = refl
+tables_typed Intents = refl
+tables_typed Commands = refl
+
+never : (rows : List Row) → Any (λ _. ⊥) rows → ⊥
+never rows h = h.4
+
+find_safe : (key : List ℕ) (db : Trees) → QueryOverflows find_query db (Text key ∷ []) → ⊥
+find_safe key db (inl none) = none
+find_safe key db (inr over) = never (db 8) over
+
+last_safe : (db : Trees) → QueryOverflows last_query db [] → ⊥
+last_safe db (inl none) = none
+last_safe db (inr over) = never (db 8) over
+
+tables_safe : (t : Table) (db : Trees) → QueryOverflows (query_of t) db [] → ⊥
+tables_safe t db (inl none) = none
+tables_safe t db (inr over) = never (db (tree_of t)) over
+
+-- an error that is told as one of the store
+told : (old new : State) (e : Error) → IsReadFault old new e → fault_of e ≡ Store → MoreFaults old.faults new.faults ⊎ IsSome old.step_limit
+told old new e (inl memory) is = absurd (let f : Memory ≡ Store = sym (ap fault_of memory) ∙ is in cc)
+told old new e (inr failed) is = failed
+
+module _ (old new : State) (e : Error) (has : old.now.schema ≡ registry_schema) (is_open : IsTrue old.is_open) where
+  pub find_failed : (key : List ℕ) → FailsToQuery find_command_text (Text key ∷ []) old new e → fault_of e ≡ Store → MoreFaults old.faults new.faults ⊎ IsSome old.step_limit
+  find_failed key fails =
+      told old new e (read_fault old new find_command_text (Text key ∷ []) e registry_schema find_query _ has find_is.command_is find_is.plain find_is.of_tables find_whole (find_typed key) (find_safe key) is_open fails)
+
+  pub last_failed : FailsToQuery last_command_text [] old new e → fault_of e ≡ Store → MoreFaults old.faults new.faults ⊎ IsSome old.step_limit
+  last_failed fails =
+      told old new e (read_fault old new last_command_text [] e registry_schema last_query _ has last_is.command_is last_is.plain last_is.of_tables last_whole last_typed last_safe is_open fails)
+
+  pub table_failed : (t : Table) → FailsToQuery (query_text t) [] old new e → fault_of e ≡ Store → MoreFaults old.faults new.faults ⊎ IsSome old.step_limit
+  table_failed t fails =
+      let asks = (asked t).1 in
+      told old new e (read_fault old new (query_text t) [] e registry_schema (query_of t) _ has asks.command_is asks.plain asks.of_tables (tables_whole t) (tables_typed t) (tables_safe t) is_open fails)
+
+-- a failure after a read is one since before it
+pub failed_later : (a b c : State) → HasRead a b → HasCleanDisk b → IsOurs a → IsTrue a.is_open → (IsOurs b → IsTrue b.is_open → MoreFaults b.faults c.faults ⊎ IsSome b.step_limit)
+    → MoreFaults a.faults c.faults ⊎ IsSome a.step_limit
+failed_later a b c read clean ours is_open failed =
+    elim (failed (ours_still a b read clean ours) (read.unchanged clean ours).0.is_open) [
+      | inl more ↦ inl (later a.faults b.faults c.faults read.left.counts more)
+      | inr limit ↦ inr (subst IsSome read.left.limit limit)
+    ]
+  where
+    later : (x y z : ℕ) → x ≤ y → MoreFaults y z → MoreFaults x z
+    later x y z le more = omega (arith, le, more)

@@ -1,0 +1,71 @@
+-- Why a query of the tables fails, where its text is known.
+use Rattle.std.proofs.Common.{◌≡◌, ◌⊎◌, inl, inr, ℕ, Bool, true, false, ◌&&◌, eqb, List, [], length, IsSome, IsTrue, Result, Ok, Err, refl, sym, ap, subst, subst₂, ◌∙◌}
+use Rattle.std.proofs.lemmas.List.{append-nil}
+use Rattle.std.proofs.Math.Dec.{leb}
+use Rattle.std.proofs.lemmas.Bool.{true≢false, eqb-true, leb-true}
+use Rattle.sqlite_disk.specs.Disk.{MoreFaults}
+use Rattle.sqlite_trees.specs.declared.error.StoreError.TheVariants.{OutOfMemory, Io, Corrupt, Full, Broken, Unstorable}
+use Rattle.sqlite.specs.Order.{Row}
+use Rattle.sqlite.specs.Tree.{Trees}
+use Rattle.sqlite.specs.Schema.{Schema}
+use Rattle.sqlite.specs.Query.{Query}
+use Rattle.sqlite.specs.Effect.{RefusesToRead}
+use Rattle.sqlite.specs.Listing.{understood, reads_listing, IsSourceOf}
+use Rattle.sqlite.specs.Command.TheVariants.{Select}
+use Rattle.sqlite.specs.declared.error.Error.{Error}
+use Rattle.sqlite.specs.declared.error.Error.TheVariants.{SqliteFailure}
+use Rattle.sqlite.specs.declared.error.ErrorCode.TheVariants as code
+use Rattle.sqlite.specs.State.{State, FailsToQuery, IsNotRun, IsNoStatement, Fails}
+use Rattle.sqlite.proofs.Callers.{IsPlain, command_of}
+use Rattle.sqlite_resolve.specs.declared.compiled.Compiled.{Compiled}
+use Rattle.sqlite_resolve.specs.declared.error.CompileError.{CompileError}
+use Rattle.sqlite_sql.specs.Program.{QueryOverflows}
+use Rattle.sqlite_typing.specs.Types.{accepts_program}
+
+-- the text is all that was understood, with as many parameters
+abbrev pub is_all_of : List ℕ → ℕ → Result Compiled CompileError → Bool
+is_all_of sql count (Ok c) = leb (length sql) c.tail && eqb count (length c.names)
+is_all_of sql count (Err e) = false
+
+-- what a query of known text can fail of: want of memory, a failure of the disk, or the limit on steps
+abbrev pub IsReadFault : State → State → Error → Type 0
+IsReadFault old new e = (e ≡ SqliteFailure code.OutOfMemory) ⊎ (MoreFaults old.faults new.faults ⊎ IsSome old.step_limit)
+
+both : (a b : Bool) → a && b ≡ true → (a ≡ true) × (b ≡ true)
+both true b e = (refl, e)
+both false b e = absurd (let f : false ≡ true = e in cc)
+
+module _ (old new : State) (sql : List ℕ) (params : Row) (e : Error) where
+  store_failed : IsTrue old.is_open → Fails old new ⊥ e → IsReadFault old new e
+  store_failed is_open (OutOfMemory, is, more, rolled, tells) = inl is
+  store_failed is_open (Io, is, more, rolled, tells) = inr (inl more)
+  store_failed is_open (Corrupt, is, more, rolled, tells) = inr (inl more)
+  store_failed is_open (Full, is, more, rolled, tells) = inr (inl more)
+  store_failed is_open (Broken, is, more, rolled, tells) = absurd (true≢false (sym is_open ∙ more))
+  store_failed is_open (Unstorable, is, more, rolled, tells) = absurd more
+
+  never_misread : IsPlain (understood old.now.schema sql) → is_all_of sql (length params) (understood old.now.schema sql) ≡ true → IsNoStatement old sql params e → ⊥
+  never_misread plain all (inl (fault, is, told)) = subst IsPlain is plain
+  never_misread plain all (inr (c, is, inl short)) = short.0 (leb-true (length sql) c.tail (both _ _ (subst (λ r. is_all_of sql (length params) r ≡ true) is all)).0)
+  never_misread plain all (inr (c, is, inr (inl count))) = count.0 (eqb-true (length params) (length c.names) (both _ _ (subst (λ r. is_all_of sql (length params) r ≡ true) is all)).1)
+  never_misread plain all (inr (c, is, inr (inr formats))) = formats.0 (subst IsPlain is plain).1
+
+  module _ (schema : Schema) (query : Query) (names : List (List ℕ)) (has : old.now.schema ≡ schema) (command_is : command_of (understood schema sql) ≡ Select (record { lets = []; body = query }) names)
+      (plain : IsPlain (understood schema sql)) (of_tables : reads_listing schema sql ≡ false) (all : is_all_of sql (length params) (understood schema sql) ≡ true)
+      (typed : accepts_program schema [] query params ≡ true) (safe : (db : Trees) → QueryOverflows query db params → ⊥) where
+    refuses : RefusesToRead old.step_limit (Select (record { lets = []; body = query }) names) old.now params e → IsReadFault old new e
+    refuses (inl (is, ill)) = absurd (true≢false (sym (subst (λ s. accepts_program s [] query params ≡ true) (sym has) typed) ∙ ill))
+    refuses (inr (inl (is, over))) = absurd (safe _ over)
+    refuses (inr (inr (is, some))) = inr (inr some)
+
+    pub read_fault : IsTrue old.is_open → FailsToQuery sql params old new e → IsReadFault old new e
+    unfolding FailsToQuery IsNotRun
+    read_fault is_open (inl (inl none)) =
+        absurd (never_misread (subst (λ s. IsPlain (understood s sql)) (sym has) plain) (subst (λ s. is_all_of sql (length params) (understood s sql) ≡ true) (sym has) all) none.0)
+    read_fault is_open (inl (inr fails)) = store_failed is_open fails
+    read_fault is_open (inr (c, it, h)) =
+        let known = sym it.is ∙ ap (λ s. understood s sql) has in
+        let bare = subst IsPlain (sym known) plain in
+        let shown = rw (bare.0, bare.1, append-nil params) at h in
+        let db : shown.0 ≡ old.now = subst (λ b. IsSourceOf b old.now shown.0) (ap (λ s. reads_listing s sql) has ∙ of_tables) shown.1 in
+        refuses (subst₂ (λ k d. RefusesToRead old.step_limit k d params e) (ap command_of known ∙ command_is) db shown.2)
