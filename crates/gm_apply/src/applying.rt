@@ -15,14 +15,17 @@ use gm_state::{Intent, State, metadata_of};
 fn apply_one<H: Shelf>(shelf: &mut H, state: &State, intent: &Intent) -> Result<(), ShelfFault>
     ensures done { H.honest shelf.old → (w : Image)
         → IsSaid state.now (H.size shelf.old) intent.now (H.view shelf.old).seen w
-        → OnOk result (PlacesAreNew (names (H.size shelf.old) intent.now) w (H.view shelf.old) (H.view shelf.new)) }
+        → OnOk result (PlacesAreNew (names (H.size shelf.old) intent.now) w
+        (H.view shelf.old) (H.view shelf.new)) }
     ensures moments { H.honest shelf.old → (w : Image)
         → IsSaid state.now (H.size shelf.old) intent.now (H.view shelf.old).seen w
         → Moments (names (H.size shelf.old) intent.now) w (H.view shelf.old) (H.view shelf.new) }
     ensures others { H.honest shelf.old →
-        KeepsOthers (writes state.now (H.size shelf.old) intent.now) (H.view shelf.old) (H.view shelf.new) }
+        KeepsOthers (writes state.now (H.size shelf.old) intent.now)
+        (H.view shelf.old) (H.view shelf.new) }
 
-    ensures absent { IsErrOf result ShelfFault.Absent → LacksProvider (H.size shelf.old) intent.now }
+    ensures absent { IsErrOf result ShelfFault.Absent
+        → LacksProvider (H.size shelf.old) intent.now }
     ensures range { IsErrOf result ShelfFault.Range → LacksSector (H.size shelf.old) intent.now }
     ensures device { IsErrOf result ShelfFault.Device →
         (H.view shelf.old).faults < (H.view shelf.new).faults }
@@ -56,16 +59,19 @@ pub fn apply<H: Shelf>(shelf: &mut H, state: &State, intents: &[Intent]) -> Resu
     // At Ok each place holds what its intent says, also in every image that a crash may leave, and all else is as before.
     ensures done { H.honest shelf.old → OnOk result ((w : Image)
         → IsRedo state.now (H.size shelf.old) intents.now (H.view shelf.old).seen w
-        → PlacesAreNew (is_place (H.size shelf.old) intents.now) w (H.view shelf.old) (H.view shelf.new)) }
+        → PlacesAreNew (is_place (H.size shelf.old) intents.now) w
+        (H.view shelf.old) (H.view shelf.new)) }
     // At every moment of the call a crash leaves a part of that, with data before claims.
     ensures moments { H.honest shelf.old → (w : Image)
         → IsRedo state.now (H.size shelf.old) intents.now (H.view shelf.old).seen w
         → CrashLeaves (H.view shelf.old) (H.view shelf.new)
-        (λ x. From (H.view shelf.old).may_leave (λ d. IsPartlyDone (H.size shelf.old) intents.now w d x)) }
+        (λ x. From (H.view shelf.old).may_leave
+        (λ d. IsPartlyDone (H.size shelf.old) intents.now w d x)) }
 
     // Whatever the intents are: no sector is touched but those that they write.
     ensures others { H.honest shelf.old → KeepsOthers
-        (is_written state.now (H.size shelf.old) intents.now) (H.view shelf.old) (H.view shelf.new) }
+        (is_written state.now (H.size shelf.old) intents.now)
+        (H.view shelf.old) (H.view shelf.new) }
 
     ensures absent { IsErrOf result ShelfFault.Absent →
         (t : Intent) × Has intents.now t × LacksProvider (H.size shelf.old) t }

@@ -16,7 +16,8 @@ pub(crate) fn copy_sectors<H: Shelf>(
     first: u64,
     end: u64,
 ) -> Result<(), ShelfFault>
-    ensures done { H.honest shelf.old → OnOk result (PlacesAreNew (copies (Copy source target first end))
+    ensures done { H.honest shelf.old → OnOk result
+        (PlacesAreNew (copies (Copy source target first end))
         (λ q j. (H.view shelf.old).seen source j) (H.view shelf.old) (H.view shelf.new)) }
     ensures moments { H.honest shelf.old → Moments (copies (Copy source target first end))
         (λ q j. (H.view shelf.old).seen source j) (H.view shelf.old) (H.view shelf.new) }
@@ -26,7 +27,8 @@ pub(crate) fn copy_sectors<H: Shelf>(
     ensures absent { IsErrOf result ShelfFault.Absent →
         (H.size shelf.old source ≡ None) ⊎ (H.size shelf.old target ≡ None) }
     ensures range { IsErrOf result ShelfFault.Range →
-        IsSomeAnd (H.size shelf.old source) (λ n. n < end) ⊎ IsSomeAnd (H.size shelf.old target) (λ n. n < end) }
+        IsSomeAnd (H.size shelf.old source) (λ n. n < end)
+        ⊎ IsSomeAnd (H.size shelf.old target) (λ n. n < end) }
     ensures device { IsErrOf result ShelfFault.Device →
         (H.view shelf.old).faults < (H.view shelf.new).faults }
 

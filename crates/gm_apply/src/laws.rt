@@ -13,9 +13,11 @@ ghost use Rattle.gm_apply.specs.Continues.{Continues};
 
 /// The intents lead every image that they leave on the way to where they led before.
 pub fn every_image_leads_on()
-    ensures part { (s : Records) (size : Sizes) (ts : List Intent) (w d x : Image) → IsRedo s size ts d w
+    ensures part { (s : Records) (size : Sizes) (ts : List Intent) (w d x : Image)
+        → IsRedo s size ts d w
         → IsPartlyDone size ts w d x → IsRedo s size ts x w }
-    ensures end { (s : Records) (size : Sizes) (ts : List Intent) (w d x : Image) → IsRedo s size ts d w
+    ensures end { (s : Records) (size : Sizes) (ts : List Intent) (w d x : Image)
+        → IsRedo s size ts d w
         → Same x (with_places (is_place size ts) w d) → SameThere size x w }
 {}
 
@@ -52,6 +54,7 @@ pub fn one_sector_one_value()
 
 /// Readable intents lead somewhere from every image, where the components that they read or write are there.
 pub fn readable_intents_lead_somewhere()
-    ensures { (s : Records) (size : Sizes) (ts : List Intent) (x : Image) → IsState s → AreReadable s ts
+    ensures { (s : Records) (size : Sizes) (ts : List Intent) (x : Image) → IsState s
+        → AreReadable s ts
         → AreThere s ts size → LeadSomewhere s size ts x }
 {}

@@ -56,7 +56,8 @@ fn has_hash(sector: &[u8; 512]) -> bool
 }
 
 fn provider_of(field: &[u8; 16]) -> Option<Option<Label>>
-    ensures { result ≡ (if is_provider_field field.now then Some (provider_in field.now) else None) }
+    ensures { result
+        ≡ (if is_provider_field field.now then Some (provider_in field.now) else None) }
 {
     if all_zero(field) {
         return Some(None);

@@ -7,7 +7,8 @@ ghost use Rattle.gm_metadata.specs.Reading.{encoded, decode_of};
 
 /// No two metadata have one spelling.
 pub fn one_spelling()
-    ensures { (m n : Metadata) (b : List ℕ) → IsMetadata m → IsMetadata n → Spells m b → Spells n b → m ≡ n }
+    ensures { (m n : Metadata) (b : List ℕ) → IsMetadata m → IsMetadata n → Spells m b
+        → Spells n b → m ≡ n }
 {}
 
 /// Just one sector is full with a metadata.

@@ -97,13 +97,15 @@ fn any_absent(providers: &[Label], facts: &Facts) -> bool
 }
 
 fn is_missing(component: &Component, facts: &Facts) -> bool
-    ensures { result ≡ not (has_size (size_in facts.now component.now.provider) component.now.sectors) }
+    ensures { result
+        ≡ not (has_size (size_in facts.now component.now.provider) component.now.sectors) }
 {
     !has_size(facts.size(component.provider), component.sectors)
 }
 
 fn misses_some(components: &[Component], name: Option<Label>, facts: &Facts) -> bool
-    ensures { result ≡ list_any (λ k. not (has_size (size_in facts.now k.provider) k.sectors)) (filter (λ k. is_mine name k) components.now) }
+    ensures { result ≡ list_any (λ k. not (has_size (size_in facts.now k.provider) k.sectors))
+        (filter (λ k. is_mine name k) components.now) }
 {
     components
         .iter()
@@ -139,7 +141,9 @@ fn is_too_small(size: Option<u64>, mirror: &Mirror) -> bool
 }
 
 fn any_too_small(providers: &[Label], mirror: &Mirror, facts: &Facts) -> bool
-    ensures { result ≡ list_any (λ p. at (size_in facts.now p) (λ n. nat_lt n (mirror.now.data_sectors + 1))) providers.now }
+    ensures { result ≡ list_any
+        (λ p. at (size_in facts.now p) (λ n. nat_lt n (mirror.now.data_sectors + 1)))
+        providers.now }
 {
     providers
         .iter()
@@ -162,7 +166,8 @@ fn any_of_wrong_size(providers: &[Label], facts: &Facts) -> bool
 }
 
 fn has_member(components: &[Component], name: Option<Label>, provider: Label) -> bool
-    ensures { result ≡ list_any (λ k. same_label k.provider provider) (filter (λ k. is_mine name k) components.now) }
+    ensures { result ≡ list_any (λ k. same_label k.provider provider)
+        (filter (λ k. is_mine name k) components.now) }
 {
     components
         .iter()
@@ -171,13 +176,15 @@ fn has_member(components: &[Component], name: Option<Label>, provider: Label) ->
 }
 
 fn any_stranger(providers: &[Label], components: &[Component], name: Option<Label>) -> bool
-    ensures { result ≡ list_any (λ p. not (list_any (λ k. same_label k.provider p) (filter (λ k. is_mine name k) components.now))) providers.now }
+    ensures { result ≡ list_any (λ p. not (list_any (λ k. same_label k.provider p)
+        (filter (λ k. is_mine name k) components.now))) providers.now }
 {
     providers.iter().any(|p| !has_member(components, name, *p))
 }
 
 fn did_taken(components: &[Component], command: &Command) -> bool
-    ensures { result ≡ list_any (has_did command.now) (filter (λ k. is_mine (name_of command.now) k) components.now) }
+    ensures { result ≡ list_any (has_did command.now)
+        (filter (λ k. is_mine (name_of command.now) k) components.now) }
 {
     let name = name_of(command);
     components
@@ -199,13 +206,16 @@ pub(crate) fn is_on_any(providers: &[Label], component: &Component) -> bool
 }
 
 fn stays_active(providers: &[Label], component: &Component) -> bool
-    ensures { result ≡ (is_active component.now.disk && not (list_any (λ p. same_label component.now.provider p) providers.now)) }
+    ensures { result ≡ (is_active component.now.disk
+        && not (list_any (λ p. same_label component.now.provider p) providers.now)) }
 {
     component.disk.is_active() && !is_on_any(providers, component)
 }
 
 fn keeps_active(components: &[Component], name: Option<Label>, providers: &[Label]) -> bool
-    ensures { result ≡ list_any (λ k. is_active k.disk && not (list_any (λ p. same_label k.provider p) providers.now)) (filter (λ k. is_mine name k) components.now) }
+    ensures { result ≡ list_any
+        (λ k. is_active k.disk && not (list_any (λ p. same_label k.provider p) providers.now))
+        (filter (λ k. is_mine name k) components.now) }
 {
     components
         .iter()

@@ -9,5 +9,6 @@ ghost use Rattle.gm_rules.specs.Worlds.{seen_of};
 
 /// Each command that nothing refuses has a step, and its intents carry it out.
 pub fn every_command_has_a_plan()
-    ensures { (u : World) (key : List ℕ) (c : Command) → Sound u → CanAnswer u key c → IsGood u.state (seen_of u) c → HasPlan u key c }
+    ensures { (u : World) (key : List ℕ) (c : Command) → Sound u → CanAnswer u key c
+        → IsGood u.state (seen_of u) c → HasPlan u key c }
 {}

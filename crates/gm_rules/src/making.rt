@@ -129,7 +129,8 @@ pub(crate) fn inserted(
     spare: Component,
 ) -> Result<Change, AllocError>
     requires room { mirror.all < 255 }
-    requires fresh { (k : Component) → Has members.items k → same_label k.provider spare.provider ≡ false }
+    requires fresh { (k : Component) → Has members.items k
+        → same_label k.provider spare.provider ≡ false }
     ensures { IfOk result (λ ch. ch ≡ record {
       mirror = Some (record mirror { all = mirror.all + 1 });
       gone_mirror = None;

@@ -22,7 +22,8 @@ fn of_mirror(
     components: &[Component],
     name: Option<Label>,
 ) -> Result<Vec<Label>, AllocError>
-    ensures { IfOk result (λ v. v.items ≡ map provider (filter (λ k. is_mine name k) components.now)) }
+    ensures { IfOk result (λ v. v.items
+        ≡ map provider (filter (λ k. is_mine name k) components.now)) }
 {
     components
         .iter()

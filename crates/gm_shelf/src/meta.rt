@@ -24,7 +24,8 @@ pub fn write_last<H: Shelf>(
 
     ensures absent { IsErrOf result ShelfFault.Absent ↔ (H.size shelf.old provider ≡ None) }
     ensures range { IsErrOf result ShelfFault.Range ↔ (H.size shelf.old provider ≡ Some 0) }
-    ensures nothing_done { (H.size shelf.old provider ≡ None) ⊎ (H.size shelf.old provider ≡ Some 0) →
+    ensures nothing_done { (H.size shelf.old provider ≡ None)
+        ⊎ (H.size shelf.old provider ≡ Some 0) →
         shelf.new ≡ shelf.old }
     ensures device { IsErrOf result ShelfFault.Device →
         (H.view shelf.old).faults < (H.view shelf.new).faults }
@@ -65,7 +66,8 @@ pub fn write_meta<H: Shelf>(
 
     ensures absent { IsErrOf result ShelfFault.Absent ↔ (H.size shelf.old provider ≡ None) }
     ensures range { IsErrOf result ShelfFault.Range ↔ (H.size shelf.old provider ≡ Some 0) }
-    ensures nothing_done { (H.size shelf.old provider ≡ None) ⊎ (H.size shelf.old provider ≡ Some 0) →
+    ensures nothing_done { (H.size shelf.old provider ≡ None)
+        ⊎ (H.size shelf.old provider ≡ Some 0) →
         shelf.new ≡ shelf.old }
     ensures device { IsErrOf result ShelfFault.Device →
         (H.view shelf.old).faults < (H.view shelf.new).faults }

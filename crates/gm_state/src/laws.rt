@@ -22,19 +22,22 @@ pub fn one_command()
 
 /// What the rules let a component's metadata be fits the fields of a sector.
 pub fn metadata_fits()
-    ensures { (s : Records) (m : Mirror) (k : Component) → IsState s → IsOf s m k → IsMetadata (metadata m k) }
+    ensures { (s : Records) (m : Mirror) (k : Component) → IsState s → IsOf s m k
+        → IsMetadata (metadata m k) }
 {}
 
 /// Records have one order as a state.
 pub fn one_state()
-    ensures { (mirrors : List Mirror) (components : List Component) (s t : Records) → IsStateOf mirrors components s → IsStateOf mirrors components t → s ≡ t }
+    ensures { (mirrors : List Mirror) (components : List Component) (s t : Records)
+        → IsStateOf mirrors components s → IsStateOf mirrors components t → s ≡ t }
 {}
 
 /// A row says its record: no two records have one row.
 pub fn one_row()
     ensures mirror { (a b : Mirror) → mirror_row a ≡ mirror_row b → a ≡ b }
     ensures component { (a b : Component) → component_row a ≡ component_row b → a ≡ b }
-    ensures answer { (a b : Answered) → AnswerFits a → AnswerFits b → answer_row a ≡ answer_row b → a ≡ b }
+    ensures answer { (a b : Answered) → AnswerFits a → AnswerFits b
+        → answer_row a ≡ answer_row b → a ≡ b }
 {}
 
 /// The two numbers that a row keeps of a reply say the reply that was written.
@@ -51,6 +54,9 @@ pub fn sound_claims()
 /// What soundness says of data: an ACTIVE component has all of its mirror's, and one that is being copied to has
 /// those below its offset.
 pub fn sound_data()
-    ensures active { (w : World) (m : Mirror) (k : Component) → Sound w → IsOf w.state m k → k.disk ≡ InSync → Whole w m k.provider }
-    ensures copying { (w : World) (m : Mirror) (k : Component) (forced : Bool) (held : ℕ) → Sound w → IsOf w.state m k → k.disk ≡ Copying forced held → Below w.shelf (w.holds m.name) k.provider held }
+    ensures active { (w : World) (m : Mirror) (k : Component) → Sound w → IsOf w.state m k
+        → k.disk ≡ InSync → Whole w m k.provider }
+    ensures copying { (w : World) (m : Mirror) (k : Component) (forced : Bool) (held : ℕ)
+        → Sound w → IsOf w.state m k → k.disk ≡ Copying forced held
+        → Below w.shelf (w.holds m.name) k.provider held }
 {}

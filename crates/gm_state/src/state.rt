@@ -29,7 +29,8 @@ impl Model for State {
 
     ghost view = { λ a. record { mirrors = a.mirrors.items; components = a.components.items } };
 
-    ghost invariant = { λ a. IsState (record { mirrors = a.mirrors.items; components = a.components.items }) };
+    ghost invariant = { λ a. IsState
+        (record { mirrors = a.mirrors.items; components = a.components.items }) };
 }
 
 fn mirror_in(mirrors: &[Mirror], name: Label) -> Option<Mirror>
@@ -39,7 +40,8 @@ fn mirror_in(mirrors: &[Mirror], name: Label) -> Option<Mirror>
 }
 
 fn component_in(components: &[Component], provider: Label) -> Option<Component>
-    ensures { result ≡ component_of (record { mirrors = []; components = components.now }) provider }
+    ensures { result ≡ component_of
+        (record { mirrors = []; components = components.now }) provider }
 {
     components.iter().copied().find(|k| k.provider == provider)
 }
@@ -60,7 +62,8 @@ pub(crate) fn members_in(
 
 /// Puts a component, whose name is new, at its place in byte order.
 pub fn put(components: &mut Vec<Component>, new: Component) -> Result<(), AllocError>
-    requires { (k : Component) → Has components.old.items k → same_label k.provider new.provider ≡ false }
+    requires { (k : Component) → Has components.old.items k
+        → same_label k.provider new.provider ≡ false }
     ensures ok { OnOk result (components.new.items ≡ put provider new components.old.items) }
     ensures err { OnErr result (components.new.items ≡ components.old.items) }
 {
@@ -83,7 +86,8 @@ impl State {
     /// The state with these records, given in any order; `None` where they break a rule.
     pub fn new(mut mirrors: Vec<Mirror>, mut components: Vec<Component>) -> Option<State>
         ensures some { IfSome result (λ s. IsStateOf mirrors.items components.items s) }
-        ensures none { IfNone result ((s : Records) → IsStateOf mirrors.items components.items s → ⊥) }
+        ensures none { IfNone result ((s : Records)
+            → IsStateOf mirrors.items components.items s → ⊥) }
     {
         mirrors.sort_unstable_by_key(|m| m.name);
         components.sort_unstable_by_key(|k| k.provider);

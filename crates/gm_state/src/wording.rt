@@ -22,7 +22,8 @@ fn number_words(
     balance: &str,
     slice: u32,
 ) -> Result<String, AllocError>
-    ensures { IfOk result (λ text. string_bytes text ≡ join_with_byte 32 (number_words mid did balance.now slice)) }
+    ensures { IfOk result (λ text. string_bytes text
+        ≡ join_with_byte 32 (number_words mid did balance.now slice)) }
 {
     format!(in alloc; "--mid {mid} --did {did} --balance {balance} --slice {slice}")
 }
@@ -33,7 +34,8 @@ fn switch_words(
     failsync: &str,
     hardcode: &str,
 ) -> Result<String, AllocError>
-    ensures { IfOk result (λ text. string_bytes text ≡ join_with_byte 32 (switch_words autosync.now failsync.now hardcode.now)) }
+    ensures { IfOk result (λ text. string_bytes text
+        ≡ join_with_byte 32 (switch_words autosync.now failsync.now hardcode.now)) }
 {
     format!(in alloc; "--autosync {autosync} --failsync {failsync} --hardcode {hardcode}")
 }
@@ -45,7 +47,8 @@ fn label_words(
     name: Label,
     provider: Label,
 ) -> Result<String, AllocError>
-    ensures { IfOk result (λ text. string_bytes text ≡ join_with_byte 32 (codes "label" ∷ numbers.now ∷ switches.now ∷ name ∷ provider ∷ [])) }
+    ensures { IfOk result (λ text. string_bytes text
+        ≡ join_with_byte 32 (codes "label" ∷ numbers.now ∷ switches.now ∷ name ∷ provider ∷ [])) }
 {
     format!(in alloc; "label {numbers} {switches} {name} {provider}")
 }
