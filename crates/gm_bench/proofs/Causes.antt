@@ -1,0 +1,65 @@
+-- Which fault of a medium a fault of the bench comes from.
+use Rattle.std.proofs.Common.{◌≡◌, inl, inr, ℕ, ◌≤◌, ◌<◌, List, Option, Some, None, refl, subst, arith}
+use Rattle.std.specs.Prelude.{IsSomeAnd}
+use Rattle.gm_metadata.specs.Images.{Sizes}
+use Rattle.gm_state.specs.declared.command.Intent.{Intent}
+use Rattle.gm_state.specs.declared.command.Intent.TheVariants.{Meta, Clear, Copy}
+use Rattle.gm_state.specs.Intents.{IsAtHand}
+use Rattle.gm_apply.specs.Redo.{LacksProvider, LacksSector}
+use Rattle.gm_registry.specs.declared.fault.StoreFault.{StoreFault}
+use Rattle.gm_registry.specs.declared.fault.StoreFault.TheVariants as store
+use Rattle.gm_shelf.specs.declared.fault.ShelfFault.{ShelfFault}
+use Rattle.gm_shelf.specs.declared.fault.ShelfFault.TheVariants as shelf
+use Rattle.gm_bench.specs.declared.fault.BenchFault.TheVariants.{Disk, Absent, Unreadable}
+use Rattle.gm_bench.specs.Faults.{of_store, of_shelf}
+
+pub of_unreadable : (f : StoreFault) → of_store f ≡ Unreadable → f ≡ store.Unreadable
+of_unreadable store.Memory e = cc
+of_unreadable store.Store e = cc
+of_unreadable store.Unreadable e = refl
+
+pub no_disk : (f : StoreFault) → of_store f ≡ Disk → ⊥
+no_disk store.Memory e = absurd (let g : ⊥ = cc in g)
+no_disk store.Store e = absurd (let g : ⊥ = cc in g)
+no_disk store.Unreadable e = absurd (let g : ⊥ = cc in g)
+
+pub not_absent_store : (f : StoreFault) (p : List ℕ) → of_store f ≡ Absent p → ⊥
+not_absent_store store.Memory p e = absurd (let g : ⊥ = cc in g)
+not_absent_store store.Store p e = absurd (let g : ⊥ = cc in g)
+not_absent_store store.Unreadable p e = absurd (let g : ⊥ = cc in g)
+
+pub not_absent_shelf : (f : ShelfFault) (p : List ℕ) → of_shelf f ≡ Absent p → ⊥
+not_absent_shelf shelf.Memory p e = absurd (let g : ⊥ = cc in g)
+not_absent_shelf shelf.Absent p e = absurd (let g : ⊥ = cc in g)
+not_absent_shelf shelf.Range p e = absurd (let g : ⊥ = cc in g)
+not_absent_shelf shelf.Device p e = absurd (let g : ⊥ = cc in g)
+
+-- a failure of the disk is one of the device, where no provider and no sector is lacking
+pub of_disk : (f : ShelfFault) (P : Type 0) → of_shelf f ≡ Disk → (f ≡ shelf.Absent → ⊥) → (f ≡ shelf.Range → ⊥) → (f ≡ shelf.Device → P) → P
+of_disk shelf.Memory P e absent range device = absurd (let g : ⊥ = cc in g)
+of_disk shelf.Absent P e absent range device = absurd (absent refl)
+of_disk shelf.Range P e absent range device = absurd (range refl)
+of_disk shelf.Device P e absent range device = device refl
+
+none_there : (P : ℕ → Type 0) (o : Option ℕ) → IsSomeAnd o P → o ≡ None → ⊥
+none_there P o h e = subst (λ (x : Option ℕ). IsSomeAnd x P) e h
+
+-- what is at hand isn't lacking
+pub not_lacking_provider : (size : Sizes) (t : Intent) → IsAtHand size t → LacksProvider size t → ⊥
+not_lacking_provider size (Meta p) hand e = none_there _ (size p) hand e
+not_lacking_provider size (Clear p) hand e = none_there _ (size p) hand e
+not_lacking_provider size (Copy a b x y) hand (inl e) = none_there _ (size a) hand.0 e
+not_lacking_provider size (Copy a b x y) hand (inr e) = none_there _ (size b) hand.1 e
+
+too_short : (o : Option ℕ) (m : ℕ) → IsSomeAnd o (λ n. m ≤ n) → IsSomeAnd o (λ n. n < m) → ⊥
+too_short None m h e = h
+too_short (Some n) m h e = let a : m ≤ n = h in let b : n < m = e in omega arith
+
+no_sector : (o : Option ℕ) → IsSomeAnd o (λ n. 0 < n) → o ≡ Some 0 → ⊥
+no_sector o h e = let l : 0 < 0 = subst (λ (x : Option ℕ). IsSomeAnd x (λ n. 0 < n)) e h in omega (arith, l)
+
+pub not_lacking_sector : (size : Sizes) (t : Intent) → IsAtHand size t → LacksSector size t → ⊥
+not_lacking_sector size (Meta p) hand e = no_sector (size p) hand e
+not_lacking_sector size (Clear p) hand e = no_sector (size p) hand e
+not_lacking_sector size (Copy a b x y) hand (inl e) = too_short (size a) y hand.0 e
+not_lacking_sector size (Copy a b x y) hand (inr e) = too_short (size b) y hand.1 e

@@ -1,0 +1,91 @@
+-- The commit of a command: the world before or its step, and at the end the step.
+use Rattle.std.proofs.Common.{◌≡◌, ◌∙◌, inl, inr, ℕ, ◌+◌, List, [], None, sym, ap, subst, if◌then◌else◌}
+use Rattle.sqlite_trees.specs.declared.store.Store.{Ghosts}
+use Rattle.sqlite.specs.Held.{Held}
+use Rattle.gm_metadata.specs.Images.{Image, Sizes}
+use Rattle.gm_shelf.specs.Disk.{View, IsLawful}
+use Rattle.gm_state.specs.declared.command.Command.{Command}
+use Rattle.gm_state.specs.declared.command.Intent.{Intent}
+use Rattle.gm_state.specs.declared.command.Reply.{Reply}
+use Rattle.gm_state.specs.Commands.{words_of}
+use Rattle.gm_state.specs.Intents.{IsAtHand}
+use Rattle.gm_state.specs.Records.{Records}
+use Rattle.gm_state.specs.Rows.{Tables}
+use Rattle.gm_state.specs.World.{World, present}
+use Rattle.gm_rules.specs.After.{intents_of, reply_to}
+use Rattle.gm_rules.specs.Decides.{Changed}
+use Rattle.gm_rules.specs.Step.{Plan, CanAnswer, HasPlan}
+use Rattle.gm_rules.specs.Run as run
+use Rattle.gm_rules.proofs.Plans.{every_plan}
+use Rattle.gm_registry.specs.Changes.{with_accepted}
+use Rattle.gm_registry.specs.Registry.{CrashLeavesOnly, DiskKept, HasTables, MayLeave}
+use Rattle.gm_registry.specs.Replies.{count_of}
+use Rattle.gm_bench.specs.declared.asking.Planned.{Planned}
+use Rattle.gm_bench.specs.Accepting.{LeavesStep, IsDone}
+use Rattle.gm_bench.specs.Leading.{whole, Leads, AllLead}
+use Rattle.gm_bench.specs.Planning.{IsPlanned}
+use Rattle.gm_bench.specs.Recovering.{Cover, IsAt}
+use Rattle.gm_bench.proofs.Answering.{stepped}
+use Rattle.gm_bench.proofs.Committing.{commit_leads, commit_claims}
+use Rattle.gm_bench.proofs.Covering.{covers_after}
+use Rattle.gm_bench.proofs.Storing.{leads_in}
+
+module _ {S H : Type 0} (g : Ghosts S) (view : H → View) (size : H → Sizes) (r s : Held S) (h : H) (away : Image) (u : World) (key : List ℕ) (c : Command) (p : Planned) (words : List ℕ) (words_is : words ≡ words_of c) (lawful : IsLawful (view h)) (at : IsAt g view size r h away [] u u) (planned : IsPlanned u c p) (can : CanAnswer u key c) where
+  abbrev ch : Changed
+  ch = p.change
+
+  first_leads : Leads at.tables [] (whole (size h) away (view h).seen) u
+  first_leads = (at.leads (view h).seen lawful.holds_now).0
+
+  abbrev has_plan : HasPlan u key c
+  has_plan = every_plan u key c first_leads.sound can planned.makes.good
+
+  abbrev w : World
+  w = has_plan.0
+
+  are : intents_of c u.state w.state ≡ p.change.intents
+  are = ap (intents_of c u.state) has_plan.1.step.records ∙ sym planned.makes.intents
+
+  plan : Plan u key c p.change.intents w
+  plan = subst (λ (l : List Intent). Plan u key c l w) are has_plan.1
+
+  abbrev t : Tables
+  t = with_accepted p.change key words at.tables
+
+  leads : AllLead t p.change.intents (size h) away (view h).may_leave u w
+  leads x left = (
+    subst (λ (text : List ℕ). Leads (with_accepted p.change key text at.tables) p.change.intents (whole (size h) away x) w) (sym words_is)
+        (commit_leads u w key c p.change at.tables (whole (size h) away x) planned.makes plan (at.leads x left).0),
+    commit_claims u w key c p.change at.tables (whole (size h) away x) planned.makes plan (at.leads x left).0,
+  )
+
+  pub commit_leaves : CrashLeavesOnly g r at.tables → DiskKept g s → MayLeave g r s t → LeavesStep g view size r s h h away u key c
+  commit_leaves only clean may = record {
+    within = leads_in g view size r h away at.tables [] u u only ((view h).left_since (view h).moment) (λ x left. at.leads x (lawful.only_now x left));
+    end = λ db left. elim (may.crash clean db left) [
+      | inl was ↦ inl (leads_in g view size r h away at.tables [] u u only (view h).may_leave at.leads db was)
+      | inr is ↦ inr (w, reply_to c u.state, plan.step, record { tables = t; intents = p.change.intents; stored = inl is; leads = leads })
+    ];
+  }
+
+  cover : Cover p.part w.state p.change.intents
+  cover = subst (λ (x : Records). Cover x w.state p.change.intents) (sym planned.is)
+      (covers_after c planned.part u.state w.state p.change planned.leaves (planned.makes.records ∙ sym plan.step.records) plan.sound.state p.change.intents plan.own)
+
+  same_present : present w ≡ present u
+  same_present = λ i q. if plan.step.there q i then plan.step.sizes q i else None
+
+  pub commit_done : (n : ℕ) (reply : Reply) → reply ≡ p.change.reply → n ≡ count_of at.tables + 1 → HasTables g s t → IsDone g view size s h away u key c n reply p.part p.intents.items
+  commit_done n reply reply_is number_is has = subst (λ (ts : List Intent). IsDone g view size s h away u key c n reply p.part ts) (sym planned.intents) (record {
+    world = w;
+    calls = subst (λ (a : Reply). run.Calls u (record { key = key; command = c }) w (run.Done n a)) (sym (reply_is ∙ planned.makes.reply))
+        (stepped u at.tables first_leads.sound first_leads.records key c can.key_ok can.free can.room w (reply_to c u.state) n plan.step number_is);
+    at = record {
+      tables = t;
+      has = has;
+      sizes = same_present ∙ at.sizes;
+      at_hand = λ i k. subst (λ (z : Sizes). IsAtHand z i) at.sizes (plan.at_hand i k);
+      leads = leads;
+    };
+    cover = cover;
+  })

@@ -1,0 +1,319 @@
+-- The induction over a schedule.
+use Rattle.std.proofs.Common.{◌≡◌, ◌∙◌, ◌⊎◌, inl, inr, ℕ, Bool, suc, ◌+◌, Option, Some, None, List, [], ◌∷◌, length, map, refl, sym, ap, subst, arith, if◌then◌else◌}
+use Rattle.std.proofs.lemmas.List.{length-map}
+use Rattle.std.proofs.lemmas.List.Sorted.{IsPermutation-refl, length_permutation}
+use Rattle.std.specs.List.Sorted.{IsPermutation}
+use Rattle.std.specs.Prelude.{is_some}
+use Rattle.sqlite_trees.specs.declared.store.Store.{Ghosts}
+use Rattle.sqlite.specs.Tree.{Trees}
+use Rattle.sqlite.specs.Held.{Held}
+use Rattle.gm_metadata.specs.Images.{Image, Sizes}
+use Rattle.gm_shelf.specs.Disk.{View}
+use Rattle.gm_state.specs.declared.command.Command.{Command}
+use Rattle.gm_state.specs.declared.command.Intent.{Intent}
+use Rattle.gm_state.specs.declared.command.Reply.{Reply}
+use Rattle.gm_state.specs.declared.records.Mirror.{Mirror}
+use Rattle.gm_state.specs.declared.records.Component.{Component}
+use Rattle.gm_state.specs.Records.{IsState, name, provider}
+use Rattle.gm_state.specs.Rows.{Tables, HoldRecords, mirror_row, component_row, answer_row}
+use Rattle.gm_state.specs.Words.{Has, Ascends}
+use Rattle.gm_state.specs.World.{World, Answered, Sound, AreAnswers, AreNumbered, present}
+use Rattle.gm_rules.specs.Step.{Step}
+use Rattle.gm_rules.specs.Run.{Call, Answer, Done, Repeated, Refused}
+use Rattle.gm_registry.specs.Tables.{no_tables}
+use Rattle.gm_bench.specs.Leading.{whole, Leads, KeepsClaims, AllLead}
+use Rattle.gm_bench.specs.Recovering.{Recovers, IsShelfOf, LeavesOnly}
+use Rattle.gm_bench.specs.Accepting.{LeavesStep, OrStep}
+use Rattle.gm_bench.specs.Schedule.{Phase, Event, Accepted, Accept_stopped, Redone, Redo_stopped, Settled, Settle_stopped, Opened, Open_stopped, Now, none, skips, keeps, Moved, IsNew, IsButMoved, IsStepTo, Reached, IsLastStep, AreAmong, IsMove, HasCount, IsLeftIn, IsStop, Answers, Happens, IsStart, Runs, AtRest, OnTheWay, Stopped, Headline, Within}
+use Rattle.gm_bench.proofs.Resting.{rest_leads, rest_claims}
+
+-- ---- the world that a schedule starts in
+
+no_mirror : (all : Sizes) (w : World) → IsNew all w → (m : Mirror) → Has w.state.mirrors m → ⊥
+no_mirror all w new m h = subst (λ (ms : List Mirror). Has ms m) new.mirrors h
+
+no_component : (all : Sizes) (w : World) → IsNew all w → (k : Component) → Has w.state.components k → ⊥
+no_component all w new k h = subst (λ (ks : List Component). Has ks k) new.components h
+
+no_answer : (all : Sizes) (w : World) → IsNew all w → (a : Answered) → Has w.answered a → ⊥
+no_answer all w new a h = subst (λ (l : List Answered). Has l a) new.answered h
+
+new_state : (all : Sizes) (w : World) → IsNew all w → IsState w.state
+new_state all w new = record {
+  mirrors_in_order = subst (λ (ms : List Mirror). Ascends name ms) (sym new.mirrors) tt;
+  components_in_order = subst (λ (ks : List Component). Ascends provider ks) (sym new.components) tt;
+  count = (let e : length w.state.mirrors ≡ 0 = ap length new.mirrors in omega (arith, e));
+  each = λ m h. absurd (no_mirror all w new m h);
+  mids = λ a b h k e. absurd (no_mirror all w new a h);
+  homes = λ k h. absurd (no_component all w new k h);
+}
+
+new_answers : (all : Sizes) (w : World) → IsNew all w → AreAnswers w.answered
+new_answers all w new = record {
+  count = (let e : length w.answered ≡ 0 = ap length new.answered in omega (arith, e));
+  fit = λ a h. absurd (no_answer all w new a h);
+  numbers = subst AreNumbered (sym new.answered) tt;
+  keys = λ a b h k e. absurd (no_answer all w new a h);
+}
+
+new_sound : (all : Sizes) (w : World) → IsNew all w → Sound w
+new_sound all w new = record {
+  state = new_state all w new;
+  answers = new_answers all w new;
+  sizes = λ m k o. absurd (no_mirror all w new m o.mirror);
+  full = λ m k o. absurd (no_mirror all w new m o.mirror);
+  whole = λ m k o. absurd (no_mirror all w new m o.mirror);
+}
+
+new_records : (all : Sizes) (w : World) → IsNew all w → HoldRecords w no_tables
+new_records all w new = record {
+  mirrors = subst (λ (ms : List Mirror). IsPermutation (map mirror_row ms) []) (sym new.mirrors) (IsPermutation-refl []);
+  components = subst (λ (ks : List Component). IsPermutation (map component_row ks) []) (sym new.components) (IsPermutation-refl []);
+  commands = subst (λ (l : List Answered). IsPermutation (map answer_row l) []) (sym new.answered) (IsPermutation-refl []);
+}
+
+-- ---- counts of commands
+
+-- as many answers as accepted calls
+answered_many : (all : Sizes) (acc : List Call) (w : World) → Reached all acc w → length w.answered ≡ length acc
+answered_many all [] w new = ap length new.answered
+answered_many all (call ∷ older) w (u, reached, s) =
+    let e = answered_many all older u reached in
+    let long : length w.answered ≡ suc (length u.answered) = ap length (s.moved.answered ∙ s.step.answered) in
+    omega (arith, e, long)
+
+-- with fewer images it leads on as well
+fewer : (db : Trees) (size : Sizes) (away : Image) (X Y : Image → Type 0) (u w : World) → Recovers db size away X u w → ((x : Image) → Y x → X x) → Recovers db size away Y u w
+fewer db size away X Y u w r less = record { tables = r.tables; intents = r.intents; stored = r.stored; leads = λ x l. r.leads x (less x l) }
+
+-- the tables of a store that leads to w count its answers
+counts : (db : Trees) (size : Sizes) (away : Image) (X : Image → Type 0) (x : Image) (u w : World) (n : ℕ) → X x → Recovers db size away X u w → HasCount db n → length w.answered ≡ n
+counts db size away X x u w n there r count =
+    let l = (r.leads x there).0 in
+    let many : length r.tables.commands ≡ length (map answer_row w.answered) = length_permutation (map answer_row w.answered) r.tables.commands l.records.commands in
+    sym (length-map w.answered answer_row) ∙ (sym many ∙ count r.tables r.stored)
+
+-- a step keeps the providers
+step_present : (u w : World) (key : List ℕ) (c : Command) (r : Reply) → Step u key c w r → present w ≡ present u
+step_present u w key c r step = λ i q. if step.there q i then step.sizes q i else None
+
+-- ---- providers that go away or come back
+
+-- the world where these providers are there
+abbrev with_there : World → (List ℕ → Bool) → World
+with_there w there = record w { there = there }
+
+stays : (w : World) → IsButMoved w w
+stays w = record { state = refl; holds = refl; answered = refl; shelf = refl; size = refl }
+
+moved_on : (u w : World) (there : List ℕ → Bool) → IsButMoved w u → IsButMoved (with_there w there) u
+moved_on u w there m = record { state = m.state; holds = m.holds; answered = m.answered; shelf = m.shelf; size = m.size }
+
+moved_from : (u w : World) (there : List ℕ → Bool) → IsButMoved u w → IsButMoved u (with_there w there)
+moved_from u w there m = record { state = m.state; holds = m.holds; answered = m.answered; shelf = m.shelf; size = m.size }
+
+one_step : (u w : World) (call : Call) (r : Reply) → Step u call.key call.command w r → IsStepTo u call w
+one_step u w call r step = record { stepped = w; reply = r; step = step; moved = stays w }
+
+moved_step : (u w : World) (call : Call) (there : List ℕ → Bool) → IsStepTo u call w → IsStepTo u call (with_there w there)
+moved_step u w call there s = record { stepped = s.stepped; reply = s.reply; step = s.step; moved = moved_on s.stepped w there s.moved }
+
+moved_reached : (all : Sizes) (acc : List Call) (w : World) (there : List ℕ → Bool) → Reached all acc w → Reached all acc (with_there w there)
+moved_reached all [] w there new = record { mirrors = new.mirrors; components = new.components; answered = new.answered; sizes = new.sizes }
+moved_reached all (call ∷ older) w there (u, reached, s) = (u, reached, moved_step u w call there s)
+
+moved_last : (all : Sizes) (acc : List Call) (u w : World) (there : List ℕ → Bool) → IsLastStep all acc u w → IsLastStep all acc u (with_there w there)
+moved_last all [] u w there last = absurd last
+moved_last all (call ∷ older) u w there (reached, s) = (reached, moved_step u w call there s)
+
+moved_leads : (t : Tables) (ts : List Intent) (x : Image) (w : World) (there : List ℕ → Bool) → Leads t ts x w → Leads t ts x (with_there w there)
+moved_leads t ts x w there l = record {
+  sound = record { state = l.sound.state; answers = l.sound.answers; sizes = l.sound.sizes; full = l.sound.full; whole = l.sound.whole };
+  records = record { mirrors = l.records.mirrors; components = l.records.components; commands = l.records.commands };
+  intents = l.intents;
+  readable = l.readable;
+  at_hand = l.at_hand;
+  redo = l.redo;
+}
+
+moved_keeps : (ts : List Intent) (x : Image) (u w : World) (there : List ℕ → Bool) → KeepsClaims ts x u w → KeepsClaims ts x u (with_there w there)
+moved_keeps ts x u w there k = record { sound = k.sound; sizes = k.sizes; after = k.after; copies = k.copies; old = k.old; new = k.new }
+
+-- the providers have their sizes for ever
+reached_sizes : (all : Sizes) (acc : List Call) (w : World) → Reached all acc w → w.size ≡ all
+reached_sizes all [] w new = new.sizes
+reached_sizes all (call ∷ older) w (u, reached, s) =
+    let same : s.stepped.size ≡ u.size = λ i q. s.step.sizes q i in
+    s.moved.size ∙ (same ∙ reached_sizes all older u reached)
+
+seen_through : (o full : Option ℕ) → (o ≡ None) ⊎ (o ≡ full) → (if is_some o then full else None) ≡ o
+seen_through None full e = refl
+seen_through (Some n) full (inl e) = absurd (let no : ⊥ = cc in no)
+seen_through (Some n) full (inr e) = sym e
+
+abbrev there_of : Sizes → List ℕ → Bool
+there_of size q = is_some (size q)
+
+moved_present : (all : Sizes) (w : World) (size : Sizes) → w.size ≡ all → AreAmong size all → present (with_there w (there_of size)) ≡ size
+moved_present all w size is among =
+    let each : (q : List ℕ) → (if is_some (size q) then w.size q else None) ≡ size q = λ q. seen_through (size q) (w.size q) (subst (λ (z : Sizes). (size q ≡ None) ⊎ (size q ≡ z q)) (sym is) (among q)) in
+    λ i q. each q i
+
+module _ {S H : Type 0} (g : Ghosts S) (view : H → View) (size : H → Sizes) (all : Sizes) where
+  abbrev At : Now (Held S) H → Type 0
+  At n = Headline g view size all n.phase n.away n.accepted n.acknowledged
+
+  abbrev AtPhase : Now (Held S) H → Phase (Held S) H → Type 0
+  AtPhase m p = Headline g view size all p m.away m.accepted m.acknowledged
+
+  -- the store and the images of a stop lead on, where each such pair does
+  led : (r s : Held S) (h k : H) (db : Trees) (l : H) (away : Image) (u w : World) → LeavesOnly g view size r s h k away u w → IsStop g view size r s h k db l → Recovers db (size l) away (view l).may_leave u w
+  led r s h k db l away u w only stop =
+      subst (λ (z : Sizes). Recovers db z away (view l).may_leave u w) (sym stop.0)
+      (elim stop.2 [
+        | inl within ↦ fewer db (size h) away ((view k).left_since (view h).moment) (view l).may_leave u w (only.within db within.0) within.1
+        | inr end ↦ fewer db (size h) away (view k).may_leave (view l).may_leave u w (only.end db end.0) end.1
+      ])
+
+  -- what a stop within a call leaves, where each pair leads to w
+  stopped : (r s : Held S) (h k : H) (db : Trees) (l : H) (away : Image) (u w : World) (acc ack : List Call) → Reached all acc w → IsButMoved u w ⊎ IsLastStep all acc u w → present w ≡ size h → Within ack acc → LeavesOnly g view size r s h k away u w → IsStop g view size r s h k db l
+      → Stopped g view size all db l away acc ack
+  stopped r s h k db l away u w acc ack reached last is told only stop = record {
+    world = w;
+    before = u;
+    reached = reached;
+    last = last;
+    sizes = is ∙ sym stop.0;
+    recovers = led r s h k db l away u w only stop;
+    told = told;
+  }
+
+  accepted : (call : Call) (a : Answer) (r s : Held S) (h k : H) (m n : Now (Held S) H) → AtRest g view size all r h m.away m.accepted m.acknowledged → Answers g view size r h m call a s k n → At n
+  accepted call (Done i reply) r s h k m n was (part, ts, is, clause) =
+      let it = clause was.world was.at in
+      let step : Step was.world call.key call.command it.world reply = it.calls.3 in
+      subst At (sym is) (record {
+        world = it.world;
+        before = was.world;
+        reached = (was.world, was.reached, one_step was.world it.world call reply step);
+        last = (was.reached, one_step was.world it.world call reply step);
+        at = it.at;
+        cover = it.cover;
+        told = keeps was.told;
+      })
+  accepted call (Repeated i reply) r s h k m n was (is, clause) =
+      subst At (sym is) (record { world = was.world; reached = was.reached; at = (clause was.world was.at).1; told = was.told })
+  accepted call (Refused i) r s h k m n was (is, clause) =
+      subst At (sym is) (record { world = was.world; reached = was.reached; at = (clause was.world was.at).1; told = was.told })
+
+  -- a commit that was stopped stands, or not
+  accept_stopped : (call : Call) (r s : Held S) (h k : H) (db : Trees) (l : H) (away : Image) (acc ack after : List Call) (was : AtRest g view size all r h away acc ack) → IsLeftIn db call acc after
+      → LeavesStep g view size r s h k away was.world call.key call.command → IsStop g view size r s h k db l → Stopped g view size all db l away after ack
+  accept_stopped call r s h k db l away acc ack after was left clause stop =
+      let u : World = was.world in
+      let many : length u.answered ≡ length acc = answered_many all acc u was.reached in
+      let either : OrStep u call.key call.command (λ w. Recovers db (size h) away (view l).may_leave u w) = elim stop.2 [
+        | inl within ↦ inl (fewer db (size h) away ((view k).left_since (view h).moment) (view l).may_leave u u (clause.within db within.0) within.1)
+        | inr end ↦ elim (clause.end db end.0) [
+          | inl r ↦ inl (fewer db (size h) away (view k).may_leave (view l).may_leave u u r end.1)
+          | inr r ↦ inr (r.0, r.1, r.2, fewer db (size h) away (view k).may_leave (view l).may_leave u r.0 r.3 end.1)
+        ]
+      ] in
+      let resized : (w : World) → Recovers db (size h) away (view l).may_leave u w → Recovers db (size l) away (view l).may_leave u w = λ w. subst (λ (z : Sizes). Recovers db z away (view l).may_leave u w) (sym stop.0) in
+      elim left [
+        | inl before ↦
+            subst (λ (list : List Call). Stopped g view size all db l away list ack) (sym before.0)
+            (elim either [
+              | inl r ↦ record { world = u; before = u; reached = was.reached; last = inl (stays u); sizes = was.at.sizes ∙ sym stop.0; recovers = resized u r; told = was.told }
+              | inr r ↦
+                  let n = counts db (size h) away (view l).may_leave (view l).seen u r.0 (length acc) stop.1 r.3 before.1 in
+                  let m : length r.0.answered ≡ suc (length u.answered) = ap length r.2.answered in
+                  absurd (omega (arith, n, m, many))
+            ])
+        | inr stands ↦
+            subst (λ (list : List Call). Stopped g view size all db l away list ack) (sym stands.0)
+            (elim either [
+              | inl r ↦ (let n = counts db (size h) away (view l).may_leave (view l).seen u u (length acc + 1) stop.1 r stands.1 in absurd (omega (arith, n, many)))
+              | inr r ↦ record {
+                world = r.0;
+                before = u;
+                reached = (u, was.reached, one_step u r.0 call r.1 r.2);
+                last = inr (was.reached, one_step u r.0 call r.1 r.2);
+                sizes = step_present u r.0 call.key call.command r.1 r.2 ∙ (was.at.sizes ∙ sym stop.0);
+                recovers = resized r.0 r.3;
+                told = skips was.told;
+              }
+            ])
+      ]
+
+  -- with the providers of the later shelf it leads on as well
+  moved : (db : Trees) (h later : H) (away beyond : Image) (acc ack : List Call) → IsMove g view size all h away later beyond → Stopped g view size all db h away acc ack → Stopped g view size all db later beyond acc ack
+  moved db h later away beyond acc ack move was =
+      let w : World = was.world in
+      let u : World = was.before in
+      let there : List ℕ → Bool = there_of (size later) in
+      let r = was.recovers in
+      let leads : AllLead r.tables r.intents (size later) beyond (view later).may_leave u (with_there w there) = λ y left.
+      let from = move.images y left in
+      let same : whole (size h) away from.0 ≡ whole (size later) beyond y = λ i p j. sym (from.2 p j) i in
+      let lead = r.leads from.0 from.1 in (
+        moved_leads r.tables r.intents (whole (size later) beyond y) w there (subst (λ (x : Image). Leads r.tables r.intents x w) same lead.0),
+        moved_keeps r.intents (whole (size later) beyond y) u w there (subst (λ (x : Image). KeepsClaims r.intents x u w) same lead.1),
+      ) in
+      record {
+        world = with_there w there;
+        before = u;
+        reached = moved_reached all acc w there was.reached;
+        last = elim was.last [ inl m ↦ inl (moved_from u w there m) | inr l ↦ inr (moved_last all acc u w there l) ];
+        sizes = moved_present all w (size later) (reached_sizes all acc w was.reached) move.sizes;
+        recovers = record { tables = r.tables; intents = r.intents; stored = r.stored; leads = leads };
+        told = was.told;
+      }
+
+  next : (m : Now (Held S) H) (e : Event (Held S) H) (n : Now (Held S) H) → At m → Happens g view size all m e n → At n
+  next m (Accepted call a s k) n was (r, h, phase, answers) =
+      accepted call a r s h k m n (subst (AtPhase m) phase was) answers
+  next m (Accept_stopped call s k db l) n was (r, h, phase, after, is, left, clause, stop) =
+      let rest : AtRest g view size all r h m.away m.accepted m.acknowledged = subst (AtPhase m) phase was in
+      subst At (sym is) (accept_stopped call r s h k db l m.away m.accepted m.acknowledged after rest left (clause rest.world rest.at) stop)
+  next m (Redone s k) n was (r, h, part, ts, phase, is, clause) =
+      let o : OnTheWay g view size all r h m.away part ts m.accepted m.acknowledged = subst (AtPhase m) phase was in
+      let it = clause o.before o.world o.at o.cover in
+      subst At (sym is) (record { world = o.world; before = o.before; reached = o.reached; last = o.last; at = it.0; cover = o.cover; told = o.told }, it.1)
+  next m (Redo_stopped s k db l) n was (r, h, part, ts, phase, is, clause, stop) =
+      let o : OnTheWay g view size all r h m.away part ts m.accepted m.acknowledged = subst (AtPhase m) phase was in
+      subst At (sym is) (stopped r s h k db l m.away o.before o.world m.accepted m.acknowledged o.reached (inr o.last) o.at.sizes o.told (clause o.before o.world o.at o.cover) stop)
+  next m (Settled s k) n was (r, h, part, ts, phase, is, clause) =
+      let o : (o : OnTheWay g view size all r h m.away part ts m.accepted m.acknowledged) × IsShelfOf (view h) o.world (size h) = subst (AtPhase m) phase was in
+      subst At (sym is) (record { world = o.0.world; reached = o.0.reached; at = clause o.0.before o.0.world o.0.at o.1; told = o.0.told })
+  next m (Settle_stopped s k db l) n was (r, h, part, ts, phase, is, clause, stop) =
+      let o : (o : OnTheWay g view size all r h m.away part ts m.accepted m.acknowledged) × IsShelfOf (view h) o.world (size h) = subst (AtPhase m) phase was in
+      subst At (sym is) (stopped r s h k db l m.away o.0.before o.0.world m.accepted m.acknowledged o.0.reached (inr o.0.last) o.0.at.sizes o.0.told (clause o.0.before o.0.world o.0.at o.1) stop)
+  next m (Moved beyond later) n was (db, h, phase, is, move) =
+      let o : Stopped g view size all db h m.away m.accepted m.acknowledged = subst (AtPhase m) phase was in
+      subst At (sym is) (moved db h later m.away beyond m.accepted m.acknowledged move o)
+  next m (Opened s k) n was (db, h, phase, is, clause) =
+      let o : Stopped g view size all db h m.away m.accepted m.acknowledged = subst (AtPhase m) phase was in
+      subst At (sym is) (record { world = o.world; reached = o.reached; at = clause o.before o.world o.sizes o.recovers; told = o.told })
+  next m (Open_stopped start s k after l) n was (db, h, phase, is, clause, stop) =
+      let o : Stopped g view size all db h m.away m.accepted m.acknowledged = subst (AtPhase m) phase was in
+      subst At (sym is) (stopped start s h k after l m.away o.before o.world m.accepted m.acknowledged o.reached o.last o.sizes o.told (clause o.before o.world o.sizes o.recovers) stop)
+
+  started : (db : Trees) (h : H) (away : Image) (w : World) → IsStart g view size all db h away w → AllLead no_tables [] (size h) away (view h).may_leave w w
+  started db h away w s x l = (
+    rest_leads no_tables (whole (size h) away x) w (new_sound all w s.new) (new_records all w s.new) refl (s.shelf x l),
+    rest_claims (whole (size h) away x) w (new_sound all w s.new) (s.shelf x l),
+  )
+
+  pub law : (events : List (Event (Held S) H)) (n : Now (Held S) H) → Runs g view size all events n → At n
+  law [] n (db, h, away, w, s, is) =
+      subst At (sym is) (record {
+        world = w;
+        before = w;
+        reached = s.new;
+        last = inl (stays w);
+        sizes = s.sizes;
+        recovers = record { tables = no_tables; intents = []; stored = inr (s.empty, refl); leads = started db h away w s };
+        told = none;
+      })
+  law (e ∷ older) n (m, runs, happens) = next m e n (law older m runs) happens

@@ -1,0 +1,89 @@
+-- Where no image is lacking, the intents have what they need.
+use Rattle.std.proofs.Common.{◌≡◌, ◌∙◌, inl, inr, ⊎_elim, ℕ, ◌≤◌, ◌<◌, true, false, ltb-true, eqb-true, List, [], ◌∷◌, Option, Some, None, refl, sym, ap, subst, arith, true≢false}
+use Rattle.std.specs.Prelude.{IsSomeAnd}
+use Rattle.std.proofs.lemmas.Bool.{cases_Bool}
+use Rattle.gm_metadata.specs.Images.{Sizes, same_label}
+use Rattle.gm_state.specs.declared.command.Intent.{Intent}
+use Rattle.gm_state.specs.declared.command.Intent.TheVariants.{Meta, Clear, Copy}
+use Rattle.gm_state.specs.declared.records.Mirror.{Mirror}
+use Rattle.gm_state.specs.declared.records.Component.{Component}
+use Rattle.gm_state.specs.Intents.{IsOf, IsAtHand}
+use Rattle.gm_state.specs.Lookups.{component_of}
+use Rattle.gm_state.specs.Readable.{IsCopyWithin, IsReadable}
+use Rattle.gm_state.specs.Records.{Records, IsState, members, provider}
+use Rattle.gm_state.specs.Words.{Has}
+use Rattle.gm_state.proofs.Finding.{find_one, found}
+use Rattle.gm_state.proofs.Order.{same_from}
+use Rattle.gm_state.proofs.Words.{filter-Has}
+use Rattle.gm_state.proofs.Testing.{member}
+use Rattle.gm_bench.specs.Presence.{serves, is_present, absent_among, providers_in, or_else, first_absent}
+
+found_in : (s : Records) (p : List ℕ) (j : Component) → component_of s p ≡ Some j → Has s.components j
+found_in s p j e = (found (λ (k : Component). same_label k.provider p) s.components j e).0
+
+in_home : (s : Records) (k : Component) → Has s.components k → (m : Mirror) → m.name ≡ k.mirror → Has (members s.components m.name) k
+in_home s k h m is = filter-Has (λ (j : Component). same_label j.mirror m.name) s.components k h (same_from k.mirror m.name (sym is))
+
+all_present : (s : Records) (size : Sizes) (ps : List (List ℕ)) → absent_among s size ps ≡ None → (p : List ℕ) → Has ps p → is_present s size p ≡ true
+all_present s size [] e p h = absurd h
+all_present s size (q ∷ ps) e p h = elim (cases_Bool (is_present s size q)) [
+  | inr off ↦ (let f : Some q ≡ None = rw off at e in absurd (let g : ⊥ = cc in g))
+  | inl on ↦ (let f : absent_among s size ps ≡ None = rw on at e in ⊎_elim (λ (same : q ≡ p). subst (λ (x : List ℕ). is_present s size x ≡ true) same on) (λ (more : Has ps p). all_present s size ps f p more) h)
+]
+
+both_none : (a b : Option (List ℕ)) → or_else a b ≡ None → (a ≡ None) × (b ≡ None)
+both_none None b e = (refl, e)
+both_none (Some p) b e = absurd (let g : ⊥ = cc in g)
+
+-- each provider of each intent is there
+pub none_absent : (s : Records) (size : Sizes) (ts : List Intent) → first_absent s size ts ≡ None → (t : Intent) → Has ts t → (p : List ℕ) → Has (providers_in t) p → is_present s size p ≡ true
+none_absent s size [] e t h p g = absurd h
+none_absent s size (r ∷ ts) e t h p g =
+    let parts = both_none (absent_among s size (providers_in r)) (first_absent s size ts) e in
+    ⊎_elim (λ (same : r ≡ t). all_present s size (providers_in t) (subst (λ (x : Intent). absent_among s size (providers_in x) ≡ None) same parts.0) p g)
+    (λ (more : Has ts t). none_absent s size ts parts.1 t more p g) h
+
+some_sector : (k : Option Component) (o : Option ℕ) → serves k o ≡ true → ((j : Component) → k ≡ Some j → 0 < j.sectors) → IsSomeAnd o (λ n. 0 < n)
+some_sector k None e pos = absurd (true≢false (sym e ∙ same k))
+  where
+    same : (k : Option Component) → serves k None ≡ false
+    same None = refl
+    same (Some j) = refl
+some_sector None (Some n) e pos = ltb-true 0 n e
+some_sector (Some j) (Some n) e pos = let is : n ≡ j.sectors = eqb-true n j.sectors e in let p : 0 < j.sectors = pos j refl in omega (arith, is, p)
+
+registered : (k : Component) (o : Option ℕ) → serves (Some k) o ≡ true → o ≡ Some k.sectors
+registered k None e = cc
+registered k (Some n) e = ap Some (eqb-true n k.sectors e)
+
+at_least : (o : Option ℕ) (n m : ℕ) → o ≡ Some n → m ≤ n → IsSomeAnd o (λ x. m ≤ x)
+at_least o n m e l = subst (λ (x : Option ℕ). IsSomeAnd x (λ y. m ≤ y)) (sym e) l
+
+module _ (s : Records) (size : Sizes) (state : IsState s) where
+  component_sectors : (p : List ℕ) (j : Component) → component_of s p ≡ Some j → 0 < j.sectors
+  component_sectors p j e =
+      let f = found_in s p j e in
+      let home = state.homes j f in
+      let room = (state.each home.0 home.1).sizes j (in_home s j f home.0 home.2) in
+      omega (arith, room)
+
+  of_component : (m : Mirror) (k : Component) → IsOf s m k → (p : List ℕ) → k.provider ≡ p → is_present s size p ≡ true → size p ≡ Some k.sectors
+  of_component m k o p is e =
+      let found : component_of s k.provider ≡ Some k = find_one provider s.components state.components_in_order k (member s m.name k o.component).0 in
+      let here : component_of s p ≡ Some k = subst (λ (q : List ℕ). component_of s q ≡ Some k) is found in
+      registered k (size p) (subst (λ (c : Option Component). serves c (size p) ≡ true) here e)
+
+  hand_one : (t : Intent) → IsReadable s t → ((p : List ℕ) → Has (providers_in t) p → is_present s size p ≡ true) → IsAtHand size t
+  hand_one (Meta p) r each = some_sector (component_of s p) (size p) (each p (inl refl)) (component_sectors p)
+  hand_one (Clear p) r each = some_sector (component_of s p) (size p) (each p (inl refl)) (component_sectors p)
+  hand_one (Copy a b x y) r each =
+      let c : IsCopyWithin s a b x y = r in
+      let from = of_component c.mirror c.from c.from_is a c.source_is (each a (inr (inl refl))) in
+      let to = of_component c.mirror c.to c.to_is b c.target_is (each b (inl refl)) in
+      let room_from = (state.each c.mirror c.from_is.mirror).sizes c.from c.from_is.component in
+      let room_to = (state.each c.mirror c.to_is.mirror).sizes c.to c.to_is.component in
+      let within = c.within in
+      (at_least (size a) c.from.sectors y from (omega (arith, room_from, within)), at_least (size b) c.to.sectors y to (omega (arith, room_to, within)))
+
+  pub at_hand : (ts : List Intent) → ((t : Intent) → Has ts t → IsReadable s t) → first_absent s size ts ≡ None → (t : Intent) → Has ts t → IsAtHand size t
+  at_hand ts readable none t h = hand_one t (readable t h) (λ p g. none_absent s size ts none t h p g)

@@ -1,0 +1,63 @@
+use Rattle.std.proofs.Common.{◌≡◌, ◌∙◌, ℕ, sym, subst, arith}
+use Rattle.gm_registry.specs.Registry.{DiskKept}
+use Rattle.gm_registry.proofs.Saving.{saved}
+use Rattle.gm_rules.specs.Decides.{IsLeast}
+use Rattle.gm_rules.specs.Refusals.{number_of}
+use Rattle.gm_rules.specs.Run as run
+use Rattle.gm_rules.specs.Worlds.{seen_of}
+use Rattle.gm_bench.specs.Accepting.{LeavesStep, IsAnswered}
+use Rattle.gm_bench.specs.Planning.{IsPlanned, IsDecided}
+use Rattle.gm_bench.proofs.Answering.{least}
+use Rattle.gm_bench.proofs.Deciding.{still, unstepped, then_step, ok_then}
+use Rattle.gm_bench.proofs.media.Media.choose.Goals as goal
+
+pub returns-in-Ok-Ok-clause-leaves : goal.returns-in-Ok-Ok-clause-leaves
+returns-in-Ok-Ok-clause-leaves g c h clean away u words at can =
+    let view = g.H.Shelf.view in
+    let size = g.H.Shelf.size in
+    let lawful = g.met.H.Shelf.lawful c.args.self.now.shelf h in
+    let only = (saved g.S.Store g.met.S.Store.settled c.args.self.now.registry at.tables at.has).crash in
+    let quiet = (c.ask.ensures.reads h).quiet in
+    let asked : DiskKept g.S.Store c.ask.new.self.registry = omega (arith, clean, c.commit.ensures.clean) in
+    let d = c.in-Ok-Ok.ensures.decides h asked away u at in
+    let planned : IsPlanned u c.args.command.now c.in-Ok-Ok.planned = subst (λ r. IsDecided u c.args.command.now r) c.in-Ok-Ok.field-0-is d.0 in
+    let at1 = still g.S.Store view size c.args.self.now.registry c.args.self.now.shelf c.ask.new.self.shelf away u at lawful quiet c.ask.ensures.size c.ask.new.self.registry d.1 in
+    let leaves = c.commit.ensures.leaves (c.ask.ensures.honest h) clean away c.args.command.now u words at1 planned can in
+    subst (λ (k : g.row.H.Denot). LeavesStep g.S.Store view size c.args.self.now.registry c.commit.new.self.registry c.args.self.now.shelf k away u c.args.key.now c.args.command.now) (sym c.commit.ensures.shelf)
+    (then_step g.S.Store view size c.args.self.now.registry c.args.self.now.shelf c.ask.new.self.shelf away u at lawful quiet c.ask.ensures.size c.ask.new.self.registry c.commit.new.self.registry c.ask.new.self.shelf c.args.key.now c.args.command.now quiet only leaves)
+
+pub returns-in-Ok-Ok-clause-done : goal.returns-in-Ok-Ok-clause-done
+returns-in-Ok-Ok-clause-done g c h clean = ok_then _ _ (λ a told away u words at can. (
+    let view = g.H.Shelf.view in
+    let size = g.H.Shelf.size in
+    let lawful = g.met.H.Shelf.lawful c.args.self.now.shelf h in
+    let quiet = (c.ask.ensures.reads h).quiet in
+    let asked : DiskKept g.S.Store c.ask.new.self.registry = omega (arith, clean, c.commit.ensures.clean) in
+    let d = c.in-Ok-Ok.ensures.decides h asked away u at in
+    let planned : IsPlanned u c.args.command.now c.in-Ok-Ok.planned = subst (λ r. IsDecided u c.args.command.now r) c.in-Ok-Ok.field-0-is d.0 in
+    let at1 = still g.S.Store view size c.args.self.now.registry c.args.self.now.shelf c.ask.new.self.shelf away u at lawful quiet c.ask.ensures.size c.ask.new.self.registry d.1 in
+    subst (λ (k : g.row.H.Denot). IsAnswered g.S.Store view size c.commit.new.self.registry k away u c.args.key.now c.args.command.now a) (sym c.commit.ensures.shelf) (told away c.args.command.now u words at1 planned can)))
+    c.commit.result (c.commit.ensures.done (c.ask.ensures.honest h) clean)
+
+pub returns-in-Ok-Err-clause-leaves : goal.returns-in-Ok-Err-clause-leaves
+returns-in-Ok-Err-clause-leaves g c h clean away u words at can =
+    unstepped g.S.Store g.H.Shelf.view g.H.Shelf.size c.args.self.now.registry c.args.self.now.shelf c.ask.new.self.shelf away u at (g.met.H.Shelf.lawful c.args.self.now.shelf h) (c.ask.ensures.reads h).quiet c.ask.ensures.size
+    c.ask.new.self.registry c.args.key.now c.args.command.now (saved g.S.Store g.met.S.Store.settled c.args.self.now.registry at.tables at.has).crash clean (c.ask.ensures.store.left at.tables at.has)
+
+pub returns-in-Ok-Err-clause-done : goal.returns-in-Ok-Err-clause-done
+returns-in-Ok-Err-clause-done g c h clean away u words at can =
+    let lawful = g.met.H.Shelf.lawful c.args.self.now.shelf h in
+    let d = c.in-Ok-Err.ensures.decides h clean away u at in
+    let l = (at.leads (g.H.Shelf.view c.args.self.now.shelf).seen lawful.holds_now).0 in
+    let least_is : IsLeast u.state (seen_of u) c.args.command.now c.in-Ok-Err.refusal = subst (λ r. IsDecided u c.args.command.now r) c.in-Ok-Err.field-0-is d.0 in
+    let number : c.from.result ≡ number_of c.in-Ok-Err.refusal = c.from.ensures ∙ c.number.ensures in
+    let at1 = still g.S.Store g.H.Shelf.view g.H.Shelf.size c.args.self.now.registry c.args.self.now.shelf c.ask.new.self.shelf away u at lawful (c.ask.ensures.reads h).quiet c.ask.ensures.size c.ask.new.self.registry d.1 in (
+      subst (λ (n : ℕ). run.Calls u (record { key = c.args.key.now; command = c.args.command.now }) u (run.Refused n)) (sym number)
+          (least u at.tables l.sound l.records c.args.key.now c.args.command.now can.key_ok can.free can.room c.in-Ok-Err.refusal least_is),
+      at1,
+    )
+
+pub returns-in-Err-clause-leaves : goal.returns-in-Err-clause-leaves
+returns-in-Err-clause-leaves g c h clean away u words at can =
+    unstepped g.S.Store g.H.Shelf.view g.H.Shelf.size c.args.self.now.registry c.args.self.now.shelf c.ask.new.self.shelf away u at (g.met.H.Shelf.lawful c.args.self.now.shelf h) (c.ask.ensures.reads h).quiet c.ask.ensures.size
+    c.ask.new.self.registry c.args.key.now c.args.command.now (saved g.S.Store g.met.S.Store.settled c.args.self.now.registry at.tables at.has).crash clean (c.ask.ensures.store.left at.tables at.has)

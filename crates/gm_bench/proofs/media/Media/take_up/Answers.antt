@@ -1,0 +1,81 @@
+use Rattle.std.proofs.Common.{rules, ◌≡◌, ◌∙◌, length, sym, ap, subst, arith}
+use Rattle.gm_registry.specs.Registry.{DiskKept}
+use Rattle.gm_registry.proofs.Saving.{saved}
+use Rattle.gm_bench.specs.Recovering.{LeavesOnly}
+use Rattle.gm_bench.proofs.Storing.{read_only}
+use Rattle.gm_bench.proofs.TakingUp.{moved, moments_back, leaves_back}
+use Rattle.gm_bench.proofs.media.Media.take_up.Goals as goal
+
+pub returns-in-Ok-check_and_finish-clause-leaves : goal.returns-in-Ok-check_and_finish-clause-leaves
+returns-in-Ok-check_and_finish-clause-leaves g c h clean away ts u w at =
+    let view = g.H.Shelf.view in
+    let size = g.H.Shelf.size in
+    let clean1 : DiskKept g.S.Store c.load.new.self.registry = omega (arith, clean, c.check_and_finish.ensures.clean) in
+    let said = c.in-Ok.ensures.says h clean1 away ts u w at in
+    let are : c.deref.result.now ≡ ts = c.deref.ensures.value ∙ said.1 in
+    let found = moved g.S.Store view size c.args.self.now.registry c.load.new.self.registry c.args.self.now.shelf c.load.new.self.shelf away ts u w at c.load.ensures.shelf c.deref.result.now are said.2 in
+    let h1 : g.H.Shelf.honest c.load.new.self.shelf = subst g.H.Shelf.honest (sym c.load.ensures.shelf) h in
+    leaves_back g.S.Store view size c.args.self.now.registry c.load.new.self.registry c.args.self.now.shelf c.load.new.self.shelf away ts u w at c.load.ensures.shelf c.deref.result.now are c.check_and_finish.new.self.registry c.check_and_finish.new.self.shelf
+    (saved g.S.Store g.met.S.Store.settled c.args.self.now.registry at.tables at.has).crash
+    (c.check_and_finish.ensures.moments h1 away u w found said.0) (c.check_and_finish.ensures.leaves h1 clean away u w found said.0)
+
+pub returns-in-Ok-check_and_finish-clause-moments : goal.returns-in-Ok-check_and_finish-clause-moments
+returns-in-Ok-check_and_finish-clause-moments g c h clean away ts u w at =
+    let view = g.H.Shelf.view in
+    let size = g.H.Shelf.size in
+    let clean1 : DiskKept g.S.Store c.load.new.self.registry = omega (arith, clean, c.check_and_finish.ensures.clean) in
+    let said = c.in-Ok.ensures.says h clean1 away ts u w at in
+    let are : c.deref.result.now ≡ ts = c.deref.ensures.value ∙ said.1 in
+    let found = moved g.S.Store view size c.args.self.now.registry c.load.new.self.registry c.args.self.now.shelf c.load.new.self.shelf away ts u w at c.load.ensures.shelf c.deref.result.now are said.2 in
+    let h1 : g.H.Shelf.honest c.load.new.self.shelf = subst g.H.Shelf.honest (sym c.load.ensures.shelf) h in
+    moments_back g.S.Store view size c.args.self.now.registry c.load.new.self.registry c.args.self.now.shelf c.load.new.self.shelf away ts u w at c.load.ensures.shelf c.deref.result.now are c.check_and_finish.new.self.shelf
+    (c.check_and_finish.ensures.moments h1 away u w found said.0)
+
+pub returns-in-Ok-check_and_finish-clause-done : goal.returns-in-Ok-check_and_finish-clause-done
+returns-in-Ok-check_and_finish-clause-done g c h clean away ts u w at =
+    let view = g.H.Shelf.view in
+    let size = g.H.Shelf.size in
+    let clean1 : DiskKept g.S.Store c.load.new.self.registry = omega (arith, clean, c.check_and_finish.ensures.clean) in
+    let said = c.in-Ok.ensures.says h clean1 away ts u w at in
+    let are : c.deref.result.now ≡ ts = c.deref.ensures.value ∙ said.1 in
+    let found = moved g.S.Store view size c.args.self.now.registry c.load.new.self.registry c.args.self.now.shelf c.load.new.self.shelf away ts u w at c.load.ensures.shelf c.deref.result.now are said.2 in
+    let h1 : g.H.Shelf.honest c.load.new.self.shelf = subst g.H.Shelf.honest (sym c.load.ensures.shelf) h in
+    let items : c.len.result ≡ length c.in-Ok.intents.items = search rules in
+    let many : c.len.result ≡ length ts = items ∙ ap length said.1 in
+    (many, c.in-Ok-check_and_finish.ensures.done h1 clean away u w found said.0)
+
+pub returns-in-Ok-clause-leaves : goal.returns-in-Ok-clause-leaves
+returns-in-Ok-clause-leaves g c h clean away ts u w at =
+    let view = g.H.Shelf.view in
+    let size = g.H.Shelf.size in
+    let clean1 : DiskKept g.S.Store c.load.new.self.registry = omega (arith, clean, c.check_and_finish.ensures.clean) in
+    let said = c.in-Ok.ensures.says h clean1 away ts u w at in
+    let are : c.deref.result.now ≡ ts = c.deref.ensures.value ∙ said.1 in
+    let found = moved g.S.Store view size c.args.self.now.registry c.load.new.self.registry c.args.self.now.shelf c.load.new.self.shelf away ts u w at c.load.ensures.shelf c.deref.result.now are said.2 in
+    let h1 : g.H.Shelf.honest c.load.new.self.shelf = subst g.H.Shelf.honest (sym c.load.ensures.shelf) h in
+    leaves_back g.S.Store view size c.args.self.now.registry c.load.new.self.registry c.args.self.now.shelf c.load.new.self.shelf away ts u w at c.load.ensures.shelf c.deref.result.now are c.check_and_finish.new.self.registry c.check_and_finish.new.self.shelf
+    (saved g.S.Store g.met.S.Store.settled c.args.self.now.registry at.tables at.has).crash
+    (c.check_and_finish.ensures.moments h1 away u w found said.0) (c.check_and_finish.ensures.leaves h1 clean away u w found said.0)
+
+pub returns-in-Ok-clause-moments : goal.returns-in-Ok-clause-moments
+returns-in-Ok-clause-moments g c h clean away ts u w at =
+    let view = g.H.Shelf.view in
+    let size = g.H.Shelf.size in
+    let clean1 : DiskKept g.S.Store c.load.new.self.registry = omega (arith, clean, c.check_and_finish.ensures.clean) in
+    let said = c.in-Ok.ensures.says h clean1 away ts u w at in
+    let are : c.deref.result.now ≡ ts = c.deref.ensures.value ∙ said.1 in
+    let found = moved g.S.Store view size c.args.self.now.registry c.load.new.self.registry c.args.self.now.shelf c.load.new.self.shelf away ts u w at c.load.ensures.shelf c.deref.result.now are said.2 in
+    let h1 : g.H.Shelf.honest c.load.new.self.shelf = subst g.H.Shelf.honest (sym c.load.ensures.shelf) h in
+    moments_back g.S.Store view size c.args.self.now.registry c.load.new.self.registry c.args.self.now.shelf c.load.new.self.shelf away ts u w at c.load.ensures.shelf c.deref.result.now are c.check_and_finish.new.self.shelf
+    (c.check_and_finish.ensures.moments h1 away u w found said.0)
+
+pub returns-clause-leaves : goal.returns-clause-leaves
+returns-clause-leaves g c h clean away ts u w at =
+    let view = g.H.Shelf.view in
+    let size = g.H.Shelf.size in
+    let lawful = g.met.H.Shelf.lawful c.args.self.now.shelf h in
+    let r = c.args.self.now.registry in
+    let k = c.args.self.now.shelf in
+    subst (λ (x : g.row.H.Denot). LeavesOnly g.S.Store view size c.args.self.now.registry c.load.new.self.registry c.args.self.now.shelf x away u w) (sym c.load.ensures.shelf)
+    (read_only g.S.Store view size c.args.self.now.registry c.load.new.self.registry c.args.self.now.shelf c.args.self.now.shelf away at.tables ts u w (saved g.S.Store g.met.S.Store.settled c.args.self.now.registry at.tables at.has).crash clean (c.load.ensures.reads.left at.tables at.has)
+    (λ x l. at.leads x (lawful.only_now x l)) at.leads)

@@ -1,0 +1,40 @@
+-- What tables with pending intents and an image lead to.
+use Rattle.std.specs.Prelude.{◌≡◌, List, is_some, if◌then◌else◌}
+use Rattle.std.specs.List.Sorted.{IsPermutation}
+use Rattle.gm_metadata.specs.Images.{Image, Sizes}
+use Rattle.gm_state.specs.declared.command.Intent.{Intent}
+use Rattle.gm_state.specs.Intents.{IsAtHand, IsRedo}
+use Rattle.gm_state.specs.Readable.{AreReadable}
+use Rattle.gm_state.specs.Rows.{Tables, HoldRecords, intent_rows}
+use Rattle.gm_state.specs.Words.{Has}
+use Rattle.gm_state.specs.World.{World, Sound, Claims, NewClaims, CopiesData}
+use Rattle.gm_rules.specs.Step.{NewAreBare}
+
+-- all providers: those of these sizes as the shelf has them, the others as they are away from it
+abbrev pub whole : Sizes → Image → Image → Image
+whole size away x p i = if is_some (size p) then x p i else away p i
+
+-- Beside these intents the tables hold the rows of the world. The image is the world's but for the sectors that the
+-- intents name, and in the world those hold what the intents say.
+pub record Leads (t : Tables) (ts : List Intent) (x : Image) (w : World) : Type 0 where
+  pub sound : Sound w
+  pub records : HoldRecords w t
+  pub intents : IsPermutation (intent_rows 1 ts) t.intents
+  pub readable : AreReadable w.state ts
+  pub at_hand : (t : Intent) → Has ts t → IsAtHand w.size t
+  pub redo : IsRedo w.state w.size ts x w.shelf
+
+-- No component of u claims in the image a sector that it lacks, nor does one that is new in w; and the intents keep that
+-- on the way to w.
+pub record KeepsClaims (ts : List Intent) (x : Image) (u w : World) : Type 0 where
+  pub sound : Sound u
+  pub sizes : u.size ≡ w.size
+  pub after : Claims u w.shelf
+  pub copies : CopiesData u w ts
+  pub old : Claims u x
+  pub new : NewAreBare u w → NewClaims u w x
+
+-- with each of the shelf's images the tables and their intents lead to w, and no component claims on the way a sector
+-- that it lacks
+abbrev pub AllLead : Tables → List Intent → Sizes → Image → (Image → Type 0) → World → World → Type 0
+AllLead t ts size away X u w = (x : Image) → X x → Leads t ts (whole size away x) w × KeepsClaims ts (whole size away x) u w

@@ -1,0 +1,9 @@
+pub mod Leading
+pub mod Recovering
+pub mod Accepting
+pub mod Seeing
+pub mod Faults
+pub mod Presence
+pub mod Planning
+pub mod Schedule
+pub mod Running

@@ -1,0 +1,224 @@
+-- Schedules: calls that returned or were stopped, providers that went away or came back, and openings. A stop between
+-- two calls is one at the end of the first, or at the start of the second.
+use Rattle.std.specs.Prelude.{◌≡◌, ◌⊎◌, ◌+◌, ℕ, List, [], ◌∷◌, length, None}
+use Rattle.sqlite_trees.specs.declared.store.Store.{Ghosts}
+use Rattle.sqlite.specs.Tree.{Trees}
+use Rattle.sqlite.specs.Held.{Held}
+use Rattle.gm_metadata.specs.Images.{Image, Sizes, Same, SameThere}
+use Rattle.gm_shelf.specs.Disk.{View}
+use Rattle.gm_state.specs.declared.command.Intent.{Intent}
+use Rattle.gm_state.specs.declared.command.Reply.{Reply}
+use Rattle.gm_state.specs.Records.{Records}
+use Rattle.gm_state.specs.Rows.{Tables}
+use Rattle.gm_state.specs.World.{World, present}
+use Rattle.gm_rules.specs.Step.{Step}
+use Rattle.gm_rules.specs.Run.{Call, Answer, Calls}
+use Rattle.gm_rules.specs.Run as run
+use Rattle.gm_registry.specs.Registry.{CrashLeaves}
+use Rattle.gm_registry.specs.Replies.{count_of}
+use Rattle.gm_registry.specs.Tables.{IsEmpty}
+use Rattle.gm_bench.specs.Leading.{whole}
+use Rattle.gm_bench.specs.Recovering.{IsStored, Recovers, Cover, IsAt, IsShelfOf, LeavesOnly}
+use Rattle.gm_bench.specs.Accepting.{LeavesStep, IsDone}
+
+-- where the bench is: between two calls, some with a part of the records and the intents that are pending, or stopped
+-- with one store and a shelf
+pub data Phase (R H : Type 0) : Type 0 where
+  Ready : (registry : R) (shelf : H) → Phase R H
+  Pending : (registry : R) (shelf : H) (part : Records) (intents : List Intent) → Phase R H
+  Applied : (registry : R) (shelf : H) (part : Records) (intents : List Intent) → Phase R H
+  Down : (db : Trees) (shelf : H) → Phase R H
+
+-- what may happen next, with what it left; `Moved` says what the providers hold that the later shelf hasn't
+pub data Event (R H : Type 0) : Type 0 where
+  Accepted : (call : Call) (answer : Answer) (registry : R) (shelf : H) → Event R H
+  Accept_stopped : (call : Call) (registry : R) (shelf : H) (db : Trees) (later : H) → Event R H
+  Redone : (registry : R) (shelf : H) → Event R H
+  Redo_stopped : (registry : R) (shelf : H) (db : Trees) (later : H) → Event R H
+  Settled : (registry : R) (shelf : H) → Event R H
+  Settle_stopped : (registry : R) (shelf : H) (db : Trees) (later : H) → Event R H
+  Moved : (away : Image) (later : H) → Event R H
+  Opened : (registry : R) (shelf : H) → Event R H
+  Open_stopped : (store registry : R) (shelf : H) (db : Trees) (later : H) → Event R H
+
+-- the phase, what the providers hold that are away, and the accepted and the acknowledged calls, the newest first
+pub record Now (R H : Type 0) : Type 0 where
+  pub phase : Phase R H
+  pub away : Image
+  pub accepted : List Call
+  pub acknowledged : List Call
+
+-- at this phase, with one more call that is accepted and acknowledged
+abbrev pub accepting : {R H : Type 0} → Now R H → Call → Phase R H → Now R H
+accepting m call p = record m { phase = p; accepted = call ∷ m.accepted; acknowledged = call ∷ m.acknowledged }
+
+-- in order, some left out
+pub data Within {A : Type 0} : List A → List A → Type 0 where
+  none : Within [] []
+  skips : {a : A} {xs ys : List A} → Within xs ys → Within xs (a ∷ ys)
+  keeps : {a : A} {xs ys : List A} → Within xs ys → Within (a ∷ xs) (a ∷ ys)
+
+-- a world of providers of these sizes, without records and answers
+pub record IsNew (all : Sizes) (w : World) : Type 0 where
+  pub mirrors : w.state.mirrors ≡ []
+  pub components : w.state.components ≡ []
+  pub answered : w.answered ≡ []
+  pub sizes : w.size ≡ all
+
+-- one world is the other but for which providers are there
+pub record IsButMoved (w v : World) : Type 0 where
+  pub state : w.state ≡ v.state
+  pub holds : w.holds ≡ v.holds
+  pub answered : w.answered ≡ v.answered
+  pub shelf : w.shelf ≡ v.shelf
+  pub size : w.size ≡ v.size
+
+-- The call's step from u, behind which providers may have gone away or come back.
+pub record IsStepTo (u : World) (call : Call) (w : World) : Type 0 where
+  pub stepped : World
+  pub reply : Reply
+  pub step : Step u call.key call.command stepped reply
+  pub moved : IsButMoved w stepped
+
+-- the world after these calls, by steps alone
+abbrev pub Reached : Sizes → List Call → World → Type 0
+Reached all [] w = IsNew all w
+Reached all (call ∷ older) w = (u : World) × Reached all older u × IsStepTo u call w
+
+-- u is the world before the last of these calls, and w the one after it
+abbrev pub IsLastStep : Sizes → List Call → World → World → Type 0
+IsLastStep all [] u w = ⊥
+IsLastStep all (call ∷ older) u w = Reached all older u × IsStepTo u call w
+
+-- these providers are some of those, with the same sizes
+abbrev pub AreAmong : Sizes → Sizes → Type 0
+AreAmong size all = (q : List ℕ) → (size q ≡ None) ⊎ (size q ≡ all q)
+
+-- how many commands the tables of a store hold
+abbrev pub HasCount : Trees → ℕ → Type 0
+HasCount db n = (t : Tables) → IsStored db t → count_of t ≡ n
+
+-- the commits that were left: with that of the call, or without
+abbrev pub IsLeftIn : Trees → Call → List Call → List Call → Type 0
+IsLeftIn db call before after =
+    ((after ≡ before) × HasCount db (length before)) ⊎ ((after ≡ call ∷ before) × HasCount db (length before + 1))
+
+module _ {S H : Type 0} (g : Ghosts S) (view : H → View) (size : H → Sizes) where
+  -- one store and one shelf that a stop within a call leaves: the store is of the call's start and the image of any
+  -- moment, or both are of its end
+  abbrev pub IsStop : Held S → Held S → H → H → Trees → H → Type 0
+  IsStop r s h k db l =
+      (size l ≡ size h)
+      × ((view l).may_leave (view l).seen)
+      × ((CrashLeaves g r db × ((x : Image) → (view l).may_leave x → (view k).left_since (view h).moment x))
+      ⊎ (CrashLeaves g s db × ((x : Image) → (view l).may_leave x → (view k).may_leave x)))
+
+  -- the call is answered so, and a command that is done is pending
+  abbrev pub Answers : Held S → H → Now (Held S) H → Call → Answer → Held S → H → Now (Held S) H → Type 0
+  Answers r h m call (run.Done i reply) s k n =
+      (part : Records) × (ts : List Intent) × (n ≡ accepting m call (Pending s k part ts))
+      × ((u : World) → IsAt g view size r h m.away [] u u
+      → IsDone g view size s k m.away u call.key call.command i reply part ts)
+  Answers r h m call answer s k n =
+      (n ≡ record m { phase = Ready s k })
+      × ((u : World) → IsAt g view size r h m.away [] u u → Calls u call u answer × IsAt g view size s k m.away [] u u)
+
+  -- Providers went away or came back unchanged: those on the later shelf have their sizes, and whatever image is left of
+  -- it, all providers hold what they hold with one that may be left of this shelf.
+  pub record IsMove (all : Sizes) (h : H) (away : Image) (later : H) (beyond : Image) : Type 0 where
+    pub sizes : AreAmong (size later) all
+    pub images : (y : Image) → (view later).may_leave y
+        → (x : Image) × (view h).may_leave x × Same (whole (size later) beyond y) (whole (size h) away x)
+
+  -- the providers have these sizes for ever
+  module _ (all : Sizes) where
+    -- each event is what the contract of its call says of an honest shelf and a disk that keeps what is written
+    abbrev pub Happens : Now (Held S) H → Event (Held S) H → Now (Held S) H → Type 0
+    Happens m (Accepted call answer s k) n =
+        (r : Held S) × (h : H) × (m.phase ≡ Ready r h) × Answers r h m call answer s k n
+    Happens m (Accept_stopped call s k db l) n =
+        (r : Held S) × (h : H) × (m.phase ≡ Ready r h)
+        × (left : List Call) × (n ≡ record m { phase = Down db l; accepted = left }) × IsLeftIn db call m.accepted left
+        × ((u : World) → IsAt g view size r h m.away [] u u
+        → LeavesStep g view size r s h k m.away u call.key call.command) × IsStop r s h k db l
+    Happens m (Redone s k) n =
+        (r : Held S) × (h : H) × (part : Records) × (ts : List Intent)
+        × (m.phase ≡ Pending r h part ts) × (n ≡ record m { phase = Applied s k part ts })
+        × ((u w : World) → IsAt g view size r h m.away ts u w → Cover part w.state ts
+        → IsAt g view size s k m.away ts u w × IsShelfOf (view k) w (size k))
+    Happens m (Redo_stopped s k db l) n =
+        (r : Held S) × (h : H) × (part : Records) × (ts : List Intent)
+        × (m.phase ≡ Pending r h part ts) × (n ≡ record m { phase = Down db l })
+        × ((u w : World) → IsAt g view size r h m.away ts u w → Cover part w.state ts
+        → LeavesOnly g view size r s h k m.away u w) × IsStop r s h k db l
+    Happens m (Settled s k) n =
+        (r : Held S) × (h : H) × (part : Records) × (ts : List Intent)
+        × (m.phase ≡ Applied r h part ts) × (n ≡ record m { phase = Ready s k })
+        × ((u w : World) → IsAt g view size r h m.away ts u w → IsShelfOf (view h) w (size h)
+        → IsAt g view size s k m.away [] w w)
+    Happens m (Settle_stopped s k db l) n =
+        (r : Held S) × (h : H) × (part : Records) × (ts : List Intent)
+        × (m.phase ≡ Applied r h part ts) × (n ≡ record m { phase = Down db l })
+        × ((u w : World) → IsAt g view size r h m.away ts u w → IsShelfOf (view h) w (size h)
+        → LeavesOnly g view size r s h k m.away u w) × IsStop r s h k db l
+    Happens m (Moved beyond later) n =
+        (db : Trees) × (h : H) × (m.phase ≡ Down db h) × (n ≡ record m { phase = Down db later; away = beyond })
+        × IsMove all h m.away later beyond
+    Happens m (Opened s k) n =
+        (db : Trees) × (h : H) × (m.phase ≡ Down db h) × (n ≡ record m { phase = Ready s k })
+        × ((u w : World) → present w ≡ size h → Recovers db (size h) m.away (view h).may_leave u w
+        → IsAt g view size s k m.away [] w w)
+    Happens m (Open_stopped o s k after l) n =
+        (db : Trees) × (h : H) × (m.phase ≡ Down db h) × (n ≡ record m { phase = Down after l })
+        × ((u w : World) → present w ≡ size h → Recovers db (size h) m.away (view h).may_leave u w
+        → LeavesOnly g view size o s h k m.away u w) × IsStop o s h k after l
+
+    -- A start: a store without tables, and a new world whose providers hold what any crash leaves of them.
+    pub record IsStart (db : Trees) (h : H) (away : Image) (w : World) : Type 0 where
+      pub empty : IsEmpty db
+      pub new : IsNew all w
+      pub sizes : present w ≡ size h
+      pub shelf : (x : Image) → (view h).may_leave x → SameThere w.size (whole (size h) away x) w.shelf
+
+    -- the events, the newest first, lead to this from a start
+    abbrev pub Runs : List (Event (Held S) H) → Now (Held S) H → Type 0
+    Runs [] n =
+        (db : Trees) × (h : H) × (away : Image) × (w : World) × IsStart db h away w
+        × (n ≡ record { phase = Down db h; away = away; accepted = []; acknowledged = [] })
+    Runs (e ∷ older) n = (m : Now (Held S) H) × Runs older m × Happens m e n
+
+    -- after an opening and at rest: the tables and the shelf are those of the world after the accepted calls
+    pub record AtRest (r : Held S) (h : H) (away : Image) (acc ack : List Call) : Type 0 where
+      pub world : World
+      pub reached : Reached all acc world
+      pub at : IsAt g view size r h away [] world world
+      pub told : Within ack acc
+
+    -- the intents that are pending lead to it, the part of the records says what they need, and no component claims on
+    -- the way a sector that it lacks
+    pub record OnTheWay (r : Held S) (h : H) (away : Image) (part : Records) (ts : List Intent) (acc ack : List Call) : Type 0 where
+      pub world : World
+      pub before : World
+      pub reached : Reached all acc world
+      pub last : IsLastStep all acc before world
+      pub at : IsAt g view size r h away ts before world
+      pub cover : Cover part world.state ts
+      pub told : Within ack acc
+
+    -- whatever a stop left leads to it, from itself or from the world before the last call
+    pub record Stopped (db : Trees) (h : H) (away : Image) (acc ack : List Call) : Type 0 where
+      pub world : World
+      pub before : World
+      pub reached : Reached all acc world
+      pub last : IsButMoved before world ⊎ IsLastStep all acc before world
+      pub sizes : present world ≡ size h
+      pub recovers : Recovers db (size h) away (view h).may_leave before world
+      pub told : Within ack acc
+
+    -- what holds at each phase
+    abbrev pub Headline : Phase (Held S) H → Image → List Call → List Call → Type 0
+    Headline (Ready r h) away acc ack = AtRest r h away acc ack
+    Headline (Pending r h part ts) away acc ack = OnTheWay r h away part ts acc ack
+    Headline (Applied r h part ts) away acc ack =
+        (o : OnTheWay r h away part ts acc ack) × IsShelfOf (view h) o.world (size h)
+    Headline (Down db h) away acc ack = Stopped db h away acc ack

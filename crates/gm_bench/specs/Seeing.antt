@@ -1,0 +1,19 @@
+-- What a command has to know of the shelf.
+use Rattle.std.specs.Prelude.{◌≡◌, ◌-◌, ◌==◌, ℕ, List, Some, option_map, if◌then◌else◌}
+use Rattle.gm_metadata.specs.Images.{Image, Sizes, zeros}
+use Rattle.gm_rules.specs.declared.facts.Fact.{Fact}
+use Rattle.gm_rules.specs.Facts.{size_in, last_in}
+
+-- the last of so many sectors; zeros stand for the one of a provider without sectors
+abbrev pub last_of : ℕ → (ℕ → List ℕ) → List ℕ
+last_of n sectors = if n == 0 then zeros else sectors (n - 1)
+
+-- the fact is what the shelf says
+pub record IsFact (size : Sizes) (seen : Image) (f : Fact) : Type 0 where
+  pub sectors : size f.provider ≡ Some f.sectors
+  pub last : f.last ≡ last_of f.sectors (seen f.provider)
+
+-- the facts say of this provider what the shelf says
+pub record Tell (facts : List Fact) (size : Sizes) (seen : Image) (q : List ℕ) : Type 0 where
+  pub size_is : size_in facts q ≡ size q
+  pub last_is : last_in facts q ≡ option_map (λ n. last_of n (seen q)) (size q)

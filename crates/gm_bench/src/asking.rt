@@ -1,0 +1,176 @@
+//! What the rules answer to a command.
+
+ghost use Rattle.std.specs.Prelude.{◌≡◌, ◌<◌, ◌≤◌, List, [], length, IfOk, IsErrOf, nat_le};
+ghost use Rattle.gm_metadata.specs.Images.{Image};
+ghost use Rattle.gm_shelf.specs.Disk.{AreReads};
+ghost use Rattle.gm_state.specs.declared.command.Intent.{Intent};
+ghost use Rattle.gm_state.specs.Rows.{Tables};
+ghost use Rattle.gm_state.specs.World.{World};
+ghost use Rattle.gm_rules.specs.Decides.{changed_by};
+ghost use Rattle.gm_rules.specs.Parts.{IsPartOf};
+ghost use Rattle.gm_rules.specs.Worlds.{AreFacts};
+ghost use Rattle.gm_registry.specs.Registry.{DiskKept, HasTables, Reads};
+ghost use Rattle.gm_registry.specs.Replies.{count_of};
+ghost use Rattle.gm_bench.specs.Recovering.{IsAt};
+ghost use Rattle.gm_bench.specs.Planning.{IsDecided};
+
+use crate::fault::BenchFault;
+use crate::media::Media;
+use crate::seeing::facts_of;
+use gm_rules::{Change, Facts, Refusal, changed_by, decide_part, needed};
+use gm_shelf::Shelf;
+use gm_state::{Command, Intent, State};
+use sqlite::Alter;
+use std::alloc::Global;
+
+/// The most commands that a bench accepts.
+const MAX_COMMANDS: u64 = 100_000;
+
+/// What is to be done for a command that nothing refuses: the change, and for what is pending after it the part of the
+/// records and the intents.
+#[derive(Drop)]
+pub(crate) struct Planned {
+    pub(crate) change: Change,
+    pub(crate) part: State,
+    pub(crate) intents: Vec<Intent>,
+}
+
+// What a change leaves to be done.
+fn plan(alloc: Global, part: &State, change: Change) -> Result<Planned, BenchFault>
+    ensures planned { IfOk result (λ p. (p.change ≡ change) × (p.part ≡ changed_by change part.now)
+        × (p.intents.items ≡ change.intents)) }
+    ensures disk { IsErrOf result BenchFault.Disk → ⊥ }
+{
+    let left = match changed_by(alloc, part, &change) {
+        Ok(Some(left)) => left,
+        Ok(None) => return Err(BenchFault::Unreadable),
+        Err(_) => return Err(BenchFault::Memory),
+    };
+    match change.intents().to_vec(alloc) {
+        Ok(intents) => Ok(Planned {
+            change,
+            part: left,
+            intents,
+        }),
+        Err(_) => Err(BenchFault::Memory),
+    }
+}
+
+// What the rules answer, of a part of the records.
+fn decide_on(
+    alloc: Global,
+    part: &State,
+    count: u64,
+    facts: &Facts,
+    command: &Command,
+) -> Result<Result<Planned, Refusal>, BenchFault>
+    ensures decides { IfOk result (λ r. (u : World) → IsPartOf part.now command.now u.state
+        → count ≡ length u.state.mirrors → AreFacts facts.now u command.now
+        → IsDecided u command.now r) }
+    ensures disk { IsErrOf result BenchFault.Disk → ⊥ }
+{
+    match decide_part(alloc, part, count, facts, command) {
+        Ok(Ok(change)) => match plan(alloc, part, change) {
+            Ok(planned) => Ok(Ok(planned)),
+            Err(fault) => Err(fault),
+        },
+        Ok(Err(refusal)) => Ok(Err(refusal)),
+        Err(_) => Err(BenchFault::Memory),
+    }
+}
+
+impl<S: Alter, H: Shelf> Media<S, H> {
+    /// Whether as many commands were accepted as there may be. It writes nothing.
+    pub(crate) fn is_full(&mut self) -> Result<bool, BenchFault>
+        ensures told { DiskKept S.Store self.new.registry → IfOk result (λ full. (t : Tables)
+            → HasTables S.Store self.old.registry t
+            → (full ≡ nat_le 100000 (count_of t)) × HasTables S.Store self.new.registry t) }
+        ensures disk { IsErrOf result BenchFault.Disk → ⊥ }
+        ensures reads { Reads S.Store self.old.registry self.new.registry }
+        ensures shelf { self.new.shelf ≡ self.old.shelf }
+    {
+        match self.registry.accepted() {
+            Ok(count) => Ok(MAX_COMMANDS <= count),
+            Err(fault) => Err(BenchFault::of_store(fault)),
+        }
+    }
+
+    /// The part of the records that the command asks for, and how many mirrors there are. It writes nothing.
+    pub(crate) fn part(
+        &mut self,
+        alloc: Global,
+        command: &Command,
+    ) -> Result<(State, u64), BenchFault>
+        ensures part { H.honest self.old.shelf → DiskKept S.Store self.new.registry
+            → IfOk result (λ r. (away : Image) (ts : List Intent) (u w : World)
+            → (at : IsAt S.Store H.view H.size self.old.registry self.old.shelf away ts u w)
+            → IsPartOf r.0 command.now w.state × (r.1 ≡ length w.state.mirrors)
+            × HasTables S.Store self.new.registry at.tables) }
+        ensures disk { IsErrOf result BenchFault.Disk → ⊥ }
+        ensures reads { Reads S.Store self.old.registry self.new.registry }
+        ensures shelf { self.new.shelf ≡ self.old.shelf }
+    {
+        match self.load(alloc) {
+            Ok((state, _)) => {
+                let count = state.mirrors().len() as u64;
+                Ok((state, count))
+            }
+            Err(fault) => Err(fault),
+        }
+    }
+
+    /// What the shelf says of the providers that a command needs, of which the part is known.
+    fn look(&mut self, alloc: Global, part: &State, command: &Command) -> Result<Facts, BenchFault>
+        ensures facts { H.honest self.old.shelf
+            → IfOk result (λ facts. (away : Image) (u : World)
+            → IsAt S.Store H.view H.size self.old.registry self.old.shelf away [] u u
+            → IsPartOf part.now command.now u.state → AreFacts facts u command.now) }
+        ensures disk { IsErrOf result BenchFault.Disk
+            → (H.view self.old.shelf).faults < (H.view self.new.shelf).faults }
+        ensures reads { H.honest self.old.shelf
+            → AreReads (H.view self.old.shelf) (H.view self.new.shelf) }
+        ensures registry { self.new.registry ≡ self.old.registry }
+        ensures honest { H.honest self.old.shelf → H.honest self.new.shelf }
+        ensures size { H.size self.new.shelf ≡ H.size self.old.shelf }
+    {
+        match needed(alloc, part, command) {
+            Ok(names) => {
+                let facts = facts_of(alloc, &mut self.shelf, &names)?;
+                Ok(facts)
+            }
+            Err(_) => Err(BenchFault::Memory),
+        }
+    }
+
+    /// What the rules answer, with what is carried out once that is accepted. It writes nothing.
+    pub(crate) fn ask(
+        &mut self,
+        alloc: Global,
+        command: &Command,
+    ) -> Result<Result<Planned, Refusal>, BenchFault>
+        ensures decides { H.honest self.old.shelf → DiskKept S.Store self.new.registry
+            → IfOk result (λ r. (away : Image) (u : World)
+            → (at : IsAt S.Store H.view H.size self.old.registry self.old.shelf away [] u u)
+            → IsDecided u command.now r × HasTables S.Store self.new.registry at.tables) }
+        ensures disk { IsErrOf result BenchFault.Disk
+            → (H.view self.old.shelf).faults < (H.view self.new.shelf).faults }
+        ensures store { Reads S.Store self.old.registry self.new.registry }
+        ensures reads { H.honest self.old.shelf
+            → AreReads (H.view self.old.shelf) (H.view self.new.shelf) }
+        ensures honest { H.honest self.old.shelf → H.honest self.new.shelf }
+        ensures size { H.size self.new.shelf ≡ H.size self.old.shelf }
+    {
+        let (part, count) = match self.part(alloc, command) {
+            Ok(known) => known,
+            Err(fault) => return Err(fault),
+        };
+        let facts = match self.look(alloc, &part, command) {
+            Ok(facts) => facts,
+            Err(fault) => return Err(fault),
+        };
+        match decide_on(alloc, &part, count, &facts, command) {
+            Ok(decided) => Ok(decided),
+            Err(fault) => Err(fault),
+        }
+    }
+}

@@ -1,0 +1,30 @@
+//! A bench: a registry, and the images on a shelf that it keeps record of. A command that is handed in under a key is
+//! decided by the rules, accepted by one commit, carried out on the images and settled; whatever stops that, the next
+//! opening carries out what was accepted.
+//!
+//! Read `specs/Leading.antt` first, what tables and an image lead to, then `specs/Recovering.antt` and
+//! `specs/Accepting.antt`, what a call may leave, and `specs/Schedule.antt`, what a whole run is; then `bench`, whose
+//! calls are those of `media` in turn. `laws` says what holds of every run.
+//!
+//! It isn't finished: it reads the whole registry for each command, a caller can't stop between accepting and carrying
+//! out, and it doesn't show its records.
+#![tactic(auto)]
+
+mod accepting;
+mod answer;
+mod asking;
+mod bench;
+mod checking;
+mod fault;
+mod laws;
+mod media;
+mod opening;
+mod running;
+mod seeing;
+#[cfg(test)]
+mod tests;
+
+pub use answer::Answer;
+pub use bench::{Bench, OpenFault, Phase};
+pub use fault::BenchFault;
+pub use laws::whole_run_law;
