@@ -4,6 +4,8 @@ use Rattle.gm_state.specs.declared.command.Command.{Command}
 use Rattle.gm_state.specs.declared.command.Command.TheVariants.{Label, Insert, Remove, Clear, Destroy}
 use Rattle.gm_rules.specs.declared.refusals.Refusal.{Refusal}
 use Rattle.gm_rules.specs.declared.refusals.Refusal.TheVariants.{NoMirror, NameTaken, MidTaken, Absent, ProviderTaken, CarriesMetadata, TooSmall, NotMember, DidTaken, Full, TooManyMirrors, SomeLost, LastActive, WrongSize, NoMetadata}
+use Rattle.gm_rules.specs.declared.refusals.CallRefusal.{CallRefusal}
+use Rattle.gm_rules.specs.declared.refusals.CallRefusal.TheVariants.{NoKey, KeyTaken, NoRoom, ByRules}
 
 -- the number of a refusal: where several apply, the least is answered
 abbrev pub number_of : Refusal → ℕ
@@ -22,6 +24,13 @@ number_of SomeLost = 16
 number_of LastActive = 17
 number_of WrongSize = 28
 number_of NoMetadata = 29
+
+-- the number of the refusal of a call
+abbrev pub number_of_call : CallRefusal → ℕ
+number_of_call NoKey = 2
+number_of_call KeyTaken = 3
+number_of_call NoRoom = 4
+number_of_call (ByRules r) = number_of r
 
 -- the refusals that each command may meet
 abbrev pub own : Command → List Refusal

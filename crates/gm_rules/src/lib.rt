@@ -25,4 +25,4 @@ pub use facts::{Fact, Facts};
 pub use laws::every_command_has_a_plan;
 pub use needs::needed;
 pub use parts::{a_part_is_a_state, part};
-pub use refusals::Refusal;
+pub use refusals::{CallRefusal, Refusal};

@@ -1,7 +1,7 @@
 //! Why a command is refused.
 
 ghost use Rattle.std.specs.Prelude.{◌≡◌};
-ghost use Rattle.gm_rules.specs.Refusals.{number_of, own};
+ghost use Rattle.gm_rules.specs.Refusals.{number_of, number_of_call, own};
 
 use gm_state::Command;
 
@@ -61,6 +61,33 @@ impl Refusal {
             Refusal::LastActive => 17,
             Refusal::WrongSize => 28,
             Refusal::NoMetadata => 29,
+        }
+    }
+}
+
+/// Why a call, a command under a key, is refused. Where several apply, the least number is answered.
+#[derive(Clone, Copy, Debug, PartialEq, Eq)]
+pub enum CallRefusal {
+    /// The key isn't 1 to 32 characters of A-Z, a-z, 0-9, `.`, `_` and `-`.
+    NoKey,
+    /// The key was accepted for another command.
+    KeyTaken,
+    /// 100,000 commands were accepted.
+    NoRoom,
+    /// The rules refuse the command.
+    ByRules(Refusal),
+}
+
+impl CallRefusal {
+    /// The number that is answered.
+    pub fn number(self) -> u8
+        ensures { result ≡ number_of_call self }
+    {
+        match self {
+            CallRefusal::NoKey => 2,
+            CallRefusal::KeyTaken => 3,
+            CallRefusal::NoRoom => 4,
+            CallRefusal::ByRules(refusal) => refusal.number(),
         }
     }
 }
