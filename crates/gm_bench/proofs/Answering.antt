@@ -17,10 +17,12 @@ use Rattle.gm_state.proofs.Finding.{Has-map}
 use Rattle.gm_state.proofs.OneCommand.{same_command}
 use Rattle.gm_rules.specs.declared.refusals.Refusal.{Refusal}
 use Rattle.gm_rules.specs.declared.refusals.Refusal.TheVariants.{NoMirror, NameTaken, MidTaken, Absent, ProviderTaken, CarriesMetadata, TooSmall, NotMember, DidTaken, Full, TooManyMirrors, SomeLost, LastActive, WrongSize, NoMetadata}
-use Rattle.gm_rules.specs.Refusals.{number_of}
+use Rattle.gm_rules.specs.Refusals.{number_of, number_of_call}
+use Rattle.gm_rules.specs.declared.refusals.CallRefusal.{CallRefusal}
+use Rattle.gm_rules.specs.declared.refusals.CallRefusal.TheVariants.{NoKey, KeyTaken, NoRoom, ByRules}
 use Rattle.gm_rules.specs.Decides.{IsLeast}
 use Rattle.gm_rules.specs.Worlds.{seen_of}
-use Rattle.gm_rules.specs.Run.{Call, CallRefusal, NoKey, KeyTaken, NoRoom, ByRules, number_of_call, IsBadCall, Done, Repeated, Refused, Calls}
+use Rattle.gm_rules.specs.Run.{Call, IsBadCall, Done, Repeated, Refused, Calls}
 use Rattle.gm_rules.specs.Step.{Step, Bad}
 use Rattle.gm_registry.specs.Replies.{IsKept as IsKeptIn, IsFree, is_under, reply_in, count_of}
 
@@ -90,11 +92,11 @@ module _ (u : World) (t : Tables) (sound : Sound u) (holds : HoldRecords u t) (k
   each_refusal P two three four more NoRoom h = four h
   each_refusal P two three four more (ByRules r) h = more r h
 
-  pub bad_key : is_key key ≡ false → Calls u call u (Refused 2)
+  pub bad_key : is_key key ≡ false → Calls u call u (Refused NoKey)
   bad_key e = (
     refl,
     λ a k. true≢false (sym (sound.answers.fit a k.kept).key ∙ (ap is_key k.key ∙ e)),
-    record { refusal = NoKey; applies = e; number = refl; least = each_refusal (λ k. 2 ≤ k) (λ _. omega arith) (λ a h s d. omega arith) (λ m. omega arith) (λ r b. omega (arith, at_least_five r)) },
+    record { applies = e; least = each_refusal (λ k. 2 ≤ k) (λ _. omega arith) (λ a h s d. omega arith) (λ m. omega arith) (λ r b. omega (arith, at_least_five r)) },
   )
 
   module _ (key_ok : is_key key ≡ true) where
@@ -102,40 +104,34 @@ module _ (u : World) (t : Tables) (sound : Sound u) (holds : HoldRecords u t) (k
     pub same_again : (a : Answered) → Has u.answered a → a.key ≡ key → CommandFits c → words_of a.command ≡ words_of c → Calls u call u (Repeated a.number a.reply)
     same_again a h e fits words = (refl, a, record { kept = h; key = e; command = same_command a.command c (sound.answers.fit a h).command fits words }, refl, refl)
 
-    pub other_command : (a : Answered) → Has u.answered a → a.key ≡ key → words_of a.command ≢ words_of c → Calls u call u (Refused 3)
+    pub other_command : (a : Answered) → Has u.answered a → a.key ≡ key → words_of a.command ≢ words_of c → Calls u call u (Refused KeyTaken)
     other_command a h e other = (
       refl,
       λ b k. other (ap (λ (x : Answered). words_of x.command) (sound.answers.keys a b h k.kept (e ∙ sym k.key)) ∙ ap words_of k.command),
       record {
-        refusal = KeyTaken;
         applies = (a, h, e, λ s. other (ap words_of s));
-        number = refl;
         least = each_refusal (λ k. 3 ≤ k) (λ f. absurd (true≢false (sym key_ok ∙ f))) (λ b g s d. omega arith) (λ m. omega arith) (λ r b. omega (arith, at_least_five r));
       },
     )
 
     module _ (free : (a : Answered) → Has u.answered a → a.key ≡ key → ⊥) where
-      pub too_many : 100000 ≤ length u.answered → Calls u call u (Refused 4)
+      pub too_many : 100000 ≤ length u.answered → Calls u call u (Refused NoRoom)
       too_many many = (
         refl,
         λ a k. free a k.kept k.key,
         record {
-          refusal = NoRoom;
           applies = many;
-          number = refl;
           least = each_refusal (λ k. 4 ≤ k) (λ f. absurd (true≢false (sym key_ok ∙ f))) (λ b g s d. absurd (free b g s)) (λ m. omega arith) (λ r b. omega (arith, at_least_five r));
         },
       )
 
       module _ (room : length u.answered < 100000) where
-        pub least : (r : Refusal) → IsLeast u.state (seen_of u) c r → Calls u call u (Refused (number_of r))
+        pub least : (r : Refusal) → IsLeast u.state (seen_of u) c r → Calls u call u (Refused (ByRules r))
         least r l = (
           refl,
           λ a k. free a k.kept k.key,
           record {
-            refusal = ByRules r;
             applies = record { listed = l.listed; met = l.met };
-            number = refl;
             least = each_refusal (λ k. number_of r ≤ k) (λ f. absurd (true≢false (sym key_ok ∙ f))) (λ b g s d. absurd (free b g s)) (λ m. absurd (omega (arith, m, room))) (λ q b. l.least q b.listed b.met);
           },
         )

@@ -68,24 +68,26 @@ module _ {S H : Type 0} (g : Ghosts S) (view : H → View) (size : H → Sizes) 
     ];
   }
 
-  cover : Cover p.part w.state p.change.intents
+  cover : Cover p.work.part w.state p.change.intents
   cover = subst (λ (x : Records). Cover x w.state p.change.intents) (sym planned.is)
       (covers_after c planned.part u.state w.state p.change planned.leaves (planned.makes.records ∙ sym plan.step.records) plan.sound.state p.change.intents plan.own)
 
   same_present : present w ≡ present u
   same_present = λ i q. if plan.step.there q i then plan.step.sizes q i else None
 
-  pub commit_done : (n : ℕ) (reply : Reply) → reply ≡ p.change.reply → n ≡ count_of at.tables + 1 → HasTables g s t → IsDone g view size s h away u key c n reply p.part p.intents.items
-  commit_done n reply reply_is number_is has = subst (λ (ts : List Intent). IsDone g view size s h away u key c n reply p.part ts) (sym planned.intents) (record {
+  pub commit_done : (n : ℕ) (reply : Reply) → reply ≡ p.change.reply → n ≡ count_of at.tables + 1 → HasTables g s t → IsDone g view size s h away u key c n reply p.work
+  commit_done n reply reply_is number_is has = record {
     world = w;
     calls = subst (λ (a : Reply). run.Calls u (record { key = key; command = c }) w (run.Done n a)) (sym (reply_is ∙ planned.makes.reply))
         (stepped u at.tables first_leads.sound first_leads.records key c can.key_ok can.free can.room w (reply_to c u.state) n plan.step number_is);
     at = record {
-      tables = t;
-      has = has;
-      sizes = same_present ∙ at.sizes;
-      at_hand = λ i k. subst (λ (z : Sizes). IsAtHand z i) at.sizes (plan.at_hand i k);
-      leads = leads;
+      at = subst (λ (ts : List Intent). IsAt g view size s h away ts u w) (sym planned.intents) (record {
+        tables = t;
+        has = has;
+        sizes = same_present ∙ at.sizes;
+        at_hand = λ i k. subst (λ (z : Sizes). IsAtHand z i) at.sizes (plan.at_hand i k);
+        leads = leads;
+      });
+      cover = subst (λ (ts : List Intent). Cover p.work.part w.state ts) (sym planned.intents) cover;
     };
-    cover = cover;
-  })
+  }

@@ -19,12 +19,16 @@ use Rattle.gm_state.specs.Rows.{Tables, HoldRecords, mirror_row, component_row, 
 use Rattle.gm_state.specs.Words.{Has, Ascends}
 use Rattle.gm_state.specs.World.{World, Answered, Sound, AreAnswers, AreNumbered, present}
 use Rattle.gm_rules.specs.Step.{Step}
-use Rattle.gm_rules.specs.Run.{Call, Answer, Done, Repeated, Refused}
+use Rattle.gm_rules.specs.Run.{Call}
+use Rattle.gm_registry.specs.Registry.{stored}
 use Rattle.gm_registry.specs.Tables.{no_tables}
-use Rattle.gm_bench.specs.Leading.{whole, Leads, KeepsClaims, AllLead}
+use Rattle.gm_bench.specs.declared.answer.Accepted.{Accepted}
+use Rattle.gm_bench.specs.declared.answer.Accepted.TheVariants.{Done, Repeated, Refused}
+use Rattle.gm_bench.specs.Owed.{AcceptAnswers, IsLeft}
+use Rattle.gm_bench.specs.Leading.{AreAmong, whole, Leads, KeepsClaims, AllLead}
 use Rattle.gm_bench.specs.Recovering.{Recovers, IsShelfOf, LeavesOnly}
 use Rattle.gm_bench.specs.Accepting.{LeavesStep, OrStep}
-use Rattle.gm_bench.specs.Schedule.{Phase, Event, Accepted, Accept_stopped, Redone, Redo_stopped, Settled, Settle_stopped, Opened, Open_stopped, Now, none, skips, keeps, Moved, IsNew, IsButMoved, IsStepTo, Reached, IsLastStep, AreAmong, IsMove, HasCount, IsLeftIn, IsStop, Answers, Happens, IsStart, Runs, AtRest, OnTheWay, Stopped, Headline, Within}
+use Rattle.gm_bench.specs.Schedule.{Phase, Event, Accept_returned, Accept_stopped, Apply_returned, Apply_stopped, Settle_returned, Settle_stopped, Open_returned, Open_stopped, Now, none, skips, keeps, Moved, IsNew, IsButMoved, IsStepTo, Reached, IsLastStep, IsMove, HasCount, IsLeftIn, IsStop, after_answer, Happens, IsStart, Runs, AtRest, OnTheWay, Stopped, Headline, Within}
 use Rattle.gm_bench.proofs.Resting.{rest_leads, rest_claims}
 
 -- ---- the world that a schedule starts in
@@ -188,9 +192,9 @@ module _ {S H : Type 0} (g : Ghosts S) (view : H → View) (size : H → Sizes) 
     told = told;
   }
 
-  accepted : (call : Call) (a : Answer) (r s : Held S) (h k : H) (m n : Now (Held S) H) → AtRest g view size all r h m.away m.accepted m.acknowledged → Answers g view size r h m call a s k n → At n
-  accepted call (Done i reply) r s h k m n was (part, ts, is, clause) =
-      let it = clause was.world was.at in
+  answered : (call : Call) (a : Accepted) (r s : Held S) (h k : H) (m n : Now (Held S) H) → AtRest g view size all r h m.away m.accepted m.acknowledged → n ≡ after_answer m call a s k → AcceptAnswers g view size r s h k call.key call.command a → At n
+  answered call (Done i reply work) r s h k m n was is clause =
+      let it = clause m.away was.world was.at in
       let step : Step was.world call.key call.command it.world reply = it.calls.3 in
       subst At (sym is) (record {
         world = it.world;
@@ -198,13 +202,12 @@ module _ {S H : Type 0} (g : Ghosts S) (view : H → View) (size : H → Sizes) 
         reached = (was.world, was.reached, one_step was.world it.world call reply step);
         last = (was.reached, one_step was.world it.world call reply step);
         at = it.at;
-        cover = it.cover;
         told = keeps was.told;
       })
-  accepted call (Repeated i reply) r s h k m n was (is, clause) =
-      subst At (sym is) (record { world = was.world; reached = was.reached; at = (clause was.world was.at).1; told = was.told })
-  accepted call (Refused i) r s h k m n was (is, clause) =
-      subst At (sym is) (record { world = was.world; reached = was.reached; at = (clause was.world was.at).1; told = was.told })
+  answered call (Repeated i reply) r s h k m n was is clause =
+      subst At (sym is) (record { world = was.world; reached = was.reached; at = (clause m.away was.world was.at).1; told = was.told })
+  answered call (Refused why) r s h k m n was is clause =
+      subst At (sym is) (record { world = was.world; reached = was.reached; at = (clause m.away was.world was.at).1; told = was.told })
 
   -- a commit that was stopped stands, or not
   accept_stopped : (call : Call) (r s : Held S) (h k : H) (db : Trees) (l : H) (away : Image) (acc ack after : List Call) (was : AtRest g view size all r h away acc ack) → IsLeftIn db call acc after
@@ -271,33 +274,34 @@ module _ {S H : Type 0} (g : Ghosts S) (view : H → View) (size : H → Sizes) 
       }
 
   next : (m : Now (Held S) H) (e : Event (Held S) H) (n : Now (Held S) H) → At m → Happens g view size all m e n → At n
-  next m (Accepted call a s k) n was (r, h, phase, answers) =
-      accepted call a r s h k m n (subst (AtPhase m) phase was) answers
+  next m (Accept_returned call a s k) n was (r, h, phase, is, clause) =
+      answered call a r s h k m n (subst (AtPhase m) phase was) is clause
   next m (Accept_stopped call s k db l) n was (r, h, phase, after, is, left, clause, stop) =
       let rest : AtRest g view size all r h m.away m.accepted m.acknowledged = subst (AtPhase m) phase was in
-      subst At (sym is) (accept_stopped call r s h k db l m.away m.accepted m.acknowledged after rest left (clause rest.world rest.at) stop)
-  next m (Redone s k) n was (r, h, part, ts, phase, is, clause) =
-      let o : OnTheWay g view size all r h m.away part ts m.accepted m.acknowledged = subst (AtPhase m) phase was in
-      let it = clause o.before o.world o.at o.cover in
-      subst At (sym is) (record { world = o.world; before = o.before; reached = o.reached; last = o.last; at = it.0; cover = o.cover; told = o.told }, it.1)
-  next m (Redo_stopped s k db l) n was (r, h, part, ts, phase, is, clause, stop) =
-      let o : OnTheWay g view size all r h m.away part ts m.accepted m.acknowledged = subst (AtPhase m) phase was in
-      subst At (sym is) (stopped r s h k db l m.away o.before o.world m.accepted m.acknowledged o.reached (inr o.last) o.at.sizes o.told (clause o.before o.world o.at o.cover) stop)
-  next m (Settled s k) n was (r, h, part, ts, phase, is, clause) =
-      let o : (o : OnTheWay g view size all r h m.away part ts m.accepted m.acknowledged) × IsShelfOf (view h) o.world (size h) = subst (AtPhase m) phase was in
-      subst At (sym is) (record { world = o.0.world; reached = o.0.reached; at = clause o.0.before o.0.world o.0.at o.1; told = o.0.told })
-  next m (Settle_stopped s k db l) n was (r, h, part, ts, phase, is, clause, stop) =
-      let o : (o : OnTheWay g view size all r h m.away part ts m.accepted m.acknowledged) × IsShelfOf (view h) o.world (size h) = subst (AtPhase m) phase was in
-      subst At (sym is) (stopped r s h k db l m.away o.0.before o.0.world m.accepted m.acknowledged o.0.reached (inr o.0.last) o.0.at.sizes o.0.told (clause o.0.before o.0.world o.0.at o.1) stop)
+      subst At (sym is) (accept_stopped call r s h k db l m.away m.accepted m.acknowledged after rest left (clause m.away rest.world rest.at) stop)
+  next m (Apply_returned k) n was (r, h, work, phase, is, clause) =
+      let o : OnTheWay g view size all r h m.away work m.accepted m.acknowledged = subst (AtPhase m) phase was in
+      let it = clause m.away o.before o.world o.at in
+      subst At (sym is) (record { world = o.world; before = o.before; reached = o.reached; last = o.last; at = it.0; told = o.told }, it.1)
+  next m (Apply_stopped k db l) n was (r, h, work, phase, is, clause, stop) =
+      let o : OnTheWay g view size all r h m.away work m.accepted m.acknowledged = subst (AtPhase m) phase was in
+      subst At (sym is) (stopped r r h k db l m.away o.before o.world m.accepted m.acknowledged o.reached (inr o.last) o.at.at.sizes o.told (clause m.away o.before o.world o.at) stop)
+  next m (Settle_returned s) n was (r, h, work, phase, is, clause) =
+      let o : (o : OnTheWay g view size all r h m.away work m.accepted m.acknowledged) × IsShelfOf (view h) o.world (size h) = subst (AtPhase m) phase was in
+      subst At (sym is) (record { world = o.0.world; reached = o.0.reached; at = clause m.away o.0.before o.0.world o.0.at o.1; told = o.0.told })
+  next m (Settle_stopped s db l) n was (r, h, work, phase, is, clause, stop) =
+      let o : (o : OnTheWay g view size all r h m.away work m.accepted m.acknowledged) × IsShelfOf (view h) o.world (size h) = subst (AtPhase m) phase was in
+      subst At (sym is) (stopped r s h h db l m.away o.0.before o.0.world m.accepted m.acknowledged o.0.reached (inr o.0.last) o.0.at.at.sizes o.0.told (clause m.away o.0.before o.0.world o.0.at o.1) stop)
   next m (Moved beyond later) n was (db, h, phase, is, move) =
       let o : Stopped g view size all db h m.away m.accepted m.acknowledged = subst (AtPhase m) phase was in
       subst At (sym is) (moved db h later m.away beyond m.accepted m.acknowledged move o)
-  next m (Opened s k) n was (db, h, phase, is, clause) =
-      let o : Stopped g view size all db h m.away m.accepted m.acknowledged = subst (AtPhase m) phase was in
-      subst At (sym is) (record { world = o.world; reached = o.reached; at = clause o.before o.world o.sizes o.recovers; told = o.told })
-  next m (Open_stopped start s k after l) n was (db, h, phase, is, clause, stop) =
-      let o : Stopped g view size all db h m.away m.accepted m.acknowledged = subst (AtPhase m) phase was in
-      subst At (sym is) (stopped start s h k after l m.away o.before o.world m.accepted m.acknowledged o.reached o.last o.sizes o.told (clause o.before o.world o.sizes o.recovers) stop)
+  next m (Open_returned start s k) n was (h, phase, is, clause) =
+      let o : Stopped g view size all (stored g start) h m.away m.accepted m.acknowledged = subst (AtPhase m) phase was in
+      subst At (sym is) (record { world = o.world; reached = o.reached; at = clause m.away o.before o.world (record { sizes = o.sizes; recovers = o.recovers }); told = o.told })
+  next m (Open_stopped start s k db l) n was (h, phase, is, clause, stop) =
+      let o : Stopped g view size all (stored g start) h m.away m.accepted m.acknowledged = subst (AtPhase m) phase was in
+      let left : IsLeft g view size start h m.away o.before o.world = record { sizes = o.sizes; recovers = o.recovers } in
+      subst At (sym is) (stopped start s h k db l m.away o.before o.world m.accepted m.acknowledged o.reached o.last o.sizes o.told (clause m.away o.before o.world left) stop)
 
   started : (db : Trees) (h : H) (away : Image) (w : World) → IsStart g view size all db h away w → AllLead no_tables [] (size h) away (view h).may_leave w w
   started db h away w s x l = (

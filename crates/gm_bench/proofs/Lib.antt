@@ -16,4 +16,6 @@ pub mod Reopening
 pub mod Facts
 pub mod Deciding
 pub mod Commits
+pub mod Phases
+pub mod Carried
 pub mod Induction

@@ -14,25 +14,21 @@ use Rattle.gm_state.proofs.Finding.{not_both, some_any}
 use Rattle.gm_state.proofs.Order.{same_is}
 use Rattle.gm_apply.specs.Redo.{IsPartlyDone}
 use Rattle.gm_apply.proofs.Safe.{in_order}
-use Rattle.gm_bench.specs.Leading.{whole}
+use Rattle.gm_bench.specs.Leading.{AreAmong, whole}
 use Rattle.gm_bench.specs.Recovering.{Cover}
-
--- the sizes are those of all providers, or the provider isn't there
-abbrev pub IsMask : Sizes → Sizes → Type 0
-IsMask size full = (q : List ℕ) → (size q ≡ None) ⊎ (size q ≡ full q)
 
 shown : (b : Bool) (o : Option ℕ) → ((if b then o else None) ≡ None) ⊎ ((if b then o else None) ≡ o)
 shown true o = inr refl
 shown false o = inl refl
 
-pub masked : (w : World) (size : Sizes) → present w ≡ size → IsMask size w.size
+pub masked : (w : World) (size : Sizes) → present w ≡ size → AreAmong size w.size
 masked w size is q = subst (λ (z : Sizes). (z q ≡ None) ⊎ (z q ≡ w.size q)) is (shown (w.there q) (w.size q))
 
 some_of : (P : ℕ → Type 0) (o : Option ℕ) → IsSomeAnd o P → IsSome o
 some_of P None h = absurd h
 some_of P (Some n) h = refl
 
-module _ (size full : Sizes) (mask : IsMask size full) where
+module _ (size full : Sizes) (mask : AreAmong size full) where
   pub there_same : (q : List ℕ) → IsSome (size q) → size q ≡ full q
   there_same q there = ⊎_elim (λ (e : size q ≡ None). absurd (true≢false (sym there ∙ ap is_some e))) (λ (e : size q ≡ full q). e) (mask q)
 
@@ -97,7 +93,7 @@ touched_there size (Copy s t a b) hand q e =
     ]
 
 -- the components that the intents read or write are there with their sizes
-pub are_there : (w : World) (size : Sizes) (ts : List Intent) → Sound w → IsMask size w.size → ((t : Intent) → Has ts t → IsAtHand size t) → AreThere w.state ts size
+pub are_there : (w : World) (size : Sizes) (ts : List Intent) → Sound w → AreAmong size w.size → ((t : Intent) → Has ts t → IsAtHand size t) → AreThere w.state ts size
 are_there w size ts sound mask hand m k o touched =
     let some = some_any (touches k.provider) ts touched in
     let there : IsSome (size k.provider) = touched_there size some.0 (hand some.0 some.1) k.provider some.2 in
@@ -118,7 +114,7 @@ whole_there size away x q there j = rw there refl
 pub whole_away : (size : Sizes) (away x : Image) (q : List ℕ) → is_some (size q) ≡ false → (j : ℕ) → whole size away x q j ≡ away q j
 whole_away size away x q gone j = rw gone refl
 
-module _ (part s : Records) (size full : Sizes) (mask : IsMask size full) (ts : List Intent) (cover : Cover part s ts) (hand : (t : Intent) → Has ts t → IsAtHand size t) (away x w : Image) where
+module _ (part s : Records) (size full : Sizes) (mask : AreAmong size full) (ts : List Intent) (cover : Cover part s ts) (hand : (t : Intent) → Has ts t → IsAtHand size t) (away x w : Image) where
   says_down : (t : Intent) → Has ts t → (j : ℕ) (v : List ℕ) → Says s w t j v → Says part w t j v
   says_down (Meta p) h j v says = (says.0, says.1, cover.metas p h says.0 says.1 says.2 says.3, says.3, says.4)
   says_down (Clear p) h j v says = says
@@ -137,7 +133,7 @@ module _ (part s : Records) (size full : Sizes) (mask : IsMask size full) (ts : 
     agrees = λ q there j off. sym (whole_there size away x q there j) ∙ redo.agrees q (there_full size full mask q there) j (sym (place_same size full mask ts q j there) ∙ off);
   }
 
-module _ (size full : Sizes) (mask : IsMask size full) (ts : List Intent) (away w d x : Image) where
+module _ (size full : Sizes) (mask : AreAmong size full) (ts : List Intent) (away w d x : Image) where
   -- what is partly done on the shelf is so of all providers
   pub partly_up : (InOrder full ts → InOrder size ts) → IsPartlyDone size ts w d x → IsPartlyDone full ts w (whole size away d) (whole size away x)
   partly_up down part = record {
@@ -159,7 +155,7 @@ module _ (size full : Sizes) (mask : IsMask size full) (ts : List Intent) (away 
   }
 
 -- what is at hand on a shelf is so among all providers
-pub at_hand_up : (size full : Sizes) → IsMask size full → (t : Intent) → IsAtHand size t → IsAtHand full t
+pub at_hand_up : (size full : Sizes) → AreAmong size full → (t : Intent) → IsAtHand size t → IsAtHand full t
 at_hand_up size full mask (Meta p) hand = subst (λ (o : Option ℕ). IsSomeAnd o (λ n. 0 < n)) (there_same size full mask p (some_of _ (size p) hand)) hand
 at_hand_up size full mask (Clear p) hand = subst (λ (o : Option ℕ). IsSomeAnd o (λ n. 0 < n)) (there_same size full mask p (some_of _ (size p) hand)) hand
 at_hand_up size full mask (Copy a b x y) hand = (

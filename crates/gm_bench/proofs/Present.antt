@@ -1,7 +1,10 @@
 -- Where no image is lacking, the intents have what they need.
-use Rattle.std.proofs.Common.{◌≡◌, ◌∙◌, inl, inr, ⊎_elim, ℕ, ◌≤◌, ◌<◌, true, false, ltb-true, eqb-true, List, [], ◌∷◌, Option, Some, None, refl, sym, ap, subst, arith, true≢false}
+use Rattle.std.proofs.Common.{◌≡◌, ◌∙◌, inl, inr, ℕ, ◌≤◌, ◌<◌, true, false, ltb-true, eqb-true, List, [], ◌∷◌, Option, Some, None, not, refl, sym, ap, subst, arith, true≢false}
 use Rattle.std.specs.Prelude.{IsSomeAnd}
-use Rattle.std.proofs.lemmas.Bool.{cases_Bool}
+use Rattle.std.specs.List.{flat_map}
+use Rattle.std.specs.Option.{option_or}
+use Rattle.std.proofs.lemmas.Bool.{not-false}
+use Rattle.std.proofs.lemmas.List.Folds.{find-append}
 use Rattle.gm_metadata.specs.Images.{Sizes, same_label}
 use Rattle.gm_state.specs.declared.command.Intent.{Intent}
 use Rattle.gm_state.specs.declared.command.Intent.TheVariants.{Meta, Clear, Copy}
@@ -12,11 +15,11 @@ use Rattle.gm_state.specs.Lookups.{component_of}
 use Rattle.gm_state.specs.Readable.{IsCopyWithin, IsReadable}
 use Rattle.gm_state.specs.Records.{Records, IsState, members, provider}
 use Rattle.gm_state.specs.Words.{Has}
-use Rattle.gm_state.proofs.Finding.{find_one, found}
+use Rattle.gm_state.proofs.Finding.{find_one, found, found_none, Has-append_left, Has-append_right}
 use Rattle.gm_state.proofs.Order.{same_from}
 use Rattle.gm_state.proofs.Words.{filter-Has}
 use Rattle.gm_state.proofs.Testing.{member}
-use Rattle.gm_bench.specs.Presence.{serves, is_present, absent_among, providers_in, or_else, first_absent}
+use Rattle.gm_bench.specs.Presence.{serves, is_present, absent_among, providers_in, first_absent}
 
 found_in : (s : Records) (p : List ℕ) (j : Component) → component_of s p ≡ Some j → Has s.components j
 found_in s p j e = (found (λ (k : Component). same_label k.provider p) s.components j e).0
@@ -24,24 +27,20 @@ found_in s p j e = (found (λ (k : Component). same_label k.provider p) s.compon
 in_home : (s : Records) (k : Component) → Has s.components k → (m : Mirror) → m.name ≡ k.mirror → Has (members s.components m.name) k
 in_home s k h m is = filter-Has (λ (j : Component). same_label j.mirror m.name) s.components k h (same_from k.mirror m.name (sym is))
 
-all_present : (s : Records) (size : Sizes) (ps : List (List ℕ)) → absent_among s size ps ≡ None → (p : List ℕ) → Has ps p → is_present s size p ≡ true
-all_present s size [] e p h = absurd h
-all_present s size (q ∷ ps) e p h = elim (cases_Bool (is_present s size q)) [
-  | inr off ↦ (let f : Some q ≡ None = rw off at e in absurd (let g : ⊥ = cc in g))
-  | inl on ↦ (let f : absent_among s size ps ≡ None = rw on at e in ⊎_elim (λ (same : q ≡ p). subst (λ (x : List ℕ). is_present s size x ≡ true) same on) (λ (more : Has ps p). all_present s size ps f p more) h)
-]
-
-both_none : (a b : Option (List ℕ)) → or_else a b ≡ None → (a ≡ None) × (b ≡ None)
-both_none None b e = (refl, e)
-both_none (Some p) b e = absurd (let g : ⊥ = cc in g)
+-- a provider of an intent is one of all
+in_all : (ts : List Intent) (t : Intent) → Has ts t → (p : List ℕ) → Has (providers_in t) p → Has (flat_map providers_in ts) p
+in_all [] t h p g = absurd h
+in_all (r ∷ ts) t (inl same) p g = Has-append_left (providers_in r) (flat_map providers_in ts) p (subst (λ (x : Intent). Has (providers_in x) p) (sym same) g)
+in_all (r ∷ ts) t (inr more) p g = Has-append_right (providers_in r) (flat_map providers_in ts) p (in_all ts t more p g)
 
 -- each provider of each intent is there
 pub none_absent : (s : Records) (size : Sizes) (ts : List Intent) → first_absent s size ts ≡ None → (t : Intent) → Has ts t → (p : List ℕ) → Has (providers_in t) p → is_present s size p ≡ true
-none_absent s size [] e t h p g = absurd h
-none_absent s size (r ∷ ts) e t h p g =
-    let parts = both_none (absent_among s size (providers_in r)) (first_absent s size ts) e in
-    ⊎_elim (λ (same : r ≡ t). all_present s size (providers_in t) (subst (λ (x : Intent). absent_among s size (providers_in x) ≡ None) same parts.0) p g)
-    (λ (more : Has ts t). none_absent s size ts parts.1 t more p g) h
+none_absent s size ts e t h p g =
+    not-false (is_present s size p) (found_none (λ (q : List ℕ). not (is_present s size q)) (flat_map providers_in ts) e p (in_all ts t h p g))
+
+-- the first of a list is that of its first intent, or one behind it
+pub first_of : (s : Records) (size : Sizes) (t : Intent) (ts : List Intent) → first_absent s size (t ∷ ts) ≡ option_or (absent_among s size (providers_in t)) (first_absent s size ts)
+first_of s size t ts = find-append (λ (q : List ℕ). not (is_present s size q)) (providers_in t) (flat_map providers_in ts)
 
 some_sector : (k : Option Component) (o : Option ℕ) → serves k o ≡ true → ((j : Component) → k ≡ Some j → 0 < j.sectors) → IsSomeAnd o (λ n. 0 < n)
 some_sector k None e pos = absurd (true≢false (sym e ∙ same k))

@@ -12,9 +12,9 @@ use Rattle.gm_apply.specs.Continues.{Continues}
 use Rattle.gm_apply.specs.Redo.{IsPartlyDone, CrashLeaves, PlacesAreNew}
 use Rattle.gm_apply.proofs.Leading.{leads_on, ends_there, claims_kept, new_claims_kept}
 use Rattle.gm_apply.proofs.Safe.{copies_data}
-use Rattle.gm_bench.specs.Leading.{whole, Leads, KeepsClaims, AllLead}
+use Rattle.gm_bench.specs.Leading.{AreAmong, whole, Leads, KeepsClaims, AllLead}
 use Rattle.gm_bench.specs.Recovering.{Cover, IsShelfOf}
-use Rattle.gm_bench.proofs.Masking.{IsMask, masked, are_there, have_sizes, order_of, redo_down, partly_up}
+use Rattle.gm_bench.proofs.Masking.{masked, are_there, have_sizes, order_of, redo_down, partly_up}
 use Rattle.gm_state.proofs.Claiming.{sound_claims}
 
 -- what `apply` promises of moments, for these records, sizes and intents
@@ -63,7 +63,7 @@ module _ (t : Tables) (ts : List Intent) (u w : World) where
       }
 
   module _ (old new : View) (lawful : IsLawful old) (size : Sizes) (away : Image) (leads : AllLead t ts size away old.may_leave u w) (sizes : present w ≡ size) (hand : (r : Intent) → Has ts r → IsAtHand size r) (part : Records) (cover : Cover part w.state ts) where
-    mask : IsMask size w.size
+    mask : AreAmong size w.size
     mask = masked w size sizes
 
     start : (x : Image) → Leads t ts (whole size away x) w → IsRedo part size ts x w.shelf

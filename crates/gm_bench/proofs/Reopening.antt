@@ -23,6 +23,10 @@ module _ {S H : Type 0} (g : Ghosts S) (view : H → View) (size : H → Sizes) 
   abbrev pub opened_at : (mid : Held S) → present w ≡ size h → HasTables g mid r.tables → IsFound g view size mid h away r.intents u w
   opened_at mid is has = record { tables = r.tables; has = has; sizes = is; leads = r.leads }
 
+  -- the opened registry, with the intents that were left
+  abbrev pub reopened : (mid : Held S) → present w ≡ size h → (IsEmpty (stored g start) → HasTables g mid no_tables) → ((t : Tables) → Holds (stored g start) t → HasTables g mid t) → IsFound g view size mid h away r.intents u w
+  reopened mid is made found = opened_at mid is (opened mid made found)
+
   -- an opening that ended before anything was carried out
   pub unopened : (new : Held S) → DiskKept g new → (IsEmpty (stored g start) → MayLeave g start new no_tables) → ((t : Tables) → Holds (stored g start) t → LeavesNothingNew g start new) → LeavesOnly g view size start new h h away u w
   unopened new clean made found = record {
@@ -39,3 +43,8 @@ module _ {S H : Type 0} (g : Ghosts S) (view : H → View) (size : H → Sizes) 
   -- what was carried out and settled behind that
   pub recovered : (mid ended : Held S) (k : H) → AllLead r.tables r.intents (size h) away ((view k).left_since (view h).moment) u w → LeavesOnly g view size mid ended h k away u w → LeavesOnly g view size start ended h k away u w
   recovered mid ended k leads l = record { within = as_it_was ((view k).left_since (view h).moment) leads; end = l.end }
+
+-- tables that a store held are those of the opened registry
+pub opened_tables : {S : Type 0} (g : Ghosts S) (start mid : Held S) → (IsEmpty (stored g start) → HasTables g mid no_tables) → ((t : Tables) → Holds (stored g start) t → HasTables g mid t) → (t : Tables) → IsStored (stored g start) t → HasTables g mid t
+opened_tables g start mid made found t (inl holds) = found t holds
+opened_tables g start mid made found t (inr empty) = subst (HasTables g mid) (sym empty.1) (made empty.0)

@@ -16,8 +16,8 @@ use Rattle.gm_state.proofs.Claiming.{sound_claims}
 use Rattle.gm_state.proofs.Finding.{found_none, not_both}
 use Rattle.gm_state.proofs.Order.{same_refl}
 use Rattle.gm_state.proofs.Testing.{member}
-use Rattle.gm_bench.specs.Leading.{whole, Leads, KeepsClaims}
-use Rattle.gm_bench.proofs.Masking.{IsMask, whole_there, whole_away, away_no_place}
+use Rattle.gm_bench.specs.Leading.{AreAmong, whole, Leads, KeepsClaims}
+use Rattle.gm_bench.proofs.Masking.{whole_there, whole_away, away_no_place}
 
 none_readable : (w : World) → AreReadable w.state []
 none_readable w = record { each = λ t h. absurd h; one_copy = omega arith; ordered = tt }
@@ -61,7 +61,7 @@ settled_claims ts x u w k = record {
 }
 
 -- the shelf is the world's, and what is away wasn't named by any intent
-pub whole_rest : (t : Tables) (ts : List Intent) (size : Sizes) (away x y : Image) (w : World) → IsMask size w.size → ((r : Intent) → Has ts r → IsAtHand size r) → Leads t ts (whole size away x) w → SameThere size y w.shelf
+pub whole_rest : (t : Tables) (ts : List Intent) (size : Sizes) (away x y : Image) (w : World) → AreAmong size w.size → ((r : Intent) → Has ts r → IsAtHand size r) → Leads t ts (whole size away x) w → SameThere size y w.shelf
     → SameThere w.size (whole size away y) w.shelf
 whole_rest t ts size away x y w mask hand l same q there j = elim (cases_Bool (is_some (size q))) [
   | inl here ↦ whole_there size away y q here j ∙ same q here j

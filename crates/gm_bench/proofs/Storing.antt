@@ -10,9 +10,9 @@ use Rattle.gm_state.specs.Rows.{Tables, HoldRecords}
 use Rattle.gm_state.specs.World.{World}
 use Rattle.gm_registry.specs.Changes.{settled}
 use Rattle.gm_registry.specs.Registry.{CrashLeaves, CrashLeavesOnly, DiskKept, HasTables, LeavesNothingNew, MayLeave}
-use Rattle.gm_bench.specs.Leading.{whole, Leads, AllLead}
+use Rattle.gm_bench.specs.Leading.{AreAmong, whole, Leads, AllLead}
 use Rattle.gm_bench.specs.Recovering.{Recovers, IsAt, IsShelfOf, LeavesOnly}
-use Rattle.gm_bench.proofs.Masking.{IsMask, masked}
+use Rattle.gm_bench.proofs.Masking.{masked}
 use Rattle.gm_bench.proofs.Resting.{rest_leads, rest_claims, settled_claims, whole_rest}
 
 settled_records : (w : World) (t : Tables) → HoldRecords w t → HoldRecords w (settled t)
@@ -27,7 +27,7 @@ module _ {S H : Type 0} (g : Ghosts S) (view : H → View) (size : H → Sizes) 
     abbrev before : View
     before = view h
 
-    mask : IsMask (size h) w.size
+    mask : AreAmong (size h) w.size
     mask = masked w (size h) at.sizes
 
     -- a redo, whose registry isn't touched

@@ -1,14 +1,16 @@
 -- From what was found to what was carried out, behind a load.
-use Rattle.std.proofs.Common.{◌≡◌, ◌∙◌, List, sym, ap, subst}
+use Rattle.std.proofs.Common.{◌≡◌, ◌∙◌, ℕ, List, Option, sym, ap, subst}
 use Rattle.sqlite_trees.specs.declared.store.Store.{Ghosts}
 use Rattle.sqlite.specs.Held.{Held}
 use Rattle.gm_metadata.specs.Images.{Image, Sizes}
 use Rattle.gm_shelf.specs.Disk.{View}
 use Rattle.gm_state.specs.declared.command.Intent.{Intent}
+use Rattle.gm_state.specs.Records.{Records}
 use Rattle.gm_state.specs.World.{World}
 use Rattle.gm_registry.specs.Registry.{CrashLeavesOnly, HasTables}
 use Rattle.gm_bench.specs.Leading.{AllLead}
 use Rattle.gm_bench.specs.Recovering.{Recovers, IsFound, LeavesOnly}
+use Rattle.gm_bench.specs.Presence.{first_absent}
 use Rattle.gm_bench.proofs.Storing.{leads_in}
 
 module _ {S H : Type 0} (g : Ghosts S) (view : H → View) (size : H → Sizes) (r mid : Held S) (h k : H) (away : Image) (ts : List Intent) (u w : World) (at : IsFound g view size r h away ts u w) (same : k ≡ h) (is : List Intent) (are : is ≡ ts) where
@@ -29,3 +31,8 @@ module _ {S H : Type 0} (g : Ghosts S) (view : H → View) (size : H → Sizes) 
     within = leads_in g view size r h away at.tables ts u w only ((view l).left_since (view h).moment) (moments_back l m);
     end = λ db left. subst (λ (x : H). Recovers db (size x) away (view l).may_leave u w) same (leaves.end db left);
   }
+
+-- a provider that is lacking, of the same records, sizes and intents
+pub absent_back : (s v : Records) (size full : Sizes) (is ts : List Intent) (o : Option (List ℕ)) → s ≡ v → size ≡ full → is ≡ ts → first_absent s size is ≡ o → first_absent v full ts ≡ o
+absent_back s v size full is ts o same sizes are e =
+    subst (λ (l : List Intent). first_absent v full l ≡ o) are (subst (λ (z : Sizes). first_absent v z is ≡ o) sizes (subst (λ (x : Records). first_absent x size is ≡ o) same e))

@@ -6,14 +6,13 @@ use Rattle.sqlite.specs.Held.{Held}
 use Rattle.gm_metadata.specs.Images.{Image, Sizes}
 use Rattle.gm_shelf.specs.Disk.{View}
 use Rattle.gm_state.specs.declared.command.Command.{Command}
-use Rattle.gm_state.specs.declared.command.Intent.{Intent}
 use Rattle.gm_state.specs.declared.command.Reply.{Reply}
-use Rattle.gm_state.specs.Records.{Records}
 use Rattle.gm_state.specs.World.{World}
 use Rattle.gm_rules.specs.Step.{Step}
 use Rattle.gm_rules.specs.Run as run
 use Rattle.gm_registry.specs.Registry.{CrashLeaves}
-use Rattle.gm_bench.specs.Recovering.{Recovers, Cover, IsAt}
+use Rattle.gm_bench.specs.Recovering.{Recovers, IsAt, IsAtWork}
+use Rattle.gm_bench.specs.declared.answer.Work.{Work}
 use Rattle.gm_bench.specs.declared.answer.Accepted.{Accepted}
 use Rattle.gm_bench.specs.declared.answer.Accepted.TheVariants.{Done, Repeated, Refused}
 
@@ -27,18 +26,17 @@ module _ {S H : Type 0} (g : Ghosts S) (view : H → View) (size : H → Sizes) 
     pub within : (db : Trees) → CrashLeaves g r db → Recovers db (size h) away ((view k).left_since (view h).moment) u u
     pub end : (db : Trees) → CrashLeaves g s db → OrStep u key c (λ w. Recovers db (size h) away (view k).may_leave u w)
 
-  -- The command is done with this number and reply: the bench is at the world of its step, these intents are still to be
-  -- carried out, and the part of the records says what they need.
-  pub record IsDone (r : Held S) (h : H) (away : Image) (u : World) (key : List ℕ) (c : Command) (n : ℕ) (reply : Reply) (part : Records) (ts : List Intent) : Type 0 where
+  -- The command is done with this number and reply: the bench is at the world of its step, with this work still to be
+  -- carried out.
+  pub record IsDone (r : Held S) (h : H) (away : Image) (u : World) (key : List ℕ) (c : Command) (n : ℕ) (reply : Reply) (work : Work) : Type 0 where
     pub world : World
     pub calls : run.Calls u (record { key = key; command = c }) world (run.Done n reply)
-    pub at : IsAt g view size r h away ts u world
-    pub cover : Cover part world.state ts
+    pub at : IsAtWork g view size r h away work u world
 
   -- The answer is the abstract bench's; where it isn't Done the bench stays at rest in the same world.
   abbrev pub IsAnswered : Held S → H → Image → World → List ℕ → Command → Accepted → Type 0
-  IsAnswered r h away u key c (Done n reply part ts) = IsDone r h away u key c n reply part ts.items
+  IsAnswered r h away u key c (Done n reply work) = IsDone r h away u key c n reply work
   IsAnswered r h away u key c (Repeated n reply) =
       run.Calls u (record { key = key; command = c }) u (run.Repeated n reply) × IsAt g view size r h away [] u u
-  IsAnswered r h away u key c (Refused n) =
-      run.Calls u (record { key = key; command = c }) u (run.Refused n) × IsAt g view size r h away [] u u
+  IsAnswered r h away u key c (Refused why) =
+      run.Calls u (record { key = key; command = c }) u (run.Refused why) × IsAt g view size r h away [] u u

@@ -16,6 +16,47 @@ fault_number Closed = 4
 fault_number (Absent p) = 5
 fault_number Unreadable = 6
 
+-- memory, the store or the disk failed
+abbrev pub IsOfMedia : BenchFault → Type 0
+IsOfMedia Memory = Unit {0}
+IsOfMedia Store = Unit {0}
+IsOfMedia Disk = Unit {0}
+IsOfMedia Closed = ⊥
+IsOfMedia (Absent p) = ⊥
+IsOfMedia Unreadable = ⊥
+
+-- the store failed, or what a registry holds can't be read
+abbrev pub IsOfRegistry : BenchFault → Type 0
+IsOfRegistry Memory = Unit {0}
+IsOfRegistry Store = Unit {0}
+IsOfRegistry Disk = ⊥
+IsOfRegistry Closed = ⊥
+IsOfRegistry (Absent p) = ⊥
+IsOfRegistry Unreadable = Unit {0}
+
+-- no image is missing, and the bench isn't closed
+abbrev pub IsOfCall : BenchFault → Type 0
+IsOfCall Memory = Unit {0}
+IsOfCall Store = Unit {0}
+IsOfCall Disk = Unit {0}
+IsOfCall Closed = ⊥
+IsOfCall (Absent p) = ⊥
+IsOfCall Unreadable = Unit {0}
+
+-- memory, the store or the disk failed, or an image isn't there
+abbrev pub IsOfOpening : BenchFault → Type 0
+IsOfOpening (Absent p) = Unit {0}
+IsOfOpening fault = IsOfMedia fault
+
+-- an opening answers it before it writes to the shelf
+abbrev pub IsBeforeWrites : BenchFault → Type 0
+IsBeforeWrites Memory = ⊥
+IsBeforeWrites Store = ⊥
+IsBeforeWrites Disk = ⊥
+IsBeforeWrites Closed = Unit {0}
+IsBeforeWrites (Absent p) = Unit {0}
+IsBeforeWrites Unreadable = Unit {0}
+
 -- a fault of the registry
 abbrev pub of_store : StoreFault → BenchFault
 of_store store.Memory = Memory

@@ -1,5 +1,5 @@
 -- What tables with pending intents and an image lead to.
-use Rattle.std.specs.Prelude.{◌≡◌, List, is_some, if◌then◌else◌}
+use Rattle.std.specs.Prelude.{◌≡◌, ◌⊎◌, ℕ, List, None, is_some, if◌then◌else◌}
 use Rattle.std.specs.List.Sorted.{IsPermutation}
 use Rattle.gm_metadata.specs.Images.{Image, Sizes}
 use Rattle.gm_state.specs.declared.command.Intent.{Intent}
@@ -13,6 +13,10 @@ use Rattle.gm_rules.specs.Step.{NewAreBare}
 -- all providers: those of these sizes as the shelf has them, the others as they are away from it
 abbrev pub whole : Sizes → Image → Image → Image
 whole size away x p i = if is_some (size p) then x p i else away p i
+
+-- these providers are some of those, with the same sizes
+abbrev pub AreAmong : Sizes → Sizes → Type 0
+AreAmong size all = (q : List ℕ) → (size q ≡ None) ⊎ (size q ≡ all q)
 
 -- Beside these intents the tables hold the rows of the world. The image is the world's but for the sectors that the
 -- intents name, and in the world those hold what the intents say.

@@ -7,3 +7,5 @@ pub mod Presence
 pub mod Planning
 pub mod Schedule
 pub mod Running
+pub mod Progressing
+pub mod Owed

@@ -12,10 +12,10 @@ use Rattle.gm_bench.specs.declared.asking.Planned.{Planned}
 -- the change is the command's, the intents are the change's, and the part is what the change leaves of one
 pub record IsPlanned (u : World) (c : Command) (p : Planned) : Type 0 where
   pub makes : Makes u.state (seen_of u) c p.change
-  pub intents : p.intents.items ≡ p.change.intents
+  pub intents : p.work.intents.items ≡ p.change.intents
   pub part : Records
   pub leaves : LeavesPart part c u.state p.change
-  pub is : p.part ≡ changed_by p.change part
+  pub is : p.work.part ≡ changed_by p.change part
 
 -- the least refusal, or what the command makes
 abbrev pub IsDecided : World → Command → Result Planned Refusal → Type 0

@@ -1,5 +1,6 @@
 -- Which images an opening needs before it carries anything out.
-use Rattle.std.specs.Prelude.{ℕ, Bool, false, ◌==◌, nat_lt, List, [], ◌∷◌, Option, Some, None, if◌then◌else◌}
+use Rattle.std.specs.Prelude.{ℕ, Bool, false, not, ◌==◌, nat_lt, List, [], ◌∷◌, Option, Some, None}
+use Rattle.std.specs.List.{find, flat_map}
 use Rattle.gm_metadata.specs.Images.{Sizes}
 use Rattle.gm_state.specs.declared.command.Intent.{Intent}
 use Rattle.gm_state.specs.declared.command.Intent.TheVariants.{Meta, Clear, Copy}
@@ -17,23 +18,16 @@ serves (Some k) (Some n) = n == k.sectors
 abbrev pub is_present : Records → Sizes → List ℕ → Bool
 is_present s size p = serves (component_of s p) (size p)
 
--- the first of these providers that isn't
-abbrev pub absent_among : Records → Sizes → List (List ℕ) → Option (List ℕ)
-absent_among s size [] = None
-absent_among s size (p ∷ ps) = if is_present s size p then absent_among s size ps else Some p
-
 -- the providers of an intent, a copy's target before its source
 abbrev pub providers_in : Intent → List (List ℕ)
 providers_in (Meta p) = p ∷ []
 providers_in (Clear p) = p ∷ []
 providers_in (Copy source target first end) = target ∷ source ∷ []
 
--- the first, or the one behind it
-abbrev pub or_else : Option (List ℕ) → Option (List ℕ) → Option (List ℕ)
-or_else None b = b
-or_else (Some p) b = Some p
+-- the first of these providers that isn't there as the intents need it
+abbrev pub absent_among : Records → Sizes → List (List ℕ) → Option (List ℕ)
+absent_among s size ps = find (λ p. not (is_present s size p)) ps
 
--- the first provider of the intents, in their order, that isn't there as they need it
+-- the first such provider of the intents, in their order
 abbrev pub first_absent : Records → Sizes → List Intent → Option (List ℕ)
-first_absent s size [] = None
-first_absent s size (t ∷ ts) = or_else (absent_among s size (providers_in t)) (first_absent s size ts)
+first_absent s size ts = absent_among s size (flat_map providers_in ts)

@@ -16,6 +16,7 @@ use Rattle.gm_state.specs.Words.{Has}
 use Rattle.gm_state.specs.World.{World, present}
 use Rattle.gm_registry.specs.Registry.{CrashLeaves, HasTables}
 use Rattle.gm_registry.specs.Tables.{Holds, IsEmpty, no_tables}
+use Rattle.gm_bench.specs.declared.answer.Work.{Work}
 use Rattle.gm_bench.specs.Leading.{AllLead}
 
 -- a store holds these tables; one without any table is read as empty
@@ -54,6 +55,11 @@ module _ {S H : Type 0} (g : Ghosts S) (view : H → View) (size : H → Sizes) 
     pub sizes : present w ≡ size h
     pub at_hand : (t : Intent) → Has ts t → IsAtHand (size h) t
     pub leads : AllLead tables ts (size h) away (view h).may_leave u w
+
+  -- The bench is at a world to which this work leads, and the work's part of the records says what its intents need.
+  pub record IsAtWork (r : Held S) (h : H) (away : Image) (work : Work) (u w : World) : Type 0 where
+    pub at : IsAt r h away work.intents.items u w
+    pub cover : Cover work.part w.state work.intents.items
 
   -- A stop within a call finds the registry as it was with an image of any moment, or what both may leave at the call's
   -- end. Every such pair leads to w.

@@ -1,44 +1,44 @@
 -- Schedules: calls that returned or were stopped, providers that went away or came back, and openings. A stop between
 -- two calls is one at the end of the first, or at the start of the second.
-use Rattle.std.specs.Prelude.{◌≡◌, ◌⊎◌, ◌+◌, ℕ, List, [], ◌∷◌, length, None}
+use Rattle.std.specs.Prelude.{◌≡◌, ◌⊎◌, ◌+◌, ℕ, List, [], ◌∷◌, length}
 use Rattle.sqlite_trees.specs.declared.store.Store.{Ghosts}
 use Rattle.sqlite.specs.Tree.{Trees}
 use Rattle.sqlite.specs.Held.{Held}
 use Rattle.gm_metadata.specs.Images.{Image, Sizes, Same, SameThere}
 use Rattle.gm_shelf.specs.Disk.{View}
-use Rattle.gm_state.specs.declared.command.Intent.{Intent}
 use Rattle.gm_state.specs.declared.command.Reply.{Reply}
-use Rattle.gm_state.specs.Records.{Records}
 use Rattle.gm_state.specs.Rows.{Tables}
 use Rattle.gm_state.specs.World.{World, present}
 use Rattle.gm_rules.specs.Step.{Step}
-use Rattle.gm_rules.specs.Run.{Call, Answer, Calls}
-use Rattle.gm_rules.specs.Run as run
-use Rattle.gm_registry.specs.Registry.{CrashLeaves}
+use Rattle.gm_rules.specs.Run.{Call}
+use Rattle.gm_registry.specs.Registry.{CrashLeaves, stored}
 use Rattle.gm_registry.specs.Replies.{count_of}
 use Rattle.gm_registry.specs.Tables.{IsEmpty}
-use Rattle.gm_bench.specs.Leading.{whole}
-use Rattle.gm_bench.specs.Recovering.{IsStored, Recovers, Cover, IsAt, IsShelfOf, LeavesOnly}
-use Rattle.gm_bench.specs.Accepting.{LeavesStep, IsDone}
+use Rattle.gm_bench.specs.Leading.{AreAmong, whole}
+use Rattle.gm_bench.specs.declared.answer.Work.{Work}
+use Rattle.gm_bench.specs.declared.answer.Accepted.{Accepted}
+use Rattle.gm_bench.specs.declared.answer.Accepted.TheVariants.{Done, Repeated, Refused}
+use Rattle.gm_bench.specs.Recovering.{IsStored, Recovers, IsAt, IsAtWork, IsShelfOf}
+use Rattle.gm_bench.specs.Owed.{AcceptLeaves, AcceptAnswers, ApplyLeaves, ApplyDoes, SettleLeaves, SettleDoes, OpenLeaves, OpenDoes}
 
--- where the bench is: between two calls, some with a part of the records and the intents that are pending, or stopped
--- with one store and a shelf
+-- where the bench is: between two calls, some with work that is pending, or stopped with one store and a shelf
 pub data Phase (R H : Type 0) : Type 0 where
   Ready : (registry : R) (shelf : H) → Phase R H
-  Pending : (registry : R) (shelf : H) (part : Records) (intents : List Intent) → Phase R H
-  Applied : (registry : R) (shelf : H) (part : Records) (intents : List Intent) → Phase R H
+  Pending : (registry : R) (shelf : H) (work : Work) → Phase R H
+  Applied : (registry : R) (shelf : H) (work : Work) → Phase R H
   Down : (db : Trees) (shelf : H) → Phase R H
 
--- what may happen next, with what it left; `Moved` says what the providers hold that the later shelf hasn't
+-- What may happen next, with what it left. A call that faulted is one that was stopped at its end; `Moved` says what the
+-- providers hold that the later shelf hasn't; an opening is of a connection to the store.
 pub data Event (R H : Type 0) : Type 0 where
-  Accepted : (call : Call) (answer : Answer) (registry : R) (shelf : H) → Event R H
+  Accept_returned : (call : Call) (answer : Accepted) (registry : R) (shelf : H) → Event R H
   Accept_stopped : (call : Call) (registry : R) (shelf : H) (db : Trees) (later : H) → Event R H
-  Redone : (registry : R) (shelf : H) → Event R H
-  Redo_stopped : (registry : R) (shelf : H) (db : Trees) (later : H) → Event R H
-  Settled : (registry : R) (shelf : H) → Event R H
-  Settle_stopped : (registry : R) (shelf : H) (db : Trees) (later : H) → Event R H
+  Apply_returned : (shelf : H) → Event R H
+  Apply_stopped : (shelf : H) (db : Trees) (later : H) → Event R H
+  Settle_returned : (registry : R) → Event R H
+  Settle_stopped : (registry : R) (db : Trees) (later : H) → Event R H
   Moved : (away : Image) (later : H) → Event R H
-  Opened : (registry : R) (shelf : H) → Event R H
+  Open_returned : (store registry : R) (shelf : H) → Event R H
   Open_stopped : (store registry : R) (shelf : H) (db : Trees) (later : H) → Event R H
 
 -- the phase, what the providers hold that are away, and the accepted and the acknowledged calls, the newest first
@@ -48,9 +48,12 @@ pub record Now (R H : Type 0) : Type 0 where
   pub accepted : List Call
   pub acknowledged : List Call
 
--- at this phase, with one more call that is accepted and acknowledged
-abbrev pub accepting : {R H : Type 0} → Now R H → Call → Phase R H → Now R H
-accepting m call p = record m { phase = p; accepted = call ∷ m.accepted; acknowledged = call ∷ m.acknowledged }
+-- a command that is done is pending, accepted and acknowledged; after another answer nothing has changed
+abbrev pub after_answer : {R H : Type 0} → Now R H → Call → Accepted → R → H → Now R H
+after_answer m call (Done n reply work) s k =
+    record m { phase = Pending s k work; accepted = call ∷ m.accepted; acknowledged = call ∷ m.acknowledged }
+after_answer m call (Repeated n reply) s k = record m { phase = Ready s k }
+after_answer m call (Refused why) s k = record m { phase = Ready s k }
 
 -- in order, some left out
 pub data Within {A : Type 0} : List A → List A → Type 0 where
@@ -90,10 +93,6 @@ abbrev pub IsLastStep : Sizes → List Call → World → World → Type 0
 IsLastStep all [] u w = ⊥
 IsLastStep all (call ∷ older) u w = Reached all older u × IsStepTo u call w
 
--- these providers are some of those, with the same sizes
-abbrev pub AreAmong : Sizes → Sizes → Type 0
-AreAmong size all = (q : List ℕ) → (size q ≡ None) ⊎ (size q ≡ all q)
-
 -- how many commands the tables of a store hold
 abbrev pub HasCount : Trees → ℕ → Type 0
 HasCount db n = (t : Tables) → IsStored db t → count_of t ≡ n
@@ -113,16 +112,6 @@ module _ {S H : Type 0} (g : Ghosts S) (view : H → View) (size : H → Sizes) 
       × ((CrashLeaves g r db × ((x : Image) → (view l).may_leave x → (view k).left_since (view h).moment x))
       ⊎ (CrashLeaves g s db × ((x : Image) → (view l).may_leave x → (view k).may_leave x)))
 
-  -- the call is answered so, and a command that is done is pending
-  abbrev pub Answers : Held S → H → Now (Held S) H → Call → Answer → Held S → H → Now (Held S) H → Type 0
-  Answers r h m call (run.Done i reply) s k n =
-      (part : Records) × (ts : List Intent) × (n ≡ accepting m call (Pending s k part ts))
-      × ((u : World) → IsAt g view size r h m.away [] u u
-      → IsDone g view size s k m.away u call.key call.command i reply part ts)
-  Answers r h m call answer s k n =
-      (n ≡ record m { phase = Ready s k })
-      × ((u : World) → IsAt g view size r h m.away [] u u → Calls u call u answer × IsAt g view size s k m.away [] u u)
-
   -- Providers went away or came back unchanged: those on the later shelf have their sizes, and whatever image is left of
   -- it, all providers hold what they hold with one that may be left of this shelf.
   pub record IsMove (all : Sizes) (h : H) (away : Image) (later : H) (beyond : Image) : Type 0 where
@@ -134,44 +123,34 @@ module _ {S H : Type 0} (g : Ghosts S) (view : H → View) (size : H → Sizes) 
   module _ (all : Sizes) where
     -- each event is what the contract of its call says of an honest shelf and a disk that keeps what is written
     abbrev pub Happens : Now (Held S) H → Event (Held S) H → Now (Held S) H → Type 0
-    Happens m (Accepted call answer s k) n =
-        (r : Held S) × (h : H) × (m.phase ≡ Ready r h) × Answers r h m call answer s k n
+    Happens m (Accept_returned call answer s k) n =
+        (r : Held S) × (h : H) × (m.phase ≡ Ready r h) × (n ≡ after_answer m call answer s k)
+        × AcceptAnswers g view size r s h k call.key call.command answer
     Happens m (Accept_stopped call s k db l) n =
         (r : Held S) × (h : H) × (m.phase ≡ Ready r h)
         × (left : List Call) × (n ≡ record m { phase = Down db l; accepted = left }) × IsLeftIn db call m.accepted left
-        × ((u : World) → IsAt g view size r h m.away [] u u
-        → LeavesStep g view size r s h k m.away u call.key call.command) × IsStop r s h k db l
-    Happens m (Redone s k) n =
-        (r : Held S) × (h : H) × (part : Records) × (ts : List Intent)
-        × (m.phase ≡ Pending r h part ts) × (n ≡ record m { phase = Applied s k part ts })
-        × ((u w : World) → IsAt g view size r h m.away ts u w → Cover part w.state ts
-        → IsAt g view size s k m.away ts u w × IsShelfOf (view k) w (size k))
-    Happens m (Redo_stopped s k db l) n =
-        (r : Held S) × (h : H) × (part : Records) × (ts : List Intent)
-        × (m.phase ≡ Pending r h part ts) × (n ≡ record m { phase = Down db l })
-        × ((u w : World) → IsAt g view size r h m.away ts u w → Cover part w.state ts
-        → LeavesOnly g view size r s h k m.away u w) × IsStop r s h k db l
-    Happens m (Settled s k) n =
-        (r : Held S) × (h : H) × (part : Records) × (ts : List Intent)
-        × (m.phase ≡ Applied r h part ts) × (n ≡ record m { phase = Ready s k })
-        × ((u w : World) → IsAt g view size r h m.away ts u w → IsShelfOf (view h) w (size h)
-        → IsAt g view size s k m.away [] w w)
-    Happens m (Settle_stopped s k db l) n =
-        (r : Held S) × (h : H) × (part : Records) × (ts : List Intent)
-        × (m.phase ≡ Applied r h part ts) × (n ≡ record m { phase = Down db l })
-        × ((u w : World) → IsAt g view size r h m.away ts u w → IsShelfOf (view h) w (size h)
-        → LeavesOnly g view size r s h k m.away u w) × IsStop r s h k db l
+        × AcceptLeaves g view size r s h k call.key call.command × IsStop r s h k db l
+    Happens m (Apply_returned k) n =
+        (r : Held S) × (h : H) × (work : Work) × (m.phase ≡ Pending r h work)
+        × (n ≡ record m { phase = Applied r k work }) × ApplyDoes g view size r h k work
+    Happens m (Apply_stopped k db l) n =
+        (r : Held S) × (h : H) × (work : Work) × (m.phase ≡ Pending r h work)
+        × (n ≡ record m { phase = Down db l }) × ApplyLeaves g view size r h k work × IsStop r r h k db l
+    Happens m (Settle_returned s) n =
+        (r : Held S) × (h : H) × (work : Work) × (m.phase ≡ Applied r h work)
+        × (n ≡ record m { phase = Ready s h }) × SettleDoes g view size r s h work
+    Happens m (Settle_stopped s db l) n =
+        (r : Held S) × (h : H) × (work : Work) × (m.phase ≡ Applied r h work)
+        × (n ≡ record m { phase = Down db l }) × SettleLeaves g view size r s h work × IsStop r s h h db l
     Happens m (Moved beyond later) n =
         (db : Trees) × (h : H) × (m.phase ≡ Down db h) × (n ≡ record m { phase = Down db later; away = beyond })
         × IsMove all h m.away later beyond
-    Happens m (Opened s k) n =
-        (db : Trees) × (h : H) × (m.phase ≡ Down db h) × (n ≡ record m { phase = Ready s k })
-        × ((u w : World) → present w ≡ size h → Recovers db (size h) m.away (view h).may_leave u w
-        → IsAt g view size s k m.away [] w w)
-    Happens m (Open_stopped o s k after l) n =
-        (db : Trees) × (h : H) × (m.phase ≡ Down db h) × (n ≡ record m { phase = Down after l })
-        × ((u w : World) → present w ≡ size h → Recovers db (size h) m.away (view h).may_leave u w
-        → LeavesOnly g view size o s h k m.away u w) × IsStop o s h k after l
+    Happens m (Open_returned o s k) n =
+        (h : H) × (m.phase ≡ Down (stored g o) h) × (n ≡ record m { phase = Ready s k })
+        × OpenDoes g view size o s h k
+    Happens m (Open_stopped o s k db l) n =
+        (h : H) × (m.phase ≡ Down (stored g o) h) × (n ≡ record m { phase = Down db l })
+        × OpenLeaves g view size o s h k × IsStop o s h k db l
 
     -- A start: a store without tables, and a new world whose providers hold what any crash leaves of them.
     pub record IsStart (db : Trees) (h : H) (away : Image) (w : World) : Type 0 where
@@ -194,15 +173,13 @@ module _ {S H : Type 0} (g : Ghosts S) (view : H → View) (size : H → Sizes) 
       pub at : IsAt g view size r h away [] world world
       pub told : Within ack acc
 
-    -- the intents that are pending lead to it, the part of the records says what they need, and no component claims on
-    -- the way a sector that it lacks
-    pub record OnTheWay (r : Held S) (h : H) (away : Image) (part : Records) (ts : List Intent) (acc ack : List Call) : Type 0 where
+    -- the work that is pending leads to it, and no component claims on the way a sector that it lacks
+    pub record OnTheWay (r : Held S) (h : H) (away : Image) (work : Work) (acc ack : List Call) : Type 0 where
       pub world : World
       pub before : World
       pub reached : Reached all acc world
       pub last : IsLastStep all acc before world
-      pub at : IsAt g view size r h away ts before world
-      pub cover : Cover part world.state ts
+      pub at : IsAtWork g view size r h away work before world
       pub told : Within ack acc
 
     -- whatever a stop left leads to it, from itself or from the world before the last call
@@ -218,7 +195,7 @@ module _ {S H : Type 0} (g : Ghosts S) (view : H → View) (size : H → Sizes) 
     -- what holds at each phase
     abbrev pub Headline : Phase (Held S) H → Image → List Call → List Call → Type 0
     Headline (Ready r h) away acc ack = AtRest r h away acc ack
-    Headline (Pending r h part ts) away acc ack = OnTheWay r h away part ts acc ack
-    Headline (Applied r h part ts) away acc ack =
-        (o : OnTheWay r h away part ts acc ack) × IsShelfOf (view h) o.world (size h)
+    Headline (Pending r h work) away acc ack = OnTheWay r h away work acc ack
+    Headline (Applied r h work) away acc ack =
+        (o : OnTheWay r h away work acc ack) × IsShelfOf (view h) o.world (size h)
     Headline (Down db h) away acc ack = Stopped db h away acc ack

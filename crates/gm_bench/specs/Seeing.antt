@@ -1,5 +1,6 @@
 -- What a command has to know of the shelf.
-use Rattle.std.specs.Prelude.{◌≡◌, ◌-◌, ◌==◌, ℕ, List, Some, option_map, if◌then◌else◌}
+use Rattle.std.specs.Prelude.{◌≡◌, ◌-◌, ◌==◌, ℕ, List, Option, Some, None, option_map, if◌then◌else◌}
+use Rattle.std.specs.Option.{option_and_then}
 use Rattle.gm_metadata.specs.Images.{Image, Sizes, zeros}
 use Rattle.gm_rules.specs.declared.facts.Fact.{Fact}
 use Rattle.gm_rules.specs.Facts.{size_in, last_in}
@@ -7,6 +8,10 @@ use Rattle.gm_rules.specs.Facts.{size_in, last_in}
 -- the last of so many sectors; zeros stand for the one of a provider without sectors
 abbrev pub last_of : ℕ → (ℕ → List ℕ) → List ℕ
 last_of n sectors = if n == 0 then zeros else sectors (n - 1)
+
+-- the last sector of a provider that is there and has one
+abbrev pub last_sector : Sizes → Image → List ℕ → Option (List ℕ)
+last_sector size seen p = option_and_then (λ n. if n == 0 then None else Some (seen p (n - 1))) (size p)
 
 -- the fact is what the shelf says
 pub record IsFact (size : Sizes) (seen : Image) (f : Fact) : Type 0 where

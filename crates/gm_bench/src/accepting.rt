@@ -1,6 +1,6 @@
 //! Commands that are handed in.
 
-ghost use Rattle.std.specs.Prelude.{◌≡◌, ◌<◌, true, List, [], IfOk, IsErrOf};
+ghost use Rattle.std.specs.Prelude.{◌≡◌, ◌<◌, true, List, [], IfOk, IfErr, IsErrOf};
 ghost use Rattle.gm_metadata.specs.Images.{Image};
 ghost use Rattle.gm_shelf.specs.Disk.{AreReads};
 ghost use Rattle.gm_state.specs.declared.command.Command.{Command};
@@ -10,6 +10,7 @@ ghost use Rattle.gm_rules.specs.Step.{CanAnswer};
 ghost use Rattle.gm_registry.specs.Registry.{DiskKept, WasClean};
 ghost use Rattle.gm_registry.specs.Replies.{IsFree};
 ghost use Rattle.gm_bench.specs.Accepting.{LeavesStep, IsAnswered};
+ghost use Rattle.gm_bench.specs.Faults.{IsOfCall};
 ghost use Rattle.gm_bench.specs.Planning.{IsPlanned};
 ghost use Rattle.gm_bench.specs.Recovering.{IsAt};
 
@@ -17,6 +18,7 @@ use crate::answer::Accepted;
 use crate::asking::Planned;
 use crate::fault::BenchFault;
 use crate::media::Media;
+use gm_rules::CallRefusal;
 use gm_shelf::Shelf;
 use gm_state::{Command, is_key, words_of};
 use sqlite::Alter;
@@ -38,6 +40,7 @@ impl<S: Alter, H: Shelf> Media<S, H> {
             → IsAnswered S.Store H.view H.size self.new.registry self.old.shelf away
             u key.now c a) }
         ensures disk { IsErrOf result BenchFault.Disk → ⊥ }
+        ensures fault { IfErr result IsOfCall }
         ensures shelf { self.new.shelf ≡ self.old.shelf }
         ensures clean { WasClean S.Store self.old.registry self.new.registry }
     {
@@ -45,8 +48,7 @@ impl<S: Alter, H: Shelf> Media<S, H> {
             Ok(number) => Ok(Accepted::Done {
                 number,
                 reply: planned.change.reply(),
-                part: planned.part,
-                intents: planned.intents,
+                work: planned.work,
             }),
             Err(fault) => Err(BenchFault::of_store(fault)),
         }
@@ -74,6 +76,7 @@ impl<S: Alter, H: Shelf> Media<S, H> {
             u key.now command.now a) }
         ensures disk { IsErrOf result BenchFault.Disk
             → (H.view self.old.shelf).faults < (H.view self.new.shelf).faults }
+        ensures fault { IfErr result IsOfCall }
         ensures reads { H.honest self.old.shelf
             → AreReads (H.view self.old.shelf) (H.view self.new.shelf) }
         ensures honest { H.honest self.old.shelf → H.honest self.new.shelf }
@@ -82,7 +85,7 @@ impl<S: Alter, H: Shelf> Media<S, H> {
     {
         match self.ask(alloc, command) {
             Ok(Ok(planned)) => self.commit(planned, key, words),
-            Ok(Err(refusal)) => Ok(Accepted::Refused(u64::from(refusal.number()))),
+            Ok(Err(refusal)) => Ok(Accepted::Refused(CallRefusal::ByRules(refusal))),
             Err(fault) => Err(fault),
         }
     }
@@ -111,6 +114,7 @@ impl<S: Alter, H: Shelf> Media<S, H> {
             u key.now command.now a) }
         ensures disk { IsErrOf result BenchFault.Disk
             → (H.view self.old.shelf).faults < (H.view self.new.shelf).faults }
+        ensures fault { IfErr result IsOfCall }
         ensures reads { H.honest self.old.shelf
             → AreReads (H.view self.old.shelf) (H.view self.new.shelf) }
         ensures honest { H.honest self.old.shelf → H.honest self.new.shelf }
@@ -118,7 +122,7 @@ impl<S: Alter, H: Shelf> Media<S, H> {
         ensures clean { WasClean S.Store self.old.registry self.new.registry }
     {
         match self.is_full() {
-            Ok(true) => Ok(Accepted::Refused(4)),
+            Ok(true) => Ok(Accepted::Refused(CallRefusal::NoRoom)),
             Ok(false) => self.choose(alloc, key, words, command),
             Err(fault) => Err(fault),
         }
@@ -146,6 +150,7 @@ impl<S: Alter, H: Shelf> Media<S, H> {
             u key.now command.now a) }
         ensures disk { IsErrOf result BenchFault.Disk
             → (H.view self.old.shelf).faults < (H.view self.new.shelf).faults }
+        ensures fault { IfErr result IsOfCall }
         ensures reads { H.honest self.old.shelf
             → AreReads (H.view self.old.shelf) (H.view self.new.shelf) }
         ensures honest { H.honest self.old.shelf → H.honest self.new.shelf }
@@ -158,7 +163,7 @@ impl<S: Alter, H: Shelf> Media<S, H> {
                 if kept.as_str() == words {
                     Ok(Accepted::Repeated(number, reply))
                 } else {
-                    Ok(Accepted::Refused(3))
+                    Ok(Accepted::Refused(CallRefusal::KeyTaken))
                 }
             }
             Err(fault) => Err(BenchFault::of_store(fault)),
@@ -184,6 +189,7 @@ impl<S: Alter, H: Shelf> Media<S, H> {
             u key.now command.now a) }
         ensures disk { IsErrOf result BenchFault.Disk
             → (H.view self.old.shelf).faults < (H.view self.new.shelf).faults }
+        ensures fault { IfErr result IsOfCall }
         ensures reads { H.honest self.old.shelf
             → AreReads (H.view self.old.shelf) (H.view self.new.shelf) }
         ensures honest { H.honest self.old.shelf → H.honest self.new.shelf }
@@ -191,7 +197,7 @@ impl<S: Alter, H: Shelf> Media<S, H> {
         ensures clean { WasClean S.Store self.old.registry self.new.registry }
     {
         if !is_key(key) {
-            return Ok(Accepted::Refused(2));
+            return Ok(Accepted::Refused(CallRefusal::NoKey));
         }
         match words_of(alloc, command) {
             Ok(words) => self.answer(alloc, key, &words, command),

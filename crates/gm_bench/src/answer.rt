@@ -1,8 +1,9 @@
 //! What a command is answered.
 
+use gm_rules::CallRefusal;
 use gm_state::{Intent, Reply, State};
 
-/// The number of an accepted command and its reply, now or when its key came first; or the number of a refusal.
+/// The number of an accepted command and its reply, now or when its key came first; or why it is refused.
 #[derive(Clone, Copy, Debug, PartialEq, Eq)]
 pub enum Answer {
     /// The command is accepted, under this number.
@@ -10,18 +11,24 @@ pub enum Answer {
     /// The same command was accepted under this key before.
     Repeated(u64, Reply),
     /// Nothing was written.
-    Refused(u64),
+    Refused(CallRefusal),
 }
 
-/// The same, with what an accepted command has still to be carried out: its part of the records, and its intents.
+/// What an accepted command has still to be carried out: its part of the records, and its intents.
+#[derive(Drop)]
+pub(crate) struct Work {
+    pub(crate) part: State,
+    pub(crate) intents: Vec<Intent>,
+}
+
+/// What a command is answered, with what is still to be carried out.
 #[derive(Drop)]
 pub(crate) enum Accepted {
     Done {
         number: u64,
         reply: Reply,
-        part: State,
-        intents: Vec<Intent>,
+        work: Work,
     },
     Repeated(u64, Reply),
-    Refused(u64),
+    Refused(CallRefusal),
 }

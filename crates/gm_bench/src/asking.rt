@@ -1,6 +1,6 @@
 //! What the rules answer to a command.
 
-ghost use Rattle.std.specs.Prelude.{◌≡◌, ◌<◌, ◌≤◌, List, [], length, IfOk, IsErrOf, nat_le};
+ghost use Rattle.std.specs.Prelude.{◌≡◌, ◌<◌, ◌≤◌, List, [], length, IfOk, IfErr, IsErrOf, nat_le};
 ghost use Rattle.gm_metadata.specs.Images.{Image};
 ghost use Rattle.gm_shelf.specs.Disk.{AreReads};
 ghost use Rattle.gm_state.specs.declared.command.Intent.{Intent};
@@ -11,9 +11,11 @@ ghost use Rattle.gm_rules.specs.Parts.{IsPartOf};
 ghost use Rattle.gm_rules.specs.Worlds.{AreFacts};
 ghost use Rattle.gm_registry.specs.Registry.{DiskKept, HasTables, Reads};
 ghost use Rattle.gm_registry.specs.Replies.{count_of};
+ghost use Rattle.gm_bench.specs.Faults.{IsOfCall};
 ghost use Rattle.gm_bench.specs.Recovering.{IsAt};
 ghost use Rattle.gm_bench.specs.Planning.{IsDecided};
 
+use crate::answer::Work;
 use crate::fault::BenchFault;
 use crate::media::Media;
 use crate::seeing::facts_of;
@@ -26,20 +28,20 @@ use std::alloc::Global;
 /// The most commands that a bench accepts.
 const MAX_COMMANDS: u64 = 100_000;
 
-/// What is to be done for a command that nothing refuses: the change, and for what is pending after it the part of the
-/// records and the intents.
+/// What is to be done for a command that nothing refuses: the change, and what is then to be carried out.
 #[derive(Drop)]
 pub(crate) struct Planned {
     pub(crate) change: Change,
-    pub(crate) part: State,
-    pub(crate) intents: Vec<Intent>,
+    pub(crate) work: Work,
 }
 
 // What a change leaves to be done.
 fn plan(alloc: Global, part: &State, change: Change) -> Result<Planned, BenchFault>
-    ensures planned { IfOk result (λ p. (p.change ≡ change) × (p.part ≡ changed_by change part.now)
-        × (p.intents.items ≡ change.intents)) }
+    ensures planned { IfOk result (λ p. (p.change ≡ change)
+        × (p.work.part ≡ changed_by change part.now)
+        × (p.work.intents.items ≡ change.intents)) }
     ensures disk { IsErrOf result BenchFault.Disk → ⊥ }
+    ensures fault { IfErr result IsOfCall }
 {
     let left = match changed_by(alloc, part, &change) {
         Ok(Some(left)) => left,
@@ -49,8 +51,10 @@ fn plan(alloc: Global, part: &State, change: Change) -> Result<Planned, BenchFau
     match change.intents().to_vec(alloc) {
         Ok(intents) => Ok(Planned {
             change,
-            part: left,
-            intents,
+            work: Work {
+                part: left,
+                intents,
+            },
         }),
         Err(_) => Err(BenchFault::Memory),
     }
@@ -68,6 +72,7 @@ fn decide_on(
         → count ≡ length u.state.mirrors → AreFacts facts.now u command.now
         → IsDecided u command.now r) }
     ensures disk { IsErrOf result BenchFault.Disk → ⊥ }
+    ensures fault { IfErr result IsOfCall }
 {
     match decide_part(alloc, part, count, facts, command) {
         Ok(Ok(change)) => match plan(alloc, part, change) {
@@ -86,6 +91,7 @@ impl<S: Alter, H: Shelf> Media<S, H> {
             → HasTables S.Store self.old.registry t
             → (full ≡ nat_le 100000 (count_of t)) × HasTables S.Store self.new.registry t) }
         ensures disk { IsErrOf result BenchFault.Disk → ⊥ }
+        ensures fault { IfErr result IsOfCall }
         ensures reads { Reads S.Store self.old.registry self.new.registry }
         ensures shelf { self.new.shelf ≡ self.old.shelf }
     {
@@ -107,6 +113,7 @@ impl<S: Alter, H: Shelf> Media<S, H> {
             → IsPartOf r.0 command.now w.state × (r.1 ≡ length w.state.mirrors)
             × HasTables S.Store self.new.registry at.tables) }
         ensures disk { IsErrOf result BenchFault.Disk → ⊥ }
+        ensures fault { IfErr result IsOfCall }
         ensures reads { Reads S.Store self.old.registry self.new.registry }
         ensures shelf { self.new.shelf ≡ self.old.shelf }
     {
@@ -127,6 +134,7 @@ impl<S: Alter, H: Shelf> Media<S, H> {
             → IsPartOf part.now command.now u.state → AreFacts facts u command.now) }
         ensures disk { IsErrOf result BenchFault.Disk
             → (H.view self.old.shelf).faults < (H.view self.new.shelf).faults }
+        ensures fault { IfErr result IsOfCall }
         ensures reads { H.honest self.old.shelf
             → AreReads (H.view self.old.shelf) (H.view self.new.shelf) }
         ensures registry { self.new.registry ≡ self.old.registry }
@@ -134,10 +142,10 @@ impl<S: Alter, H: Shelf> Media<S, H> {
         ensures size { H.size self.new.shelf ≡ H.size self.old.shelf }
     {
         match needed(alloc, part, command) {
-            Ok(names) => {
-                let facts = facts_of(alloc, &mut self.shelf, &names)?;
-                Ok(facts)
-            }
+            Ok(names) => match facts_of(alloc, &mut self.shelf, &names) {
+                Ok(facts) => Ok(facts),
+                Err(fault) => Err(fault),
+            },
             Err(_) => Err(BenchFault::Memory),
         }
     }
@@ -154,6 +162,7 @@ impl<S: Alter, H: Shelf> Media<S, H> {
             → IsDecided u command.now r × HasTables S.Store self.new.registry at.tables) }
         ensures disk { IsErrOf result BenchFault.Disk
             → (H.view self.old.shelf).faults < (H.view self.new.shelf).faults }
+        ensures fault { IfErr result IsOfCall }
         ensures store { Reads S.Store self.old.registry self.new.registry }
         ensures reads { H.honest self.old.shelf
             → AreReads (H.view self.old.shelf) (H.view self.new.shelf) }

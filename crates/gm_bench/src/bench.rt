@@ -1,29 +1,27 @@
-//! The calls of a bench.
+//! The opening of a bench, and what it may be asked.
 
-ghost use Rattle.std.specs.Prelude.{◌≡◌, false, List, [], IfOk, OnOk, OnErr, IsErrOf, MatchResult};
+ghost use Rattle.std.specs.Prelude.{◌≡◌, ◌<◌, ℕ, List, Some, None, false, length, IfOk, IfErr, MatchResult};
 ghost use Rattle.gm_metadata.specs.Images.{Image};
-ghost use Rattle.gm_state.specs.World.{World, present};
-ghost use Rattle.gm_registry.specs.Registry.{DiskKept, IsOpen, stored};
-ghost use Rattle.gm_bench.specs.Recovering.{Recovers, IsAt, LeavesOnly};
-ghost use Rattle.gm_bench.specs.Running.{IsRun};
+ghost use Rattle.gm_state.specs.declared.command.Intent.{Intent};
+ghost use Rattle.gm_state.specs.Records.{Records};
+ghost use Rattle.gm_state.specs.Rows.{Tables};
+ghost use Rattle.gm_state.specs.World.{World};
+ghost use Rattle.gm_registry.specs.Opening.{IsOpenable};
+ghost use Rattle.gm_registry.specs.Reading.{AreTablesOf};
+ghost use Rattle.gm_registry.specs.Registry.{DiskKept, IsOpen, WasClean, stored};
+ghost use Rattle.gm_bench.specs.Faults.{IsBeforeWrites};
+ghost use Rattle.gm_bench.specs.Owed.{IsLeft, OpenDoes, OpenLeaves};
+ghost use Rattle.gm_bench.specs.Presence.{first_absent};
+ghost use Rattle.gm_bench.specs.Progressing.{phase_of};
+ghost use Rattle.gm_bench.specs.Recovering.{IsStored};
 
-use crate::answer::Answer;
 use crate::fault::BenchFault;
 use crate::media::Media;
+use crate::progress::{Phase, Progress};
 use gm_registry::Registry;
 use gm_shelf::Shelf;
-use gm_state::Command;
 use sqlite::{Alter, Connection};
 use std::alloc::Global;
-
-/// What a bench may be asked next.
-#[derive(Clone, Copy, Debug, PartialEq, Eq)]
-pub enum Phase {
-    /// Nothing is pending: `run`.
-    Ready,
-    /// A fault closed the bench: it is opened again.
-    Failed,
-}
 
 /// Why a bench wasn't opened, and its media.
 #[derive(Drop)]
@@ -37,34 +35,59 @@ pub struct OpenFault<S: Alter, H> {
 #[derive(Drop)]
 pub struct Bench<S: Alter, H> {
     pub(crate) media: Media<S, H>,
-    pub(crate) phase: Phase,
+    pub(crate) progress: Progress,
     pub(crate) redone: u64,
 }
 
 impl<S: Alter, H: Shelf> Bench<S, H> {
-    /// Carries out what is pending, and settles it. F5 comes before anything is written, where the image of a pending
-    /// intent isn't there, has no sectors or, of a component, another size than is registered.
+    /// Carries out what is pending, and settles it. `Absent` before anything is written, where the image of a pending
+    /// intent isn't there, has no sectors or, of a component, another size than is registered. `Unreadable` where the
+    /// store has tables that aren't a registry's, or whose rows don't say a state with readable intents.
     pub fn open(
         alloc: Global,
         store: Connection<S>,
         shelf: H,
     ) -> Result<Bench<S, H>, OpenFault<S, H>>
         requires { store.in_transaction ≡ false }
-        ensures done { H.honest shelf → IsOpen S.Store store
+        ensures does { H.honest shelf → IsOpen S.Store store
+            → IfOk result (λ b. DiskKept S.Store b.media.registry → OpenDoes S.Store H.view H.size
+            store b.media.registry shelf b.media.shelf) }
+        ensures leaves { H.honest shelf → IsOpen S.Store store → MatchResult result
+            (λ b. DiskKept S.Store b.media.registry → OpenLeaves S.Store H.view H.size
+            store b.media.registry shelf b.media.shelf)
+            (λ e. DiskKept S.Store e.store → OpenLeaves S.Store H.view H.size
+            store e.store shelf e.shelf) }
+        ensures ready { IfOk result (λ b. b.progress ≡ Progress.Ready) }
+        ensures redone { H.honest shelf → IsOpen S.Store store
             → IfOk result (λ b. DiskKept S.Store b.media.registry → (away : Image) (u w : World)
-            → present w ≡ H.size shelf
-            → Recovers (stored S.Store store) (H.size shelf) away (H.view shelf).may_leave u w
-            → IsAt S.Store H.view H.size b.media.registry b.media.shelf away [] w w) }
-        ensures leaves { H.honest shelf → IsOpen S.Store store → (away : Image) (u w : World)
-            → present w ≡ H.size shelf
-            → Recovers (stored S.Store store) (H.size shelf) away (H.view shelf).may_leave u w
-            → MatchResult result
-            (λ b. DiskKept S.Store b.media.registry → LeavesOnly S.Store H.view H.size
-            store b.media.registry shelf b.media.shelf away u w)
-            (λ e. DiskKept S.Store e.store → LeavesOnly S.Store H.view H.size
-            store e.store shelf e.shelf away u w) }
+            → (left : IsLeft S.Store H.view H.size store shelf away u w)
+            → b.redone ≡ length left.recovers.intents) }
+        // Each image that the pending intents need is there at Ok; the first that isn't is told.
+        ensures there { H.honest shelf → IsOpen S.Store store
+            → IfOk result (λ b. DiskKept S.Store b.media.registry → (away : Image) (u w : World)
+            → (left : IsLeft S.Store H.view H.size store shelf away u w)
+            → first_absent w.state (H.size shelf) left.recovers.intents ≡ None) }
+        ensures absent { H.honest shelf → IsOpen S.Store store
+            → IfErr result (λ e. DiskKept S.Store e.store → (p : List ℕ)
+            → e.fault ≡ BenchFault.Absent p → (away : Image) (u w : World)
+            → (left : IsLeft S.Store H.view H.size store shelf away u w)
+            → first_absent w.state (H.size shelf) left.recovers.intents ≡ Some p) }
+        ensures disk { H.honest shelf → IsOpen S.Store store
+            → IfErr result (λ e. DiskKept S.Store e.store → e.fault ≡ BenchFault.Disk
+            → (away : Image) (u w : World) → IsLeft S.Store H.view H.size store shelf away u w
+            → (H.view shelf).faults < (H.view e.shelf).faults) }
+        ensures unreadable { IsOpen S.Store store
+            → IfErr result (λ e. DiskKept S.Store e.store → e.fault ≡ BenchFault.Unreadable
+            → IsOpenable (stored S.Store store) → (t : Tables) (s : Records) (ts : List Intent)
+            → IsStored (stored S.Store store) t → AreTablesOf t s ts → ⊥) }
+        ensures untouched { IfErr result (λ e. IsBeforeWrites e.fault → e.shelf ≡ shelf) }
+        ensures closed { IfErr result (λ e. e.fault ≡ BenchFault.Closed → ⊥) }
         ensures honest { H.honest shelf
             → MatchResult result (λ b. H.honest b.media.shelf) (λ e. H.honest e.shelf) }
+        ensures size { MatchResult result (λ b. H.size b.media.shelf ≡ H.size shelf)
+            (λ e. H.size e.shelf ≡ H.size shelf) }
+        ensures clean { MatchResult result (λ b. WasClean S.Store store b.media.registry)
+            (λ e. WasClean S.Store store e.store) }
     {
         let registry = match Registry::open(store) {
             Ok(registry) => registry,
@@ -80,7 +103,7 @@ impl<S: Alter, H: Shelf> Bench<S, H> {
         match media.take_up(alloc) {
             Ok(redone) => Ok(Bench {
                 media,
-                phase: Phase::Ready,
+                progress: Progress::Ready,
                 redone,
             }),
             Err(fault) => Err(OpenFault {
@@ -91,40 +114,11 @@ impl<S: Alter, H: Shelf> Bench<S, H> {
         }
     }
 
-    /// Hands in a command under a key, carries it out and settles it. `Closed` after an earlier fault, before anything
-    /// is read or written; at any other fault the bench is closed, and what was accepted is carried out by the next
-    /// opening.
-    pub fn run(&mut self, alloc: Global, key: &str, command: &Command) -> Result<Answer, BenchFault>
-        ensures done { H.honest self.old.media.shelf → DiskKept S.Store self.new.media.registry
-            → IfOk result (λ a. (away : Image) (u : World)
-            → IsAt S.Store H.view H.size self.old.media.registry self.old.media.shelf away [] u u
-            → IsRun S.Store H.view H.size self.new.media.registry self.new.media.shelf away
-            u key.now command.now a) }
-        ensures closed { self.old.phase ≡ Phase.Failed
-            → IsErrOf result BenchFault.Closed × (self.new ≡ self.old) }
-        ensures ready { OnOk result
-            ((self.old.phase ≡ Phase.Ready) × (self.new.phase ≡ Phase.Ready)) }
-        ensures failed { OnErr result (self.new.phase ≡ Phase.Failed) }
-        ensures honest { H.honest self.old.media.shelf → H.honest self.new.media.shelf }
-        ensures size { H.size self.new.media.shelf ≡ H.size self.old.media.shelf }
-    {
-        match self.phase {
-            Phase::Failed => Err(BenchFault::Closed),
-            Phase::Ready => match self.media.run(alloc, key, command) {
-                Ok(answer) => Ok(answer),
-                Err(fault) => {
-                    self.phase = Phase::Failed;
-                    Err(fault)
-                }
-            },
-        }
-    }
-
     /// What it may be asked next.
     pub fn phase(&self) -> Phase
-        ensures { result ≡ self.now.phase }
+        ensures { result ≡ phase_of self.now.progress }
     {
-        self.phase
+        self.progress.phase()
     }
 
     /// How many intents the opening carried out that an earlier run had left pending.

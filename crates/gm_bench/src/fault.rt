@@ -1,7 +1,7 @@
 //! Why a call of the bench fails.
 
 ghost use Rattle.std.specs.Prelude.{◌≡◌};
-ghost use Rattle.gm_bench.specs.Faults.{fault_number, of_store, of_shelf};
+ghost use Rattle.gm_bench.specs.Faults.{fault_number, of_store, of_shelf, IsOfMedia, IsOfRegistry, IsOfCall};
 
 use gm_metadata::Label;
 use gm_registry::StoreFault;
@@ -48,7 +48,9 @@ impl BenchFault {
 
     /// What a fault of the registry is to the bench.
     pub(crate) fn of_store(fault: StoreFault) -> BenchFault
-        ensures { result ≡ of_store fault }
+        ensures value { result ≡ of_store fault }
+        ensures registry { IsOfRegistry result }
+        ensures call { IsOfCall result }
     {
         match fault {
             StoreFault::Memory => BenchFault::Memory,
@@ -59,7 +61,9 @@ impl BenchFault {
 
     /// What a fault of the shelf is to the bench, which names only providers and sectors that are there.
     pub(crate) fn of_shelf(fault: ShelfFault) -> BenchFault
-        ensures { result ≡ of_shelf fault }
+        ensures value { result ≡ of_shelf fault }
+        ensures media { IsOfMedia result }
+        ensures call { IsOfCall result }
     {
         match fault {
             ShelfFault::Memory => BenchFault::Memory,

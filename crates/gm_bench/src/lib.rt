@@ -17,14 +17,17 @@ mod bench;
 mod checking;
 mod fault;
 mod laws;
+mod looking;
 mod media;
 mod opening;
+mod progress;
 mod running;
 mod seeing;
 #[cfg(test)]
 mod tests;
 
 pub use answer::Answer;
-pub use bench::{Bench, OpenFault, Phase};
+pub use bench::{Bench, OpenFault};
 pub use fault::BenchFault;
 pub use laws::whole_run_law;
+pub use progress::Phase;

@@ -1,11 +1,12 @@
 //! The two media of a bench, and what is written to them.
 
-ghost use Rattle.std.specs.Prelude.{◌≡◌, ◌<◌, ℕ, List, [], OnOk, IsErrOf};
+ghost use Rattle.std.specs.Prelude.{◌≡◌, ◌<◌, List, [], OnOk, IfErr, IsErrOf};
 ghost use Rattle.gm_metadata.specs.Images.{Image};
 ghost use Rattle.gm_state.specs.declared.command.Intent.{Intent};
 ghost use Rattle.gm_state.specs.World.{World};
 ghost use Rattle.gm_registry.specs.Changes.{settled};
 ghost use Rattle.gm_registry.specs.Registry.{DiskKept, WasClean};
+ghost use Rattle.gm_bench.specs.Faults.{IsOfMedia};
 ghost use Rattle.gm_bench.specs.Leading.{AllLead};
 ghost use Rattle.gm_bench.specs.Recovering.{Cover, IsAt, IsShelfOf, LeavesOnly};
 
@@ -42,12 +43,11 @@ impl<S: Alter, H: Shelf> Media<S, H> {
             → Cover part.now w.state intents.now
             → LeavesOnly S.Store H.view H.size self.old.registry self.new.registry
             self.old.shelf self.new.shelf away u w }
-
         ensures disk { (away : Image) (u w : World)
             → IsAt S.Store H.view H.size self.old.registry self.old.shelf away intents.now u w
             → IsErrOf result BenchFault.Disk
             → (H.view self.old.shelf).faults < (H.view self.new.shelf).faults }
-        ensures absent { (p : List ℕ) → IsErrOf result (BenchFault.Absent p) → ⊥ }
+        ensures fault { IfErr result IsOfMedia }
         ensures registry { self.new.registry ≡ self.old.registry }
         ensures honest { H.honest self.old.shelf → H.honest self.new.shelf }
         ensures size { H.size self.new.shelf ≡ H.size self.old.shelf }
@@ -72,7 +72,7 @@ impl<S: Alter, H: Shelf> Media<S, H> {
             → IsShelfOf (H.view self.old.shelf) w (H.size self.old.shelf)
             → IsAt S.Store H.view H.size self.new.registry self.new.shelf away [] w w) }
         ensures disk { IsErrOf result BenchFault.Disk → ⊥ }
-        ensures absent { (p : List ℕ) → IsErrOf result (BenchFault.Absent p) → ⊥ }
+        ensures fault { IfErr result IsOfMedia }
         ensures shelf { self.new.shelf ≡ self.old.shelf }
         ensures clean { WasClean S.Store self.old.registry self.new.registry }
     {

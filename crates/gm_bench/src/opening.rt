@@ -4,8 +4,12 @@ ghost use Rattle.std.specs.Prelude.{◌≡◌, ◌≢◌, ◌<◌, ℕ, List, []
 ghost use Rattle.gm_metadata.specs.Images.{Image};
 ghost use Rattle.gm_shelf.specs.Disk.{IsLawful};
 ghost use Rattle.gm_state.specs.declared.command.Intent.{Intent};
+ghost use Rattle.gm_state.specs.Records.{Records};
+ghost use Rattle.gm_state.specs.Rows.{Tables};
 ghost use Rattle.gm_state.specs.World.{World};
+ghost use Rattle.gm_registry.specs.Reading.{AreTablesOf};
 ghost use Rattle.gm_registry.specs.Registry.{DiskKept, HasTables, Reads, WasClean};
+ghost use Rattle.gm_bench.specs.Faults.{IsOfMedia, IsOfOpening, IsOfRegistry, IsBeforeWrites};
 ghost use Rattle.gm_bench.specs.Leading.{AllLead};
 ghost use Rattle.gm_bench.specs.Presence.{first_absent};
 ghost use Rattle.gm_bench.specs.Recovering.{Cover, IsAt, IsFound, LeavesOnly};
@@ -42,14 +46,18 @@ impl<S: Alter, H: Shelf> Media<S, H> {
             → IsAt S.Store H.view H.size self.old.registry self.old.shelf away intents.now u w
             → IsErrOf result BenchFault.Disk
             → (H.view self.old.shelf).faults < (H.view self.new.shelf).faults }
-        ensures absent { (p : List ℕ) → IsErrOf result (BenchFault.Absent p) → ⊥ }
+        ensures fault { IfErr result IsOfMedia }
         ensures honest { H.honest self.old.shelf → H.honest self.new.shelf }
         ensures size { H.size self.new.shelf ≡ H.size self.old.shelf }
         ensures clean { WasClean S.Store self.old.registry self.new.registry }
     {
-        self.apply(part, intents)?;
-        self.settle()?;
-        Ok(())
+        match self.apply(part, intents) {
+            Ok(()) => match self.settle() {
+                Ok(()) => Ok(()),
+                Err(fault) => Err(fault),
+            },
+            Err(fault) => Err(fault),
+        }
     }
 
     /// The whole state and the pending intents. It writes nothing.
@@ -58,11 +66,10 @@ impl<S: Alter, H: Shelf> Media<S, H> {
             → IfOk result (λ r. (away : Image) (ts : List Intent) (u w : World)
             → (at : IsFound S.Store H.view H.size self.old.registry self.old.shelf away ts u w)
             → (r.0 ≡ w.state) × (r.1.items ≡ ts) × HasTables S.Store self.new.registry at.tables) }
-        ensures unreadable { H.honest self.old.shelf → DiskKept S.Store self.new.registry
-            → IsErrOf result BenchFault.Unreadable
-            → (away : Image) (ts : List Intent) (u w : World)
-            → IsFound S.Store H.view H.size self.old.registry self.old.shelf away ts u w → ⊥ }
-        ensures disk { IsErrOf result BenchFault.Disk → ⊥ }
+        ensures unreadable { DiskKept S.Store self.new.registry
+            → IsErrOf result BenchFault.Unreadable → (t : Tables) (s : Records) (ts : List Intent)
+            → HasTables S.Store self.old.registry t → AreTablesOf t s ts → ⊥ }
+        ensures fault { IfErr result IsOfRegistry }
         ensures reads { Reads S.Store self.old.registry self.new.registry }
         ensures shelf { self.new.shelf ≡ self.old.shelf }
     {
@@ -91,26 +98,28 @@ impl<S: Alter, H: Shelf> Media<S, H> {
             → IsFound S.Store H.view H.size self.old.registry self.old.shelf away intents.now u w
             → state.now ≡ w.state
             → IsAt S.Store H.view H.size self.new.registry self.new.shelf away [] w w) }
-        // F5 comes before anything is written, exactly where an image isn't there.
         ensures disk { H.honest self.old.shelf → (away : Image) (u w : World)
             → IsFound S.Store H.view H.size self.old.registry self.old.shelf away intents.now u w
             → state.now ≡ w.state → IsErrOf result BenchFault.Disk
             → (H.view self.old.shelf).faults < (H.view self.new.shelf).faults }
+        // F5 comes before anything is written, exactly where an image isn't there.
         ensures absent { (p : List ℕ) → IsErrOf result (BenchFault.Absent p)
-            → first_absent state.now (H.size self.old.shelf) intents.now ≡ Some p }
-        ensures untouched { (p : List ℕ)
-            → first_absent state.now (H.size self.old.shelf) intents.now ≡ Some p
-            → IsErrOf result (BenchFault.Absent p) × (self.new ≡ self.old) }
-
+            → (first_absent state.now (H.size self.old.shelf) intents.now ≡ Some p)
+            × (self.new ≡ self.old) }
+        ensures there { OnOk result
+            (first_absent state.now (H.size self.old.shelf) intents.now ≡ None) }
+        ensures fault { IfErr result IsOfOpening }
         ensures honest { H.honest self.old.shelf → H.honest self.new.shelf }
         ensures size { H.size self.new.shelf ≡ H.size self.old.shelf }
         ensures clean { WasClean S.Store self.old.registry self.new.registry }
     {
-        if let Some(provider) = first_absent(&self.shelf, state, intents) {
-            return Err(BenchFault::Absent(provider));
+        match first_absent(&self.shelf, state, intents) {
+            Some(provider) => Err(BenchFault::Absent(provider)),
+            None => match self.finish(state, intents) {
+                Ok(()) => Ok(()),
+                Err(fault) => Err(fault),
+            },
         }
-        self.finish(state, intents)?;
-        Ok(())
     }
 
     /// Carries out what an earlier run left pending, and answers how many intents it found.
@@ -130,6 +139,26 @@ impl<S: Alter, H: Shelf> Media<S, H> {
             → IsFound S.Store H.view H.size self.old.registry self.old.shelf away ts u w
             → (n ≡ length ts)
             × IsAt S.Store H.view H.size self.new.registry self.new.shelf away [] w w) }
+        ensures disk { H.honest self.old.shelf → DiskKept S.Store self.new.registry
+            → IsErrOf result BenchFault.Disk
+            → (away : Image) (ts : List Intent) (u w : World)
+            → IsFound S.Store H.view H.size self.old.registry self.old.shelf away ts u w
+            → (H.view self.old.shelf).faults < (H.view self.new.shelf).faults }
+        ensures absent { H.honest self.old.shelf → DiskKept S.Store self.new.registry
+            → (p : List ℕ) → IsErrOf result (BenchFault.Absent p)
+            → (away : Image) (ts : List Intent) (u w : World)
+            → IsFound S.Store H.view H.size self.old.registry self.old.shelf away ts u w
+            → first_absent w.state (H.size self.old.shelf) ts ≡ Some p }
+        ensures there { H.honest self.old.shelf → DiskKept S.Store self.new.registry
+            → OnOk result ((away : Image) (ts : List Intent) (u w : World)
+            → IsFound S.Store H.view H.size self.old.registry self.old.shelf away ts u w
+            → first_absent w.state (H.size self.old.shelf) ts ≡ None) }
+        ensures unreadable { DiskKept S.Store self.new.registry
+            → IsErrOf result BenchFault.Unreadable → (t : Tables) (s : Records) (ts : List Intent)
+            → HasTables S.Store self.old.registry t → AreTablesOf t s ts → ⊥ }
+        ensures untouched { IfErr result (λ f. IsBeforeWrites f
+            → self.new.shelf ≡ self.old.shelf) }
+        ensures fault { IsErrOf result BenchFault.Closed → ⊥ }
         ensures honest { H.honest self.old.shelf → H.honest self.new.shelf }
         ensures size { H.size self.new.shelf ≡ H.size self.old.shelf }
         ensures clean { WasClean S.Store self.old.registry self.new.registry }

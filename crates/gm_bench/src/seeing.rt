@@ -1,8 +1,9 @@
 //! What a command has to know of the shelf.
 
-ghost use Rattle.std.specs.Prelude.{◌≡◌, ◌≤◌, ◌<◌, ℕ, List, Some, None, IfOk, MatchOption, IsErrOf};
+ghost use Rattle.std.specs.Prelude.{◌≡◌, ◌≤◌, ◌<◌, ℕ, List, Some, None, IfOk, IfErr, MatchOption, IsErrOf};
 ghost use Rattle.gm_shelf.specs.Disk.{AreReads};
 ghost use Rattle.gm_state.specs.Words.{Has};
+ghost use Rattle.gm_bench.specs.Faults.{IsOfCall};
 ghost use Rattle.gm_bench.specs.Seeing.{Tell, IsFact, last_of};
 
 use crate::fault::BenchFault;
@@ -17,6 +18,7 @@ fn last_of<H: Shelf>(shelf: &mut H, provider: Label, sectors: u64) -> Result<[u8
         → IfOk result (λ last. last ≡ last_of sectors ((H.view shelf.old).seen provider)) }
     ensures disk { H.size shelf.old provider ≡ Some sectors → IsErrOf result BenchFault.Disk
         → (H.view shelf.old).faults < (H.view shelf.new).faults }
+    ensures fault { IfErr result IsOfCall }
     ensures reads { H.honest shelf.old → AreReads (H.view shelf.old) (H.view shelf.new) }
     ensures honest { H.honest shelf.old → H.honest shelf.new }
     ensures size { H.size shelf.new ≡ H.size shelf.old }
@@ -32,13 +34,14 @@ fn last_of<H: Shelf>(shelf: &mut H, provider: Label, sectors: u64) -> Result<[u8
     }
 }
 
-// What the shelf says of a provider; None where it is absent.
-fn fact_of<H: Shelf>(shelf: &mut H, provider: Label) -> Result<Option<Fact>, BenchFault>
+/// What the shelf says of a provider; None where it is absent.
+pub(crate) fn fact_of<H: Shelf>(shelf: &mut H, provider: Label) -> Result<Option<Fact>, BenchFault>
     ensures fact { H.honest shelf.old → IfOk result (λ found. MatchOption found
         (H.size shelf.old provider ≡ None)
         (λ f. IsFact (H.size shelf.old) (H.view shelf.old).seen f × (f.provider ≡ provider))) }
     ensures disk { IsErrOf result BenchFault.Disk
         → (H.view shelf.old).faults < (H.view shelf.new).faults }
+    ensures fault { IfErr result IsOfCall }
     ensures reads { H.honest shelf.old → AreReads (H.view shelf.old) (H.view shelf.new) }
     ensures honest { H.honest shelf.old → H.honest shelf.new }
     ensures size { H.size shelf.new ≡ H.size shelf.old }
@@ -67,6 +70,7 @@ pub(crate) fn facts_of<H: Shelf>(
         → Tell facts (H.size shelf.old) (H.view shelf.old).seen q) }
     ensures disk { IsErrOf result BenchFault.Disk
         → (H.view shelf.old).faults < (H.view shelf.new).faults }
+    ensures fault { IfErr result IsOfCall }
     ensures reads { H.honest shelf.old → AreReads (H.view shelf.old) (H.view shelf.new) }
     ensures honest { H.honest shelf.old → H.honest shelf.new }
     ensures size { H.size shelf.new ≡ H.size shelf.old }

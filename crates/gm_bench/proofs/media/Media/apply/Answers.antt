@@ -1,6 +1,6 @@
 use Rattle.std.proofs.Common.{◌≡◌, ◌∙◌, Err, sym, ap}
-use Rattle.gm_bench.specs.declared.fault.BenchFault.TheVariants.{Disk, Absent}
-use Rattle.gm_bench.proofs.Causes.{of_disk, not_absent_shelf, not_lacking_provider, not_lacking_sector}
+use Rattle.gm_bench.specs.declared.fault.BenchFault.TheVariants.{Disk}
+use Rattle.gm_bench.proofs.Causes.{of_disk, not_lacking_provider, not_lacking_sector}
 use Rattle.gm_registry.proofs.Saving.{saved}
 use Rattle.gm_bench.proofs.Carrying.{moments, leaves, carried, ended}
 use Rattle.gm_bench.proofs.media.Media.apply.Goals as goal
@@ -35,10 +35,7 @@ pub returns-in-Err-clause-disk : goal.returns-in-Err-clause-disk
 returns-in-Err-clause-disk g c away u w at is =
     let fault : c.of_shelf.result ≡ Disk = cc in
     let size = g.H.Shelf.size c.args.self.now.shelf in
-    of_disk c.in-Err.fault _ (sym c.of_shelf.ensures ∙ fault)
+    of_disk c.in-Err.fault _ (sym c.of_shelf.ensures.value ∙ fault)
     (λ e. let it = c.in-Err.ensures.absent (ap Err e) in not_lacking_provider size it.0 (at.at_hand it.0 it.1) it.2)
     (λ e. let it = c.in-Err.ensures.range (ap Err e) in not_lacking_sector size it.0 (at.at_hand it.0 it.1) it.2)
     (λ e. c.in-Err.ensures.device (ap Err e))
-
-pub returns-in-Err-clause-absent : goal.returns-in-Err-clause-absent
-returns-in-Err-clause-absent g c p is = let fault : c.of_shelf.result ≡ Absent p = cc in not_absent_shelf c.in-Err.fault p (sym c.of_shelf.ensures ∙ fault)

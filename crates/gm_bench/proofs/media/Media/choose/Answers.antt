@@ -1,9 +1,7 @@
-use Rattle.std.proofs.Common.{◌≡◌, ◌∙◌, ℕ, sym, subst, arith}
+use Rattle.std.proofs.Common.{sym, subst, arith}
 use Rattle.gm_registry.specs.Registry.{DiskKept}
 use Rattle.gm_registry.proofs.Saving.{saved}
 use Rattle.gm_rules.specs.Decides.{IsLeast}
-use Rattle.gm_rules.specs.Refusals.{number_of}
-use Rattle.gm_rules.specs.Run as run
 use Rattle.gm_rules.specs.Worlds.{seen_of}
 use Rattle.gm_bench.specs.Accepting.{LeavesStep, IsAnswered}
 use Rattle.gm_bench.specs.Planning.{IsPlanned, IsDecided}
@@ -50,10 +48,8 @@ returns-in-Ok-Err-clause-done g c h clean away u words at can =
     let d = c.in-Ok-Err.ensures.decides h clean away u at in
     let l = (at.leads (g.H.Shelf.view c.args.self.now.shelf).seen lawful.holds_now).0 in
     let least_is : IsLeast u.state (seen_of u) c.args.command.now c.in-Ok-Err.refusal = subst (λ r. IsDecided u c.args.command.now r) c.in-Ok-Err.field-0-is d.0 in
-    let number : c.from.result ≡ number_of c.in-Ok-Err.refusal = c.from.ensures ∙ c.number.ensures in
     let at1 = still g.S.Store g.H.Shelf.view g.H.Shelf.size c.args.self.now.registry c.args.self.now.shelf c.ask.new.self.shelf away u at lawful (c.ask.ensures.reads h).quiet c.ask.ensures.size c.ask.new.self.registry d.1 in (
-      subst (λ (n : ℕ). run.Calls u (record { key = c.args.key.now; command = c.args.command.now }) u (run.Refused n)) (sym number)
-          (least u at.tables l.sound l.records c.args.key.now c.args.command.now can.key_ok can.free can.room c.in-Ok-Err.refusal least_is),
+      least u at.tables l.sound l.records c.args.key.now c.args.command.now can.key_ok can.free can.room c.in-Ok-Err.refusal least_is,
       at1,
     )
 

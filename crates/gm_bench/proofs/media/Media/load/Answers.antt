@@ -1,7 +1,7 @@
 use Rattle.std.proofs.Common.{◌≡◌, ◌∙◌, sym}
 use Rattle.gm_bench.specs.declared.fault.BenchFault.TheVariants.{Unreadable}
 use Rattle.gm_bench.proofs.Causes.{of_unreadable}
-use Rattle.gm_bench.proofs.Found.{loaded, readable}
+use Rattle.gm_bench.proofs.Found.{loaded}
 use Rattle.gm_bench.proofs.media.Media.load.Goals as goal
 
 pub returns-in-Ok-clause-says : goal.returns-in-Ok-clause-says
@@ -12,8 +12,6 @@ returns-in-Ok-clause-says g c h clean away ts u w at =
     (same.0, same.1, of.1.tables)
 
 pub returns-in-Err-clause-unreadable : goal.returns-in-Err-clause-unreadable
-returns-in-Err-clause-unreadable g c h clean is away ts u w at =
-    let lawful = g.met.H.Shelf.lawful c.args.self.now.shelf h in
+returns-in-Err-clause-unreadable g c clean is t s ts has of =
     let fault : c.of_store.result ≡ Unreadable = cc in
-    c.in-Err.ensures.unreadable clean (of_unreadable c.in-Err.fault (sym c.of_store.ensures ∙ fault)) at.tables w.state ts at.has
-    (readable g.S.Store g.H.Shelf.view g.H.Shelf.size c.args.self.now.registry c.args.self.now.shelf away ts u w at lawful)
+    c.in-Err.ensures.unreadable clean (of_unreadable c.in-Err.fault (sym c.of_store.ensures.value ∙ fault)) t s ts has of

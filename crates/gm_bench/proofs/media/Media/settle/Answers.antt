@@ -1,6 +1,6 @@
 use Rattle.std.proofs.Common.{◌≡◌, ◌∙◌, sym}
-use Rattle.gm_bench.specs.declared.fault.BenchFault.TheVariants.{Disk, Absent}
-use Rattle.gm_bench.proofs.Causes.{no_disk, not_absent_store}
+use Rattle.gm_bench.specs.declared.fault.BenchFault.TheVariants.{Disk}
+use Rattle.gm_bench.proofs.Causes.{no_disk}
 use Rattle.gm_registry.proofs.Saving.{saved}
 use Rattle.gm_bench.proofs.Storing.{settle_leaves, settle_rests}
 use Rattle.gm_bench.proofs.media.Media.settle.Goals as goal
@@ -24,7 +24,4 @@ returns-in-Ok-clause-done g c h clean away ts u w at shelf =
     (g.met.H.Shelf.lawful c.args.self.now.shelf h) c.settle.new.self (c.in-Ok.ensures.writes.done clean at.tables at.has).tables shelf
 
 pub returns-in-Err-clause-disk : goal.returns-in-Err-clause-disk
-returns-in-Err-clause-disk g c is = let fault : c.of_store.result ≡ Disk = cc in no_disk c.in-Err.fault (sym c.of_store.ensures ∙ fault)
-
-pub returns-in-Err-clause-absent : goal.returns-in-Err-clause-absent
-returns-in-Err-clause-absent g c p is = let fault : c.of_store.result ≡ Absent p = cc in not_absent_store c.in-Err.fault p (sym c.of_store.ensures ∙ fault)
+returns-in-Err-clause-disk g c is = let fault : c.of_store.result ≡ Disk = cc in no_disk c.in-Err.fault (sym c.of_store.ensures.value ∙ fault)

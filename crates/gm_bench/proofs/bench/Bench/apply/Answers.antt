@@ -1,0 +1,38 @@
+use Rattle.std.proofs.Common.{◌≡◌, ◌∙◌, Err, List, refl, sym, ap, subst}
+use Rattle.sqlite.specs.Held.{Held}
+use Rattle.gm_state.specs.declared.command.Intent.{Intent}
+use Rattle.gm_bench.specs.declared.answer.Work.{Work}
+use Rattle.gm_bench.specs.declared.fault.BenchFault.TheVariants.{Disk}
+use Rattle.gm_bench.specs.declared.progress.Progress.TheVariants.{Applied}
+use Rattle.gm_bench.specs.Owed.{ApplyDoes}
+use Rattle.gm_bench.specs.Recovering.{Cover, IsAt, IsAtWork}
+use Rattle.gm_bench.proofs.Phases.{pending_work}
+use Rattle.gm_bench.proofs.bench.Bench.apply.Goals as goal
+
+pub returns-in-Ok-clause-does : goal.returns-in-Ok-clause-does
+returns-in-Ok-clause-does g c h work is =
+    let view = g.H.Shelf.view in
+    let size = g.H.Shelf.size in
+    let r = c.args.self.now.media.registry in
+    let shelf = c.args.self.now.media.shelf in
+    let after = c.apply.new.self.shelf in
+    let hands : c.deref.result.now ≡ c.in-Pending.work.intents.items = c.deref.ensures.value in
+    let does : ApplyDoes g.S.Store view size r shelf after c.in-Pending.work = λ away u w at.
+    let at1 = subst (λ (ts : List Intent). IsAt g.S.Store view size r shelf away ts u w) (sym hands) at.at in
+    let it = c.in-Ok.ensures.done h away u w at1 (subst (λ (ts : List Intent). Cover c.in-Pending.work.part w.state ts) (sym hands) at.cover) in
+    let at2 = subst (λ (k : Held g.row.S.Denot). IsAt g.S.Store view size k after away c.deref.result.now u w) c.apply.ensures.registry it.0 in
+    (record { at = subst (λ (ts : List Intent). IsAt g.S.Store view size r after away ts u w) hands at2; cover = at.cover }, it.1) in
+    let same : c.in-Pending.work ≡ work = pending_work c.in-Pending.work work (sym c.in-Pending.is ∙ c.replace.ensures.value ∙ is) in
+    subst (λ (x : Work). (Applied c.in-Pending.work ≡ Applied x) × ApplyDoes g.S.Store view size r shelf after x) same (refl, does)
+
+pub returns-in-Pending-clause-disk : goal.returns-in-Pending-clause-disk
+returns-in-Pending-clause-disk g c told work is away u w at =
+    let view = g.H.Shelf.view in
+    let size = g.H.Shelf.size in
+    let r = c.args.self.now.media.registry in
+    let shelf = c.args.self.now.media.shelf in
+    let hands : c.deref.result.now ≡ c.in-Pending.work.intents.items = c.deref.ensures.value in
+    let same : c.in-Pending.work ≡ work = pending_work c.in-Pending.work work (sym c.in-Pending.is ∙ c.replace.ensures.value ∙ is) in
+    let here : IsAtWork g.S.Store view size r shelf away c.in-Pending.work u w = subst (λ (x : Work). IsAtWork g.S.Store view size r shelf away x u w) (sym same) at in
+    let fault : c.in-Err.fault ≡ Disk = cc in
+    c.in-Err.ensures.disk away u w (subst (λ (ts : List Intent). IsAt g.S.Store view size r shelf away ts u w) (sym hands) here.at) (ap Err fault)

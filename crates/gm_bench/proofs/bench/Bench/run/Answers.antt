@@ -1,0 +1,46 @@
+use Rattle.std.proofs.Common.{◌∙◌, inl, refl, sym, arith}
+use Rattle.gm_registry.specs.Registry.{DiskKept}
+use Rattle.gm_bench.proofs.Phases.{not_pending}
+use Rattle.gm_bench.proofs.Carried.{rest_answers, work, is_work, carried_answers, carried_leaves}
+use Rattle.gm_bench.proofs.bench.Bench.run.Goals as goal
+
+pub returns-in-Ok-carry_out-clause-answers : goal.returns-in-Ok-carry_out-clause-answers
+returns-in-Ok-carry_out-clause-answers g c h clean =
+    let mid : DiskKept g.S.Store c.accept.new.self.media.registry = omega (arith, clean, c.carry_out.ensures.clean) in
+    let told = c.in-Ok.ensures.answers h mid in
+    let pending = sym c.phase.ensures ∙ c.in-Pending.is in
+    carried_answers g.S.Store g.H.Shelf.view g.H.Shelf.size c.args.self.now.media.registry c.accept.new.self.media.registry c.args.self.now.media.shelf c.accept.new.self.media.shelf c.args.key.now c.args.command.now c.in-Ok.answer c.accept.new.self.progress told pending c.carry_out.new.self.media.registry c.carry_out.new.self.media.shelf
+    (c.in-Ok-carry_out.ensures.does (c.accept.ensures.honest h) clean (work g.S.Store g.H.Shelf.view g.H.Shelf.size c.args.self.now.media.registry c.accept.new.self.media.registry c.args.self.now.media.shelf c.accept.new.self.media.shelf c.args.key.now c.args.command.now c.in-Ok.answer c.accept.new.self.progress told pending) (is_work g.S.Store g.H.Shelf.view g.H.Shelf.size c.args.self.now.media.registry c.accept.new.self.media.registry c.args.self.now.media.shelf c.accept.new.self.media.shelf c.args.key.now c.args.command.now c.in-Ok.answer c.accept.new.self.progress told pending))
+
+pub returns-in-Ok-carry_out-clause-leaves : goal.returns-in-Ok-carry_out-clause-leaves
+returns-in-Ok-carry_out-clause-leaves g c h clean =
+    let mid : DiskKept g.S.Store c.accept.new.self.media.registry = omega (arith, clean, c.carry_out.ensures.clean) in
+    let told = c.in-Ok.ensures.answers h mid in
+    let pending = sym c.phase.ensures ∙ c.in-Pending.is in
+    carried_leaves g.S.Store g.H.Shelf.view g.H.Shelf.size c.args.self.now.media.registry c.accept.new.self.media.registry c.args.self.now.media.shelf c.accept.new.self.media.shelf c.args.key.now c.args.command.now c.in-Ok.answer c.accept.new.self.progress told pending c.carry_out.new.self.media.registry c.carry_out.new.self.media.shelf (c.accept.ensures.leaves h mid)
+    (c.carry_out.ensures.leaves (c.accept.ensures.honest h) clean (work g.S.Store g.H.Shelf.view g.H.Shelf.size c.args.self.now.media.registry c.accept.new.self.media.registry c.args.self.now.media.shelf c.accept.new.self.media.shelf c.args.key.now c.args.command.now c.in-Ok.answer c.accept.new.self.progress told pending) (is_work g.S.Store g.H.Shelf.view g.H.Shelf.size c.args.self.now.media.registry c.accept.new.self.media.registry c.args.self.now.media.shelf c.accept.new.self.media.shelf c.args.key.now c.args.command.now c.in-Ok.answer c.accept.new.self.progress told pending))
+
+pub returns-in-Err-carry_out-clause-leaves : goal.returns-in-Err-carry_out-clause-leaves
+returns-in-Err-carry_out-clause-leaves g c h clean =
+    let mid : DiskKept g.S.Store c.accept.new.self.media.registry = omega (arith, clean, c.carry_out.ensures.clean) in
+    let told = c.in-Ok.ensures.answers h mid in
+    let pending = sym c.phase.ensures ∙ c.in-Pending.is in
+    carried_leaves g.S.Store g.H.Shelf.view g.H.Shelf.size c.args.self.now.media.registry c.accept.new.self.media.registry c.args.self.now.media.shelf c.accept.new.self.media.shelf c.args.key.now c.args.command.now c.in-Ok.answer c.accept.new.self.progress told pending c.carry_out.new.self.media.registry c.carry_out.new.self.media.shelf (c.accept.ensures.leaves h mid)
+    (c.carry_out.ensures.leaves (c.accept.ensures.honest h) clean (work g.S.Store g.H.Shelf.view g.H.Shelf.size c.args.self.now.media.registry c.accept.new.self.media.registry c.args.self.now.media.shelf c.accept.new.self.media.shelf c.args.key.now c.args.command.now c.in-Ok.answer c.accept.new.self.progress told pending) (is_work g.S.Store g.H.Shelf.view g.H.Shelf.size c.args.self.now.media.registry c.accept.new.self.media.registry c.args.self.now.media.shelf c.accept.new.self.media.shelf c.args.key.now c.args.command.now c.in-Ok.answer c.accept.new.self.progress told pending))
+
+pub returns-in_default-clause-answers : goal.returns-in_default-clause-answers
+returns-in_default-clause-answers g c h clean =
+    rest_answers g.S.Store g.H.Shelf.view g.H.Shelf.size c.args.self.now.media.registry c.accept.new.self.media.registry c.args.self.now.media.shelf c.accept.new.self.media.shelf c.args.key.now c.args.command.now c.in-Ok.answer c.accept.new.self.progress (c.in-Ok.ensures.answers h clean)
+    (not_pending c.in-Ok.answer c.accept.new.self.progress c.in-Ok.ensures.phase (λ e. c.in_default.not-Pending (c.phase.ensures ∙ e)))
+
+pub returns-in_default-clause-ready : goal.returns-in_default-clause-ready
+returns-in_default-clause-ready g c =
+    (c.in-Ok.ensures.ready, not_pending c.in-Ok.answer c.accept.new.self.progress c.in-Ok.ensures.phase (λ e. c.in_default.not-Pending (c.phase.ensures ∙ e)))
+
+pub returns-in_default-clause-leaves : goal.returns-in_default-clause-leaves
+returns-in_default-clause-leaves g c h clean away u at =
+    record { registry = c.accept.new.self.media.registry; shelf = c.accept.new.self.media.shelf; accepting = c.accept.ensures.leaves h clean away u at; carrying = inl (refl, refl) }
+
+pub returns-in-Err-clause-leaves : goal.returns-in-Err-clause-leaves
+returns-in-Err-clause-leaves g c h clean away u at =
+    record { registry = c.accept.new.self.media.registry; shelf = c.accept.new.self.media.shelf; accepting = c.accept.ensures.leaves h clean away u at; carrying = inl (refl, refl) }

@@ -1,0 +1,24 @@
+use Rattle.std.proofs.Common.{◌≡◌, Err, ap}
+use Rattle.gm_bench.specs.declared.fault.BenchFault.TheVariants.{Unreadable}
+use Rattle.gm_bench.proofs.Deciding.{found_of, at_next}
+use Rattle.gm_bench.proofs.bench.Bench.view.Goals as goal
+
+pub returns-in-Ok-clause-says : goal.returns-in-Ok-clause-says
+returns-in-Ok-clause-says g c h clean away ts u w at =
+    let view = g.H.Shelf.view in
+    let size = g.H.Shelf.size in
+    let r = c.args.self.now.media.registry in
+    let shelf = c.args.self.now.media.shelf in
+    let said = c.in-Ok.ensures.says h clean away ts u w (found_of g.S.Store view size r shelf away ts u w at) in
+    (said.0, at_next g.S.Store view size r shelf away ts u w at c.load.new.self.registry c.load.new.self.shelf c.load.ensures.shelf said.2)
+
+pub returns-in-Ok-clause-closed : goal.returns-in-Ok-clause-closed
+returns-in-Ok-clause-closed g c failed = absurd (c.in_default.not-Failed failed)
+
+pub returns-clause-unreadable : goal.returns-clause-unreadable
+returns-clause-unreadable g c clean is =
+    let fault : c.in-Err.fault ≡ Unreadable = cc in
+    c.in-Err.ensures.unreadable clean (ap Err fault)
+
+pub returns-clause-closed : goal.returns-clause-closed
+returns-clause-closed g c failed = absurd (c.in_default.not-Failed failed)
