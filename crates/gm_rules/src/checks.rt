@@ -1,6 +1,6 @@
 //! The refusals of a command, each by a test of its own.
 
-ghost use Rattle.std.specs.Prelude.{◌≡◌, ◌==◌, ◌+◌, ◌&&◌, ◌||◌, not, nat_lt, find, is_none, is_some, length, filter};
+ghost use Rattle.std.specs.Prelude.{◌≡◌, ◌==◌, ◌+◌, not, nat_lt, find, is_none, is_some, length, filter};
 ghost use Rattle.std.specs.List.{list_all, list_any};
 ghost use Rattle.gm_metadata.specs.Images.{same_label};
 ghost use Rattle.gm_state.specs.Lookups.{component_of, is_active};
