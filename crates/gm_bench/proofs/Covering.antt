@@ -11,7 +11,7 @@ use Rattle.gm_state.specs.Words.{Has}
 use Rattle.gm_state.proofs.Order.{same_is}
 use Rattle.gm_state.proofs.Testing.{member}
 use Rattle.gm_state.proofs.Words.{Has-filter, one}
-use Rattle.gm_rules.specs.Bad.{name_of, is_mine, mine}
+use Rattle.gm_rules.specs.Bad.{name_of, is_member_of, members_named}
 use Rattle.gm_rules.specs.Decides.{Changed, changed_by}
 use Rattle.gm_rules.specs.Parts.{IsPartOf, LeavesPart}
 use Rattle.gm_rules.specs.Step.{IsOwn}
@@ -19,14 +19,14 @@ use Rattle.gm_rules.proofs.Agreeing.{of_part, is_state}
 use Rattle.gm_bench.specs.Recovering.{Cover}
 
 -- a component of the mirror that the command names is of that name
-named_by : (o : Option (List ℕ)) (k : Component) → is_mine o k ≡ true → (n : List ℕ) × (o ≡ Some n) × (k.mirror ≡ n)
+named_by : (o : Option (List ℕ)) (k : Component) → is_member_of o k ≡ true → (n : List ℕ) × (o ≡ Some n) × (k.mirror ≡ n)
 named_by None k e = cc
 named_by (Some n) k e = (n, refl, same_is k.mirror n e)
 
 module _ (s : Records) (c : Command) (part : Records) (of : IsPartOf part c s) where
-  own_of : (m : Mirror) (k : Component) → IsOf s m k → (j : Component) → Has (mine s c) j → k ≡ j → IsOf part m k
+  own_of : (m : Mirror) (k : Component) → IsOf s m k → (j : Component) → Has (members_named s c) j → k ≡ j → IsOf part m k
   own_of m k o j h same =
-      let j' = Has-filter (λ (x : Component). is_mine (name_of c) x) s.components j h in
+      let j' = Has-filter (λ (x : Component). is_member_of (name_of c) x) s.components j h in
       let n = named_by (name_of c) j j'.1 in
       let at : m.name ≡ n.0 = sym (member s m.name k o.component).1 ∙ (ap (λ (x : Component). x.mirror) same ∙ n.2) in
       subst (λ (r : Records). IsOf r m k) (sym of.is) (of_part s c of.mids of.state n.0 n.1 m k o at)
@@ -37,7 +37,7 @@ module _ (s : Records) (c : Command) (part : Records) (of : IsPartOf part c s) w
     metas = λ p h m k o is.
         let mine = own p h in
         let j : Component = mine.0 in
-        let there : Has s.components j = (Has-filter (λ (x : Component). is_mine (name_of c) x) s.components j mine.1).0 in
+        let there : Has s.components j = (Has-filter (λ (x : Component). is_member_of (name_of c) x) s.components j mine.1).0 in
         let same : k ≡ j = one provider s.components of.state.components_in_order k j (member s m.name k o.component).0 there (is ∙ sym mine.2) in
         own_of m k o j mine.1 same;
   }
@@ -50,7 +50,7 @@ module _ (c : Command) (part s w : Records) (ch : Changed) (leaves : LeavesPart 
     metas = λ p h m k o at.
         let mine = own p h in
         let j : Component = mine.0 in
-        let j' = Has-filter (λ (x : Component). is_mine (name_of c) x) w.components j mine.1 in
+        let j' = Has-filter (λ (x : Component). is_member_of (name_of c) x) w.components j mine.1 in
         let same : k ≡ j = one provider w.components state.components_in_order k j (member w m.name k o.component).0 j'.0 (at ∙ sym mine.2) in
         let n = named_by (name_of c) j j'.1 in
         let named : m.name ≡ n.0 = sym (member w m.name k o.component).1 ∙ (ap (λ (x : Component). x.mirror) same ∙ n.2) in

@@ -36,7 +36,8 @@ impl Model for Label {
     ghost inverse_ok = { λ a h. ap (λ (x : List ℕ). record { field = x }) h.padding };
 }
 
-fn is_label_byte(byte: u8) -> bool
+/// Whether the byte is a character of labels: one of A-Z, a-z, 0-9, `.`, `_` and `-`.
+pub fn is_label_byte(byte: u8) -> bool
     ensures { result ≡ is_label_byte byte }
 {
     byte.is_ascii_alphanumeric() || byte == b'.' || byte == b'_' || byte == b'-'

@@ -20,6 +20,6 @@ pub use decoding::{carries_metadata, decode};
 pub use encoding::encode;
 pub use fault::DecodeFault;
 pub use flags::{DiskFlags, MirrorFlags};
-pub use label::Label;
+pub use label::{Label, is_label_byte};
 pub use laws::{encoded_is_read, one_sector, one_spelling};
 pub use metadata::Metadata;

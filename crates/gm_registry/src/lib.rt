@@ -26,8 +26,6 @@ mod registry;
 mod replies;
 mod rows;
 mod schema;
-#[cfg(test)]
-mod tests;
 
 pub use fault::StoreFault;
 pub use laws::{change_holds, one_reading, tables_are_saved};

@@ -17,7 +17,7 @@ use Rattle.gm_state.proofs.Words.{Has-filter, filter-Has, Ascends-filter, filter
 use Rattle.gm_state.proofs.Finding.{any_from, some_any, any_agree, filter_agree, not_both, Has-map}
 use Rattle.gm_rules.specs.declared.refusals.Refusal.{Refusal}
 use Rattle.gm_rules.specs.declared.refusals.Refusal.TheVariants.{NoMirror, NameTaken, MidTaken, Absent, ProviderTaken, CarriesMetadata, TooSmall, NotMember, DidTaken, Full, TooManyMirrors, SomeLost, LastActive, WrongSize, NoMetadata}
-use Rattle.gm_rules.specs.Bad.{Seen, applies, name_of, providers_of, has_mid, is_mine, mine, mirror_named}
+use Rattle.gm_rules.specs.Bad.{Seen, applies, name_of, providers_of, has_mid, is_member_of, members_named, mirror_named}
 use Rattle.gm_rules.specs.Parts.{is_named, is_asked, with_components, part_of, IsPartOf, applies_to_part}
 
 -- ---- lists of which the rest was left out
@@ -152,28 +152,28 @@ module _ (s : Records) (c : Command) (mids : List ℕ) (state : IsState s) where
   same_named : mirror_named (part_of s c mids) c ≡ mirror_named s c
   same_named = named_by (name_of c) refl
 
-  mine_by : (o : Option (List ℕ)) → name_of c ≡ o → filter (λ k. is_mine o k) (part_of s c mids).components ≡ filter (λ k. is_mine o k) s.components
-  mine_by None e = no_one (part_of s c mids).components ∙ sym (no_one s.components)
-  mine_by (Some n) e = same_members n e
+  named_members_by : (o : Option (List ℕ)) → name_of c ≡ o → filter (λ k. is_member_of o k) (part_of s c mids).components ≡ filter (λ k. is_member_of o k) s.components
+  named_members_by None e = no_one (part_of s c mids).components ∙ sym (no_one s.components)
+  named_members_by (Some n) e = same_members n e
 
-  pub same_mine : mine (part_of s c mids) c ≡ mine s c
-  same_mine = mine_by (name_of c) refl
+  pub same_named_members : members_named (part_of s c mids) c ≡ members_named s c
+  same_named_members = named_members_by (name_of c) refl
 
   -- so each refusal applies to the part where it applies to the whole, but for the one that asks for the count
   pub same_applies : (count : ℕ) → count ≡ length s.mirrors → (x : Seen) (r : Refusal) → applies_to_part (part_of s c mids) count x c r ≡ applies s x c r
   same_applies count is x NoMirror = ap is_none same_named
   same_applies count is x NameTaken = ap is_some same_named
   same_applies count is x MidTaken = same_mids
-  same_applies count is x Absent = rw same_mine refl
+  same_applies count is x Absent = rw same_named_members refl
   same_applies count is x ProviderTaken = any_agree _ _ (providers_of c) (λ p h. ap is_some (same_component p h))
   same_applies count is x CarriesMetadata = refl
   same_applies count is x TooSmall = rw same_named refl
-  same_applies count is x NotMember = rw same_mine refl
-  same_applies count is x DidTaken = rw same_mine refl
+  same_applies count is x NotMember = rw same_named_members refl
+  same_applies count is x DidTaken = rw same_named_members refl
   same_applies count is x Full = rw same_named refl
   same_applies count is x TooManyMirrors = rw is refl
-  same_applies count is x SomeLost = rw (same_mine, same_named) refl
-  same_applies count is x LastActive = rw same_mine refl
+  same_applies count is x SomeLost = rw (same_named_members, same_named) refl
+  same_applies count is x LastActive = rw same_named_members refl
   same_applies count is x WrongSize = refl
   same_applies count is x NoMetadata = refl
 

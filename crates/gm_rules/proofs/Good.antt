@@ -17,7 +17,7 @@ use Rattle.gm_state.specs.declared.command.BalanceWord.{BalanceWord}
 use Rattle.gm_rules.specs.declared.refusals.Refusal.{Refusal}
 use Rattle.gm_rules.specs.declared.refusals.Refusal.TheVariants.{Absent, WrongSize}
 use Rattle.gm_rules.specs.Refusals.{number_of, own}
-use Rattle.gm_rules.specs.Bad.{Seen, applies, at, has_wrong_size}
+use Rattle.gm_rules.specs.Bad.{Seen, applies, is_there_and, has_wrong_size}
 use Rattle.gm_rules.specs.Decides.{IsLeast, IsGood}
 use Rattle.gm_rules.specs.Parts.{IsGoodButCount}
 use Rattle.gm_state.proofs.Finding.{found, found_none, any_one}
@@ -35,9 +35,9 @@ none_from None e = refl
 none_from (Some x) e = cc
 
 -- a test that fails at what is there
-pub at_fails : {X : Type 0} (o : Option X) (x : X) (p : X → Bool) → o ≡ Some x → at o p ≡ false → p x ≡ false
-at_fails None x p e f = cc
-at_fails (Some a) x p e f = let h : a ≡ x = cc in sym (ap p h) ∙ f
+pub fails_there : {X : Type 0} (o : Option X) (x : X) (p : X → Bool) → o ≡ Some x → is_there_and o p ≡ false → p x ≡ false
+fails_there None x p e f = cc
+fails_there (Some a) x p e f = let h : a ≡ x = cc in sym (ap p h) ∙ f
 
 pub not_below : (a b : ℕ) → nat_lt a b ≡ false → b ≤ a
 not_below a b e = ltb-false a b e
@@ -49,8 +49,8 @@ not_at a b e = eqb-false a b e
 pub right_size : (n : ℕ) → has_wrong_size n ≡ false → (2 ≤ n) × (n ≤ 1048576)
 right_size n e = let parts = or_parts (nat_lt n 2) (nat_lt 1048576 n) e in (ltb-false n 2 parts.0, ltb-false 1048576 n parts.1)
 
-pub fits_32 : (o : Option ℕ) → at o has_wrong_size ≡ false → ForSome o (λ n. n < 2 ^ 32)
-fits_32 o e n is = let r = right_size n (at_fails o n has_wrong_size is e) in omega arith
+pub fits_32 : (o : Option ℕ) → is_there_and o has_wrong_size ≡ false → ForSome o (λ n. n < 2 ^ 32)
+fits_32 o e n is = let r = right_size n (fails_there o n has_wrong_size is e) in omega arith
 
 -- the numbers rise along the list
 abbrev rises : List Refusal → Bool
@@ -121,9 +121,9 @@ few_all s n m state e = let l : m.all ≤ 16 = (rules_of s n m state e).all in o
 
 -- the provider of a good label is there with a right size
 pub label_size : (s : Records) (x : Seen) (c : Command) (n p : List ℕ) (mid did : ℕ) (balance : BalanceWord) (slice : ℕ) (flags : MirrorFlags) (hardcoded : Bool)
-    → c ≡ Label n p mid did balance slice flags hardcoded → IsGoodButCount s x c → (is_none (x.size p) ≡ false) × (at (x.size p) has_wrong_size ≡ false)
+    → c ≡ Label n p mid did balance slice flags hardcoded → IsGoodButCount s x c → (is_none (x.size p) ≡ false) × (is_there_and (x.size p) has_wrong_size ≡ false)
 label_size s x c n p mid did balance slice flags hardcoded is good =
     let g : IsGoodButCount s x (Label n p mid did balance slice flags hardcoded) = subst (λ (d : Command). IsGoodButCount s x d) is good in (
       any_one (λ q. is_none (x.size q)) p (or_parts _ _ (g Absent (inr (inr (inl refl))) refl)).0,
-      any_one (λ q. at (x.size q) has_wrong_size) p (g WrongSize (inr (inr (inr (inr (inr (inr (inl refl))))))) refl),
+      any_one (λ q. is_there_and (x.size q) has_wrong_size) p (g WrongSize (inr (inr (inr (inr (inr (inr (inl refl))))))) refl),
     )

@@ -17,14 +17,14 @@ use Rattle.gm_state.proofs.Order.{same_from, same_refl, differ}
 use Rattle.gm_state.proofs.Words.{Has-filter, filter-put, filter-put_out, put_stays, put_or, Ascends-put, length-put_le}
 use Rattle.gm_rules.specs.declared.refusals.Refusal.TheVariants as refusals
 use Rattle.gm_rules.specs.After.{spare, metas}
-use Rattle.gm_rules.specs.Bad.{at, has_wrong_size}
+use Rattle.gm_rules.specs.Bad.{is_there_and, has_wrong_size}
 use Rattle.gm_rules.specs.Decides.{IsGood}
 use Rattle.gm_rules.specs.Facts.{last_carries}
 use Rattle.gm_rules.specs.Step.{CanAnswer, HasPlan}
 use Rattle.gm_rules.specs.Worlds.{seen_of, last_of}
 use Rattle.gm_rules.proofs.Adjusting.{Adjusts, adjusts_turns, adjusts_were, adjusted}
 use Rattle.gm_state.proofs.Finding.{any_one, none_any, not_both}
-use Rattle.gm_rules.proofs.Good.{there_from, none_from, named, new_name, at_fails, not_below, not_at, right_size}
+use Rattle.gm_rules.proofs.Good.{there_from, none_from, named, new_name, fails_there, not_below, not_at, right_size}
 use Rattle.gm_state.proofs.Presence.{present_size, some_and}
 use Rattle.gm_rules.proofs.Planned.{Serves, has}
 use Rattle.gm_rules.proofs.RuledOut.{all_there, carries_nothing, metas_has, metas_are, metas_plain}
@@ -146,11 +146,11 @@ can_insert u n p did priority h sound good =
     let absent = or_parts (list_any (λ q. is_none (present u q)) (p ∷ [])) _ (good refusals.Absent (inr (inl refl))) in
     let size = there_from (present u p) (any_one (λ q. is_none (present u q)) p absent.0) in
     let sectors : ℕ = size.0 in
-    let wrong : at (present u p) has_wrong_size ≡ false = any_one (λ q. at (present u q) has_wrong_size) p (good refusals.WrongSize (inr (inr (inr (inr (inr (inr (inr (inr (inl refl)))))))))) in
-    let range = right_size sectors (at_fails (present u p) sectors has_wrong_size size.1 wrong) in
-    let small : at (present u p) (λ n. nat_lt n (m.data_sectors + 1)) ≡ false = any_one (λ q. at (present u q) (λ n. nat_lt n (m.data_sectors + 1))) p
-    (at_fails (mirror_of u.state n) m (λ a. list_any (λ q. at (present u q) (λ n. nat_lt n (a.data_sectors + 1))) (p ∷ [])) found.1 (good refusals.TooSmall (inr (inr (inr (inr (inl refl))))))) in
-    let full : (m.all == 16) ≡ false = at_fails (mirror_of u.state n) m (λ a. a.all == 16) found.1 (good refusals.Full (inr (inr (inr (inr (inr (inr (inl refl)))))))) in
+    let wrong : is_there_and (present u p) has_wrong_size ≡ false = any_one (λ q. is_there_and (present u q) has_wrong_size) p (good refusals.WrongSize (inr (inr (inr (inr (inr (inr (inr (inr (inl refl)))))))))) in
+    let range = right_size sectors (fails_there (present u p) sectors has_wrong_size size.1 wrong) in
+    let small : is_there_and (present u p) (λ n. nat_lt n (m.data_sectors + 1)) ≡ false = any_one (λ q. is_there_and (present u q) (λ n. nat_lt n (m.data_sectors + 1))) p
+    (fails_there (mirror_of u.state n) m (λ a. list_any (λ q. is_there_and (present u q) (λ n. nat_lt n (a.data_sectors + 1))) (p ∷ [])) found.1 (good refusals.TooSmall (inr (inr (inr (inr (inl refl))))))) in
+    let full : (m.all == 16) ≡ false = fails_there (mirror_of u.state n) m (λ a. a.all == 16) found.1 (good refusals.Full (inr (inr (inr (inr (inr (inr (inl refl)))))))) in
     let all : m.all ≤ 16 = (sound.state.each m at_n.0).all in
     let apart : m.all ≢ 16 = not_at m.all 16 full in
     let some : 2 ≤ sectors = range.0 in (
@@ -161,7 +161,7 @@ can_insert u n p did priority h sound good =
         here = at_n.0;
         size = size.1;
         fresh = new_name u.state p (none_from (component_of u.state p) (any_one (λ q. is_some (component_of u.state q)) p (good refusals.ProviderTaken (inr (inr (inl refl))))));
-        big = not_below sectors (m.data_sectors + 1) (at_fails (present u p) sectors (λ n. nat_lt n (m.data_sectors + 1)) size.1 small);
+        big = not_below sectors (m.data_sectors + 1) (fails_there (present u p) sectors (λ n. nat_lt n (m.data_sectors + 1)) size.1 small);
         limit = range.1;
         dids = λ k o. not_at k.did did (none_any _ (members u.state.components n) (good refusals.DidTaken (inr (inr (inr (inr (inr (inl refl))))))) k (subst (λ (a : List ℕ). Has (members u.state.components a) k) at_n.1 o));
         room = omega arith;

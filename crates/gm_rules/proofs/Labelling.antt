@@ -19,13 +19,13 @@ use Rattle.gm_state.proofs.Order.{same_from, same_refl, differ}
 use Rattle.gm_state.proofs.Words.{filter-put, filter-put_out, put_there, put_stays, put_or, Ascends-put, length-put_le}
 use Rattle.gm_rules.specs.declared.refusals.Refusal.TheVariants as refusals
 use Rattle.gm_rules.specs.After.{new_mirror, first_component, metas}
-use Rattle.gm_rules.specs.Bad.{at, has_wrong_size}
+use Rattle.gm_rules.specs.Bad.{is_there_and, has_wrong_size}
 use Rattle.gm_rules.specs.Decides.{IsGood}
 use Rattle.gm_rules.specs.Facts.{last_carries}
 use Rattle.gm_rules.specs.Step.{CanAnswer, HasPlan}
 use Rattle.gm_rules.specs.Worlds.{seen_of, last_of}
 use Rattle.gm_state.proofs.Finding.{any_one, none_any, found_none, no_members, not_both}
-use Rattle.gm_rules.proofs.Good.{there_from, none_from, new_name, at_fails, not_at, right_size}
+use Rattle.gm_rules.proofs.Good.{there_from, none_from, new_name, fails_there, not_at, right_size}
 use Rattle.gm_state.proofs.Presence.{present_size, some_and}
 use Rattle.gm_rules.proofs.Planned.{Serves, has}
 use Rattle.gm_rules.proofs.RuledOut.{carries_nothing, metas_has, metas_are, metas_plain}
@@ -170,8 +170,8 @@ can_label u n p mid did balance slice flags h sound good =
     let absent = or_parts (list_any (λ q. is_none (present u q)) (p ∷ [])) _ (good refusals.Absent (inr (inr (inl refl)))) in
     let size = there_from (present u p) (any_one (λ q. is_none (present u q)) p absent.0) in
     let sectors : ℕ = size.0 in
-    let wrong : at (present u p) has_wrong_size ≡ false = any_one (λ q. at (present u q) has_wrong_size) p (good refusals.WrongSize (inr (inr (inr (inr (inr (inr (inl refl)))))))) in
-    let range = right_size sectors (at_fails (present u p) sectors has_wrong_size size.1 wrong) in
+    let wrong : is_there_and (present u p) has_wrong_size ≡ false = any_one (λ q. is_there_and (present u q) has_wrong_size) p (good refusals.WrongSize (inr (inr (inr (inr (inr (inr (inl refl)))))))) in
+    let range = right_size sectors (fails_there (present u p) sectors has_wrong_size size.1 wrong) in
     let free : mirror_of u.state n ≡ None = none_from (mirror_of u.state n) (good refusals.NameTaken (inl refl)) in
     let count : length u.state.mirrors ≤ 64 = sound.state.count in
     let many : length u.state.mirrors ≢ 64 = not_at (length u.state.mirrors) 64 (good refusals.TooManyMirrors (inr (inr (inr (inr (inr (inl refl))))))) in

@@ -13,12 +13,12 @@ use Rattle.gm_state.specs.Words.{Has, put, without}
 use Rattle.gm_state.specs.Records.{Records, members, provider}
 use Rattle.gm_state.specs.Lookups.{mirror_of, component_of}
 use Rattle.gm_rules.specs.After.{metas, clears_of, new_mirror, first_component, spare}
-use Rattle.gm_rules.specs.Bad.{Seen, applies, name_of, providers_of, mine}
+use Rattle.gm_rules.specs.Bad.{Seen, applies, name_of, providers_of, members_named}
 use Rattle.gm_rules.specs.Worlds.{needed_by}
 use Rattle.gm_rules.specs.Decides.{Changed, IsGood}
 use Rattle.gm_rules.specs.Parts.{IsPartOf, IsMade, IsGoodButCount, applies_to_part}
 use Rattle.gm_rules.specs.Refusals.{own}
-use Rattle.gm_rules.proofs.Agreeing.{same_mirror, same_members, same_component, same_mine, same_applies}
+use Rattle.gm_rules.proofs.Agreeing.{same_mirror, same_members, same_component, same_named_members, same_applies}
 use Rattle.gm_state.proofs.Finding.{found_none}
 use Rattle.gm_rules.proofs.Good.{is_good}
 use Rattle.gm_rules.proofs.Changes.{label_makes, insert_makes, remove_makes, clear_makes, destroy_makes}
@@ -95,4 +95,4 @@ on_err (Err e) P p = p
 
 -- a part needs what the whole needs
 pub needed_on : (part s : Records) (c : Command) → IsPartOf part c s → needed_by part c ≡ needed_by s c
-needed_on part s c of = ap (λ (ks : List Component). providers_of c ++ map provider ks) (subst (λ (r : Records). mine r c ≡ mine s c) (sym of.is) (same_mine s c of.mids of.state))
+needed_on part s c of = ap (λ (ks : List Component). providers_of c ++ map provider ks) (subst (λ (r : Records). members_named r c ≡ members_named s c) (sym of.is) (same_named_members s c of.mids of.state))

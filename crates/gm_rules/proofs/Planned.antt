@@ -20,7 +20,7 @@ use Rattle.gm_state.proofs.Order.{same_is, same_from, same_refl, same_tells, dif
 use Rattle.gm_metadata.specs.Sector.{carries}
 use Rattle.gm_state.proofs.Codec.{bears_carries}
 use Rattle.gm_rules.specs.After.{after, clears, intents_of, reply_to}
-use Rattle.gm_rules.specs.Bad.{applies, name_of, is_mine}
+use Rattle.gm_rules.specs.Bad.{applies, name_of, is_member_of}
 use Rattle.gm_rules.specs.Decides.{IsGood}
 use Rattle.gm_rules.specs.Step.{Plan, IsOwn, NewData, CanAnswer, HasPlan, NewAreBare, WereBare, is_changed, answer}
 use Rattle.gm_rules.specs.Worlds.{seen_of}
@@ -177,7 +177,7 @@ module _ (u : World) (key : List ℕ) (c : Command) (m : Mirror) (ks : List Comp
   own_one p one =
       let k : Component = one.0 in
       let all : Has (members s.components m.name) k = subst (λ (l : List Component). Has l k) (sym t.mine) one.1 in
-      (k, subst (λ (o : Option (List ℕ)). Has (filter (λ j. is_mine o j) s.components) k) (sym (serves.named k one.1)) all, one.2)
+      (k, subst (λ (o : Option (List ℕ)). Has (filter (λ j. is_member_of o j) s.components) k) (sym (serves.named k one.1)) all, one.2)
 
   is_own : (p : List ℕ) → Has ts (Meta p) → IsOwn s c p
   is_own p h = own_one p (writes.each (Meta p) h)

@@ -1,8 +1,8 @@
 -- The plan of remove.
-use Rattle.std.proofs.Common.{◌≡◌, ◌≢◌, ◌∙◌, inl, inr, ℕ, ◌≤◌, ◌+◌, ◌-◌, ◌&&◌, ◌||◌, Bool, true, false, not, refl, sym, ap, subst, arith, List, ◌∷◌, Some, length, IsTrue, ◌<◌}
+use Rattle.std.proofs.Common.{◌≡◌, ◌≢◌, ◌∙◌, inl, inr, ℕ, ◌≤◌, ◌+◌, ◌-◌, ◌||◌, Bool, true, false, not, refl, sym, ap, subst, arith, List, [], ◌∷◌, Some, length, filter, IsTrue, ◌<◌}
 use Rattle.std.specs.Prelude.{IsSomeAnd}
 use Rattle.std.specs.List.{list_any}
-use Rattle.std.proofs.lemmas.Bool.{or_parts, and_parts, not-true, not-false}
+use Rattle.std.proofs.lemmas.Bool.{or_parts, not-true, not-false}
 use Rattle.gm_metadata.specs.Images.{same_label}
 use Rattle.gm_metadata.specs.Labels.{is_label}
 use Rattle.gm_state.specs.declared.command.Command.TheVariants.{Remove}
@@ -20,11 +20,12 @@ use Rattle.gm_state.proofs.Order.{same_is, same_from, same_refl, differ}
 use Rattle.gm_state.proofs.Words.{Has-filter, filter-Has, Ascends-filter, filter_swap, filter_id, length-filter_lt, one}
 use Rattle.gm_rules.specs.declared.refusals.Refusal.TheVariants as refusals
 use Rattle.gm_rules.specs.After.{metas}
+use Rattle.gm_rules.specs.Bad.{is_on_any}
 use Rattle.gm_rules.specs.Decides.{IsGood}
 use Rattle.gm_rules.specs.Step.{CanAnswer, HasPlan}
 use Rattle.gm_rules.specs.Worlds.{seen_of}
 use Rattle.gm_rules.proofs.Adjusting.{Adjusts, adjusts_turns, adjusts_were, adjusted}
-use Rattle.gm_state.proofs.Finding.{any_one, some_any, not_both}
+use Rattle.gm_state.proofs.Finding.{any_one, some_any, some_other, not_both}
 use Rattle.gm_rules.proofs.Good.{there_from, named}
 use Rattle.gm_state.proofs.Presence.{present_size, some_and}
 use Rattle.gm_rules.proofs.Planned.{Serves, has, one_plain}
@@ -161,15 +162,15 @@ can_remove u n p sound good =
     let is_one : list_any (λ k. same_label k.provider p) (members u.state.components n) ≡ true
     = not-false _ (any_one (λ q. not (list_any (λ k. same_label k.provider q) (members u.state.components n))) p (good refusals.NotMember (inr (inr (inl refl))))) in
     let member = some_any (λ (a : Component). same_label a.provider p) (members u.state.components n) is_one in
-    let active = some_any (λ (a : Component). is_active a.disk && not (same_label a.provider p || false)) (members u.state.components n) (not-false _ (good refusals.LastActive (inr (inr (inr (inr (inl refl))))))) in
-    let parts = and_parts (is_active active.0.disk) (not (same_label active.0.provider p || false)) active.2 in
-    let off : same_label active.0.provider p ≡ false = sym (either (same_label active.0.provider p)) ∙ not-true (same_label active.0.provider p || false) parts.1 in (
+    let active = some_other (is_on_any (p ∷ [])) (filter (λ (a : Component). is_active a.disk) (members u.state.components n)) (good refusals.LastActive (inr (inr (inr (inr (inl refl)))))) in
+    let parts = Has-filter (λ (a : Component). is_active a.disk) (members u.state.components n) active.0 active.1 in
+    let off : same_label active.0.provider p ≡ false = sym (either (same_label active.0.provider p)) ∙ active.2 in (
       m,
       at_n.1,
       record {
         here = at.0;
         member = (member.0, subst (λ (a : List ℕ). Has (members u.state.components a) member.0) (sym at.1) member.1, same_is member.0.provider p member.2);
-        active = (active.0, subst (λ (a : List ℕ). Has (members u.state.components a) active.0) (sym at.1) active.1, active_is active.0.disk parts.0, λ e. not_both (same_label active.0.provider p) (same_from active.0.provider p e) off);
+        active = (active.0, subst (λ (a : List ℕ). Has (members u.state.components a) active.0) (sym at.1) parts.0, active_is active.0.disk parts.1, λ e. not_both (same_label active.0.provider p) (same_from active.0.provider p e) off);
         there = λ j i. all_there (present u) (members u.state.components n) absent.1 j (subst (λ (a : List ℕ). Has (members u.state.components a) j) at.1 i);
       },
     )

@@ -14,7 +14,7 @@ use Rattle.gm_rules.specs.declared.facts.Fact.{Fact}
 use Rattle.gm_rules.specs.declared.refusals.Refusal.{Refusal}
 use Rattle.gm_rules.specs.declared.refusals.Refusal.TheVariants.{NoMirror, NameTaken, MidTaken, Absent, ProviderTaken, CarriesMetadata, TooSmall, NotMember, DidTaken, Full, TooManyMirrors, SomeLost, LastActive, WrongSize, NoMetadata}
 use Rattle.gm_rules.specs.Facts.{size_in, last_in, last_carries}
-use Rattle.gm_rules.specs.Bad.{applies, seen_in, has_size, has_wrong_size, providers_of, mine, mirror_named, at}
+use Rattle.gm_rules.specs.Bad.{applies, seen_in, has_size, has_wrong_size, providers_of, members_named, mirror_named, is_there_and}
 use Rattle.gm_rules.specs.After.{after, intents_of, new_mirror, first_component, spare, on_mirror}
 use Rattle.gm_rules.specs.Worlds.{AreFacts, needed_by, seen_of, last_of}
 use Rattle.gm_rules.specs.Decides.{Changed, Decides}
@@ -22,10 +22,10 @@ use Rattle.gm_state.proofs.Finding.{any_agree, Has-append_left, Has-append_right
 
 module _ (facts : List Fact) (u : World) (c : Command) (are : AreFacts facts u c) where
   named : (p : List ℕ) → Has (providers_of c) p → Has (needed_by u.state c) p
-  named p h = Has-append_left (providers_of c) (map provider (mine u.state c)) p h
+  named p h = Has-append_left (providers_of c) (map provider (members_named u.state c)) p h
 
-  of_mirror : (k : Component) → Has (mine u.state c) k → Has (needed_by u.state c) k.provider
-  of_mirror k h = Has-append_right (providers_of c) (map provider (mine u.state c)) k.provider (Has-map provider (mine u.state c) k h)
+  of_mirror : (k : Component) → Has (members_named u.state c) k → Has (needed_by u.state c) k.provider
+  of_mirror k h = Has-append_right (providers_of c) (map provider (members_named u.state c)) k.provider (Has-map provider (members_named u.state c) k h)
 
   -- a test of what the command names comes out alike
   by_size : (test : Option ℕ → Bool) → list_any (λ p. test (size_in facts p)) (providers_of c) ≡ list_any (λ p. test (present u p)) (providers_of c)
@@ -34,15 +34,15 @@ module _ (facts : List Fact) (u : World) (c : Command) (are : AreFacts facts u c
   by_last : (test : Option (List ℕ) → Bool) → list_any (λ p. test (last_in facts p)) (providers_of c) ≡ list_any (λ p. test (last_of u p)) (providers_of c)
   by_last test = any_agree _ _ (providers_of c) (λ p h. ap test (are.last p (named p h)))
 
-  small : (o : Option Mirror) → at o (λ m. list_any (λ p. at (size_in facts p) (λ n. nat_lt n (m.data_sectors + 1))) (providers_of c)) ≡ at o (λ m. list_any (λ p. at (present u p) (λ n. nat_lt n (m.data_sectors + 1))) (providers_of c))
+  small : (o : Option Mirror) → is_there_and o (λ m. list_any (λ p. is_there_and (size_in facts p) (λ n. nat_lt n (m.data_sectors + 1))) (providers_of c)) ≡ is_there_and o (λ m. list_any (λ p. is_there_and (present u p) (λ n. nat_lt n (m.data_sectors + 1))) (providers_of c))
   small None = refl
-  small (Some m) = by_size (λ o. at o (λ n. nat_lt n (m.data_sectors + 1)))
+  small (Some m) = by_size (λ o. is_there_and o (λ n. nat_lt n (m.data_sectors + 1)))
 
   pub same : (r : Refusal) → applies u.state (seen_in facts) c r ≡ applies u.state (seen_of u) c r
   same NoMirror = refl
   same NameTaken = refl
   same MidTaken = refl
-  same Absent = ap₂ (λ a b. a || b) (by_size is_none) (any_agree _ _ (mine u.state c) (λ k h. ap (λ o. not (has_size o k.sectors)) (are.size k.provider (of_mirror k h))))
+  same Absent = ap₂ (λ a b. a || b) (by_size is_none) (any_agree _ _ (members_named u.state c) (λ k h. ap (λ o. not (has_size o k.sectors)) (are.size k.provider (of_mirror k h))))
   same ProviderTaken = refl
   same CarriesMetadata = by_last last_carries
   same TooSmall = small (mirror_named u.state c)
@@ -52,7 +52,7 @@ module _ (facts : List Fact) (u : World) (c : Command) (are : AreFacts facts u c
   same TooManyMirrors = refl
   same SomeLost = refl
   same LastActive = refl
-  same WrongSize = by_size (λ o. at o has_wrong_size)
+  same WrongSize = by_size (λ o. is_there_and o has_wrong_size)
   same NoMetadata = by_last (λ o. not (last_carries o))
 
 -- the records depend on the sizes of the named providers alone
@@ -71,7 +71,7 @@ decides_in facts u c are (Err r) d = record {
   least = λ q h t. d.least q h (same facts u c are q ∙ t);
 }
 decides_in facts u c are (Ok ch) d =
-    let e = same_after (size_in facts) (present u) c u.state (λ p h. are.size p (Has-append_left (providers_of c) (map provider (mine u.state c)) p h)) in
+    let e = same_after (size_in facts) (present u) c u.state (λ p h. are.size p (Has-append_left (providers_of c) (map provider (members_named u.state c)) p h)) in
     record {
       good = λ r h. sym (same facts u c are r) ∙ d.good r h;
       records = d.records ∙ e;

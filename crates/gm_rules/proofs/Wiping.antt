@@ -17,12 +17,12 @@ use Rattle.gm_state.specs.Lookups.{component_of}
 use Rattle.gm_state.specs.World.{World, Sound, present}
 use Rattle.gm_state.proofs.Order.{same_is, same_from, same_refl, differ}
 use Rattle.gm_rules.specs.declared.refusals.Refusal.TheVariants as refusals
-use Rattle.gm_rules.specs.Bad.{at, has_wrong_size}
+use Rattle.gm_rules.specs.Bad.{is_there_and, has_wrong_size}
 use Rattle.gm_rules.specs.Decides.{IsGood}
 use Rattle.gm_rules.specs.Step.{CanAnswer, HasPlan}
 use Rattle.gm_rules.specs.Worlds.{seen_of}
 use Rattle.gm_state.proofs.Finding.{any_one, no_members, not_both}
-use Rattle.gm_rules.proofs.Good.{there_from, none_from, new_name, at_fails, right_size}
+use Rattle.gm_rules.proofs.Good.{there_from, none_from, new_name, fails_there, right_size}
 use Rattle.gm_state.proofs.Presence.{some_and}
 use Rattle.gm_rules.proofs.Planned.{Serves, has, one_plain}
 use Rattle.gm_rules.proofs.Turning.{Turns, Writes, Were, IsOne}
@@ -96,8 +96,8 @@ pub clear_has : (u : World) (key p : List ℕ) → Sound u → CanAnswer u key (
 clear_has u key p sound answer good =
     let absent = or_parts (list_any (λ q. is_none (present u q)) (p ∷ [])) _ (good refusals.Absent (inl refl)) in
     let size = there_from (present u p) (any_one (λ q. is_none (present u q)) p absent.0) in
-    let wrong : at (present u p) has_wrong_size ≡ false = any_one (λ q. at (present u q) has_wrong_size) p (good refusals.WrongSize (inr (inr (inl refl)))) in
-    let range = right_size size.0 (at_fails (present u p) size.0 has_wrong_size size.1 wrong) in
+    let wrong : is_there_and (present u p) has_wrong_size ≡ false = any_one (λ q. is_there_and (present u q) has_wrong_size) p (good refusals.WrongSize (inr (inr (inl refl)))) in
+    let range = right_size size.0 (fails_there (present u p) size.0 has_wrong_size size.1 wrong) in
     let big : 2 ≤ size.0 = range.0 in
     let fresh = new_name u.state p (none_from (component_of u.state p) (any_one (λ q. is_some (component_of u.state q)) p (good refusals.ProviderTaken (inr (inl refl))))) in
     clear_plan u key p sound fresh size.0 size.1 (omega arith) good answer

@@ -1,6 +1,6 @@
 -- When a command is refused: for each refusal one line.
-use Rattle.std.specs.Prelude.{◌+◌, ℕ, Bool, false, not, ◌==◌, ◌&&◌, ◌||◌, nat_lt, List, [], ◌∷◌, length, Option, Some, None, is_none, is_some, filter, option_and_then}
-use Rattle.std.specs.List.{list_any}
+use Rattle.std.specs.Prelude.{◌+◌, ℕ, Bool, false, not, ◌==◌, ◌||◌, nat_lt, List, [], ◌∷◌, length, Option, Some, None, is_none, is_some, filter, option_and_then}
+use Rattle.std.specs.List.{list_all, list_any}
 use Rattle.gm_metadata.specs.Images.{same_label}
 use Rattle.gm_state.specs.declared.records.Mirror.{Mirror}
 use Rattle.gm_state.specs.declared.records.Component.{Component}
@@ -59,23 +59,27 @@ abbrev pub has_size : Option ℕ → ℕ → Bool
 has_size None n = false
 has_size (Some k) n = k == n
 
--- a test of what is there
-abbrev pub at : {X : Type 0} → Option X → (X → Bool) → Bool
-at None test = false
-at (Some x) test = test x
+-- it is there, and passes the test
+abbrev pub is_there_and : {X : Type 0} → Option X → (X → Bool) → Bool
+is_there_and None test = false
+is_there_and (Some x) test = test x
 
 -- the mirror that the command names, where it is registered
 abbrev pub mirror_named : Records → Command → Option Mirror
 mirror_named s c = option_and_then (λ n. mirror_of s n) (name_of c)
 
 -- the component is one of the mirror that the command names
-abbrev pub is_mine : Option (List ℕ) → Component → Bool
-is_mine None k = false
-is_mine (Some n) k = same_label k.mirror n
+abbrev pub is_member_of : Option (List ℕ) → Component → Bool
+is_member_of None k = false
+is_member_of (Some n) k = same_label k.mirror n
 
 -- the components of the mirror that the command names, in byte order
-abbrev pub mine : Records → Command → List Component
-mine s c = filter (λ k. is_mine (name_of c) k) s.components
+abbrev pub members_named : Records → Command → List Component
+members_named s c = filter (λ k. is_member_of (name_of c) k) s.components
+
+-- the component is on one of the providers
+abbrev pub is_on_any : List (List ℕ) → Component → Bool
+is_on_any ps k = list_any (λ p. same_label k.provider p) ps
 
 -- a provider has fewer than 2 or more than 1,048,576 sectors
 abbrev pub has_wrong_size : ℕ → Bool
@@ -86,15 +90,15 @@ abbrev pub applies : Records → Seen → Command → Refusal → Bool
 applies s x c NoMirror = is_none (mirror_named s c)
 applies s x c NameTaken = is_some (mirror_named s c)
 applies s x c MidTaken = list_any (has_mid c) s.mirrors
-applies s x c Absent = list_any (λ p. is_none (x.size p)) (providers_of c) || list_any (λ k. not (has_size (x.size k.provider) k.sectors)) (mine s c)
+applies s x c Absent = list_any (λ p. is_none (x.size p)) (providers_of c) || list_any (λ k. not (has_size (x.size k.provider) k.sectors)) (members_named s c)
 applies s x c ProviderTaken = list_any (λ p. is_some (component_of s p)) (providers_of c)
 applies s x c CarriesMetadata = list_any (λ p. x.carries p) (providers_of c)
-applies s x c TooSmall = at (mirror_named s c) (λ m. list_any (λ p. at (x.size p) (λ n. nat_lt n (m.data_sectors + 1))) (providers_of c))
-applies s x c NotMember = list_any (λ p. not (list_any (λ k. same_label k.provider p) (mine s c))) (providers_of c)
-applies s x c DidTaken = list_any (has_did c) (mine s c)
-applies s x c Full = at (mirror_named s c) (λ m. m.all == 16)
+applies s x c TooSmall = is_there_and (mirror_named s c) (λ m. list_any (λ p. is_there_and (x.size p) (λ n. nat_lt n (m.data_sectors + 1))) (providers_of c))
+applies s x c NotMember = list_any (λ p. not (list_any (λ k. same_label k.provider p) (members_named s c))) (providers_of c)
+applies s x c DidTaken = list_any (has_did c) (members_named s c)
+applies s x c Full = is_there_and (mirror_named s c) (λ m. m.all == 16)
 applies s x c TooManyMirrors = length s.mirrors == 64
-applies s x c SomeLost = at (mirror_named s c) (λ m. nat_lt (length (mine s c)) m.all)
-applies s x c LastActive = not (list_any (λ k. is_active k.disk && not (list_any (λ p. same_label k.provider p) (providers_of c))) (mine s c))
-applies s x c WrongSize = list_any (λ p. at (x.size p) has_wrong_size) (providers_of c)
+applies s x c SomeLost = is_there_and (mirror_named s c) (λ m. nat_lt (length (members_named s c)) m.all)
+applies s x c LastActive = list_all (is_on_any (providers_of c)) (filter (λ k. is_active k.disk) (members_named s c))
+applies s x c WrongSize = list_any (λ p. is_there_and (x.size p) has_wrong_size) (providers_of c)
 applies s x c NoMetadata = list_any (λ p. not (x.carries p)) (providers_of c)

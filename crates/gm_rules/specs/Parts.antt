@@ -11,7 +11,7 @@ use Rattle.gm_state.specs.Words.{Has}
 use Rattle.gm_state.specs.Records.{Records, IsState, members}
 use Rattle.gm_rules.specs.declared.refusals.Refusal.{Refusal}
 use Rattle.gm_rules.specs.declared.refusals.Refusal.TheVariants.{TooManyMirrors}
-use Rattle.gm_rules.specs.Bad.{Seen, applies, name_of, providers_of, has_mid}
+use Rattle.gm_rules.specs.Bad.{Seen, applies, name_of, providers_of, has_mid, is_on_any}
 use Rattle.gm_rules.specs.Decides.{Changed, IsGood, Makes, changed_by}
 use Rattle.gm_rules.specs.Refusals.{own}
 
@@ -21,7 +21,7 @@ is_named c m = option_map_or (λ n. same_label m.name n) (name_of c) false
 
 -- one of these components is on a provider that the command names
 abbrev pub any_named : Command → List Component → Bool
-any_named c ks = list_any (λ k. list_any (λ p. same_label k.provider p) (providers_of c)) ks
+any_named c ks = list_any (is_on_any (providers_of c)) ks
 
 -- The command asks for the mirror: it names it, or gives its mid, or that is one of the further
 -- mids, or a component of the mirror is on a provider that the command names.

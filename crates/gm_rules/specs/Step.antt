@@ -21,7 +21,7 @@ use Rattle.gm_state.specs.World.{World, Answered, Sound, Claims, CopiesData, is_
 use Rattle.gm_rules.specs.declared.refusals.Refusal.{Refusal}
 use Rattle.gm_rules.specs.Refusals.{own}
 use Rattle.gm_state.specs.Records.{Records}
-use Rattle.gm_rules.specs.Bad.{applies, mine}
+use Rattle.gm_rules.specs.Bad.{applies, members_named}
 use Rattle.gm_rules.specs.Worlds.{seen_of}
 use Rattle.gm_rules.specs.After.{after, intents_of, reply_to, clears}
 
@@ -79,7 +79,7 @@ WereBare _ u w = Unit {0}
 
 -- the provider is that of a component of the mirror that the command names
 abbrev pub IsOwn : Records → Command → List ℕ → Type 0
-IsOwn s c p = (k : Component) × Has (mine s c) k × (k.provider ≡ p)
+IsOwn s c p = (k : Component) × Has (members_named s c) k × (k.provider ≡ p)
 
 -- The intents ts carry out the command's step from u to w: they name every sector that it changes and say what w holds there,
 -- no source of a copy is a place, data come before claims, and what was claimed on the way stays true. A registry that

@@ -7,7 +7,7 @@ use Rattle.gm_state.specs.Records.{Records, provider}
 use Rattle.gm_state.specs.World.{World, present}
 use Rattle.gm_rules.specs.declared.facts.Fact.{Fact}
 use Rattle.gm_rules.specs.Facts.{size_in, last_in, last_carries}
-use Rattle.gm_rules.specs.Bad.{Seen, providers_of, mine}
+use Rattle.gm_rules.specs.Bad.{Seen, providers_of, members_named}
 
 -- the last sector of a provider that is there; zeros stand for the one of a provider without sectors
 abbrev pub last_of : World → List ℕ → Option (List ℕ)
@@ -19,7 +19,7 @@ seen_of u = record { size = present u; carries = λ p. last_carries (last_of u p
 
 -- the providers that a command needs to know of: those that it names, and those of the components of its mirror
 abbrev pub needed_by : Records → Command → List (List ℕ)
-needed_by s c = providers_of c ++ map provider (mine s c)
+needed_by s c = providers_of c ++ map provider (members_named s c)
 
 -- the facts are those of the world, for each provider that the command needs
 pub record AreFacts (facts : List Fact) (u : World) (c : Command) : Type 0 where

@@ -1,13 +1,13 @@
 //! The refusals of a command, each by a test of its own.
 
-ghost use Rattle.std.specs.Prelude.{◌≡◌, ◌==◌, ◌+◌, ◌&&◌, ◌||◌, not, nat_lt, find, is_none, is_some, length, filter};
-ghost use Rattle.std.specs.List.{list_any};
+ghost use Rattle.std.specs.Prelude.{◌≡◌, ◌==◌, ◌+◌, not, nat_lt, find, is_none, is_some, length, filter};
+ghost use Rattle.std.specs.List.{list_all, list_any};
 ghost use Rattle.gm_metadata.specs.Images.{same_label};
 ghost use Rattle.gm_state.specs.Lookups.{component_of, is_active};
 ghost use Rattle.gm_state.specs.Records.{Records};
 ghost use Rattle.gm_rules.specs.Facts.{size_in, last_in, last_carries};
 ghost use Rattle.gm_rules.specs.Refusals.{own};
-ghost use Rattle.gm_rules.specs.Bad.{name_of, providers_of, has_mid, has_did, is_mine, has_size, has_wrong_size, at, mirror_named, seen_in};
+ghost use Rattle.gm_rules.specs.Bad.{name_of, providers_of, has_mid, has_did, is_member_of, is_on_any, has_size, has_wrong_size, is_there_and, mirror_named, seen_in};
 ghost use Rattle.gm_rules.specs.Parts.{applies_to_part};
 
 use crate::facts::Facts;
@@ -66,8 +66,8 @@ fn has_did(command: &Command, component: &Component) -> bool
     }
 }
 
-pub(crate) fn is_mine(name: Option<Label>, component: &Component) -> bool
-    ensures { result ≡ is_mine name component.now }
+pub(crate) fn is_member_of(name: Option<Label>, component: &Component) -> bool
+    ensures { result ≡ is_member_of name component.now }
 {
     match name {
         None => false,
@@ -105,11 +105,11 @@ fn is_missing(component: &Component, facts: &Facts) -> bool
 
 fn misses_some(components: &[Component], name: Option<Label>, facts: &Facts) -> bool
     ensures { result ≡ list_any (λ k. not (has_size (size_in facts.now k.provider) k.sectors))
-        (filter (λ k. is_mine name k) components.now) }
+        (filter (λ k. is_member_of name k) components.now) }
 {
     components
         .iter()
-        .filter(|k| is_mine(name, k))
+        .filter(|k| is_member_of(name, k))
         .any(|k| is_missing(k, facts))
 }
 
@@ -132,7 +132,7 @@ fn any_bare(providers: &[Label], facts: &Facts) -> bool
 }
 
 fn is_too_small(size: Option<u64>, mirror: &Mirror) -> bool
-    ensures { result ≡ at size (λ n. nat_lt n (mirror.now.data_sectors + 1)) }
+    ensures { result ≡ is_there_and size (λ n. nat_lt n (mirror.now.data_sectors + 1)) }
 {
     match size {
         None => false,
@@ -142,7 +142,7 @@ fn is_too_small(size: Option<u64>, mirror: &Mirror) -> bool
 
 fn any_too_small(providers: &[Label], mirror: &Mirror, facts: &Facts) -> bool
     ensures { result ≡ list_any
-        (λ p. at (size_in facts.now p) (λ n. nat_lt n (mirror.now.data_sectors + 1)))
+        (λ p. is_there_and (size_in facts.now p) (λ n. nat_lt n (mirror.now.data_sectors + 1)))
         providers.now }
 {
     providers
@@ -151,7 +151,7 @@ fn any_too_small(providers: &[Label], mirror: &Mirror, facts: &Facts) -> bool
 }
 
 fn has_wrong_size(size: Option<u64>) -> bool
-    ensures { result ≡ at size has_wrong_size }
+    ensures { result ≡ is_there_and size has_wrong_size }
 {
     match size {
         None => false,
@@ -160,67 +160,62 @@ fn has_wrong_size(size: Option<u64>) -> bool
 }
 
 fn any_of_wrong_size(providers: &[Label], facts: &Facts) -> bool
-    ensures { result ≡ list_any (λ p. at (size_in facts.now p) has_wrong_size) providers.now }
+    ensures { result
+        ≡ list_any (λ p. is_there_and (size_in facts.now p) has_wrong_size) providers.now }
 {
     providers.iter().any(|p| has_wrong_size(facts.size(*p)))
 }
 
 fn has_member(components: &[Component], name: Option<Label>, provider: Label) -> bool
     ensures { result ≡ list_any (λ k. same_label k.provider provider)
-        (filter (λ k. is_mine name k) components.now) }
+        (filter (λ k. is_member_of name k) components.now) }
 {
     components
         .iter()
-        .filter(|k| is_mine(name, k))
+        .filter(|k| is_member_of(name, k))
         .any(|k| k.provider == provider)
 }
 
 fn any_stranger(providers: &[Label], components: &[Component], name: Option<Label>) -> bool
     ensures { result ≡ list_any (λ p. not (list_any (λ k. same_label k.provider p)
-        (filter (λ k. is_mine name k) components.now))) providers.now }
+        (filter (λ k. is_member_of name k) components.now))) providers.now }
 {
     providers.iter().any(|p| !has_member(components, name, *p))
 }
 
 fn did_taken(components: &[Component], command: &Command) -> bool
     ensures { result ≡ list_any (has_did command.now)
-        (filter (λ k. is_mine (name_of command.now) k) components.now) }
+        (filter (λ k. is_member_of (name_of command.now) k) components.now) }
 {
     let name = name_of(command);
     components
         .iter()
-        .filter(|k| is_mine(name, k))
+        .filter(|k| is_member_of(name, k))
         .any(|k| has_did(command, k))
 }
 
 fn count_of(components: &[Component], name: Option<Label>) -> usize
-    ensures { result ≡ length (filter (λ k. is_mine name k) components.now) }
+    ensures { result ≡ length (filter (λ k. is_member_of name k) components.now) }
 {
-    components.iter().filter(|k| is_mine(name, k)).count()
+    components.iter().filter(|k| is_member_of(name, k)).count()
 }
 
 pub(crate) fn is_on_any(providers: &[Label], component: &Component) -> bool
-    ensures { result ≡ list_any (λ p. same_label component.now.provider p) providers.now }
+    ensures { result ≡ is_on_any providers.now component.now }
 {
     providers.iter().any(|p| component.provider == *p)
 }
 
-fn stays_active(providers: &[Label], component: &Component) -> bool
-    ensures { result ≡ (is_active component.now.disk
-        && not (list_any (λ p. same_label component.now.provider p) providers.now)) }
-{
-    component.disk.is_active() && !is_on_any(providers, component)
-}
-
-fn keeps_active(components: &[Component], name: Option<Label>, providers: &[Label]) -> bool
-    ensures { result ≡ list_any
-        (λ k. is_active k.disk && not (list_any (λ p. same_label k.provider p) providers.now))
-        (filter (λ k. is_mine name k) components.now) }
+// Whether each active component of the mirror is on one of these providers.
+fn all_active_on(components: &[Component], name: Option<Label>, providers: &[Label]) -> bool
+    ensures { result ≡ list_all (is_on_any providers.now) (filter (λ k. is_active k.disk)
+        (filter (λ k. is_member_of name k) components.now)) }
 {
     components
         .iter()
-        .filter(|k| is_mine(name, k))
-        .any(|k| stays_active(providers, k))
+        .filter(|k| is_member_of(name, k))
+        .filter(|k| k.disk.is_active())
+        .all(|k| is_on_any(providers, k))
 }
 
 fn mirror_named(state: &State, command: &Command) -> Option<Mirror>
@@ -262,7 +257,7 @@ fn applies(state: &State, count: u64, facts: &Facts, command: &Command, refusal:
             None => false,
             Some(m) => count_of(components, name) < usize::from(m.all),
         },
-        Refusal::LastActive => !keeps_active(components, name, providers),
+        Refusal::LastActive => all_active_on(components, name, providers),
         Refusal::WrongSize => any_of_wrong_size(providers, facts),
         Refusal::NoMetadata => any_bare(providers, facts),
     }

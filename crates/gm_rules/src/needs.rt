@@ -2,11 +2,11 @@
 
 ghost use Rattle.std.specs.Prelude.{◌≡◌, ◌++◌, IfOk, OnOk, map, filter};
 ghost use Rattle.gm_state.specs.Records.{Records, provider};
-ghost use Rattle.gm_rules.specs.Bad.{providers_of, is_mine};
+ghost use Rattle.gm_rules.specs.Bad.{providers_of, is_member_of};
 ghost use Rattle.gm_rules.specs.Parts.{IsPartOf};
 ghost use Rattle.gm_rules.specs.Worlds.{needed_by};
 
-use crate::checks::{is_mine, name_of, providers_of};
+use crate::checks::{is_member_of, name_of, providers_of};
 use gm_metadata::Label;
 use gm_state::{Command, Component, State};
 use std::alloc::{AllocError, Global};
@@ -23,11 +23,11 @@ fn of_mirror(
     name: Option<Label>,
 ) -> Result<Vec<Label>, AllocError>
     ensures { IfOk result (λ v. v.items
-        ≡ map provider (filter (λ k. is_mine name k) components.now)) }
+        ≡ map provider (filter (λ k. is_member_of name k) components.now)) }
 {
     components
         .iter()
-        .filter(|k| is_mine(name, k))
+        .filter(|k| is_member_of(name, k))
         .map(|k| k.provider)
         .collect(alloc)
 }

@@ -1,6 +1,6 @@
 -- Finding one in a list, and what a test of some one tells.
 use Rattle.std.proofs.Common.{◌≡◌, ◌∙◌, ◌⊎◌, Option, inl, inr, ⊎_elim, ℕ, Bool, true, false, ◌||◌, refl, sym, ap, ap₂, List, [], ◌∷◌, ◌++◌, filter, find, map, Some, None}
-use Rattle.std.specs.List.{list_any}
+use Rattle.std.specs.List.{list_all, list_any}
 use Rattle.std.proofs.lemmas.Bool.{cases_Bool, or_parts, or_left, or_right}
 use Rattle.gm_metadata.specs.Images.{same_label}
 use Rattle.gm_state.specs.declared.records.Component.{Component}
@@ -48,6 +48,15 @@ some_any p (x ∷ xs) e =
     elim (cases_Bool (p x)) [
       | inl t ↦ (x, inl refl, t)
       | inr t ↦ (let f : list_any p xs ≡ true = rw t at e in let r = some_any p xs f in (r.0, inr r.1, r.2))
+    ]
+
+-- some one doesn't
+pub some_other : {X : Type 0} (p : X → Bool) (xs : List X) → list_all p xs ≡ false → (x : X) × Has xs x × (p x ≡ false)
+some_other p [] e = absurd (let h : ⊥ = cc in h)
+some_other p (x ∷ xs) e =
+    elim (cases_Bool (p x)) [
+      | inl t ↦ (let f : list_all p xs ≡ false = rw t at e in let r = some_other p xs f in (r.0, inr r.1, r.2))
+      | inr t ↦ (x, inl refl, t)
     ]
 
 pub any_from : {X : Type 0} (p : X → Bool) (xs : List X) (x : X) → Has xs x → p x ≡ true → list_any p xs ≡ true

@@ -5,19 +5,15 @@ ghost use Rattle.std.specs.List.{list_all};
 ghost use Rattle.gm_metadata.specs.Labels.{is_label_byte};
 ghost use Rattle.gm_state.specs.World.{is_key};
 
+use gm_metadata::is_label_byte;
+
 /// The most characters of a key.
 const MAX_KEY: usize = 32;
-
-fn is_key_byte(byte: u8) -> bool
-    ensures { result ≡ is_label_byte byte }
-{
-    byte.is_ascii_alphanumeric() || byte == b'.' || byte == b'_' || byte == b'-'
-}
 
 fn are_key_bytes(text: &[u8]) -> bool
     ensures { result ≡ list_all is_label_byte text.now }
 {
-    text.iter().all(|byte| is_key_byte(*byte))
+    text.iter().all(|byte| is_label_byte(*byte))
 }
 
 /// Whether the text is a key: 1 to 32 of the characters of labels (this project's own).

@@ -6,7 +6,7 @@ use Rattle.gm_state.specs.Words.{Has}
 use Rattle.gm_state.specs.Lookups.{component_of}
 use Rattle.gm_state.proofs.Words.{Has-filter}
 use Rattle.gm_rules.specs.declared.refusals.Refusal.TheVariants as refusals
-use Rattle.gm_rules.specs.Bad.{seen_in, at, has_wrong_size}
+use Rattle.gm_rules.specs.Bad.{seen_in, is_there_and, has_wrong_size}
 use Rattle.gm_rules.specs.Facts.{size_in}
 use Rattle.gm_state.proofs.Finding.{any_one}
 use Rattle.gm_rules.proofs.Good.{some_from, none_from, few_all, new_name, fits_32}
@@ -22,7 +22,7 @@ sectors_of-sectors-requires-clause-there c =
 
 pub sectors_of-sectors-requires-clause-fits : goal.sectors_of-sectors-requires-clause-fits
 sectors_of-sectors-requires-clause-fits c =
-    fits_32 _ (any_one (λ p. at (size_in c.args.facts.now p) has_wrong_size) c.args.provider (c.requires refusals.WrongSize (inr (inr (inr (inr (inr (inr (inr (inr (inl refl))))))))) refl))
+    fits_32 _ (any_one (λ p. is_there_and (size_in c.args.facts.now p) has_wrong_size) c.args.provider (c.requires refusals.WrongSize (inr (inr (inr (inr (inr (inr (inr (inr (inl refl))))))))) refl))
 
 pub inserted-requires-clause-room : goal.inserted-requires-clause-room
 inserted-requires-clause-room c = few_all _ _ _ c.mirror.ensures.state (sym c.mirror.ensures.value ∙ c.unwrap-mirror.ensures)

@@ -1,8 +1,8 @@
 //! Tables that say a state, and tables that say none.
 
 use super::{NO_FLAGS, accept, bare, change, label, memory, must, open, settle};
-use crate::{Registry, StoreFault};
 use gm_metadata::{Balance, MirrorFlags};
+use gm_registry::{Registry, StoreFault};
 use gm_rules::Fact;
 use gm_state::{BalanceWord, Command, Component, Disk, Intent, Mirror, Slice, State};
 use sqlite::{Alter, Connection};

@@ -1,7 +1,7 @@
 //! A store of two files, of which one stops at each of its calls in turn, and what is found when it is opened again.
 
 use super::{accept, accepted, inserts, labels, loads, number, settle};
-use crate::Registry;
+use gm_registry::Registry;
 use gm_rules::Change;
 use sqlite::{Alter, Connection, Files, Options};
 use sqlite_disk::{Crash, Disk, Fuse, Memory};

@@ -6,8 +6,8 @@ mod stops;
 mod stored;
 mod untouched;
 
-use crate::{Registry, StoreFault};
 use gm_metadata::{Balance, Label, MirrorFlags};
+use gm_registry::{Registry, StoreFault};
 use gm_rules::{Change, Fact, Facts, decide};
 use gm_state::{BalanceWord, Command, Component, Disk, Mirror, Reply, Slice, State};
 use sqlite::{Alter, Connection, Error, MemStore};
