@@ -26,3 +26,5 @@ pub mod OneReading
 pub mod Written
 pub mod Keys
 pub mod Failures
+pub mod UnderKeys
+pub mod RecordsUnder
