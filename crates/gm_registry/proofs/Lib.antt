@@ -28,3 +28,5 @@ pub mod Keys
 pub mod Failures
 pub mod UnderKeys
 pub mod RecordsUnder
+pub mod SomeReads
+pub mod Labels

@@ -57,7 +57,9 @@ impl From<Error> for StoreFault {
 }
 
 impl From<AllocError> for StoreFault {
-    ghost from_gives = { λ _ fault. fault ≡ StoreFault.Memory };
+    ghost use Rattle.gm_registry.specs.declared.fault.StoreFault.TheVariants.{Memory};
+
+    ghost from_gives = { λ _ fault. fault ≡ Memory };
 
     fn from(_error: AllocError) -> Self {
         StoreFault::Memory

@@ -5,7 +5,7 @@ ghost use Rattle.gm_state.specs.Records.{Records};
 ghost use Rattle.gm_state.specs.Rows.{Tables};
 ghost use Rattle.gm_registry.specs.Keys.{key_text, AreUnder, under};
 ghost use Rattle.gm_registry.specs.Reading.{AreRecordsOf};
-ghost use Rattle.gm_registry.specs.Registry.{DiskKept, IsOpen, seen, HasTables, HasRead, HasFailed, IsOurs, StoreFailed};
+ghost use Rattle.gm_registry.specs.Registry.{DiskKept, IsOpen, seen, HasTables, HasRead, HaveRead, HasFailed, IsOurs, StoreFailed};
 ghost use Rattle.gm_registry.specs.Faults.{OnUnreadable, OnStore};
 
 use crate::fault::StoreFault;
@@ -95,7 +95,7 @@ pub(crate) fn components_under<S: Alter>(
     ensures unreadable { DiskKept S.Store conn.new
         → OnUnreadable result ((t : Tables) (s : Records) → HasTables S.Store conn.old t
         → AreRecordsOf t s → ⊥) }
-    ensures read { OnOk result (HasRead S.Store conn.old conn.new) }
+    ensures read { OnOk result (HaveRead S.Store conn.old conn.new) }
     ensures failed { OnErr result (HasFailed S.Store conn.old conn.new) }
     ensures store { DiskKept S.Store conn.new
         → OnStore result (IsOurs S.Store conn.old → IsOpen S.Store conn.old
