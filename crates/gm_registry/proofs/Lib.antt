@@ -30,3 +30,4 @@ pub mod UnderKeys
 pub mod RecordsUnder
 pub mod SomeReads
 pub mod Labels
+pub mod PartOf

@@ -1,7 +1,8 @@
 //! The part of the records that a command asks for, read by keys.
 
 ghost use Rattle.std.specs.Prelude.{◌≡◌, IfOk, OnOk, OnErr, IsPermutation, filter, map};
-ghost use Rattle.sqlite.specs.Held.{state};
+ghost use Rattle.std.specs.List.{list_any};
+ghost use Rattle.gm_metadata.specs.Images.{same_label};
 ghost use Rattle.gm_state.specs.Records.{Records, name};
 ghost use Rattle.gm_state.specs.Rows.{Tables};
 ghost use Rattle.gm_registry.specs.Parts.{is_asked_by, AreAsked, IsPartFor};
@@ -58,11 +59,18 @@ fn all_mirrors<S: Alter>(
     read_all(alloc, &rows)
 }
 
+/// Whether one of the components is the mirror's.
+fn owns_one(components: &[Component], mirror: &Mirror) -> bool
+    ensures { result ≡ list_any (λ k. same_label k.mirror mirror.now.name) components.now }
+{
+    components.iter().any(|k| k.mirror == mirror.name)
+}
+
 /// Whether the command calls for the mirror, or one of the components on named providers is its own.
 fn is_asked(command: &Command, mids: &[u32], named: &[Component], mirror: &Mirror) -> bool
     ensures { result ≡ is_asked_by command.now mids.now named.now mirror.now }
 {
-    is_called(command, mids, mirror) || named.iter().any(|k| k.mirror == mirror.name)
+    is_called(command, mids, mirror) || owns_one(named, mirror)
 }
 
 fn asked_of(
