@@ -1,4 +1,4 @@
-use Rattle.std.proofs.Common.{◌∙◌, [], inl, inr, refl, sym, subst, arith, flat_map, IsPermutation}
+use Rattle.std.proofs.Common.{◌∙◌, [], inl, inr, refl, sym, subst, flat_map, IsPermutation}
 use Rattle.std.proofs.lemmas.List.{take_all}
 use Rattle.std.proofs.lemmas.List.Sorted.{IsPermutation-refl}
 use Rattle.sqlite.specs.Held.{state}

@@ -1,3 +1,4 @@
+use Rattle.std.proofs.Common.{[]}
 use Rattle.sqlite.specs.Held.{state}
 use Rattle.gm_registry.specs.Statements.{load_texts_text}
 use Rattle.gm_registry.specs.Listing.{ShowsList}
