@@ -84,7 +84,7 @@ plain_query : (t : Table) (s : Schema) → IsOurSchema s → IsPlain (understood
 plain_query t s ours = subst (λ sc. IsPlain (understood sc (query_text t))) (sym ours) (asked t).1.plain
 
 pub read : (t : Table) (old new : State) (rows : List Row) → (HasCleanDisk new → Shown (query_text t) [] old new rows) → Survives old new (CommitsShowing (query_text t) [] old) → HasRead old new
-read t = read_by IsOurSchema (query_text t) (plain_query t)
+read t = read_by IsOurSchema (query_text t) [] (plain_query t)
 
 pub failed : (t : Table) (old new : State) (e : Error) → (HasCleanDisk new → FailsToQuery (query_text t) [] old new e) → Survives old new (CommitsShowing (query_text t) [] old) → HasFailed old new
-failed t = failed_by IsOurSchema (query_text t) (plain_query t)
+failed t = failed_by IsOurSchema (query_text t) [] (plain_query t)

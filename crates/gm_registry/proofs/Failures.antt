@@ -64,7 +64,7 @@ tables_typed Components = refl
 tables_typed Intents = refl
 tables_typed Commands = refl
 
-never : (rows : List Row) → Any (λ _. ⊥) rows → ⊥
+pub never : (rows : List Row) → Any (λ _. ⊥) rows → ⊥
 never rows h = h.4
 
 find_safe : (key : List ℕ) (db : Trees) → QueryOverflows find_query db (Text key ∷ []) → ⊥
@@ -80,7 +80,7 @@ tables_safe t db (inl none) = none
 tables_safe t db (inr over) = never (db (tree_of t)) over
 
 -- an error that is told as one of the store
-told : (old new : State) (e : Error) → IsReadFault old new e → fault_of e ≡ Store → MoreFaults old.faults new.faults ⊎ IsSome old.step_limit
+pub told : (old new : State) (e : Error) → IsReadFault old new e → fault_of e ≡ Store → MoreFaults old.faults new.faults ⊎ IsSome old.step_limit
 told old new e (inl memory) is = absurd (let f : Memory ≡ Store = sym (ap fault_of memory) ∙ is in cc)
 told old new e (inr failed) is = failed
 

@@ -26,3 +26,8 @@ pub mod OneReading
 pub mod Written
 pub mod Keys
 pub mod Failures
+pub mod UnderKeys
+pub mod RecordsUnder
+pub mod SomeReads
+pub mod Labels
+pub mod PartOf

@@ -20,7 +20,7 @@ use Rattle.gm_registry.specs.Rows.{mirror_values, component_values, intent_value
 use Rattle.gm_registry.specs.Tables.{HasRows, HasCounted, AreNumbered, numbers_of}
 use Rattle.gm_registry.specs.Reading.{AreTablesOf, IsInRange}
 use Rattle.gm_registry.specs.Values.{columns_at, numbered, two, six, nine, shown_intent}
-use Rattle.gm_registry.specs.Queries.{AreShown, IsInOrder, shown_places}
+use Rattle.gm_registry.specs.Queries.{AreShown, IsShown, IsInOrder, shown_places}
 use Rattle.gm_registry.specs.Says.{number_value, intent_shown, IsBetween, IsAbout, AreCommandsFrom, AreCommands, Say, TablesSay}
 use Rattle.gm_registry.specs.declared.fetching.Fetched.{Fetched}
 use Rattle.gm_registry.specs.declared.fetching.Table.TheVariants.{About, Mirrors, Components, Intents, Commands}
@@ -57,18 +57,19 @@ nine_picked (x ∷ row) = refl
 
 -- ---- mirrors and components
 
-mirrors_shown : (db : Trees) (t : Tables) (f : Fetched) → HasRows db t → AreShown db f → IsPermutation (map mirror_values t.mirrors) (map (columns_at nine) f.mirrors.items)
-mirrors_shown db t f has are =
-    again_shown (columns_at nine) mirror_values (λ m. refl) t.mirrors f.mirrors.items
-    (shows_records columns (columns_at nine) (columns_at (shown_places Mirrors)) mirror_values mirror_values nine_picked (λ m. refl) t.mirrors f.mirrors.items (db 1) has.mirrors are.mirrors)
+pub mirrors_shown : (db : Trees) (t : Tables) (rows : List Row) → HasRows db t → IsShown db Mirrors rows → IsPermutation (map mirror_values t.mirrors) (map (columns_at nine) rows)
+mirrors_shown db t rows has are =
+    again_shown (columns_at nine) mirror_values (λ m. refl) t.mirrors rows
+    (shows_records columns (columns_at nine) (columns_at (shown_places Mirrors)) mirror_values mirror_values nine_picked (λ m. refl) t.mirrors rows (db 1) has.mirrors are)
 
-components_shown : (db : Trees) (t : Tables) (f : Fetched) → HasRows db t → AreShown db f → IsPermutation (map component_values t.components) (map (columns_at nine) f.components.items)
-components_shown db t f has are =
-    again_shown (columns_at nine) component_values (λ k. refl) t.components f.components.items
-    (shows_records columns (columns_at nine) (columns_at (shown_places Components)) component_values component_values nine_picked (λ k. refl) t.components f.components.items (db 4) has.components are.components)
+-- rows that show what is kept of some components
+pub components_shown : (ks : List ComponentRow) (kept rows : List Row) → Keeps columns component_values ks kept → IsPermutation (map (columns_at (shown_places Components)) kept) rows → IsPermutation (map component_values ks) (map (columns_at nine) rows)
+components_shown ks kept rows has are =
+    again_shown (columns_at nine) component_values (λ k. refl) ks rows
+    (shows_records columns (columns_at nine) (columns_at (shown_places Components)) component_values component_values nine_picked (λ k. refl) ks rows kept has are)
 
 -- the records of a state are those whose rows are kept
-said : {A B : Type 0} (row_of : A → B) (values : B → Row) (state : List A) (kept : List B) (rows : List Row) → IsPermutation (map values kept) rows → IsPermutation (map row_of state) kept
+pub said : {A B : Type 0} (row_of : A → B) (values : B → Row) (state : List A) (kept : List B) (rows : List Row) → IsPermutation (map values kept) rows → IsPermutation (map row_of state) kept
     → IsPermutation (map (λ x. values (row_of x)) state) rows
 said row_of values state kept rows are same =
     IsPermutation-trans _ _ _ (subst (λ l. IsPermutation l (map values kept)) (map-map values row_of state) (IsPermutation-map values _ _ same)) are
@@ -188,8 +189,8 @@ says_tables db t f s ts has are of = record {
   about = about_said db t f has.rows are;
   records = record {
     state = of.state;
-    mirrors_are = said mirror_row mirror_values s.mirrors t.mirrors _ (mirrors_shown db t f has.rows are) of.mirrors;
-    components_are = said component_row component_values s.components t.components _ (components_shown db t f has.rows are) of.components;
+    mirrors_are = said mirror_row mirror_values s.mirrors t.mirrors _ (mirrors_shown db t f.mirrors.items has.rows are.mirrors) of.mirrors;
+    components_are = said component_row component_values s.components t.components _ (components_shown t.components (db 4) f.components.items has.rows.components are.components) of.components;
   };
   intents = intents_said db t f ts has.rows are of.intents;
   readable = of.readable;
@@ -204,8 +205,8 @@ tables_said db t f s ts has are says =
     let count = says.commands.count in
     record {
       state = says.records.state;
-      mirrors = kept_of mirror_row mirror_values one_mirror_row s.mirrors t.mirrors _ (mirrors_shown db t f has.rows are) says.records.mirrors_are;
-      components = kept_of component_row component_values one_component_row s.components t.components _ (components_shown db t f has.rows are) says.records.components_are;
+      mirrors = kept_of mirror_row mirror_values one_mirror_row s.mirrors t.mirrors _ (mirrors_shown db t f.mirrors.items has.rows are.mirrors) says.records.mirrors_are;
+      components = kept_of component_row component_values one_component_row s.components t.components _ (components_shown t.components (db 4) f.components.items has.rows.components are.components) says.records.components_are;
       intents = intents_kept db t f ts has.rows are says.intents;
       readable = says.readable;
       commands = commands_kept t f commands says.commands;

@@ -14,3 +14,5 @@ pub mod Values
 pub mod Queries
 pub mod Reads
 pub mod Says
+pub mod Keys
+pub mod Parts

@@ -18,6 +18,11 @@ pub record HoldState (s : Records) (t : Tables) : Type 0 where
   pub mirrors : IsPermutation (map mirror_row s.mirrors) t.mirrors
   pub components : IsPermutation (map component_row s.components) t.components
 
+-- the rows of mirrors and components are those of a state, whatever the other tables hold
+pub record AreRecordsOf (t : Tables) (s : Records) : Type 0 where
+  pub state : IsState s
+  pub rows : HoldState s t
+
 -- The tables are those of a state with these intents pending, which are numbered from 1 in their order.
 pub record AreTablesOf (t : Tables) (s : Records) (ts : List Intent) : Type 0 where
   pub state : IsState s

@@ -1,5 +1,5 @@
 -- What is said of a registry, and of a store before it is opened and after it is closed.
-use Rattle.std.specs.Prelude.{◌≤◌, ◌⊎◌, IsTrue, IsSome, Result, OnOk, OnErr}
+use Rattle.std.specs.Prelude.{◌≡◌, ◌≤◌, ◌⊎◌, IsTrue, IsSome, Result, OnOk, OnErr}
 use Rattle.sqlite_disk.specs.Disk.{MoreFaults}
 use Rattle.sqlite_trees.specs.declared.store.Store.{Ghosts}
 use Rattle.sqlite_trees.specs.View.{doubt}
@@ -63,9 +63,12 @@ module _ {S : Type 0} (g : Ghosts S) where
   abbrev pub LeavesAlone : Held S → Held S → Type 0
   LeavesAlone old new = rows.LeavesAlone (state g old) (state g new)
 
-  -- a read of our tables that was answered, and one that may have failed
+  -- a read of our tables that was answered, several or none, and one that may have failed
   abbrev pub HasRead : Held S → Held S → Type 0
   HasRead old new = reads.HasRead (state g old) (state g new)
+
+  abbrev pub HaveRead : Held S → Held S → Type 0
+  HaveRead old new = (new ≡ old) ⊎ HasRead old new
 
   abbrev pub HasFailed : Held S → Held S → Type 0
   HasFailed old new = reads.HasFailed (state g old) (state g new)

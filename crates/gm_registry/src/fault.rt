@@ -5,6 +5,7 @@ ghost use Rattle.sqlite.specs.declared.error.Error.{Error as SqlError};
 ghost use Rattle.gm_registry.specs.Faults.{fault_number, fault_of, value_fault_of};
 
 use sqlite::{Error, ErrorCode};
+use std::alloc::AllocError;
 
 /// Why the registry didn't do a call. After any of these it is opened again.
 #[derive(Clone, Copy, Debug, PartialEq, Eq, thiserror::Error)]
@@ -52,6 +53,16 @@ impl From<Error> for StoreFault {
             Error::SqliteFailure(ErrorCode::OutOfMemory) => StoreFault::Memory,
             _ => StoreFault::Store,
         }
+    }
+}
+
+impl From<AllocError> for StoreFault {
+    ghost use Rattle.gm_registry.specs.declared.fault.StoreFault.TheVariants.{Memory};
+
+    ghost from_gives = { λ _ fault. fault ≡ Memory };
+
+    fn from(_error: AllocError) -> Self {
+        StoreFault::Memory
     }
 }
 

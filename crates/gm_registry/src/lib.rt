@@ -16,10 +16,12 @@ mod fault;
 mod fetching;
 mod intents;
 mod judging;
+mod keyed;
 mod laws;
 mod loading;
 mod mirrors;
 mod opening;
+mod parts;
 mod readable;
 mod reading;
 mod registry;
@@ -29,4 +31,5 @@ mod schema;
 
 pub use fault::StoreFault;
 pub use laws::{change_holds, one_reading, tables_are_saved};
+pub use parts::Part;
 pub use registry::{OpenFault, Registry};

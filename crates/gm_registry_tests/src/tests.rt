@@ -2,6 +2,7 @@
 
 mod counting;
 mod loading;
+mod parts;
 mod stops;
 mod stored;
 mod untouched;

@@ -23,12 +23,14 @@ is_named c m = option_map_or (λ n. same_label m.name n) (name_of c) false
 abbrev pub any_named : Command → List Component → Bool
 any_named c ks = list_any (is_on_any (providers_of c)) ks
 
+-- the command names the mirror or gives its mid, or that is one of the further mids
+abbrev pub is_called : Command → List ℕ → Mirror → Bool
+is_called c mids m = (is_named c m || has_mid c m) || list_any (λ mid. m.mid == mid) mids
+
 -- The command asks for the mirror: it names it, or gives its mid, or that is one of the further
 -- mids, or a component of the mirror is on a provider that the command names.
 abbrev pub is_asked : Records → Command → List ℕ → Mirror → Bool
-is_asked s c mids m =
-    ((is_named c m || has_mid c m) || list_any (λ mid. m.mid == mid) mids)
-    || any_named c (members s.components m.name)
+is_asked s c mids m = is_called c mids m || any_named c (members s.components m.name)
 
 -- these mirrors, each with all its components
 abbrev pub with_components : List Mirror → List Component → Records

@@ -36,7 +36,8 @@ pub(crate) fn name_of(command: &Command) -> Option<Label>
     }
 }
 
-pub(crate) fn providers_of(command: &Command) -> &[Label]
+/// The providers that a command names.
+pub fn providers_of(command: &Command) -> &[Label]
     ensures { result.now ≡ providers_of command.now }
 {
     match command {

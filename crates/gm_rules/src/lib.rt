@@ -20,9 +20,10 @@ mod tests;
 
 pub use change::Change;
 pub use changing::changed_by;
+pub use checks::providers_of;
 pub use deciding::{decide, decide_part};
 pub use facts::{Fact, Facts};
 pub use laws::every_command_has_a_plan;
 pub use needs::needed;
-pub use parts::{a_part_is_a_state, part};
+pub use parts::{a_part_is_a_state, is_called, part};
 pub use refusals::{CallRefusal, Refusal};

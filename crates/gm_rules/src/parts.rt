@@ -6,7 +6,7 @@ ghost use Rattle.std.specs.List.{list_any};
 ghost use Rattle.gm_metadata.specs.Images.{same_label};
 ghost use Rattle.gm_state.specs.declared.command.Command.{Command};
 ghost use Rattle.gm_state.specs.Records.{Records, IsState, members};
-ghost use Rattle.gm_rules.specs.Parts.{is_named, any_named, is_asked, with_components, part_of};
+ghost use Rattle.gm_rules.specs.Parts.{is_named, any_named, is_called, is_asked, with_components, part_of};
 
 use crate::checks::{has_mid, is_on_any, name_of, providers_of};
 use gm_metadata::Label;
@@ -58,13 +58,17 @@ fn is_further(mids: &[u32], mirror: &Mirror) -> bool
     mids.iter().any(|mid| mirror.mid == *mid)
 }
 
+/// Whether the command names the mirror or gives its mid, or that is one of the further mids.
+pub fn is_called(command: &Command, mids: &[u32], mirror: &Mirror) -> bool
+    ensures { result ≡ is_called command.now mids.now mirror.now }
+{
+    is_named(command, mirror) || has_mid(command, mirror) || is_further(mids, mirror)
+}
+
 fn is_asked(state: &State, command: &Command, mids: &[u32], mirror: &Mirror) -> bool
     ensures { result ≡ is_asked state.now command.now mids.now mirror.now }
 {
-    is_named(command, mirror)
-        || has_mid(command, mirror)
-        || is_further(mids, mirror)
-        || any_named(command, state.components(), mirror.name)
+    is_called(command, mids, mirror) || any_named(command, state.components(), mirror.name)
 }
 
 fn asked(

@@ -42,15 +42,19 @@ pub key_place : (row : Row) → column (columns row) 0 ≡ column row 1
 key_place [] = refl
 key_place (x ∷ xs) = refl
 
+-- what passes tests that agree
+pub keeps_filter : {A : Type 0} (part : Row → Row) (row_of : A → Row) (p : Row → Bool) (mine : A → Bool) (stored : Row → Bool) → ((x : A) → p (row_of x) ≡ mine x) → ((r : Row) → p (part r) ≡ stored r)
+    → (xs : List A) (rows : List Row) → Keeps part row_of xs rows → Keeps part row_of (filter mine xs) (filter stored rows)
+keeps_filter part row_of p mine stored at_record at_row xs rows k =
+    let records : filter p (map row_of xs) ≡ map row_of (filter mine xs) = filter-map p row_of xs ∙ ap (map row_of) (filter_agree (λ x. p (row_of x)) mine at_record xs) in
+    let kept : filter p (map part rows) ≡ map part (filter stored rows) = filter-map p part rows ∙ ap (map part) (filter_agree (λ r. p (part r)) stored at_row rows) in
+    record {
+      same = subst₂ IsPermutation records kept (IsPermutation-filter p (map row_of xs) (map part rows) k.same);
+      keyed = IsShaped-filter shape.Table stored rows k.keyed;
+    }
+
 pub keeps_without : {A : Type 0} (row_of : A → Row) (key_of : A → List ℕ) → ((x : A) → column (row_of x) 0 ≡ Text (key_of x)) → (xs : List A) (rows : List Row) (key : List ℕ)
     → Keeps columns row_of xs rows → Keeps columns row_of (filter (λ x. not (bytes_eq (key_of x) key)) xs) (filter (λ r. not (has_key key r)) rows)
-keeps_without {A} row_of key_of first xs rows key k =
-    let p : Row → Bool = λ row. not (equal Binary (column row 0) (Text key)) in
-    let mine : filter p (map row_of xs) ≡ map row_of (filter (λ x. not (bytes_eq (key_of x) key)) xs) =
-    filter-map p row_of xs ∙ ap (map row_of) (filter_agree (λ x. p (row_of x)) (λ x. not (bytes_eq (key_of x) key)) (λ x. ap (λ v. not (equal Binary v (Text key))) (first x) ∙ ap not (texts_equal (key_of x) key)) xs) in
-    let stored : filter p (map columns rows) ≡ map columns (filter (λ r. not (has_key key r)) rows) =
-    filter-map p columns rows ∙ ap (map columns) (filter_agree (λ r. p (columns r)) (λ r. not (has_key key r)) (λ r. ap (λ v. not (equal Binary v (Text key))) (key_place r)) rows) in
-    record {
-      same = subst₂ IsPermutation mine stored (IsPermutation-filter p (map row_of xs) (map columns rows) k.same);
-      keyed = IsShaped-filter shape.Table (λ r. not (has_key key r)) rows k.keyed;
-    }
+keeps_without row_of key_of first xs rows key =
+    keeps_filter columns row_of (λ row. not (equal Binary (column row 0) (Text key))) (λ x. not (bytes_eq (key_of x) key)) (λ r. not (has_key key r))
+    (λ x. ap (λ v. not (equal Binary v (Text key))) (first x) ∙ ap not (texts_equal (key_of x) key)) (λ r. ap (λ v. not (equal Binary v (Text key))) (key_place r)) xs rows

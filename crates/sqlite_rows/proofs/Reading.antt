@@ -14,18 +14,18 @@ use Rattle.sqlite_rows.proofs.Refusing.{left_alone, asking_refusal}
 
 -- ---- a text that is a plain query over each schema that is known
 
-module _ (Known : Schema → Type 0) (sql : List ℕ) (plain : (s : Schema) → Known s → IsPlain (understood s sql)) where
-  nothing_left : (old new : State) → Survives old new (CommitsShowing sql [] old) → Survives old new (λ _. ¬ (Known old.now.schema))
-  nothing_left old new left = survives_weaker old new _ _ (λ _ db commits known. never_commits sql [] old db (plain old.now.schema known) commits) left
+module _ (Known : Schema → Type 0) (sql : List ℕ) (params : Row) (plain : (s : Schema) → Known s → IsPlain (understood s sql)) where
+  nothing_left : (old new : State) → Survives old new (CommitsShowing sql params old) → Survives old new (λ _. ¬ (Known old.now.schema))
+  nothing_left old new left = survives_weaker old new _ _ (λ _ db commits known. never_commits sql params old db (plain old.now.schema known) commits) left
 
-  pub read_by : (old new : State) (rows : List Row) → (HasCleanDisk new → Shown sql [] old new rows) → Survives old new (CommitsShowing sql [] old) → HasReadOver Known old new
+  pub read_by : (old new : State) (rows : List Row) → (HasCleanDisk new → Shown sql params old new rows) → Survives old new (CommitsShowing sql params old) → HasReadOver Known old new
   read_by old new rows shown left = record {
-    unchanged = λ clean known. left_alone sql [] old new rows (plain old.now.schema known) (shown clean);
+    unchanged = λ clean known. left_alone sql params old new rows (plain old.now.schema known) (shown clean);
     left = nothing_left old new left;
   }
 
-  pub failed_by : (old new : State) (e : Error) → (HasCleanDisk new → FailsToQuery sql [] old new e) → Survives old new (CommitsShowing sql [] old) → HasFailedOver Known old new
-  failed_by old new e fails left = record { refused = λ clean known _. asking_refusal sql [] old new e (fails clean); left = nothing_left old new left }
+  pub failed_by : (old new : State) (e : Error) → (HasCleanDisk new → FailsToQuery sql params old new e) → Survives old new (CommitsShowing sql params old) → HasFailedOver Known old new
+  failed_by old new e fails left = record { refused = λ clean known _. asking_refusal sql params old new e (fails clean); left = nothing_left old new left }
 
 -- ---- one after another
 

@@ -1,0 +1,38 @@
+-- Reads one after another, or none.
+use Rattle.std.proofs.Common.{inl, inr, sym, subst, arith}
+use Rattle.sqlite_trees.specs.declared.store.Store.{Ghosts}
+use Rattle.sqlite.specs.Held.{Held, state}
+use Rattle.sqlite.specs.State.{State, HasCleanDisk}
+use Rattle.gm_state.specs.Rows.{Tables}
+use Rattle.gm_registry.specs.Reads as reads
+use Rattle.gm_registry.specs.Registry.{DiskKept, IsOpen, HasTables, IsOurs, HasRead, HaveRead, HasFailed, StoreFailed}
+use Rattle.gm_registry.proofs.Failures.{failed_later}
+use Rattle.gm_registry.proofs.Passing.{read_then, failed_then, clean_before, tables_stay}
+
+pub failed_clean : (a b : State) → reads.HasFailed a b → HasCleanDisk b → HasCleanDisk a
+failed_clean a b failed clean = omega (arith, failed.left.clean)
+
+module _ {S : Type 0} (g : Ghosts S) where
+  pub some_then : (a b c : Held S) → HaveRead g a b → HasRead g b c → HasRead g a c
+  some_then a b c (inl same) second = subst (λ r. HasRead g r c) same second
+  some_then a b c (inr first) second = read_then (state g a) (state g b) (state g c) first second
+
+  pub then_some : (a b c : Held S) → HasRead g a b → HaveRead g b c → HasRead g a c
+  then_some a b c first (inl same) = subst (HasRead g a) (sym same) first
+  then_some a b c first (inr second) = read_then (state g a) (state g b) (state g c) first second
+
+  pub some_failed : (a b c : Held S) → HaveRead g a b → HasFailed g b c → HasFailed g a c
+  some_failed a b c (inl same) second = subst (λ r. HasFailed g r c) same second
+  some_failed a b c (inr first) second = failed_then (state g a) (state g b) (state g c) first second
+
+  pub some_clean : (a b : Held S) → HaveRead g a b → DiskKept g b → DiskKept g a
+  some_clean a b (inl same) clean = subst (DiskKept g) same clean
+  some_clean a b (inr first) clean = clean_before (state g a) (state g b) first clean
+
+  pub some_stay : (a b : Held S) (t : Tables) → HaveRead g a b → DiskKept g b → HasTables g a t → HasTables g b t
+  some_stay a b t (inl same) clean was = subst (λ r. HasTables g r t) (sym same) was
+  some_stay a b t (inr first) clean was = tables_stay (state g a) (state g b) t first clean was
+
+  pub some_later : (a b c : Held S) → HaveRead g a b → DiskKept g b → IsOurs g a → IsOpen g a → (IsOurs g b → IsOpen g b → StoreFailed g b c) → StoreFailed g a c
+  some_later a b c (inl same) clean ours is_open failed = subst (λ r. (IsOurs g r → IsOpen g r → StoreFailed g r c) → StoreFailed g a c) (sym same) (λ f. f ours is_open) failed
+  some_later a b c (inr first) clean ours is_open failed = failed_later (state g a) (state g b) (state g c) first clean ours is_open failed
