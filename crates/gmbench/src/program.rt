@@ -67,11 +67,7 @@ fn dump<O: Write>(
     }
 }
 
-fn perform<O: Write>(
-    rt: &HostRuntime,
-    job: Job<'_>,
-    output: &mut O,
-) -> Result<Status, Fault> {
+fn perform<O: Write>(rt: &HostRuntime, job: Job<'_>, output: &mut O) -> Result<Status, Fault> {
     match job {
         Job::Introduce => {
             writeln!(output, "gmbench: GEOM_MIRROR version 4")?;

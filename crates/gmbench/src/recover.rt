@@ -1,5 +1,9 @@
 //! The command `recover`: a registry and a folder of images are opened, which carries out what is pending.
 
+ghost use Rattle.std.specs.Prelude.{◌≡◌, IfOk};
+ghost use Rattle.gm_registry.specs.Faults.{fault_of};
+ghost use Rattle.gm_bench.specs.Faults.{of_store};
+
 use crate::status::{Fault, Status};
 use gm_bench::{Bench, BenchFault};
 use gm_shelf::{FileId, FileShelf, Shelf};
@@ -30,7 +34,9 @@ impl HeldFolder {
 }
 
 // A registry's file that can't be opened, read or closed.
-fn store_fault(error: Error) -> BenchFault {
+fn store_fault(error: Error) -> BenchFault
+    ensures { result ≡ of_store (fault_of error) }
+{
     match error {
         Error::SqliteFailure(ErrorCode::OutOfMemory) => BenchFault::Memory,
         _ => BenchFault::Store,
@@ -101,7 +107,9 @@ pub fn recover<O: Write>(
     registry: &str,
     folder: &str,
     output: &mut O,
-) -> Result<Status, Fault> {
+) -> Result<Status, Fault>
+    ensures { IfOk result (λ status. status ≡ Status.Done) }
+{
     let _held = HeldFolder::hold(rt, folder)?;
     // A folder that can't be listed is told before the registry is looked for.
     FileShelf::open(rt, folder)?;

@@ -1,6 +1,7 @@
 //! How the program ends.
 
 ghost use Rattle.std.specs.Prelude.{◌≡◌};
+ghost use Rattle.gm_bench.specs.Faults.{of_shelf};
 ghost use Rattle.gmbench.specs.Statuses.{refusal_number, status_code};
 
 use gm_bench::BenchFault;
@@ -58,6 +59,8 @@ impl fmt::Display for Fault {
 }
 
 impl From<AllocError> for Fault {
+    ghost from_gives = { λ cause fault. fault ≡ Fault.Bench BenchFault.Memory };
+
     fn from(_: AllocError) -> Self {
         Fault::MEMORY
     }
@@ -73,8 +76,10 @@ impl From<io::Error> for Fault {
 }
 
 impl From<ShelfFault> for Fault {
-    fn from(fault: ShelfFault) -> Self {
-        Fault::Bench(match fault {
+    ghost from_gives = { λ cause fault. fault ≡ Fault.Bench (of_shelf cause) };
+
+    fn from(cause: ShelfFault) -> Self {
+        Fault::Bench(match cause {
             ShelfFault::Memory => BenchFault::Memory,
             ShelfFault::Absent | ShelfFault::Range | ShelfFault::Device => BenchFault::Disk,
         })
@@ -82,8 +87,10 @@ impl From<ShelfFault> for Fault {
 }
 
 impl From<BenchFault> for Fault {
-    fn from(fault: BenchFault) -> Self {
-        Fault::Bench(fault)
+    ghost from_gives = { λ cause fault. fault ≡ Fault.Bench cause };
+
+    fn from(cause: BenchFault) -> Self {
+        Fault::Bench(cause)
     }
 }
 

@@ -45,7 +45,10 @@ fn ends_in(
     sector: &[u8; 512],
 ) -> Result<bool, Fail> {
     let bytes = bytes_in(rt, folder, name)?;
-    Ok(bytes.len() == 2048 && bytes[..1536] == [0; 1536] && bytes[1536..] == *sector)
+    let Some((front, last)) = bytes.as_slice().split_at_checked(1536) else {
+        return Ok(false);
+    };
+    Ok(front == [0; 1536].as_slice() && last == sector.as_slice())
 }
 
 // Whether the remove is carried out.
@@ -129,11 +132,21 @@ fn the_registry_is_no_image(rt: HostRuntime) -> Result<(), Fail> {
 #[test]
 fn what_lies_beside_a_registry_is_no_image(rt: HostRuntime) -> Result<(), Fail> {
     let folder = fresh_folder(&rt, "beside")?;
-    for name in ["r", "r-wal", "r-shm", "r-journal", "a.img", "r-log", "s-wal"] {
+    for name in [
+        "r",
+        "r-wal",
+        "r-shm",
+        "r-journal",
+        "a.img",
+        "r-log",
+        "s-wal",
+    ] {
         image(&rt, folder.as_str(), name, 512)?;
     }
     let registry = path_in(&rt, &folder, "r")?;
-    let shelf = images(&rt, registry.as_str(), folder.as_str()).ok().ok_or("not opened")?;
+    let shelf = images(&rt, registry.as_str(), folder.as_str())
+        .ok()
+        .ok_or("not opened")?;
     let wanted = [label("a.img")?, label("r-log")?, label("s-wal")?];
     assert_eq!(rt; shelf.names()?.as_slice(), wanted.as_slice());
     Ok(())
@@ -143,10 +156,11 @@ fn what_lies_beside_a_registry_is_no_image(rt: HostRuntime) -> Result<(), Fail> 
 fn a_file_that_is_no_registry_stays(rt: HostRuntime) -> Result<(), Fail> {
     let folder = fresh_folder(&rt, "foreign")?;
     let text = path_in(&rt, &folder, "text")?;
-    fs::write(&rt, text.as_str(), b"Somebody's notes.\n".as_slice())?;
+    let notes = b"Somebody's notes.\n".as_slice();
+    fs::write(&rt, text.as_str(), notes)?;
     let run = recover(&rt, text.as_str(), folder.as_str())?;
     expect_fault(&rt, &run, "gmbench: F2 store\n");
-    assert!(rt; bytes_in(&rt, &folder, "text")?.as_slice() == b"Somebody's notes.\n");
+    assert!(rt; bytes_in(&rt, &folder, "text")?.as_slice() == notes);
     let foreign = path_in(&rt, &folder, "foreign")?;
     put_foreign(&rt, foreign.as_str())?;
     let before = bytes_in(&rt, &folder, "foreign")?;
