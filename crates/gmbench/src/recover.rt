@@ -43,7 +43,7 @@ fn store_fault(error: Error) -> BenchFault
     }
 }
 
-// The registry's files that lie beside one another: its own, by whatever path it is named, and SQLite's.
+// The files of a registry that is there: its own, by whatever path it is named, and those that SQLite puts beside it.
 fn registry_files(rt: &HostRuntime, registry: &str) -> io::Result<Vec<FileId>> {
     let real = fs::canonicalize(rt, registry)?;
     let mut files = Vec::new(rt.alloc());

@@ -1,7 +1,6 @@
 //! How the program ends.
 
 ghost use Rattle.std.specs.Prelude.{◌≡◌};
-ghost use Rattle.gm_bench.specs.Faults.{of_shelf};
 ghost use Rattle.gmbench.specs.Statuses.{refusal_number, status_code};
 
 use gm_bench::BenchFault;
@@ -59,7 +58,10 @@ impl fmt::Display for Fault {
 }
 
 impl From<AllocError> for Fault {
-    ghost from_gives = { λ cause fault. fault ≡ Fault.Bench BenchFault.Memory };
+    ghost use Rattle.gm_bench.specs.declared.fault.BenchFault.TheVariants.{Memory};
+    ghost use Rattle.gmbench.specs.declared.status.Fault.TheVariants.{Bench};
+
+    ghost from_gives = { λ cause fault. fault ≡ Bench Memory };
 
     fn from(_: AllocError) -> Self {
         Fault::MEMORY
@@ -76,7 +78,10 @@ impl From<io::Error> for Fault {
 }
 
 impl From<ShelfFault> for Fault {
-    ghost from_gives = { λ cause fault. fault ≡ Fault.Bench (of_shelf cause) };
+    ghost use Rattle.gm_bench.specs.Faults.{of_shelf};
+    ghost use Rattle.gmbench.specs.declared.status.Fault.TheVariants.{Bench};
+
+    ghost from_gives = { λ cause fault. fault ≡ Bench (of_shelf cause) };
 
     fn from(cause: ShelfFault) -> Self {
         Fault::Bench(match cause {
@@ -87,7 +92,9 @@ impl From<ShelfFault> for Fault {
 }
 
 impl From<BenchFault> for Fault {
-    ghost from_gives = { λ cause fault. fault ≡ Fault.Bench cause };
+    ghost use Rattle.gmbench.specs.declared.status.Fault.TheVariants.{Bench};
+
+    ghost from_gives = { λ cause fault. fault ≡ Bench cause };
 
     fn from(cause: BenchFault) -> Self {
         Fault::Bench(cause)

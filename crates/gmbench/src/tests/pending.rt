@@ -1,7 +1,7 @@
 //! A registry with a remove that was accepted and not carried out, and the images that it speaks of.
 
 use super::{fresh, fresh_folder, image, label};
-use gm_metadata::{DiskFlags, Metadata, MirrorFlags, encode};
+use gm_metadata::{DiskFlags, Metadata, MirrorFlags};
 use gm_registry::{Registry, StoreFault};
 use gm_rules::{Change, Fact, Facts, changed_by, decide};
 use gm_shelf::{FileShelf, write_meta};
@@ -183,15 +183,25 @@ fn hash(bytes: &[u8]) -> [u8; 16] {
     Md5::digest(bytes).into()
 }
 
+fn hash_of_last(rt: &HostRuntime, folder: &String, name: &str) -> Result<[u8; 16], Fail> {
+    let path = format!(in rt.alloc(); "{folder}/{name}")?;
+    let bytes = fs::read(rt, path.as_str())?;
+    let (_, last) = bytes
+        .as_slice()
+        .split_at_checked(1536)
+        .ok_or("a short image")?;
+    Ok(hash(last))
+}
+
 #[test]
 fn the_stored_files_are_those_of_a_stopped_remove(rt: HostRuntime) -> Result<(), Fail> {
-    let folder = fresh_folder(&rt, "stored")?;
+    let folder = images_of_insert(&rt, "stored")?;
     let path = format!(in rt.alloc(); "{folder}/registry")?;
     put_registry(&rt, path.as_str())?;
     let bytes = fs::read(&rt, path.as_str())?;
     assert_eq!(rt; bytes.len(), 49152);
     assert_eq!(rt; hash(bytes.as_slice()), REGISTRY);
-    assert_eq!(rt; hash(&encode(&first()?)), SECTOR_A);
-    assert_eq!(rt; hash(&encode(&second()?)), SECTOR_B);
+    assert_eq!(rt; hash_of_last(&rt, &folder, "a.img")?, SECTOR_A);
+    assert_eq!(rt; hash_of_last(&rt, &folder, "b.img")?, SECTOR_B);
     Ok(())
 }

@@ -1,9 +1,8 @@
 //! The command `recover`, over registries and images that are files.
 
 use super::pending::{images_of_insert, put_registry};
-use super::{Outcome, dump, fresh, fresh_folder, image, label, run};
+use super::{Outcome, dump, fresh_folder, image, label, labelled_folder, run};
 use crate::recover::images;
-use gm_metadata::encode;
 use gm_shelf::Shelf;
 use sqlite::Connection;
 use std::fs::{self, File};
@@ -37,26 +36,18 @@ fn bytes_in(rt: &HostRuntime, folder: &String, name: &str) -> Result<Vec<u8>, Fa
     Ok(fs::read(rt, path_in(rt, folder, name)?.as_str())?)
 }
 
-// Whether an image has this last sector after three of zeros.
-fn ends_in(
-    rt: &HostRuntime,
-    folder: &String,
-    name: &str,
-    sector: &[u8; 512],
-) -> Result<bool, Fail> {
-    let bytes = bytes_in(rt, folder, name)?;
-    let Some((front, last)) = bytes.as_slice().split_at_checked(1536) else {
-        return Ok(false);
-    };
-    Ok(front == [0; 1536].as_slice() && last == sector.as_slice())
+// An image that is a mirror of its own: three sectors of zeros, and the metadata of an only component.
+fn alone(rt: &HostRuntime, test: &str) -> Result<Vec<u8>, Fail> {
+    bytes_in(rt, &labelled_folder(rt, test)?, "a.img")
 }
 
-// Whether the remove is carried out.
-fn is_removed(rt: &HostRuntime, folder: &String) -> Result<bool, Fail> {
-    Ok(
-        ends_in(rt, folder, "a.img", &encode(&fresh()?))?
-            && ends_in(rt, folder, "b.img", &[0; 512])?,
-    )
+// Whether the remove is carried out: a.img is alone, and b.img says nothing.
+fn is_removed(rt: &HostRuntime, folder: &String, alone: &Vec<u8>) -> Result<bool, Fail> {
+    let (first, second) = (
+        bytes_in(rt, folder, "a.img")?,
+        bytes_in(rt, folder, "b.img")?,
+    );
+    Ok(first == *alone && second.as_slice() == [0; 2048].as_slice())
 }
 
 #[test]
@@ -79,12 +70,13 @@ fn a_registry_is_made_where_there_is_none(rt: HostRuntime) -> Result<(), Fail> {
 fn a_stopped_remove_is_carried_out(rt: HostRuntime) -> Result<(), Fail> {
     let folder = images_of_insert(&rt, "pending")?;
     let registry = path_in(&rt, &folder, "registry")?;
+    let alone = alone(&rt, "pending-alone")?;
     put_registry(&rt, registry.as_str())?;
-    assert!(rt; !is_removed(&rt, &folder)?);
+    assert!(rt; !is_removed(&rt, &folder, &alone)?);
     for line in ["recovered 2\n", "recovered 0\n"] {
         let run = recover(&rt, registry.as_str(), folder.as_str())?;
         expect_recovered(&rt, &run, line);
-        assert!(rt; is_removed(&rt, &folder)?);
+        assert!(rt; is_removed(&rt, &folder, &alone)?);
     }
     Ok(())
 }
@@ -93,6 +85,7 @@ fn a_stopped_remove_is_carried_out(rt: HostRuntime) -> Result<(), Fail> {
 fn an_image_that_is_away_is_waited_for(rt: HostRuntime) -> Result<(), Fail> {
     let folder = images_of_insert(&rt, "away")?;
     let registry = path_in(&rt, &folder, "registry")?;
+    let alone = alone(&rt, "away-alone")?;
     put_registry(&rt, registry.as_str())?;
     let (place, away) = (
         path_in(&rt, &folder, "b.img")?,
@@ -106,7 +99,7 @@ fn an_image_that_is_away_is_waited_for(rt: HostRuntime) -> Result<(), Fail> {
     fs::rename(&rt, away.as_str(), place.as_str())?;
     let run = recover(&rt, registry.as_str(), folder.as_str())?;
     expect_recovered(&rt, &run, "recovered 2\n");
-    assert!(rt; is_removed(&rt, &folder)?);
+    assert!(rt; is_removed(&rt, &folder, &alone)?);
     Ok(())
 }
 
@@ -233,10 +226,11 @@ fn run_beside(rt: &HostRuntime, registry: &str, folder: &str) -> Result<Outcome,
 fn a_registry_in_use_is_refused(rt: HostRuntime) -> Result<(), Fail> {
     let folder = images_of_insert(&rt, "registry-in-use")?;
     let registry = path_in(&rt, &folder, "registry")?;
+    let alone = alone(&rt, "in-use-alone")?;
     put_registry(&rt, registry.as_str())?;
     let run = run_beside(&rt, registry.as_str(), folder.as_str())?;
     expect_fault(&rt, &run, "gmbench: F2 store\n");
-    assert!(rt; !is_removed(&rt, &folder)?);
+    assert!(rt; !is_removed(&rt, &folder, &alone)?);
     Ok(())
 }
 
