@@ -1,6 +1,7 @@
 //! A folder of image files.
 
-ghost use Rattle.std.specs.Prelude.{◌≡◌, ◌≢◌, ◌≤◌, ◌<◌, ◌/◌, ◌*◌, ◌↔◌, ℕ, Option, Some, None, IsOk, IfOk, IfErr, IsErrOf};
+ghost use Rattle.std.specs.Prelude.{◌≡◌, ◌≢◌, ◌≤◌, ◌<◌, ◌/◌, ◌*◌, ◌↔◌, ℕ, Option, Some, None, IsOk, IfOk, IfErr, IfSome, IsErrOf};
+ghost use Rattle.std.specs.List.{Contains};
 ghost use Rattle.std.specs.IoError.{error_kind};
 ghost use Rattle.std.specs.declared.io.ErrorKind.TheVariants.{OutOfMemory};
 ghost use Rattle.gm_shelf.specs.Disk.{View, faults_after};
@@ -8,6 +9,7 @@ ghost use Rattle.gm_shelf.specs.Faults.{fault_after};
 ghost use Rattle.gm_shelf.specs.Folder.{unknown, sectors_of};
 
 use crate::fault::{ShelfFault, device_failed};
+use crate::file_id::FileId;
 use crate::law::Shelf;
 use crate::names::names_in;
 use gm_metadata::Label;
@@ -79,8 +81,22 @@ pub struct FileShelf<R: Files<File = File> + AllocGlobal + Clone + Drop> {
     failures: u64,
 }
 
-// The image that an entry of a folder is, and its length in bytes.
-fn image_of<R: Files + Drop>(entry: io::Result<DirEntry<R>>) -> io::Result<Option<(Label, u64)>> {
+// A file of a folder that is an image: its name, its length in bytes, and which file it is.
+#[derive(Clone, Copy)]
+struct Found {
+    name: Label,
+    length: u64,
+    file: FileId,
+}
+
+// The image that an entry of a folder is, where it isn't one of the files that are left out.
+fn image_of<R: Files + Drop>(
+    entry: io::Result<DirEntry<R>>,
+    left_out: &[FileId],
+) -> io::Result<Option<Found>>
+    ensures left_out { IfOk result (λ found. IfSome found (λ image.
+        Contains left_out.now image.file → ⊥)) }
+{
     let entry = match entry {
         Ok(entry) => entry,
         Err(e) if e.kind() == ErrorKind::InvalidFilename => return Ok(None),
@@ -90,15 +106,26 @@ fn image_of<R: Files + Drop>(entry: io::Result<DirEntry<R>>) -> io::Result<Optio
         return Ok(None);
     };
     match entry.metadata() {
-        Ok(found) if is_image(&found) => Ok(Some((name, found.len()))),
-        Ok(_) => Ok(None),
+        Ok(found) => Ok(image_in(name, &found, left_out)),
         Err(e) if e.kind() == ErrorKind::NotFound => Ok(None),
         Err(e) => Err(e),
     }
 }
 
-fn is_image(found: &Metadata) -> bool {
-    found.is_file() && found.len() % 512 == 0
+// The image that a file of this name is, where it is one.
+fn image_in(name: Label, found: &Metadata, left_out: &[FileId]) -> Option<Found>
+    ensures left_out { IfSome result (λ image. Contains left_out.now image.file → ⊥) }
+{
+    let image = Found {
+        name,
+        length: found.len(),
+        file: FileId::of(found),
+    };
+    let is_image = found.is_file() && image.length % 512 == 0;
+    if is_image && !left_out.contains(&image.file) {
+        return Some(image);
+    }
+    None
 }
 
 // A file that lost its name, or is shorter than it was, is no image any more.
@@ -119,10 +146,19 @@ impl<R: Files<File = File> + AllocGlobal + Clone + Drop> FileShelf<R> {
         ensures folder { IfOk result (λ shelf. folder_of shelf ≡ folder.now) }
         ensures no_failures { IfOk result (λ shelf. failures_of shelf ≡ 0) }
     {
+        FileShelf::open_without(rt, folder, &[])
+    }
+
+    /// Opens a folder as `open` does, but for files that are no images, whatever their names are
+    /// there.
+    pub fn open_without(rt: &R, folder: &str, left_out: &[FileId]) -> io::Result<FileShelf<R>>
+        ensures folder { IfOk result (λ shelf. folder_of shelf ≡ folder.now) }
+        ensures no_failures { IfOk result (λ shelf. failures_of shelf ≡ 0) }
+    {
         let mut lengths = BTreeMap::new(rt.alloc());
         for entry in fs::read_dir(rt, folder)? {
-            if let Some((name, length)) = image_of(entry)? {
-                lengths.insert(name, length)?;
+            if let Some(image) = image_of(entry, left_out)? {
+                lengths.insert(image.name, image.length)?;
             }
         }
         Ok(FileShelf {

@@ -4,7 +4,7 @@
 //! Begin with `law.rt`, the trait `Shelf` and its law; `fault.rt` has the four faults and when each
 //! comes. `meta.rt` writes a last sector so that it is old or new at every moment.
 //! Three shelves keep to the law: `files.rt` is a folder of image files, of whose contents nothing is
-//! claimed; `memory.rt` is a disk in memory, of which `crash.rt` makes the images that a crash may
+//! claimed (`file_id.rt` tells which file a file is); `memory.rt` is a disk in memory, of which `crash.rt` makes the images that a crash may
 //! leave; and `fault_shelf.rt` makes the calls of another shelf fail.
 #![tactic(auto)]
 
@@ -13,6 +13,7 @@ mod disks;
 mod event;
 mod fault;
 mod fault_shelf;
+mod file_id;
 mod files;
 mod law;
 mod memory;
@@ -21,6 +22,7 @@ mod names;
 
 pub use fault::ShelfFault;
 pub use fault_shelf::FaultShelf;
+pub use file_id::FileId;
 pub use files::FileShelf;
 pub use law::Shelf;
 pub use memory::MemShelf;

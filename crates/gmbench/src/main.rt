@@ -3,6 +3,7 @@
 
 mod dump;
 mod program;
+mod recover;
 mod status;
 #[cfg(test)]
 mod tests;

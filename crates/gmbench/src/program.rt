@@ -1,15 +1,14 @@
 //! All that the program does, over any streams.
 
 use crate::dump::dump_text;
+use crate::recover::recover;
 use crate::status::{DumpRefusal, Fault, Status};
 use crate::words::{Job, job_of};
 use clap::Error;
 use clap::error::ErrorKind;
 use gm_metadata::{Label, decode};
 use gm_shelf::{FileShelf, Shelf};
-use std::fs::File;
 use std::io::{Read, Write};
-use std::rt::Files;
 
 // Prints what clap has to say, on the stream where it belongs.
 fn explain<O: Write, E: Write>(
@@ -18,7 +17,7 @@ fn explain<O: Write, E: Write>(
     complaints: &mut E,
 ) -> Result<Status, Fault> {
     if error.kind() == ErrorKind::OutOfMemory {
-        return Err(Fault::Memory);
+        return Err(Fault::MEMORY);
     }
     if error.use_stderr() {
         write!(complaints, "{error}")?;
@@ -44,8 +43,8 @@ fn last_sector<H: Shelf>(
     Ok(Ok(sector))
 }
 
-fn dump<R: Files<File = File> + AllocGlobal + Clone + Drop, O: Write>(
-    rt: &R,
+fn dump<O: Write>(
+    rt: &HostRuntime,
     folder: &str,
     provider: Label,
     output: &mut O,
@@ -68,22 +67,19 @@ fn dump<R: Files<File = File> + AllocGlobal + Clone + Drop, O: Write>(
     }
 }
 
-fn perform<R: Files<File = File> + AllocGlobal + Clone + Drop, O: Write>(
-    rt: &R,
-    job: Job<'_>,
-    output: &mut O,
-) -> Result<Status, Fault> {
+fn perform<O: Write>(rt: &HostRuntime, job: Job<'_>, output: &mut O) -> Result<Status, Fault> {
     match job {
         Job::Introduce => {
             writeln!(output, "gmbench: GEOM_MIRROR version 4")?;
             Ok(Status::Done)
         }
         Job::Dump { folder, provider } => dump(rt, folder, provider, output),
+        Job::Recover { registry, folder } => recover(rt, registry, folder, output),
     }
 }
 
-fn run<R: Files<File = File> + AllocGlobal + Clone + Drop, O: Write, E: Write>(
-    rt: &R,
+fn run<O: Write, E: Write>(
+    rt: &HostRuntime,
     words: &[&str],
     output: &mut O,
     complaints: &mut E,
@@ -99,15 +95,14 @@ fn run<R: Files<File = File> + AllocGlobal + Clone + Drop, O: Write, E: Write>(
 /// Runs the program on its words, without its own name, and answers how it ends.
 ///
 /// Lines go to `output`; faults, and complaints about the words, go to `complaints`.
-pub fn program<R, I, O, E>(
-    rt: &R,
+pub fn program<I, O, E>(
+    rt: &HostRuntime,
     words: &[&str],
     _input: &mut I,
     output: &mut O,
     complaints: &mut E,
 ) -> Status
 where
-    R: Files<File = File> + AllocGlobal + Clone + Drop,
     I: Read,
     O: Write,
     E: Write,

@@ -3,6 +3,7 @@
 ghost use Rattle.std.specs.Prelude.{◌≡◌};
 ghost use Rattle.gmbench.specs.Statuses.{refusal_number, status_code};
 
+use gm_bench::BenchFault;
 use gm_shelf::ShelfFault;
 use std::alloc::AllocError;
 use std::{fmt, io};
@@ -37,45 +38,66 @@ impl Status {
 /// A fault that ends the program. It prints as the line on standard error, without its line feed.
 #[derive(Clone, Copy, Debug, PartialEq, Eq)]
 pub enum Fault {
-    /// Memory was refused.
-    Memory,
-    /// A disk failed.
-    Disk,
+    /// A fault of the bench, or one that it has as well: want of memory, a disk that failed.
+    Bench(BenchFault),
     /// The standard streams or the folder failed.
     InputOrOutput,
 }
 
+impl Fault {
+    pub const MEMORY: Fault = Fault::Bench(BenchFault::Memory);
+}
+
 impl fmt::Display for Fault {
     fn fmt<W: fmt::Write>(&self, f: &mut fmt::Formatter<W>) -> fmt::Result {
-        f.write_str(match self {
-            Fault::Memory => "gmbench: F1 memory",
-            Fault::Disk => "gmbench: F3 disk",
-            Fault::InputOrOutput => "gmbench: input or output",
-        })
+        match self {
+            Fault::Bench(fault) => write!(f, "gmbench: {fault}"),
+            Fault::InputOrOutput => f.write_str("gmbench: input or output"),
+        }
     }
 }
 
 impl From<AllocError> for Fault {
+    ghost use Rattle.gm_bench.specs.declared.fault.BenchFault.TheVariants.{Memory};
+    ghost use Rattle.gmbench.specs.declared.status.Fault.TheVariants.{Bench};
+
+    ghost from_gives = { λ cause fault. fault ≡ Bench Memory };
+
     fn from(_: AllocError) -> Self {
-        Fault::Memory
+        Fault::MEMORY
     }
 }
 
 impl From<io::Error> for Fault {
     fn from(error: io::Error) -> Self {
         match error.kind() {
-            io::ErrorKind::OutOfMemory => Fault::Memory,
+            io::ErrorKind::OutOfMemory => Fault::MEMORY,
             _ => Fault::InputOrOutput,
         }
     }
 }
 
 impl From<ShelfFault> for Fault {
-    fn from(fault: ShelfFault) -> Self {
-        match fault {
-            ShelfFault::Memory => Fault::Memory,
-            ShelfFault::Absent | ShelfFault::Range | ShelfFault::Device => Fault::Disk,
-        }
+    ghost use Rattle.gm_bench.specs.Faults.{of_shelf};
+    ghost use Rattle.gmbench.specs.declared.status.Fault.TheVariants.{Bench};
+
+    ghost from_gives = { λ cause fault. fault ≡ Bench (of_shelf cause) };
+
+    fn from(cause: ShelfFault) -> Self {
+        Fault::Bench(match cause {
+            ShelfFault::Memory => BenchFault::Memory,
+            ShelfFault::Absent | ShelfFault::Range | ShelfFault::Device => BenchFault::Disk,
+        })
+    }
+}
+
+impl From<BenchFault> for Fault {
+    ghost use Rattle.gmbench.specs.declared.status.Fault.TheVariants.{Bench};
+
+    ghost from_gives = { λ cause fault. fault ≡ Bench cause };
+
+    fn from(cause: BenchFault) -> Self {
+        Fault::Bench(cause)
     }
 }
 

@@ -1,5 +1,8 @@
 //! The program over a folder of real files: what it prints and how it ends.
 
+mod pending;
+mod recover;
+
 use crate::program::program;
 use crate::status::Status;
 use gm_metadata::{Balance, DiskFlags, Label, Metadata, MirrorFlags};

@@ -12,6 +12,8 @@ pub enum Job<'a> {
     Introduce,
     /// Print what the last sector of a provider of a folder says.
     Dump { folder: &'a str, provider: Label },
+    /// Carry out what an earlier run left pending in a registry, on the images of a folder.
+    Recover { registry: &'a str, folder: &'a str },
 }
 
 fn shelf_option<'a>(alloc: Global) -> Arg<'a> {
@@ -19,6 +21,15 @@ fn shelf_option<'a>(alloc: Global) -> Arg<'a> {
         .long("shelf")
         .value_name("DIR")
         .help("The folder with the images")
+        .required(true)
+        .action(ArgAction::Set)
+}
+
+fn registry_option<'a>(alloc: Global) -> Arg<'a> {
+    Arg::new(alloc, "registry")
+        .long("registry")
+        .value_name("FILE")
+        .help("The registry, which is made where there is none")
         .required(true)
         .action(ArgAction::Set)
 }
@@ -35,12 +46,20 @@ fn dump_command<'a>(alloc: Global) -> Result<Command<'a>, AllocError> {
         .arg(provider)
 }
 
+fn recover_command<'a>(alloc: Global) -> Result<Command<'a>, AllocError> {
+    Command::new(alloc, "recover")
+        .about("Carries out what a run that stopped left pending")
+        .arg(registry_option(alloc))?
+        .arg(shelf_option(alloc))
+}
+
 fn program_command<'a>(alloc: Global) -> Result<Command<'a>, AllocError> {
     Command::new(alloc, "gmbench")
         .about("A workshop for disk images that are mirrors of gmirror(8)")
         .no_binary_name(true)
         .subcommand_required(true)
-        .subcommand(dump_command(alloc)?)
+        .subcommand(dump_command(alloc)?)?
+        .subcommand(recover_command(alloc)?)
 }
 
 // The label that a value is, or clap's complaint.
@@ -62,6 +81,13 @@ fn dump_of<'a>(alloc: Global, matches: &ArgMatches<'a>) -> Result<Job<'a>, Error
     Ok(Job::Dump { folder, provider })
 }
 
+fn recover_of<'a>(matches: &ArgMatches<'a>) -> Job<'a> {
+    Job::Recover {
+        registry: matches.get_str("registry").unwrap_or(""),
+        folder: matches.get_str("shelf").unwrap_or(""),
+    }
+}
+
 /// The job that the words ask for, without the program's own name. An `Err` is clap's: the text to print, or of the
 /// kind `OutOfMemory`.
 pub fn job_of<'a>(alloc: Global, words: &'a [&'a str]) -> Result<Job<'a>, Error> {
@@ -70,6 +96,7 @@ pub fn job_of<'a>(alloc: Global, words: &'a [&'a str]) -> Result<Job<'a>, Error>
     }
     let matches = program_command(alloc)?.try_get_matches_from(words)?;
     match matches.subcommand() {
+        Some(("recover", recover)) => Ok(recover_of(recover)),
         Some((_, dump)) => dump_of(alloc, dump),
         None => Ok(Job::Introduce),
     }

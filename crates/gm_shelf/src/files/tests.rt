@@ -2,6 +2,7 @@ use super::*;
 use crate::{FileShelf, Shelf, ShelfFault, write_meta};
 use gm_metadata::{Balance, DiskFlags, Label, Metadata, MirrorFlags, encode};
 use std::os::unix::fs::symlink;
+use std::path::Path;
 use std::process::Abort;
 use std::test::Fail;
 use std::{env, fs, process};
@@ -23,6 +24,11 @@ fn path_in(rt: &HostRuntime, folder: &String, name: &str) -> io::Result<String> 
 
 fn put_file(rt: &HostRuntime, folder: &String, name: &str, bytes: &[u8]) -> io::Result<()> {
     fs::write(rt, path_in(rt, folder, name)?.as_str(), bytes)
+}
+
+// The last part of its path.
+fn folder_name(folder: &String) -> &str {
+    Path::new(folder.as_str()).file_name().unwrap_or("")
 }
 
 fn label(text: &str) -> Result<Label, Fail> {
@@ -99,6 +105,26 @@ fn lists_images_alone(rt: HostRuntime) -> Result<(), Fail> {
     fs::remove_dir_all(&rt, folder.as_str())?;
     let gone = FileShelf::open(&rt, folder.as_str());
     assert!(rt; gone.is_err());
+    Ok(())
+}
+
+// A file is left out by what it is: the path that told it goes by a link and has another name.
+#[test]
+fn files_that_are_left_out_are_no_images(rt: HostRuntime) -> Result<(), Fail> {
+    let folder = new_folder(&rt, "left-out")?;
+    for name in ["a.img", "b.img", "c.img"] {
+        put_file(&rt, &folder, name, &[7; 1024])?;
+    }
+    symlink(&rt, "b.img", path_in(&rt, &folder, "link")?.as_str())?;
+    let link = format!(in rt.alloc(); "{}/../{}/link", folder, folder_name(&folder))?;
+    let left_out = FileId::of(&fs::metadata(&rt, link.as_str())?);
+    let shelf = FileShelf::open_without(&rt, folder.as_str(), &[left_out])?;
+    let wanted = [label("a.img")?, label("c.img")?];
+    assert_eq!(rt; shelf.names()?.as_slice(), wanted.as_slice());
+    assert_eq!(rt; shelf.sectors(label("b.img")?), None);
+    let all = FileShelf::open_without(&rt, folder.as_str(), &[])?;
+    assert_eq!(rt; all.sectors(label("b.img")?), Some(2));
+    fs::remove_dir_all(&rt, folder.as_str())?;
     Ok(())
 }
 
