@@ -19,6 +19,7 @@ use crate::answer::Work;
 use crate::fault::BenchFault;
 use crate::media::Media;
 use crate::seeing::facts_of;
+use gm_registry::Part;
 use gm_rules::{Change, Facts, Refusal, changed_by, decide_part, needed};
 use gm_shelf::Shelf;
 use gm_state::{Command, Intent, State};
@@ -102,27 +103,20 @@ impl<S: Alter, H: Shelf> Media<S, H> {
     }
 
     /// The part of the records that the command asks for, and how many mirrors there are. It writes nothing.
-    pub(crate) fn part(
-        &mut self,
-        alloc: Global,
-        command: &Command,
-    ) -> Result<(State, u64), BenchFault>
+    pub(crate) fn part(&mut self, alloc: Global, command: &Command) -> Result<Part, BenchFault>
         ensures part { H.honest self.old.shelf → DiskKept S.Store self.new.registry
             → IfOk result (λ r. (away : Image) (ts : List Intent) (u w : World)
             → (at : IsAt S.Store H.view H.size self.old.registry self.old.shelf away ts u w)
-            → IsPartOf r.0 command.now w.state × (r.1 ≡ length w.state.mirrors)
+            → IsPartOf r.state command.now w.state × (r.mirrors ≡ length w.state.mirrors)
             × HasTables S.Store self.new.registry at.tables) }
         ensures disk { IsErrOf result BenchFault.Disk → ⊥ }
         ensures fault { IfErr result IsOfCall }
         ensures reads { Reads S.Store self.old.registry self.new.registry }
         ensures shelf { self.new.shelf ≡ self.old.shelf }
     {
-        match self.load(alloc) {
-            Ok((state, _)) => {
-                let count = state.mirrors().len() as u64;
-                Ok((state, count))
-            }
-            Err(fault) => Err(fault),
+        match self.registry.part(alloc, command, &[]) {
+            Ok(part) => Ok(part),
+            Err(fault) => Err(BenchFault::of_store(fault)),
         }
     }
 
@@ -169,15 +163,15 @@ impl<S: Alter, H: Shelf> Media<S, H> {
         ensures honest { H.honest self.old.shelf → H.honest self.new.shelf }
         ensures size { H.size self.new.shelf ≡ H.size self.old.shelf }
     {
-        let (part, count) = match self.part(alloc, command) {
-            Ok(known) => known,
+        let part = match self.part(alloc, command) {
+            Ok(part) => part,
             Err(fault) => return Err(fault),
         };
-        let facts = match self.look(alloc, &part, command) {
+        let facts = match self.look(alloc, &part.state, command) {
             Ok(facts) => facts,
             Err(fault) => return Err(fault),
         };
-        match decide_on(alloc, &part, count, &facts, command) {
+        match decide_on(alloc, &part.state, part.mirrors, &facts, command) {
             Ok(decided) => Ok(decided),
             Err(fault) => Err(fault),
         }
