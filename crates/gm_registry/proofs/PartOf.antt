@@ -1,22 +1,21 @@
 -- What is asked for, and found by keys, is the part of the records that a command asks for.
-use Rattle.std.proofs.Common.{◌≡◌, ◌∙◌, inl, inr, ℕ, Bool, true, false, ◌||◌, ◌&&◌, cond, List, [], ◌∷◌, ◌++◌, map, filter, flat_map, length, refl, sym, ap, subst, IsPermutation}
+use Rattle.std.proofs.Common.{◌≡◌, ◌∙◌, inl, inr, ℕ, Bool, true, false, ◌||◌, List, [], ◌∷◌, ◌++◌, map, filter, flat_map, refl, sym, ap, subst, IsPermutation}
 use Rattle.std.specs.List.{list_any}
 use Rattle.std.proofs.lemmas.Bool.{cases_Bool}
 use Rattle.std.proofs.lemmas.List.Folds.{list_any-append, flat_map-map}
-use Rattle.std.proofs.lemmas.List.Sorted.{IsPermutation-refl, IsPermutation-trans, IsPermutation-sym, IsPermutation-cons, IsPermutation-middle, IsPermutation-append_right, list_any-IsPermutation, length_permutation}
+use Rattle.std.proofs.lemmas.List.Sorted.{IsPermutation-refl, IsPermutation-trans, IsPermutation-sym, IsPermutation-cons, IsPermutation-middle, IsPermutation-append_right, list_any-IsPermutation}
 use Rattle.sqlite_trees.proofs.ListLemmas.{IsPermutation-filter, IsPermutation-flat_map}
 use Rattle.gm_metadata.specs.Images.{same_label}
 use Rattle.gm_state.specs.declared.command.Command.{Command}
 use Rattle.gm_state.specs.declared.records.Component.{Component}
 use Rattle.gm_state.specs.declared.records.Mirror.{Mirror}
-use Rattle.gm_state.specs.Records.{Records, IsState, IsStateOf, name, members}
+use Rattle.gm_state.specs.Records.{Records, IsState, IsStateOf, name}
 use Rattle.gm_state.specs.Words.{Has, Ascends, label_lt}
-use Rattle.gm_state.proofs.Creating.{same_state}
-use Rattle.gm_state.proofs.Finding.{filter_agree, some_any, not_both}
+use Rattle.gm_state.proofs.Finding.{filter_agree, some_any}
 use Rattle.gm_state.proofs.Order.{same_is, lt_irrefl}
 use Rattle.gm_state.proofs.Words.{Ascends-filter}
 use Rattle.gm_rules.specs.Bad.{providers_of}
-use Rattle.gm_rules.specs.Parts.{is_called, any_named, is_asked, part_of}
+use Rattle.gm_rules.specs.Parts.{is_called, is_asked, part_of}
 use Rattle.gm_registry.specs.Keys.{under}
 use Rattle.gm_registry.specs.Parts.{is_asked_by}
 use Rattle.gm_registry.specs.declared.keyed.Key.TheVariants.{Provider, Mirror as OfMirror}

@@ -39,10 +39,7 @@ pub(crate) struct Asked {
 }
 
 /// All mirrors, in any order.
-fn all_mirrors<S: Alter>(
-    alloc: Global,
-    conn: &mut Connection<S>,
-) -> Result<Vec<Mirror>, StoreFault>
+fn all_mirrors<S: Alter>(alloc: Global, conn: &mut Connection<S>) -> Result<Vec<Mirror>, StoreFault>
     ensures all { DiskKept S.Store conn.new
         → IfOk result (λ ms. (t : Tables) (s : Records) → HasTables S.Store conn.old t
         → AreRecordsOf t s → IsPermutation s.mirrors ms.items) }
@@ -150,10 +147,7 @@ fn part_on<S: Alter>(
     let asked = read_asked(alloc, conn, command, mids)?;
     let mirrors = asked.count;
     match State::new(asked.mirrors, asked.components) {
-        Some(state) => Ok(Part {
-            state,
-            mirrors,
-        }),
+        Some(state) => Ok(Part { state, mirrors }),
         None => Err(StoreFault::Unreadable),
     }
 }

@@ -109,7 +109,10 @@ fn a_part_has_what_is_asked_for(rt: HostRuntime) -> Result<(), Fail> {
 // A row that says no component is met only where its mirror is asked for.
 fn meets_its_own_rows<S: Alter + Drop>(alloc: Global, store: Connection<S>) -> Result<(), Fail> {
     let mut store = two_mirrors(alloc, store)?.close();
-    run(&mut store, "UPDATE components SET hard = 2 WHERE prov = 'z.img'")?;
+    run(
+        &mut store,
+        "UPDATE components SET hard = 2 WHERE prov = 'z.img'",
+    )?;
     let mut registry = open(store)?;
     let first = part(alloc, &mut registry, &destroys("gm0")?, &[])?;
     must(has(&first, 1, 1, 2), "another part")?;
@@ -128,8 +131,10 @@ fn a_part_meets_its_own_rows(rt: HostRuntime) -> Result<(), Fail> {
 // Adds mirrors of four components each.
 fn add_mirrors<S: Alter>(alloc: Global, store: &mut Connection<S>) -> Result<(), Fail> {
     for mid in 100u32..140 {
-        let sql = format!(in alloc; "INSERT INTO mirrors VALUES ('m{mid}', {mid}, 4, 0, 1, 4096, 2, 1536, 0);
-INSERT INTO components VALUES ('a{mid}', 'm{mid}', 1, 1, 0, 0, 0, 0, 2048), ('b{mid}', 'm{mid}', 2, 1, 0, 0, 0, 0, 2048), ('c{mid}', 'm{mid}', 3, 1, 0, 0, 0, 0, 2048), ('d{mid}', 'm{mid}', 4, 1, 0, 0, 0, 0, 2048)")?;
+        let sql = format!(in alloc;
+            "INSERT INTO mirrors VALUES ('m{mid}', {mid}, 4, 0, 1, 4096, 2, 1536, 0);
+INSERT INTO components VALUES ('a{mid}', 'm{mid}', 1, 1, 0, 0, 0, 0, 2048), ('b{mid}', 'm{mid}', 2, 1, 0, 0, 0, 0, 2048), ('c{mid}', 'm{mid}', 3, 1, 0, 0, 0, 0, 2048), ('d{mid}', 'm{mid}', 4, 1, 0, 0, 0, 0, 2048)"
+        )?;
         store.execute_batch(sql.as_str())?;
     }
     Ok(())
