@@ -12,9 +12,12 @@ use Rattle.gm_state.proofs.Order.{same_is}
 use Rattle.gm_state.proofs.Testing.{member}
 use Rattle.gm_state.proofs.Words.{Has-filter, one}
 use Rattle.gm_rules.specs.Bad.{name_of, is_member_of, members_named}
-use Rattle.gm_rules.specs.Decides.{Changed, changed_by}
+use Rattle.gm_state.specs.World.{World, Sound}
+use Rattle.gm_rules.specs.Decides.{Changed, Makes, changed_by}
 use Rattle.gm_rules.specs.Parts.{IsPartOf, LeavesPart}
-use Rattle.gm_rules.specs.Step.{IsOwn}
+use Rattle.gm_rules.specs.Step.{CanAnswer, IsOwn}
+use Rattle.gm_rules.specs.Worlds.{seen_of}
+use Rattle.gm_rules.proofs.Plans.{every_plan}
 use Rattle.gm_rules.proofs.Agreeing.{of_part, is_state}
 use Rattle.gm_registry.specs.declared.parts.Part.{Part}
 use Rattle.gm_registry.specs.Parts.{IsPartFor}
@@ -62,3 +65,10 @@ module _ (c : Command) (part s w : Records) (ch : Changed) (leaves : LeavesPart 
 -- what the registry reads of a command is its part
 pub is_part : (s : Records) (c : Command) (mids : List ℕ) (p : Part) → IsState s → IsPartFor s c mids p → IsPartOf p.state c s
 is_part s c mids p state read = record { state = state; mids = mids; is = read.state }
+
+-- what a command leaves of its part is a state
+pub part_stays : (u : World) (key : List ℕ) (c : Command) (ch : Changed) (part : Records) → Sound u → CanAnswer u key c → Makes u.state (seen_of u) c ch → LeavesPart part c u.state ch → IsState (changed_by ch part)
+part_stays u key c ch part sound can makes leaves =
+    let plan = every_plan u key c sound can makes.good in
+    let same : changed_by ch u.state ≡ plan.0.state = makes.records ∙ sym plan.1.step.records in
+    leaves.state (subst IsState (sym same) plan.1.sound.state)

@@ -1,14 +1,15 @@
 //! Commands that are handed in.
 
-ghost use Rattle.std.specs.Prelude.{◌≡◌, ◌<◌, true, List, [], IfOk, IfErr, IsErrOf};
+ghost use Rattle.std.specs.Prelude.{◌≡◌, ◌<◌, ◌≤◌, true, List, [], IfOk, IfErr, IsErrOf};
 ghost use Rattle.gm_metadata.specs.Images.{Image};
 ghost use Rattle.gm_shelf.specs.Disk.{AreReads};
 ghost use Rattle.gm_state.specs.declared.command.Command.{Command};
 ghost use Rattle.gm_state.specs.Commands.{CommandFits, words_of};
 ghost use Rattle.gm_state.specs.World.{World, is_key};
 ghost use Rattle.gm_rules.specs.Step.{CanAnswer};
-ghost use Rattle.gm_registry.specs.Registry.{DiskKept, WasClean};
-ghost use Rattle.gm_registry.specs.Replies.{IsFree};
+ghost use Rattle.gm_state.specs.Rows.{Tables};
+ghost use Rattle.gm_registry.specs.Registry.{DiskKept, HasTables, WasClean};
+ghost use Rattle.gm_registry.specs.Replies.{AreWrittenUnder, IsFree, count_of};
 ghost use Rattle.gm_bench.specs.Accepting.{LeavesStep, IsAnswered};
 ghost use Rattle.gm_bench.specs.Faults.{IsOfCall};
 ghost use Rattle.gm_bench.specs.Planning.{IsPlanned};
@@ -41,6 +42,9 @@ impl<S: Alter, H: Shelf> Media<S, H> {
             u key.now c a) }
         ensures disk { IsErrOf result BenchFault.Disk → ⊥ }
         ensures fault { IfErr result IsOfCall }
+        ensures readable { DiskKept S.Store self.new.registry
+            → IsErrOf result BenchFault.Unreadable → (t : Tables)
+            → HasTables S.Store self.old.registry t → count_of t ≤ 100000 → ⊥ }
         ensures shelf { self.new.shelf ≡ self.old.shelf }
         ensures clean { WasClean S.Store self.old.registry self.new.registry }
     {
@@ -77,6 +81,10 @@ impl<S: Alter, H: Shelf> Media<S, H> {
         ensures disk { IsErrOf result BenchFault.Disk
             → (H.view self.old.shelf).faults < (H.view self.new.shelf).faults }
         ensures fault { IfErr result IsOfCall }
+        ensures readable { H.honest self.old.shelf → DiskKept S.Store self.new.registry
+            → IsErrOf result BenchFault.Unreadable → (away : Image) (u : World)
+            → IsAt S.Store H.view H.size self.old.registry self.old.shelf away [] u u
+            → CanAnswer u key.now command.now → ⊥ }
         ensures reads { H.honest self.old.shelf
             → AreReads (H.view self.old.shelf) (H.view self.new.shelf) }
         ensures honest { H.honest self.old.shelf → H.honest self.new.shelf }
@@ -115,6 +123,11 @@ impl<S: Alter, H: Shelf> Media<S, H> {
         ensures disk { IsErrOf result BenchFault.Disk
             → (H.view self.old.shelf).faults < (H.view self.new.shelf).faults }
         ensures fault { IfErr result IsOfCall }
+        ensures readable { H.honest self.old.shelf → DiskKept S.Store self.new.registry
+            → IsErrOf result BenchFault.Unreadable → (away : Image) (u : World)
+            → is_key key.now ≡ true → CommandFits command.now
+            → (at : IsAt S.Store H.view H.size self.old.registry self.old.shelf away [] u u)
+            → IsFree at.tables key.now → ⊥ }
         ensures reads { H.honest self.old.shelf
             → AreReads (H.view self.old.shelf) (H.view self.new.shelf) }
         ensures honest { H.honest self.old.shelf → H.honest self.new.shelf }
@@ -151,6 +164,11 @@ impl<S: Alter, H: Shelf> Media<S, H> {
         ensures disk { IsErrOf result BenchFault.Disk
             → (H.view self.old.shelf).faults < (H.view self.new.shelf).faults }
         ensures fault { IfErr result IsOfCall }
+        ensures readable { H.honest self.old.shelf → DiskKept S.Store self.new.registry
+            → IsErrOf result BenchFault.Unreadable → (away : Image) (u : World)
+            → is_key key.now ≡ true → CommandFits command.now
+            → (at : IsAt S.Store H.view H.size self.old.registry self.old.shelf away [] u u)
+            → AreWrittenUnder key.now at.tables → ⊥ }
         ensures reads { H.honest self.old.shelf
             → AreReads (H.view self.old.shelf) (H.view self.new.shelf) }
         ensures honest { H.honest self.old.shelf → H.honest self.new.shelf }
@@ -190,6 +208,10 @@ impl<S: Alter, H: Shelf> Media<S, H> {
         ensures disk { IsErrOf result BenchFault.Disk
             → (H.view self.old.shelf).faults < (H.view self.new.shelf).faults }
         ensures fault { IfErr result IsOfCall }
+        ensures readable { H.honest self.old.shelf → DiskKept S.Store self.new.registry
+            → IsErrOf result BenchFault.Unreadable → (away : Image) (u : World)
+            → (at : IsAt S.Store H.view H.size self.old.registry self.old.shelf away [] u u)
+            → AreWrittenUnder key.now at.tables → ⊥ }
         ensures reads { H.honest self.old.shelf
             → AreReads (H.view self.old.shelf) (H.view self.new.shelf) }
         ensures honest { H.honest self.old.shelf → H.honest self.new.shelf }

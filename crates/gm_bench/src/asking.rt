@@ -1,17 +1,20 @@
 //! What the rules answer to a command.
 
-ghost use Rattle.std.specs.Prelude.{◌≡◌, ◌<◌, ◌≤◌, List, [], length, IfOk, IfErr, IsErrOf, nat_le};
+ghost use Rattle.std.specs.Prelude.{◌≡◌, ◌<◌, ◌≤◌, ℕ, List, [], length, IfOk, IfErr, IsErrOf, nat_le};
 ghost use Rattle.gm_metadata.specs.Images.{Image};
 ghost use Rattle.gm_shelf.specs.Disk.{AreReads};
 ghost use Rattle.gm_state.specs.declared.command.Intent.{Intent};
 ghost use Rattle.gm_state.specs.Rows.{Tables};
-ghost use Rattle.gm_state.specs.World.{World};
+ghost use Rattle.gm_state.specs.Records.{Records, IsState};
+ghost use Rattle.gm_state.specs.World.{World, Sound};
 ghost use Rattle.gm_rules.specs.Decides.{changed_by};
 ghost use Rattle.gm_rules.specs.Parts.{IsPartOf};
+ghost use Rattle.gm_rules.specs.Step.{CanAnswer};
 ghost use Rattle.gm_rules.specs.Worlds.{AreFacts};
+ghost use Rattle.gm_registry.specs.Reading.{AreRecordsOf};
 ghost use Rattle.gm_registry.specs.Registry.{DiskKept, HasTables, Reads};
 ghost use Rattle.gm_registry.specs.Replies.{count_of};
-ghost use Rattle.gm_bench.specs.Faults.{IsOfCall};
+ghost use Rattle.gm_bench.specs.Faults.{IsOfCall, IsOfMedia};
 ghost use Rattle.gm_bench.specs.Recovering.{IsAt};
 ghost use Rattle.gm_bench.specs.Planning.{IsDecided};
 
@@ -43,6 +46,8 @@ fn plan(alloc: Global, part: &State, change: Change) -> Result<Planned, BenchFau
         × (p.work.intents.items ≡ change.intents)) }
     ensures disk { IsErrOf result BenchFault.Disk → ⊥ }
     ensures fault { IfErr result IsOfCall }
+    ensures readable { IsErrOf result BenchFault.Unreadable → IsState (changed_by change part.now)
+        → ⊥ }
 {
     let left = match changed_by(alloc, part, &change) {
         Ok(Some(left)) => left,
@@ -74,6 +79,9 @@ fn decide_on(
         → IsDecided u command.now r) }
     ensures disk { IsErrOf result BenchFault.Disk → ⊥ }
     ensures fault { IfErr result IsOfCall }
+    ensures readable { IsErrOf result BenchFault.Unreadable → (u : World) (key : List ℕ) → Sound u
+        → CanAnswer u key command.now → IsPartOf part.now command.now u.state
+        → count ≡ length u.state.mirrors → AreFacts facts.now u command.now → ⊥ }
 {
     match decide_part(alloc, part, count, facts, command) {
         Ok(Ok(change)) => match plan(alloc, part, change) {
@@ -93,6 +101,9 @@ impl<S: Alter, H: Shelf> Media<S, H> {
             → (full ≡ nat_le 100000 (count_of t)) × HasTables S.Store self.new.registry t) }
         ensures disk { IsErrOf result BenchFault.Disk → ⊥ }
         ensures fault { IfErr result IsOfCall }
+        ensures readable { DiskKept S.Store self.new.registry
+            → IsErrOf result BenchFault.Unreadable → (t : Tables)
+            → HasTables S.Store self.old.registry t → count_of t ≤ 100000 → ⊥ }
         ensures reads { Reads S.Store self.old.registry self.new.registry }
         ensures shelf { self.new.shelf ≡ self.old.shelf }
     {
@@ -111,6 +122,9 @@ impl<S: Alter, H: Shelf> Media<S, H> {
             × HasTables S.Store self.new.registry at.tables) }
         ensures disk { IsErrOf result BenchFault.Disk → ⊥ }
         ensures fault { IfErr result IsOfCall }
+        ensures readable { DiskKept S.Store self.new.registry
+            → IsErrOf result BenchFault.Unreadable → (t : Tables) (s : Records)
+            → HasTables S.Store self.old.registry t → AreRecordsOf t s → ⊥ }
         ensures reads { Reads S.Store self.old.registry self.new.registry }
         ensures shelf { self.new.shelf ≡ self.old.shelf }
     {
@@ -128,7 +142,7 @@ impl<S: Alter, H: Shelf> Media<S, H> {
             → IsPartOf part.now command.now u.state → AreFacts facts u command.now) }
         ensures disk { IsErrOf result BenchFault.Disk
             → (H.view self.old.shelf).faults < (H.view self.new.shelf).faults }
-        ensures fault { IfErr result IsOfCall }
+        ensures fault { IfErr result IsOfMedia }
         ensures reads { H.honest self.old.shelf
             → AreReads (H.view self.old.shelf) (H.view self.new.shelf) }
         ensures registry { self.new.registry ≡ self.old.registry }
@@ -157,6 +171,10 @@ impl<S: Alter, H: Shelf> Media<S, H> {
         ensures disk { IsErrOf result BenchFault.Disk
             → (H.view self.old.shelf).faults < (H.view self.new.shelf).faults }
         ensures fault { IfErr result IsOfCall }
+        ensures readable { H.honest self.old.shelf → DiskKept S.Store self.new.registry
+            → IsErrOf result BenchFault.Unreadable → (away : Image) (u : World) (key : List ℕ)
+            → IsAt S.Store H.view H.size self.old.registry self.old.shelf away [] u u
+            → CanAnswer u key command.now → ⊥ }
         ensures store { Reads S.Store self.old.registry self.new.registry }
         ensures reads { H.honest self.old.shelf
             → AreReads (H.view self.old.shelf) (H.view self.new.shelf) }

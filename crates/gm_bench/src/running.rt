@@ -5,6 +5,7 @@ ghost use Rattle.gm_metadata.specs.Images.{Image};
 ghost use Rattle.gm_shelf.specs.Disk.{AreReads};
 ghost use Rattle.gm_state.specs.World.{World};
 ghost use Rattle.gm_registry.specs.Registry.{DiskKept, WasClean};
+ghost use Rattle.gm_registry.specs.Replies.{AreWrittenUnder};
 ghost use Rattle.gm_bench.specs.declared.answer.Accepted.{Accepted};
 ghost use Rattle.gm_bench.specs.declared.answer.Work.{Work};
 ghost use Rattle.gm_bench.specs.Owed.{AcceptAnswers, AcceptLeaves, ApplyDoes, ApplyLeaves, SettleDoes, SettleLeaves, RunAnswers, RunLeaves};
@@ -48,6 +49,11 @@ impl<S: Alter, H: Shelf> Bench<S, H> {
         ensures failed { OnErr result (self.new.progress ≡ Progress.Failed) }
         ensures reopen { IsErrOf result BenchFault.Closed → self.old.progress ≡ Progress.Failed }
         ensures absent { (p : List ℕ) → IsErrOf result (BenchFault.Absent p) → ⊥ }
+        // A command under the key that somebody else's hand wrote may not be readable.
+        ensures readable { H.honest self.old.media.shelf → DiskKept S.Store self.new.media.registry
+            → IsErrOf result BenchFault.Unreadable → (away : Image) (u : World)
+            → (at : IsAt S.Store H.view H.size self.old.media.registry self.old.media.shelf away
+            [] u u) → AreWrittenUnder key.now at.tables → ⊥ }
         ensures disk { IsErrOf result BenchFault.Disk
             → (H.view self.old.media.shelf).faults < (H.view self.new.media.shelf).faults }
         ensures reads { H.honest self.old.media.shelf
@@ -172,6 +178,7 @@ impl<S: Alter, H: Shelf> Bench<S, H> {
         ensures failed { OnErr result (self.new.progress ≡ Progress.Failed) }
         ensures reopen { IsErrOf result BenchFault.Closed → self.old.progress ≡ Progress.Failed }
         ensures absent { (p : List ℕ) → IsErrOf result (BenchFault.Absent p) → ⊥ }
+        ensures unreadable { IsErrOf result BenchFault.Unreadable → ⊥ }
         ensures honest { H.honest self.old.media.shelf → H.honest self.new.media.shelf }
         ensures size { H.size self.new.media.shelf ≡ H.size self.old.media.shelf }
         ensures redone { self.new.redone ≡ self.old.redone }
@@ -203,6 +210,11 @@ impl<S: Alter, H: Shelf> Bench<S, H> {
         ensures failed { OnErr result (self.new.progress ≡ Progress.Failed) }
         ensures reopen { IsErrOf result BenchFault.Closed → self.old.progress ≡ Progress.Failed }
         ensures absent { (p : List ℕ) → IsErrOf result (BenchFault.Absent p) → ⊥ }
+        // A command under the key that somebody else's hand wrote may not be readable.
+        ensures readable { H.honest self.old.media.shelf → DiskKept S.Store self.new.media.registry
+            → IsErrOf result BenchFault.Unreadable → (away : Image) (u : World)
+            → (at : IsAt S.Store H.view H.size self.old.media.registry self.old.media.shelf away
+            [] u u) → AreWrittenUnder key.now at.tables → ⊥ }
         ensures honest { H.honest self.old.media.shelf → H.honest self.new.media.shelf }
         ensures size { H.size self.new.media.shelf ≡ H.size self.old.media.shelf }
         ensures redone { self.new.redone ≡ self.old.redone }

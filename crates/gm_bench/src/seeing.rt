@@ -3,7 +3,7 @@
 ghost use Rattle.std.specs.Prelude.{◌≡◌, ◌≤◌, ◌<◌, ℕ, List, Some, None, IfOk, IfErr, MatchOption, IsErrOf};
 ghost use Rattle.gm_shelf.specs.Disk.{AreReads};
 ghost use Rattle.gm_state.specs.Words.{Has};
-ghost use Rattle.gm_bench.specs.Faults.{IsOfCall};
+ghost use Rattle.gm_bench.specs.Faults.{IsOfMedia};
 ghost use Rattle.gm_bench.specs.Seeing.{Tell, IsFact, last_of};
 
 use crate::fault::BenchFault;
@@ -18,7 +18,7 @@ fn last_of<H: Shelf>(shelf: &mut H, provider: Label, sectors: u64) -> Result<[u8
         → IfOk result (λ last. last ≡ last_of sectors ((H.view shelf.old).seen provider)) }
     ensures disk { H.size shelf.old provider ≡ Some sectors → IsErrOf result BenchFault.Disk
         → (H.view shelf.old).faults < (H.view shelf.new).faults }
-    ensures fault { IfErr result IsOfCall }
+    ensures fault { IfErr result IsOfMedia }
     ensures reads { H.honest shelf.old → AreReads (H.view shelf.old) (H.view shelf.new) }
     ensures honest { H.honest shelf.old → H.honest shelf.new }
     ensures size { H.size shelf.new ≡ H.size shelf.old }
@@ -41,7 +41,7 @@ pub(crate) fn fact_of<H: Shelf>(shelf: &mut H, provider: Label) -> Result<Option
         (λ f. IsFact (H.size shelf.old) (H.view shelf.old).seen f × (f.provider ≡ provider))) }
     ensures disk { IsErrOf result BenchFault.Disk
         → (H.view shelf.old).faults < (H.view shelf.new).faults }
-    ensures fault { IfErr result IsOfCall }
+    ensures fault { IfErr result IsOfMedia }
     ensures reads { H.honest shelf.old → AreReads (H.view shelf.old) (H.view shelf.new) }
     ensures honest { H.honest shelf.old → H.honest shelf.new }
     ensures size { H.size shelf.new ≡ H.size shelf.old }
@@ -70,7 +70,7 @@ pub(crate) fn facts_of<H: Shelf>(
         → Tell facts (H.size shelf.old) (H.view shelf.old).seen q) }
     ensures disk { IsErrOf result BenchFault.Disk
         → (H.view shelf.old).faults < (H.view shelf.new).faults }
-    ensures fault { IfErr result IsOfCall }
+    ensures fault { IfErr result IsOfMedia }
     ensures reads { H.honest shelf.old → AreReads (H.view shelf.old) (H.view shelf.new) }
     ensures honest { H.honest shelf.old → H.honest shelf.new }
     ensures size { H.size shelf.new ≡ H.size shelf.old }

@@ -1,3 +1,5 @@
+use Rattle.std.proofs.Common.{◌≡◌, Err, ap}
+use Rattle.gm_bench.specs.declared.fault.BenchFault.TheVariants.{Unreadable}
 use Rattle.gm_registry.proofs.Saving.{saved}
 use Rattle.gm_bench.proofs.Deciding.{unstepped_same}
 use Rattle.gm_bench.proofs.Phases.{takes_failed}
@@ -18,3 +20,8 @@ returns-in_default-clause-reopen g c is = takes_failed c.args.self.now.progress 
 
 pub returns-in-Ok-clause-answers : goal.returns-in-Ok-clause-answers
 returns-in-Ok-clause-answers g c h clean = (c.in-Ok.accepted, c.tell-answer.ensures.0, c.tell-answer.ensures.1, c.in-Ok.ensures.done h clean)
+
+pub returns-in-Err-clause-readable : goal.returns-in-Err-clause-readable
+returns-in-Err-clause-readable g c h clean is away u at written =
+    let fault : c.in-Err.fault ≡ Unreadable = cc in
+    c.in-Err.ensures.readable h clean (ap Err fault) away u at written

@@ -1,3 +1,5 @@
+use Rattle.std.proofs.Common.{◌≡◌, true, rules}
+use Rattle.gm_state.specs.World.{is_key}
 use Rattle.gm_registry.proofs.Saving.{saved}
 use Rattle.gm_bench.proofs.Deciding.{unstepped_same}
 use Rattle.gm_bench.proofs.media.Media.accept.Goals as goal
@@ -11,3 +13,8 @@ pub returns-in-Err-clause-leaves : goal.returns-in-Err-clause-leaves
 returns-in-Err-clause-leaves g c h clean away u at =
     unstepped_same g.S.Store g.H.Shelf.view g.H.Shelf.size c.args.self.now.registry c.args.self.now.shelf away u at (g.met.H.Shelf.lawful c.args.self.now.shelf h)
     c.args.key.now c.args.command.now (saved g.S.Store g.met.S.Store.settled c.args.self.now.registry at.tables at.has).crash
+
+pub returns-in-Ok-clause-readable : goal.returns-in-Ok-clause-readable
+returns-in-Ok-clause-readable g c h clean is away u at written =
+    let key_ok : is_key c.args.key.now ≡ true = search rules in
+    c.answer.ensures.readable h clean is away u key_ok c.in-Ok.ensures.fits at written

@@ -68,3 +68,13 @@ returns-in-Ok-Some-clause-done g c h clean away u words key_ok fits at =
     let here = still g.S.Store g.H.Shelf.view g.H.Shelf.size c.args.self.now.registry c.args.self.now.shelf c.args.self.now.shelf away u at lawful (quiet_itself (g.H.Shelf.view c.args.self.now.shelf)) refl c.reply_of.new.self f.1.tables in
     let other : string_bytes c.in-Ok-Some.kept ≢ c.args.words.now = λ e. true≢false (sym (same_from c.as_str.result.now c.args.words.now (c.as_str.ensures.value ∙ e)) ∙ (sym c.eq.ensures ∙ c.if-eq.false)) in
     (other_command u at.tables l.sound l.records c.args.key.now c.args.command.now key_ok a.0 a.1 a.2 (λ e. other (sym a.4 ∙ (e ∙ sym words))), here)
+
+pub returns-in-Ok-None-clause-readable : goal.returns-in-Ok-None-clause-readable
+returns-in-Ok-None-clause-readable g c h clean is away u key_ok fits at written =
+    let asked : DiskKept g.S.Store c.reply_of.new.self = omega (arith, clean, c.decide.ensures.clean) in
+    let lawful = g.met.H.Shelf.lawful c.args.self.now.shelf h in
+    let f = c.in-Ok-None.ensures.found asked at.tables at.has in
+    let free : IsFree at.tables c.args.key.now = subst (λ o. MatchOption o (IsFree at.tables c.args.key.now) (λ it. IsKept at.tables c.args.key.now it.0 (string_bytes it.1) it.2)) c.in-Ok-None.field-0-is f.0 in
+    let quiet = quiet_itself (g.H.Shelf.view c.args.self.now.shelf) in
+    let at1 = still g.S.Store g.H.Shelf.view g.H.Shelf.size c.args.self.now.registry c.args.self.now.shelf c.args.self.now.shelf away u at lawful quiet refl c.reply_of.new.self f.1.tables in
+    c.decide.ensures.readable h clean is away u key_ok fits at1 free

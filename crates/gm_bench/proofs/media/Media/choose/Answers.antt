@@ -1,11 +1,12 @@
-use Rattle.std.proofs.Common.{sym, subst, arith}
+use Rattle.std.proofs.Common.{◌≡◌, Err, sym, ap, subst, arith}
 use Rattle.gm_registry.specs.Registry.{DiskKept}
 use Rattle.gm_registry.proofs.Saving.{saved}
 use Rattle.gm_rules.specs.Decides.{IsLeast}
 use Rattle.gm_rules.specs.Worlds.{seen_of}
 use Rattle.gm_bench.specs.Accepting.{LeavesStep, IsAnswered}
+use Rattle.gm_bench.specs.declared.fault.BenchFault.TheVariants.{Unreadable}
 use Rattle.gm_bench.specs.Planning.{IsPlanned, IsDecided}
-use Rattle.gm_bench.proofs.Answering.{least}
+use Rattle.gm_bench.proofs.Answering.{as_many, least}
 use Rattle.gm_bench.proofs.Deciding.{still, unstepped, then_step, ok_then}
 use Rattle.gm_bench.proofs.media.Media.choose.Goals as goal
 
@@ -57,3 +58,17 @@ pub returns-in-Err-clause-leaves : goal.returns-in-Err-clause-leaves
 returns-in-Err-clause-leaves g c h clean away u words at can =
     unstepped g.S.Store g.H.Shelf.view g.H.Shelf.size c.args.self.now.registry c.args.self.now.shelf c.ask.new.self.shelf away u at (g.met.H.Shelf.lawful c.args.self.now.shelf h) (c.ask.ensures.reads h).quiet c.ask.ensures.size
     c.ask.new.self.registry c.args.key.now c.args.command.now (saved g.S.Store g.met.S.Store.settled c.args.self.now.registry at.tables at.has).crash clean (c.ask.ensures.store.left at.tables at.has)
+
+pub returns-in-Ok-Ok-clause-readable : goal.returns-in-Ok-Ok-clause-readable
+returns-in-Ok-Ok-clause-readable g c h clean is away u at can =
+    let l = (at.leads (g.H.Shelf.view c.args.self.now.shelf).seen (g.met.H.Shelf.lawful c.args.self.now.shelf h).holds_now).0 in
+    let asked : DiskKept g.S.Store c.ask.new.self.registry = omega (arith, clean, c.commit.ensures.clean) in
+    let d = c.in-Ok-Ok.ensures.decides h asked away u at in
+    let many = as_many u at.tables l.sound l.records c.args.key.now c.args.command.now in
+    let few = l.sound.answers.count in
+    c.commit.ensures.readable clean is at.tables d.1 (omega (arith, many, few))
+
+pub returns-in-Err-clause-readable : goal.returns-in-Err-clause-readable
+returns-in-Err-clause-readable g c h clean is away u at can =
+    let fault : c.in-Err.fault ≡ Unreadable = cc in
+    c.in-Err.ensures.readable h clean (ap Err fault) away u c.args.key.now at can

@@ -1,4 +1,5 @@
-use Rattle.std.proofs.Common.{◌<◌, length, sym, ap, subst, arith}
+use Rattle.std.proofs.Common.{◌≡◌, ◌<◌, Err, length, sym, ap, subst, arith}
+use Rattle.gm_bench.specs.declared.fault.BenchFault.TheVariants.{Unreadable}
 use Rattle.gm_rules.specs.Step.{CanAnswer}
 use Rattle.gm_registry.specs.Registry.{DiskKept}
 use Rattle.gm_registry.specs.Replies.{count_of}
@@ -73,3 +74,34 @@ returns-in-Err-clause-leaves g c h clean away u words key_ok fits at free =
     unstepped g.S.Store g.H.Shelf.view g.H.Shelf.size c.args.self.now.registry c.args.self.now.shelf c.is_full.new.self.shelf away u at (g.met.H.Shelf.lawful c.args.self.now.shelf h)
     (quiet_same g.H.Shelf.view c.args.self.now.shelf c.is_full.new.self.shelf c.is_full.ensures.shelf) (ap g.H.Shelf.size c.is_full.ensures.shelf)
     c.is_full.new.self.registry c.args.key.now c.args.command.now (saved g.S.Store g.met.S.Store.settled c.args.self.now.registry at.tables at.has).crash clean (c.is_full.ensures.reads.left at.tables at.has)
+
+pub returns-in-Ok-false-clause-readable : goal.returns-in-Ok-false-clause-readable
+returns-in-Ok-false-clause-readable g c h clean is away u key_ok fits at free =
+    let view = g.H.Shelf.view in
+    let size = g.H.Shelf.size in
+    let h1 = subst g.H.Shelf.honest (sym c.is_full.ensures.shelf) h in
+    let lawful = g.met.H.Shelf.lawful c.args.self.now.shelf h in
+    let l = (at.leads (view c.args.self.now.shelf).seen lawful.holds_now).0 in
+    let counted : DiskKept g.S.Store c.is_full.new.self.registry = omega (arith, clean, c.choose.ensures.clean) in
+    let told = c.in-Ok-false.ensures.told counted at.tables at.has in
+    let many = as_many u at.tables l.sound l.records c.args.key.now c.args.command.now in
+    let few = room_of c.in-Ok-false.field-0 (count_of at.tables) told.0 c.in-Ok-false.field-0-test in
+    let room : length u.answered < 100000 = omega (arith, many, few) in
+    let can : CanAnswer u c.args.key.now c.args.command.now = record {
+      key_ok = key_ok;
+      free = free_key u at.tables l.sound l.records c.args.key.now c.args.command.now free;
+      room = room;
+      fits = fits;
+    } in
+    let quiet = quiet_same view c.args.self.now.shelf c.is_full.new.self.shelf c.is_full.ensures.shelf in
+    let same = ap size c.is_full.ensures.shelf in
+    let at1 = still g.S.Store view size c.args.self.now.registry c.args.self.now.shelf c.is_full.new.self.shelf away u at lawful quiet same c.is_full.new.self.registry told.1 in
+    c.choose.ensures.readable h1 clean is away u at1 can
+
+pub returns-in-Err-clause-readable : goal.returns-in-Err-clause-readable
+returns-in-Err-clause-readable g c h clean is away u key_ok fits at free =
+    let l = (at.leads (g.H.Shelf.view c.args.self.now.shelf).seen (g.met.H.Shelf.lawful c.args.self.now.shelf h).holds_now).0 in
+    let many = as_many u at.tables l.sound l.records c.args.key.now c.args.command.now in
+    let few = l.sound.answers.count in
+    let fault : c.in-Err.fault ≡ Unreadable = cc in
+    c.in-Err.ensures.readable clean (ap Err fault) at.tables at.has (omega (arith, many, few))
