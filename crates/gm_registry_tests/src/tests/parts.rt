@@ -145,8 +145,8 @@ fn goes_by_keys<S: Alter + Drop>(alloc: Global, store: Connection<S>) -> Result<
     let mut store = two_mirrors(alloc, store)?.close();
     add_mirrors(alloc, &mut store)?;
     must_count(&mut store, 162, "SELECT count(*) FROM components")?;
+    store.set_step_limit(Some(120));
     let mut registry = open(store)?;
-    registry.conn.set_step_limit(Some(120));
     let read = part(alloc, &mut registry, &clears("c117")?, &[])?;
     must(has(&read, 1, 4, 42), "another part")?;
     let all = registry.load(alloc);
