@@ -3,11 +3,8 @@
 //! opening carries out what was accepted.
 //!
 //! Read `specs/Leading.antt` first, what tables and an image lead to, then `specs/Recovering.antt` and
-//! `specs/Accepting.antt`, what a call may leave, and `specs/Schedule.antt`, what a whole run is; then `bench`, whose
-//! calls are those of `media` in turn. `laws` says what holds of every run.
-//!
-//! It isn't finished: it reads the whole registry for each command, a caller can't stop between accepting and carrying
-//! out, and it doesn't show its records.
+//! `specs/Accepting.antt`, what a call may leave, `specs/Owed.antt`, what each call owes, and `specs/Schedule.antt`, what a
+//! whole run is; then `bench` and `running`, whose calls are those of `media` in turn. `laws` says what holds of every run.
 #![tactic(auto)]
 
 mod accepting;
