@@ -12,6 +12,8 @@ use Rattle.gm_state.specs.declared.command.Command.{Command}
 use Rattle.gm_state.specs.declared.command.Intent.{Intent}
 use Rattle.gm_state.specs.World.{World}
 use Rattle.gm_registry.specs.Registry.{CrashLeaves, CrashLeavesOnly, DiskKept, HasTables, LeavesNothingNew}
+use Rattle.sqlite.specs.Held.{state}
+use Rattle.sqlite.proofs.StateLemmas.{survives_then}
 use Rattle.gm_bench.specs.Accepting.{OrStep, LeavesStep}
 use Rattle.gm_bench.specs.Leading.{AllLead}
 use Rattle.gm_bench.specs.Recovering.{IsFound, IsAt, Recovers}
@@ -84,3 +86,7 @@ many_of b n e t = let h : nat_le 100000 n ≡ true = sym e ∙ t in grind (arith
 
 pub room_of : (b : Bool) (n : ℕ) → b ≡ nat_le 100000 n → b ≡ false → n < 100000
 room_of b n e t = let h : nat_le 100000 n ≡ false = sym e ∙ t in grind (arith, nat_tests)
+
+-- two reads, one after the other
+pub nothing_then : {S : Type 0} (g : Ghosts S) (r mid s : Held S) → LeavesNothingNew g r mid → LeavesNothingNew g mid s → LeavesNothingNew g r s
+nothing_then g r mid s first second = survives_then (state g r) (state g mid) (state g s) (λ _. ⊥) (λ _. ⊥) (λ _. ⊥) (λ _ db f. f) (λ _ db f. f) first second

@@ -8,7 +8,7 @@ ghost use Rattle.gm_state.specs.Commands.{CommandFits, words_of};
 ghost use Rattle.gm_state.specs.World.{World, is_key};
 ghost use Rattle.gm_rules.specs.Step.{CanAnswer};
 ghost use Rattle.gm_state.specs.Rows.{Tables};
-ghost use Rattle.gm_registry.specs.Registry.{DiskKept, HasTables, WasClean};
+ghost use Rattle.gm_registry.specs.Registry.{DiskKept, HasTables, LeavesNothingNew, WasClean};
 ghost use Rattle.gm_registry.specs.Replies.{AreWrittenUnder, IsFree, count_of};
 ghost use Rattle.gm_bench.specs.Accepting.{LeavesStep, IsAnswered};
 ghost use Rattle.gm_bench.specs.Faults.{IsOfCall};
@@ -80,6 +80,10 @@ impl<S: Alter, H: Shelf> Media<S, H> {
             u key.now command.now a) }
         ensures disk { IsErrOf result BenchFault.Disk
             → (H.view self.old.shelf).faults < (H.view self.new.shelf).faults }
+        // It comes before anything is written.
+        ensures kept { DiskKept S.Store self.new.registry → IsErrOf result BenchFault.Disk
+            → (t : Tables) → HasTables S.Store self.old.registry t
+            → LeavesNothingNew S.Store self.old.registry self.new.registry }
         ensures fault { IfErr result IsOfCall }
         ensures readable { H.honest self.old.shelf → DiskKept S.Store self.new.registry
             → IsErrOf result BenchFault.Unreadable → (away : Image) (u : World)
@@ -122,6 +126,10 @@ impl<S: Alter, H: Shelf> Media<S, H> {
             u key.now command.now a) }
         ensures disk { IsErrOf result BenchFault.Disk
             → (H.view self.old.shelf).faults < (H.view self.new.shelf).faults }
+        // It comes before anything is written.
+        ensures kept { DiskKept S.Store self.new.registry → IsErrOf result BenchFault.Disk
+            → (t : Tables) → HasTables S.Store self.old.registry t
+            → LeavesNothingNew S.Store self.old.registry self.new.registry }
         ensures fault { IfErr result IsOfCall }
         ensures readable { H.honest self.old.shelf → DiskKept S.Store self.new.registry
             → IsErrOf result BenchFault.Unreadable → (away : Image) (u : World)
@@ -163,6 +171,10 @@ impl<S: Alter, H: Shelf> Media<S, H> {
             u key.now command.now a) }
         ensures disk { IsErrOf result BenchFault.Disk
             → (H.view self.old.shelf).faults < (H.view self.new.shelf).faults }
+        // It comes before anything is written.
+        ensures kept { DiskKept S.Store self.new.registry → IsErrOf result BenchFault.Disk
+            → (t : Tables) → HasTables S.Store self.old.registry t
+            → LeavesNothingNew S.Store self.old.registry self.new.registry }
         ensures fault { IfErr result IsOfCall }
         ensures readable { H.honest self.old.shelf → DiskKept S.Store self.new.registry
             → IsErrOf result BenchFault.Unreadable → (away : Image) (u : World)
@@ -207,6 +219,10 @@ impl<S: Alter, H: Shelf> Media<S, H> {
             u key.now command.now a) }
         ensures disk { IsErrOf result BenchFault.Disk
             → (H.view self.old.shelf).faults < (H.view self.new.shelf).faults }
+        // It comes before anything is written.
+        ensures kept { DiskKept S.Store self.new.registry → IsErrOf result BenchFault.Disk
+            → (t : Tables) → HasTables S.Store self.old.registry t
+            → LeavesNothingNew S.Store self.old.registry self.new.registry }
         ensures fault { IfErr result IsOfCall }
         ensures readable { H.honest self.old.shelf → DiskKept S.Store self.new.registry
             → IsErrOf result BenchFault.Unreadable → (away : Image) (u : World)

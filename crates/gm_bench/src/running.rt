@@ -3,8 +3,9 @@
 ghost use Rattle.std.specs.Prelude.{◌≡◌, ◌<◌, ℕ, List, [], IfOk, OnOk, OnErr, IsErrOf};
 ghost use Rattle.gm_metadata.specs.Images.{Image};
 ghost use Rattle.gm_shelf.specs.Disk.{AreReads};
+ghost use Rattle.gm_state.specs.Rows.{Tables};
 ghost use Rattle.gm_state.specs.World.{World};
-ghost use Rattle.gm_registry.specs.Registry.{DiskKept, WasClean};
+ghost use Rattle.gm_registry.specs.Registry.{DiskKept, HasTables, LeavesNothingNew, WasClean};
 ghost use Rattle.gm_registry.specs.Replies.{AreWrittenUnder};
 ghost use Rattle.gm_bench.specs.declared.answer.Accepted.{Accepted};
 ghost use Rattle.gm_bench.specs.declared.answer.Work.{Work};
@@ -56,6 +57,10 @@ impl<S: Alter, H: Shelf> Bench<S, H> {
             [] u u) → AreWrittenUnder key.now at.tables → ⊥ }
         ensures disk { IsErrOf result BenchFault.Disk
             → (H.view self.old.media.shelf).faults < (H.view self.new.media.shelf).faults }
+        // It comes before anything is written.
+        ensures kept { DiskKept S.Store self.new.media.registry → IsErrOf result BenchFault.Disk
+            → (t : Tables) → HasTables S.Store self.old.media.registry t
+            → LeavesNothingNew S.Store self.old.media.registry self.new.media.registry }
         ensures reads { H.honest self.old.media.shelf
             → AreReads (H.view self.old.media.shelf) (H.view self.new.media.shelf) }
         ensures honest { H.honest self.old.media.shelf → H.honest self.new.media.shelf }

@@ -7,7 +7,7 @@ use Rattle.gm_registry.specs.Replies.{IsFree, IsKept}
 use Rattle.gm_registry.proofs.Saving.{saved}
 use Rattle.gm_shelf.proofs.InTurn.{quiet_itself}
 use Rattle.gm_bench.proofs.Answering.{kept_answer, same_again, other_command}
-use Rattle.gm_bench.proofs.Deciding.{still, unstepped, then_step, ok_then}
+use Rattle.gm_bench.proofs.Deciding.{nothing_then, still, unstepped, then_step, ok_then}
 use Rattle.gm_bench.proofs.media.Media.answer.Goals as goal
 
 pub returns-then-eq-clause-leaves : goal.returns-then-eq-clause-leaves
@@ -78,3 +78,9 @@ returns-in-Ok-None-clause-readable g c h clean is away u key_ok fits at written 
     let quiet = quiet_itself (g.H.Shelf.view c.args.self.now.shelf) in
     let at1 = still g.S.Store g.H.Shelf.view g.H.Shelf.size c.args.self.now.registry c.args.self.now.shelf c.args.self.now.shelf away u at lawful quiet refl c.reply_of.new.self f.1.tables in
     c.decide.ensures.readable h clean is away u key_ok fits at1 free
+
+pub returns-in-Ok-None-clause-kept : goal.returns-in-Ok-None-clause-kept
+returns-in-Ok-None-clause-kept g c clean is t has =
+    let asked : DiskKept g.S.Store c.reply_of.new.self = omega (arith, clean, c.decide.ensures.clean) in
+    let found = c.in-Ok-None.ensures.found asked t has in
+    nothing_then g.S.Store c.args.self.now.registry c.reply_of.new.self c.decide.new.self.registry (c.reply_of.ensures.reads.left t has) (c.decide.ensures.kept clean is t found.1.tables)

@@ -6,7 +6,7 @@ use Rattle.gm_registry.specs.Replies.{count_of}
 use Rattle.gm_registry.proofs.Saving.{saved}
 use Rattle.gm_shelf.specs.Disk.{IsQuiet}
 use Rattle.gm_bench.proofs.Answering.{as_many, free_key, too_many}
-use Rattle.gm_bench.proofs.Deciding.{quiet_same, still, unstepped, then_step, ok_then, many_of, room_of}
+use Rattle.gm_bench.proofs.Deciding.{nothing_then, quiet_same, still, unstepped, then_step, ok_then, many_of, room_of}
 use Rattle.gm_bench.proofs.media.Media.decide.Goals as goal
 
 pub returns-in-Ok-true-clause-leaves : goal.returns-in-Ok-true-clause-leaves
@@ -105,3 +105,9 @@ returns-in-Err-clause-readable g c h clean is away u key_ok fits at free =
     let few = l.sound.answers.count in
     let fault : c.in-Err.fault ≡ Unreadable = cc in
     c.in-Err.ensures.readable clean (ap Err fault) at.tables at.has (omega (arith, many, few))
+
+pub returns-in-Ok-false-clause-kept : goal.returns-in-Ok-false-clause-kept
+returns-in-Ok-false-clause-kept g c clean is t has =
+    let counted : DiskKept g.S.Store c.is_full.new.self.registry = omega (arith, clean, c.choose.ensures.clean) in
+    let told = c.in-Ok-false.ensures.told counted t has in
+    nothing_then g.S.Store c.args.self.now.registry c.is_full.new.self.registry c.choose.new.self.registry (c.is_full.ensures.reads.left t has) (c.choose.ensures.kept clean is t told.1)
