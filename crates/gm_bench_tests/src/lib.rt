@@ -1,5 +1,5 @@
-//! Tests of the bench by its public calls, over stores and shelves in memory, over shelves that stop at each of their
-//! calls, and over stores of two files that do.
+//! Tests of the bench by its public calls, over stores and shelves in memory, and over shelves that stop at each of
+//! their calls.
 //!
 //! They stand in a crate of their own, beside the must-fail edits of `gm_bench`: only here a bench is made over a store
 //! and a shelf that are named, and a proof that names them carries all that they are made of.

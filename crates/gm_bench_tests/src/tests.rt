@@ -246,12 +246,14 @@ fn must_say<H: Shelf>(shelf: &mut H, name: &str, said: Option<Metadata>) -> Resu
     must_be(&sector(shelf, name, 3)?, said)
 }
 
+fn is_said(last: &[u8; 512], metadata: &Metadata) -> Result<(), Fail> {
+    let said = decode(last)?;
+    must(said == *metadata, "a last sector says something else")
+}
+
 fn must_be(last: &[u8; 512], said: Option<Metadata>) -> Result<(), Fail> {
     match said {
-        Some(metadata) => must(
-            decode(last)? == metadata,
-            "a last sector says something else",
-        ),
+        Some(metadata) => is_said(last, &metadata),
         None => must(*last == [0; 512], "a last sector isn't zero"),
     }
 }
