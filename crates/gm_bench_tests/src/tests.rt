@@ -9,7 +9,7 @@ mod phases;
 mod stops;
 
 use gm_bench::{Answer, Bench, BenchFault, OpenFault, Phase};
-use gm_metadata::{Balance, DiskFlags, Label, Metadata, MirrorFlags, decode};
+use gm_metadata::{Balance, DiskFlags, Label, Metadata, MirrorFlags, encode};
 use gm_shelf::{MemShelf, Shelf};
 use gm_state::{BalanceWord, Command, Slice, State};
 use sqlite::{Alter, Connection, MemStore};
@@ -246,14 +246,10 @@ fn must_say<H: Shelf>(shelf: &mut H, name: &str, said: Option<Metadata>) -> Resu
     must_be(&sector(shelf, name, 3)?, said)
 }
 
-fn is_said(last: &[u8; 512], metadata: &Metadata) -> Result<(), Fail> {
-    let said = decode(last)?;
-    must(said == *metadata, "a last sector says something else")
-}
-
 fn must_be(last: &[u8; 512], said: Option<Metadata>) -> Result<(), Fail> {
-    match said {
-        Some(metadata) => is_said(last, &metadata),
-        None => must(*last == [0; 512], "a last sector isn't zero"),
-    }
+    let expected = match said {
+        Some(metadata) => encode(&metadata),
+        None => [0; 512],
+    };
+    must(*last == expected, "a last sector says something else")
 }
