@@ -1,8 +1,8 @@
 //! Tests of the bench by its public calls, over stores and shelves in memory, and over shelves that stop at each of
 //! their calls.
 //!
-//! They stand in a crate of their own, beside the must-fail edits of `gm_bench`: only here a bench is made over a store
-//! and a shelf that are named, and a proof that names them carries all that they are made of.
+//! They stand in a crate of their own: a proof that names a store or a shelf carries all that it is made of, so that they
+//! are dear, and here they are proved beside the must-fail edits of `gm_bench`.
 #![tactic(auto)]
 
 #[cfg(test)]
