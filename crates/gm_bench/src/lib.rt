@@ -20,8 +20,6 @@ mod opening;
 mod progress;
 mod running;
 mod seeing;
-#[cfg(test)]
-mod tests;
 
 pub use answer::Answer;
 pub use bench::{Bench, OpenFault};

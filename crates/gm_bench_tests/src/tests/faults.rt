@@ -1,0 +1,204 @@
+//! A shelf that stops: the call that meets the stop says so, every later one does nothing, and both media stay.
+
+use super::stops::{CALLS, Played, check, play};
+use super::{
+    label, labels, memory, must, open, sector, shelf, try_accept, try_apply, try_last, try_open,
+    try_run, try_settle, try_view,
+};
+use gm_bench::{Bench, BenchFault, Phase};
+use gm_shelf::{FaultShelf, MemShelf, Shelf};
+use sqlite::{Alter, Connection};
+use std::alloc::Global;
+use std::test::Fail;
+
+// A script is over long before it makes so many calls of the shelf.
+const MANY: u64 = 200;
+
+// Each call of a bench that a fault closed, where they are asked for.
+fn must_be_closed<S: Alter, H: Shelf>(
+    alloc: Global,
+    bench: &mut Bench<S, H>,
+    asked: bool,
+) -> Result<(), Fail> {
+    if !asked {
+        return Ok(());
+    }
+    let command = labels("gm8", "c.img", 8)?;
+    let closed = Some(BenchFault::Closed);
+    must(bench.phase() == Phase::Failed, "not closed")?;
+    let accepted = try_accept(alloc, bench, "k8", &command)?;
+    must(accepted.err() == closed, "accepted")?;
+    must(try_apply(bench)?.err() == closed, "carried out")?;
+    must(try_settle(bench)?.err() == closed, "settled")?;
+    let run = try_run(alloc, bench, "k8", &command)?;
+    must(run.err() == closed, "run")?;
+    must(try_view(alloc, bench).err() == closed, "viewed")?;
+    let last = try_last(bench, label("a.img")?);
+    must(last.err() == closed, "a last sector")?;
+    must(bench.phase() == Phase::Failed, "open again")
+}
+
+// The script up to its stop, and then each call once more where that is asked.
+fn plays<S: Alter + Drop, H: Shelf + Drop>(
+    alloc: Global,
+    store: Connection<S>,
+    shelf: H,
+    and_more: bool,
+) -> Result<(Played, Connection<S>, H), Fail> {
+    let mut bench = open(alloc, store, shelf)?;
+    let played = play(alloc, &mut bench, 0, CALLS)?;
+    let stopped = played.fault.is_some();
+    must(
+        !stopped || played.fault == Some(BenchFault::Disk),
+        "another fault",
+    )?;
+    must_be_closed(alloc, &mut bench, stopped && and_more)?;
+    let (store, shelf) = bench.close();
+    Ok((played, store, shelf))
+}
+
+fn must_be_alike<H: Shelf>(first: &mut H, second: &mut H) -> Result<(), Fail> {
+    for name in ["a.img", "b.img", "c.img"] {
+        for place in 0u64..4 {
+            let held = sector(first, name, place)?;
+            must(
+                held == sector(second, name, place)?,
+                "something was written",
+            )?;
+        }
+    }
+    Ok(())
+}
+
+// A run that ends with the stop, and its media.
+#[derive(Drop)]
+struct Left<S: Alter> {
+    played: Played,
+    store: Connection<S>,
+    shelf: MemShelf,
+}
+
+fn stop_at<S: Alter + Drop>(
+    alloc: Global,
+    store: Connection<S>,
+    nth: u64,
+    and_more: bool,
+) -> Result<Left<S>, Fail> {
+    let stopping = FaultShelf::stop_from(shelf(alloc)?, nth);
+    let (played, store, stopping) = plays(alloc, store, stopping, and_more)?;
+    let shelf = stopping.into_inner();
+    Ok(Left {
+        played,
+        store,
+        shelf,
+    })
+}
+
+// Two runs with the same stop, of which one goes on with calls that are closed; whether the stop came.
+fn leaves_the_same<S: Alter + Drop>(
+    alloc: Global,
+    mut plain: Left<S>,
+    mut more: Left<S>,
+) -> Result<bool, Fail> {
+    let stopped = plain.played.fault.is_some();
+    must(more.played.done == plain.played.done, "another run")?;
+    must_be_alike(&mut plain.shelf, &mut more.shelf)?;
+    let redone = check(alloc, plain.store, plain.shelf, plain.played)?;
+    let again = check(alloc, more.store, more.shelf, more.played)?;
+    must(redone == again, "another registry")?;
+    Ok(stopped)
+}
+
+#[test]
+fn a_closed_bench_does_nothing(rt: HostRuntime) -> Result<(), Fail> {
+    let mut ended = false;
+    for nth in 1..MANY {
+        if !ended {
+            let plain = stop_at(rt.alloc(), memory(rt.alloc())?, nth, false)?;
+            let more = stop_at(rt.alloc(), memory(rt.alloc())?, nth, true)?;
+            ended = !leaves_the_same(rt.alloc(), plain, more)?;
+        }
+    }
+    must(ended, "no run ended")
+}
+
+// A look at a shelf that serves no call closes the bench; the registry is still viewed before.
+fn closes_at_a_look<S: Alter + Drop, H: Shelf + Drop>(
+    alloc: Global,
+    store: Connection<S>,
+    shelf: H,
+) -> Result<(), Fail> {
+    let mut bench = open(alloc, store, shelf)?;
+    must(try_view(alloc, &mut bench).is_ok(), "not viewed")?;
+    let last = try_last(&mut bench, label("a.img")?);
+    must(last.err() == Some(BenchFault::Disk), "another fault")?;
+    must_be_closed(alloc, &mut bench, true)
+}
+
+#[test]
+fn a_look_at_a_disk_that_failed_closes(rt: HostRuntime) -> Result<(), Fail> {
+    let stopped = FaultShelf::stop_from(shelf(rt.alloc())?, 1);
+    closes_at_a_look(rt.alloc(), memory(rt.alloc())?, stopped)
+}
+
+// The script up to an accepted insert, which asks for two sectors.
+fn inserting<S: Alter + Drop, H: Shelf + Drop>(
+    alloc: Global,
+    store: Connection<S>,
+    shelf: H,
+) -> Result<(Played, Connection<S>, H), Fail> {
+    let mut bench = open(alloc, store, shelf)?;
+    let played = play(alloc, &mut bench, 0, 4)?;
+    let (store, shelf) = bench.close();
+    Ok((played, store, shelf))
+}
+
+// An opening, and whether the shelf stopped it.
+fn opens<S: Alter + Drop, H: Shelf + Drop>(
+    alloc: Global,
+    store: Connection<S>,
+    shelf: H,
+) -> Result<(bool, Connection<S>, H), Fail> {
+    match try_open(alloc, store, shelf)? {
+        Ok(bench) => {
+            must(bench.redone() == 2, "another count")?;
+            let (store, shelf) = bench.close();
+            Ok((false, store, shelf))
+        }
+        Err(left) => {
+            must(left.fault == BenchFault::Disk, "another fault")?;
+            Ok((true, left.store, left.shelf))
+        }
+    }
+}
+
+// An opening whose shelf stops from its nth call on, and one after a crash; whether the stop came.
+fn stops_opening<S: Alter + Drop>(
+    alloc: Global,
+    store: Connection<S>,
+    nth: u64,
+    picks: &[u32],
+) -> Result<bool, Fail> {
+    let (played, store, shelf) = inserting(alloc, store, shelf(alloc)?)?;
+    let stopping = FaultShelf::stop_from(shelf, nth);
+    let (stopped, store, stopping) = opens(alloc, store, stopping)?;
+    let left = stopping.into_inner().crash_image(picks)?;
+    let redone = check(alloc, store, left, played)?;
+    must(!stopped || redone == 2, "another count")?;
+    must(stopped || redone == 0, "carried out twice")?;
+    Ok(stopped)
+}
+
+#[test]
+fn an_opening_that_stops_is_made_again(rt: HostRuntime) -> Result<(), Fail> {
+    for picks in [[0u32; 4], [1; 4]] {
+        let mut ended = false;
+        for nth in 1..MANY {
+            if !ended {
+                ended = !stops_opening(rt.alloc(), memory(rt.alloc())?, nth, &picks)?;
+            }
+        }
+        must(ended, "no run ended")?;
+    }
+    Ok(())
+}

@@ -1,0 +1,171 @@
+//! A second component that comes and goes, also over an opening and where its image is away.
+
+use super::{
+    IN_SYNC, SYNCHRONIZING, accept, add, destroys, inserts, label, labels, memory, metadata, must,
+    must_keep_data, must_say, open, removes, run, sector, shelf, try_open, try_view,
+};
+use gm_bench::{Answer, Bench, BenchFault};
+use gm_metadata::Metadata;
+use gm_shelf::{MemShelf, Shelf};
+use gm_state::Reply;
+use sqlite::{Alter, Connection};
+use std::alloc::Global;
+use std::test::Fail;
+
+// gm0 on a.img and b.img, by k1 and k2.
+fn of_two<S: Alter + Drop, H: Shelf + Drop>(
+    alloc: Global,
+    store: Connection<S>,
+    shelf: H,
+) -> Result<Bench<S, H>, Fail> {
+    let mut bench = open(alloc, store, shelf)?;
+    run(alloc, &mut bench, "k1", &labels("gm0", "a.img", 7)?)?;
+    let answer = run(alloc, &mut bench, "k2", &inserts("gm0", "b.img", 2)?)?;
+    must(answer == Answer::Done(2, Reply::Plain), "not inserted")?;
+    Ok(bench)
+}
+
+// What the last sectors of a.img and b.img say; the data are as they were.
+fn must_hold<H: Shelf>(
+    shelf: &mut H,
+    first: Option<Metadata>,
+    second: Option<Metadata>,
+) -> Result<(), Fail> {
+    must_say(shelf, "a.img", first)?;
+    must_say(shelf, "b.img", second)?;
+    must_keep_data(shelf, "a.img")?;
+    must_keep_data(shelf, "b.img")
+}
+
+fn is_inserted<S: Alter + Drop, H: Shelf + Drop>(
+    alloc: Global,
+    store: Connection<S>,
+    shelf: H,
+) -> Result<(), Fail> {
+    let (_, mut shelf) = of_two(alloc, store, shelf)?.close();
+    let first = metadata(1, 2, IN_SYNC)?;
+    let second = metadata(2, 2, SYNCHRONIZING)?;
+    must_hold(&mut shelf, Some(first), Some(second))
+}
+
+#[test]
+fn an_inserted_component_is_to_be_filled(rt: HostRuntime) -> Result<(), Fail> {
+    is_inserted(rt.alloc(), memory(rt.alloc())?, shelf(rt.alloc())?)
+}
+
+fn is_destroyed<S: Alter + Drop, H: Shelf + Drop>(
+    alloc: Global,
+    store: Connection<S>,
+    shelf: H,
+) -> Result<(), Fail> {
+    let mut bench = of_two(alloc, store, shelf)?;
+    let answer = run(alloc, &mut bench, "k3", &destroys("gm0")?)?;
+    must(answer == Answer::Done(3, Reply::Plain), "not destroyed")?;
+    let state = try_view(alloc, &mut bench)?;
+    must(state.mirrors().is_empty(), "a mirror")?;
+    must(state.components().is_empty(), "a component")?;
+    let (_, mut shelf) = bench.close();
+    must_hold(&mut shelf, None, None)
+}
+
+#[test]
+fn a_destroyed_mirror_leaves_zeros(rt: HostRuntime) -> Result<(), Fail> {
+    is_destroyed(rt.alloc(), memory(rt.alloc())?, shelf(rt.alloc())?)
+}
+
+// A remove of b.img that is accepted and not carried out.
+fn removing<S: Alter + Drop, H: Shelf + Drop>(
+    alloc: Global,
+    store: Connection<S>,
+    shelf: H,
+) -> Result<(Connection<S>, H), Fail> {
+    let mut bench = of_two(alloc, store, shelf)?;
+    let answer = accept(alloc, &mut bench, "k3", &removes("gm0", "b.img")?)?;
+    must(answer == Answer::Done(3, Reply::Plain), "not accepted")?;
+    Ok(bench.close())
+}
+
+// The opening carries it out, and the one after that finds nothing to do.
+fn is_removed<S: Alter + Drop, H: Shelf + Drop>(
+    alloc: Global,
+    store: Connection<S>,
+    shelf: H,
+) -> Result<(), Fail> {
+    let mut bench = open(alloc, store, shelf)?;
+    must(bench.redone() == 2, "another count")?;
+    let again = run(alloc, &mut bench, "k3", &removes("gm0", "b.img")?)?;
+    must(again == Answer::Repeated(3, Reply::Plain), "not repeated")?;
+    let (store, mut shelf) = bench.close();
+    must_hold(&mut shelf, Some(metadata(1, 1, IN_SYNC)?), None)?;
+    let bench = open(alloc, store, shelf)?;
+    must(bench.redone() == 0, "carried out twice")
+}
+
+fn is_carried_out_later<S: Alter + Drop, H: Shelf + Drop>(
+    alloc: Global,
+    store: Connection<S>,
+    shelf: H,
+) -> Result<(), Fail> {
+    let (store, mut shelf) = removing(alloc, store, shelf)?;
+    let second = metadata(2, 2, SYNCHRONIZING)?;
+    must_hold(&mut shelf, Some(metadata(1, 2, IN_SYNC)?), Some(second))?;
+    is_removed(alloc, store, shelf)
+}
+
+#[test]
+fn an_opening_carries_out_what_is_pending(rt: HostRuntime) -> Result<(), Fail> {
+    is_carried_out_later(rt.alloc(), memory(rt.alloc())?, shelf(rt.alloc())?)
+}
+
+// The sectors of an image of four.
+fn sectors<H: Shelf>(alloc: Global, shelf: &mut H, name: &str) -> Result<Vec<[u8; 512]>, Fail> {
+    let mut sectors = Vec::new(alloc);
+    for place in 0u64..4 {
+        sectors.push(sector(shelf, name, place)?)?;
+    }
+    Ok(sectors)
+}
+
+// The shelf without b.img.
+fn without_second<H: Shelf>(alloc: Global, shelf: &mut H) -> Result<MemShelf, Fail> {
+    let mut left = MemShelf::new(alloc);
+    for name in ["a.img", "c.img"] {
+        add(&mut left, name, sectors(alloc, shelf, name)?)?;
+    }
+    Ok(left)
+}
+
+// An opening without b.img fails and writes nothing; the store comes back.
+fn is_away<S: Alter + Drop, H: Shelf + Drop>(
+    alloc: Global,
+    store: Connection<S>,
+    mut shelf: H,
+) -> Result<Connection<S>, Fail> {
+    let before = sectors(alloc, &mut shelf, "a.img")?;
+    match try_open(alloc, store, shelf)? {
+        Ok(_) => Err("opened")?,
+        Err(mut left) => {
+            let absent = BenchFault::Absent(label("b.img")?);
+            must(left.fault == absent, "another fault")?;
+            let after = sectors(alloc, &mut left.shelf, "a.img")?;
+            must(after == before, "something was written")?;
+            Ok(left.store)
+        }
+    }
+}
+
+fn waits_for_its_image<S: Alter + Drop, H: Shelf + Drop>(
+    alloc: Global,
+    store: Connection<S>,
+    shelf: H,
+) -> Result<(), Fail> {
+    let (store, mut shelf) = removing(alloc, store, shelf)?;
+    let away = without_second(alloc, &mut shelf)?;
+    let store = is_away(alloc, store, away)?;
+    is_removed(alloc, store, shelf)
+}
+
+#[test]
+fn an_opening_wants_each_image_that_is_pending(rt: HostRuntime) -> Result<(), Fail> {
+    waits_for_its_image(rt.alloc(), memory(rt.alloc())?, shelf(rt.alloc())?)
+}
