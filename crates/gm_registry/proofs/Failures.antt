@@ -1,29 +1,21 @@
 -- Why the queries of a registry fail.
-use Rattle.std.proofs.Common.{◌≡◌, ◌⊎◌, inl, inr, ℕ, true, List, [], ◌∷◌, map, IsTrue, IsSome, ◌≤◌, arith, refl, sym, ap, subst, ◌∙◌}
+use Rattle.std.proofs.Common.{◌≡◌, ◌⊎◌, inl, inr, ℕ, true, List, [], ◌∷◌, IsTrue, IsSome, ◌≤◌, arith, refl, sym, ap, subst, ◌∙◌}
 use Rattle.std.specs.List.{Any}
 use Rattle.sqlite_disk.specs.Disk.{MoreFaults}
 use Rattle.sqlite.specs.Order.{Row}
 use Rattle.sqlite.specs.Tree.{Trees}
-use Rattle.sqlite.specs.Held.{Held, state}
 use Rattle.sqlite.specs.Listing.{understood}
-use Rattle.sqlite.specs.Query.{Query}
 use Rattle.sqlite.specs.State.{State, HasCleanDisk, FailsToQuery}
-use Rattle.sqlite.specs.Term.{Term}
 use Rattle.sqlite.specs.declared.error.Error.{Error}
-use Rattle.sqlite.specs.declared.error.Error.TheVariants.{SqliteFailure}
-use Rattle.sqlite.specs.declared.error.ErrorCode.TheVariants as code
 use Rattle.sqlite.specs.declared.types.Value.TheVariants.{Text}
 use Rattle.sqlite_sql.specs.Program.{QueryOverflows}
 use Rattle.sqlite_tied.specs.Compute.{everything}
-use Rattle.sqlite_trees.specs.declared.store.Store.{Ghosts}
 use Rattle.sqlite_typing.specs.Types.{accepts_program}
 use Rattle.sqlite_rows.proofs.Failing.{is_all_of, IsReadFault, read_fault}
 use Rattle.gm_registry.specs.Faults.{fault_of}
 use Rattle.gm_registry.specs.Queries.{query_text, tree_of}
-use Rattle.gm_registry.specs.Registry as of
 use Rattle.gm_registry.specs.Schema.{registry_schema}
 use Rattle.gm_registry.specs.Statements.{find_command_text, last_command_text}
-use Rattle.gm_registry.specs.declared.fault.StoreFault.{StoreFault}
 use Rattle.gm_registry.specs.declared.fault.StoreFault.TheVariants.{Memory, Store}
 use Rattle.gm_registry.specs.declared.fetching.Table.{Table}
 use Rattle.gm_registry.specs.declared.fetching.Table.TheVariants.{About, Mirrors, Components, Intents, Commands}

@@ -91,7 +91,8 @@ pub(crate) fn components_under<S: Alter>(
 ) -> Result<Vec<Component>, StoreFault>
     ensures found { DiskKept S.Store conn.new
         → IfOk result (λ ks. (t : Tables) (s : Records) → HasTables S.Store conn.old t
-        → AreRecordsOf t s → IsPermutation (flat_map (under key s.components) labels.now) ks.items) }
+        → AreRecordsOf t s
+        → IsPermutation (flat_map (under key s.components) labels.now) ks.items) }
     ensures unreadable { DiskKept S.Store conn.new
         → OnUnreadable result ((t : Tables) (s : Records) → HasTables S.Store conn.old t
         → AreRecordsOf t s → ⊥) }
