@@ -11,7 +11,7 @@ use Rattle.gm_shelf.proofs.InTurn.{quiet_itself, quiet_moment}
 use Rattle.gm_state.specs.declared.command.Command.{Command}
 use Rattle.gm_state.specs.declared.command.Intent.{Intent}
 use Rattle.gm_state.specs.World.{World}
-use Rattle.gm_registry.specs.Registry.{CrashLeaves, CrashLeavesOnly, DiskKept, HasTables, LeavesNothingNew}
+use Rattle.gm_registry.specs.Registry.{CrashLeaves, CrashLeavesOnly, DiskKept, HasTables, IsRegistry, LeavesAlone, LeavesNothingNew, WasClean}
 use Rattle.sqlite.specs.Held.{state}
 use Rattle.sqlite.proofs.StateLemmas.{survives_then}
 use Rattle.gm_bench.specs.Accepting.{OrStep, LeavesStep}
@@ -90,3 +90,10 @@ room_of b n e t = let h : nat_le 100000 n ≡ false = sym e ∙ t in grind (arit
 -- two reads, one after the other
 pub nothing_then : {S : Type 0} (g : Ghosts S) (r mid s : Held S) → LeavesNothingNew g r mid → LeavesNothingNew g mid s → LeavesNothingNew g r s
 nothing_then g r mid s first second = survives_then (state g r) (state g mid) (state g s) (λ _. ⊥) (λ _. ⊥) (λ _. ⊥) (λ _ db f. f) (λ _ db f. f) first second
+
+-- a registry that was left alone, and then again
+pub alone_then : {S : Type 0} (g : Ghosts S) (r mid s : Held S) → IsRegistry g mid → WasClean g mid s → LeavesAlone g r mid → LeavesAlone g mid s → LeavesAlone g r s
+alone_then g r mid s is clean first second = record {
+  tables = λ kept is_open. second.tables kept is_open ∙ first.tables (omega (arith, clean, kept)) is.is_open;
+  crash = nothing_then g r mid s first.crash second.crash;
+}

@@ -93,6 +93,7 @@ impl<S: Alter, H: Shelf> Media<S, H> {
             → AreReads (H.view self.old.shelf) (H.view self.new.shelf) }
         ensures honest { H.honest self.old.shelf → H.honest self.new.shelf }
         ensures size { H.size self.new.shelf ≡ H.size self.old.shelf }
+        ensures count { (H.view self.old.shelf).faults ≤ (H.view self.new.shelf).faults }
         ensures clean { WasClean S.Store self.old.registry self.new.registry }
     {
         match self.ask(alloc, command) {
@@ -140,6 +141,7 @@ impl<S: Alter, H: Shelf> Media<S, H> {
             → AreReads (H.view self.old.shelf) (H.view self.new.shelf) }
         ensures honest { H.honest self.old.shelf → H.honest self.new.shelf }
         ensures size { H.size self.new.shelf ≡ H.size self.old.shelf }
+        ensures count { (H.view self.old.shelf).faults ≤ (H.view self.new.shelf).faults }
         ensures clean { WasClean S.Store self.old.registry self.new.registry }
     {
         match self.is_full() {
@@ -185,6 +187,7 @@ impl<S: Alter, H: Shelf> Media<S, H> {
             → AreReads (H.view self.old.shelf) (H.view self.new.shelf) }
         ensures honest { H.honest self.old.shelf → H.honest self.new.shelf }
         ensures size { H.size self.new.shelf ≡ H.size self.old.shelf }
+        ensures count { (H.view self.old.shelf).faults ≤ (H.view self.new.shelf).faults }
         ensures clean { WasClean S.Store self.old.registry self.new.registry }
     {
         match self.registry.reply_of(key) {
@@ -232,6 +235,7 @@ impl<S: Alter, H: Shelf> Media<S, H> {
             → AreReads (H.view self.old.shelf) (H.view self.new.shelf) }
         ensures honest { H.honest self.old.shelf → H.honest self.new.shelf }
         ensures size { H.size self.new.shelf ≡ H.size self.old.shelf }
+        ensures count { (H.view self.old.shelf).faults ≤ (H.view self.new.shelf).faults }
         ensures clean { WasClean S.Store self.old.registry self.new.registry }
     {
         if !is_key(key) {

@@ -148,6 +148,7 @@ impl<S: Alter, H: Shelf> Media<S, H> {
         ensures registry { self.new.registry ≡ self.old.registry }
         ensures honest { H.honest self.old.shelf → H.honest self.new.shelf }
         ensures size { H.size self.new.shelf ≡ H.size self.old.shelf }
+        ensures count { (H.view self.old.shelf).faults ≤ (H.view self.new.shelf).faults }
     {
         match needed(alloc, part, command) {
             Ok(names) => match facts_of(alloc, &mut self.shelf, &names) {
@@ -180,6 +181,7 @@ impl<S: Alter, H: Shelf> Media<S, H> {
             → AreReads (H.view self.old.shelf) (H.view self.new.shelf) }
         ensures honest { H.honest self.old.shelf → H.honest self.new.shelf }
         ensures size { H.size self.new.shelf ≡ H.size self.old.shelf }
+        ensures count { (H.view self.old.shelf).faults ≤ (H.view self.new.shelf).faults }
     {
         let part = match self.part(alloc, command) {
             Ok(part) => part,

@@ -6,9 +6,11 @@ ghost use Rattle.gm_state.specs.declared.command.Intent.{Intent};
 ghost use Rattle.gm_state.specs.Records.{Records};
 ghost use Rattle.gm_state.specs.Rows.{Tables};
 ghost use Rattle.gm_state.specs.World.{World};
-ghost use Rattle.gm_registry.specs.Opening.{IsOpenable};
+ghost use Rattle.gm_registry.specs.Opening.{IsForeign, IsOpenable};
 ghost use Rattle.gm_registry.specs.Reading.{AreTablesOf};
-ghost use Rattle.gm_registry.specs.Registry.{DiskKept, IsOpen, WasClean, stored};
+ghost use Rattle.gm_registry.specs.Registry.{DiskKept, IsOpen, LeavesAlone, WasClean, stored};
+ghost use Rattle.gm_registry.specs.Schema.{registry_schema};
+ghost use Rattle.sqlite_catalog.specs.Listing.{IsSound};
 ghost use Rattle.gm_bench.specs.Faults.{IsBeforeWrites};
 ghost use Rattle.gm_bench.specs.Owed.{IsLeft, OpenDoes, OpenLeaves};
 ghost use Rattle.gm_bench.specs.Presence.{first_absent};
@@ -81,6 +83,15 @@ impl<S: Alter, H: Shelf> Bench<S, H> {
             → IsOpenable (stored S.Store store) → (t : Tables) (s : Records) (ts : List Intent)
             → IsStored (stored S.Store store) t → AreTablesOf t s ts → ⊥) }
         ensures untouched { IfErr result (λ e. IsBeforeWrites e.fault → e.shelf ≡ shelf) }
+        // So is the store then, whatever rows its tables hold.
+        ensures alone { IsOpen S.Store store → IsSound registry_schema (stored S.Store store)
+            → IfErr result (λ e. DiskKept S.Store e.store → IsBeforeWrites e.fault
+            → LeavesAlone S.Store store e.store) }
+        // Neither medium of a store with other tables is touched.
+        ensures foreign { IsOpen S.Store store → IsForeign (stored S.Store store)
+            → MatchResult result (λ b. DiskKept S.Store b.media.registry → ⊥)
+            (λ e. DiskKept S.Store e.store → LeavesAlone S.Store store e.store
+            × (e.shelf ≡ shelf)) }
         ensures closed { IfErr result (λ e. e.fault ≡ BenchFault.Closed → ⊥) }
         ensures honest { H.honest shelf
             → MatchResult result (λ b. H.honest b.media.shelf) (λ e. H.honest e.shelf) }

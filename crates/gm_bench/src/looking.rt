@@ -1,6 +1,6 @@
 //! What a bench shows of its media. It changes neither.
 
-ghost use Rattle.std.specs.Prelude.{◌≡◌, ◌<◌, List, IfOk, OnOk, OnErr, IsErrOf};
+ghost use Rattle.std.specs.Prelude.{◌≡◌, ◌<◌, ℕ, List, IfOk, OnOk, OnErr, IsErrOf};
 ghost use Rattle.gm_metadata.specs.Images.{Image};
 ghost use Rattle.gm_shelf.specs.Disk.{AreReads};
 ghost use Rattle.gm_state.specs.declared.command.Intent.{Intent};
@@ -39,6 +39,8 @@ impl<S: Alter, H: Shelf> Bench<S, H> {
         ensures stays { OnOk result (self.new.progress ≡ self.old.progress) }
         ensures failed { OnErr result (self.new.progress ≡ Progress.Failed) }
         ensures reopen { IsErrOf result BenchFault.Closed → self.old.progress ≡ Progress.Failed }
+        ensures absent { (p : List ℕ) → IsErrOf result (BenchFault.Absent p) → ⊥ }
+        ensures disk { IsErrOf result BenchFault.Disk → ⊥ }
         ensures reads { Reads S.Store self.old.media.registry self.new.media.registry }
         ensures shelf { self.new.media.shelf ≡ self.old.media.shelf }
         ensures redone { self.new.redone ≡ self.old.redone }
@@ -67,6 +69,8 @@ impl<S: Alter, H: Shelf> Bench<S, H> {
         ensures stays { OnOk result (self.new.progress ≡ self.old.progress) }
         ensures failed { OnErr result (self.new.progress ≡ Progress.Failed) }
         ensures reopen { IsErrOf result BenchFault.Closed → self.old.progress ≡ Progress.Failed }
+        ensures absent { (p : List ℕ) → IsErrOf result (BenchFault.Absent p) → ⊥ }
+        ensures unreadable { IsErrOf result BenchFault.Unreadable → ⊥ }
         ensures disk { IsErrOf result BenchFault.Disk
             → (H.view self.old.media.shelf).faults < (H.view self.new.media.shelf).faults }
         ensures reads { H.honest self.old.media.shelf

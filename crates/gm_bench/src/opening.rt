@@ -8,7 +8,7 @@ ghost use Rattle.gm_state.specs.Records.{Records};
 ghost use Rattle.gm_state.specs.Rows.{Tables};
 ghost use Rattle.gm_state.specs.World.{World};
 ghost use Rattle.gm_registry.specs.Reading.{AreTablesOf};
-ghost use Rattle.gm_registry.specs.Registry.{DiskKept, HasTables, Reads, WasClean};
+ghost use Rattle.gm_registry.specs.Registry.{DiskKept, HasTables, IsRegistry, LeavesAlone, Reads, WasClean};
 ghost use Rattle.gm_bench.specs.Faults.{IsOfMedia, IsOfOpening, IsOfRegistry, IsBeforeWrites};
 ghost use Rattle.gm_bench.specs.Leading.{AllLead};
 ghost use Rattle.gm_bench.specs.Presence.{first_absent};
@@ -69,6 +69,8 @@ impl<S: Alter, H: Shelf> Media<S, H> {
         ensures unreadable { DiskKept S.Store self.new.registry
             → IsErrOf result BenchFault.Unreadable → (t : Tables) (s : Records) (ts : List Intent)
             → HasTables S.Store self.old.registry t → AreTablesOf t s ts → ⊥ }
+        ensures untouched { IsRegistry S.Store self.old.registry
+            → LeavesAlone S.Store self.old.registry self.new.registry }
         ensures fault { IfErr result IsOfRegistry }
         ensures reads { Reads S.Store self.old.registry self.new.registry }
         ensures shelf { self.new.shelf ≡ self.old.shelf }
@@ -158,6 +160,9 @@ impl<S: Alter, H: Shelf> Media<S, H> {
             → HasTables S.Store self.old.registry t → AreTablesOf t s ts → ⊥ }
         ensures untouched { IfErr result (λ f. IsBeforeWrites f
             → self.new.shelf ≡ self.old.shelf) }
+        // Whatever rows the registry holds.
+        ensures alone { IfErr result (λ f. IsBeforeWrites f → IsRegistry S.Store self.old.registry
+            → LeavesAlone S.Store self.old.registry self.new.registry) }
         ensures fault { IsErrOf result BenchFault.Closed → ⊥ }
         ensures honest { H.honest self.old.shelf → H.honest self.new.shelf }
         ensures size { H.size self.new.shelf ≡ H.size self.old.shelf }

@@ -1,6 +1,6 @@
 //! Commands: handed in, carried out and settled, one call each or in one.
 
-ghost use Rattle.std.specs.Prelude.{◌≡◌, ◌<◌, ℕ, List, [], IfOk, OnOk, OnErr, IsErrOf};
+ghost use Rattle.std.specs.Prelude.{◌≡◌, ◌<◌, ◌≤◌, ℕ, List, [], IfOk, OnOk, OnErr, IsErrOf};
 ghost use Rattle.gm_metadata.specs.Images.{Image};
 ghost use Rattle.gm_shelf.specs.Disk.{AreReads};
 ghost use Rattle.gm_state.specs.Rows.{Tables};
@@ -65,6 +65,8 @@ impl<S: Alter, H: Shelf> Bench<S, H> {
             → AreReads (H.view self.old.media.shelf) (H.view self.new.media.shelf) }
         ensures honest { H.honest self.old.media.shelf → H.honest self.new.media.shelf }
         ensures size { H.size self.new.media.shelf ≡ H.size self.old.media.shelf }
+        ensures count { (H.view self.old.media.shelf).faults
+            ≤ (H.view self.new.media.shelf).faults }
         ensures redone { self.new.redone ≡ self.old.redone }
         ensures clean { WasClean S.Store self.old.media.registry self.new.media.registry }
     {
@@ -184,6 +186,10 @@ impl<S: Alter, H: Shelf> Bench<S, H> {
         ensures reopen { IsErrOf result BenchFault.Closed → self.old.progress ≡ Progress.Failed }
         ensures absent { (p : List ℕ) → IsErrOf result (BenchFault.Absent p) → ⊥ }
         ensures unreadable { IsErrOf result BenchFault.Unreadable → ⊥ }
+        ensures disk { IsErrOf result BenchFault.Disk → (work : Work)
+            → self.old.progress ≡ Progress.Pending work → (away : Image) (u w : World)
+            → IsAtWork S.Store H.view H.size self.old.media.registry self.old.media.shelf away
+            work u w → (H.view self.old.media.shelf).faults < (H.view self.new.media.shelf).faults }
         ensures honest { H.honest self.old.media.shelf → H.honest self.new.media.shelf }
         ensures size { H.size self.new.media.shelf ≡ H.size self.old.media.shelf }
         ensures redone { self.new.redone ≡ self.old.redone }
@@ -220,6 +226,10 @@ impl<S: Alter, H: Shelf> Bench<S, H> {
             → IsErrOf result BenchFault.Unreadable → (away : Image) (u : World)
             → (at : IsAt S.Store H.view H.size self.old.media.registry self.old.media.shelf away
             [] u u) → AreWrittenUnder key.now at.tables → ⊥ }
+        ensures disk { H.honest self.old.media.shelf → DiskKept S.Store self.new.media.registry
+            → IsErrOf result BenchFault.Disk → (away : Image) (u : World)
+            → IsAt S.Store H.view H.size self.old.media.registry self.old.media.shelf away [] u u
+            → (H.view self.old.media.shelf).faults < (H.view self.new.media.shelf).faults }
         ensures honest { H.honest self.old.media.shelf → H.honest self.new.media.shelf }
         ensures size { H.size self.new.media.shelf ≡ H.size self.old.media.shelf }
         ensures redone { self.new.redone ≡ self.old.redone }

@@ -74,6 +74,7 @@ pub(crate) fn facts_of<H: Shelf>(
     ensures reads { H.honest shelf.old → AreReads (H.view shelf.old) (H.view shelf.new) }
     ensures honest { H.honest shelf.old → H.honest shelf.new }
     ensures size { H.size shelf.new ≡ H.size shelf.old }
+    ensures count { (H.view shelf.old).faults ≤ (H.view shelf.new).faults }
 {
     let mut entries = Vec::new(alloc);
     for name in names {

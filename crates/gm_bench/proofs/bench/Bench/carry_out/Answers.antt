@@ -1,5 +1,6 @@
-use Rattle.std.proofs.Common.{[], refl, sym, subst}
+use Rattle.std.proofs.Common.{◌≡◌, [], Err, refl, sym, ap, subst}
 use Rattle.sqlite.specs.Held.{Held}
+use Rattle.gm_bench.specs.declared.fault.BenchFault.TheVariants.{Disk}
 use Rattle.gm_bench.specs.Recovering.{IsAt, IsAtWork, LeavesOnly}
 use Rattle.gm_bench.proofs.Storing.{then_only}
 use Rattle.gm_bench.proofs.bench.Bench.carry_out.Goals as goal
@@ -50,3 +51,13 @@ pub returns-in-Err-clause-leaves : goal.returns-in-Err-clause-leaves
 returns-in-Err-clause-leaves g c h clean work is away u w at =
     subst (λ (x : Held g.row.S.Denot). LeavesOnly g.S.Store g.H.Shelf.view g.H.Shelf.size c.args.self.now.media.registry x c.args.self.now.media.shelf c.apply.new.self.media.shelf away u w) (sym c.apply.ensures.registry)
     (c.apply.ensures.leaves h work is away u w at)
+
+pub returns-in-Err-settle-clause-disk : goal.returns-in-Err-settle-clause-disk
+returns-in-Err-settle-clause-disk g c told =
+    let fault : c.in-Err-settle.fault ≡ Disk = cc in
+    absurd (c.in-Err-settle.ensures.disk (ap Err fault))
+
+pub returns-in-Err-clause-disk : goal.returns-in-Err-clause-disk
+returns-in-Err-clause-disk g c told work is away u w at =
+    let fault : c.in-Err.fault ≡ Disk = cc in
+    c.in-Err.ensures.disk (ap Err fault) work is away u w at

@@ -1,9 +1,10 @@
-use Rattle.std.proofs.Common.{◌≡◌, ◌∙◌, Err, sym, ap, subst, arith}
+use Rattle.std.proofs.Common.{◌≡◌, ◌∙◌, Err, refl, sym, ap, subst, arith}
 use Rattle.sqlite.specs.Held.{Held}
 use Rattle.sqlite.specs.Tree.{Trees}
-use Rattle.gm_registry.specs.Registry.{CrashLeaves, DiskKept, stored}
+use Rattle.gm_registry.specs.Registry.{CrashLeaves, DiskKept, LeavesAlone, stored}
 use Rattle.gm_bench.specs.Recovering.{LeavesOnly}
 use Rattle.gm_bench.proofs.Causes.{of_unreadable}
+use Rattle.gm_bench.proofs.Deciding.{alone_then}
 use Rattle.gm_bench.proofs.Reopening.{opened_tables, reopened, unopened, recovered}
 use Rattle.gm_bench.proofs.bench.Bench.open.Goals as goal
 
@@ -98,3 +99,25 @@ returns-in-Err-take_up-clause-unreadable g c is_open closed is openable t s ts s
     let mid : DiskKept g.S.Store c.in-Ok.registry = omega (arith, clean, c.take_up.ensures.clean) in
     let has = opened_tables g.S.Store c.args.store c.in-Ok.registry (λ empty. c.in-Ok.ensures.made is_open empty mid) (λ t holds. c.in-Ok.ensures.found t is_open holds mid) t stands in
     c.in-Err-take_up.ensures.unreadable clean (ap Err is) t s ts has of
+
+pub returns-in-Err-clause-foreign : goal.returns-in-Err-clause-foreign
+returns-in-Err-clause-foreign g c is_open foreign clean = (c.in-Err.ensures.foreign is_open foreign, refl)
+
+pub returns-in-Err-take_up-clause-alone : goal.returns-in-Err-take_up-clause-alone
+returns-in-Err-take_up-clause-alone g c is_open sound closed before =
+    let clean : DiskKept g.S.Store c.take_up.new.self.registry = subst (λ (k : Held g.row.S.Denot). DiskKept g.S.Store k) c.close.ensures closed in
+    let mid : DiskKept g.S.Store c.in-Ok.registry = omega (arith, clean, c.take_up.ensures.clean) in
+    let is = c.in-Ok.ensures.registry is_open sound mid in
+    subst (λ (k : Held g.row.S.Denot). LeavesAlone g.S.Store c.args.store k) (sym c.close.ensures)
+    (alone_then g.S.Store c.args.store c.in-Ok.registry c.take_up.new.self.registry is c.take_up.ensures.clean (c.in-Ok.ensures.untouched is_open sound) (c.in-Err-take_up.ensures.alone before is))
+
+pub returns-in-Err-take_up-clause-foreign : goal.returns-in-Err-take_up-clause-foreign
+returns-in-Err-take_up-clause-foreign g c is_open foreign closed =
+    let clean : DiskKept g.S.Store c.take_up.new.self.registry = subst (λ (k : Held g.row.S.Denot). DiskKept g.S.Store k) c.close.ensures closed in
+    let mid : DiskKept g.S.Store c.in-Ok.registry = omega (arith, clean, c.take_up.ensures.clean) in
+    absurd (c.in-Ok.ensures.refuses is_open foreign mid)
+
+pub returns-in-Ok-take_up-clause-foreign : goal.returns-in-Ok-take_up-clause-foreign
+returns-in-Ok-take_up-clause-foreign g c is_open foreign clean =
+    let mid : DiskKept g.S.Store c.in-Ok.registry = omega (arith, clean, c.take_up.ensures.clean) in
+    absurd (c.in-Ok.ensures.refuses is_open foreign mid)

@@ -1,7 +1,8 @@
-use Rattle.std.proofs.Common.{◌∙◌, inl, refl, sym, arith}
+use Rattle.std.proofs.Common.{◌≡◌, ◌∙◌, ◌<◌, Err, inl, refl, sym, ap, arith}
 use Rattle.gm_registry.specs.Registry.{DiskKept}
+use Rattle.gm_bench.specs.declared.fault.BenchFault.TheVariants.{Disk}
 use Rattle.gm_bench.proofs.Phases.{not_pending}
-use Rattle.gm_bench.proofs.Carried.{rest_answers, work, is_work, carried_answers, carried_leaves}
+use Rattle.gm_bench.proofs.Carried.{rest_answers, work, is_work, done, carried_answers, carried_leaves}
 use Rattle.gm_bench.proofs.bench.Bench.run.Goals as goal
 
 pub returns-in-Ok-carry_out-clause-answers : goal.returns-in-Ok-carry_out-clause-answers
@@ -44,3 +45,22 @@ returns-in_default-clause-leaves g c h clean away u at =
 pub returns-in-Err-clause-leaves : goal.returns-in-Err-clause-leaves
 returns-in-Err-clause-leaves g c h clean away u at =
     record { registry = c.accept.new.self.media.registry; shelf = c.accept.new.self.media.shelf; accepting = c.accept.ensures.leaves h clean away u at; carrying = inl (refl, refl) }
+
+pub returns-in-Err-carry_out-clause-disk : goal.returns-in-Err-carry_out-clause-disk
+returns-in-Err-carry_out-clause-disk g c h clean told away u at =
+    let view = g.H.Shelf.view in
+    let mid : DiskKept g.S.Store c.accept.new.self.media.registry = omega (arith, clean, c.carry_out.ensures.clean) in
+    let answers = c.in-Ok.ensures.answers h mid in
+    let pending = sym c.phase.ensures ∙ c.in-Pending.is in
+    let fault : c.in-Err-carry_out.fault ≡ Disk = cc in
+    let left = done g.S.Store view g.H.Shelf.size c.args.self.now.media.registry c.accept.new.self.media.registry c.args.self.now.media.shelf c.accept.new.self.media.shelf c.args.key.now c.args.command.now c.in-Ok.answer c.accept.new.self.progress answers pending away u at in
+    let more : (view c.accept.new.self.media.shelf).faults < (view c.carry_out.new.self.media.shelf).faults = c.in-Err-carry_out.ensures.disk (ap Err fault)
+    (work g.S.Store view g.H.Shelf.size c.args.self.now.media.registry c.accept.new.self.media.registry c.args.self.now.media.shelf c.accept.new.self.media.shelf c.args.key.now c.args.command.now c.in-Ok.answer c.accept.new.self.progress answers pending)
+    (is_work g.S.Store view g.H.Shelf.size c.args.self.now.media.registry c.accept.new.self.media.registry c.args.self.now.media.shelf c.accept.new.self.media.shelf c.args.key.now c.args.command.now c.in-Ok.answer c.accept.new.self.progress answers pending)
+    away u left.world left.at in
+    omega (arith, c.accept.ensures.count, more)
+
+pub returns-in-Err-clause-disk : goal.returns-in-Err-clause-disk
+returns-in-Err-clause-disk g c h clean told away u at =
+    let fault : c.in-Err.fault ≡ Disk = cc in
+    c.in-Err.ensures.disk (ap Err fault)
