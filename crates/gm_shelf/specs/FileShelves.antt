@@ -14,4 +14,4 @@ folder_of shelf = string_bytes shelf.files.folder
 -- the same images of the same folder
 pub record IsSameFolder {R D : Type 0} (old new : FileShelf R D) : Type 0 where
   pub folder : folder_of new ≡ folder_of old
-  pub lengths : new.lengths ≡ old.lengths
+  pub images : new.images ≡ old.images

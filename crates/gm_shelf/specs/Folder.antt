@@ -6,10 +6,11 @@ use Rattle.std.specs.Cmp.Lexicographic.{slice_cmp}
 use Rattle.std.specs.BTreeMap.{BTreeMap, get}
 use Rattle.gm_metadata.specs.Images.{Sizes}
 use Rattle.gm_shelf.specs.Disk.{View}
+use Rattle.gm_shelf.specs.declared.images.ImageFile.{ImageFile}
 
 -- a file has a sector for each 512 of its bytes
-abbrev pub sectors_of : BTreeMap (List ℕ) ℕ → Sizes
-sectors_of lengths p = option_map (λ length. length / 512) (get (slice_cmp nat_cmp) lengths p)
+abbrev pub sectors_of : BTreeMap (List ℕ) ImageFile → Sizes
+sectors_of images p = option_map (λ image. image.length / 512) (get (slice_cmp nat_cmp) images p)
 
 -- nothing is known of what is held or left: any image may be left, now or since any moment
 abbrev pub unknown : ℕ → View

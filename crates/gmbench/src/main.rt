@@ -1,33 +1,55 @@
-//! The program: words in, lines and an exit status out. `program.rt` is all of it; `main` hands it the real streams.
+//! The program: words in, lines and an exit status out. `program.rt` is all of it; `main` hands it the real streams, once
+//! `streams.rt` has seen to it that there are three.
 #![tactic(auto)]
 
 mod dump;
 mod program;
 mod recover;
 mod status;
+mod streams;
 #[cfg(test)]
 mod tests;
 mod words;
 
 use program::program;
+use status::{Fault, Status};
 use std::env;
-use std::io::{self, BufReader, BufWriter, Write};
+use std::io::{BufReader, BufWriter, ErrorKind, Write};
 use std::process::ExitCode;
+use streams::StandardStreams;
 
-fn main(rt: HostRuntime) -> io::Result<ExitCode> {
+// Runs the program over the real streams.
+fn run(rt: &HostRuntime) -> Result<Status, Fault> {
     let alloc = rt.alloc();
-    let given: Vec<String> = env::args(&rt)?.skip(1).collect(alloc)?;
+    let _streams = StandardStreams::take(rt)?;
+    let mut complaints = rt.stderr();
+    let given: Vec<String> = match env::args(rt) {
+        Ok(given) => given.skip(1).collect(alloc)?,
+        Err(e) if e.kind() == ErrorKind::OutOfMemory => return Err(Fault::MEMORY),
+        Err(_) => {
+            writeln!(complaints, "error: a word isn't UTF-8")?;
+            return Ok(Status::Words);
+        }
+    };
     let words: Vec<&str> = given.iter().map(|word| word.as_str()).collect(alloc)?;
     let mut input = BufReader::new(alloc, rt.stdin())?;
     let mut output = BufWriter::new(alloc, rt.stdout())?;
-    let mut complaints = rt.stderr();
-    let status = program(
-        &rt,
+    Ok(program(
+        rt,
         words.as_slice(),
         &mut input,
         &mut output,
         &mut complaints,
-    );
-    output.flush()?;
-    Ok(ExitCode::from(status.code()))
+    ))
+}
+
+fn main(rt: HostRuntime) -> ExitCode {
+    let status = match run(&rt) {
+        Ok(status) => status,
+        Err(fault) => {
+            let _ = writeln!(rt.stderr(), "{fault}");
+            Status::Fault
+        }
+    };
+    ExitCode::from(status.code())
 }

@@ -49,7 +49,7 @@ fn dump<O: Write>(
     provider: Label,
     output: &mut O,
 ) -> Result<Status, Fault> {
-    let mut shelf = FileShelf::open(rt, folder)?;
+    let mut shelf = FileShelf::look_at(rt, folder, &[provider])?;
     match last_sector(&mut shelf, provider)? {
         Ok(sector) => {
             let text = dump_text(rt.alloc(), &sector)?;
@@ -84,11 +84,14 @@ fn run<O: Write, E: Write>(
     output: &mut O,
     complaints: &mut E,
 ) -> Result<Status, Fault> {
-    let status = match job_of(rt.alloc(), words) {
-        Ok(job) => perform(rt, job, output)?,
-        Err(error) => explain(&error, output, complaints)?,
+    let done = match job_of(rt.alloc(), words) {
+        Ok(job) => perform(rt, job, output),
+        Err(error) => explain(&error, output, complaints),
     };
-    output.flush()?;
+    // What was printed before a fault is to be seen as well.
+    let flushed = output.flush();
+    let status = done?;
+    flushed?;
     Ok(status)
 }
 

@@ -56,6 +56,8 @@ fn recover_command<'a>(alloc: Global) -> Result<Command<'a>, AllocError> {
 fn program_command<'a>(alloc: Global) -> Result<Command<'a>, AllocError> {
     Command::new(alloc, "gmbench")
         .about("A workshop for disk images that are mirrors of gmirror(8)")
+        .version("0.1.0")
+        .bin_name("gmbench")?
         .no_binary_name(true)
         .subcommand_required(true)
         .subcommand(dump_command(alloc)?)?
@@ -68,9 +70,10 @@ fn label_of(alloc: Global, value: &str) -> Result<Label, Error> {
         Some(label) => Ok(label),
         None => {
             let message = format!(in alloc;
-                "'{value}' is no name of an image: 1 to 15 of A-Z, a-z, 0-9, '.', '_' and '-'"
+                "invalid value '{value}' for '<PROV>': a name has 1 to 15 of A-Z, a-z, 0-9, '.', '_' and '-'"
             )?;
-            Err(program_command(alloc)?.error(ErrorKind::ValueValidation, message.as_str())?)
+            let mut dump = dump_command(alloc)?.bin_name("gmbench dump")?;
+            Err(dump.error(ErrorKind::ValueValidation, message.as_str())?)
         }
     }
 }

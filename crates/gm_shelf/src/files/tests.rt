@@ -1,11 +1,12 @@
-use super::*;
+use crate::file_id::FileId;
+use crate::open_files::OPEN_FILES;
 use crate::{FileShelf, Shelf, ShelfFault, write_meta};
 use gm_metadata::{Balance, DiskFlags, Label, Metadata, MirrorFlags, encode};
 use std::os::unix::fs::symlink;
 use std::path::Path;
 use std::process::Abort;
 use std::test::Fail;
-use std::{env, fs, process};
+use std::{env, fs, io, process};
 
 // An empty folder of its own for each test and each process.
 fn new_folder(rt: &HostRuntime, test: &str) -> io::Result<String> {
@@ -348,5 +349,94 @@ fn an_entry_that_cant_be_looked_at_fails_the_opening(rt: HostRuntime) -> Result<
     assert!(rt; fs::read_dir(&rt, after.as_str()).is_ok());
     assert!(rt; FileShelf::open(&rt, after.as_str()).is_err());
     fs::remove_dir_all(&rt, folder.as_str())?;
+    Ok(())
+}
+
+// Another file and a link to the very file, put where the image was.
+#[test]
+fn what_takes_the_place_of_an_image_is_none(rt: HostRuntime) -> Result<(), Fail> {
+    let folder = new_folder(&rt, "place")?;
+    for name in ["other", "link", "folder"] {
+        put_file(&rt, &folder, name, &[7; 1024])?;
+    }
+    let mut shelf = FileShelf::open(&rt, folder.as_str())?;
+    for name in ["other", "link", "folder"] {
+        let away = format!(in rt.alloc(); "{name} away")?;
+        let (from, to) = (
+            path_in(&rt, &folder, name)?,
+            path_in(&rt, &folder, away.as_str())?,
+        );
+        fs::rename(&rt, from.as_str(), to.as_str())?;
+    }
+    put_file(&rt, &folder, "other", &[8; 1024])?;
+    symlink(&rt, "link away", path_in(&rt, &folder, "link")?.as_str())?;
+    fs::create_dir(&rt, path_in(&rt, &folder, "folder")?.as_str())?;
+    for name in ["other", "link", "folder"] {
+        fails_at(&rt, &mut shelf, label(name)?);
+    }
+    assert!(rt; holds(&rt, &folder, "other", 1, &[8; 512])?);
+    for name in ["other away", "link away", "folder away"] {
+        assert!(rt; holds(&rt, &folder, name, 1, &[7; 512])?);
+    }
+    fs::remove_dir_all(&rt, folder.as_str())?;
+    Ok(())
+}
+
+#[test]
+fn two_names_of_one_file_are_no_images(rt: HostRuntime) -> Result<(), Fail> {
+    let folder = new_folder(&rt, "twice")?;
+    put_file(&rt, &folder, "a.img", &[7; 1024])?;
+    put_file(&rt, &folder, "b.img", &[7; 1024])?;
+    let (a, b) = (
+        path_in(&rt, &folder, "a.img")?,
+        path_in(&rt, &folder, "b.img")?,
+    );
+    // A second name that is no image's.
+    fs::hard_link(
+        &rt,
+        a.as_str(),
+        path_in(&rt, &folder, "two words")?.as_str(),
+    )?;
+    assert_eq!(rt; FileShelf::open(&rt, folder.as_str())?.names()?.len(), 2);
+    fs::remove_file(&rt, b.as_str())?;
+    fs::hard_link(&rt, a.as_str(), b.as_str())?;
+    let names = [label("a.img")?, label("b.img")?];
+    assert!(rt; FileShelf::open(&rt, folder.as_str()).is_err());
+    assert!(rt; FileShelf::look_at(&rt, folder.as_str(), &names).is_err());
+    let first = FileShelf::look_at(&rt, folder.as_str(), &[names[0]])?;
+    assert_eq!(rt; first.sectors(names[0]), Some(2));
+    let left_out = FileId::of(&fs::metadata(&rt, a.as_str())?);
+    let none = FileShelf::open_without(&rt, folder.as_str(), &[left_out])?;
+    assert!(rt; none.names()?.is_empty());
+    fs::remove_dir_all(&rt, folder.as_str())?;
+    Ok(())
+}
+
+#[test]
+fn a_look_reads_what_is_named(rt: HostRuntime) -> Result<(), Fail> {
+    let folder = new_folder(&rt, "look")?;
+    put_file(&rt, &folder, "a.img", &[7; 1024])?;
+    put_file(&rt, &folder, "b.img", &[7; 1024])?;
+    put_file(&rt, &folder, "odd", &[7; 1000])?;
+    symlink(&rt, "a.img", path_in(&rt, &folder, "link")?.as_str())?;
+    let names = [label("b.img")?, label("a.img")?, label("none")?];
+    let mut shelf = FileShelf::look_at(&rt, folder.as_str(), &names)?;
+    assert_eq!(rt; shelf.names()?.as_slice(), [names[1], names[0]].as_slice());
+    let mut sector = [0; 512];
+    shelf.read(names[1], 1, &mut sector)?;
+    assert!(rt; sector == [7; 512]);
+    assert_eq!(rt;
+        shelf.write(names[1], 1, &[8; 512]),
+        Err(ShelfFault::Device)
+    );
+    assert!(rt; holds(&rt, &folder, "a.img", 1, &[7; 512])?);
+    for name in ["odd", "link"] {
+        let none = FileShelf::look_at(&rt, folder.as_str(), &[label(name)?])?;
+        assert_eq!(rt; none.sectors(label(name)?), None);
+    }
+    let a_file = path_in(&rt, &folder, "a.img")?;
+    assert!(rt; FileShelf::look_at(&rt, a_file.as_str(), &names).is_err());
+    fs::remove_dir_all(&rt, folder.as_str())?;
+    assert!(rt; FileShelf::look_at(&rt, folder.as_str(), &[]).is_err());
     Ok(())
 }

@@ -1,0 +1,136 @@
+//! The images of a folder, as they are found.
+
+ghost use Rattle.std.specs.Prelude.{IfOk, IfSome};
+ghost use Rattle.std.specs.List.{Contains};
+
+use crate::file_id::FileId;
+use gm_metadata::Label;
+use std::alloc::Global;
+use std::collections::{BTreeMap, BTreeSet};
+use std::fs::{self, DirEntry, Metadata};
+use std::io::{self, ErrorKind};
+use std::rt::Files;
+
+/// A file that is an image: its length in bytes, and which file it is.
+#[derive(Clone, Copy)]
+pub(crate) struct ImageFile {
+    pub(crate) length: u64,
+    pub(crate) file: FileId,
+}
+
+/// The images of a folder by their names.
+pub(crate) type Images = BTreeMap<Label, ImageFile>;
+
+// The image that something with these attributes is, where it is one.
+fn image_with(found: &Metadata) -> Option<ImageFile> {
+    let length = found.len();
+    if !found.is_file() || length % 512 != 0 {
+        return None;
+    }
+    Some(ImageFile {
+        length,
+        file: FileId::of(found),
+    })
+}
+
+// A file of a folder that is an image, by its name.
+#[derive(Clone, Copy)]
+struct Found {
+    name: Label,
+    image: ImageFile,
+}
+
+// The image that an entry of a folder is, where it isn't one of the files that are left out.
+fn image_of<R: Files + Drop>(
+    entry: io::Result<DirEntry<R>>,
+    left_out: &[FileId],
+) -> io::Result<Option<Found>>
+    ensures left_out { IfOk result (λ found. IfSome found (λ it.
+        Contains left_out.now it.image.file → ⊥)) }
+{
+    let entry = match entry {
+        Ok(entry) => entry,
+        Err(e) if e.kind() == ErrorKind::InvalidFilename => return Ok(None),
+        Err(e) => return Err(e),
+    };
+    let Some(name) = Label::new(entry.file_name()) else {
+        return Ok(None);
+    };
+    match entry.metadata() {
+        Ok(found) => Ok(image_but(name, &found, left_out)),
+        Err(e) if e.kind() == ErrorKind::NotFound => Ok(None),
+        Err(e) => Err(e),
+    }
+}
+
+// The image that a file of this name is, where it isn't left out.
+fn image_but(name: Label, found: &Metadata, left_out: &[FileId]) -> Option<Found>
+    ensures left_out { IfSome result (λ it. Contains left_out.now it.image.file → ⊥) }
+{
+    match image_with(found) {
+        Some(image) if !left_out.contains(&image.file) => Some(Found { name, image }),
+        _ => None,
+    }
+}
+
+// Two names of one file would be two components of a mirror that is none.
+fn check_apart(alloc: Global, images: &Images) -> io::Result<()> {
+    let mut files = BTreeSet::new(alloc);
+    for image in images.values() {
+        if !files.insert(image.file)? {
+            return Err(io::Error::from(ErrorKind::InvalidData));
+        }
+    }
+    Ok(())
+}
+
+/// The images of a folder, but for the files that are left out. Fails where the folder can't be listed, where an entry
+/// can't be looked at, and where two names are one file.
+pub(crate) fn images_in<R: Files + AllocGlobal + Clone + Drop>(
+    rt: &R,
+    folder: &str,
+    left_out: &[FileId],
+) -> io::Result<Images> {
+    let mut images = BTreeMap::new(rt.alloc());
+    for entry in fs::read_dir(rt, folder)? {
+        if let Some(found) = image_of(entry, left_out)? {
+            images.insert(found.name, found.image)?;
+        }
+    }
+    check_apart(rt.alloc(), &images)?;
+    Ok(images)
+}
+
+// The image of this name in a folder, where there is one.
+fn image_named<R: Files + AllocGlobal>(
+    rt: &R,
+    folder: &str,
+    name: Label,
+) -> io::Result<Option<ImageFile>> {
+    let path = format!(in rt.alloc(); "{folder}/{name}")?;
+    match fs::symlink_metadata(rt, path.as_str()) {
+        Ok(found) => Ok(image_with(&found)),
+        Err(e) if e.kind() == ErrorKind::NotFound => Ok(None),
+        Err(e) => Err(e),
+    }
+}
+
+/// The images of a folder that have these names; no other entry is looked at. Fails where there is no such folder, where
+/// one of the entries can't be looked at, and where two of the names are one file.
+pub(crate) fn images_named<R: Files + AllocGlobal>(
+    rt: &R,
+    folder: &str,
+    names: &[Label],
+) -> io::Result<Images> {
+    if !fs::metadata(rt, folder)?.is_dir() {
+        return Err(io::Error::from(ErrorKind::NotADirectory));
+    }
+    let mut images = BTreeMap::new(rt.alloc());
+    for name in names {
+        if let Some(image) = image_named(rt, folder, *name)? {
+            images.insert(*name, image)?;
+        }
+    }
+    check_apart(rt.alloc(), &images)?;
+    Ok(images)
+}
