@@ -3,6 +3,7 @@
 
 mod answers;
 mod faults;
+mod files;
 mod limits;
 mod members;
 mod phases;

@@ -15,7 +15,7 @@ use std::test::Fail;
 
 // The answer of the first label, of the same again, of other commands under its key, of a key that is none, and of the
 // same command under another key. Only the first of them is accepted.
-fn answers<S: Alter + Drop, H: Shelf + Drop>(
+pub(super) fn answers<S: Alter + Drop, H: Shelf + Drop>(
     alloc: Global,
     store: Connection<S>,
     shelf: H,
@@ -53,7 +53,7 @@ fn says_the_label<H: Shelf>(shelf: &mut H) -> Result<(), Fail> {
 }
 
 // A label, the same again over the bench that is opened anew, and what both leave.
-fn stays<S: Alter + Drop, H: Shelf + Drop>(
+pub(super) fn stays<S: Alter + Drop, H: Shelf + Drop>(
     alloc: Global,
     store: Connection<S>,
     shelf: H,
@@ -82,7 +82,7 @@ fn one_image(alloc: Global, data_sectors: u8) -> Result<MemShelf, Fail> {
     Ok(shelf)
 }
 
-fn takes_two_sectors<S: Alter + Drop, H: Shelf + Drop>(
+pub(super) fn takes_two_sectors<S: Alter + Drop, H: Shelf + Drop>(
     alloc: Global,
     store: Connection<S>,
     shelf: H,
@@ -97,7 +97,7 @@ fn takes_two_sectors<S: Alter + Drop, H: Shelf + Drop>(
     must(sector(&mut shelf, "c.img", 0)? == [1; 512], "other data")
 }
 
-fn refuses_one_sector<S: Alter + Drop, H: Shelf + Drop>(
+pub(super) fn refuses_one_sector<S: Alter + Drop, H: Shelf + Drop>(
     alloc: Global,
     store: Connection<S>,
     shelf: H,

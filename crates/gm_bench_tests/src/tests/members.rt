@@ -37,7 +37,7 @@ fn must_hold<H: Shelf>(
     must_keep_data(shelf, "b.img")
 }
 
-fn is_inserted<S: Alter + Drop, H: Shelf + Drop>(
+pub(super) fn is_inserted<S: Alter + Drop, H: Shelf + Drop>(
     alloc: Global,
     store: Connection<S>,
     shelf: H,
@@ -53,7 +53,7 @@ fn an_inserted_component_is_to_be_filled(rt: HostRuntime) -> Result<(), Fail> {
     is_inserted(rt.alloc(), memory(rt.alloc())?, shelf(rt.alloc())?)
 }
 
-fn is_destroyed<S: Alter + Drop, H: Shelf + Drop>(
+pub(super) fn is_destroyed<S: Alter + Drop, H: Shelf + Drop>(
     alloc: Global,
     store: Connection<S>,
     shelf: H,
@@ -74,7 +74,7 @@ fn a_destroyed_mirror_leaves_zeros(rt: HostRuntime) -> Result<(), Fail> {
 }
 
 // A remove of b.img that is accepted and not carried out.
-fn removing<S: Alter + Drop, H: Shelf + Drop>(
+pub(super) fn removing<S: Alter + Drop, H: Shelf + Drop>(
     alloc: Global,
     store: Connection<S>,
     shelf: H,
@@ -86,7 +86,7 @@ fn removing<S: Alter + Drop, H: Shelf + Drop>(
 }
 
 // The opening carries it out, and the one after that finds nothing to do.
-fn is_removed<S: Alter + Drop, H: Shelf + Drop>(
+pub(super) fn is_removed<S: Alter + Drop, H: Shelf + Drop>(
     alloc: Global,
     store: Connection<S>,
     shelf: H,
@@ -101,7 +101,7 @@ fn is_removed<S: Alter + Drop, H: Shelf + Drop>(
     must(bench.redone() == 0, "carried out twice")
 }
 
-fn is_carried_out_later<S: Alter + Drop, H: Shelf + Drop>(
+pub(super) fn is_carried_out_later<S: Alter + Drop, H: Shelf + Drop>(
     alloc: Global,
     store: Connection<S>,
     shelf: H,
