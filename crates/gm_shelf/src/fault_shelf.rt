@@ -18,6 +18,7 @@ pub struct FaultShelf<H> {
 }
 
 impl<H: Shelf> FaultShelf<H> {
+    ghost use Rattle.gm_shelf.specs.Faults.{last_count};
     ghost use Rattle.gm_shelf.specs.FaultShelves.{inner_of, passing_of, failures_of};
 
     /// Every read, write and sync from the nth on, counted from 1, fails before it acts.
@@ -31,6 +32,20 @@ impl<H: Shelf> FaultShelf<H> {
             inner,
             passing: nth.saturating_sub(1),
             failures: 0,
+        }
+    }
+
+    /// Every read, write and sync from the nth on, counted from 1, fails before it acts for want of
+    /// memory: the count of failures stands at its last value, so that none is told as the device's.
+    /// An nth of 0 is as one of 1.
+    pub fn starve_from(inner: H, nth: u64) -> FaultShelf<H>
+        ensures inner { inner_of result ≡ inner }
+        ensures passing { passing_of result ≡ nth - 1 }
+        ensures failures { failures_of result ≡ last_count }
+    {
+        FaultShelf {
+            failures: u64::MAX,
+            ..FaultShelf::stop_from(inner, nth)
         }
     }
 

@@ -1,4 +1,5 @@
-//! A shelf that stops: the call that meets the stop says so, every later one does nothing, and both media stay.
+//! A shelf that stops, since its device failed or memory is wanting: the call that meets the stop says which, every
+//! later one does nothing, and both media stay.
 
 use super::stops::{CALLS, Played, check, play};
 use super::{
@@ -13,6 +14,29 @@ use std::test::Fail;
 
 // A script is over long before it makes so many calls of the shelf.
 const MANY: u64 = 200;
+
+// Why a shelf stops.
+#[derive(Clone, Copy)]
+enum Stop {
+    Device,
+    Memory,
+}
+
+// A shelf whose calls from the nth on fail so.
+fn failing<H: Shelf>(stop: Stop, shelf: H, nth: u64) -> FaultShelf<H> {
+    match stop {
+        Stop::Device => FaultShelf::stop_from(shelf, nth),
+        Stop::Memory => FaultShelf::starve_from(shelf, nth),
+    }
+}
+
+// How a bench says that its shelf stopped so.
+fn fault_of(stop: Stop) -> BenchFault {
+    match stop {
+        Stop::Device => BenchFault::Disk,
+        Stop::Memory => BenchFault::Memory,
+    }
+}
 
 // Each call of a bench that a fault closed, where they are asked for.
 fn must_be_closed<S: Alter, H: Shelf>(
@@ -43,15 +67,13 @@ fn plays<S: Alter + Drop, H: Shelf + Drop>(
     alloc: Global,
     store: Connection<S>,
     shelf: H,
+    fault: BenchFault,
     and_more: bool,
 ) -> Result<(Played, Connection<S>, H), Fail> {
     let mut bench = open(alloc, store, shelf)?;
     let played = play(alloc, &mut bench, 0, CALLS)?;
     let stopped = played.fault.is_some();
-    must(
-        !stopped || played.fault == Some(BenchFault::Disk),
-        "another fault",
-    )?;
+    must(!stopped || played.fault == Some(fault), "another fault")?;
     must_be_closed(alloc, &mut bench, stopped && and_more)?;
     let (store, shelf) = bench.close();
     Ok((played, store, shelf))
@@ -81,11 +103,12 @@ struct Left<S: Alter> {
 fn stop_at<S: Alter + Drop>(
     alloc: Global,
     store: Connection<S>,
+    stop: Stop,
     nth: u64,
     and_more: bool,
 ) -> Result<Left<S>, Fail> {
-    let stopping = FaultShelf::stop_from(shelf(alloc)?, nth);
-    let (played, store, stopping) = plays(alloc, store, stopping, and_more)?;
+    let stopping = failing(stop, shelf(alloc)?, nth);
+    let (played, store, stopping) = plays(alloc, store, stopping, fault_of(stop), and_more)?;
     let shelf = stopping.into_inner();
     Ok(Left {
         played,
@@ -109,17 +132,27 @@ fn leaves_the_same<S: Alter + Drop>(
     Ok(stopped)
 }
 
-#[test]
-fn a_closed_bench_does_nothing(rt: HostRuntime) -> Result<(), Fail> {
+// Stops so at each call of the shelf in turn, until a run ends without a stop.
+fn stop_at_each(alloc: Global, stop: Stop) -> Result<(), Fail> {
     let mut ended = false;
     for nth in 1..MANY {
         if !ended {
-            let plain = stop_at(rt.alloc(), memory(rt.alloc())?, nth, false)?;
-            let more = stop_at(rt.alloc(), memory(rt.alloc())?, nth, true)?;
-            ended = !leaves_the_same(rt.alloc(), plain, more)?;
+            let plain = stop_at(alloc, memory(alloc)?, stop, nth, false)?;
+            let more = stop_at(alloc, memory(alloc)?, stop, nth, true)?;
+            ended = !leaves_the_same(alloc, plain, more)?;
         }
     }
     must(ended, "no run ended")
+}
+
+#[test]
+fn a_closed_bench_does_nothing(rt: HostRuntime) -> Result<(), Fail> {
+    stop_at_each(rt.alloc(), Stop::Device)
+}
+
+#[test]
+fn want_of_memory_closes_a_bench(rt: HostRuntime) -> Result<(), Fail> {
+    stop_at_each(rt.alloc(), Stop::Memory)
 }
 
 // A look at a shelf that serves no call closes the bench; the registry is still viewed before.
@@ -127,18 +160,22 @@ fn closes_at_a_look<S: Alter + Drop, H: Shelf + Drop>(
     alloc: Global,
     store: Connection<S>,
     shelf: H,
+    fault: BenchFault,
 ) -> Result<(), Fail> {
     let mut bench = open(alloc, store, shelf)?;
     must(try_view(alloc, &mut bench).is_ok(), "not viewed")?;
     let last = try_last(&mut bench, label("a.img")?);
-    must(last.err() == Some(BenchFault::Disk), "another fault")?;
+    must(last.err() == Some(fault), "another fault")?;
     must_be_closed(alloc, &mut bench, true)
 }
 
 #[test]
-fn a_look_at_a_disk_that_failed_closes(rt: HostRuntime) -> Result<(), Fail> {
-    let stopped = FaultShelf::stop_from(shelf(rt.alloc())?, 1);
-    closes_at_a_look(rt.alloc(), memory(rt.alloc())?, stopped)
+fn a_look_that_fails_closes(rt: HostRuntime) -> Result<(), Fail> {
+    for stop in [Stop::Device, Stop::Memory] {
+        let stopped = failing(stop, shelf(rt.alloc())?, 1);
+        closes_at_a_look(rt.alloc(), memory(rt.alloc())?, stopped, fault_of(stop))?;
+    }
+    Ok(())
 }
 
 // The script up to an accepted insert, which asks for two sectors.
@@ -158,6 +195,7 @@ fn opens<S: Alter + Drop, H: Shelf + Drop>(
     alloc: Global,
     store: Connection<S>,
     shelf: H,
+    fault: BenchFault,
 ) -> Result<(bool, Connection<S>, H), Fail> {
     match try_open(alloc, store, shelf)? {
         Ok(bench) => {
@@ -166,7 +204,7 @@ fn opens<S: Alter + Drop, H: Shelf + Drop>(
             Ok((false, store, shelf))
         }
         Err(left) => {
-            must(left.fault == BenchFault::Disk, "another fault")?;
+            must(left.fault == fault, "another fault")?;
             Ok((true, left.store, left.shelf))
         }
     }
@@ -176,12 +214,13 @@ fn opens<S: Alter + Drop, H: Shelf + Drop>(
 fn stops_opening<S: Alter + Drop>(
     alloc: Global,
     store: Connection<S>,
+    stop: Stop,
     nth: u64,
     picks: &[u32],
 ) -> Result<bool, Fail> {
     let (played, store, shelf) = inserting(alloc, store, shelf(alloc)?)?;
-    let stopping = FaultShelf::stop_from(shelf, nth);
-    let (stopped, store, stopping) = opens(alloc, store, stopping)?;
+    let stopping = failing(stop, shelf, nth);
+    let (stopped, store, stopping) = opens(alloc, store, stopping, fault_of(stop))?;
     let left = stopping.into_inner().crash_image(picks)?;
     let redone = check(alloc, store, left, played)?;
     must(!stopped || redone == 2, "another count")?;
@@ -189,16 +228,22 @@ fn stops_opening<S: Alter + Drop>(
     Ok(stopped)
 }
 
+// Stops openings so at each call of the shelf in turn, until one ends without a stop.
+fn stop_openings(alloc: Global, stop: Stop, picks: &[u32]) -> Result<(), Fail> {
+    let mut ended = false;
+    for nth in 1..MANY {
+        if !ended {
+            ended = !stops_opening(alloc, memory(alloc)?, stop, nth, picks)?;
+        }
+    }
+    must(ended, "no run ended")
+}
+
 #[test]
 fn an_opening_that_stops_is_made_again(rt: HostRuntime) -> Result<(), Fail> {
     for picks in [[0u32; 4], [1; 4]] {
-        let mut ended = false;
-        for nth in 1..MANY {
-            if !ended {
-                ended = !stops_opening(rt.alloc(), memory(rt.alloc())?, nth, &picks)?;
-            }
-        }
-        must(ended, "no run ended")?;
+        stop_openings(rt.alloc(), Stop::Device, &picks)?;
+        stop_openings(rt.alloc(), Stop::Memory, &picks)?;
     }
     Ok(())
 }
