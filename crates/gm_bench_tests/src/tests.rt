@@ -8,6 +8,7 @@ mod limits;
 mod members;
 mod phases;
 mod stops;
+mod store;
 
 use gm_bench::{Answer, Bench, BenchFault, OpenFault, Phase};
 use gm_metadata::{Balance, DiskFlags, Label, Metadata, MirrorFlags, encode};
