@@ -39,7 +39,7 @@ fn fault_of(stop: Stop) -> BenchFault {
 }
 
 // Each call of a bench that a fault closed, where they are asked for.
-fn must_be_closed<S: Alter, H: Shelf>(
+pub(super) fn must_be_closed<S: Alter, H: Shelf>(
     alloc: Global,
     bench: &mut Bench<S, H>,
     asked: bool,

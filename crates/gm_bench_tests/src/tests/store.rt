@@ -1,6 +1,7 @@
 //! The script over a store of two files, of which one stops at each of its calls in turn, and what is found when both
 //! media are opened again.
 
+use super::faults::must_be_closed;
 use super::stops::{Played, must_go_on, play};
 use super::{must, must_keep_data, shelf, try_open};
 use gm_bench::{Bench, BenchFault};
@@ -83,7 +84,7 @@ struct Told {
     redone: u64,
 }
 
-// Does a job, and gives both media back.
+// Does a job, and gives both media back. A bench that a fault closed is asked each call once more.
 fn serve<S: Alter + Drop, H: Shelf + Drop>(
     alloc: Global,
     mut bench: Bench<S, H>,
@@ -91,7 +92,11 @@ fn serve<S: Alter + Drop, H: Shelf + Drop>(
 ) -> Result<(Told, Connection<S>, H), Fail> {
     let redone = bench.redone();
     let played = match job {
-        Job::Play { before, calls } => play(alloc, &mut bench, before, calls)?,
+        Job::Play { before, calls } => {
+            let played = play(alloc, &mut bench, before, calls)?;
+            must_be_closed(alloc, &mut bench, played.fault.is_some())?;
+            played
+        }
         Job::Look { done } => {
             must_go_on(alloc, &mut bench, done)?;
             Played { done, fault: None }
