@@ -45,7 +45,8 @@ pub fn metadata_of(state: &State, provider: Label) -> Option<Metadata>
     Some(metadata(&mirror, &component))
 }
 
-fn state_by(flags: MirrorFlags, disk: Disk) -> ComponentState
+/// The state of a component that is so, of a mirror with these flags.
+pub fn state_by(flags: MirrorFlags, disk: Disk) -> ComponentState
     ensures { result ≡ state_by flags disk }
 {
     match disk {

@@ -2,7 +2,6 @@
 //! `streams.rt` has seen to it that there are three.
 #![tactic(auto)]
 
-mod dump;
 mod program;
 mod recover;
 mod status;

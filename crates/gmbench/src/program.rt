@@ -1,11 +1,11 @@
 //! All that the program does, over any streams.
 
-use crate::dump::dump_text;
 use crate::recover::recover;
 use crate::status::{DumpRefusal, Fault, Status};
 use crate::words::{Job, job_of};
 use clap::Error;
 use clap::error::ErrorKind;
+use gm_front::dump_text;
 use gm_metadata::{Label, decode};
 use gm_shelf::{FileShelf, Shelf};
 use std::io::{Read, Write};

@@ -1,0 +1,3 @@
+mod Growing
+mod Naming
+pub mod Taking

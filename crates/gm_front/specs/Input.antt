@@ -1,0 +1,44 @@
+-- The lines of an input, and what stands at its front.
+use Rattle.std.specs.Prelude.{◌≡◌, ◌<◌, ◌≤◌, ◌==◌, not, ℕ, Bool, true, List, [], ◌∷◌, length, take, min, Option, Some, if◌then◌else◌}
+use Rattle.std.specs.List.{list_all}
+use Rattle.std.specs.Io.BufRead.{drop_through}
+use Rattle.std.specs.Io.KnownBytes.{Consumes}
+use Rattle.gm_front.specs.declared.input.Line.{Line}
+use Rattle.gm_front.specs.declared.input.Line.TheVariants.{End, Whole, Long}
+
+-- a byte goes onto the first line of the rest
+abbrev pub onto : ℕ → List (List ℕ) → List (List ℕ)
+onto b [] = (b ∷ []) ∷ []
+onto b (line ∷ lines) = (b ∷ line) ∷ lines
+
+-- the lines, cut at line feeds; the last may lack one
+unfoldable pub lines_of : List ℕ → List (List ℕ)
+lines_of [] = []
+lines_of (b ∷ bytes) = if b == 10 then [] ∷ lines_of bytes else onto b (lines_of bytes)
+
+-- the bytes before the first line feed
+abbrev pub line_at : List ℕ → List ℕ
+line_at [] = []
+line_at (b ∷ bytes) = if b == 10 then [] else b ∷ line_at bytes
+
+-- no byte is a line feed
+abbrev pub is_one_line : List ℕ → Bool
+is_one_line bytes = list_all (λ b. not (b == 10)) bytes
+
+-- nothing was left; or the first line was taken with its line feed, and stands in the buffer, or is longer than that
+abbrev pub IsLine : List ℕ → Option (List ℕ) → List ℕ → Line → Type 0
+IsLine bytes rest line End = (bytes ≡ []) × (rest ≡ Some [])
+IsLine bytes rest line (Whole n) = (0 < length bytes) × (n ≤ 1024) × (take n line ≡ line_at bytes) × (rest ≡ Some (drop_through 10 bytes))
+IsLine bytes rest line Long = (1024 < length (line_at bytes)) × (rest ≡ Some (drop_through 10 bytes))
+
+-- the front of the buffer is what was seen, whose bytes are counted up to 1,025
+pub record IsCopied (line : List ℕ) (count : ℕ) (seen : List ℕ) : Type 0 where
+  pub counted : count ≡ min (length seen) 1025
+  pub copied : count ≤ 1024 → take count line ≡ seen
+
+-- a line, as far as it was read
+pub record Begins (old new : Option (List ℕ)) (line : List ℕ) (count : ℕ) : Type 0 where
+  pub seen : List ℕ
+  pub consumed : Consumes old new seen
+  pub is_one : is_one_line seen ≡ true
+  pub copied : IsCopied line count seen

@@ -1,0 +1,5 @@
+pub mod Dump
+pub mod Input
+pub mod Lines
+pub mod Listing
+pub mod Status
