@@ -1,11 +1,11 @@
 -- Lines as they are read.
-use Rattle.std.proofs.Common.{◌≡◌, ◌∙◌, ◌<◌, ◌≤◌, ◌+◌, ◌==◌, ◌&&◌, nat_lt, not, ℕ, Bool, true, false, refl, sym, ap, ap₂, subst, arith, List, [], ◌∷◌, ◌++◌, length, take, drop, min, set, add-one, Option, Some, None, IfSome, append-nil, true≢false, cond, inl, inr, length-append}
+use Rattle.std.proofs.Common.{◌≡◌, ◌∙◌, ◌<◌, ◌≤◌, ◌+◌, ◌==◌, ◌&&◌, nat_lt, not, ℕ, Bool, true, false, refl, sym, ap, arith, List, [], ◌∷◌, ◌++◌, length, take, min, set, add-one, Option, Some, None, IfSome, append-nil, true≢false, length-append}
 use Rattle.std.specs.Prelude.{if◌then◌else◌}
 use Rattle.std.proofs.Math.Seq.{take-suc-set}
 use Rattle.std.proofs.lemmas.Bool.Decides.{nat_tests}
 use Rattle.std.specs.Io.BufRead.{drop_through}
 use Rattle.std.specs.Io.KnownBytes.{Consumes, IsAtEnd}
-use Rattle.gm_front.specs.Input.{line_at, is_one_line, lines_of, onto}
+use Rattle.gm_front.specs.Input.{line_at, is_one_line}
 use Rattle.gm_front.specs.Input.{IsLine, IsCopied, Begins}
 use Rattle.gm_front.specs.declared.input.Line.{Line}
 use Rattle.gm_front.specs.declared.input.Line.TheVariants.{End, Whole, Long}
@@ -92,20 +92,3 @@ ended (Some bytes) (Some ms) None line count found begins took at_end e = absurd
 ended (Some bytes) (Some ms) (Some ns) line count found begins took at_end e =
     let all : bytes ≡ begins.seen = begins.consumed ∙ ap (λ xs. begins.seen ++ xs) (took ∙ at_end) ∙ append-nil begins.seen in
     rw (e, at_end) (is_ended bytes line begins.seen count _ refl begins.copied all begins.is_one)
-
-first_of_one : (b : ℕ) (t : Bool) → (b == 10) ≡ t → lines_of (b ∷ []) ≡ line_at (b ∷ []) ∷ lines_of (drop_through 10 (b ∷ []))
-unfolding lines_of
-first_of_one b true e = rw e refl
-first_of_one b false e = rw e refl
-
-first_of_more : (b : ℕ) (bytes : List ℕ) (t : Bool) → (b == 10) ≡ t → lines_of bytes ≡ line_at bytes ∷ lines_of (drop_through 10 bytes)
-    → lines_of (b ∷ bytes) ≡ line_at (b ∷ bytes) ∷ lines_of (drop_through 10 (b ∷ bytes))
-unfolding lines_of
-first_of_more b bytes true e h = rw e refl
-first_of_more b bytes false e h = rw e (ap (onto b) h)
-
--- the first line, and those of the rest
-pub lines_first : (bytes : List ℕ) → 0 < length bytes → lines_of bytes ≡ line_at bytes ∷ lines_of (drop_through 10 bytes)
-lines_first [] h = absurd (omega arith)
-lines_first (b ∷ []) h = first_of_one b _ refl
-lines_first (b ∷ c ∷ bytes) h = first_of_more b (c ∷ bytes) _ refl (lines_first (c ∷ bytes) (omega arith))

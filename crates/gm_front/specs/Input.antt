@@ -6,16 +6,6 @@ use Rattle.std.specs.Io.KnownBytes.{Consumes}
 use Rattle.gm_front.specs.declared.input.Line.{Line}
 use Rattle.gm_front.specs.declared.input.Line.TheVariants.{End, Whole, Long}
 
--- a byte goes onto the first line of the rest
-abbrev pub onto : ℕ → List (List ℕ) → List (List ℕ)
-onto b [] = (b ∷ []) ∷ []
-onto b (line ∷ lines) = (b ∷ line) ∷ lines
-
--- the lines, cut at line feeds; the last may lack one
-unfoldable pub lines_of : List ℕ → List (List ℕ)
-lines_of [] = []
-lines_of (b ∷ bytes) = if b == 10 then [] ∷ lines_of bytes else onto b (lines_of bytes)
-
 -- the bytes before the first line feed
 abbrev pub line_at : List ℕ → List ℕ
 line_at [] = []
