@@ -5,8 +5,8 @@ use Rattle.std.proofs.Math.Seq.{take-suc-set}
 use Rattle.std.proofs.lemmas.Bool.Decides.{nat_tests}
 use Rattle.std.specs.Io.BufRead.{drop_through}
 use Rattle.std.specs.Io.KnownBytes.{Consumes, IsAtEnd}
-use Rattle.gm_front.specs.Input.{line_at, is_one_line}
-use Rattle.gm_front.specs.Input.{IsLine, IsCopied, Begins}
+use Rattle.gm_front.specs.Input.{line_at, is_one_line, lines_of, onto}
+use Rattle.gm_front.specs.Input.{Fits, IsLine, IsCopied, Begins}
 use Rattle.gm_front.specs.declared.input.Line.{Line}
 use Rattle.gm_front.specs.declared.input.Line.TheVariants.{End, Whole, Long}
 
@@ -43,6 +43,20 @@ line_last (b ∷ seen) h =
 -- the count says which
 abbrev pub found_of : ℕ → Line
 found_of count = if nat_lt count 1025 then Whole count else Long
+
+fits_by : (count : ℕ) (whole : Bool) → nat_lt count 1025 ≡ whole → Fits (if whole then Whole count else Long)
+fits_by count true test = grind (arith, nat_tests)
+fits_by count false test = tt
+
+pub found_fits : (count : ℕ) (found : Line) → found ≡ found_of count → Fits found
+found_fits count found e = rw e (fits_by count _ refl)
+
+ended_by : (count : ℕ) (some : Bool) → Fits (if some then found_of count else End)
+ended_by count true = fits_by count _ refl
+ended_by count false = tt
+
+pub ended_fits : (count : ℕ) (found : Line) → found ≡ (if nat_lt 0 count then found_of count else End) → Fits found
+ended_fits count found e = rw e (ended_by count _)
 
 -- what was counted is the line
 pub is_found : (bytes line seen rest : List ℕ) (count : ℕ) (whole : Bool) → nat_lt count 1025 ≡ whole → IsCopied line count seen → 0 < length bytes → line_at bytes ≡ seen → drop_through 10 bytes ≡ rest
@@ -92,3 +106,20 @@ ended (Some bytes) (Some ms) None line count found begins took at_end e = absurd
 ended (Some bytes) (Some ms) (Some ns) line count found begins took at_end e =
     let all : bytes ≡ begins.seen = begins.consumed ∙ ap (λ xs. begins.seen ++ xs) (took ∙ at_end) ∙ append-nil begins.seen in
     rw (e, at_end) (is_ended bytes line begins.seen count _ refl begins.copied all begins.is_one)
+
+first_of_one : (b : ℕ) (t : Bool) → (b == 10) ≡ t → lines_of (b ∷ []) ≡ line_at (b ∷ []) ∷ lines_of (drop_through 10 (b ∷ []))
+unfolding lines_of
+first_of_one b true e = rw e refl
+first_of_one b false e = rw e refl
+
+first_of_more : (b : ℕ) (bytes : List ℕ) (t : Bool) → (b == 10) ≡ t → lines_of bytes ≡ line_at bytes ∷ lines_of (drop_through 10 bytes)
+    → lines_of (b ∷ bytes) ≡ line_at (b ∷ bytes) ∷ lines_of (drop_through 10 (b ∷ bytes))
+unfolding lines_of
+first_of_more b bytes true e h = rw e refl
+first_of_more b bytes false e h = rw e (ap (onto b) h)
+
+-- the first line, and those of the rest
+pub lines_first : (bytes : List ℕ) → 0 < length bytes → lines_of bytes ≡ line_at bytes ∷ lines_of (drop_through 10 bytes)
+lines_first [] h = absurd (omega arith)
+lines_first (b ∷ []) h = first_of_one b _ refl
+lines_first (b ∷ c ∷ bytes) h = first_of_more b (c ∷ bytes) _ refl (lines_first (c ∷ bytes) (omega arith))

@@ -15,6 +15,22 @@ line_at (b ∷ bytes) = if b == 10 then [] else b ∷ line_at bytes
 abbrev pub is_one_line : List ℕ → Bool
 is_one_line bytes = list_all (λ b. not (b == 10)) bytes
 
+-- a byte goes onto the first line of the rest
+abbrev pub onto : ℕ → List (List ℕ) → List (List ℕ)
+onto b [] = (b ∷ []) ∷ []
+onto b (line ∷ lines) = (b ∷ line) ∷ lines
+
+-- the lines, cut at line feeds; the last may lack one
+unfoldable pub lines_of : List ℕ → List (List ℕ)
+lines_of [] = []
+lines_of (b ∷ bytes) = if b == 10 then [] ∷ lines_of bytes else onto b (lines_of bytes)
+
+-- a whole line has at most 1,024 bytes
+abbrev pub Fits : Line → Type 0
+Fits End = Unit {0}
+Fits (Whole n) = n ≤ 1024
+Fits Long = Unit {0}
+
 -- nothing was left; or the first line was taken with its line feed, and stands in the buffer, or is longer than that
 abbrev pub IsLine : List ℕ → Option (List ℕ) → List ℕ → Line → Type 0
 IsLine bytes rest line End = (bytes ≡ []) × (rest ≡ Some [])

@@ -1,5 +1,10 @@
+pub mod Asking
+pub mod Batch
 pub mod Dump
 pub mod Input
 pub mod Lines
 pub mod Listing
+pub mod Outcomes
+pub mod Spelling
 pub mod Status
+pub mod Table

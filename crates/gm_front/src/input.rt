@@ -2,7 +2,7 @@
 
 ghost use Rattle.std.specs.Prelude.{◌≡◌, ◌++◌, ℕ, List, [], ◌∷◌, IfSome, IfNone, IfOk, nat_lt, if◌then◌else◌};
 ghost use Rattle.std.specs.Io.KnownBytes.{Consumes, IsAtEnd};
-ghost use Rattle.gm_front.specs.Input.{IsCopied, IsLine};
+ghost use Rattle.gm_front.specs.Input.{Fits, IsCopied, IsLine};
 
 use std::io::{self, ErrorKind, Read};
 
@@ -71,8 +71,9 @@ fn ended(count: usize) -> Line
 /// Takes the next line, with its line feed, into a buffer of its own limit; a longer line is taken whole too, and tells only
 /// that it is longer. The last line may lack its line feed. Fails where the reader does; what was read of a line is then gone.
 pub fn next_line<R: Read>(reader: &mut R, line: &mut [u8; 1024]) -> io::Result<Line>
-    ensures { IfOk result (λ found. IfSome (R.remaining reader.old) (λ bytes.
+    ensures line { IfOk result (λ found. IfSome (R.remaining reader.old) (λ bytes.
         IsLine bytes (R.remaining reader.new) line.new found)) }
+    ensures fits { IfOk result Fits }
 {
     let mut count = 0usize;
     for _ in 0..u64::MAX {

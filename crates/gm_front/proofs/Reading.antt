@@ -1,0 +1,135 @@
+-- Values that are read from texts.
+use Rattle.std.proofs.Common.{◌≡◌, ◌∙◌, ◌<◌, ◌^◌, ◌&&◌, ◌==◌, not, ℕ, Bool, true, false, refl, ap, ap₂, subst, inl, inr, arith, length, codes, List, [], ◌∷◌, Option, Some, None, Result, Ok, Err, lt-ltb, ltb-true, nat_lt}
+use Rattle.std.specs.Prelude.{if◌then◌else◌}
+use Rattle.std.specs.Fmt.{decimal}
+use Rattle.std.specs.List.{list_all}
+use Rattle.std.specs.Char.{digit_value}
+use Rattle.std.specs.Result.{result_ok}
+use Rattle.std.specs.Str.Parse.{AllDigits, ParsesUnsigned, digits_value, without_leading_plus}
+use Rattle.std.proofs.lemmas.Bool.{cases_Bool, eqb-true}
+use Rattle.std.proofs.lemmas.Fmt.{decimal_is_IsNumeral}
+use Rattle.clap.specs.ValueTests.{is_numeral}
+use Rattle.clap.specs.Walk.{Row}
+use Rattle.clap.proofs.WalkLemmas.{both}
+use Rattle.gm_metadata.specs.Balance.{balance_name}
+use Rattle.gm_metadata.specs.Labels.{is_label}
+use Rattle.gm_metadata.specs.declared.flags.MirrorFlags.{MirrorFlags}
+use Rattle.gm_state.specs.declared.command.BalanceWord.{BalanceWord}
+use Rattle.gm_state.specs.declared.command.BalanceWord.TheVariants.{Load, Prefer, RoundRobin, Split}
+use Rattle.gm_state.specs.Commands.{balance_of_word, on_where}
+use Rattle.gm_front.specs.Spelling.{◌>>=◌, IsNoFlag, balance_at, balance_in, flags_at, label_at, label_in, number_at, number_below, priority_at, slice_at, slice_in, switch_at, switch_in, text_at}
+
+all_digits : (ds : List ℕ) → list_all (λ d. nat_lt (digit_value d) 10) ds ≡ true → AllDigits 10 ds
+all_digits [] e = tt
+all_digits (d ∷ ds) e = let parts = both _ _ e in (ltb-true _ _ parts.0, all_digits ds parts.1)
+
+digits_pass : (ds : List ℕ) → AllDigits 10 ds → list_all (λ d. nat_lt (digit_value d) 10) ds ≡ true
+digits_pass [] h = refl
+digits_pass (d ∷ ds) h = rw (lt-ltb (digit_value d) 10 h.0) (digits_pass ds h.1)
+
+-- `parse` at an unsigned type of k bits
+pub parsed_below : {E : Type 0} (k : ℕ) (text : List ℕ) (r : Result ℕ E) → ParsesUnsigned k 10 text r → result_ok r ≡ number_below (2 ^ k) text
+unfolding number_below
+parsed_below k text (Ok n) h =
+    let digits = without_leading_plus text in
+    let some : nat_lt 0 (length digits) ≡ true = lt-ltb 0 (length digits) h.0.0.0 in
+    let all : list_all (λ d. nat_lt (digit_value d) 10) digits ≡ true = digits_pass digits h.0.0.1 in
+    let below : nat_lt (digits_value 10 digits) (2 ^ k) ≡ true = lt-ltb _ _ h.0.1 in
+    rw (some, all, below) (ap Some h.1)
+parsed_below k text (Err e) h =
+    let digits = without_leading_plus text in
+    elim (cases_Bool (is_numeral digits && nat_lt (digits_value 10 digits) (2 ^ k))) [
+      | inl t ↦ (let parts = both _ _ t in let numeral = both _ _ parts.0 in
+          absurd (h ((ltb-true _ _ numeral.0, all_digits digits numeral.1), ltb-true _ _ parts.1)))
+      | inr f ↦ rw f refl
+    ]
+
+-- ---- what is read of texts that the canonical words have
+
+unplussed : (ds : List ℕ) → AllDigits 10 ds → without_leading_plus ds ≡ ds
+unplussed [] h = refl
+unplussed (d ∷ ds) h =
+    elim (cases_Bool (d == 43)) [
+      | inl e ↦ (let bad : digit_value 43 < 10 = subst (λ (x : ℕ). digit_value x < 10) (eqb-true d 43 e) h.0 in absurd (omega arith))
+      | inr e ↦ rw e refl
+    ]
+
+no_flag : (ds : List ℕ) → AllDigits 10 ds → IsNoFlag ds
+no_flag [] h = tt
+no_flag (d ∷ ds) h =
+    elim (cases_Bool (d == 45)) [
+      | inl e ↦ (let bad : digit_value 45 < 10 = subst (λ (x : ℕ). digit_value x < 10) (eqb-true d 45 e) h.0 in absurd (omega arith))
+      | inr e ↦ e
+    ]
+
+-- decimals are no option
+pub decimal_no_flag : (n : ℕ) → n < 2 ^ 32 → IsNoFlag (decimal n)
+decimal_no_flag n small = no_flag (decimal n) (decimal_is_IsNumeral n (omega arith)).0.1
+
+pub switch_no_flag : (b : Bool) → IsNoFlag (on_where b)
+switch_no_flag true = refl
+switch_no_flag false = refl
+
+pub balance_no_flag : (b : BalanceWord) → IsNoFlag (balance_name (balance_of_word b))
+balance_no_flag Load = refl
+balance_no_flag Prefer = refl
+balance_no_flag RoundRobin = refl
+balance_no_flag Split = refl
+
+number_again : (bound n : ℕ) → n < bound → n < 2 ^ 32 → number_below bound (decimal n) ≡ Some n
+unfolding number_below
+number_again bound n fits small =
+    let is = decimal_is_IsNumeral n (omega arith) in
+    let some : nat_lt 0 (length (decimal n)) ≡ true = lt-ltb 0 (length (decimal n)) is.0.0 in
+    let all : list_all (λ d. nat_lt (digit_value d) 10) (decimal n) ≡ true = digits_pass (decimal n) is.0.1 in
+    let below : nat_lt n bound ≡ true = lt-ltb n bound fits in
+    let value : digits_value 10 (decimal n) ≡ n = is.1 in
+    rw (unplussed (decimal n) is.0.1, some, all, value, below) refl
+
+pub nonzero : (n : ℕ) → 0 < n → (n == 0) ≡ false
+nonzero n h =
+    elim (cases_Bool (n == 0)) [ inl e ↦ (let bad : n ≡ 0 = eqb-true n 0 e in absurd (omega arith)) | inr e ↦ e ]
+
+module _ (id : List ℕ) (rows : List Row) where
+  pub number_read : (n : ℕ) → text_at id rows ≡ Some (decimal n) → n < 2 ^ 32 → number_at id rows ≡ Some n
+  unfolding number_at
+  number_read n e small = ap (λ (o : Option (List ℕ)). o >>= number_below (2 ^ 32)) e ∙ number_again (2 ^ 32) n small small
+
+  pub priority_read : (n : ℕ) → text_at id rows ≡ Some (decimal n) → n < 2 ^ 8 → priority_at id rows ≡ Some n
+  unfolding priority_at
+  priority_read n e small = ap (λ (o : Option (List ℕ)). o >>= number_below (2 ^ 8)) e ∙ number_again (2 ^ 8) n small (omega arith)
+
+  pub slice_read : (n : ℕ) → text_at id rows ≡ Some (decimal n) → 0 < n → n < 2 ^ 32 → slice_at id rows ≡ Some n
+  unfolding slice_at slice_in
+  slice_read n e some small =
+      ap (λ (o : Option (List ℕ)). o >>= slice_in) e
+      ∙ (ap (λ (o : Option ℕ). o >>= (λ bytes. if bytes == 0 then None else Some bytes)) (number_again (2 ^ 32) n small small)
+      ∙ ap (λ (b : Bool). if b then None else Some n) (nonzero n some))
+
+  pub switch_read : (b : Bool) → text_at id rows ≡ Some (on_where b) → switch_at id rows ≡ Some b
+  unfolding switch_at switch_in
+  switch_read true e = ap (λ (o : Option (List ℕ)). o >>= switch_in) e
+  switch_read false e = ap (λ (o : Option (List ℕ)). o >>= switch_in) e
+
+  pub balance_read : (b : BalanceWord) → text_at id rows ≡ Some (balance_name (balance_of_word b)) → balance_at id rows ≡ Some b
+  unfolding balance_at balance_in
+  balance_read Load e = ap (λ (o : Option (List ℕ)). o >>= balance_in) e
+  balance_read Prefer e = ap (λ (o : Option (List ℕ)). o >>= balance_in) e
+  balance_read RoundRobin e = ap (λ (o : Option (List ℕ)). o >>= balance_in) e
+  balance_read Split e = ap (λ (o : Option (List ℕ)). o >>= balance_in) e
+
+  pub label_read : (t : List ℕ) → text_at id rows ≡ Some t → is_label t ≡ true → label_at id rows ≡ Some t
+  unfolding label_at label_in
+  label_read t e is =
+      ap (λ (o : Option (List ℕ)). o >>= label_in) e ∙ ap (λ (b : Bool). if b then Some t else None) is
+
+not_again : (b : Bool) → not (not b) ≡ b
+not_again true = refl
+not_again false = refl
+
+pub flags_read : (rows : List Row) (f : MirrorFlags) → switch_at (codes "autosync") rows ≡ Some (not f.no_autosync)
+    → switch_at (codes "failsync") rows ≡ Some (not f.no_failsync) → flags_at rows ≡ Some f
+unfolding flags_at
+flags_read rows f autosync failsync =
+    rw (autosync, failsync)
+    (ap₂ (λ (x y : Bool). let r : MirrorFlags = record { no_autosync = x; no_failsync = y } in Some r) (not_again f.no_autosync) (not_again f.no_failsync))

@@ -1,0 +1,17 @@
+use Rattle.std.proofs.Common.{ap₂, ◌∙◌}
+use Rattle.std.proofs.lemmas.Result.{IfOk-weaker}
+use Rattle.clap.specs.Words.{App, with_subcommand}
+use Rattle.gm_front.proofs.table.table.Goals as goal
+
+abbrev with_command : App → App → App
+with_command above more = with_subcommand above more.top
+
+pub returns : goal.returns
+returns c =
+    let last = c.with_command-5 in
+    IfOk-weaker last.result _ _ (λ r e. e ∙ ap₂ with_command
+    (c.in_ok-command-4.ensures.app ∙ ap₂ with_command
+    (c.in_ok-command-3.ensures.app ∙ ap₂ with_command
+    (c.in_ok-command-2.ensures.app ∙ ap₂ with_command
+    (c.in_ok-command.ensures.app ∙ ap₂ with_command c.commands.ensures.app c.in_ok-label.ensures.app)
+    c.in_ok-insert.ensures.app) c.in_ok-remove.ensures.app) c.in_ok-clear.ensures.app) c.in_ok-destroy.ensures.app) last.ensures.app

@@ -1,0 +1,127 @@
+-- What a batch answers, and where it leaves the bench.
+use Rattle.std.specs.Prelude.{◌≡◌, ◌⊎◌, ◌<◌, ◌||◌, ℕ, Bool, true, false, List, [], ◌∷◌, ◌++◌, Option, Some, None, Result, Ok, Err, IfSome}
+use Rattle.std.specs.Io.KnownBytes.{Appends}
+use Rattle.sqlite_trees.specs.declared.store.Store.{Ghosts}
+use Rattle.sqlite.specs.Held.{Held}
+use Rattle.gm_metadata.specs.Images.{Image, Sizes}
+use Rattle.gm_shelf.specs.Disk.{View}
+use Rattle.gm_state.specs.declared.command.Command.{Command}
+use Rattle.gm_state.specs.World.{World}
+use Rattle.gm_rules.specs.Run as run
+use Rattle.gm_registry.specs.Replies.{AreWrittenUnder}
+use Rattle.gm_bench.specs.declared.fault.BenchFault.{BenchFault}
+use Rattle.gm_bench.specs.declared.fault.BenchFault.TheVariants.{Disk, Unreadable}
+use Rattle.gm_bench.specs.declared.progress.Progress.{Progress}
+use Rattle.gm_bench.specs.declared.progress.Progress.TheVariants.{Failed}
+use Rattle.gm_bench.specs.Recovering.{IsAt}
+use Rattle.gm_bench.specs.Owed.{LeavesRun}
+use Rattle.gm_front.specs.declared.batching.BatchEnd.{BatchEnd}
+use Rattle.gm_front.specs.declared.batching.BatchEnd.TheVariants.{Ended, Stopped}
+use Rattle.gm_front.specs.declared.batching.FrontFault.{FrontFault}
+use Rattle.gm_front.specs.declared.batching.FrontFault.TheVariants.{Memory, Read, Write}
+use Rattle.gm_front.specs.Input.{lines_of}
+use Rattle.gm_front.specs.Asking.{Asked, Nothing, Wrong, Call, asked, answer_line, fault_line, is_refusal, refusal_line}
+
+-- One line takes u to w: what it is told, and whether it is refused.
+abbrev pub Replies : World → Asked → World → List ℕ → Bool → Type 0
+Replies u Nothing w text refused = (w ≡ u) × (text ≡ []) × (refused ≡ false)
+Replies u (Wrong key) w text refused = (w ≡ u) × (text ≡ refusal_line key 1) × (refused ≡ true)
+Replies u (Call key command) w text refused =
+    (answer : run.Answer) × run.Calls u (record { key = key; command = command }) w answer
+    × (text ≡ answer_line key answer) × (refused ≡ is_refusal answer)
+
+-- A line, and then others.
+pub record Follows (Rest : World → List ℕ → Bool → Type 0) (u : World) (line text : List ℕ) (refused : Bool) : Type 0 where
+  pub world : World
+  pub first : List ℕ
+  pub more : List ℕ
+  pub is_first_refused : Bool
+  pub is_more_refused : Bool
+  pub replies : Replies u (asked line) world first is_first_refused
+  pub rest : Rest world more is_more_refused
+  pub all : text ≡ first ++ more
+  pub either : refused ≡ (is_first_refused || is_more_refused)
+
+-- Lines in turn: what they are told one after another, and whether one is refused.
+abbrev pub Answers : World → List (List ℕ) → World → List ℕ → Bool → Type 0
+Answers u [] w text refused = (w ≡ u) × (text ≡ []) × (refused ≡ false)
+Answers u (line ∷ lines) w text refused = Follows (λ v more is_refused. Answers v lines w more is_refused) u line text refused
+
+-- known bytes grow by a beginning of these
+abbrev pub AppendsFront : Option (List ℕ) → Option (List ℕ) → List ℕ → Type 0
+AppendsFront None new bytes = Unit {0}
+AppendsFront (Some xs) None bytes = ⊥
+AppendsFront (Some xs) (Some ys) bytes = (front : List ℕ) × (rest : List ℕ) × (bytes ≡ front ++ rest) × (ys ≡ xs ++ front)
+
+-- where the input failed all is told, else a beginning of it
+abbrev pub Tells : FrontFault → Option (List ℕ) → Option (List ℕ) → List ℕ → Type 0
+Tells Read = Appends
+Tells Memory = AppendsFront
+Tells Write = AppendsFront
+
+-- the number of a fault
+abbrev pub front_fault_number : FrontFault → ℕ
+front_fault_number Memory = 1
+front_fault_number Read = 2
+front_fault_number Write = 3
+
+-- a bench that failed stays so, any other is as it was
+abbrev pub progress_at : Progress → BatchEnd → Progress
+progress_at before (Ended refused) = before
+progress_at before (Stopped fault) = Failed
+
+-- these are the lines of the input, where that is known, or its first ones
+abbrev pub AreLines : Option (List ℕ) → List (List ℕ) → Type 0
+AreLines input lines = IfSome input (λ bytes. lines_of bytes ≡ lines)
+
+abbrev pub AreFirst : Option (List ℕ) → List (List ℕ) → Type 0
+AreFirst input lines = IfSome input (λ bytes. (more : List (List ℕ)) × (lines_of bytes ≡ lines ++ more))
+
+module _ {S H : Type 0} (g : Ghosts S) (view : H → View) (size : H → Sizes) where
+  -- The lines were answered in turn from the world u on, and the bench is at rest in the world that they reach.
+  pub record AreAnswered (s : Held S) (k : H) (away : Image) (u : World) (lines : List (List ℕ)) (text : List ℕ) (refused : Bool) : Type 0 where
+    pub world : World
+    pub answers : Answers u lines world text refused
+    pub at : IsAt g view size s k away [] world world
+
+  -- All lines were answered, and told what they are answered.
+  pub record Ends (input before now : Option (List ℕ)) (s : Held S) (k : H) (away : Image) (u : World) (refused : Bool) : Type 0 where
+    pub lines : List (List ℕ)
+    pub text : List ℕ
+    pub read : AreLines input lines
+    pub told : Appends before now text
+    pub answered : AreAnswered s k away u lines text refused
+
+  -- Some of the lines were answered, and told so.
+  pub record Breaks (input : Option (List ℕ)) (Told : List ℕ → Type 0) (s : Held S) (k : H) (away : Image) (u : World) : Type 0 where
+    pub lines : List (List ℕ)
+    pub text : List ℕ
+    pub refused : Bool
+    pub read : AreFirst input lines
+    pub told : Told text
+    pub answered : AreAnswered s k away u lines text refused
+
+  -- The bench failed at the command of a line, after those before it were answered.
+  pub record Stops (input : Option (List ℕ)) (Told : List ℕ → Type 0) (s : Held S) (k : H) (away : Image) (u : World) (fault : BenchFault) : Type 0 where
+    pub lines : List (List ℕ)
+    pub line : List ℕ
+    pub key : List ℕ
+    pub command : Command
+    pub text : List ℕ
+    pub refused : Bool
+    pub registry : Held S
+    pub shelf : H
+    pub read : AreFirst input (lines ++ line ∷ [])
+    pub asks : asked line ≡ Call key command
+    pub answered : AreAnswered registry shelf away u lines text refused
+    pub told : Told (text ++ fault_line key fault)
+    pub left : LeavesRun g view size registry s shelf k away answered.world key command
+    pub disk : fault ≡ Disk → (view shelf).faults < (view k).faults
+    pub readable : fault ≡ Unreadable → AreWrittenUnder key answered.at.tables → ⊥
+
+  -- what a batch owes where it ended, where the bench failed, and where the answers weren't all told
+  abbrev pub Batches : Option (List ℕ) → Option (List ℕ) → Option (List ℕ) → Held S → H → Image → World → Result BatchEnd FrontFault → Type 0
+  Batches input before now s k away u (Ok (Ended refused)) = Ends input before now s k away u refused
+  Batches input before now s k away u (Ok (Stopped fault)) = Stops input (Appends before now) s k away u fault
+  Batches input before now s k away u (Err fault) =
+      Breaks input (Tells fault before now) s k away u ⊎ ((f : BenchFault) × Stops input (AppendsFront before now) s k away u f)

@@ -1,0 +1,73 @@
+-- Requests and outcomes, as the code holds them.
+use Rattle.std.specs.Prelude.{◌≡◌, ◌<◌, ℕ, Bool, true, false, List, [], codes, take}
+use Rattle.sqlite_trees.specs.declared.store.Store.{Ghosts}
+use Rattle.sqlite.specs.Held.{Held}
+use Rattle.gm_metadata.specs.Images.{Image, Sizes}
+use Rattle.gm_shelf.specs.Disk.{View}
+use Rattle.gm_state.specs.declared.command.Command.{Command}
+use Rattle.gm_state.specs.World.{World}
+use Rattle.gm_registry.specs.Replies.{AreWrittenUnder}
+use Rattle.gm_bench.specs.declared.fault.BenchFault.{BenchFault}
+use Rattle.gm_bench.specs.declared.fault.BenchFault.TheVariants.{Disk, Unreadable}
+use Rattle.gm_bench.specs.declared.progress.Progress.{Progress}
+use Rattle.gm_bench.specs.declared.progress.Progress.TheVariants.{Failed}
+use Rattle.gm_bench.specs.Recovering.{IsAt}
+use Rattle.gm_bench.specs.Owed.{LeavesRun}
+use Rattle.gm_bench.specs.Running.{IsRun, answer_of}
+use Rattle.gm_front.specs.declared.asking.Request.{Request}
+use Rattle.gm_front.specs.declared.asking.Request.TheVariants as request
+use Rattle.gm_front.specs.declared.input.Line.{Line}
+use Rattle.gm_front.specs.declared.input.Line.TheVariants.{End, Whole, Long}
+use Rattle.gm_front.specs.declared.outcome.Outcome.{Outcome}
+use Rattle.gm_front.specs.declared.outcome.Outcome.TheVariants as outcome
+use Rattle.gm_front.specs.Asking.{Asked, Nothing, Wrong, Call, asked, answer_line, fault_line, is_refusal, refusal_line}
+
+-- what a request asks
+abbrev pub asked_of : Request → Asked
+asked_of request.Nothing = Nothing
+asked_of (request.Wrong key) = Wrong key.now
+asked_of (request.Call key command) = Call key.now command
+
+-- what the line asks that was found at the front of an input
+abbrev pub asked_at : List ℕ → Line → Asked
+asked_at line End = Nothing
+asked_at line (Whole n) = asked (take n line)
+asked_at line Long = Wrong (codes "?")
+
+-- what is told
+abbrev pub text_of : Outcome → List ℕ
+text_of outcome.Nothing = []
+text_of (outcome.Wrong key) = refusal_line key.now 1
+text_of (outcome.Answered key answer) = answer_line key.now (answer_of answer)
+text_of (outcome.Failed key fault) = fault_line key.now fault
+
+-- it is a refusal
+abbrev pub is_refused : Outcome → Bool
+is_refused outcome.Nothing = false
+is_refused (outcome.Wrong key) = true
+is_refused (outcome.Answered key answer) = is_refusal (answer_of answer)
+is_refused (outcome.Failed key fault) = false
+
+module _ {S H : Type 0} (g : Ghosts S) (view : H → View) (size : H → Sizes) where
+  -- a command that failed: what it may have left, that a failure of the disk was counted, and that what this program
+  -- wrote was read
+  pub record FailsAt (r s : Held S) (h k : H) (away : Image) (u : World) (key : List ℕ) (command : Command) (fault : BenchFault) : Type 0 where
+    pub left : LeavesRun g view size r s h k away u key command
+    pub disk : fault ≡ Disk → (view h).faults < (view k).faults
+    pub readable : fault ≡ Unreadable → (at : IsAt g view size r h away [] u u) → AreWrittenUnder key at.tables → ⊥
+
+  -- what a request comes to at rest in u, from the registry r and the shelf h to s and k
+  abbrev pub ComesTo : Held S → Held S → H → H → Image → World → Asked → Outcome → Type 0
+  ComesTo r s h k away u asks outcome.Nothing = (asks ≡ Nothing) × (s ≡ r) × (k ≡ h)
+  ComesTo r s h k away u asks (outcome.Wrong key) = (asks ≡ Wrong key.now) × (s ≡ r) × (k ≡ h)
+  ComesTo r s h k away u asks (outcome.Answered key answer) =
+      (command : Command) × (asks ≡ Call key.now command) × IsRun g view size s k away u key.now command answer
+  ComesTo r s h k away u asks (outcome.Failed key fault) =
+      (command : Command) × (asks ≡ Call key.now command) × FailsAt r s h k away u key.now command fault
+
+-- a bench that failed stays so, any other goes on
+abbrev pub progress_after : Progress → Outcome → Progress
+progress_after before outcome.Nothing = before
+progress_after before (outcome.Wrong key) = before
+progress_after before (outcome.Answered key answer) = before
+progress_after before (outcome.Failed key fault) = Failed

@@ -1,0 +1,165 @@
+-- Which command words spell.
+use Rattle.std.specs.Prelude.{◌≡◌, ◌==◌, ◌&&◌, ◌^◌, ⊤, ℕ, Bool, not, true, false, List, [], ◌∷◌, ◌++◌, Option, Some, None, codes, length, nat_lt, if◌then◌else◌, option_and_then}
+use Rattle.std.specs.Fmt.{decimal}
+use Rattle.std.specs.Str.{bytes_eq}
+use Rattle.std.specs.Str.Parse.{digits_value, without_leading_plus}
+use Rattle.clap.specs.ValueTests.{is_numeral}
+use Rattle.clap.specs.Walk.{Row, Text, first_of}
+use Rattle.clap.specs.Simple.{subcommand_of}
+use Rattle.clap.specs.Faults.{fault_of}
+use Rattle.clap.specs.Kinds.{Kinds}
+use Rattle.gm_metadata.specs.Balance.{balance_name}
+use Rattle.gm_metadata.specs.Labels.{is_label}
+use Rattle.gm_metadata.specs.declared.flags.MirrorFlags.{MirrorFlags}
+use Rattle.gm_state.specs.declared.command.BalanceWord.{BalanceWord}
+use Rattle.gm_state.specs.declared.command.BalanceWord.TheVariants.{Load, Prefer, RoundRobin, Split}
+use Rattle.gm_state.specs.declared.command.Command.{Command}
+use Rattle.gm_state.specs.declared.command.Command.TheVariants.{Label, Insert, Remove, Clear, Destroy}
+use Rattle.gm_state.specs.Commands.{balance_of_word, number_words, on_where, switch_words}
+use Rattle.gm_front.specs.Table.{table}
+
+infixl 10 ◌>>=◌
+abbrev pub ◌>>=◌ : {A B : Type 0} → Option A → (A → Option B) → Option B
+o >>= f = option_and_then f o
+
+-- ---- the kinds of values
+
+-- a number below the bound: decimal digits, behind a plus or not
+unfoldable pub number_below : ℕ → Text → Option ℕ
+number_below bound text =
+    let digits = without_leading_plus text in
+    if is_numeral digits && nat_lt (digits_value 10 digits) bound then Some (digits_value 10 digits) else None
+
+unfoldable pub slice_in : Text → Option ℕ
+slice_in text = do
+  bytes ← number_below (2 ^ 32) text
+  if bytes == 0 then None else Some bytes
+
+unfoldable pub switch_in : Text → Option Bool
+switch_in text = if bytes_eq text (codes "on") then Some true else if bytes_eq text (codes "off") then Some false else None
+
+unfoldable pub balance_in : Text → Option BalanceWord
+balance_in text =
+    if bytes_eq text (codes "load") then Some Load
+    else if bytes_eq text (codes "prefer") then Some Prefer
+    else if bytes_eq text (codes "round-robin") then Some RoundRobin
+    else if bytes_eq text (codes "split") then Some Split
+    else None
+
+unfoldable pub label_in : Text → Option Text
+label_in text = if is_label text then Some text else None
+
+-- ---- the commands, by what clap found for each option and name
+
+-- the text of an option or a name
+unfoldable pub text_at : Text → List Row → Option Text
+text_at id rows = first_of id rows
+
+unfoldable pub number_at : Text → List Row → Option ℕ
+number_at id rows = text_at id rows >>= number_below (2 ^ 32)
+
+unfoldable pub priority_at : Text → List Row → Option ℕ
+priority_at id rows = text_at id rows >>= number_below (2 ^ 8)
+
+unfoldable pub slice_at : Text → List Row → Option ℕ
+slice_at id rows = text_at id rows >>= slice_in
+
+unfoldable pub switch_at : Text → List Row → Option Bool
+switch_at id rows = text_at id rows >>= switch_in
+
+unfoldable pub balance_at : Text → List Row → Option BalanceWord
+balance_at id rows = text_at id rows >>= balance_in
+
+unfoldable pub label_at : Text → List Row → Option Text
+label_at id rows = text_at id rows >>= label_in
+
+unfoldable pub flags_at : List Row → Option MirrorFlags
+flags_at rows = do
+  autosync ← switch_at (codes "autosync") rows
+  failsync ← switch_at (codes "failsync") rows
+  Some (record { no_autosync = not autosync; no_failsync = not failsync })
+
+unfoldable pub label_of : List Row → Option Command
+label_of rows = do
+  name ← label_at (codes "name") rows
+  provider ← label_at (codes "prov") rows
+  mid ← number_at (codes "mid") rows
+  did ← number_at (codes "did") rows
+  balance ← balance_at (codes "balance") rows
+  slice ← slice_at (codes "slice") rows
+  flags ← flags_at rows
+  hardcoded ← switch_at (codes "hardcode") rows
+  Some (Label name provider mid did balance slice flags hardcoded)
+
+unfoldable pub insert_of : List Row → Option Command
+insert_of rows = do
+  name ← label_at (codes "name") rows
+  provider ← label_at (codes "prov") rows
+  did ← number_at (codes "did") rows
+  priority ← priority_at (codes "priority") rows
+  hardcoded ← switch_at (codes "hardcode") rows
+  Some (Insert name provider did priority hardcoded)
+
+unfoldable pub remove_of : List Row → Option Command
+remove_of rows = do
+  name ← label_at (codes "name") rows
+  provider ← label_at (codes "prov") rows
+  Some (Remove name provider)
+
+unfoldable pub clear_of : List Row → Option Command
+clear_of rows = do
+  provider ← label_at (codes "prov") rows
+  Some (Clear provider)
+
+unfoldable pub destroy_of : List Row → Option Command
+destroy_of rows = do
+  name ← label_at (codes "name") rows
+  Some (Destroy name)
+
+-- the command of this name, of which these rows were found
+unfoldable pub command_of : Text → List Row → Option Command
+command_of name rows =
+    if bytes_eq name (codes "label") then label_of rows
+    else if bytes_eq name (codes "insert") then insert_of rows
+    else if bytes_eq name (codes "remove") then remove_of rows
+    else if bytes_eq name (codes "clear") then clear_of rows
+    else if bytes_eq name (codes "destroy") then destroy_of rows
+    else None
+
+-- ---- the words
+
+-- the command of the name that clap met, where it finds no fault
+abbrev pub taken : Kinds → Option (Text × List Row) → Option Command
+taken faults found = if length faults == 0 then found >>= (λ p. command_of p.0 p.1) else None
+
+-- the command, where clap takes the words by the table and each value is one of its kind
+unfoldable pub spelled : List Text → Option Command
+spelled words = taken (fault_of table words) (subcommand_of table words)
+
+-- ---- words that aren't taken for options
+
+-- the text doesn't begin with a hyphen
+abbrev pub IsNoFlag : Text → Type 0
+IsNoFlag [] = ⊤
+IsNoFlag (x ∷ xs) = (x == 45) ≡ false
+
+-- no name of the command does
+abbrev pub HasNoFlags : Command → Type 0
+HasNoFlags (Label name provider mid did balance slice flags hardcoded) = IsNoFlag name × IsNoFlag provider
+HasNoFlags (Insert name provider did priority hardcoded) = IsNoFlag name × IsNoFlag provider
+HasNoFlags (Remove name provider) = IsNoFlag name × IsNoFlag provider
+HasNoFlags (Clear provider) = IsNoFlag provider
+HasNoFlags (Destroy name) = IsNoFlag name
+
+-- the canonical words with `--` before the names
+abbrev pub guarded_words : Command → List Text
+guarded_words (Label name provider mid did balance slice flags hardcoded) =
+    codes "label" ∷ number_words mid did (balance_name (balance_of_word balance)) slice
+    ++ switch_words (on_where (not flags.no_autosync)) (on_where (not flags.no_failsync)) (on_where hardcoded)
+    ++ codes "--" ∷ name ∷ provider ∷ []
+guarded_words (Insert name provider did priority hardcoded) =
+    codes "insert" ∷ codes "--did" ∷ decimal did ∷ codes "--priority" ∷ decimal priority
+    ∷ codes "--hardcode" ∷ on_where hardcoded ∷ codes "--" ∷ name ∷ provider ∷ []
+guarded_words (Remove name provider) = codes "remove" ∷ codes "--" ∷ name ∷ provider ∷ []
+guarded_words (Clear provider) = codes "clear" ∷ codes "--" ∷ provider ∷ []
+guarded_words (Destroy name) = codes "destroy" ∷ codes "--" ∷ name ∷ []

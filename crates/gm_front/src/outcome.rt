@@ -1,0 +1,133 @@
+//! What the bench answers to a line, and the line that tells it.
+
+ghost use Rattle.std.specs.Prelude.{◌≡◌, ◌||◌, ℕ, List, [], IfOk};
+ghost use Rattle.std.specs.String.{string_bytes};
+ghost use Rattle.gm_metadata.specs.Images.{Image};
+ghost use Rattle.gm_state.specs.World.{World};
+ghost use Rattle.gm_registry.specs.Registry.{DiskKept, WasClean};
+ghost use Rattle.gm_bench.specs.declared.progress.Progress.TheVariants.{Failed};
+ghost use Rattle.gm_bench.specs.Progressing.{TakesCommands};
+ghost use Rattle.gm_bench.specs.Recovering.{IsAt};
+ghost use Rattle.gm_bench.specs.Running.{answer_of};
+ghost use Rattle.gm_front.specs.Asking.{done_line, numbered, shown_answer};
+ghost use Rattle.gm_front.specs.Outcomes.{ComesTo, asked_of, is_refused, progress_after, text_of};
+
+use crate::asking::{Request, shown};
+use gm_bench::{Answer, Bench, BenchFault};
+use gm_shelf::Shelf;
+use gm_state::Reply;
+use sqlite::Alter;
+use std::alloc::{AllocError, Global};
+
+/// What a line comes to.
+#[derive(Clone, Copy)]
+pub(crate) enum Outcome<'a> {
+    /// Nothing was asked.
+    Nothing,
+    /// It was no command, under its key as answers show it.
+    Wrong(&'a str),
+    /// The bench answered the command under this key.
+    Answered(&'a str, Answer),
+    /// The bench failed at it.
+    Failed(&'a str, BenchFault),
+}
+
+impl<'a> Outcome<'a> {
+    // Whether the line is refused.
+    fn is_refused(&self) -> bool
+        ensures { result ≡ is_refused self.now }
+    {
+        match *self {
+            Outcome::Wrong(_) | Outcome::Answered(_, Answer::Refused(_)) => true,
+            _ => false,
+        }
+    }
+
+    /// Whether it or something before it is refused.
+    pub(crate) fn is_refused_after(&self, refused: bool) -> bool
+        ensures { result ≡ (refused || is_refused self.now) }
+    {
+        refused || self.is_refused()
+    }
+
+    /// The answer line, with its line feed; nothing where nothing was asked.
+    pub(crate) fn text(&self, alloc: Global) -> Result<String, AllocError>
+        ensures { IfOk result (λ text. string_bytes text ≡ text_of self.now) }
+    {
+        match *self {
+            Outcome::Nothing => Ok(String::new(alloc)),
+            Outcome::Wrong(key) => numbered(alloc, key, "refused", 1),
+            Outcome::Answered(key, answer) => answer_text(alloc, shown(key), answer),
+            Outcome::Failed(key, fault) => {
+                numbered(alloc, shown(key), "fault", u64::from(fault.number()))
+            }
+        }
+    }
+}
+
+// A key, a word and a number.
+fn numbered(alloc: Global, key: &str, word: &str, number: u64) -> Result<String, AllocError>
+    ensures { IfOk result (λ text. string_bytes text ≡ numbered key.now word.now number) }
+{
+    let mut text = String::new(alloc);
+    writeln!(text, "{key} {word} {number}")?;
+    Ok(text)
+}
+
+// The line that tells that a command was done.
+fn done_text(alloc: Global, key: &str, number: u64, reply: Reply) -> Result<String, AllocError>
+    ensures { IfOk result (λ text. string_bytes text ≡ done_line key.now number reply) }
+{
+    match reply {
+        Reply::Plain => numbered(alloc, key, "ok", number),
+        Reply::Copied { held, total } => {
+            let mut text = String::new(alloc);
+            writeln!(text, "{key} ok {number} copied {held} of {total}")?;
+            Ok(text)
+        }
+    }
+}
+
+// The line that tells an answer under a key that is shown so.
+fn answer_text(alloc: Global, key: &str, answer: Answer) -> Result<String, AllocError>
+    ensures { IfOk result (λ text. string_bytes text ≡ shown_answer key.now (answer_of answer)) }
+{
+    match answer {
+        Answer::Done(number, reply) => done_text(alloc, key, number, reply),
+        Answer::Repeated(number, _) => numbered(alloc, key, "repeated", number),
+        Answer::Refused(why) => numbered(alloc, key, "refused", u64::from(why.number())),
+    }
+}
+
+/// Asks the bench what a line asks, in phase Ready or Failed.
+pub(crate) fn ask<'a, S: Alter, H: Shelf>(
+    alloc: Global,
+    bench: &mut Bench<S, H>,
+    request: &Request<'a>,
+) -> Outcome<'a>
+    requires { TakesCommands bench.old.progress }
+    ensures comes { H.honest bench.old.media.shelf → DiskKept S.Store bench.new.media.registry
+        → (away : Image) (u : World)
+        → IsAt S.Store H.view H.size bench.old.media.registry bench.old.media.shelf away [] u u
+        → ComesTo S.Store H.view H.size bench.old.media.registry bench.new.media.registry
+        bench.old.media.shelf bench.new.media.shelf away u (asked_of request.now) result }
+    ensures progress { bench.new.progress ≡ progress_after bench.old.progress result }
+    ensures closed { bench.old.progress ≡ Failed → bench.new ≡ bench.old }
+    ensures reopen { (key : _) → result ≡ Outcome.Failed key BenchFault.Closed
+        → bench.old.progress ≡ Failed }
+    ensures absent { (key : _) (p : List ℕ)
+        → result ≡ Outcome.Failed key (BenchFault.Absent p) → ⊥ }
+    ensures honest { H.honest bench.old.media.shelf → H.honest bench.new.media.shelf }
+    ensures size { H.size bench.new.media.shelf ≡ H.size bench.old.media.shelf }
+    ensures redone { bench.new.redone ≡ bench.old.redone }
+    ensures clean { WasClean S.Store bench.old.media.registry bench.new.media.registry }
+{
+    match *request {
+        Request::Nothing => Outcome::Nothing,
+        Request::Wrong(key) => Outcome::Wrong(key),
+        Request::Call(key, command) => match bench.run(alloc, key, &command) {
+            Ok(answer) => Outcome::Answered(key, answer),
+            Err(fault) => Outcome::Failed(key, fault),
+        },
+    }
+}

@@ -1,0 +1,136 @@
+//! The table of the commands' words, for clap.
+
+ghost use Rattle.std.specs.Prelude.{◌≡◌, IfOk, false};
+ghost use Rattle.clap.specs.Words.{app_of, rule_of, with_rule, with_subcommand};
+ghost use Rattle.clap.specs.declared.Command.TheViews.{out-Command};
+ghost use Rattle.gm_front.specs.Table.{clear, commands, destroy, insert, label, name, optional, remove, table, wanted};
+
+use clap::{Arg, ArgAction, Command};
+use std::alloc::{AllocError, Global};
+
+// A name, by its place.
+#[tactic(auto, unfolding(crate::specs::Table::name))]
+fn name<'a>(alloc: Global, id: &'a str) -> Arg<'a>
+    ensures rule { rule_of result ≡ name id.entry.now }
+    ensures local { result.global ≡ false }
+{
+    Arg::new(alloc, id).required(true).action(ArgAction::Set)
+}
+
+// An option that must be given.
+#[tactic(auto, unfolding(crate::specs::Table::wanted))]
+fn wanted<'a>(alloc: Global, id: &'a str) -> Arg<'a>
+    ensures rule { rule_of result ≡ wanted id.entry.now }
+    ensures local { result.global ≡ false }
+{
+    Arg::new(alloc, id)
+        .long(id)
+        .required(true)
+        .action(ArgAction::Set)
+}
+
+// An option that has this value where it isn't given.
+#[tactic(auto, unfolding(crate::specs::Table::optional))]
+fn optional<'a>(alloc: Global, id: &'a str, other: &'a str) -> Arg<'a>
+    ensures rule { rule_of result ≡ optional id.entry.now other.entry.now }
+    ensures local { result.global ≡ false }
+{
+    Arg::new(alloc, id)
+        .long(id)
+        .action(ArgAction::Set)
+        .default_value(other)
+}
+
+// The command with one more argument.
+fn with<'a>(command: Command<'a>, arg: Arg<'a>) -> Result<Command<'a>, AllocError>
+    requires { arg.global ≡ false }
+    ensures app { IfOk result (λ c.
+        app_of c ≡ with_rule (app_of command.entry) (rule_of arg.entry)) }
+    ensures local { IfOk result (λ c.
+        (out-Command c).has_globals ≡ (out-Command command.entry).has_globals) }
+{
+    command.arg(arg)
+}
+
+fn label<'a>(alloc: Global) -> Result<Command<'a>, AllocError>
+    ensures app { IfOk result (λ c. app_of c ≡ label) }
+    ensures local { IfOk result (λ c. (out-Command c).has_globals ≡ false) }
+{
+    let command = Command::new(alloc, "label");
+    let command = with(command, wanted(alloc, "mid"))?;
+    let command = with(command, wanted(alloc, "did"))?;
+    let command = with(command, optional(alloc, "balance", "load"))?;
+    let command = with(command, optional(alloc, "slice", "4096"))?;
+    let command = with(command, optional(alloc, "autosync", "on"))?;
+    let command = with(command, optional(alloc, "failsync", "on"))?;
+    let command = with(command, optional(alloc, "hardcode", "off"))?;
+    let command = with(command, name(alloc, "name"))?;
+    with(command, name(alloc, "prov"))
+}
+
+fn insert<'a>(alloc: Global) -> Result<Command<'a>, AllocError>
+    ensures app { IfOk result (λ c. app_of c ≡ insert) }
+    ensures local { IfOk result (λ c. (out-Command c).has_globals ≡ false) }
+{
+    let command = Command::new(alloc, "insert");
+    let command = with(command, wanted(alloc, "did"))?;
+    let command = with(command, optional(alloc, "priority", "0"))?;
+    let command = with(command, optional(alloc, "hardcode", "off"))?;
+    let command = with(command, name(alloc, "name"))?;
+    with(command, name(alloc, "prov"))
+}
+
+fn remove<'a>(alloc: Global) -> Result<Command<'a>, AllocError>
+    ensures app { IfOk result (λ c. app_of c ≡ remove) }
+    ensures local { IfOk result (λ c. (out-Command c).has_globals ≡ false) }
+{
+    let command = with(Command::new(alloc, "remove"), name(alloc, "name"))?;
+    with(command, name(alloc, "prov"))
+}
+
+fn clear<'a>(alloc: Global) -> Result<Command<'a>, AllocError>
+    ensures app { IfOk result (λ c. app_of c ≡ clear) }
+    ensures local { IfOk result (λ c. (out-Command c).has_globals ≡ false) }
+{
+    with(Command::new(alloc, "clear"), name(alloc, "prov"))
+}
+
+fn destroy<'a>(alloc: Global) -> Result<Command<'a>, AllocError>
+    ensures app { IfOk result (λ c. app_of c ≡ destroy) }
+    ensures local { IfOk result (λ c. (out-Command c).has_globals ≡ false) }
+{
+    with(Command::new(alloc, "destroy"), name(alloc, "name"))
+}
+
+fn commands<'a>(alloc: Global) -> Command<'a>
+    ensures app { app_of result ≡ commands }
+    ensures local { (out-Command result).has_globals ≡ false }
+{
+    Command::new(alloc, "gmbench")
+        .no_binary_name(true)
+        .disable_help_flag(true)
+        .disable_help_subcommand(true)
+        .subcommand_required(true)
+}
+
+// The command with one more subcommand.
+fn with_command<'a>(command: Command<'a>, more: Command<'a>) -> Result<Command<'a>, AllocError>
+    requires { (out-Command more).has_globals ≡ false }
+    ensures app { IfOk result (λ c.
+        app_of c ≡ with_subcommand (app_of command.entry) (app_of more.entry).top) }
+    ensures local { IfOk result (λ c.
+        (out-Command c).has_globals ≡ (out-Command command.entry).has_globals) }
+{
+    command.subcommand(more)
+}
+
+/// The whole table.
+pub(crate) fn table<'a>(alloc: Global) -> Result<Command<'a>, AllocError>
+    ensures { IfOk result (λ c. app_of c ≡ table) }
+{
+    let command = with_command(commands(alloc), label(alloc)?)?;
+    let command = with_command(command, insert(alloc)?)?;
+    let command = with_command(command, remove(alloc)?)?;
+    let command = with_command(command, clear(alloc)?)?;
+    with_command(command, destroy(alloc)?)
+}

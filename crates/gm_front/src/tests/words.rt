@@ -1,0 +1,176 @@
+//! Words that are read, and words that aren't.
+
+use crate::{WordsFault, read_words};
+use gm_state::words_of;
+use std::alloc::Global;
+use std::test::Fail;
+
+// The canonical words of the command that these words spell; `None` where they spell none.
+fn read(alloc: Global, words: &[&str]) -> Result<Option<String>, Fail> {
+    match read_words(alloc, words)? {
+        Ok(command) => Ok(Some(words_of(alloc, &command)?)),
+        Err(WordsFault) => Ok(None),
+    }
+}
+
+fn read_line(alloc: Global, line: &str) -> Result<Option<String>, Fail> {
+    let words: Vec<&str> = line.split(' ').collect(alloc)?;
+    read(alloc, words.as_slice())
+}
+
+fn must_spell(rt: &HostRuntime, line: &str, expected: &str) -> Result<(), Fail> {
+    if let Some(text) = read_line(rt.alloc(), line)? {
+        if text.as_str() == expected {
+            return Ok(());
+        }
+        println!(rt; "{text}")?;
+    }
+    println!(rt; "{line}")?;
+    Err("these words spell something else")?
+}
+
+fn must_refuse(rt: &HostRuntime, line: &str) -> Result<(), Fail> {
+    if read_line(rt.alloc(), line)?.is_none() {
+        return Ok(());
+    }
+    println!(rt; "{line}")?;
+    Err("these words spell a command")?
+}
+
+const LABEL: &str =
+    "label --mid 7 --did 1 --balance load --slice 4096 --autosync on --failsync on --hardcode off gm0 a.img";
+
+// Words that are canonical spell the command that they are the words of.
+#[test]
+fn canonical_words(rt: HostRuntime) -> Result<(), Fail> {
+    let lines = [
+        LABEL,
+        "label --mid 0 --did 4294967295 --balance prefer --slice 1 --autosync off --failsync on --hardcode off gm0 a.img",
+        "label --mid 4294967295 --did 0 --balance round-robin --slice 4294967295 --autosync on --failsync off --hardcode off fifteen-letters A_1",
+        "label --mid 1 --did 2 --balance split --slice 512 --autosync off --failsync off --hardcode on a.img gm0",
+        "insert --did 2 --priority 0 --hardcode off gm0 b.img",
+        "insert --did 4294967295 --priority 255 --hardcode on gm0 b.img",
+        "remove gm0 a.img",
+        "clear a.img",
+        "destroy gm0",
+        "destroy -",
+    ];
+    for line in lines {
+        must_spell(&rt, line, line)?;
+    }
+    Ok(())
+}
+
+#[test]
+fn other_words_of_one_command(rt: HostRuntime) -> Result<(), Fail> {
+    let lines = [
+        "label --mid 7 --did 1 gm0 a.img",
+        "label --did 1 --mid 7 gm0 a.img",
+        "label gm0 a.img --mid 7 --did 1",
+        "label gm0 --did 1 a.img --mid 7 --slice 4096",
+        "label --mid=7 --did=1 --balance=load gm0 a.img",
+        "label --mid +7 --did 001 --slice +04096 gm0 a.img",
+        "label --mid 7 --did 1 -- gm0 a.img",
+        "label --mid 7 gm0 --did 1 -- a.img",
+        "label --mid 7 --did 1 gm0 a.img --",
+    ];
+    for line in lines {
+        must_spell(&rt, line, LABEL)?;
+    }
+    let insert = "insert --did 2 --priority 0 --hardcode off gm0 b.img";
+    must_spell(&rt, "insert --did 2 gm0 b.img", insert)?;
+    must_spell(&rt, "insert gm0 --priority=+0 b.img --did 2", insert)?;
+    must_spell(&rt, "destroy -- -gm0", "destroy -gm0")?;
+    must_spell(&rt, "remove -- -gm0 --help", "remove -gm0 --help")?;
+    must_spell(&rt, "remove label help", "remove label help")
+}
+
+#[test]
+fn values_of_no_kind(rt: HostRuntime) -> Result<(), Fail> {
+    let lines = [
+        "label --mid 4294967296 --did 1 gm0 a.img",
+        "label --mid 7 --did 4294967296 gm0 a.img",
+        "label --mid -7 --did 1 gm0 a.img",
+        "label --mid=-7 --did 1 gm0 a.img",
+        "label --mid=-0 --did 1 gm0 a.img",
+        "label --mid= --did 1 gm0 a.img",
+        "label --mid + --did 1 gm0 a.img",
+        "label --mid ++7 --did 1 gm0 a.img",
+        "label --mid 0x7 --did 1 gm0 a.img",
+        "label --mid 7.0 --did 1 gm0 a.img",
+        "label --mid 7 --did 1 --slice 0 gm0 a.img",
+        "label --mid 7 --did 1 --slice 4294967296 gm0 a.img",
+        "label --mid 7 --did 1 --balance none gm0 a.img",
+        "label --mid 7 --did 1 --balance Load gm0 a.img",
+        "label --mid 7 --did 1 --autosync yes gm0 a.img",
+        "label --mid 7 --did 1 --failsync ON gm0 a.img",
+        "label --mid 7 --did 1 --hardcode true gm0 a.img",
+        "insert --did 2 --priority 256 gm0 b.img",
+        "insert --did 2 --priority -1 gm0 b.img",
+        "insert --did 2 --priority gm0 b.img",
+        "destroy sixteen-letters-",
+        "destroy gm/0",
+        "clear gpt/disk0",
+        "clear \u{e4}",
+        "destroy ",
+    ];
+    for line in lines {
+        must_refuse(&rt, line)?;
+    }
+    Ok(())
+}
+
+#[test]
+fn words_of_no_command(rt: HostRuntime) -> Result<(), Fail> {
+    let lines = [
+        "",
+        "help",
+        "--help",
+        "-h",
+        "--version",
+        "-V",
+        "help label",
+        "label --help",
+        "destroy gm0 --help",
+        "destroy -h",
+        "destroy --version",
+        "Destroy gm0",
+        "destr gm0",
+        "list gm0",
+        "-- destroy gm0",
+        "--mid 7 label --did 1 gm0 a.img",
+        "label --mi 7 --did 1 gm0 a.img",
+        "label -mid 7 --did 1 gm0 a.img",
+        "label --mid 7 --mid 7 --did 1 gm0 a.img",
+        "label --mid 7 --did 1 --slice 1 --slice 2 gm0 a.img",
+        "label --mid 7 gm0 a.img",
+        "label --did 1 gm0 a.img",
+        "label --mid --did 1 gm0 a.img",
+        "label --mid 7 --did 1 gm0 a.img --slice",
+        "label --mid 7 --did 1 gm0",
+        "label --mid 7 --did 1 gm0 a.img b.img",
+        "label --mid 7 --did 1 --priority 0 gm0 a.img",
+        "insert gm0 b.img",
+        "insert --did 2 b.img",
+        "insert --did 2 --mid 7 gm0 b.img",
+        "insert --did 2 gm0 b.img c.img",
+        "remove gm0",
+        "remove gm0 a.img b.img",
+        "remove gm0 -a.img",
+        "clear",
+        "clear a.img b.img",
+        "destroy",
+        "destroy -gm0",
+        "destroy --gm0",
+        "destroy gm0 gm1",
+        "destroy gm0 --hardcode on",
+        "destroy gm0 -- --",
+    ];
+    for line in lines {
+        must_refuse(&rt, line)?;
+    }
+    match read(rt.alloc(), &[])? {
+        None => Ok(()),
+        Some(_) => Err("no words spell a command")?,
+    }
+}

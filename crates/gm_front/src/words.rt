@@ -1,0 +1,235 @@
+//! The words of a command, as a shell would split them.
+
+ghost use Rattle.std.specs.Prelude.{◌≡◌, ◌≢◌, ◌^◌, [], Some, None, IfErr, IfOk, MatchOption, MatchResult, option_and_then};
+ghost use Rattle.clap.specs.Words.{fault_of, found_of, kind_of, rows_of, subcommand_of, subcommand_rows_of};
+ghost use Rattle.clap.specs.Walk.{texts};
+ghost use Rattle.gm_front.specs.Spelling.{balance_at, balance_in, clear_of, command_of, destroy_of, flags_at, insert_of, label_at, label_of, number_at, number_below, priority_at, remove_of, slice_at, spelled, switch_at, switch_in, text_at};
+ghost use Rattle.gm_front.specs.Table.{table};
+
+use crate::table::table;
+use clap::error::ErrorKind;
+use clap::{ArgMatches, Error};
+use gm_metadata::{Label, MirrorFlags};
+use gm_state::{BalanceWord, Command, Slice};
+use std::alloc::{AllocError, Global};
+
+/// The words aren't those of a command; every cause is refusal 1.
+#[derive(Clone, Copy, Debug, PartialEq, Eq)]
+pub struct WordsFault;
+
+#[tactic(auto, unfolding(crate::specs::Spelling::switch_in))]
+fn switch(text: &str) -> Option<bool>
+    ensures { result ≡ switch_in text.now }
+{
+    match text {
+        "on" => Some(true),
+        "off" => Some(false),
+        _ => None,
+    }
+}
+
+#[tactic(auto, unfolding(crate::specs::Spelling::balance_in))]
+fn balance(text: &str) -> Option<BalanceWord>
+    ensures { result ≡ balance_in text.now }
+{
+    match text {
+        "load" => Some(BalanceWord::Load),
+        "prefer" => Some(BalanceWord::Prefer),
+        "round-robin" => Some(BalanceWord::RoundRobin),
+        "split" => Some(BalanceWord::Split),
+        _ => None,
+    }
+}
+
+fn number(text: &str) -> Option<u32>
+    ensures { result ≡ number_below (2 ^ 32) text.now }
+{
+    text.parse::<u32>().ok()
+}
+
+fn priority(text: &str) -> Option<u8>
+    ensures { result ≡ number_below (2 ^ 8) text.now }
+{
+    text.parse::<u8>().ok()
+}
+
+// What clap found for an option or a name.
+fn text_at<'a>(matches: &ArgMatches<'a>, id: &str) -> Option<&'a str>
+    ensures { MatchOption result (text_at id.now (rows_of (found_of matches.now)) ≡ None)
+        (λ text. text_at id.now (rows_of (found_of matches.now)) ≡ Some text.now) }
+{
+    matches.get_str(id)
+}
+
+#[tactic(auto, unfolding(crate::specs::Spelling::number_at))]
+fn number_at(matches: &ArgMatches<'_>, id: &str) -> Option<u32>
+    ensures { result ≡ number_at id.now (rows_of (found_of matches.now)) }
+{
+    number(text_at(matches, id)?)
+}
+
+#[tactic(auto, unfolding(crate::specs::Spelling::priority_at))]
+fn priority_at(matches: &ArgMatches<'_>, id: &str) -> Option<u8>
+    ensures { result ≡ priority_at id.now (rows_of (found_of matches.now)) }
+{
+    priority(text_at(matches, id)?)
+}
+
+#[tactic(auto, unfolding(crate::specs::Spelling::slice_at, crate::specs::Spelling::slice_in))]
+fn slice_at(matches: &ArgMatches<'_>, id: &str) -> Option<Slice>
+    ensures { result ≡ slice_at id.now (rows_of (found_of matches.now)) }
+{
+    Slice::new(number(text_at(matches, id)?)?)
+}
+
+#[tactic(auto, unfolding(crate::specs::Spelling::switch_at))]
+fn switch_at(matches: &ArgMatches<'_>, id: &str) -> Option<bool>
+    ensures { result ≡ switch_at id.now (rows_of (found_of matches.now)) }
+{
+    switch(text_at(matches, id)?)
+}
+
+#[tactic(auto, unfolding(crate::specs::Spelling::balance_at))]
+fn balance_at(matches: &ArgMatches<'_>, id: &str) -> Option<BalanceWord>
+    ensures { result ≡ balance_at id.now (rows_of (found_of matches.now)) }
+{
+    balance(text_at(matches, id)?)
+}
+
+#[tactic(auto, unfolding(crate::specs::Spelling::label_at, crate::specs::Spelling::label_in))]
+fn label_at(matches: &ArgMatches<'_>, id: &str) -> Option<Label>
+    ensures { result ≡ label_at id.now (rows_of (found_of matches.now)) }
+{
+    Label::new(text_at(matches, id)?)
+}
+
+#[tactic(auto, unfolding(crate::specs::Spelling::flags_at))]
+fn flags_of(matches: &ArgMatches<'_>) -> Option<MirrorFlags>
+    ensures { result ≡ flags_at (rows_of (found_of matches.now)) }
+{
+    let autosync = switch_at(matches, "autosync")?;
+    let failsync = switch_at(matches, "failsync")?;
+    Some(MirrorFlags {
+        no_autosync: !autosync,
+        no_failsync: !failsync,
+    })
+}
+
+#[tactic(auto, unfolding(crate::specs::Spelling::label_of))]
+fn label_of(matches: &ArgMatches<'_>) -> Option<Command>
+    ensures { result ≡ label_of (rows_of (found_of matches.now)) }
+{
+    let name = label_at(matches, "name")?;
+    let provider = label_at(matches, "prov")?;
+    let mid = number_at(matches, "mid")?;
+    let did = number_at(matches, "did")?;
+    let balance = balance_at(matches, "balance")?;
+    let slice = slice_at(matches, "slice")?;
+    let flags = flags_of(matches)?;
+    let hardcoded = switch_at(matches, "hardcode")?;
+    Some(Command::Label {
+        name,
+        provider,
+        mid,
+        did,
+        balance,
+        slice,
+        flags,
+        hardcoded,
+    })
+}
+
+#[tactic(auto, unfolding(crate::specs::Spelling::insert_of))]
+fn insert_of(matches: &ArgMatches<'_>) -> Option<Command>
+    ensures { result ≡ insert_of (rows_of (found_of matches.now)) }
+{
+    let name = label_at(matches, "name")?;
+    let provider = label_at(matches, "prov")?;
+    let did = number_at(matches, "did")?;
+    let priority = priority_at(matches, "priority")?;
+    let hardcoded = switch_at(matches, "hardcode")?;
+    Some(Command::Insert {
+        name,
+        provider,
+        did,
+        priority,
+        hardcoded,
+    })
+}
+
+#[tactic(auto, unfolding(crate::specs::Spelling::remove_of))]
+fn remove_of(matches: &ArgMatches<'_>) -> Option<Command>
+    ensures { result ≡ remove_of (rows_of (found_of matches.now)) }
+{
+    let name = label_at(matches, "name")?;
+    let provider = label_at(matches, "prov")?;
+    Some(Command::Remove { name, provider })
+}
+
+#[tactic(auto, unfolding(crate::specs::Spelling::clear_of))]
+fn clear_of(matches: &ArgMatches<'_>) -> Option<Command>
+    ensures { result ≡ clear_of (rows_of (found_of matches.now)) }
+{
+    let provider = label_at(matches, "prov")?;
+    Some(Command::Clear { provider })
+}
+
+#[tactic(auto, unfolding(crate::specs::Spelling::destroy_of))]
+fn destroy_of(matches: &ArgMatches<'_>) -> Option<Command>
+    ensures { result ≡ destroy_of (rows_of (found_of matches.now)) }
+{
+    let name = label_at(matches, "name")?;
+    Some(Command::Destroy { name })
+}
+
+// The command of this name, of which clap found these.
+#[tactic(auto, unfolding(crate::specs::Spelling::command_of))]
+fn command_of(name: &str, matches: &ArgMatches<'_>) -> Option<Command>
+    ensures { result ≡ command_of name.now (rows_of (found_of matches.now)) }
+{
+    match name {
+        "label" => label_of(matches),
+        "insert" => insert_of(matches),
+        "remove" => remove_of(matches),
+        "clear" => clear_of(matches),
+        "destroy" => destroy_of(matches),
+        _ => None,
+    }
+}
+
+// What clap makes of the words.
+fn parsed<'a>(alloc: Global, words: &'a [&'a str]) -> Result<ArgMatches<'a>, Error>
+    ensures taken { IfOk result (λ m. fault_of table (texts words.entry.now) ≡ []) }
+    ensures rows { IfOk result (λ m.
+        subcommand_rows_of m ≡ subcommand_of table (texts words.entry.now)) }
+    ensures refused { IfErr result (λ e. kind_of e ≢ ErrorKind.OutOfMemory
+        → fault_of table (texts words.entry.now) ≢ []) }
+{
+    table(alloc)?.try_get_matches_from(words)
+}
+
+// The command that clap found, where each value is one of its kind.
+fn command_found(matches: &ArgMatches<'_>) -> Option<Command>
+    ensures { result
+        ≡ option_and_then (λ p. command_of p.0 p.1) (subcommand_rows_of matches.now) }
+{
+    match matches.subcommand() {
+        Some((name, own)) => command_of(name, own),
+        None => None,
+    }
+}
+
+/// The command that words spell: the command's own, its options, each with its value, and the names, in any order that
+/// clap takes. Numbers are decimal. An `AllocError` is for want of memory alone.
+pub fn read_words(alloc: Global, words: &[&str]) -> Result<Result<Command, WordsFault>, AllocError>
+    ensures { IfOk result (λ r. MatchResult r (λ c. spelled (texts words.now) ≡ Some c)
+        (λ _. spelled (texts words.now) ≡ None)) }
+{
+    match parsed(alloc, words) {
+        Ok(matches) => Ok(command_found(&matches).ok_or(WordsFault)),
+        Err(e) => match e.kind() {
+            ErrorKind::OutOfMemory => Err(AllocError),
+            _ => Ok(Err(WordsFault)),
+        },
+    }
+}
