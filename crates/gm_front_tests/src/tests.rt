@@ -1,0 +1,189 @@
+//! What the tests share: images, benches, lines, and batches of them. The expected values are worked out by hand.
+
+mod cuts;
+mod faults;
+mod flushes;
+mod keys;
+mod lines;
+mod readers;
+mod refusals;
+mod rows;
+mod spellings;
+mod stores;
+mod writers;
+
+use gm_bench::{Bench, BenchFault, OpenFault, Phase};
+use gm_front::{BatchEnd, FrontFault, batch, status_text};
+use gm_metadata::Label;
+use gm_shelf::{MemShelf, Shelf};
+use sqlite::{Alter, Connection, MemStore};
+use std::alloc::Global;
+use std::io::{Read, Write};
+use std::test::Fail;
+
+const LABEL: &str = "k1 label --mid 7 --did 1 gm0 a.img\n";
+
+const INSERT: &str = "k2 insert --did 2 gm0 b.img\n";
+
+const REMOVE: &str = "k3 remove gm0 b.img\n";
+
+const DESTROY: &str = "k4 destroy gm0\n";
+
+const NO_MIRRORS: &str = "no mirrors\n";
+
+const OF_ONE: &str = "gm0             COMPLETE 1/1\n  a.img           ACTIVE\n";
+
+const OF_TWO: &str =
+    "gm0             DEGRADED 1/2\n  a.img           ACTIVE\n  b.img           SYNCHRONIZING 0 of 3\n";
+
+// How batches end of which nothing was refused, and of which something was.
+const DONE: BatchEnd = BatchEnd::Ended { refused: false };
+
+const REFUSED: BatchEnd = BatchEnd::Ended { refused: true };
+
+fn must(holds: bool, what: &'static str) -> Result<(), Fail> {
+    if holds { Ok(()) } else { Err(what)? }
+}
+
+fn label(text: &str) -> Result<Label, Fail> {
+    Ok(Label::new(text).ok_or("no label")?)
+}
+
+// So many sectors of data, each with its number from 1 on in each byte, and a last one, which says this.
+fn image(alloc: Global, data_sectors: u8, last: [u8; 512]) -> Result<Vec<[u8; 512]>, Fail> {
+    let mut sectors = Vec::new(alloc);
+    for place in 0..data_sectors {
+        sectors.push([place + 1; 512])?;
+    }
+    sectors.push(last)?;
+    Ok(sectors)
+}
+
+fn add(shelf: &mut MemShelf, name: &str, sectors: Vec<[u8; 512]>) -> Result<(), Fail> {
+    let provider = label(name)?;
+    if shelf.sectors(provider).is_some() {
+        return Err("the image is there")?;
+    }
+    shelf.add(provider, sectors)?;
+    Ok(())
+}
+
+// a.img, b.img and c.img, of four sectors each, which carry nothing.
+fn shelf(alloc: Global) -> Result<MemShelf, Fail> {
+    let mut shelf = MemShelf::new(alloc);
+    for name in ["a.img", "b.img", "c.img"] {
+        add(&mut shelf, name, image(alloc, 3, [0; 512])?)?;
+    }
+    Ok(shelf)
+}
+
+fn memory(alloc: Global) -> Result<Connection<MemStore>, Fail> {
+    Ok(Connection::open_in_memory(alloc)?)
+}
+
+// The tests go over any store and shelf, and these have no clause, so that a proof carries neither what those in memory
+// are made of nor the state of each call.
+fn try_open<S: Alter + Drop, H: Shelf + Drop>(
+    alloc: Global,
+    store: Connection<S>,
+    shelf: H,
+) -> Result<Result<Bench<S, H>, OpenFault<S, H>>, Fail> {
+    if !store.is_autocommit() {
+        return Err("within a transaction")?;
+    }
+    Ok(Bench::open(alloc, store, shelf))
+}
+
+fn open<S: Alter + Drop, H: Shelf + Drop>(
+    alloc: Global,
+    store: Connection<S>,
+    shelf: H,
+) -> Result<Bench<S, H>, Fail> {
+    match try_open(alloc, store, shelf)? {
+        Ok(bench) => Ok(bench),
+        Err(left) => Err(left.fault)?,
+    }
+}
+
+fn try_batch<R: Read, W: Write, S: Alter, H: Shelf>(
+    alloc: Global,
+    reader: &mut R,
+    writer: &mut W,
+    bench: &mut Bench<S, H>,
+) -> Result<Result<BatchEnd, FrontFault>, Fail> {
+    match bench.phase() {
+        Phase::Ready | Phase::Failed => Ok(batch(alloc, reader, writer, bench)),
+        Phase::Pending | Phase::Applied => Err("a batch in another phase")?,
+    }
+}
+
+// What a batch told, how it ended, and how many bytes of its input it left.
+#[derive(Drop)]
+struct Told {
+    text: Vec<u8>,
+    end: Result<BatchEnd, FrontFault>,
+    left: usize,
+}
+
+fn tell<S: Alter, H: Shelf>(
+    alloc: Global,
+    bench: &mut Bench<S, H>,
+    input: &[u8],
+) -> Result<Told, Fail> {
+    let mut reader = input;
+    let mut text = Vec::new(alloc);
+    let end = try_batch(alloc, &mut reader, &mut text, bench)?;
+    let left = reader.len();
+    Ok(Told { text, end, left })
+}
+
+// Hands a batch over, which is taken whole, told this, and ends so.
+fn answers<S: Alter, H: Shelf>(
+    alloc: Global,
+    bench: &mut Bench<S, H>,
+    input: &[u8],
+    expected: &'static str,
+    end: BatchEnd,
+) -> Result<(), Fail> {
+    let told = tell(alloc, bench, input)?;
+    must(told.text.as_slice() == expected.as_bytes(), expected)?;
+    must(told.end == Ok(end), "another end")?;
+    must(told.left == 0, "something wasn't read")
+}
+
+fn try_status<S: Alter, H: Shelf>(
+    alloc: Global,
+    bench: &mut Bench<S, H>,
+) -> Result<Result<String, BenchFault>, Fail> {
+    match bench.view(alloc) {
+        Ok(state) => Ok(Ok(status_text(alloc, &state)?)),
+        Err(fault) => Ok(Err(fault)),
+    }
+}
+
+fn shows<S: Alter, H: Shelf>(
+    alloc: Global,
+    bench: &mut Bench<S, H>,
+    status: &'static str,
+) -> Result<(), Fail> {
+    let text = try_status(alloc, bench)??;
+    must(text.as_str() == status, status)
+}
+
+// One sector of a shelf that no bench holds.
+fn sector<H: Shelf>(shelf: &mut H, name: &str, place: u64) -> Result<[u8; 512], Fail> {
+    let mut sector = [0; 512];
+    shelf.read(label(name)?, place, &mut sector)?;
+    Ok(sector)
+}
+
+// Whether two shelves of a.img, b.img and c.img hold the same.
+fn must_be_alike<H: Shelf>(first: &mut H, second: &mut H) -> Result<(), Fail> {
+    for name in ["a.img", "b.img", "c.img"] {
+        for place in 0u64..4 {
+            let held = sector(first, name, place)?;
+            must(held == sector(second, name, place)?, "another sector")?;
+        }
+    }
+    Ok(())
+}

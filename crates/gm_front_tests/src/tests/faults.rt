@@ -1,0 +1,257 @@
+//! A bench that fails at a line, since its shelf stopped, and a bench that has failed.
+
+use super::{
+    DESTROY, DONE, INSERT, LABEL, NO_MIRRORS, REFUSED, REMOVE, Told, answers, memory, must, open,
+    shelf, shows, tell, try_batch, try_status,
+};
+use gm_bench::{Bench, BenchFault};
+use gm_front::{BatchEnd, FrontFault};
+use gm_shelf::{FaultShelf, MemShelf, Shelf};
+use sqlite::{Alter, Connection};
+use std::alloc::Global;
+use std::io::{self, ErrorKind, Write};
+use std::test::Fail;
+
+// A script is over long before it makes so many calls of the shelf.
+const MANY: u64 = 200;
+
+// Why a shelf stops.
+#[derive(Clone, Copy)]
+enum Stop {
+    Device,
+    Memory,
+}
+
+// A shelf whose calls from the nth on fail so.
+fn failing<H: Shelf>(stop: Stop, shelf: H, nth: u64) -> FaultShelf<H> {
+    match stop {
+        Stop::Device => FaultShelf::stop_from(shelf, nth),
+        Stop::Memory => FaultShelf::starve_from(shelf, nth),
+    }
+}
+
+fn fault_of(stop: Stop) -> BenchFault {
+    match stop {
+        Stop::Device => BenchFault::Disk,
+        Stop::Memory => BenchFault::Memory,
+    }
+}
+
+// The first lines, of which only the first has an answer and none asks the bench, and the last, which names no command.
+const BEFORE: &str = "k/0\n\n  \n";
+
+const BEHIND: &str = "k5 paint gm0";
+// The commands between them, and how many there are.
+const COMMANDS: [&str; 4] = [LABEL, INSERT, REMOVE, DESTROY];
+
+// All lines, or those behind the command at this place.
+pub(super) fn script(alloc: Global, behind: Option<usize>) -> Result<String, Fail> {
+    let mut lines = String::new(alloc);
+    let from = match behind {
+        None => {
+            lines.push_str(BEFORE)?;
+            0
+        }
+        Some(place) => place.saturating_add(1),
+    };
+    for line in COMMANDS.iter().skip(from) {
+        lines.push_str(line)?;
+    }
+    lines.push_str(BEHIND)?;
+    Ok(lines)
+}
+
+// What the script is answered where so many of its commands were accepted before.
+pub(super) fn told_after(alloc: Global, accepted: u64) -> Result<String, Fail> {
+    let mut text = String::from_str(alloc, "? refused 1\n")?;
+    for number in 1u64..=4 {
+        let word = if number <= accepted { "repeated" } else { "ok" };
+        writeln!(text, "k{number} {word} {number}")?;
+    }
+    text.push_str("k5 refused 1\n")?;
+    Ok(text)
+}
+
+// What it is answered where the bench fails at the command at this place.
+fn told_up_to(alloc: Global, place: u64, fault: BenchFault) -> Result<String, Fail> {
+    let mut text = String::from_str(alloc, "? refused 1\n")?;
+    for number in 1..=place {
+        writeln!(text, "k{number} ok {number}")?;
+    }
+    let number = place.saturating_add(1);
+    let fault = fault.number();
+    writeln!(text, "k{number} fault {fault}")?;
+    Ok(text)
+}
+
+// Whether this was told by a script that failed at the command at this place, which left the lines behind it.
+fn is_stopped_at(alloc: Global, told: &Told, place: u64, fault: BenchFault) -> Result<bool, Fail> {
+    let expected = told_up_to(alloc, place, fault)?;
+    let left = script(alloc, Some(place as usize))?.len();
+    Ok(told.text.as_slice() == expected.as_bytes() && told.left == left)
+}
+
+// How many of the commands were answered as done. Each is told, and so is the fault.
+pub(super) fn done_of(alloc: Global, told: &Told, fault: BenchFault) -> Result<u64, Fail> {
+    if told.end == Ok(REFUSED) {
+        let expected = told_after(alloc, 0)?;
+        must(told.text.as_slice() == expected.as_bytes(), "another text")?;
+        must(told.left == 0, "something wasn't read")?;
+        return Ok(4);
+    }
+    must(told.end == Ok(BatchEnd::Stopped(fault)), "another end")?;
+    for place in 0u64..4 {
+        if is_stopped_at(alloc, told, place, fault)? {
+            return Ok(place);
+        }
+    }
+    Err("another text of a stop")?
+}
+
+// What is handed to a bench that has failed, and what it then leaves.
+const LATER: &str = "k/9\n  \nk8\nk9 clear c.img\nk9 clear\n";
+
+const LATER_LEFT: usize = 9;
+
+// A bench that has failed says so at the first command, whatever its key is, and not before.
+pub(super) fn is_closed<S: Alter, H: Shelf>(
+    alloc: Global,
+    bench: &mut Bench<S, H>,
+) -> Result<(), Fail> {
+    let closed = Ok(BatchEnd::Stopped(BenchFault::Closed));
+    for _ in 0..2 {
+        let told = tell(alloc, bench, LATER.as_bytes())?;
+        let expected = "? refused 1\nk8 refused 1\nk9 fault 4\n";
+        must(told.text.as_slice() == expected.as_bytes(), "another text")?;
+        must(told.end == closed && told.left == LATER_LEFT, "another end")?;
+    }
+    let told = tell(alloc, bench, b"k/9 clear c.img".as_slice())?;
+    must(told.text.as_slice() == b"? fault 4\n".as_slice(), "a key")?;
+    must(told.end == closed, "another end")?;
+    let status = try_status(alloc, bench)?;
+    must(status.err() == Some(BenchFault::Closed), "viewed")?;
+    answers(alloc, bench, b"\n".as_slice(), "", DONE)?;
+    answers(alloc, bench, b"k1".as_slice(), "k1 refused 1\n", REFUSED)
+}
+
+// The script, and then more where the bench failed; how many commands were answered as done.
+fn plays<S: Alter + Drop, H: Shelf + Drop>(
+    alloc: Global,
+    store: Connection<S>,
+    shelf: H,
+    fault: BenchFault,
+) -> Result<(u64, Connection<S>, H), Fail> {
+    let mut bench = open(alloc, store, shelf)?;
+    let told = tell(alloc, &mut bench, script(alloc, None)?.as_bytes())?;
+    let done = done_of(alloc, &told, fault)?;
+    if done < 4 {
+        is_closed(alloc, &mut bench)?;
+    }
+    let (store, shelf) = bench.close();
+    Ok((done, store, shelf))
+}
+
+// The same lines again, to a bench that was opened since: what was answered is repeated, and the command at which the
+// first bench failed may have been accepted.
+pub(super) fn goes_on<S: Alter, H: Shelf>(
+    alloc: Global,
+    bench: &mut Bench<S, H>,
+    done: u64,
+) -> Result<(), Fail> {
+    let told = tell(alloc, bench, script(alloc, None)?.as_bytes())?;
+    must(told.end == Ok(REFUSED), "another end")?;
+    let accepted = told.text.as_slice() == told_after(alloc, done)?.as_bytes();
+    let next = told_after(alloc, done.saturating_add(1))?;
+    let next_too = told.text.as_slice() == next.as_bytes();
+    must(accepted || next_too, "another text of the same lines")?;
+    shows(alloc, bench, NO_MIRRORS)
+}
+
+fn opens_and_goes_on<S: Alter + Drop, H: Shelf + Drop>(
+    alloc: Global,
+    store: Connection<S>,
+    shelf: H,
+    done: u64,
+) -> Result<(), Fail> {
+    let mut bench = open(alloc, store, shelf)?;
+    goes_on(alloc, &mut bench, done)
+}
+
+fn stops_at<S: Alter + Drop>(
+    alloc: Global,
+    store: Connection<S>,
+    shelf: MemShelf,
+    stop: Stop,
+    nth: u64,
+) -> Result<u64, Fail> {
+    let stopping = failing(stop, shelf, nth);
+    let (done, store, stopping) = plays(alloc, store, stopping, fault_of(stop))?;
+    opens_and_goes_on(alloc, store, stopping.into_inner(), done)?;
+    Ok(done)
+}
+
+// Stops at each call of the shelf in turn: at some within each command, and then at none.
+fn stop_at_each(alloc: Global, stop: Stop) -> Result<(), Fail> {
+    let mut done = 0u64;
+    for nth in 1..MANY {
+        if done < 4 {
+            let next = stops_at(alloc, memory(alloc)?, shelf(alloc)?, stop, nth)?;
+            let follows = next == done || next == done.saturating_add(1);
+            must(follows && (nth > 1 || next == 0), "another command")?;
+            done = next;
+        }
+    }
+    must(done == 4, "no run ended")
+}
+
+#[test]
+fn a_device_that_fails_ends_a_batch(rt: HostRuntime) -> Result<(), Fail> {
+    stop_at_each(rt.alloc(), Stop::Device)
+}
+
+#[test]
+fn want_of_memory_ends_a_batch(rt: HostRuntime) -> Result<(), Fail> {
+    stop_at_each(rt.alloc(), Stop::Memory)
+}
+
+// Takes so many bytes, and then no more.
+#[derive(Drop)]
+struct Narrow {
+    room: usize,
+}
+
+impl Write for Narrow {
+    fn write(&mut self, bytes: &[u8]) -> io::Result<usize> {
+        if bytes.len() > self.room {
+            return Err(io::Error::from(ErrorKind::StorageFull));
+        }
+        self.room = self.room.saturating_sub(bytes.len());
+        Ok(bytes.len())
+    }
+
+    fn flush(&mut self) -> io::Result<()> {
+        Ok(())
+    }
+}
+
+// A fault that can't be told is one of the output; the bench has failed all the same.
+fn isnt_told<S: Alter + Drop, H: Shelf + Drop>(
+    alloc: Global,
+    store: Connection<S>,
+    shelf: H,
+) -> Result<(), Fail> {
+    let mut bench = open(alloc, store, shelf)?;
+    let mut output = Narrow { room: 12 };
+    let lines = script(alloc, None)?;
+    let mut input = lines.as_bytes();
+    let end = try_batch(alloc, &mut input, &mut output, &mut bench)?;
+    must(end == Err(FrontFault::Write), "another end")?;
+    must(output.room == 0, "the first line wasn't told")?;
+    is_closed(alloc, &mut bench)
+}
+
+#[test]
+fn a_fault_that_cant_be_told_is_one_of_the_output(rt: HostRuntime) -> Result<(), Fail> {
+    let stopping = FaultShelf::stop_from(shelf(rt.alloc())?, 1);
+    isnt_told(rt.alloc(), memory(rt.alloc())?, stopping)
+}

@@ -1,0 +1,96 @@
+//! Each answer is flushed before the next line is read.
+
+use super::{LABEL, REFUSED, memory, must, open, shelf, try_batch};
+use gm_shelf::Shelf;
+use sqlite::{Alter, Connection};
+use std::alloc::Global;
+use std::cell::Cell;
+use std::io::{self, ErrorKind, Read, Write};
+use std::test::Fail;
+
+// Counts what is written, and keeps for the input how much of it is flushed.
+#[derive(Drop)]
+struct Counted<'a> {
+    written: usize,
+    flushed: &'a Cell<usize>,
+}
+
+impl<'a> Write for Counted<'a> {
+    fn write(&mut self, bytes: &[u8]) -> io::Result<usize> {
+        self.written = self.written.saturating_add(bytes.len());
+        Ok(bytes.len())
+    }
+
+    fn flush(&mut self) -> io::Result<()> {
+        self.flushed.set(self.written);
+        Ok(())
+    }
+}
+
+// Gives lines a byte at a time. Where the first byte of a line or the end of the input is asked for, it keeps how much of
+// the answers is flushed.
+#[derive(Drop)]
+struct Watching<'a> {
+    rest: &'a [u8],
+    begins: bool,
+    flushed: &'a Cell<usize>,
+    seen: Vec<usize>,
+}
+
+impl<'a> Read for Watching<'a> {
+    fn read(&mut self, out: &mut [u8]) -> io::Result<usize> {
+        if self.begins && self.seen.push(self.flushed.get()).is_err() {
+            return Err(io::Error::from(ErrorKind::OutOfMemory));
+        }
+        let (Some((byte, rest)), Some(first)) = (self.rest.split_first(), out.first_mut()) else {
+            self.begins = true;
+            return Ok(0);
+        };
+        *first = *byte;
+        self.rest = rest;
+        self.begins = *byte == 10;
+        Ok(1)
+    }
+}
+
+// What is flushed before each of seven lines, and at the end of the input: an `ok` and a `repeated` of one number have 8
+// and 14 bytes, and a refusal of `?` with one digit has 12.
+const FLUSHED: [usize; 8] = [0, 0, 8, 8, 22, 34, 46, 54];
+
+fn is_flushed<S: Alter + Drop, H: Shelf + Drop>(
+    alloc: Global,
+    store: Connection<S>,
+    shelf: H,
+    lines: &[u8],
+) -> Result<(), Fail> {
+    let mut bench = open(alloc, store, shelf)?;
+    let flushed = Cell::new(0usize);
+    let mut output = Counted {
+        written: 0,
+        flushed: &flushed,
+    };
+    let mut input = Watching {
+        rest: lines,
+        begins: true,
+        flushed: &flushed,
+        seen: Vec::new(alloc),
+    };
+    let end = try_batch(alloc, &mut input, &mut output, &mut bench)?;
+    must(end == Ok(REFUSED), "another end")?;
+    must(input.seen.as_slice() == FLUSHED.as_slice(), "not flushed")?;
+    must(flushed.get() == 54, "another length")
+}
+
+#[test]
+fn an_answer_is_flushed_before_the_next_line_is_read(rt: HostRuntime) -> Result<(), Fail> {
+    let alloc = rt.alloc();
+    let mut lines = Vec::new(alloc);
+    lines.extend_from_slice(b"\n")?;
+    lines.extend_from_slice(LABEL.as_bytes())?;
+    lines.extend_from_slice(b"   \n")?;
+    lines.extend_from_slice(LABEL.as_bytes())?;
+    lines.extend_from_slice(b"k/1\n")?;
+    lines.extend_from_slice(&[b'x'; 1025])?;
+    lines.extend_from_slice(b"\nk2 insert --did 2 gm0 b.img")?;
+    is_flushed(alloc, memory(alloc)?, shelf(alloc)?, lines.as_slice())
+}
