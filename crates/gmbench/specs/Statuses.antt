@@ -1,18 +1,37 @@
 -- The numbers by which the program ends.
-use Rattle.std.specs.Prelude.{ℕ}
+use Rattle.std.specs.Prelude.{ℕ, Result, Ok, Err, if◌then◌else◌}
+use Rattle.gm_bench.specs.declared.fault.BenchFault.TheVariants as bench
+use Rattle.gm_front.specs.declared.batching.BatchEnd.{BatchEnd}
+use Rattle.gm_front.specs.declared.batching.BatchEnd.TheVariants.{Ended, Stopped}
+use Rattle.gm_front.specs.declared.batching.FrontFault.{FrontFault}
+use Rattle.gm_front.specs.declared.batching.FrontFault.TheVariants as front
 use Rattle.gmbench.specs.declared.status.Status.{Status}
-use Rattle.gmbench.specs.declared.status.Status.TheVariants.{Done, Refused, Words, Fault}
+use Rattle.gmbench.specs.declared.status.Status.TheVariants as status
+use Rattle.gmbench.specs.declared.status.Fault.{Fault}
+use Rattle.gmbench.specs.declared.status.Fault.TheVariants.{Bench, InputOrOutput}
 use Rattle.gmbench.specs.declared.status.DumpRefusal.{DumpRefusal}
 use Rattle.gmbench.specs.declared.status.DumpRefusal.TheVariants.{Absent, WrongSize}
 
 -- 0 done, 1 refused or damaged, 2 wrong words, 3 a fault
 abbrev pub status_code : Status → ℕ
-status_code Done = 0
-status_code Refused = 1
-status_code Words = 2
-status_code Fault = 3
+status_code status.Done = 0
+status_code status.Refused = 1
+status_code status.Words = 2
+status_code status.Fault = 3
 
 -- the numbers that these refusals have among those of commands
 abbrev pub refusal_number : DumpRefusal → ℕ
 refusal_number Absent = 8
 refusal_number WrongSize = 28
+
+-- what is told of a batch whose memory, input or output failed
+abbrev pub of_front : FrontFault → Fault
+of_front front.Memory = Bench bench.Memory
+of_front front.Read = InputOrOutput
+of_front front.Write = InputOrOutput
+
+-- done where no line was refused; a fault of the bench is that of the program
+abbrev pub status_of_end : Result BatchEnd FrontFault → Result Status Fault
+status_of_end (Ok (Ended refused)) = Ok (if refused then status.Refused else status.Done)
+status_of_end (Ok (Stopped fault)) = Err (Bench fault)
+status_of_end (Err fault) = Err (of_front fault)

@@ -1,14 +1,21 @@
 //! The program: words in, lines and an exit status out. `program.rt` is all of it; `main` hands it the real streams, once
 //! `streams.rt` has seen to it that there are three.
+//!
+//! `words.rt` has the program's own words. What is done at a bench, by `work.rt`, is done in the folder and with the
+//! registry that `workplace.rt` opens and closes; `recover.rt`, `showing.rt` and `batch.rt` have the commands.
 #![tactic(auto)]
 
+mod batch;
 mod program;
 mod recover;
+mod showing;
 mod status;
 mod streams;
 #[cfg(test)]
 mod tests;
 mod words;
+mod work;
+mod workplace;
 
 use program::program;
 use status::{Fault, Status};

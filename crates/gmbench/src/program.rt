@@ -1,8 +1,8 @@
 //! All that the program does, over any streams.
 
-use crate::recover::recover;
 use crate::status::{DumpRefusal, Fault, Status};
 use crate::words::{Job, job_of};
+use crate::workplace::{Place, work_at};
 use clap::Error;
 use clap::error::ErrorKind;
 use gm_front::dump_text;
@@ -67,25 +67,35 @@ fn dump<O: Write>(
     }
 }
 
-fn perform<O: Write>(rt: &HostRuntime, job: Job<'_>, output: &mut O) -> Result<Status, Fault> {
+fn perform<I: Read, O: Write>(
+    rt: &HostRuntime,
+    job: Job<'_>,
+    input: &mut I,
+    output: &mut O,
+) -> Result<Status, Fault> {
     match job {
         Job::Introduce => {
             writeln!(output, "gmbench: GEOM_MIRROR version 4")?;
             Ok(Status::Done)
         }
         Job::Dump { folder, provider } => dump(rt, folder, provider, output),
-        Job::Recover { registry, folder } => recover(rt, registry, folder, output),
+        Job::AtBench {
+            work,
+            registry,
+            folder,
+        } => work_at(rt, Place { registry, folder }, work, input, output),
     }
 }
 
-fn run<O: Write, E: Write>(
+fn run<I: Read, O: Write, E: Write>(
     rt: &HostRuntime,
     words: &[&str],
+    input: &mut I,
     output: &mut O,
     complaints: &mut E,
 ) -> Result<Status, Fault> {
     let done = match job_of(rt.alloc(), words) {
-        Ok(job) => perform(rt, job, output),
+        Ok(job) => perform(rt, job, input, output),
         Err(error) => explain(&error, output, complaints),
     };
     // What was printed before a fault is to be seen as well.
@@ -97,11 +107,12 @@ fn run<O: Write, E: Write>(
 
 /// Runs the program on its words, without its own name, and answers how it ends.
 ///
-/// Lines go to `output`; faults, and complaints about the words, go to `complaints`.
+/// A batch takes its commands from `input`. Lines go to `output`; faults, and complaints about the words, go to
+/// `complaints`.
 pub fn program<I, O, E>(
     rt: &HostRuntime,
     words: &[&str],
-    _input: &mut I,
+    input: &mut I,
     output: &mut O,
     complaints: &mut E,
 ) -> Status
@@ -110,7 +121,7 @@ where
     O: Write,
     E: Write,
 {
-    match run(rt, words, output, complaints) {
+    match run(rt, words, input, output, complaints) {
         Ok(status) => status,
         Err(fault) => {
             let _ = writeln!(complaints, "{fault}");

@@ -1,9 +1,10 @@
 //! How the program ends.
 
 ghost use Rattle.std.specs.Prelude.{◌≡◌};
-ghost use Rattle.gmbench.specs.Statuses.{refusal_number, status_code};
+ghost use Rattle.gmbench.specs.Statuses.{of_front, refusal_number, status_code};
 
 use gm_bench::BenchFault;
+use gm_front::FrontFault;
 use gm_shelf::ShelfFault;
 use std::alloc::AllocError;
 use std::{fmt, io};
@@ -46,6 +47,16 @@ pub enum Fault {
 
 impl Fault {
     pub const MEMORY: Fault = Fault::Bench(BenchFault::Memory);
+
+    /// What is told of a batch whose memory, input or output failed.
+    pub fn of_front(fault: FrontFault) -> Fault
+        ensures { result ≡ of_front fault }
+    {
+        match fault {
+            FrontFault::Memory => Fault::MEMORY,
+            FrontFault::Read | FrontFault::Write => Fault::InputOrOutput,
+        }
+    }
 }
 
 impl fmt::Display for Fault {

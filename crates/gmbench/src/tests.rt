@@ -1,18 +1,21 @@
 //! The program over a folder of real files: what it prints and how it ends.
 
+mod batch;
 mod pending;
 mod recover;
+mod showing;
 
 use crate::program::program;
 use crate::status::Status;
 use gm_metadata::{Balance, DiskFlags, Label, Metadata, MirrorFlags};
 use gm_shelf::{FileShelf, write_meta};
 use md5::{Digest, Md5};
+use std::env;
 use std::fs::{self, File, OpenOptions};
+use std::io::{self, Read};
 use std::os::unix::fs::FileExt;
 use std::process::Abort;
 use std::test::Fail;
-use std::{env, io};
 
 // What a run of the program wrote, and how it ended.
 #[derive(Drop)]
@@ -22,16 +25,53 @@ struct Outcome {
     complaints: String,
 }
 
-fn run(rt: &HostRuntime, words: &[&str]) -> Result<Outcome, Fail> {
+fn run_on<I: Read>(rt: &HostRuntime, words: &[&str], input: &mut I) -> Result<Outcome, Fail> {
     let alloc = rt.alloc();
     let mut output = Vec::new(alloc);
     let mut complaints = Vec::new(alloc);
-    let status = program(rt, words, &mut io::empty(), &mut output, &mut complaints);
+    let status = program(rt, words, input, &mut output, &mut complaints);
     Ok(Outcome {
         status,
         output: String::from_utf8(output)?,
         complaints: String::from_utf8(complaints)?,
     })
+}
+
+fn run(rt: &HostRuntime, words: &[&str]) -> Result<Outcome, Fail> {
+    run_on(rt, words, &mut io::empty())
+}
+
+fn expect(rt: &impl Abort, run: &Outcome, output: &str, complaints: &str, status: u8) {
+    assert_eq!(rt; run.complaints.as_str(), complaints);
+    assert_eq!(rt; run.output.as_str(), output);
+    assert_eq!(rt; run.status.code(), status);
+}
+
+fn expect_fault(rt: &impl Abort, run: &Outcome, line: &str) {
+    expect(rt, run, "", line, 3);
+}
+
+fn path_in(rt: &HostRuntime, folder: &String, name: &str) -> Result<String, Fail> {
+    Ok(format!(in rt.alloc(); "{folder}/{name}")?)
+}
+
+fn bytes_in(rt: &HostRuntime, folder: &String, name: &str) -> Result<Vec<u8>, Fail> {
+    Ok(fs::read(rt, path_in(rt, folder, name)?.as_str())?)
+}
+
+// A command that works at the bench of a folder, whose registry lies in it.
+fn at_bench(rt: &HostRuntime, command: &str, folder: &String) -> Result<Outcome, Fail> {
+    let registry = path_in(rt, folder, "registry")?;
+    run(
+        rt,
+        &[
+            command,
+            "--registry",
+            registry.as_str(),
+            "--shelf",
+            folder.as_str(),
+        ],
+    )
 }
 
 // A folder of the test's own, without a file.
@@ -199,7 +239,17 @@ fn wrong_words_are_complained_of(rt: HostRuntime) -> Result<(), Fail> {
 fn help_is_no_complaint(rt: HostRuntime) -> Result<(), Fail> {
     let run = run(&rt, &["--help"])?;
     assert_eq!(rt; run.status.code(), 0);
-    assert!(rt; run.output.as_str().contains("dump"));
+    for said in [
+        "\n  dump     Prints",
+        "\n  recover  Carries",
+        "\n  status   Shows",
+        "\n  list     Shows",
+        "\n  batch    Carries",
+        "\nExit statuses:\n  0  done\n",
+        "\nExample:\n",
+    ] {
+        assert!(rt; run.output.as_str().contains(said), "help lacks {said}");
+    }
     Ok(())
 }
 

@@ -1,9 +1,45 @@
 //! The program's own words.
 
+use crate::work::Work;
 use clap::error::ErrorKind;
 use clap::{Arg, ArgAction, ArgMatches, Command, Error};
 use gm_metadata::Label;
 use std::alloc::{AllocError, Global};
+
+// What the help of the program says below its commands.
+const MORE: &str =
+    "recover, status, list and batch take --registry FILE --shelf DIR: the registry, which is made where
+there is none, and the folder with the images. Each first carries out what a run that stopped left
+pending.
+
+Exit statuses:
+  0  done
+  1  refused, or damage was found; the printed line says which
+  2  the words above weren't kept to; nothing was opened
+  3  a fault; one line on standard error says which
+
+Example:
+  mkdir images && truncate -s 1M images/a.img
+  echo 'k1 label --mid 7 --did 1 gm0 a.img' | gmbench batch --registry registry --shelf images
+  gmbench status --registry registry --shelf images";
+
+// What the help of `batch` says below its options.
+const LINES: &str =
+    "Each line has a key, under which the command is carried out once, and a command:
+  KEY label --mid N --did N [--balance B] [--slice N] [--autosync S] [--failsync S] [--hardcode S]
+      NAME PROV
+  KEY insert --did N [--priority P] [--hardcode S] NAME PROV
+  KEY remove NAME PROV
+  KEY clear PROV
+  KEY destroy NAME
+B is load, prefer, round-robin or split, and S is on or off. Without options: --balance load,
+--slice 4096, --autosync on, --failsync on, --hardcode off, --priority 0.
+
+Each line is answered before the next is read:
+  KEY ok SEQ        done, and kept under this number
+  KEY repeated SEQ  it was done before
+  KEY refused N     nothing was written
+  KEY fault N       a fault, which ends the batch";
 
 /// What the program is asked to do.
 #[derive(Clone, Copy)]
@@ -11,9 +47,16 @@ pub enum Job<'a> {
     /// Say what the program is.
     Introduce,
     /// Print what the last sector of a provider of a folder says.
-    Dump { folder: &'a str, provider: Label },
-    /// Carry out what an earlier run left pending in a registry, on the images of a folder.
-    Recover { registry: &'a str, folder: &'a str },
+    Dump {
+        folder: &'a str,
+        provider: Label,
+    },
+    /// Do work at the bench of a registry and a folder.
+    AtBench {
+        work: Work,
+        registry: &'a str,
+        folder: &'a str,
+    },
 }
 
 fn shelf_option<'a>(alloc: Global) -> Arg<'a> {
@@ -46,11 +89,49 @@ fn dump_command<'a>(alloc: Global) -> Result<Command<'a>, AllocError> {
         .arg(provider)
 }
 
-fn recover_command<'a>(alloc: Global) -> Result<Command<'a>, AllocError> {
-    Command::new(alloc, "recover")
-        .about("Carries out what a run that stopped left pending")
+// A subcommand for work at a bench.
+fn bench_command<'a>(
+    alloc: Global,
+    name: &'a str,
+    about: &'a str,
+) -> Result<Command<'a>, AllocError> {
+    Command::new(alloc, name)
+        .about(about)
         .arg(registry_option(alloc))?
         .arg(shelf_option(alloc))
+}
+
+fn recover_command<'a>(alloc: Global) -> Result<Command<'a>, AllocError> {
+    bench_command(
+        alloc,
+        "recover",
+        "Carries out what a run that stopped left pending",
+    )
+}
+
+fn status_command<'a>(alloc: Global) -> Result<Command<'a>, AllocError> {
+    bench_command(
+        alloc,
+        "status",
+        "Shows in a few lines how the mirrors stand",
+    )
+}
+
+fn list_command<'a>(alloc: Global) -> Result<Command<'a>, AllocError> {
+    bench_command(
+        alloc,
+        "list",
+        "Shows all that is known of the mirrors and their components",
+    )
+}
+
+fn batch_command<'a>(alloc: Global) -> Result<Command<'a>, AllocError> {
+    let command = bench_command(
+        alloc,
+        "batch",
+        "Carries out the commands of standard input, a line each",
+    )?;
+    Ok(command.after_help(LINES))
 }
 
 fn program_command<'a>(alloc: Global) -> Result<Command<'a>, AllocError> {
@@ -60,8 +141,12 @@ fn program_command<'a>(alloc: Global) -> Result<Command<'a>, AllocError> {
         .bin_name("gmbench")?
         .no_binary_name(true)
         .subcommand_required(true)
+        .after_help(MORE)
         .subcommand(dump_command(alloc)?)?
-        .subcommand(recover_command(alloc)?)
+        .subcommand(recover_command(alloc)?)?
+        .subcommand(status_command(alloc)?)?
+        .subcommand(list_command(alloc)?)?
+        .subcommand(batch_command(alloc)?)
 }
 
 // The label that a value is, or clap's complaint.
@@ -84,8 +169,20 @@ fn dump_of<'a>(alloc: Global, matches: &ArgMatches<'a>) -> Result<Job<'a>, Error
     Ok(Job::Dump { folder, provider })
 }
 
-fn recover_of<'a>(matches: &ArgMatches<'a>) -> Job<'a> {
-    Job::Recover {
+// The work at a bench that a subcommand is for; none where it is for no bench.
+fn work_of(name: &str) -> Option<Work> {
+    match name {
+        "recover" => Some(Work::Recover),
+        "status" => Some(Work::Status),
+        "list" => Some(Work::List),
+        "batch" => Some(Work::Batch),
+        _ => None,
+    }
+}
+
+fn at_bench_of<'a>(work: Work, matches: &ArgMatches<'a>) -> Job<'a> {
+    Job::AtBench {
+        work,
         registry: matches.get_str("registry").unwrap_or(""),
         folder: matches.get_str("shelf").unwrap_or(""),
     }
@@ -99,8 +196,10 @@ pub fn job_of<'a>(alloc: Global, words: &'a [&'a str]) -> Result<Job<'a>, Error>
     }
     let matches = program_command(alloc)?.try_get_matches_from(words)?;
     match matches.subcommand() {
-        Some(("recover", recover)) => Ok(recover_of(recover)),
-        Some((_, dump)) => dump_of(alloc, dump),
+        Some((name, given)) => match work_of(name) {
+            Some(work) => Ok(at_bench_of(work, given)),
+            None => dump_of(alloc, given),
+        },
         None => Ok(Job::Introduce),
     }
 }

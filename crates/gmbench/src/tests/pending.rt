@@ -28,12 +28,12 @@ const SECTOR_B: [u8; 16] = [
 ];
 
 // What a.img says once b.img is beside it.
-fn first() -> Result<Metadata, Fail> {
+pub(super) fn first() -> Result<Metadata, Fail> {
     Ok(Metadata { all: 2, ..fresh()? })
 }
 
 // What b.img says, which is to be filled.
-fn second() -> Result<Metadata, Fail> {
+pub(super) fn second() -> Result<Metadata, Fail> {
     Ok(Metadata {
         did: 2,
         dflags: DiskFlags {

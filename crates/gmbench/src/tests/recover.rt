@@ -1,8 +1,11 @@
 //! The command `recover`, over registries and images that are files.
 
 use super::pending::{images_of_insert, put_registry};
-use super::{Outcome, dump, fresh_folder, image, label, labelled_folder, run};
-use crate::recover::images;
+use super::{
+    Outcome, bytes_in, dump, expect, expect_fault, fresh_folder, image, label, labelled_folder,
+    path_in, run,
+};
+use crate::workplace::{Place, images};
 use gm_shelf::Shelf;
 use sqlite::Connection;
 use std::fs::{self, File};
@@ -14,26 +17,8 @@ fn recover(rt: &HostRuntime, registry: &str, folder: &str) -> Result<Outcome, Fa
     run(rt, &["recover", "--registry", registry, "--shelf", folder])
 }
 
-fn expect(rt: &impl Abort, run: &Outcome, output: &str, complaints: &str, status: u8) {
-    assert_eq!(rt; run.complaints.as_str(), complaints);
-    assert_eq!(rt; run.output.as_str(), output);
-    assert_eq!(rt; run.status.code(), status);
-}
-
 fn expect_recovered(rt: &impl Abort, run: &Outcome, line: &str) {
     expect(rt, run, line, "", 0);
-}
-
-fn expect_fault(rt: &impl Abort, run: &Outcome, line: &str) {
-    expect(rt, run, "", line, 3);
-}
-
-fn path_in(rt: &HostRuntime, folder: &String, name: &str) -> Result<String, Fail> {
-    Ok(format!(in rt.alloc(); "{folder}/{name}")?)
-}
-
-fn bytes_in(rt: &HostRuntime, folder: &String, name: &str) -> Result<Vec<u8>, Fail> {
-    Ok(fs::read(rt, path_in(rt, folder, name)?.as_str())?)
 }
 
 // An image that is a mirror of its own: three sectors of zeros, and the metadata of an only component.
@@ -137,9 +122,11 @@ fn what_lies_beside_a_registry_is_no_image(rt: HostRuntime) -> Result<(), Fail> 
         image(&rt, folder.as_str(), name, 512)?;
     }
     let registry = path_in(&rt, &folder, "r")?;
-    let shelf = images(&rt, registry.as_str(), folder.as_str())
-        .ok()
-        .ok_or("not opened")?;
+    let place = Place {
+        registry: registry.as_str(),
+        folder: folder.as_str(),
+    };
+    let shelf = images(&rt, place).ok().ok_or("not opened")?;
     let wanted = [label("a.img")?, label("r-log")?, label("s-wal")?];
     assert_eq!(rt; shelf.names()?.as_slice(), wanted.as_slice());
     Ok(())

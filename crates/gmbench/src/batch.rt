@@ -1,0 +1,41 @@
+//! The command `batch`, which hands the commands of an input in to a bench.
+
+ghost use Rattle.std.specs.Prelude.{◌≡◌, IfOk};
+ghost use Rattle.gm_bench.specs.Progressing.{TakesCommands};
+ghost use Rattle.gmbench.specs.Reports.{MayEnd};
+ghost use Rattle.gmbench.specs.Statuses.{status_of_end};
+
+use crate::status::{Fault, Status};
+use crate::work::Work;
+use gm_bench::Bench;
+use gm_front::{BatchEnd, FrontFault, batch};
+use gm_shelf::Shelf;
+use sqlite::Alter;
+use std::alloc::Global;
+use std::io::{Read, Write};
+
+// How the program ends by the end of its batch.
+fn status_of_end(end: Result<BatchEnd, FrontFault>) -> Result<Status, Fault>
+    ensures value { result ≡ status_of_end end }
+    ensures ends { IfOk result (MayEnd Work.Batch) }
+{
+    match end {
+        Ok(BatchEnd::Ended { refused: false }) => Ok(Status::Done),
+        Ok(BatchEnd::Ended { refused: true }) => Ok(Status::Refused),
+        Ok(BatchEnd::Stopped(fault)) => Err(Fault::Bench(fault)),
+        Err(fault) => Err(Fault::of_front(fault)),
+    }
+}
+
+/// Hands in each line of the input, and prints its answer before the next is read.
+pub fn hand_in<S: Alter, H: Shelf, I: Read, O: Write>(
+    alloc: Global,
+    bench: &mut Bench<S, H>,
+    input: &mut I,
+    output: &mut O,
+) -> Result<Status, Fault>
+    requires { TakesCommands bench.old.progress }
+    ensures { IfOk result (MayEnd Work.Batch) }
+{
+    status_of_end(batch(alloc, input, output, bench))
+}

@@ -1,0 +1,32 @@
+//! The commands `status` and `list`, which show the mirrors of a bench.
+
+ghost use Rattle.std.specs.Prelude.{IfOk};
+ghost use Rattle.gm_front.specs.Listing.{list_text};
+ghost use Rattle.gm_front.specs.Status.{status_text};
+ghost use Rattle.gmbench.specs.Reports.{IsDone};
+
+use crate::status::{Fault, Status};
+use crate::work::Report;
+use gm_front::{list_text, status_text};
+use gm_state::State;
+use std::alloc::Global;
+
+/// Says how the mirrors stand.
+pub fn status_report(alloc: Global, state: &State) -> Result<Report, Fault>
+    ensures { IfOk result (IsDone (status_text state.now)) }
+{
+    Ok(Report {
+        status: Status::Done,
+        text: status_text(alloc, state)?,
+    })
+}
+
+/// Says all that is known of the mirrors.
+pub fn list_report(alloc: Global, state: &State) -> Result<Report, Fault>
+    ensures { IfOk result (IsDone (list_text state.now)) }
+{
+    Ok(Report {
+        status: Status::Done,
+        text: list_text(alloc, state)?,
+    })
+}
