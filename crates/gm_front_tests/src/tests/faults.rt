@@ -72,20 +72,19 @@ pub(super) fn told_after(alloc: Global, accepted: u64) -> Result<String, Fail> {
     Ok(text)
 }
 
-// What it is answered where the bench fails at the command at this place.
-fn told_up_to(alloc: Global, place: u64, fault: BenchFault) -> Result<String, Fail> {
+// What it is answered where the bench fails at the command at this place, by the fault of this number.
+fn told_up_to(alloc: Global, place: u64, fault: u8) -> Result<String, Fail> {
     let mut text = String::from_str(alloc, "? refused 1\n")?;
     for number in 1..=place {
         writeln!(text, "k{number} ok {number}")?;
     }
     let number = place.saturating_add(1);
-    let fault = fault.number();
     writeln!(text, "k{number} fault {fault}")?;
     Ok(text)
 }
 
 // Whether this was told by a script that failed at the command at this place, which left the lines behind it.
-fn is_stopped_at(alloc: Global, told: &Told, place: u64, fault: BenchFault) -> Result<bool, Fail> {
+fn is_stopped_at(alloc: Global, told: &Told, place: u64, fault: u8) -> Result<bool, Fail> {
     let expected = told_up_to(alloc, place, fault)?;
     let left = script(alloc, Some(place as usize))?.len();
     Ok(told.text.as_slice() == expected.as_bytes() && told.left == left)
@@ -99,9 +98,10 @@ pub(super) fn done_of(alloc: Global, told: &Told, fault: BenchFault) -> Result<u
         must(told.left == 0, "something wasn't read")?;
         return Ok(4);
     }
+    let number = fault.number();
     must(told.end == Ok(BatchEnd::Stopped(fault)), "another end")?;
     for place in 0u64..4 {
-        if is_stopped_at(alloc, told, place, fault)? {
+        if is_stopped_at(alloc, told, place, number)? {
             return Ok(place);
         }
     }

@@ -1,6 +1,7 @@
 //! Which words are a command, and which are the same one.
 
-use super::{DONE, LABEL, OF_ONE, REFUSED, answers, memory, open, shelf, shows};
+use super::{DONE, LABEL, OF_ONE, answers, memory, open, shelf, shows};
+use gm_front::BatchEnd;
 use gm_shelf::Shelf;
 use sqlite::{Alter, Connection};
 use std::alloc::Global;
@@ -129,7 +130,7 @@ fn each_is<S: Alter + Drop, H: Shelf + Drop>(
 ) -> Result<(), Fail> {
     let mut bench = open(alloc, store, shelf)?;
     answers(alloc, &mut bench, LABEL.as_bytes(), "k1 ok 1\n", DONE)?;
-    let end = if refused { REFUSED } else { DONE };
+    let end = BatchEnd::Ended { refused };
     for words in rows {
         let line = format!(in alloc; "k1 {words}\n")?;
         answers(alloc, &mut bench, line.as_bytes(), told, end)?;

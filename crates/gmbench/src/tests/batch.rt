@@ -188,9 +188,9 @@ fn a_stopped_remove_is_carried_out_before_the_first_line(rt: HostRuntime) -> Res
 #[derive(Drop)]
 struct Meddler<'a> {
     rt: &'a HostRuntime,
-    lines: &'a [u8],
-    rest: &'a [u8],
-    file: Option<&'a str>,
+    lines: &'static [u8],
+    rest: &'static [u8],
+    file: Option<String>,
     begun: bool,
 }
 
@@ -201,8 +201,8 @@ impl<'a> Read for Meddler<'a> {
         }
         if !self.begun {
             self.begun = true;
-            match self.file {
-                Some(path) => fs::remove_file(self.rt, path)?,
+            match &self.file {
+                Some(path) => fs::remove_file(self.rt, path.as_str())?,
                 None => return Err(io::Error::from(ErrorKind::BrokenPipe)),
             }
         }
@@ -213,12 +213,11 @@ impl<'a> Read for Meddler<'a> {
 #[test]
 fn an_image_that_goes_ends_the_batch(rt: HostRuntime) -> Result<(), Fail> {
     let folder = fresh_images(&rt, "batch-fault")?;
-    let path = path_in(&rt, &folder, "b.img")?;
     let mut input = Meddler {
         rt: &rt,
         lines: b"k1 label --mid 7 --did 1 gm0 a.img\n",
         rest: b"k2 insert --did 2 gm0 b.img\nk3 destroy gm0\n",
-        file: Some(path.as_str()),
+        file: Some(path_in(&rt, &folder, "b.img")?),
         begun: false,
     };
     let run = batch_on(&rt, &folder, &mut input)?;
