@@ -30,10 +30,11 @@ fn failing<H: Shelf>(stop: Stop, shelf: H, nth: u64) -> FaultShelf<H> {
     }
 }
 
-fn fault_of(stop: Stop) -> BenchFault {
+// The number of the fault that tells it.
+fn fault_of(stop: Stop) -> u8 {
     match stop {
-        Stop::Device => BenchFault::Disk,
-        Stop::Memory => BenchFault::Memory,
+        Stop::Device => 3,
+        Stop::Memory => 1,
     }
 }
 
@@ -90,18 +91,25 @@ fn is_stopped_at(alloc: Global, told: &Told, place: u64, fault: u8) -> Result<bo
     Ok(told.text.as_slice() == expected.as_bytes() && told.left == left)
 }
 
-// How many of the commands were answered as done. Each is told, and so is the fault.
-pub(super) fn done_of(alloc: Global, told: &Told, fault: BenchFault) -> Result<u64, Fail> {
+// The number of the fault at which a batch stopped.
+fn stopped_by(told: &Told) -> Option<u8> {
+    match told.end {
+        Ok(BatchEnd::Stopped(fault)) => Some(fault.number()),
+        _ => None,
+    }
+}
+
+// How many of the commands were answered as done. Each is told, and so is the fault of this number.
+pub(super) fn done_of(alloc: Global, told: &Told, fault: u8) -> Result<u64, Fail> {
     if told.end == Ok(REFUSED) {
         let expected = told_after(alloc, 0)?;
         must(told.text.as_slice() == expected.as_bytes(), "another text")?;
         must(told.left == 0, "something wasn't read")?;
         return Ok(4);
     }
-    let number = fault.number();
-    must(told.end == Ok(BatchEnd::Stopped(fault)), "another end")?;
+    must(stopped_by(told) == Some(fault), "another end")?;
     for place in 0u64..4 {
-        if is_stopped_at(alloc, told, place, number)? {
+        if is_stopped_at(alloc, told, place, fault)? {
             return Ok(place);
         }
     }
@@ -139,7 +147,7 @@ fn plays<S: Alter + Drop, H: Shelf + Drop>(
     alloc: Global,
     store: Connection<S>,
     shelf: H,
-    fault: BenchFault,
+    fault: u8,
 ) -> Result<(u64, Connection<S>, H), Fail> {
     let mut bench = open(alloc, store, shelf)?;
     let told = tell(alloc, &mut bench, script(alloc, None)?.as_bytes())?;

@@ -130,9 +130,9 @@ fn each_is<S: Alter + Drop, H: Shelf + Drop>(
 ) -> Result<(), Fail> {
     let mut bench = open(alloc, store, shelf)?;
     answers(alloc, &mut bench, LABEL.as_bytes(), "k1 ok 1\n", DONE)?;
-    let end = BatchEnd::Ended { refused };
     for words in rows {
         let line = format!(in alloc; "k1 {words}\n")?;
+        let end = BatchEnd::Ended { refused };
         answers(alloc, &mut bench, line.as_bytes(), told, end)?;
     }
     shows(alloc, &mut bench, OF_ONE)

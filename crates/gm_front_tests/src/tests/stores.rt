@@ -98,7 +98,7 @@ fn plays<S: Alter + Drop, H: Shelf + Drop>(
     and_more: bool,
 ) -> Result<(u64, Connection<S>, H), Fail> {
     let told: Told = tell(alloc, &mut bench, script(alloc, None)?.as_bytes())?;
-    let done = done_of(alloc, &told, BenchFault::Store)?;
+    let done = done_of(alloc, &told, BenchFault::Store.number())?;
     if done < 4 && and_more {
         is_closed(alloc, &mut bench)?;
     }

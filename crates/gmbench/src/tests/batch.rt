@@ -5,7 +5,7 @@ use super::{
     Outcome, at_bench, bytes_in, expect, fresh, fresh_folder, labelled_folder, path_in, run_on,
 };
 use crate::program::program;
-use gm_metadata::encode;
+use gm_metadata::{Metadata, encode};
 use std::fs;
 use std::io::{self, ErrorKind, Read, Write};
 use std::process::Abort;
@@ -59,35 +59,47 @@ fn expect_answers(rt: &impl Abort, run: &Outcome, answers: &str, status: u8) {
     expect(rt, run, answers, "", status);
 }
 
-// Whether the data of both images stand as they were, before these last sectors.
-fn do_images_end_with(
+// Whether an image has these data still, and its last sector says this or carries nothing.
+fn does_image_say(
     rt: &HostRuntime,
     folder: &String,
-    last_of_a: &[u8; 512],
-    last_of_b: &[u8; 512],
+    name: &str,
+    data: u8,
+    said: Option<Metadata>,
 ) -> Result<bool, Fail> {
-    let (a, b) = (
-        bytes_in(rt, folder, "a.img")?,
-        bytes_in(rt, folder, "b.img")?,
-    );
-    Ok(a == image_bytes(rt, 1, last_of_a)? && b == image_bytes(rt, 2, last_of_b)?)
+    let last = match said {
+        Some(metadata) => encode(&metadata),
+        None => [0; 512],
+    };
+    Ok(bytes_in(rt, folder, name)? == image_bytes(rt, data, &last)?)
+}
+
+// The same of both images.
+fn do_images_say(
+    rt: &HostRuntime,
+    folder: &String,
+    a: Option<Metadata>,
+    b: Option<Metadata>,
+) -> Result<bool, Fail> {
+    let first = does_image_say(rt, folder, "a.img", 1, a)?;
+    let second = does_image_say(rt, folder, "b.img", 2, b)?;
+    Ok(first && second)
 }
 
 #[test]
 fn each_line_is_answered_and_carried_out(rt: HostRuntime) -> Result<(), Fail> {
     let folder = fresh_images(&rt, "batch")?;
-    let nothing = [0; 512];
     expect_answers(&rt, &batch(&rt, &folder, TWO)?, "k1 ok 1\nk2 ok 2\n", 0);
-    assert!(rt; do_images_end_with(&rt, &folder, &encode(&first()?), &encode(&second()?))?);
+    assert!(rt; do_images_say(&rt, &folder, Some(first()?), Some(second()?))?);
     expect_answers(
         &rt,
         &batch(&rt, &folder, "k3 remove gm0 b.img\n")?,
         "k3 ok 3\n",
         0,
     );
-    assert!(rt; do_images_end_with(&rt, &folder, &encode(&fresh()?), &nothing)?);
+    assert!(rt; do_images_say(&rt, &folder, Some(fresh()?), None)?);
     expect_answers(&rt, &batch(&rt, &folder, "k4 destroy gm0")?, "k4 ok 4\n", 0);
-    assert!(rt; do_images_end_with(&rt, &folder, &nothing, &nothing)?);
+    assert!(rt; do_images_say(&rt, &folder, None, None)?);
     let run = at_bench(&rt, "status", &folder)?;
     expect(&rt, &run, "no mirrors\n", "", 0);
     Ok(())
@@ -105,7 +117,7 @@ fn a_second_run_repeats_and_changes_no_byte(rt: HostRuntime) -> Result<(), Fail>
             "k1 repeated 1\nk2 repeated 2\n",
             0,
         );
-        assert!(rt; do_images_end_with(&rt, &folder, &encode(&first()?), &encode(&second()?))?);
+        assert!(rt; do_images_say(&rt, &folder, Some(first()?), Some(second()?))?);
         assert!(rt; bytes_in(&rt, &folder, "registry")? == registry);
     }
     Ok(())
@@ -140,7 +152,7 @@ fn a_refused_line_changes_nothing_and_ends_with_1(rt: HostRuntime) -> Result<(),
         "k1 ok 1\nk1 refused 3\nk2 refused 5\nk3 refused 17\nk4 refused 1\n? refused 2\nk6 refused 8\n",
         1,
     );
-    assert!(rt; do_images_end_with(&rt, &folder, &encode(&fresh()?), &[0; 512])?);
+    assert!(rt; do_images_say(&rt, &folder, Some(fresh()?), None)?);
     expect_answers(
         &rt,
         &batch(&rt, &folder, "k2 destroy gm0\n")?,
@@ -302,7 +314,7 @@ fn an_answer_that_cant_be_printed_ends_the_batch(rt: HostRuntime) -> Result<(), 
     );
     assert_eq!(rt; status.code(), 3);
     assert!(rt; complaints.as_slice() == b"gmbench: input or output\n".as_slice());
-    assert!(rt; do_images_end_with(&rt, &folder, &encode(&first()?), &encode(&second()?))?);
+    assert!(rt; do_images_say(&rt, &folder, Some(first()?), Some(second()?))?);
     let run = batch(&rt, &folder, lines.as_str())?;
     expect_answers(&rt, &run, "k1 repeated 1\nk2 repeated 2\nk3 ok 3\n", 0);
     Ok(())
