@@ -16,7 +16,7 @@ use Rattle.gm_state.proofs.Words.{filter-Has}
 use Rattle.gm_state.proofs.Finding.{Has-map}
 use Rattle.gm_state.proofs.OneCommand.{same_command}
 use Rattle.gm_rules.specs.declared.refusals.Refusal.{Refusal}
-use Rattle.gm_rules.specs.declared.refusals.Refusal.TheVariants.{NoMirror, NameTaken, MidTaken, Absent, ProviderTaken, CarriesMetadata, TooSmall, NotMember, DidTaken, Full, TooManyMirrors, SomeLost, LastActive, WrongSize, NoMetadata}
+use Rattle.gm_rules.specs.declared.refusals.Refusal.TheVariants.{NoMirror, NameTaken, MidTaken, Absent, ProviderTaken, CarriesMetadata, TooSmall, NotMember, DidTaken, Full, TooManyMirrors, SomeLost, LastActive, AlreadyInactive, NotInactive, NoneLost, Inactive, LastSyncid, WrongSize, NoMetadata}
 use Rattle.gm_rules.specs.Refusals.{number_of, number_of_call}
 use Rattle.gm_rules.specs.declared.refusals.CallRefusal.{CallRefusal}
 use Rattle.gm_rules.specs.declared.refusals.CallRefusal.TheVariants.{NoKey, KeyTaken, NoRoom, ByRules}
@@ -53,6 +53,11 @@ at_least_five Full = omega arith
 at_least_five TooManyMirrors = omega arith
 at_least_five SomeLost = omega arith
 at_least_five LastActive = omega arith
+at_least_five AlreadyInactive = omega arith
+at_least_five NotInactive = omega arith
+at_least_five NoneLost = omega arith
+at_least_five Inactive = omega arith
+at_least_five LastSyncid = omega arith
 at_least_five WrongSize = omega arith
 at_least_five NoMetadata = omega arith
 

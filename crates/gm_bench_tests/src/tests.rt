@@ -37,6 +37,20 @@ const SYNCHRONIZING: DiskFlags = DiskFlags {
     inactive: false,
 };
 
+const FORCED: DiskFlags = DiskFlags {
+    dirty: false,
+    synchronizing: true,
+    force_sync: true,
+    inactive: false,
+};
+
+const INACTIVE: DiskFlags = DiskFlags {
+    dirty: false,
+    synchronizing: false,
+    force_sync: false,
+    inactive: true,
+};
+
 fn must(holds: bool, what: &'static str) -> Result<(), Fail> {
     if holds { Ok(()) } else { Err(what)? }
 }
@@ -74,6 +88,31 @@ fn removes(name: &str, provider: &str) -> Result<Command, Fail> {
         name: label(name)?,
         provider: label(provider)?,
     })
+}
+
+fn deactivates(name: &str, provider: &str) -> Result<Command, Fail> {
+    Ok(Command::Deactivate {
+        name: label(name)?,
+        provider: label(provider)?,
+    })
+}
+
+fn activates(name: &str, provider: &str) -> Result<Command, Fail> {
+    Ok(Command::Activate {
+        name: label(name)?,
+        provider: label(provider)?,
+    })
+}
+
+fn rebuilds(name: &str, provider: &str) -> Result<Command, Fail> {
+    Ok(Command::Rebuild {
+        name: label(name)?,
+        provider: label(provider)?,
+    })
+}
+
+fn forgets(name: &str) -> Result<Command, Fail> {
+    Ok(Command::Forget { name: label(name)? })
 }
 
 fn destroys(name: &str) -> Result<Command, Fail> {

@@ -9,7 +9,7 @@ use Rattle.std.specs.Str.Parse.{AllDigits, ParsesUnsigned, digits_value, without
 use Rattle.std.proofs.lemmas.Bool.{cases_Bool, eqb-true}
 use Rattle.std.proofs.lemmas.Fmt.{decimal_is_IsNumeral}
 use Rattle.clap.specs.ValueTests.{is_numeral}
-use Rattle.clap.specs.Walk.{Row}
+use Rattle.clap.specs.Walk.{Row, first_of}
 use Rattle.clap.proofs.WalkLemmas.{both}
 use Rattle.gm_metadata.specs.Balance.{balance_name}
 use Rattle.gm_metadata.specs.Labels.{is_label}
@@ -17,7 +17,7 @@ use Rattle.gm_metadata.specs.declared.flags.MirrorFlags.{MirrorFlags}
 use Rattle.gm_state.specs.declared.command.BalanceWord.{BalanceWord}
 use Rattle.gm_state.specs.declared.command.BalanceWord.TheVariants.{Load, Prefer, RoundRobin, Split}
 use Rattle.gm_state.specs.Commands.{balance_of_word, on_where}
-use Rattle.gm_front.specs.Spelling.{◌>>=◌, IsNoFlag, balance_at, balance_in, flags_at, label_at, label_in, number_at, number_below, priority_at, slice_at, slice_in, switch_at, switch_in, text_at}
+use Rattle.gm_front.specs.Spelling.{◌>>=◌, IsNoFlag, balance_at, balance_in, component_at, flags_at, label_at, label_in, number_at, number_below, priority_at, slice_at, slice_in, switch_at, switch_in}
 
 all_digits : (ds : List ℕ) → list_all (λ d. nat_lt (digit_value d) 10) ds ≡ true → AllDigits 10 ds
 all_digits [] e = tt
@@ -91,37 +91,43 @@ nonzero n h =
     elim (cases_Bool (n == 0)) [ inl e ↦ (let bad : n ≡ 0 = eqb-true n 0 e in absurd (omega arith)) | inr e ↦ e ]
 
 module _ (id : List ℕ) (rows : List Row) where
-  pub number_read : (n : ℕ) → text_at id rows ≡ Some (decimal n) → n < 2 ^ 32 → number_at id rows ≡ Some n
+  pub number_read : (n : ℕ) → first_of id rows ≡ Some (decimal n) → n < 2 ^ 32 → number_at id rows ≡ Some n
   unfolding number_at
   number_read n e small = ap (λ (o : Option (List ℕ)). o >>= number_below (2 ^ 32)) e ∙ number_again (2 ^ 32) n small small
 
-  pub priority_read : (n : ℕ) → text_at id rows ≡ Some (decimal n) → n < 2 ^ 8 → priority_at id rows ≡ Some n
+  pub priority_read : (n : ℕ) → first_of id rows ≡ Some (decimal n) → n < 2 ^ 8 → priority_at id rows ≡ Some n
   unfolding priority_at
   priority_read n e small = ap (λ (o : Option (List ℕ)). o >>= number_below (2 ^ 8)) e ∙ number_again (2 ^ 8) n small (omega arith)
 
-  pub slice_read : (n : ℕ) → text_at id rows ≡ Some (decimal n) → 0 < n → n < 2 ^ 32 → slice_at id rows ≡ Some n
+  pub slice_read : (n : ℕ) → first_of id rows ≡ Some (decimal n) → 0 < n → n < 2 ^ 32 → slice_at id rows ≡ Some n
   unfolding slice_at slice_in
   slice_read n e some small =
       ap (λ (o : Option (List ℕ)). o >>= slice_in) e
       ∙ (ap (λ (o : Option ℕ). o >>= (λ bytes. if bytes == 0 then None else Some bytes)) (number_again (2 ^ 32) n small small)
       ∙ ap (λ (b : Bool). if b then None else Some n) (nonzero n some))
 
-  pub switch_read : (b : Bool) → text_at id rows ≡ Some (on_where b) → switch_at id rows ≡ Some b
+  pub switch_read : (b : Bool) → first_of id rows ≡ Some (on_where b) → switch_at id rows ≡ Some b
   unfolding switch_at switch_in
   switch_read true e = ap (λ (o : Option (List ℕ)). o >>= switch_in) e
   switch_read false e = ap (λ (o : Option (List ℕ)). o >>= switch_in) e
 
-  pub balance_read : (b : BalanceWord) → text_at id rows ≡ Some (balance_name (balance_of_word b)) → balance_at id rows ≡ Some b
+  pub balance_read : (b : BalanceWord) → first_of id rows ≡ Some (balance_name (balance_of_word b)) → balance_at id rows ≡ Some b
   unfolding balance_at balance_in
   balance_read Load e = ap (λ (o : Option (List ℕ)). o >>= balance_in) e
   balance_read Prefer e = ap (λ (o : Option (List ℕ)). o >>= balance_in) e
   balance_read RoundRobin e = ap (λ (o : Option (List ℕ)). o >>= balance_in) e
   balance_read Split e = ap (λ (o : Option (List ℕ)). o >>= balance_in) e
 
-  pub label_read : (t : List ℕ) → text_at id rows ≡ Some t → is_label t ≡ true → label_at id rows ≡ Some t
+  pub label_read : (t : List ℕ) → first_of id rows ≡ Some t → is_label t ≡ true → label_at id rows ≡ Some t
   unfolding label_at label_in
   label_read t e is =
       ap (λ (o : Option (List ℕ)). o >>= label_in) e ∙ ap (λ (b : Bool). if b then Some t else None) is
+
+pub component_read : (rows : List Row) (n p : List ℕ) → first_of (codes "name") rows ≡ Some n → first_of (codes "prov") rows ≡ Some p
+    → is_label n ≡ true → is_label p ≡ true → component_at rows ≡ Some (record { name = n; provider = p })
+unfolding component_at
+component_read rows n p name_is provider_is fits too =
+    rw (label_read (codes "name") rows n name_is fits, label_read (codes "prov") rows p provider_is too) refl
 
 not_again : (b : Bool) → not (not b) ≡ b
 not_again true = refl

@@ -3,9 +3,10 @@
 use Rattle.std.proofs.Common.{◌≡◌, ◌∙◌, ℕ, Bool, true, false, refl, sym, ap, ap₂, List, [], ◌∷◌, ◌++◌, map, Option, Some, None, is_some, append-nil, append_assoc}
 use Rattle.std.specs.Prelude.{⊤, if◌then◌else◌, fold}
 use Rattle.clap.specs.Kinds.{Kinds, or_else}
-use Rattle.clap.specs.Walk.{Held, Names, Rule, Step, Text, Waiting, idle, option, positional, Walk, value, after_step, finished, nothing_held, plain_word, rows_after, settled, walk, walk_from, walked, walked_from, word_met}
+use Rattle.clap.specs.Walk.{Held, Names, Row, Rule, Step, Text, Waiting, idle, option, positional, Walk, value, after_step, finished, nothing_held, plain_word, rows_after, settled, walk, walk_from, walked, walked_from, word_met}
 use Rattle.clap.specs.Faults.{check_fault, defaults_fault, entered_fault, fault_of, level_fault, settle_fault, step_fault, turn_fault, walk_fault, word_fault}
 use Rattle.clap.specs.Simple.{App, Shape, built, entered, names_of, subcommand_of}
+use Rattle.gm_state.specs.declared.command.Command.{Command}
 use Rattle.gm_front.specs.Spelling.{IsNoFlag, command_of, spelled, taken}
 use Rattle.gm_front.specs.Table.{table}
 
@@ -146,14 +147,15 @@ begun = walk_from nothing_held
 abbrev pub ended : Shape → List Said → Walk
 ended s said = fold (said_walked s.rules) begun said
 
--- the table has the command n, of this shape
-pub record Has (n : Text) (s : Shape) : Type 0 where
+-- the table has the command n, of this shape, and what is found for it is read so
+pub record Has (n : Text) (s : Shape) (read : List Row → Option Command) : Type 0 where
   pub meets : walked app.top.rules (names_of app) begun n ≡ met_with n []
   pub passes : turn_fault app.top (names_of app) begun n ≡ []
   pub rows : (behind : List Text) → entered app (Some (n, behind)) ≡ Some (n, rows_after s.rules [] behind)
   pub faults : (behind : List Text) → top_fault app (met_with n behind) [] ≡ or_else (level_fault s [] nothing_held behind false []) []
+  pub reads : (found : List Row) → command_of n found ≡ read found
 
-module _ (n : Text) (s : Shape) (has : Has n s) where
+module _ (n : Text) (s : Shape) (read : List Row → Option Command) (has : Has n s read) where
   met : (behind : List Text) → walk app.top.rules (names_of app) nothing_held (n ∷ behind) ≡ met_with n behind
   met behind =
       ap (λ (w : Walk). fold (walked app.top.rules (names_of app)) w behind) has.meets ∙ behind_walk app.top.rules (names_of app) n [] behind
@@ -165,7 +167,7 @@ module _ (n : Text) (s : Shape) (has : Has n s) where
 
   -- the command that words spell, where its own words pass
   pub spelled_as : (said : List Said) → ArePlain said → leaf_fault s (ended s said) (said_fault s begun said) ≡ []
-      → spelled (n ∷ map text_of said) ≡ command_of n (finished s.rules (ended s said).held)
+      → spelled (n ∷ map text_of said) ≡ read (finished s.rules (ended s said).held)
   unfolding spelled
   spelled_as said free passes =
       let behind = map text_of said in
@@ -176,4 +178,4 @@ module _ (n : Text) (s : Shape) (has : Has n s) where
       let rows : subcommand_of table (n ∷ behind) ≡ Some (n, finished s.rules (ended s said).held) =
       ap (λ (w : Walk). entered app w.stopped) (met behind) ∙ (has.rows behind
       ∙ ap (λ (w : Walk). Some (n, finished s.rules w.held)) (said_all s.rules begun said free)) in
-      ap₂ taken fault rows
+      ap₂ taken fault rows ∙ has.reads (finished s.rules (ended s said).held)

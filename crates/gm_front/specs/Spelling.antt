@@ -1,5 +1,5 @@
 -- Which command words spell.
-use Rattle.std.specs.Prelude.{◌≡◌, ◌==◌, ◌&&◌, ◌^◌, ⊤, ℕ, Bool, not, true, false, List, [], ◌∷◌, ◌++◌, Option, Some, None, codes, length, nat_lt, if◌then◌else◌, option_and_then}
+use Rattle.std.specs.Prelude.{◌≡◌, ◌==◌, ◌&&◌, ◌^◌, ⊤, ℕ, Bool, not, true, false, List, [], ◌∷◌, ◌++◌, Option, Some, None, codes, length, nat_lt, if◌then◌else◌, option_and_then, option_map}
 use Rattle.std.specs.Fmt.{decimal}
 use Rattle.std.specs.Str.{bytes_eq}
 use Rattle.std.specs.Str.Parse.{digits_value, without_leading_plus}
@@ -14,9 +14,10 @@ use Rattle.gm_metadata.specs.declared.flags.MirrorFlags.{MirrorFlags}
 use Rattle.gm_state.specs.declared.command.BalanceWord.{BalanceWord}
 use Rattle.gm_state.specs.declared.command.BalanceWord.TheVariants.{Load, Prefer, RoundRobin, Split}
 use Rattle.gm_state.specs.declared.command.Command.{Command}
-use Rattle.gm_state.specs.declared.command.Command.TheVariants.{Label, Insert, Remove, Clear, Destroy}
+use Rattle.gm_state.specs.declared.command.Command.TheVariants.{Label, Insert, Remove, Deactivate, Activate, Forget, Rebuild, Clear, Destroy}
 use Rattle.gm_state.specs.Commands.{balance_of_word, number_words, on_where, switch_words}
 use Rattle.gm_front.specs.Table.{table}
+use Rattle.gm_front.specs.declared.words.ComponentNames.{ComponentNames}
 
 infixl 10 ◌>>=◌
 abbrev pub ◌>>=◌ : {A B : Type 0} → Option A → (A → Option B) → Option B
@@ -51,27 +52,23 @@ label_in text = if is_label text then Some text else None
 
 -- ---- the commands, by what clap found for each option and name
 
--- the text of an option or a name
-unfoldable pub text_at : Text → List Row → Option Text
-text_at id rows = first_of id rows
-
 unfoldable pub number_at : Text → List Row → Option ℕ
-number_at id rows = text_at id rows >>= number_below (2 ^ 32)
+number_at id rows = first_of id rows >>= number_below (2 ^ 32)
 
 unfoldable pub priority_at : Text → List Row → Option ℕ
-priority_at id rows = text_at id rows >>= number_below (2 ^ 8)
+priority_at id rows = first_of id rows >>= number_below (2 ^ 8)
 
 unfoldable pub slice_at : Text → List Row → Option ℕ
-slice_at id rows = text_at id rows >>= slice_in
+slice_at id rows = first_of id rows >>= slice_in
 
 unfoldable pub switch_at : Text → List Row → Option Bool
-switch_at id rows = text_at id rows >>= switch_in
+switch_at id rows = first_of id rows >>= switch_in
 
 unfoldable pub balance_at : Text → List Row → Option BalanceWord
-balance_at id rows = text_at id rows >>= balance_in
+balance_at id rows = first_of id rows >>= balance_in
 
 unfoldable pub label_at : Text → List Row → Option Text
-label_at id rows = text_at id rows >>= label_in
+label_at id rows = first_of id rows >>= label_in
 
 unfoldable pub flags_at : List Row → Option MirrorFlags
 flags_at rows = do
@@ -79,51 +76,56 @@ flags_at rows = do
   failsync ← switch_at (codes "failsync") rows
   Some (record { no_autosync = not autosync; no_failsync = not failsync })
 
-unfoldable pub label_of : List Row → Option Command
-label_of rows = do
+-- the names that tell a component
+unfoldable pub component_at : List Row → Option ComponentNames
+component_at rows = do
   name ← label_at (codes "name") rows
   provider ← label_at (codes "prov") rows
+  Some (record { name = name; provider = provider })
+
+unfoldable pub label_of : List Row → Option Command
+label_of rows = do
+  names ← component_at rows
   mid ← number_at (codes "mid") rows
   did ← number_at (codes "did") rows
   balance ← balance_at (codes "balance") rows
   slice ← slice_at (codes "slice") rows
   flags ← flags_at rows
   hardcoded ← switch_at (codes "hardcode") rows
-  Some (Label name provider mid did balance slice flags hardcoded)
+  Some (Label names.name names.provider mid did balance slice flags hardcoded)
 
 unfoldable pub insert_of : List Row → Option Command
 insert_of rows = do
-  name ← label_at (codes "name") rows
-  provider ← label_at (codes "prov") rows
+  names ← component_at rows
   did ← number_at (codes "did") rows
   priority ← priority_at (codes "priority") rows
   hardcoded ← switch_at (codes "hardcode") rows
-  Some (Insert name provider did priority hardcoded)
+  Some (Insert names.name names.provider did priority hardcoded)
 
-unfoldable pub remove_of : List Row → Option Command
-remove_of rows = do
-  name ← label_at (codes "name") rows
-  provider ← label_at (codes "prov") rows
-  Some (Remove name provider)
+-- a command on a component
+abbrev pub of_component : (Text → Text → Command) → List Row → Option Command
+of_component command rows = option_map (λ names. command names.name names.provider) (component_at rows)
 
-unfoldable pub clear_of : List Row → Option Command
-clear_of rows = do
-  provider ← label_at (codes "prov") rows
-  Some (Clear provider)
+-- a command on a mirror
+abbrev pub of_mirror : (Text → Command) → List Row → Option Command
+of_mirror command rows = option_map command (label_at (codes "name") rows)
 
-unfoldable pub destroy_of : List Row → Option Command
-destroy_of rows = do
-  name ← label_at (codes "name") rows
-  Some (Destroy name)
+-- a command on a provider
+abbrev pub of_provider : (Text → Command) → List Row → Option Command
+of_provider command rows = option_map command (label_at (codes "prov") rows)
 
--- the command of this name, of which these rows were found
+-- the command of this word, of which these rows were found
 unfoldable pub command_of : Text → List Row → Option Command
-command_of name rows =
-    if bytes_eq name (codes "label") then label_of rows
-    else if bytes_eq name (codes "insert") then insert_of rows
-    else if bytes_eq name (codes "remove") then remove_of rows
-    else if bytes_eq name (codes "clear") then clear_of rows
-    else if bytes_eq name (codes "destroy") then destroy_of rows
+command_of word rows =
+    if bytes_eq word (codes "label") then label_of rows
+    else if bytes_eq word (codes "insert") then insert_of rows
+    else if bytes_eq word (codes "remove") then of_component Remove rows
+    else if bytes_eq word (codes "deactivate") then of_component Deactivate rows
+    else if bytes_eq word (codes "activate") then of_component Activate rows
+    else if bytes_eq word (codes "forget") then of_mirror Forget rows
+    else if bytes_eq word (codes "rebuild") then of_component Rebuild rows
+    else if bytes_eq word (codes "clear") then of_provider Clear rows
+    else if bytes_eq word (codes "destroy") then of_mirror Destroy rows
     else None
 
 -- ---- the words
@@ -148,6 +150,10 @@ abbrev pub HasNoFlags : Command → Type 0
 HasNoFlags (Label name provider mid did balance slice flags hardcoded) = IsNoFlag name × IsNoFlag provider
 HasNoFlags (Insert name provider did priority hardcoded) = IsNoFlag name × IsNoFlag provider
 HasNoFlags (Remove name provider) = IsNoFlag name × IsNoFlag provider
+HasNoFlags (Deactivate name provider) = IsNoFlag name × IsNoFlag provider
+HasNoFlags (Activate name provider) = IsNoFlag name × IsNoFlag provider
+HasNoFlags (Forget name) = IsNoFlag name
+HasNoFlags (Rebuild name provider) = IsNoFlag name × IsNoFlag provider
 HasNoFlags (Clear provider) = IsNoFlag provider
 HasNoFlags (Destroy name) = IsNoFlag name
 
@@ -161,5 +167,9 @@ guarded_words (Insert name provider did priority hardcoded) =
     codes "insert" ∷ codes "--did" ∷ decimal did ∷ codes "--priority" ∷ decimal priority
     ∷ codes "--hardcode" ∷ on_where hardcoded ∷ codes "--" ∷ name ∷ provider ∷ []
 guarded_words (Remove name provider) = codes "remove" ∷ codes "--" ∷ name ∷ provider ∷ []
+guarded_words (Deactivate name provider) = codes "deactivate" ∷ codes "--" ∷ name ∷ provider ∷ []
+guarded_words (Activate name provider) = codes "activate" ∷ codes "--" ∷ name ∷ provider ∷ []
+guarded_words (Forget name) = codes "forget" ∷ codes "--" ∷ name ∷ []
+guarded_words (Rebuild name provider) = codes "rebuild" ∷ codes "--" ∷ name ∷ provider ∷ []
 guarded_words (Clear provider) = codes "clear" ∷ codes "--" ∷ provider ∷ []
 guarded_words (Destroy name) = codes "destroy" ∷ codes "--" ∷ name ∷ []

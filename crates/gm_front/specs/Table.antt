@@ -1,5 +1,5 @@
 -- The table of the commands' words, as clap has it: the options and the names of each, all of them texts.
-use Rattle.std.specs.Prelude.{[], ◌∷◌, Some, codes, true}
+use Rattle.std.specs.Prelude.{[], ◌∷◌, List, Some, codes, fold, true}
 use Rattle.clap.specs.Walk.{Rule, Text}
 use Rattle.clap.specs.Simple.{App, new_app, new_rule, on_top, with_rule, with_subcommand}
 use Rattle.clap.specs.declared.builder.ArgAction.TheVariants.{Set}
@@ -16,39 +16,50 @@ wanted id = record (new_rule id) { long = Some id; required = true; action = Som
 unfoldable pub optional : Text → Text → Rule
 optional id other = record (new_rule id) { long = Some id; action = Some Set; defaults = other ∷ [] }
 
+-- the command with the name of a mirror
+abbrev pub with_mirror : App → App
+with_mirror command = with_rule command (name (codes "name"))
+
+-- the command with a provider
+abbrev pub with_provider : App → App
+with_provider command = with_rule command (name (codes "prov"))
+
+-- a command of this word that takes the name of a mirror alone
+abbrev pub on_mirror : Text → App
+on_mirror command = with_mirror (new_app command)
+
+-- a command of this word that takes a provider alone
+abbrev pub on_provider : Text → App
+on_provider command = with_provider (new_app command)
+
+-- a command of this word that takes a component: the name of its mirror and its provider
+abbrev pub on_component : Text → App
+on_component command = with_provider (on_mirror command)
+
 abbrev pub label : App
-label = with_rule (with_rule (with_rule (with_rule (with_rule (with_rule (with_rule (with_rule (with_rule (new_app (codes "label"))
+label = with_provider (with_mirror (with_rule (with_rule (with_rule (with_rule (with_rule (with_rule (with_rule (new_app (codes "label"))
     (wanted (codes "mid")))
     (wanted (codes "did")))
     (optional (codes "balance") (codes "load")))
     (optional (codes "slice") (codes "4096")))
     (optional (codes "autosync") (codes "on")))
     (optional (codes "failsync") (codes "on")))
-    (optional (codes "hardcode") (codes "off")))
-    (name (codes "name")))
-    (name (codes "prov"))
+    (optional (codes "hardcode") (codes "off"))))
 
 abbrev pub insert : App
-insert = with_rule (with_rule (with_rule (with_rule (with_rule (new_app (codes "insert"))
+insert = with_provider (with_mirror (with_rule (with_rule (with_rule (new_app (codes "insert"))
     (wanted (codes "did")))
     (optional (codes "priority") (codes "0")))
-    (optional (codes "hardcode") (codes "off")))
-    (name (codes "name")))
-    (name (codes "prov"))
-
-abbrev pub remove : App
-remove = with_rule (with_rule (new_app (codes "remove")) (name (codes "name"))) (name (codes "prov"))
-
-abbrev pub clear : App
-clear = with_rule (new_app (codes "clear")) (name (codes "prov"))
-
-abbrev pub destroy : App
-destroy = with_rule (new_app (codes "destroy")) (name (codes "name"))
+    (optional (codes "hardcode") (codes "off"))))
 
 -- one of these, and no words that ask for help
 abbrev pub commands : App
 commands = on_top (λ s. record s { no_binary_name = true; disable_help_flag = true; disable_help_subcommand = true; subcommand_required = true }) (new_app (codes "gmbench"))
 
+-- the commands, in their order
+abbrev pub subcommands : List App
+subcommands = label ∷ insert ∷ on_component (codes "remove") ∷ on_component (codes "deactivate") ∷ on_component (codes "activate")
+    ∷ on_mirror (codes "forget") ∷ on_component (codes "rebuild") ∷ on_provider (codes "clear") ∷ on_mirror (codes "destroy") ∷ []
+
 abbrev pub table : App
-table = with_subcommand (with_subcommand (with_subcommand (with_subcommand (with_subcommand commands
-    label.top) insert.top) remove.top) clear.top) destroy.top
+table = fold (λ above more. with_subcommand above more.top) commands subcommands

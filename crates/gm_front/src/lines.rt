@@ -1,7 +1,6 @@
 //! What the lines of texts are made of.
 
 ghost use Rattle.std.specs.Prelude.{◌≡◌, ◌++◌, IfOk, OnOk};
-ghost use Rattle.std.specs.Fmt.{decimal};
 ghost use Rattle.std.specs.String.{string_bytes};
 ghost use Rattle.gm_front.specs.Lines.{disk_flag_names, field, joined, left_in_15, mirror_flag_names, name_where, number, texts};
 

@@ -1,6 +1,6 @@
 //! The text of a list: all that is known of the mirrors and their components.
 
-ghost use Rattle.std.specs.Prelude.{◌≡◌, ◌++◌, IfOk, OnOk};
+ghost use Rattle.std.specs.Prelude.{◌≡◌, IfOk};
 ghost use Rattle.std.specs.String.{string_bytes};
 ghost use Rattle.gm_front.specs.Listing.{block, component_lines, list_text, mirror_lines, setting_lines, standing_lines, yes_where};
 

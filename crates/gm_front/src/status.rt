@@ -1,8 +1,7 @@
 //! The text of a status: how the mirrors stand, a line each, and below it a line for each component.
 
-ghost use Rattle.std.specs.Prelude.{◌≡◌, ◌++◌, ◌==◌, IfOk, OnOk, flat_map, if◌then◌else◌};
+ghost use Rattle.std.specs.Prelude.{◌≡◌, ◌++◌, ◌==◌, IfOk, OnOk, if◌then◌else◌};
 ghost use Rattle.std.specs.String.{string_bytes};
-ghost use Rattle.gm_state.specs.Disks.{held_of};
 ghost use Rattle.gm_state.specs.States.{active_count, mirror_state_name, state_by};
 ghost use Rattle.gm_state.specs.declared.states.MirrorState.TheVariants.{Complete, Degraded};
 ghost use Rattle.gm_front.specs.Status.{block, component_line, mirror_line, progress, status_text};

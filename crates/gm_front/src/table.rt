@@ -3,7 +3,7 @@
 ghost use Rattle.std.specs.Prelude.{◌≡◌, IfOk, false};
 ghost use Rattle.clap.specs.Words.{app_of, rule_of, with_rule, with_subcommand};
 ghost use Rattle.clap.specs.declared.Command.TheViews.{out-Command};
-ghost use Rattle.gm_front.specs.Table.{clear, commands, destroy, insert, label, name, optional, remove, table, wanted};
+ghost use Rattle.gm_front.specs.Table.{commands, insert, label, name, on_component, on_mirror, on_provider, optional, table, wanted, with_mirror, with_provider};
 
 use clap::{Arg, ArgAction, Command};
 use std::alloc::{AllocError, Global};
@@ -52,6 +52,48 @@ fn with<'a>(command: Command<'a>, arg: Arg<'a>) -> Result<Command<'a>, AllocErro
     command.arg(arg)
 }
 
+// The command with the name of a mirror.
+fn with_mirror<'a>(alloc: Global, command: Command<'a>) -> Result<Command<'a>, AllocError>
+    ensures app { IfOk result (λ c. app_of c ≡ with_mirror (app_of command.entry)) }
+    ensures local { IfOk result (λ c.
+        (out-Command c).has_globals ≡ (out-Command command.entry).has_globals) }
+{
+    with(command, name(alloc, "name"))
+}
+
+// The command with a provider.
+fn with_provider<'a>(alloc: Global, command: Command<'a>) -> Result<Command<'a>, AllocError>
+    ensures app { IfOk result (λ c. app_of c ≡ with_provider (app_of command.entry)) }
+    ensures local { IfOk result (λ c.
+        (out-Command c).has_globals ≡ (out-Command command.entry).has_globals) }
+{
+    with(command, name(alloc, "prov"))
+}
+
+// A command of this word that takes the name of a mirror alone.
+fn on_mirror<'a>(alloc: Global, word: &'a str) -> Result<Command<'a>, AllocError>
+    ensures app { IfOk result (λ c. app_of c ≡ on_mirror word.entry.now) }
+    ensures local { IfOk result (λ c. (out-Command c).has_globals ≡ false) }
+{
+    with_mirror(alloc, Command::new(alloc, word))
+}
+
+// A command of this word that takes a provider alone.
+fn on_provider<'a>(alloc: Global, word: &'a str) -> Result<Command<'a>, AllocError>
+    ensures app { IfOk result (λ c. app_of c ≡ on_provider word.entry.now) }
+    ensures local { IfOk result (λ c. (out-Command c).has_globals ≡ false) }
+{
+    with_provider(alloc, Command::new(alloc, word))
+}
+
+// A command of this word that takes a component: the name of its mirror and its provider.
+fn on_component<'a>(alloc: Global, word: &'a str) -> Result<Command<'a>, AllocError>
+    ensures app { IfOk result (λ c. app_of c ≡ on_component word.entry.now) }
+    ensures local { IfOk result (λ c. (out-Command c).has_globals ≡ false) }
+{
+    with_provider(alloc, on_mirror(alloc, word)?)
+}
+
 fn label<'a>(alloc: Global) -> Result<Command<'a>, AllocError>
     ensures app { IfOk result (λ c. app_of c ≡ label) }
     ensures local { IfOk result (λ c. (out-Command c).has_globals ≡ false) }
@@ -64,8 +106,7 @@ fn label<'a>(alloc: Global) -> Result<Command<'a>, AllocError>
     let command = with(command, optional(alloc, "autosync", "on"))?;
     let command = with(command, optional(alloc, "failsync", "on"))?;
     let command = with(command, optional(alloc, "hardcode", "off"))?;
-    let command = with(command, name(alloc, "name"))?;
-    with(command, name(alloc, "prov"))
+    with_provider(alloc, with_mirror(alloc, command)?)
 }
 
 fn insert<'a>(alloc: Global) -> Result<Command<'a>, AllocError>
@@ -76,30 +117,7 @@ fn insert<'a>(alloc: Global) -> Result<Command<'a>, AllocError>
     let command = with(command, wanted(alloc, "did"))?;
     let command = with(command, optional(alloc, "priority", "0"))?;
     let command = with(command, optional(alloc, "hardcode", "off"))?;
-    let command = with(command, name(alloc, "name"))?;
-    with(command, name(alloc, "prov"))
-}
-
-fn remove<'a>(alloc: Global) -> Result<Command<'a>, AllocError>
-    ensures app { IfOk result (λ c. app_of c ≡ remove) }
-    ensures local { IfOk result (λ c. (out-Command c).has_globals ≡ false) }
-{
-    let command = with(Command::new(alloc, "remove"), name(alloc, "name"))?;
-    with(command, name(alloc, "prov"))
-}
-
-fn clear<'a>(alloc: Global) -> Result<Command<'a>, AllocError>
-    ensures app { IfOk result (λ c. app_of c ≡ clear) }
-    ensures local { IfOk result (λ c. (out-Command c).has_globals ≡ false) }
-{
-    with(Command::new(alloc, "clear"), name(alloc, "prov"))
-}
-
-fn destroy<'a>(alloc: Global) -> Result<Command<'a>, AllocError>
-    ensures app { IfOk result (λ c. app_of c ≡ destroy) }
-    ensures local { IfOk result (λ c. (out-Command c).has_globals ≡ false) }
-{
-    with(Command::new(alloc, "destroy"), name(alloc, "name"))
+    with_provider(alloc, with_mirror(alloc, command)?)
 }
 
 fn commands<'a>(alloc: Global) -> Command<'a>
@@ -130,7 +148,11 @@ pub(crate) fn table<'a>(alloc: Global) -> Result<Command<'a>, AllocError>
 {
     let command = with_command(commands(alloc), label(alloc)?)?;
     let command = with_command(command, insert(alloc)?)?;
-    let command = with_command(command, remove(alloc)?)?;
-    let command = with_command(command, clear(alloc)?)?;
-    with_command(command, destroy(alloc)?)
+    let command = with_command(command, on_component(alloc, "remove")?)?;
+    let command = with_command(command, on_component(alloc, "deactivate")?)?;
+    let command = with_command(command, on_component(alloc, "activate")?)?;
+    let command = with_command(command, on_mirror(alloc, "forget")?)?;
+    let command = with_command(command, on_component(alloc, "rebuild")?)?;
+    let command = with_command(command, on_provider(alloc, "clear")?)?;
+    with_command(command, on_mirror(alloc, "destroy")?)
 }

@@ -2,8 +2,8 @@
 
 ghost use Rattle.std.specs.Prelude.{◌≡◌, ◌≢◌, ◌^◌, [], Some, None, IfErr, IfOk, MatchOption, MatchResult, option_and_then};
 ghost use Rattle.clap.specs.Words.{fault_of, found_of, kind_of, rows_of, subcommand_of, subcommand_rows_of};
-ghost use Rattle.clap.specs.Walk.{texts};
-ghost use Rattle.gm_front.specs.Spelling.{balance_at, balance_in, clear_of, command_of, destroy_of, flags_at, insert_of, label_at, label_of, number_at, number_below, priority_at, remove_of, slice_at, spelled, switch_at, switch_in, text_at};
+ghost use Rattle.clap.specs.Walk.{first_of, texts};
+ghost use Rattle.gm_front.specs.Spelling.{balance_at, balance_in, command_of, component_at, flags_at, insert_of, label_at, label_of, number_at, number_below, priority_at, slice_at, spelled, switch_at, switch_in};
 ghost use Rattle.gm_front.specs.Table.{table};
 
 use crate::table::table;
@@ -55,8 +55,8 @@ fn priority(text: &str) -> Option<u8>
 
 // What clap found for an option or a name.
 fn text_at<'a>(matches: &ArgMatches<'a>, id: &str) -> Option<&'a str>
-    ensures { MatchOption result (text_at id.now (rows_of (found_of matches.now)) ≡ None)
-        (λ text. text_at id.now (rows_of (found_of matches.now)) ≡ Some text.now) }
+    ensures { MatchOption result (first_of id.now (rows_of (found_of matches.now)) ≡ None)
+        (λ text. first_of id.now (rows_of (found_of matches.now)) ≡ Some text.now) }
 {
     matches.get_str(id)
 }
@@ -115,12 +115,27 @@ fn flags_of(matches: &ArgMatches<'_>) -> Option<MirrorFlags>
     })
 }
 
+// The names that tell a component.
+#[derive(Clone, Copy, Debug)]
+struct ComponentNames {
+    name: Label,
+    provider: Label,
+}
+
+#[tactic(auto, unfolding(crate::specs::Spelling::component_at))]
+fn component_at(matches: &ArgMatches<'_>) -> Option<ComponentNames>
+    ensures { result ≡ component_at (rows_of (found_of matches.now)) }
+{
+    let name = label_at(matches, "name")?;
+    let provider = label_at(matches, "prov")?;
+    Some(ComponentNames { name, provider })
+}
+
 #[tactic(auto, unfolding(crate::specs::Spelling::label_of))]
 fn label_of(matches: &ArgMatches<'_>) -> Option<Command>
     ensures { result ≡ label_of (rows_of (found_of matches.now)) }
 {
-    let name = label_at(matches, "name")?;
-    let provider = label_at(matches, "prov")?;
+    let ComponentNames { name, provider } = component_at(matches)?;
     let mid = number_at(matches, "mid")?;
     let did = number_at(matches, "did")?;
     let balance = balance_at(matches, "balance")?;
@@ -143,8 +158,7 @@ fn label_of(matches: &ArgMatches<'_>) -> Option<Command>
 fn insert_of(matches: &ArgMatches<'_>) -> Option<Command>
     ensures { result ≡ insert_of (rows_of (found_of matches.now)) }
 {
-    let name = label_at(matches, "name")?;
-    let provider = label_at(matches, "prov")?;
+    let ComponentNames { name, provider } = component_at(matches)?;
     let did = number_at(matches, "did")?;
     let priority = priority_at(matches, "priority")?;
     let hardcoded = switch_at(matches, "hardcode")?;
@@ -157,42 +171,36 @@ fn insert_of(matches: &ArgMatches<'_>) -> Option<Command>
     })
 }
 
-#[tactic(auto, unfolding(crate::specs::Spelling::remove_of))]
-fn remove_of(matches: &ArgMatches<'_>) -> Option<Command>
-    ensures { result ≡ remove_of (rows_of (found_of matches.now)) }
-{
-    let name = label_at(matches, "name")?;
-    let provider = label_at(matches, "prov")?;
-    Some(Command::Remove { name, provider })
-}
-
-#[tactic(auto, unfolding(crate::specs::Spelling::clear_of))]
-fn clear_of(matches: &ArgMatches<'_>) -> Option<Command>
-    ensures { result ≡ clear_of (rows_of (found_of matches.now)) }
-{
-    let provider = label_at(matches, "prov")?;
-    Some(Command::Clear { provider })
-}
-
-#[tactic(auto, unfolding(crate::specs::Spelling::destroy_of))]
-fn destroy_of(matches: &ArgMatches<'_>) -> Option<Command>
-    ensures { result ≡ destroy_of (rows_of (found_of matches.now)) }
-{
-    let name = label_at(matches, "name")?;
-    Some(Command::Destroy { name })
-}
-
-// The command of this name, of which clap found these.
+// The command of this word, of which clap found these.
 #[tactic(auto, unfolding(crate::specs::Spelling::command_of))]
-fn command_of(name: &str, matches: &ArgMatches<'_>) -> Option<Command>
-    ensures { result ≡ command_of name.now (rows_of (found_of matches.now)) }
+fn command_of(word: &str, matches: &ArgMatches<'_>) -> Option<Command>
+    ensures { result ≡ command_of word.now (rows_of (found_of matches.now)) }
 {
-    match name {
+    let component = component_at(matches);
+    let name = label_at(matches, "name");
+    let provider = label_at(matches, "prov");
+    match word {
         "label" => label_of(matches),
         "insert" => insert_of(matches),
-        "remove" => remove_of(matches),
-        "clear" => clear_of(matches),
-        "destroy" => destroy_of(matches),
+        "remove" => component.map(|c| Command::Remove {
+            name: c.name,
+            provider: c.provider,
+        }),
+        "deactivate" => component.map(|c| Command::Deactivate {
+            name: c.name,
+            provider: c.provider,
+        }),
+        "activate" => component.map(|c| Command::Activate {
+            name: c.name,
+            provider: c.provider,
+        }),
+        "forget" => name.map(|name| Command::Forget { name }),
+        "rebuild" => component.map(|c| Command::Rebuild {
+            name: c.name,
+            provider: c.provider,
+        }),
+        "clear" => provider.map(|provider| Command::Clear { provider }),
+        "destroy" => name.map(|name| Command::Destroy { name }),
         _ => None,
     }
 }

@@ -9,6 +9,7 @@ mod readers;
 mod refusals;
 mod rows;
 mod spellings;
+mod states;
 mod stores;
 mod writers;
 

@@ -1,11 +1,11 @@
 -- The changes of the commands are what the commands make of the records.
-use Rattle.std.proofs.Common.{◌≡◌, ◌∙◌, inl, inr, ℕ, ◌+◌, ◌-◌, Bool, true, not, ◌||◌, refl, sym, ap, List, [], ◌∷◌, filter, map, Some, None}
+use Rattle.std.proofs.Common.{◌≡◌, ◌∙◌, inl, inr, ℕ, ◌+◌, ◌-◌, Bool, true, not, ◌||◌, refl, sym, ap, List, [], ◌∷◌, filter, map, length, Some, None}
 use Rattle.std.specs.List.{list_any}
 use Rattle.std.proofs.lemmas.Bool.{cases_Bool}
 use Rattle.gm_metadata.specs.Images.{same_label}
 use Rattle.gm_metadata.specs.declared.flags.MirrorFlags.{MirrorFlags}
 use Rattle.gm_state.specs.declared.command.BalanceWord.{BalanceWord}
-use Rattle.gm_state.specs.declared.command.Command.TheVariants.{Label, Insert, Remove, Destroy}
+use Rattle.gm_state.specs.declared.command.Command.TheVariants.{Label, Insert, Remove, Deactivate, Activate, Forget, Rebuild, Destroy}
 use Rattle.gm_state.specs.declared.command.Command.TheVariants as commands
 use Rattle.gm_state.specs.declared.command.Intent.TheVariants.{Meta, Clear}
 use Rattle.gm_state.specs.declared.command.Reply.TheVariants.{Plain}
@@ -17,10 +17,11 @@ use Rattle.gm_state.specs.Lookups.{mirror_of, component_of}
 use Rattle.gm_state.proofs.Order.{same_from, same_is}
 use Rattle.gm_state.proofs.Words.{Has-filter, filter-Has, filter-put, filter_swap, filter_id, one}
 use Rattle.gm_rules.specs.Bad.{Seen}
-use Rattle.gm_rules.specs.After.{metas, clears_of, new_mirror, first_component, spare}
+use Rattle.gm_rules.specs.After.{metas, clears_of, new_mirror, first_component, spare, deactivated, activated, rebuilt}
 use Rattle.gm_rules.specs.Decides.{Changed, Makes, IsGood}
 use Rattle.gm_state.proofs.Finding.{filter_agree, any-map, any_from, some_any, not_both}
-use Rattle.gm_rules.proofs.Good.{named, new_name}
+use Rattle.gm_rules.proofs.Good.{named, new_name, provider_at}
+use Rattle.gm_rules.proofs.Kept.{keeps_deactivated, members_put}
 
 pub label_makes : (s : Records) (x : Seen) (n p : List ℕ) (mid did : ℕ) (balance : BalanceWord) (slice : ℕ) (flags : MirrorFlags) (hardcoded : Bool) (sectors : ℕ) (ch : Changed)
     → IsGood s x (Label n p mid did balance slice flags hardcoded) → x.size p ≡ Some sectors
@@ -47,6 +48,35 @@ pub remove_makes : (s : Records) (x : Seen) (n p : List ℕ) (m : Mirror) (ks : 
 remove_makes s x n p m ks ch good found mine is =
     let swapped : members (without provider p s.components) n ≡ without provider p (members s.components n) = filter_swap (λ (c : Component). same_label c.mirror n) (λ (c : Component). not (same_label c.provider p)) s.components in
     record { good = good; records = rw (is, found) refl; intents = rw (is, found, swapped, mine) refl; reply = rw is refl }
+
+pub deactivate_makes : (s : Records) (x : Seen) (n p : List ℕ) (m : Mirror) (ks : List Component) (ch : Changed)
+    → IsGood s x (Deactivate n p) → IsState s → mirror_of s n ≡ Some m → members s.components n ≡ ks
+    → ch ≡ record { mirror = Some (record m { syncid = m.syncid + 1 }); gone_mirror = None; components = map (deactivated (m.syncid + 1) p) ks; gone_components = []; intents = metas (map (deactivated (m.syncid + 1) p) ks); reply = Plain }
+    → Makes s x (Deactivate n p) ch
+deactivate_makes s x n p m ks ch good state found mine is =
+    let placed = members_put n (deactivated (m.syncid + 1) p) (keeps_deactivated (m.syncid + 1) p) s.components state.components_in_order in
+    record { good = good; records = rw (is, found, mine) refl; intents = rw (is, found, placed, mine) refl; reply = rw is refl }
+
+pub activate_makes : (s : Records) (x : Seen) (n p : List ℕ) (m : Mirror) (k : Component) (ch : Changed)
+    → IsGood s x (Activate n p) → mirror_of s n ≡ Some m → component_of s p ≡ Some k
+    → ch ≡ record { mirror = None; gone_mirror = None; components = activated m k ∷ []; gone_components = []; intents = Meta k.provider ∷ []; reply = Plain }
+    → Makes s x (Activate n p) ch
+activate_makes s x n p m k ch good found at is =
+    record { good = good; records = rw (is, found, at) refl; intents = rw (is, provider_at s p k at) refl; reply = rw is refl }
+
+pub forget_makes : (s : Records) (x : Seen) (n : List ℕ) (m : Mirror) (ks : List Component) (ch : Changed)
+    → IsGood s x (Forget n) → mirror_of s n ≡ Some m → members s.components n ≡ ks
+    → ch ≡ record { mirror = Some (record m { all = length ks }); gone_mirror = None; components = []; gone_components = []; intents = metas ks; reply = Plain }
+    → Makes s x (Forget n) ch
+forget_makes s x n m ks ch good found mine is =
+    record { good = good; records = rw (is, found, mine) refl; intents = rw (is, found, mine) refl; reply = rw is refl }
+
+pub rebuild_makes : (s : Records) (x : Seen) (n p : List ℕ) (k : Component) (ch : Changed)
+    → IsGood s x (Rebuild n p) → component_of s p ≡ Some k
+    → ch ≡ record { mirror = None; gone_mirror = None; components = rebuilt k ∷ []; gone_components = []; intents = Meta k.provider ∷ []; reply = Plain }
+    → Makes s x (Rebuild n p) ch
+rebuild_makes s x n p k ch good at is =
+    record { good = good; records = rw (is, at) refl; intents = rw (is, provider_at s p k at) refl; reply = rw is refl }
 
 pub clear_makes : (s : Records) (x : Seen) (p : List ℕ) (ch : Changed)
     → IsGood s x (commands.Clear p)

@@ -2,7 +2,7 @@
 use Rattle.std.proofs.Common.{◌≡◌, ◌≢◌, ◌∙◌, inl, inr, ℕ, ◌≤◌, Bool, false, not, refl, sym, ap, subst, arith, List, [], length, filter, Some, IsTrue, ◌<◌, ◌+◌, true}
 use Rattle.std.specs.Prelude.{IsSomeAnd}
 use Rattle.std.specs.List.{list_any}
-use Rattle.std.proofs.lemmas.Bool.{cases_Bool, or_parts, not-true}
+use Rattle.std.proofs.lemmas.Bool.{cases_Bool, not-true}
 use Rattle.gm_metadata.specs.Images.{same_label}
 use Rattle.gm_metadata.specs.Labels.{is_label}
 use Rattle.gm_state.specs.declared.command.Command.TheVariants.{Destroy}
@@ -11,7 +11,6 @@ use Rattle.gm_state.specs.declared.records.Mirror.{Mirror}
 use Rattle.gm_state.specs.declared.records.Component.{Component}
 use Rattle.gm_state.specs.Words.{Has, without}
 use Rattle.gm_state.specs.Records.{Records, IsState, IsMirror, members, name, provider}
-use Rattle.gm_state.specs.Lookups.{mirror_of}
 use Rattle.gm_state.specs.World.{World, Sound, present}
 use Rattle.gm_state.proofs.Order.{same_is, same_from, same_refl, differ}
 use Rattle.gm_state.proofs.Words.{Has-filter, filter-Has, Ascends-filter, filter_swap, filter_id, length-filter_le, one}
@@ -21,10 +20,9 @@ use Rattle.gm_rules.specs.Decides.{IsGood}
 use Rattle.gm_rules.specs.Step.{CanAnswer, HasPlan}
 use Rattle.gm_rules.specs.Worlds.{seen_of}
 use Rattle.gm_state.proofs.Finding.{any_from, some_any, no_members, not_both}
-use Rattle.gm_rules.proofs.Good.{there_from, named}
 use Rattle.gm_state.proofs.Presence.{some_and}
 use Rattle.gm_rules.proofs.Planned.{Serves, has}
-use Rattle.gm_rules.proofs.RuledOut.{all_there, clears_has, clears_are, clears_plain}
+use Rattle.gm_rules.proofs.RuledOut.{by_name, each_there, clears_has, clears_are, clears_plain}
 use Rattle.gm_rules.proofs.Turning.{Turns, Writes, Were}
 
 module _ (u : World) (key : List ℕ) (m : Mirror) (sound : Sound u) (here : Has u.state.mirrors m) (there : (k : Component) → Has (members u.state.components m.name) k → present u k.provider ≡ Some k.sectors) where
@@ -133,13 +131,9 @@ module _ (u : World) (key : List ℕ) (m : Mirror) (sound : Sound u) (here : Has
   pub destroy_plan : IsGood u.state (seen_of u) (Destroy m.name) → CanAnswer u key (Destroy m.name) → HasPlan u key (Destroy m.name)
   destroy_plan good answer =
       has u key (Destroy m.name) m [] (u.holds m.name) s (clears_of old) sound turns writes were (clears_plain old) serves answer
-      refl refl good tt (λ j i. inl (Has-filter stays u.state.components j i).0)
+      refl refl good tt tt
 
 pub destroy_has : (u : World) (key n : List ℕ) → Sound u → CanAnswer u key (Destroy n) → IsGood u.state (seen_of u) (Destroy n) → HasPlan u key (Destroy n)
 destroy_has u key n sound answer good =
-    let found = there_from (mirror_of u.state n) (good refusals.NoMirror (inl refl)) in
-    let at = named u.state n found.0 found.1 in
-    let absent = or_parts false (list_any _ (members u.state.components n)) (good refusals.Absent (inr (inl refl))) in
-    let P : List ℕ → Type 0 = λ a. CanAnswer u key (Destroy a) → IsGood u.state (seen_of u) (Destroy a) → HasPlan u key (Destroy a) in
-    subst P at.1 (λ answer good. destroy_plan u key found.0 sound at.0
-    (λ k h. all_there (present u) (members u.state.components n) absent.1 k (subst (λ (a : List ℕ). Has (members u.state.components a) k) at.1 h)) good answer) answer good
+    by_name u.state n (λ a. CanAnswer u key (Destroy a) → IsGood u.state (seen_of u) (Destroy a) → HasPlan u key (Destroy a)) (good refusals.NoMirror (inl refl))
+    (λ m here found answer good. destroy_plan u key m sound here (each_there u [] (members u.state.components m.name) (good refusals.Absent (inr (inl refl)))) good answer) answer good

@@ -1,26 +1,28 @@
 -- What a change leaves of the command's part is the part of what it leaves of the whole.
-use Rattle.std.proofs.Common.{◌≡◌, ◌≢◌, ◌∙◌, inl, ℕ, ◌+◌, ◌-◌, ◌≤◌, ◌==◌, Bool, true, false, not, refl, sym, ap, ap₂, subst, List, Option, Some, None, filter, length, arith}
+use Rattle.std.proofs.Common.{◌≡◌, ◌≢◌, ◌∙◌, inl, ℕ, ◌+◌, ◌-◌, ◌≤◌, ◌==◌, Bool, true, false, not, refl, sym, ap, ap₂, subst, List, Option, Some, None, filter, map, length, arith}
 use Rattle.std.specs.Prelude.{unwrap_or}
 use Rattle.std.proofs.lemmas.Bool.{ne_eqb}
 use Rattle.gm_metadata.specs.Images.{Sizes, same_label}
 use Rattle.gm_state.specs.declared.command.Command.{Command}
-use Rattle.gm_state.specs.declared.command.Command.TheVariants.{Label, Insert, Remove, Destroy}
+use Rattle.gm_state.specs.declared.command.Command.TheVariants.{Label, Insert, Remove, Deactivate, Activate, Forget, Rebuild, Destroy}
 use Rattle.gm_state.specs.declared.command.Command.TheVariants as commands
 use Rattle.gm_state.specs.declared.records.Mirror.{Mirror}
 use Rattle.gm_state.specs.declared.records.Component.{Component}
 use Rattle.gm_state.specs.Intents.{IsOf}
-use Rattle.gm_state.specs.Lookups.{mirror_of}
-use Rattle.gm_state.specs.Words.{Has, put, without}
-use Rattle.gm_state.specs.Records.{Records, IsState, name, provider}
+use Rattle.gm_state.specs.Lookups.{mirror_of, component_of}
+use Rattle.gm_state.specs.Words.{Has, put, put_all, without}
+use Rattle.gm_state.specs.Records.{Records, IsState, members, name, provider}
 use Rattle.gm_state.proofs.Order.{same_is}
-use Rattle.gm_state.proofs.Words.{filter-put, filter_swap, length-filter_le}
-use Rattle.gm_rules.specs.declared.refusals.Refusal.TheVariants.{NoMirror, NameTaken, MidTaken, Absent, ProviderTaken, CarriesMetadata, TooSmall, NotMember, DidTaken, Full, TooManyMirrors, SomeLost, LastActive, WrongSize, NoMetadata}
-use Rattle.gm_rules.specs.After.{new_mirror, first_component, spare, on_mirror, after}
+use Rattle.gm_state.proofs.Words.{Ascends-filter, filter-put, filter_swap, length-filter_le}
+use Rattle.gm_state.proofs.Finding.{found}
+use Rattle.gm_rules.specs.declared.refusals.Refusal.TheVariants.{NoMirror, NameTaken, MidTaken, Absent, ProviderTaken, CarriesMetadata, TooSmall, NotMember, DidTaken, Full, TooManyMirrors, SomeLost, LastActive, AlreadyInactive, NotInactive, NoneLost, Inactive, LastSyncid, WrongSize, NoMetadata}
+use Rattle.gm_rules.specs.After.{new_mirror, first_component, spare, deactivated, activated, rebuilt, on_found, after}
 use Rattle.gm_rules.specs.Bad.{Seen, name_of, providers_of}
 use Rattle.gm_rules.specs.Decides.{Changed, Makes, IsGood, changed_by}
 use Rattle.gm_rules.specs.Parts.{IsPartOf, IsGoodButCount, IsMade, LeavesPart, is_asked, part_of}
-use Rattle.gm_rules.proofs.Agreeing.{find_within, by_names, by_names_state, by_names_of, chosen, chosen_name, chosen_owner, part_is, is_state, whole_is_part}
+use Rattle.gm_rules.proofs.Agreeing.{find_within, by_names, by_names_state, by_names_of, same_of, chosen, chosen_name, chosen_owner, part_is, is_state, whole_is_part}
 use Rattle.gm_rules.proofs.Good.{named, not_at}
+use Rattle.gm_rules.proofs.Kept.{Keeps, filter-map, keeps_deactivated, keeps_where, put_mapped, where_of}
 
 -- the test passes the mirror that the command names, and those whose components are on providers that it names
 record TakesIn (t : List ℕ → Bool) (c : Command) (s : Records) : Type 0 where
@@ -44,16 +46,39 @@ module _ (t : List ℕ → Bool) (s : Records) (state : IsState s) where
   same_found : (n : List ℕ) → t n ≡ true → mirror_of (by_names t s) n ≡ mirror_of s n
   same_found n e = find_within (λ (m : Mirror). same_label m.name n) (λ (m : Mirror). t m.name) s.mirrors (λ m h u. ap t (same_is m.name n u) ∙ e)
 
-  on_found : (o : Option Mirror) (f g : Mirror → Records) → ((m : Mirror) → o ≡ Some m → f m ≡ by_names t (g m)) → on_mirror o (by_names t s) f ≡ by_names t (on_mirror o s g)
-  on_found None f g h = refl
-  on_found (Some m) f g h = h m refl
+  of_found : {X : Type 0} (o : Option X) (f g : X → Records) → ((x : X) → o ≡ Some x → f x ≡ by_names t (g x)) → on_found o (by_names t s) f ≡ by_names t (on_found o s g)
+  of_found None f g h = refl
+  of_found (Some x) f g h = h x refl
 
-  on_named : (n : List ℕ) → t n ≡ true → (f g : Mirror → Records) → ((m : Mirror) → mirror_of s n ≡ Some m → f m ≡ by_names t (g m)) → on_mirror (mirror_of (by_names t s) n) (by_names t s) f ≡ by_names t (on_mirror (mirror_of s n) s g)
-  on_named n e f g h = ap (λ o. on_mirror o (by_names t s) f) (same_found n e) ∙ on_found (mirror_of s n) f g h
+  on_named : (n : List ℕ) → t n ≡ true → (f g : Mirror → Records) → ((m : Mirror) → mirror_of s n ≡ Some m → f m ≡ by_names t (g m)) → on_found (mirror_of (by_names t s) n) (by_names t s) f ≡ by_names t (on_found (mirror_of s n) s g)
+  on_named n e f g h = ap (λ o. on_found o (by_names t s) f) (same_found n e) ∙ of_found (mirror_of s n) f g h
 
   -- the found mirror has a name that passes
   found_passes : (n : List ℕ) → t n ≡ true → (m : Mirror) → mirror_of s n ≡ Some m → t m.name ≡ true
   found_passes n e m is = ap t (named s n m is).1 ∙ e
+
+  -- a component on a provider that the command names is put in place of it
+  module _ (c : Command) (takes : TakesIn t c s) (p : List ℕ) (named : Has (providers_of c) p) where
+    same_at : component_of (by_names t s) p ≡ component_of s p
+    same_at = find_within (λ (k : Component). same_label k.provider p) (λ (k : Component). t k.mirror) s.components (λ k h u. takes.owners p named k h (same_is k.provider p u))
+
+    on_at : (f g : Component → Records) → ((k : Component) → component_of s p ≡ Some k → f k ≡ by_names t (g k)) → on_found (component_of (by_names t s) p) (by_names t s) f ≡ by_names t (on_found (component_of s p) s g)
+    on_at f g h = ap (λ o. on_found o (by_names t s) f) same_at ∙ of_found (component_of s p) f g h
+
+    puts_at : (k k' : Component) → component_of s p ≡ Some k → k'.provider ≡ k.provider → k'.mirror ≡ k.mirror → put provider k' (by_names t s).components ≡ filter (λ j. t j.mirror) (put provider k' s.components)
+    puts_at k k' at e f =
+        let is = found (λ (j : Component). same_label j.provider p) s.components k at in
+        let on : k.provider ≡ p = same_is k.provider p is.1 in
+        puts_component c takes k' (ap t f ∙ takes.owners p named k is.0 on) (subst (λ (n : List ℕ). Has (providers_of c) n) (sym (e ∙ on)) named)
+
+  -- components of a mirror are changed where they stand
+  puts_mapped : (n : List ℕ) (f : Component → Component) → Keeps f
+      → put_all provider (map f (members (by_names t s).components n)) (by_names t s).components ≡ filter (λ k. t k.mirror) (put_all provider (map f (members s.components n)) s.components)
+  puts_mapped n f keeps =
+      let own : List Component = (by_names t s).components in
+      put_mapped n f keeps own (Ascends-filter (λ (k : Component). t k.mirror) provider s.components state.components_in_order)
+      ∙ (sym (filter-map (where_of n f) (λ (k : Component). t k.mirror) (λ k. ap t ((keeps_where n f keeps).mirror k)) s.components)
+      ∙ sym (ap (filter (λ (k : Component). t k.mirror)) (put_mapped n f keeps s.components state.components_in_order)))
 
   after_names : (size : Sizes) (c : Command) → TakesIn t c s → after size c (by_names t s) ≡ by_names t (after size c s)
   after_names size (Label n p mid did balance slice flags hardcoded) takes =
@@ -75,6 +100,26 @@ module _ (t : List ℕ → Bool) (s : Records) (state : IsState s) where
       two _ _ (record { mirrors = put name (record m { all = m.all - 1 }) s.mirrors; components = without provider p s.components })
       (puts_mirror (record m { all = m.all - 1 }) (found_passes n e m is))
       (filter_swap (λ (k : Component). not (same_label k.provider p)) (λ (k : Component). t k.mirror) s.components))
+  after_names size (Deactivate n p) takes =
+      let e : t n ≡ true = takes.name n refl in
+      on_named n e _ _ (λ m is.
+      two _ _ (record { mirrors = put name (record m { syncid = m.syncid + 1 }) s.mirrors; components = put_all provider (map (deactivated (m.syncid + 1) p) (members s.components n)) s.components })
+      (puts_mirror (record m { syncid = m.syncid + 1 }) (found_passes n e m is))
+      (puts_mapped n (deactivated (m.syncid + 1) p) (keeps_deactivated (m.syncid + 1) p)))
+  after_names size (Activate n p) takes =
+      let c : Command = Activate n p in
+      on_named n (takes.name n refl) _ _ (λ m is. on_at c takes p (inl refl) _ _ (λ k at.
+      two _ _ (record { mirrors = s.mirrors; components = put provider (activated m k) s.components }) refl (puts_at c takes p (inl refl) k (activated m k) at refl refl)))
+  after_names size (Forget n) takes =
+      let e : t n ≡ true = takes.name n refl in
+      on_named n e _ _ (λ m is.
+      let same : length (members (by_names t s).components n) ≡ length (members s.components n) = ap length (same_of t s n e) in
+      two _ _ (record { mirrors = put name (record m { all = length (members s.components n) }) s.mirrors; components = s.components })
+      (rw same (puts_mirror (record m { all = length (members s.components n) }) (found_passes n e m is))) refl)
+  after_names size (Rebuild n p) takes =
+      let c : Command = Rebuild n p in
+      on_at c takes p (inl refl) _ _ (λ k at.
+      two _ _ (record { mirrors = s.mirrors; components = put provider (rebuilt k) s.components }) refl (puts_at c takes p (inl refl) k (rebuilt k) at refl refl))
   after_names size (commands.Clear p) takes = refl
   after_names size (Destroy n) takes =
       two _ _ (record { mirrors = without name n s.mirrors; components = filter (λ k. not (same_label k.mirror n)) s.components })
@@ -130,6 +175,11 @@ module _ (part s : Records) (c : Command) (of : IsPartOf part c s) where
   good_part x but good Full h = but Full h refl
   good_part x but good SomeLost h = but SomeLost h refl
   good_part x but good LastActive h = but LastActive h refl
+  good_part x but good AlreadyInactive h = but AlreadyInactive h refl
+  good_part x but good NotInactive h = but NotInactive h refl
+  good_part x but good NoneLost h = but NoneLost h refl
+  good_part x but good Inactive h = but Inactive h refl
+  good_part x but good LastSyncid h = but LastSyncid h refl
   good_part x but good WrongSize h = but WrongSize h refl
   good_part x but good NoMetadata h = but NoMetadata h refl
 

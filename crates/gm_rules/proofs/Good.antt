@@ -7,7 +7,7 @@ use Rattle.gm_state.specs.Words.{Has}
 use Rattle.gm_state.specs.Records.{Records, IsState, IsMirror, members}
 use Rattle.gm_state.specs.Lookups.{mirror_of, component_of}
 use Rattle.gm_state.specs.declared.command.Command.{Command}
-use Rattle.gm_state.specs.declared.command.Command.TheVariants.{Label, Insert, Remove, Clear, Destroy}
+use Rattle.gm_state.specs.declared.command.Command.TheVariants.{Label, Insert, Remove, Deactivate, Activate, Forget, Rebuild, Clear, Destroy}
 use Rattle.gm_state.specs.declared.records.Mirror.{Mirror}
 use Rattle.gm_state.specs.declared.records.Component.{Component}
 use Rattle.gm_state.proofs.Order.{same_is}
@@ -61,6 +61,10 @@ own_rises : (c : Command) → rises (own c) ≡ true
 own_rises (Label n p mid did balance slice flags hardcoded) = refl
 own_rises (Insert n p did priority hardcoded) = refl
 own_rises (Remove n p) = refl
+own_rises (Deactivate n p) = refl
+own_rises (Activate n p) = refl
+own_rises (Forget n) = refl
+own_rises (Rebuild n p) = refl
 own_rises (Clear p) = refl
 own_rises (Destroy n) = refl
 
@@ -97,6 +101,10 @@ is_good s x c e r h = found_none (applies s x c) (own c) e r h
 pub named : (s : Records) (n : List ℕ) (m : Mirror) → mirror_of s n ≡ Some m → Has s.mirrors m × (m.name ≡ n)
 named s n m e = let f = found (λ (a : Mirror). same_label a.name n) s.mirrors m e in (f.0, same_is m.name n f.1)
 
+-- so is the component that is found
+pub provider_at : (s : Records) (p : List ℕ) (k : Component) → component_of s p ≡ Some k → k.provider ≡ p
+provider_at s p k e = same_is k.provider p (found (λ (a : Component). same_label a.provider p) s.components k e).1
+
 -- no component is on a provider that is none
 pub new_name : (s : Records) (p : List ℕ) → component_of s p ≡ None → (k : Component) → Has s.components k → same_label k.provider p ≡ false
 new_name s p e k h = found_none (λ (a : Component). same_label a.provider p) s.components e k h
@@ -118,6 +126,18 @@ some_all s n m state e =
 
 pub few_all : (s : Records) (n : List ℕ) (m : Mirror) → IsState s → mirror_of s n ≡ Some m → m.all < 255
 few_all s n m state e = let l : m.all ≤ 16 = (rules_of s n m state e).all in omega arith
+
+pub few_members : (s : Records) (n : List ℕ) (m : Mirror) → IsState s → mirror_of s n ≡ Some m → length (members s.components n) < 256
+few_members s n m state e =
+    let r = rules_of s n m state e in
+    let l : length (members s.components n) ≤ m.all = r.room in
+    let g : m.all ≤ 16 = r.all in omega arith
+
+-- a mirror whose syncid isn't the last one
+pub one_more_sync : (s : Records) (n : List ℕ) (m : Mirror) → IsState s → mirror_of s n ≡ Some m → is_there_and (mirror_of s n) (λ m. m.syncid == 4294967295) ≡ false → m.syncid < 4294967295
+one_more_sync s n m state e off =
+    let apart : m.syncid ≢ 4294967295 = not_at m.syncid 4294967295 (fails_there (mirror_of s n) m (λ a. a.syncid == 4294967295) e off) in
+    let small : m.syncid < 2 ^ 32 = (rules_of s n m state e).fits.syncid in omega arith
 
 -- the provider of a good label is there with a right size
 pub label_size : (s : Records) (x : Seen) (c : Command) (n p : List ℕ) (mid did : ℕ) (balance : BalanceWord) (slice : ℕ) (flags : MirrorFlags) (hardcoded : Bool)

@@ -26,7 +26,7 @@ use Rattle.gm_rules.proofs.Adjusting.{Adjusts, adjusts_turns, adjusts_were, adju
 use Rattle.gm_state.proofs.Finding.{any_one, none_any, not_both}
 use Rattle.gm_rules.proofs.Good.{there_from, none_from, named, new_name, fails_there, not_below, not_at, right_size}
 use Rattle.gm_state.proofs.Presence.{present_size, some_and}
-use Rattle.gm_rules.proofs.Planned.{Serves, has}
+use Rattle.gm_rules.proofs.Planned.{Serves, has, were_bare}
 use Rattle.gm_rules.proofs.RuledOut.{all_there, carries_nothing, metas_has, metas_are, metas_plain}
 use Rattle.gm_rules.proofs.Turning.{Turns, Writes}
 
@@ -134,7 +134,7 @@ module _ (u : World) (key : List ℕ) (m : Mirror) (p : List ℕ) (did priority 
       (rw (found, can.size) refl)
       (let at : members comps n ≡ ks = rw (← (named u.state n m found).1) adjusts.mine in ap metas (sym at))
       good tt
-      (λ j i. ⊎_elim (λ (e : k ≡ j). inr (subst (λ (c : Component). carries (u.shelf c.provider (c.sectors - 1)) ≡ false) e can.bare)) (λ (o : Has u.state.components j). inl o) (put_or provider k u.state.components j i))
+      (were_bare u s (λ j i. ⊎_elim (λ (e : k ≡ j). inr (subst (λ (c : Component). carries (u.shelf c.provider (c.sectors - 1)) ≡ false) e can.bare)) (λ (o : Has u.state.components j). inl o) (put_or provider k u.state.components j i)))
 
 -- what the refusals rule out
 can_insert : (u : World) (n p : List ℕ) (did priority : ℕ) (h : Bool) → Sound u → IsGood u.state (seen_of u) (Insert n p did priority h)

@@ -27,7 +27,7 @@ use Rattle.gm_rules.specs.Worlds.{seen_of, last_of}
 use Rattle.gm_state.proofs.Finding.{any_one, none_any, found_none, no_members, not_both}
 use Rattle.gm_rules.proofs.Good.{there_from, none_from, new_name, fails_there, not_at, right_size}
 use Rattle.gm_state.proofs.Presence.{present_size, some_and}
-use Rattle.gm_rules.proofs.Planned.{Serves, has}
+use Rattle.gm_rules.proofs.Planned.{Serves, has, were_bare}
 use Rattle.gm_rules.proofs.RuledOut.{carries_nothing, metas_has, metas_are, metas_plain}
 use Rattle.gm_rules.proofs.Turning.{Turns, Writes, Were}
 
@@ -162,7 +162,7 @@ module _ (u : World) (key n p : List ℕ) (mid did : ℕ) (balance : BalanceWord
   label_plan good answer =
       has u key (Label n p mid did balance slice flags h) m ks list s (metas ks) sound turns writes were (metas_plain ks) serves answer
       (rw can.size refl) refl good (λ i l. rw (same_refl n) refl)
-      (λ j i. ⊎_elim (λ (e : k ≡ j). inr (subst (λ (c : Component). carries (u.shelf c.provider (c.sectors - 1)) ≡ false) e can.bare)) (λ (o : Has u.state.components j). inl o) (put_or provider k u.state.components j i))
+      (were_bare u s (λ j i. ⊎_elim (λ (e : k ≡ j). inr (subst (λ (c : Component). carries (u.shelf c.provider (c.sectors - 1)) ≡ false) e can.bare)) (λ (o : Has u.state.components j). inl o) (put_or provider k u.state.components j i)))
 
 -- what the refusals rule out
 can_label : (u : World) (n p : List ℕ) (mid did : ℕ) (balance : BalanceWord) (slice : ℕ) (flags : MirrorFlags) (h : Bool) → Sound u → IsGood u.state (seen_of u) (Label n p mid did balance slice flags h) → (sectors : ℕ) × CanLabel u n p mid sectors

@@ -15,4 +15,7 @@ pub mod Inserting
 pub mod Removing
 pub mod Wiping
 pub mod Destroying
+pub mod Kept
+pub mod Mapping
+pub mod Staying
 pub mod Plans

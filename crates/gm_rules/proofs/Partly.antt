@@ -1,9 +1,9 @@
 -- What is made of a part is what the command makes of the whole.
-use Rattle.std.proofs.Common.{◌≡◌, ◌∙◌, inl, ℕ, ◌+◌, ◌-◌, Bool, false, refl, sym, ap, ap₂, subst, List, [], ◌∷◌, ◌++◌, Some, None, Result, Ok, Err, OnErr, map, find, length, if◌then◌else◌}
+use Rattle.std.proofs.Common.{◌≡◌, ◌∙◌, inl, ℕ, ◌+◌, ◌-◌, Bool, false, refl, sym, ap, ap₂, subst, List, [], ◌∷◌, ◌++◌, Option, Some, None, Result, Ok, Err, OnErr, map, find, length, if◌then◌else◌}
 use Rattle.gm_metadata.specs.declared.flags.MirrorFlags.{MirrorFlags}
 use Rattle.gm_state.specs.declared.command.BalanceWord.{BalanceWord}
 use Rattle.gm_state.specs.declared.command.Command.{Command}
-use Rattle.gm_state.specs.declared.command.Command.TheVariants.{Label, Insert, Remove, Destroy}
+use Rattle.gm_state.specs.declared.command.Command.TheVariants.{Label, Insert, Remove, Deactivate, Activate, Forget, Rebuild, Destroy}
 use Rattle.gm_state.specs.declared.command.Command.TheVariants as commands
 use Rattle.gm_state.specs.declared.command.Intent.TheVariants.{Meta, Clear}
 use Rattle.gm_state.specs.declared.command.Reply.TheVariants.{Plain}
@@ -12,7 +12,7 @@ use Rattle.gm_state.specs.declared.records.Component.{Component}
 use Rattle.gm_state.specs.Words.{Has, put, without}
 use Rattle.gm_state.specs.Records.{Records, members, provider}
 use Rattle.gm_state.specs.Lookups.{mirror_of, component_of}
-use Rattle.gm_rules.specs.After.{metas, clears_of, new_mirror, first_component, spare}
+use Rattle.gm_rules.specs.After.{metas, clears_of, new_mirror, first_component, spare, deactivated, activated, rebuilt}
 use Rattle.gm_rules.specs.Bad.{Seen, applies, name_of, providers_of, members_named}
 use Rattle.gm_rules.specs.Worlds.{needed_by}
 use Rattle.gm_rules.specs.Decides.{Changed, IsGood}
@@ -21,7 +21,7 @@ use Rattle.gm_rules.specs.Refusals.{own}
 use Rattle.gm_rules.proofs.Agreeing.{same_mirror, same_members, same_component, same_named_members, same_applies}
 use Rattle.gm_state.proofs.Finding.{found_none}
 use Rattle.gm_rules.proofs.Good.{is_good}
-use Rattle.gm_rules.proofs.Changes.{label_makes, insert_makes, remove_makes, clear_makes, destroy_makes}
+use Rattle.gm_rules.proofs.Changes.{label_makes, insert_makes, remove_makes, deactivate_makes, activate_makes, forget_makes, rebuild_makes, clear_makes, destroy_makes}
 
 module _ (part s : Records) (c : Command) (of : IsPartOf part c s) where
   -- what is found in the part is found in the whole
@@ -31,8 +31,8 @@ module _ (part s : Records) (c : Command) (of : IsPartOf part c s) where
   members_in : (n : List ℕ) (ks : List Component) → name_of c ≡ Some n → members part.components n ≡ ks → members s.components n ≡ ks
   members_in n ks e found = sym (same_members s c of.mids of.state n e) ∙ (sym (ap (λ (r : Records). members r.components n) of.is) ∙ found)
 
-  free_in : (p : List ℕ) → Has (providers_of c) p → component_of part p ≡ None → component_of s p ≡ None
-  free_in p h free = sym (same_component s c of.mids of.state p h) ∙ (sym (ap (λ (r : Records). component_of r p) of.is) ∙ free)
+  component_in : (p : List ℕ) (o : Option Component) → Has (providers_of c) p → component_of part p ≡ o → component_of s p ≡ o
+  component_in p o h found = sym (same_component s c of.mids of.state p h) ∙ (sym (ap (λ (r : Records). component_of r p) of.is) ∙ found)
 
 pub label_made : (part : Records) (x : Seen) (n p : List ℕ) (mid did : ℕ) (balance : BalanceWord) (slice : ℕ) (flags : MirrorFlags) (hardcoded : Bool) (sectors : ℕ) (ch : Changed)
     → x.size p ≡ Some sectors
@@ -46,7 +46,7 @@ pub insert_made : (part : Records) (x : Seen) (n p : List ℕ) (did priority : �
     → IsMade part x (Insert n p did priority h) ch
 insert_made part x n p did priority h m ks sectors k ch found mine size none made is s of good =
     let c : Command = Insert n p did priority h in
-    insert_makes s x n p did priority h m ks sectors k ch good of.state (mirror_in part s c of n m refl found) (members_in part s c of n ks refl mine) size (free_in part s c of p (inl refl) none) made is
+    insert_makes s x n p did priority h m ks sectors k ch good of.state (mirror_in part s c of n m refl found) (members_in part s c of n ks refl mine) size (component_in part s c of p None (inl refl) none) made is
 
 pub remove_made : (part : Records) (x : Seen) (n p : List ℕ) (m : Mirror) (ks : List Component) (ch : Changed)
     → mirror_of part n ≡ Some m → members part.components n ≡ ks
@@ -55,6 +55,36 @@ pub remove_made : (part : Records) (x : Seen) (n p : List ℕ) (m : Mirror) (ks 
 remove_made part x n p m ks ch found mine is s of good =
     let c : Command = Remove n p in
     remove_makes s x n p m ks ch good (mirror_in part s c of n m refl found) (members_in part s c of n ks refl mine) is
+
+pub deactivate_made : (part : Records) (x : Seen) (n p : List ℕ) (m : Mirror) (ks : List Component) (ch : Changed)
+    → mirror_of part n ≡ Some m → members part.components n ≡ ks
+    → ch ≡ record { mirror = Some (record m { syncid = m.syncid + 1 }); gone_mirror = None; components = map (deactivated (m.syncid + 1) p) ks; gone_components = []; intents = metas (map (deactivated (m.syncid + 1) p) ks); reply = Plain }
+    → IsMade part x (Deactivate n p) ch
+deactivate_made part x n p m ks ch found mine is s of good =
+    let c : Command = Deactivate n p in
+    deactivate_makes s x n p m ks ch good of.state (mirror_in part s c of n m refl found) (members_in part s c of n ks refl mine) is
+
+pub activate_made : (part : Records) (x : Seen) (n p : List ℕ) (m : Mirror) (k : Component) (ch : Changed)
+    → mirror_of part n ≡ Some m → component_of part p ≡ Some k
+    → ch ≡ record { mirror = None; gone_mirror = None; components = activated m k ∷ []; gone_components = []; intents = Meta k.provider ∷ []; reply = Plain }
+    → IsMade part x (Activate n p) ch
+activate_made part x n p m k ch found at is s of good =
+    let c : Command = Activate n p in
+    activate_makes s x n p m k ch good (mirror_in part s c of n m refl found) (component_in part s c of p (Some k) (inl refl) at) is
+
+pub forget_made : (part : Records) (x : Seen) (n : List ℕ) (m : Mirror) (ks : List Component) (ch : Changed)
+    → mirror_of part n ≡ Some m → members part.components n ≡ ks
+    → ch ≡ record { mirror = Some (record m { all = length ks }); gone_mirror = None; components = []; gone_components = []; intents = metas ks; reply = Plain }
+    → IsMade part x (Forget n) ch
+forget_made part x n m ks ch found mine is s of good =
+    let c : Command = Forget n in
+    forget_makes s x n m ks ch good (mirror_in part s c of n m refl found) (members_in part s c of n ks refl mine) is
+
+pub rebuild_made : (part : Records) (x : Seen) (n p : List ℕ) (k : Component) (ch : Changed)
+    → component_of part p ≡ Some k
+    → ch ≡ record { mirror = None; gone_mirror = None; components = rebuilt k ∷ []; gone_components = []; intents = Meta k.provider ∷ []; reply = Plain }
+    → IsMade part x (Rebuild n p) ch
+rebuild_made part x n p k ch at is s of good = rebuild_makes s x n p k ch good (component_in part s (Rebuild n p) of p (Some k) (inl refl) at) is
 
 pub clear_made : (part : Records) (x : Seen) (p : List ℕ) (ch : Changed)
     → ch ≡ record { mirror = None; gone_mirror = None; components = []; gone_components = []; intents = Clear p ∷ []; reply = Plain }

@@ -6,7 +6,6 @@ use Rattle.std.specs.List.{list_any}
 use Rattle.std.proofs.lemmas.Bool.{cases_Bool, or_parts}
 use Rattle.gm_metadata.specs.Images.{Sizes, same_label}
 use Rattle.gm_state.specs.declared.command.Command.{Command}
-use Rattle.gm_state.specs.declared.command.Command.TheVariants as commands
 use Rattle.gm_state.specs.declared.command.Intent.{Intent}
 use Rattle.gm_state.specs.declared.command.Intent.TheVariants.{Meta, Clear, Copy}
 use Rattle.gm_state.specs.declared.records.Mirror.{Mirror}
@@ -17,16 +16,18 @@ use Rattle.gm_state.specs.Intents.{is_last, any_copies, InOrder, Lends, IsAtHand
 use Rattle.gm_state.specs.Readable.{is_copy, is_copy_to, IsReadable, AreOrdered, AreReadable}
 use Rattle.gm_state.specs.World.{World, Sound, ReplyFits, present}
 use Rattle.gm_state.proofs.Order.{same_is, same_from, same_refl, same_tells, differ}
-use Rattle.gm_metadata.specs.Sector.{carries}
+use Rattle.gm_metadata.specs.Sector.{carries, Bears}
+use Rattle.gm_metadata.specs.declared.metadata.Metadata.{Metadata}
+use Rattle.gm_state.specs.Lookups.{component_of}
 use Rattle.gm_state.proofs.Codec.{bears_carries}
 use Rattle.gm_rules.specs.After.{after, clears, intents_of, reply_to}
 use Rattle.gm_rules.specs.Bad.{applies, name_of, is_member_of}
 use Rattle.gm_rules.specs.Decides.{IsGood}
-use Rattle.gm_rules.specs.Step.{Plan, IsOwn, NewData, CanAnswer, HasPlan, NewAreBare, WereBare, is_changed, answer}
+use Rattle.gm_rules.specs.Step.{Plan, IsOwn, NewData, CanAnswer, HasPlan, WereBare, is_changed, answer}
 use Rattle.gm_rules.specs.Worlds.{seen_of}
 use Rattle.gm_rules.proofs.Answering.{answers_after}
 use Rattle.gm_state.proofs.Finding.{any_from, find_none, found, found_none, not_both, option_cases}
-use Rattle.gm_rules.proofs.Turning.{Turns, Writes, Were, IsOne, w, shelf_after, holds_after, sound_after, says_after, agrees_after, claims_after, in_s}
+use Rattle.gm_rules.proofs.Turning.{Turns, Writes, Were, IsOne, shelf_after, holds_after, sound_after, says_after, agrees_after, claims_after, in_s}
 
 -- an intent that copies nothing
 abbrev pub IsPlain : Intent → Type 0
@@ -62,22 +63,16 @@ sectors_at : (o : Option ℕ) (n j : ℕ) → o ≡ Some n → is_last o j ≡ t
 sectors_at None n j e l = cc
 sectors_at (Some k) n j e l = let h : k ≡ n = cc in subst (λ (x : ℕ). (x == j + 1) ≡ true) h l
 
--- a new component: one of before, or one whose last sector carried nothing
+-- a component after the command: one of before, or one whose last sector carried nothing
 abbrev pub IsOldOrBare : World → Component → Type 0
 IsOldOrBare u k = Has u.state.components k ⊎ (carries (u.shelf k.provider (k.sectors - 1)) ≡ false)
 
-were_bare : (u w : World) → ((k : Component) → Has w.state.components k → IsOldOrBare u k) → NewAreBare u w
-were_bare u w each k h none d bears = ⊎_elim
+pub were_bare : (u : World) (s : Records) → ((k : Component) → Has s.components k → IsOldOrBare u k)
+    → (k : Component) → Has s.components k → component_of u.state k.provider ≡ None → (d : Metadata) → Bears (u.shelf k.provider (k.sectors - 1)) d → ⊥
+were_bare u s each k h none d bears = ⊎_elim
     (λ (old : Has u.state.components k). not_both (same_label k.provider k.provider) (same_refl k.provider) (found_none (λ (j : Component). same_label j.provider k.provider) u.state.components none k old))
     (λ (off : carries (u.shelf k.provider (k.sectors - 1)) ≡ false). not_both (carries (u.shelf k.provider (k.sectors - 1))) (bears_carries _ d bears) off)
     (each k h)
-
-bare_for : (c : Command) (u w : World) → NewAreBare u w → WereBare c u w
-bare_for (commands.Label n p mid did balance slice flags hardcoded) u w bare = bare
-bare_for (commands.Insert n p did priority hardcoded) u w bare = bare
-bare_for (commands.Remove n p) u w bare = tt
-bare_for (commands.Clear p) u w bare = tt
-bare_for (commands.Destroy n) u w bare = tt
 
 -- ---- intents that copy nothing can be read again
 
@@ -215,5 +210,5 @@ module _ (u : World) (key : List ℕ) (c : Command) (m : Mirror) (ks : List Comp
     bare = bare;
   }
 
-  pub has : s ≡ after (present u) c u.state → ts ≡ intents_of c u.state s → IsGood u.state (seen_of u) c → NewData u c next → ((k : Component) → Has s.components k → IsOldOrBare u k) → HasPlan u key c
-  has is are good new each = (next, subst (λ (l : List Intent). Plan u key c l next) are (planned is good new (bare_for c u next (were_bare u next each))))
+  pub has : s ≡ after (present u) c u.state → ts ≡ intents_of c u.state s → IsGood u.state (seen_of u) c → NewData u c next → WereBare c u next → HasPlan u key c
+  has is are good new bare = (next, subst (λ (l : List Intent). Plan u key c l next) are (planned is good new bare))

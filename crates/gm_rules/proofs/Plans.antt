@@ -1,7 +1,7 @@
 -- Each command that nothing refuses has a plan.
 use Rattle.std.proofs.Common.{ℕ, List}
 use Rattle.gm_state.specs.declared.command.Command.{Command}
-use Rattle.gm_state.specs.declared.command.Command.TheVariants.{Label, Insert, Remove, Clear, Destroy}
+use Rattle.gm_state.specs.declared.command.Command.TheVariants.{Label, Insert, Remove, Deactivate, Activate, Forget, Rebuild, Clear, Destroy}
 use Rattle.gm_state.specs.World.{World, Sound}
 use Rattle.gm_rules.specs.Decides.{IsGood}
 use Rattle.gm_rules.specs.Step.{CanAnswer, HasPlan}
@@ -9,6 +9,7 @@ use Rattle.gm_rules.specs.Worlds.{seen_of}
 use Rattle.gm_rules.proofs.Labelling.{label_has}
 use Rattle.gm_rules.proofs.Inserting.{insert_has}
 use Rattle.gm_rules.proofs.Removing.{remove_has}
+use Rattle.gm_rules.proofs.Staying.{deactivate_has, activate_has, forget_has, rebuild_has}
 use Rattle.gm_rules.proofs.Wiping.{clear_has}
 use Rattle.gm_rules.proofs.Destroying.{destroy_has}
 
@@ -16,5 +17,9 @@ pub every_plan : (u : World) (key : List ℕ) (c : Command) → Sound u → CanA
 every_plan u key (Label n p mid did balance slice flags hardcoded) sound answer good = label_has u key n p mid did balance slice flags hardcoded sound answer good
 every_plan u key (Insert n p did priority hardcoded) sound answer good = insert_has u key n p did priority hardcoded sound answer good
 every_plan u key (Remove n p) sound answer good = remove_has u key n p sound answer good
+every_plan u key (Deactivate n p) sound answer good = deactivate_has u key n p sound answer good
+every_plan u key (Activate n p) sound answer good = activate_has u key n p sound answer good
+every_plan u key (Forget n) sound answer good = forget_has u key n sound answer good
+every_plan u key (Rebuild n p) sound answer good = rebuild_has u key n p sound answer good
 every_plan u key (Clear p) sound answer good = clear_has u key p sound answer good
 every_plan u key (Destroy n) sound answer good = destroy_has u key n sound answer good

@@ -1,8 +1,7 @@
 -- The plan of remove.
-use Rattle.std.proofs.Common.{◌≡◌, ◌≢◌, ◌∙◌, inl, inr, ℕ, ◌≤◌, ◌+◌, ◌-◌, ◌||◌, Bool, true, false, not, refl, sym, ap, subst, arith, List, [], ◌∷◌, Some, length, filter, IsTrue, ◌<◌}
+use Rattle.std.proofs.Common.{◌≡◌, ◌≢◌, ◌∙◌, inl, inr, ℕ, ◌≤◌, ◌+◌, ◌-◌, Bool, true, false, not, refl, sym, ap, subst, arith, List, [], ◌∷◌, Some, length, IsTrue, ◌<◌}
 use Rattle.std.specs.Prelude.{IsSomeAnd}
-use Rattle.std.specs.List.{list_any}
-use Rattle.std.proofs.lemmas.Bool.{or_parts, not-true, not-false}
+use Rattle.std.proofs.lemmas.Bool.{not-true}
 use Rattle.gm_metadata.specs.Images.{same_label}
 use Rattle.gm_metadata.specs.Labels.{is_label}
 use Rattle.gm_state.specs.declared.command.Command.TheVariants.{Remove}
@@ -10,36 +9,25 @@ use Rattle.gm_state.specs.declared.command.Intent.{Intent}
 use Rattle.gm_state.specs.declared.command.Intent.TheVariants.{Clear}
 use Rattle.gm_state.specs.declared.records.Mirror.{Mirror}
 use Rattle.gm_state.specs.declared.records.Component.{Component}
-use Rattle.gm_state.specs.declared.records.Disk.{Disk}
-use Rattle.gm_state.specs.declared.records.Disk.TheVariants.{InSync, Inactive, Copying}
 use Rattle.gm_state.specs.Words.{Has, without}
 use Rattle.gm_state.specs.Records.{Records, IsMirror, members, provider}
-use Rattle.gm_state.specs.Lookups.{mirror_of, is_active}
+use Rattle.gm_state.specs.Lookups.{mirror_of}
 use Rattle.gm_state.specs.World.{World, Sound, present}
 use Rattle.gm_state.proofs.Order.{same_is, same_from, same_refl, differ}
-use Rattle.gm_state.proofs.Words.{Has-filter, filter-Has, Ascends-filter, filter_swap, filter_id, length-filter_lt, one}
+use Rattle.gm_state.proofs.Words.{Has-filter, filter-Has, Ascends-filter, filter_swap, filter_id, length-filter_lt}
 use Rattle.gm_rules.specs.declared.refusals.Refusal.TheVariants as refusals
 use Rattle.gm_rules.specs.After.{metas}
-use Rattle.gm_rules.specs.Bad.{is_on_any}
 use Rattle.gm_rules.specs.Decides.{IsGood}
 use Rattle.gm_rules.specs.Step.{CanAnswer, HasPlan}
 use Rattle.gm_rules.specs.Worlds.{seen_of}
 use Rattle.gm_rules.proofs.Adjusting.{Adjusts, adjusts_turns, adjusts_were, adjusted}
-use Rattle.gm_state.proofs.Finding.{any_one, some_any, some_other, not_both}
-use Rattle.gm_rules.proofs.Good.{there_from, named}
+use Rattle.gm_state.proofs.Finding.{not_both}
 use Rattle.gm_state.proofs.Presence.{present_size, some_and}
 use Rattle.gm_rules.proofs.Planned.{Serves, has, one_plain}
-use Rattle.gm_rules.proofs.RuledOut.{all_there, metas_has, metas_are, metas_plain}
+use Rattle.gm_rules.proofs.RuledOut.{CanTouch, each_there, by_name, is_member, metas_has, metas_are, metas_plain, not_on, other_active}
 use Rattle.gm_rules.proofs.Turning.{Turns, Writes, IsOne}
 
--- what the refusals of remove rule out
-record CanRemove (u : World) (m : Mirror) (p : List ℕ) : Type 0 where
-  here : Has u.state.mirrors m
-  member : (k : Component) × Has (members u.state.components m.name) k × (k.provider ≡ p)
-  active : (k : Component) × Has (members u.state.components m.name) k × (k.disk ≡ InSync) × (k.provider ≢ p)
-  there : (k : Component) → Has (members u.state.components m.name) k → present u k.provider ≡ Some k.sectors
-
-module _ (u : World) (key : List ℕ) (m : Mirror) (p : List ℕ) (sound : Sound u) (can : CanRemove u m p) where
+module _ (u : World) (key : List ℕ) (m : Mirror) (p : List ℕ) (sound : Sound u) (can : CanTouch u m p) where
   abbrev old : List Component
   old = members u.state.components m.name
 
@@ -84,10 +72,7 @@ module _ (u : World) (key : List ℕ) (m : Mirror) (p : List ℕ) (sound : Sound
   theirs : (n : List ℕ) → n ≢ m.name → (j : Component) → Has (members u.state.components n) j → stays j ≡ true
   theirs n d j i =
       let r = Has-filter (λ (c : Component). same_label c.mirror n) u.state.components j i in
-      let q = Has-filter (λ (c : Component). same_label c.mirror m.name) u.state.components can.member.0 can.member.1 in
-      ap not (differ j.provider p (λ e.
-      let same : can.member.0 ≡ j = one provider u.state.components sound.state.components_in_order can.member.0 j q.0 r.0 (can.member.2 ∙ sym e) in
-      d (sym (same_is j.mirror n r.1) ∙ sym (ap (λ (c : Component). c.mirror) same) ∙ same_is can.member.0.mirror m.name q.1)))
+      ap not (differ j.provider p (not_on u m p sound.state can j r.0 (λ e. d (sym (same_is j.mirror n r.1) ∙ e))))
 
   adjusts : Adjusts u.state m m' comps ks
   adjusts = record {
@@ -127,55 +112,28 @@ module _ (u : World) (key : List ℕ) (m : Mirror) (p : List ℕ) (sound : Sound
   has_sectors : (j : Component) → Has old j → IsSomeAnd (present u j.provider) (λ x. 0 < x)
   has_sectors j o = some_and (present u j.provider) j.sectors (λ x. 0 < x) (can.there j o) (let b : m.data_sectors + 1 ≤ j.sectors = rules.sizes j o in omega arith)
 
-  serves : (n : List ℕ) → m.name ≡ n → IsTrue (is_label p) → Serves u (Remove n p) m' ks
-  serves n is label = record {
-    named = λ j i. ap Some (sym is);
+  serves : IsTrue (is_label p) → Serves u (Remove m.name p) m' ks
+  serves label = record {
+    named = λ j i. refl;
     written = λ j i. has_sectors j (is_old j i);
     cleared = λ q e. subst (λ (x : List ℕ). IsSomeAnd (present u x) (λ y. 0 < y)) (can.member.2 ∙ same_is p q e) (has_sectors can.member.0 can.member.1);
     labels = λ q e. subst (λ (x : List ℕ). IsTrue (is_label x)) (same_is p q e) label;
     reply = tt;
   }
 
-  remove_plan : (n : List ℕ) → mirror_of u.state n ≡ Some m → IsGood u.state (seen_of u) (Remove n p) → CanAnswer u key (Remove n p) → HasPlan u key (Remove n p)
-  remove_plan n found good answer =
-      has u key (Remove n p) m' ks (u.holds m.name) s (Clear p ∷ metas ks) sound turns writes (adjusts_were u m m' comps ks sound can.here adjusts) (one_plain (Clear p) tt (metas ks) (metas_plain ks)) (serves n (named u.state n m found).1 answer.fits.1) answer
-      (rw found refl)
-      (let at : members comps n ≡ ks = rw (← (named u.state n m found).1) adjusts.mine in ap (λ (js : List Component). Clear p ∷ metas js) (sym at))
-      good tt (λ j i. inl (Has-filter stays u.state.components j i).0)
-
-active_is : (d : Disk) → is_active d ≡ true → d ≡ InSync
-active_is InSync e = refl
-active_is Inactive e = cc
-active_is (Copying f h) e = cc
-
-either : (b : Bool) → (b || false) ≡ b
-either true = refl
-either false = refl
-
--- what the refusals rule out
-can_remove : (u : World) (n p : List ℕ) → Sound u → IsGood u.state (seen_of u) (Remove n p) → (m : Mirror) × (mirror_of u.state n ≡ Some m) × CanRemove u m p
-can_remove u n p sound good =
-    let at_n = there_from (mirror_of u.state n) (good refusals.NoMirror (inl refl)) in
-    let m : Mirror = at_n.0 in
-    let at = named u.state n m at_n.1 in
-    let absent = or_parts _ _ (good refusals.Absent (inr (inl refl))) in
-    let is_one : list_any (λ k. same_label k.provider p) (members u.state.components n) ≡ true
-    = not-false _ (any_one (λ q. not (list_any (λ k. same_label k.provider q) (members u.state.components n))) p (good refusals.NotMember (inr (inr (inl refl))))) in
-    let member = some_any (λ (a : Component). same_label a.provider p) (members u.state.components n) is_one in
-    let active = some_other (is_on_any (p ∷ [])) (filter (λ (a : Component). is_active a.disk) (members u.state.components n)) (good refusals.LastActive (inr (inr (inr (inr (inl refl)))))) in
-    let parts = Has-filter (λ (a : Component). is_active a.disk) (members u.state.components n) active.0 active.1 in
-    let off : same_label active.0.provider p ≡ false = sym (either (same_label active.0.provider p)) ∙ active.2 in (
-      m,
-      at_n.1,
-      record {
-        here = at.0;
-        member = (member.0, subst (λ (a : List ℕ). Has (members u.state.components a) member.0) (sym at.1) member.1, same_is member.0.provider p member.2);
-        active = (active.0, subst (λ (a : List ℕ). Has (members u.state.components a) active.0) (sym at.1) parts.0, active_is active.0.disk parts.1, λ e. not_both (same_label active.0.provider p) (same_from active.0.provider p e) off);
-        there = λ j i. all_there (present u) (members u.state.components n) absent.1 j (subst (λ (a : List ℕ). Has (members u.state.components a) j) at.1 i);
-      },
-    )
+  remove_plan : mirror_of u.state m.name ≡ Some m → IsGood u.state (seen_of u) (Remove m.name p) → CanAnswer u key (Remove m.name p) → HasPlan u key (Remove m.name p)
+  remove_plan found good answer =
+      has u key (Remove m.name p) m' ks (u.holds m.name) s (Clear p ∷ metas ks) sound turns writes (adjusts_were u m m' comps ks sound can.here adjusts) (one_plain (Clear p) tt (metas ks) (metas_plain ks)) (serves answer.fits.1) answer
+      (rw found refl) (ap (λ (js : List Component). Clear p ∷ metas js) (sym adjusts.mine)) good tt tt
 
 pub remove_has : (u : World) (key n p : List ℕ) → Sound u → CanAnswer u key (Remove n p) → IsGood u.state (seen_of u) (Remove n p) → HasPlan u key (Remove n p)
 remove_has u key n p sound answer good =
-    let can = can_remove u n p sound good in
-    remove_plan u key can.0 p sound can.2 n can.1 good answer
+    by_name u.state n (λ a. CanAnswer u key (Remove a p) → IsGood u.state (seen_of u) (Remove a p) → HasPlan u key (Remove a p)) (good refusals.NoMirror (inl refl))
+    (λ m here found answer good.
+    let ks : List Component = members u.state.components m.name in
+    remove_plan u key m p sound (record {
+      here = here;
+      there = each_there u (p ∷ []) ks (good refusals.Absent (inr (inl refl)));
+      member = is_member ks p (good refusals.NotMember (inr (inr (inl refl))));
+      active = other_active ks p (good refusals.LastActive (inr (inr (inr (inr (inl refl))))));
+    }) found good answer) answer good

@@ -1,18 +1,27 @@
 -- What the refusals of a command rule out, and the intents that write its components.
-use Rattle.std.proofs.Common.{◌≡◌, ◌∙◌, inl, inr, ℕ, ◌<◌, ◌-◌, ◌==◌, Bool, true, false, not, refl, sym, ap, subst, arith, List, [], ◌∷◌, Option, Some, None, eqb-true}
-use Rattle.std.specs.List.{list_any}
-use Rattle.std.proofs.lemmas.Bool.{ne_eqb}
+use Rattle.std.proofs.Common.{◌≡◌, ◌≢◌, ◌∙◌, inl, inr, ℕ, ◌<◌, ◌-◌, ◌==◌, ◌&&◌, ◌||◌, Bool, true, false, not, refl, sym, ap, subst, arith, List, [], ◌∷◌, Option, Some, None, IsSome, is_none, eqb-true, filter}
+use Rattle.std.specs.List.{list_any, list_all}
+use Rattle.std.proofs.lemmas.Bool.{ne_eqb, not-false, or_parts}
+use Rattle.gm_metadata.specs.Images.{same_label}
 use Rattle.gm_metadata.specs.Sector.{carries}
 use Rattle.gm_state.specs.declared.command.Intent.{Intent}
 use Rattle.gm_state.specs.declared.command.Intent.TheVariants.{Meta, Clear}
+use Rattle.gm_state.specs.declared.records.Mirror.{Mirror}
 use Rattle.gm_state.specs.declared.records.Component.{Component}
+use Rattle.gm_state.specs.declared.records.Disk.{Disk}
+use Rattle.gm_state.specs.declared.records.Disk.TheVariants.{InSync, Inactive, Copying}
+use Rattle.gm_state.specs.Records.{Records, IsState, members, provider}
+use Rattle.gm_state.specs.Lookups.{mirror_of, component_of, is_active, is_inactive}
 use Rattle.gm_state.specs.Words.{Has}
 use Rattle.gm_state.specs.World.{World, present}
-use Rattle.gm_rules.specs.Bad.{has_size}
+use Rattle.gm_rules.specs.Bad.{has_size, is_on_any}
 use Rattle.gm_rules.specs.After.{metas, clears_of}
 use Rattle.gm_rules.specs.Facts.{last_carries}
 use Rattle.gm_rules.specs.Worlds.{last_of}
-use Rattle.gm_state.proofs.Finding.{none_any}
+use Rattle.gm_state.proofs.Order.{same_is, same_from}
+use Rattle.gm_state.proofs.Words.{Has-filter, one}
+use Rattle.gm_state.proofs.Finding.{none_any, any_one, some_any, some_other, find_one, found_none, not_both, option_cases}
+use Rattle.gm_rules.proofs.Good.{there_from, named}
 use Rattle.gm_rules.proofs.Turning.{IsOne}
 use Rattle.gm_rules.proofs.Planned.{IsPlain, ArePlain}
 
@@ -28,12 +37,98 @@ has_size_is (Some k) n e = by (k == n) refl
 pub all_there : (size : List ℕ → Option ℕ) (ks : List Component) → list_any (λ k. not (has_size (size k.provider) k.sectors)) ks ≡ false → (k : Component) → Has ks k → size k.provider ≡ Some k.sectors
 all_there size ks e k h = has_size_is (size k.provider) k.sectors (none_any (λ k. not (has_size (size k.provider) k.sectors)) ks e k h)
 
+-- so are those of a command that names the providers ps, and a mirror with the components ks
+pub each_there : (u : World) (ps : List (List ℕ)) (ks : List Component) → (list_any (λ p. is_none (present u p)) ps || list_any (λ k. not (has_size (present u k.provider) k.sectors)) ks) ≡ false
+    → (k : Component) → Has ks k → present u k.provider ≡ Some k.sectors
+each_there u ps ks e = all_there (present u) ks (or_parts (list_any (λ p. is_none (present u p)) ps) (list_any (λ k. not (has_size (present u k.provider) k.sectors)) ks) e).1
+
 -- a provider that carries no metadata: its last sector doesn't
 pub carries_nothing : (u : World) (p : List ℕ) (n : ℕ) → present u p ≡ Some n → 0 < n → last_carries (last_of u p) ≡ false → carries (u.shelf p (n - 1)) ≡ false
 carries_nothing u p n size some off =
     let apart : (n == 0) ≡ false = ne_eqb n 0 (λ e. omega arith) in
     let told : last_carries (last_of u p) ≡ carries (u.shelf p (n - 1)) = rw (size, apart) refl in
     sym told ∙ off
+
+-- ---- a command that names a mirror, and one of its components
+
+-- what holds of each registered mirror holds of the one that is named
+pub by_name : (s : Records) (n : List ℕ) (P : List ℕ → Type 0) → is_none (mirror_of s n) ≡ false
+    → ((m : Mirror) → Has s.mirrors m → mirror_of s m.name ≡ Some m → P m.name) → P n
+by_name s n P there each =
+    let found = there_from (mirror_of s n) there in
+    let at = named s n found.0 found.1 in
+    subst P at.1 (each found.0 at.0 (subst (λ (a : List ℕ). mirror_of s a ≡ Some found.0) (sym at.1) found.1))
+
+-- What the refusals of a command on one component of a mirror rule out: all its components are there, p is one of them,
+-- and another is ACTIVE.
+pub record CanTouch (u : World) (m : Mirror) (p : List ℕ) : Type 0 where
+  pub here : Has u.state.mirrors m
+  pub there : (k : Component) → Has (members u.state.components m.name) k → present u k.provider ≡ Some k.sectors
+  pub member : (k : Component) × Has (members u.state.components m.name) k × (k.provider ≡ p)
+  pub active : (k : Component) × Has (members u.state.components m.name) k × (k.disk ≡ InSync) × (k.provider ≢ p)
+
+-- one of these components is on p
+pub is_member : (ks : List Component) (p : List ℕ) → list_any (λ q. not (list_any (λ k. same_label k.provider q) ks)) (p ∷ []) ≡ false → (k : Component) × Has ks k × (k.provider ≡ p)
+is_member ks p e =
+    let k = some_any (λ (k : Component). same_label k.provider p) ks (not-false _ (any_one (λ q. not (list_any (λ k. same_label k.provider q) ks)) p e)) in
+    (k.0, k.1, same_is k.0.provider p k.2)
+
+-- so it is registered
+pub member_found : (s : Records) (n p : List ℕ) → list_any (λ q. not (list_any (λ k. same_label k.provider q) (members s.components n))) (p ∷ []) ≡ false → IsSome (component_of s p)
+member_found s n p e =
+    let k = is_member (members s.components n) p e in
+    elim (option_cases (component_of s p)) [
+      | inr some ↦ rw some.1 refl
+      | inl none ↦ not_both (same_label k.0.provider p) (same_from k.0.provider p k.2)
+          (found_none (λ (j : Component). same_label j.provider p) s.components none k.0 (Has-filter (λ (j : Component). same_label j.mirror n) s.components k.0 k.1).0)
+    ]
+
+active_is : (d : Disk) → is_active d ≡ true → d ≡ InSync
+active_is InSync e = refl
+active_is Inactive e = cc
+active_is (Copying f h) e = cc
+
+on_one : (k : Component) (p : List ℕ) → k.provider ≡ p → is_on_any (p ∷ []) k ≡ true
+on_one k p e = rw (same_from k.provider p e) refl
+
+-- an ACTIVE one is left
+pub other_active : (ks : List Component) (p : List ℕ) → list_all (is_on_any (p ∷ [])) (filter (λ k. is_active k.disk) ks) ≡ false
+    → (k : Component) × Has ks k × (k.disk ≡ InSync) × (k.provider ≢ p)
+other_active ks p e =
+    let k = some_other (is_on_any (p ∷ [])) (filter (λ (k : Component). is_active k.disk) ks) e in
+    let parts = Has-filter (λ (k : Component). is_active k.disk) ks k.0 k.1 in
+    (k.0, parts.0, active_is k.0.disk parts.1, λ at. not_both (is_on_any (p ∷ []) k.0) (on_one k.0 p at) k.2)
+
+-- where the one on p is INACTIVE, another is ACTIVE
+pub other_in_use : (ks : List Component) (p : List ℕ) → list_any (λ k. is_on_any (p ∷ []) k && not (is_inactive k.disk)) ks ≡ false
+    → (k : Component) × Has ks k × (k.disk ≡ InSync) → (k : Component) × Has ks k × (k.disk ≡ InSync) × (k.provider ≢ p)
+other_in_use ks p e k = (
+  k.0,
+  k.1,
+  k.2,
+  λ at.
+      not_both (is_on_any (p ∷ []) k.0 && not (is_inactive k.0.disk)) (rw (on_one k.0 p at, k.2) refl) (none_any (λ k. is_on_any (p ∷ []) k && not (is_inactive k.disk)) ks e k.0 k.1),
+)
+
+-- the one on p isn't INACTIVE
+pub in_use : (ks : List Component) (p : List ℕ) → list_any (λ k. is_on_any (p ∷ []) k && is_inactive k.disk) ks ≡ false
+    → (k : Component) → Has ks k → k.provider ≡ p → k.disk ≢ Inactive
+in_use ks p e k h at off =
+    not_both (is_on_any (p ∷ []) k && is_inactive k.disk) (rw (on_one k p at, off) refl) (none_any (λ k. is_on_any (p ∷ []) k && is_inactive k.disk) ks e k h)
+
+module _ (u : World) (m : Mirror) (p : List ℕ) (state : IsState u.state) (can : CanTouch u m p) where
+  abbrev in_all : Has u.state.components can.member.0 × (same_label can.member.0.mirror m.name ≡ true)
+  in_all = Has-filter (λ (c : Component). same_label c.mirror m.name) u.state.components can.member.0 can.member.1
+
+  -- it is the one that is found on p
+  pub component_at : component_of u.state p ≡ Some can.member.0
+  component_at = subst (λ (x : List ℕ). component_of u.state x ≡ Some can.member.0) can.member.2 (find_one provider u.state.components state.components_in_order can.member.0 in_all.0)
+
+  -- a component of another mirror is elsewhere
+  pub not_on : (j : Component) → Has u.state.components j → j.mirror ≢ m.name → j.provider ≢ p
+  not_on j h d e =
+      let same : can.member.0 ≡ j = one provider u.state.components state.components_in_order can.member.0 j in_all.0 h (can.member.2 ∙ sym e) in
+      d (sym (ap (λ (c : Component). c.mirror) same) ∙ same_is can.member.0.mirror m.name in_all.1)
 
 -- ---- Meta of each of the components, and Clear of each
 

@@ -3,7 +3,7 @@ use Rattle.std.proofs.Common.{◌≡◌, ◌∙◌, inl, ℕ, ◌||◌, ◌+◌,
 use Rattle.std.specs.List.{list_any}
 use Rattle.gm_metadata.specs.Images.{Sizes}
 use Rattle.gm_state.specs.declared.command.Command.{Command}
-use Rattle.gm_state.specs.declared.command.Command.TheVariants.{Label, Insert, Remove, Clear, Destroy}
+use Rattle.gm_state.specs.declared.command.Command.TheVariants.{Label, Insert, Remove, Deactivate, Activate, Forget, Rebuild, Clear, Destroy}
 use Rattle.gm_state.specs.declared.records.Mirror.{Mirror}
 use Rattle.gm_state.specs.declared.records.Component.{Component}
 use Rattle.gm_state.specs.Words.{Has, put}
@@ -12,10 +12,10 @@ use Rattle.gm_state.specs.Lookups.{mirror_of}
 use Rattle.gm_state.specs.World.{World, present}
 use Rattle.gm_rules.specs.declared.facts.Fact.{Fact}
 use Rattle.gm_rules.specs.declared.refusals.Refusal.{Refusal}
-use Rattle.gm_rules.specs.declared.refusals.Refusal.TheVariants.{NoMirror, NameTaken, MidTaken, Absent, ProviderTaken, CarriesMetadata, TooSmall, NotMember, DidTaken, Full, TooManyMirrors, SomeLost, LastActive, WrongSize, NoMetadata}
+use Rattle.gm_rules.specs.declared.refusals.Refusal.TheVariants.{NoMirror, NameTaken, MidTaken, Absent, ProviderTaken, CarriesMetadata, TooSmall, NotMember, DidTaken, Full, TooManyMirrors, SomeLost, LastActive, AlreadyInactive, NotInactive, NoneLost, Inactive, LastSyncid, WrongSize, NoMetadata}
 use Rattle.gm_rules.specs.Facts.{size_in, last_in, last_carries}
 use Rattle.gm_rules.specs.Bad.{applies, seen_in, has_size, has_wrong_size, providers_of, members_named, mirror_named, is_there_and}
-use Rattle.gm_rules.specs.After.{after, intents_of, new_mirror, first_component, spare, on_mirror}
+use Rattle.gm_rules.specs.After.{after, intents_of, new_mirror, first_component, spare, on_found}
 use Rattle.gm_rules.specs.Worlds.{AreFacts, needed_by, seen_of, last_of}
 use Rattle.gm_rules.specs.Decides.{Changed, Decides}
 use Rattle.gm_state.proofs.Finding.{any_agree, Has-append_left, Has-append_right, Has-map}
@@ -52,14 +52,23 @@ module _ (facts : List Fact) (u : World) (c : Command) (are : AreFacts facts u c
   same TooManyMirrors = refl
   same SomeLost = refl
   same LastActive = refl
+  same AlreadyInactive = refl
+  same NotInactive = refl
+  same NoneLost = refl
+  same Inactive = refl
+  same LastSyncid = refl
   same WrongSize = by_size (λ o. is_there_and o has_wrong_size)
   same NoMetadata = by_last (λ o. not (last_carries o))
 
 -- the records depend on the sizes of the named providers alone
 same_after : (x y : Sizes) (c : Command) (s : Records) → ((p : List ℕ) → Has (providers_of c) p → x p ≡ y p) → after x c s ≡ after y c s
 same_after x y (Label n p mid did balance slice flags hardcoded) s e = ap (λ o. let r : Records = record { mirrors = put name (new_mirror n mid balance slice flags (unwrap_or o 0)) s.mirrors; components = put provider (first_component n p did hardcoded (unwrap_or o 0)) s.components } in r) (e p (inl refl))
-same_after x y (Insert n p did priority hardcoded) s e = ap (λ o. on_mirror (mirror_of s n) s (λ m. record { mirrors = put name (record m { all = m.all + 1 }) s.mirrors; components = put provider (spare m p did priority hardcoded (unwrap_or o 0)) s.components })) (e p (inl refl))
+same_after x y (Insert n p did priority hardcoded) s e = ap (λ o. on_found (mirror_of s n) s (λ m. record { mirrors = put name (record m { all = m.all + 1 }) s.mirrors; components = put provider (spare m p did priority hardcoded (unwrap_or o 0)) s.components })) (e p (inl refl))
 same_after x y (Remove n p) s e = refl
+same_after x y (Deactivate n p) s e = refl
+same_after x y (Activate n p) s e = refl
+same_after x y (Forget n) s e = refl
+same_after x y (Rebuild n p) s e = refl
 same_after x y (Clear p) s e = refl
 same_after x y (Destroy n) s e = refl
 

@@ -90,7 +90,7 @@ module _ (u : World) (key p : List ℕ) (sound : Sound u) (fresh : (k : Componen
   clear_plan : IsGood u.state (seen_of u) (commands.Clear p) → CanAnswer u key (commands.Clear p) → HasPlan u key (commands.Clear p)
   clear_plan good answer =
       has u key (commands.Clear p) nobody [] (u.holds nobody.name) u.state (Clear p ∷ []) sound turns writes were (one_plain (Clear p) tt [] (λ t h. absurd h)) (serves answer.fits) answer
-      refl refl good tt (λ j i. inl i)
+      refl refl good tt tt
 
 pub clear_has : (u : World) (key p : List ℕ) → Sound u → CanAnswer u key (commands.Clear p) → IsGood u.state (seen_of u) (commands.Clear p) → HasPlan u key (commands.Clear p)
 clear_has u key p sound answer good =

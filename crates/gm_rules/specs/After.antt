@@ -1,5 +1,5 @@
 -- What a command makes of the records, and what it has written.
-use Rattle.std.specs.Prelude.{◌+◌, ◌-◌, ℕ, Bool, false, not, List, [], ◌∷◌, Option, Some, None, map, filter, unwrap_or}
+use Rattle.std.specs.Prelude.{◌+◌, ◌-◌, ℕ, Bool, true, false, not, List, [], ◌∷◌, Option, Some, None, map, filter, length, unwrap_or, if◌then◌else◌}
 use Rattle.std.specs.List.{list_any}
 use Rattle.gm_metadata.specs.Images.{Sizes, same_label}
 use Rattle.gm_metadata.specs.declared.flags.MirrorFlags.{MirrorFlags}
@@ -12,11 +12,11 @@ use Rattle.gm_state.specs.declared.command.Reply.{Reply}
 use Rattle.gm_state.specs.declared.command.Reply.TheVariants.{Plain}
 use Rattle.gm_state.specs.declared.records.Mirror.{Mirror}
 use Rattle.gm_state.specs.declared.records.Component.{Component}
-use Rattle.gm_state.specs.declared.records.Disk.TheVariants.{InSync, Copying}
+use Rattle.gm_state.specs.declared.records.Disk.TheVariants.{InSync, Inactive, Copying}
 use Rattle.gm_state.specs.Commands.{balance_of_word}
-use Rattle.gm_state.specs.Words.{put, without}
+use Rattle.gm_state.specs.Words.{put, put_all, without}
 use Rattle.gm_state.specs.Records.{Records, name, provider, members}
-use Rattle.gm_state.specs.Lookups.{mirror_of}
+use Rattle.gm_state.specs.Lookups.{mirror_of, component_of, is_inactive}
 
 -- the record of a labelled mirror: genid 0, syncid 1, one component, and all sectors of the provider but the last as data
 abbrev pub new_mirror : List ℕ → ℕ → BalanceWord → ℕ → MirrorFlags → ℕ → Mirror
@@ -58,10 +58,25 @@ spare m p did priority hardcoded sectors = record {
   sectors = sectors;
 }
 
--- what is made of the records by way of a mirror that is registered
-abbrev pub on_mirror : Option Mirror → Records → (Mirror → Records) → Records
-on_mirror None s f = s
-on_mirror (Some m) s f = f m
+-- A component of a mirror of which the one on p is taken out of use: that one becomes INACTIVE and keeps its syncid,
+-- and each other that isn't INACTIVE takes the mirror's new one.
+abbrev pub deactivated : ℕ → List ℕ → Component → Component
+deactivated syncid p k =
+    if same_label k.provider p then record k { disk = Inactive }
+    else (if is_inactive k.disk then k else record k { syncid = syncid })
+
+-- a component that is taken into use again: it holds nothing yet, and has the mirror's syncid
+abbrev pub activated : Mirror → Component → Component
+activated m k = record k { disk = Copying false 0; syncid = m.syncid }
+
+-- a component that is to be filled anew, also where the mirror doesn't fill its components by itself
+abbrev pub rebuilt : Component → Component
+rebuilt k = record k { disk = Copying true 0 }
+
+-- what is made of the records by way of a mirror or a component that is registered
+abbrev pub on_found : {X : Type 0} → Option X → Records → (X → Records) → Records
+on_found None s f = s
+on_found (Some x) s f = f x
 
 -- the records after the command: those before but for what is named here
 abbrev pub after : Sizes → Command → Records → Records
@@ -69,13 +84,29 @@ after size (commands.Label n p mid did balance slice flags hardcoded) s = record
   mirrors = put name (new_mirror n mid balance slice flags (unwrap_or (size p) 0)) s.mirrors;
   components = put provider (first_component n p did hardcoded (unwrap_or (size p) 0)) s.components;
 }
-after size (commands.Insert n p did priority hardcoded) s = on_mirror (mirror_of s n) s (λ m. record {
+after size (commands.Insert n p did priority hardcoded) s = on_found (mirror_of s n) s (λ m. record {
   mirrors = put name (record m { all = m.all + 1 }) s.mirrors;
   components = put provider (spare m p did priority hardcoded (unwrap_or (size p) 0)) s.components;
 })
-after size (commands.Remove n p) s = on_mirror (mirror_of s n) s (λ m. record {
+after size (commands.Remove n p) s = on_found (mirror_of s n) s (λ m. record {
   mirrors = put name (record m { all = m.all - 1 }) s.mirrors;
   components = without provider p s.components;
+})
+after size (commands.Deactivate n p) s = on_found (mirror_of s n) s (λ m. record {
+  mirrors = put name (record m { syncid = m.syncid + 1 }) s.mirrors;
+  components = put_all provider (map (deactivated (m.syncid + 1) p) (members s.components n)) s.components;
+})
+after size (commands.Activate n p) s = on_found (mirror_of s n) s (λ m. on_found (component_of s p) s (λ k. record {
+  mirrors = s.mirrors;
+  components = put provider (activated m k) s.components;
+}))
+after size (commands.Forget n) s = on_found (mirror_of s n) s (λ m. record {
+  mirrors = put name (record m { all = length (members s.components n) }) s.mirrors;
+  components = s.components;
+})
+after size (commands.Rebuild n p) s = on_found (component_of s p) s (λ k. record {
+  mirrors = s.mirrors;
+  components = put provider (rebuilt k) s.components;
 })
 after size (commands.Clear p) s = s
 after size (commands.Destroy n) s = record {
@@ -85,11 +116,7 @@ after size (commands.Destroy n) s = record {
 
 -- what the command is answered beside its number, where the records before are s
 abbrev pub reply_to : Command → Records → Reply
-reply_to (commands.Label n p mid did balance slice flags hardcoded) s = Plain
-reply_to (commands.Insert n p did priority hardcoded) s = Plain
-reply_to (commands.Remove n p) s = Plain
-reply_to (commands.Clear p) s = Plain
-reply_to (commands.Destroy n) s = Plain
+reply_to _ s = Plain
 
 -- Meta of each of the components, and Clear of each
 abbrev pub metas : List Component → List Intent
@@ -103,6 +130,10 @@ abbrev pub intents_of : Command → Records → Records → List Intent
 intents_of (commands.Label n p mid did balance slice flags hardcoded) s s' = Meta p ∷ []
 intents_of (commands.Insert n p did priority hardcoded) s s' = metas (members s'.components n)
 intents_of (commands.Remove n p) s s' = Clear p ∷ metas (members s'.components n)
+intents_of (commands.Deactivate n p) s s' = metas (members s'.components n)
+intents_of (commands.Activate n p) s s' = Meta p ∷ []
+intents_of (commands.Forget n) s s' = metas (members s'.components n)
+intents_of (commands.Rebuild n p) s s' = Meta p ∷ []
 intents_of (commands.Clear p) s s' = Clear p ∷ []
 intents_of (commands.Destroy n) s s' = clears_of (members s.components n)
 
@@ -111,5 +142,9 @@ abbrev pub clears : Records → Command → List ℕ → Bool
 clears s (commands.Label n p mid did balance slice flags hardcoded) q = false
 clears s (commands.Insert n p did priority hardcoded) q = false
 clears s (commands.Remove n p) q = same_label p q
+clears s (commands.Deactivate n p) q = false
+clears s (commands.Activate n p) q = false
+clears s (commands.Forget n) q = false
+clears s (commands.Rebuild n p) q = false
 clears s (commands.Clear p) q = same_label p q
 clears s (commands.Destroy n) q = list_any (λ k. same_label k.provider q) (members s.components n)

@@ -1,23 +1,27 @@
 -- When a command is refused: for each refusal one line.
-use Rattle.std.specs.Prelude.{◌+◌, ℕ, Bool, false, not, ◌==◌, ◌||◌, nat_lt, List, [], ◌∷◌, length, Option, Some, None, is_none, is_some, filter, option_and_then}
+use Rattle.std.specs.Prelude.{◌+◌, ℕ, Bool, false, not, ◌==◌, ◌&&◌, ◌||◌, nat_lt, List, [], ◌∷◌, length, Option, Some, None, is_none, is_some, filter, option_and_then}
 use Rattle.std.specs.List.{list_all, list_any}
 use Rattle.gm_metadata.specs.Images.{same_label}
 use Rattle.gm_state.specs.declared.records.Mirror.{Mirror}
 use Rattle.gm_state.specs.declared.records.Component.{Component}
 use Rattle.gm_state.specs.declared.command.Command.{Command}
-use Rattle.gm_state.specs.declared.command.Command.TheVariants.{Label, Insert, Remove, Clear, Destroy}
+use Rattle.gm_state.specs.declared.command.Command.TheVariants.{Label, Insert, Remove, Deactivate, Activate, Forget, Rebuild, Clear, Destroy}
 use Rattle.gm_state.specs.Records.{Records}
-use Rattle.gm_state.specs.Lookups.{mirror_of, component_of, is_active}
+use Rattle.gm_state.specs.Lookups.{mirror_of, component_of, is_active, is_inactive}
 use Rattle.gm_rules.specs.declared.facts.Fact.{Fact}
 use Rattle.gm_rules.specs.Facts.{size_in, last_in, last_carries}
 use Rattle.gm_rules.specs.declared.refusals.Refusal.{Refusal}
-use Rattle.gm_rules.specs.declared.refusals.Refusal.TheVariants.{NoMirror, NameTaken, MidTaken, Absent, ProviderTaken, CarriesMetadata, TooSmall, NotMember, DidTaken, Full, TooManyMirrors, SomeLost, LastActive, WrongSize, NoMetadata}
+use Rattle.gm_rules.specs.declared.refusals.Refusal.TheVariants.{NoMirror, NameTaken, MidTaken, Absent, ProviderTaken, CarriesMetadata, TooSmall, NotMember, DidTaken, Full, TooManyMirrors, SomeLost, LastActive, AlreadyInactive, NotInactive, NoneLost, Inactive, LastSyncid, WrongSize, NoMetadata}
 
 -- the mirror that a command names
 abbrev pub name_of : Command → Option (List ℕ)
 name_of (Label n p mid did balance slice flags hardcoded) = Some n
 name_of (Insert n p did priority hardcoded) = Some n
 name_of (Remove n p) = Some n
+name_of (Deactivate n p) = Some n
+name_of (Activate n p) = Some n
+name_of (Forget n) = Some n
+name_of (Rebuild n p) = Some n
 name_of (Clear p) = None
 name_of (Destroy n) = Some n
 
@@ -26,24 +30,23 @@ abbrev pub providers_of : Command → List (List ℕ)
 providers_of (Label n p mid did balance slice flags hardcoded) = p ∷ []
 providers_of (Insert n p did priority hardcoded) = p ∷ []
 providers_of (Remove n p) = p ∷ []
+providers_of (Deactivate n p) = p ∷ []
+providers_of (Activate n p) = p ∷ []
+providers_of (Forget n) = []
+providers_of (Rebuild n p) = p ∷ []
 providers_of (Clear p) = p ∷ []
 providers_of (Destroy n) = []
 
 -- the mirror has the mid that the command gives
 abbrev pub has_mid : Command → Mirror → Bool
 has_mid (Label n p mid did balance slice flags hardcoded) m = m.mid == mid
-has_mid (Insert n p did priority hardcoded) m = false
-has_mid (Remove n p) m = false
-has_mid (Clear p) m = false
-has_mid (Destroy n) m = false
+has_mid _ m = false
 
 -- the component has the did that the command gives
 abbrev pub has_did : Command → Component → Bool
 has_did (Label n p mid did balance slice flags hardcoded) k = k.did == did
 has_did (Insert n p did priority hardcoded) k = k.did == did
-has_did (Remove n p) k = false
-has_did (Clear p) k = false
-has_did (Destroy n) k = false
+has_did _ k = false
 
 -- what is seen of a provider: its size where it is there, and whether its last sector carries metadata
 pub record Seen : Type 0 where
@@ -100,5 +103,10 @@ applies s x c Full = is_there_and (mirror_named s c) (λ m. m.all == 16)
 applies s x c TooManyMirrors = length s.mirrors == 64
 applies s x c SomeLost = is_there_and (mirror_named s c) (λ m. nat_lt (length (members_named s c)) m.all)
 applies s x c LastActive = list_all (is_on_any (providers_of c)) (filter (λ k. is_active k.disk) (members_named s c))
+applies s x c AlreadyInactive = list_any (λ k. is_on_any (providers_of c) k && is_inactive k.disk) (members_named s c)
+applies s x c NotInactive = list_any (λ k. is_on_any (providers_of c) k && not (is_inactive k.disk)) (members_named s c)
+applies s x c NoneLost = is_there_and (mirror_named s c) (λ m. length (members_named s c) == m.all)
+applies s x c Inactive = list_any (λ k. is_on_any (providers_of c) k && is_inactive k.disk) (members_named s c)
+applies s x c LastSyncid = is_there_and (mirror_named s c) (λ m. m.syncid == 4294967295)
 applies s x c WrongSize = list_any (λ p. is_there_and (x.size p) has_wrong_size) (providers_of c)
 applies s x c NoMetadata = list_any (λ p. not (x.carries p)) (providers_of c)

@@ -1,9 +1,9 @@
 -- The refusals: their numbers, and which command lists which.
 use Rattle.std.specs.Prelude.{ℕ, List, [], ◌∷◌}
 use Rattle.gm_state.specs.declared.command.Command.{Command}
-use Rattle.gm_state.specs.declared.command.Command.TheVariants.{Label, Insert, Remove, Clear, Destroy}
+use Rattle.gm_state.specs.declared.command.Command.TheVariants.{Label, Insert, Remove, Deactivate, Activate, Forget, Rebuild, Clear, Destroy}
 use Rattle.gm_rules.specs.declared.refusals.Refusal.{Refusal}
-use Rattle.gm_rules.specs.declared.refusals.Refusal.TheVariants.{NoMirror, NameTaken, MidTaken, Absent, ProviderTaken, CarriesMetadata, TooSmall, NotMember, DidTaken, Full, TooManyMirrors, SomeLost, LastActive, WrongSize, NoMetadata}
+use Rattle.gm_rules.specs.declared.refusals.Refusal.TheVariants.{NoMirror, NameTaken, MidTaken, Absent, ProviderTaken, CarriesMetadata, TooSmall, NotMember, DidTaken, Full, TooManyMirrors, SomeLost, LastActive, AlreadyInactive, NotInactive, NoneLost, Inactive, LastSyncid, WrongSize, NoMetadata}
 use Rattle.gm_rules.specs.declared.refusals.CallRefusal.{CallRefusal}
 use Rattle.gm_rules.specs.declared.refusals.CallRefusal.TheVariants.{NoKey, KeyTaken, NoRoom, ByRules}
 
@@ -22,6 +22,11 @@ number_of Full = 14
 number_of TooManyMirrors = 15
 number_of SomeLost = 16
 number_of LastActive = 17
+number_of AlreadyInactive = 18
+number_of NotInactive = 19
+number_of NoneLost = 20
+number_of Inactive = 21
+number_of LastSyncid = 23
 number_of WrongSize = 28
 number_of NoMetadata = 29
 
@@ -37,5 +42,9 @@ abbrev pub own : Command → List Refusal
 own (Label n p mid did balance slice flags hardcoded) = NameTaken ∷ MidTaken ∷ Absent ∷ ProviderTaken ∷ CarriesMetadata ∷ TooManyMirrors ∷ WrongSize ∷ []
 own (Insert n p did priority hardcoded) = NoMirror ∷ Absent ∷ ProviderTaken ∷ CarriesMetadata ∷ TooSmall ∷ DidTaken ∷ Full ∷ SomeLost ∷ WrongSize ∷ []
 own (Remove n p) = NoMirror ∷ Absent ∷ NotMember ∷ SomeLost ∷ LastActive ∷ []
+own (Deactivate n p) = NoMirror ∷ Absent ∷ NotMember ∷ LastActive ∷ AlreadyInactive ∷ LastSyncid ∷ []
+own (Activate n p) = NoMirror ∷ Absent ∷ NotMember ∷ NotInactive ∷ []
+own (Forget n) = NoMirror ∷ Absent ∷ NoneLost ∷ []
+own (Rebuild n p) = NoMirror ∷ Absent ∷ NotMember ∷ LastActive ∷ Inactive ∷ []
 own (Clear p) = Absent ∷ ProviderTaken ∷ WrongSize ∷ NoMetadata ∷ []
 own (Destroy n) = NoMirror ∷ Absent ∷ []

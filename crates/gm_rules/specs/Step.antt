@@ -39,6 +39,10 @@ abbrev pub NewData : World → Command → World → Type 0
 NewData u (commands.Label n p mid did balance slice flags hardcoded) w = (i : ℕ) → i + 1 < unwrap_or (u.size p) 0 → w.holds n i ≡ u.shelf p i
 NewData u (commands.Insert n p did priority hardcoded) w = Unit {0}
 NewData u (commands.Remove n p) w = Unit {0}
+NewData u (commands.Deactivate n p) w = Unit {0}
+NewData u (commands.Activate n p) w = Unit {0}
+NewData u (commands.Forget n) w = Unit {0}
+NewData u (commands.Rebuild n p) w = Unit {0}
 NewData u (commands.Clear p) w = Unit {0}
 NewData u (commands.Destroy n) w = Unit {0}
 

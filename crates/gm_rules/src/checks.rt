@@ -1,9 +1,9 @@
 //! The refusals of a command, each by a test of its own.
 
-ghost use Rattle.std.specs.Prelude.{◌≡◌, ◌==◌, ◌+◌, not, nat_lt, find, is_none, is_some, length, filter};
+ghost use Rattle.std.specs.Prelude.{◌≡◌, ◌==◌, ◌+◌, ◌&&◌, not, nat_lt, find, is_none, is_some, length, filter};
 ghost use Rattle.std.specs.List.{list_all, list_any};
 ghost use Rattle.gm_metadata.specs.Images.{same_label};
-ghost use Rattle.gm_state.specs.Lookups.{component_of, is_active};
+ghost use Rattle.gm_state.specs.Lookups.{component_of, is_active, is_inactive};
 ghost use Rattle.gm_state.specs.Records.{Records};
 ghost use Rattle.gm_rules.specs.Facts.{size_in, last_in, last_carries};
 ghost use Rattle.gm_rules.specs.Refusals.{own};
@@ -13,7 +13,7 @@ ghost use Rattle.gm_rules.specs.Parts.{applies_to_part};
 use crate::facts::Facts;
 use crate::refusals::{Refusal, own};
 use gm_metadata::Label;
-use gm_state::{Command, Component, Mirror, State};
+use gm_state::{Command, Component, Disk, Mirror, State};
 use std::slice;
 
 const MAX_COMPONENTS: u8 = 16;
@@ -31,6 +31,10 @@ pub(crate) fn name_of(command: &Command) -> Option<Label>
         Command::Label { name, .. }
         | Command::Insert { name, .. }
         | Command::Remove { name, .. }
+        | Command::Deactivate { name, .. }
+        | Command::Activate { name, .. }
+        | Command::Forget { name }
+        | Command::Rebuild { name, .. }
         | Command::Destroy { name } => Some(*name),
         Command::Clear { .. } => None,
     }
@@ -44,8 +48,11 @@ pub fn providers_of(command: &Command) -> &[Label]
         Command::Label { provider, .. }
         | Command::Insert { provider, .. }
         | Command::Remove { provider, .. }
+        | Command::Deactivate { provider, .. }
+        | Command::Activate { provider, .. }
+        | Command::Rebuild { provider, .. }
         | Command::Clear { provider } => slice::from_ref(provider),
-        Command::Destroy { .. } => &[],
+        Command::Forget { .. } | Command::Destroy { .. } => &[],
     }
 }
 
@@ -219,6 +226,34 @@ fn all_active_on(components: &[Component], name: Option<Label>, providers: &[Lab
         .all(|k| is_on_any(providers, k))
 }
 
+pub(crate) fn is_inactive(component: &Component) -> bool
+    ensures { result ≡ is_inactive component.now.disk }
+{
+    matches!(component.disk, Disk::Inactive)
+}
+
+// Whether a component of the mirror that is on one of these providers is INACTIVE.
+fn any_inactive(components: &[Component], name: Option<Label>, providers: &[Label]) -> bool
+    ensures { result ≡ list_any (λ k. is_on_any providers.now k && is_inactive k.disk)
+        (filter (λ k. is_member_of name k) components.now) }
+{
+    components
+        .iter()
+        .filter(|k| is_member_of(name, k))
+        .any(|k| is_on_any(providers, k) && is_inactive(k))
+}
+
+// Whether one of them isn't INACTIVE.
+fn any_in_use(components: &[Component], name: Option<Label>, providers: &[Label]) -> bool
+    ensures { result ≡ list_any (λ k. is_on_any providers.now k && not (is_inactive k.disk))
+        (filter (λ k. is_member_of name k) components.now) }
+{
+    components
+        .iter()
+        .filter(|k| is_member_of(name, k))
+        .any(|k| is_on_any(providers, k) && !is_inactive(k))
+}
+
 fn mirror_named(state: &State, command: &Command) -> Option<Mirror>
     ensures { result ≡ mirror_named state.now command.now }
 {
@@ -259,6 +294,16 @@ fn applies(state: &State, count: u64, facts: &Facts, command: &Command, refusal:
             Some(m) => count_of(components, name) < usize::from(m.all),
         },
         Refusal::LastActive => all_active_on(components, name, providers),
+        Refusal::AlreadyInactive | Refusal::Inactive => any_inactive(components, name, providers),
+        Refusal::NotInactive => any_in_use(components, name, providers),
+        Refusal::NoneLost => match mirror {
+            None => false,
+            Some(m) => count_of(components, name) == usize::from(m.all),
+        },
+        Refusal::LastSyncid => match mirror {
+            None => false,
+            Some(m) => m.syncid == u32::MAX,
+        },
         Refusal::WrongSize => any_of_wrong_size(providers, facts),
         Refusal::NoMetadata => any_bare(providers, facts),
     }

@@ -14,6 +14,7 @@ ghost use Rattle.gm_rules.specs.Worlds.{AreFacts, seen_of};
 use crate::change::Change;
 use crate::checks::least_refusal;
 use crate::facts::Facts;
+use crate::keeping::{activated, deactivated, forgotten, rebuilt, replaced};
 use crate::making::{
     cleared, destroyed, first_component, inserted, labelled, new_mirror, removed, spare,
 };
@@ -107,6 +108,10 @@ fn change_of(
             hardcoded,
         } => insert(alloc, part, facts, name, provider, did, priority, hardcoded),
         Command::Remove { name, provider } => remove(alloc, part, facts, name, provider),
+        Command::Deactivate { name, provider } => deactivate(alloc, part, facts, name, provider),
+        Command::Activate { name, provider } => activate(alloc, part, facts, name, provider),
+        Command::Forget { name } => forget(alloc, part, facts, name),
+        Command::Rebuild { name, provider } => rebuild(alloc, part, facts, name, provider),
         Command::Clear { provider } => {
             let change = cleared(alloc, provider)?;
             Ok(change)
@@ -162,6 +167,71 @@ fn remove(
     let mirror = part.mirror(name).unwrap();
     let members = part.members(alloc, name)?;
     let change = removed(alloc, mirror, &members, provider)?;
+    Ok(change)
+}
+
+fn deactivate(
+    alloc: Global,
+    part: &State,
+    facts: &Facts,
+    name: Label,
+    provider: Label,
+) -> Result<Change, AllocError>
+    requires { IsGoodButCount part.now (seen_in facts.now)
+        (commands.Deactivate name provider) }
+    ensures { IfOk result (λ ch. IsMade part.now (seen_in facts.now)
+        (commands.Deactivate name provider) ch) }
+{
+    let mirror = part.mirror(name).unwrap();
+    let members = part.members(alloc, name)?;
+    let change = deactivated(alloc, mirror, &members, provider)?;
+    Ok(change)
+}
+
+fn activate(
+    alloc: Global,
+    part: &State,
+    facts: &Facts,
+    name: Label,
+    provider: Label,
+) -> Result<Change, AllocError>
+    requires { IsGoodButCount part.now (seen_in facts.now)
+        (commands.Activate name provider) }
+    ensures { IfOk result (λ ch. IsMade part.now (seen_in facts.now)
+        (commands.Activate name provider) ch) }
+{
+    let mirror = part.mirror(name).unwrap();
+    let component = part.component(provider).unwrap();
+    let change = replaced(alloc, activated(&mirror, component))?;
+    Ok(change)
+}
+
+fn forget(alloc: Global, part: &State, facts: &Facts, name: Label) -> Result<Change, AllocError>
+    requires { IsGoodButCount part.now (seen_in facts.now)
+        (commands.Forget name) }
+    ensures { IfOk result (λ ch. IsMade part.now (seen_in facts.now)
+        (commands.Forget name) ch) }
+{
+    let mirror = part.mirror(name).unwrap();
+    let members = part.members(alloc, name)?;
+    let change = forgotten(alloc, mirror, &members)?;
+    Ok(change)
+}
+
+fn rebuild(
+    alloc: Global,
+    part: &State,
+    facts: &Facts,
+    name: Label,
+    provider: Label,
+) -> Result<Change, AllocError>
+    requires { IsGoodButCount part.now (seen_in facts.now)
+        (commands.Rebuild name provider) }
+    ensures { IfOk result (λ ch. IsMade part.now (seen_in facts.now)
+        (commands.Rebuild name provider) ch) }
+{
+    let component = part.component(provider).unwrap();
+    let change = replaced(alloc, rebuilt(component))?;
     Ok(change)
 }
 

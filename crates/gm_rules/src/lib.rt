@@ -1,8 +1,8 @@
 //! What a command does, or why it is refused: pure decisions over the records and what the shelf says.
 //!
 //! Begin with `refusals.rt` and `change.rt`, the answers; `deciding.rt` makes them. `checks.rt` has a test for each
-//! refusal, `making.rt` the change of each command. `parts.rt` says which records it
-//! takes to decide, and `needs.rt` which providers; `changing.rt` makes the change.
+//! refusal, `making.rt` and `keeping.rt` the change of each command. `parts.rt` says which
+//! records it takes to decide, and `needs.rt` which providers; `changing.rt` makes the change.
 #![tactic(auto)]
 
 mod change;
@@ -10,6 +10,7 @@ mod changing;
 mod checks;
 mod deciding;
 mod facts;
+mod keeping;
 mod laws;
 mod making;
 mod needs;

@@ -18,7 +18,7 @@ use std::alloc::{AllocError, Global};
 const FIRST_SYNCID: u32 = 1;
 
 // A component that is to be copied to, and holds nothing yet.
-const NOT_BEGUN: Disk = Disk::Copying {
+pub(crate) const NOT_BEGUN: Disk = Disk::Copying {
     forced: false,
     held: 0,
 };

@@ -34,6 +34,16 @@ pub enum Refusal {
     SomeLost,
     /// No ACTIVE component would be left.
     LastActive,
+    /// The component is INACTIVE already.
+    AlreadyInactive,
+    /// The component isn't INACTIVE.
+    NotInactive,
+    /// As many components are registered as the mirror counts.
+    NoneLost,
+    /// The component is INACTIVE.
+    Inactive,
+    /// The mirror's syncid is the greatest there is.
+    LastSyncid,
     /// The provider has fewer than 2 or more than 1,048,576 sectors.
     WrongSize,
     /// The provider carries no metadata.
@@ -59,6 +69,11 @@ impl Refusal {
             Refusal::TooManyMirrors => 15,
             Refusal::SomeLost => 16,
             Refusal::LastActive => 17,
+            Refusal::AlreadyInactive => 18,
+            Refusal::NotInactive => 19,
+            Refusal::NoneLost => 20,
+            Refusal::Inactive => 21,
+            Refusal::LastSyncid => 23,
             Refusal::WrongSize => 28,
             Refusal::NoMetadata => 29,
         }
@@ -123,6 +138,28 @@ pub(crate) fn own(command: &Command) -> &'static [Refusal]
             Refusal::NotMember,
             Refusal::SomeLost,
             Refusal::LastActive,
+        ],
+        Command::Deactivate { .. } => &[
+            Refusal::NoMirror,
+            Refusal::Absent,
+            Refusal::NotMember,
+            Refusal::LastActive,
+            Refusal::AlreadyInactive,
+            Refusal::LastSyncid,
+        ],
+        Command::Activate { .. } => &[
+            Refusal::NoMirror,
+            Refusal::Absent,
+            Refusal::NotMember,
+            Refusal::NotInactive,
+        ],
+        Command::Forget { .. } => &[Refusal::NoMirror, Refusal::Absent, Refusal::NoneLost],
+        Command::Rebuild { .. } => &[
+            Refusal::NoMirror,
+            Refusal::Absent,
+            Refusal::NotMember,
+            Refusal::LastActive,
+            Refusal::Inactive,
         ],
         Command::Clear { .. } => &[
             Refusal::Absent,

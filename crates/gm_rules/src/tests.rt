@@ -1,5 +1,7 @@
 //! Each refusal by an example that meets just it, the least where two apply, and the changes of accepted commands.
 
+mod keeping;
+
 use crate::{Change, Fact, Facts, Refusal, changed_by, decide, decide_part, part};
 use gm_metadata::{Balance, Label, MirrorFlags, encode};
 use gm_state::{
@@ -114,6 +116,31 @@ fn insert_of(name: &str, provider: &str, did: u32) -> Result<Command, Fail> {
 
 fn remove_of(name: &str, provider: &str) -> Result<Command, Fail> {
     Ok(Command::Remove {
+        name: label(name)?,
+        provider: label(provider)?,
+    })
+}
+
+fn deactivate_of(name: &str, provider: &str) -> Result<Command, Fail> {
+    Ok(Command::Deactivate {
+        name: label(name)?,
+        provider: label(provider)?,
+    })
+}
+
+fn activate_of(name: &str, provider: &str) -> Result<Command, Fail> {
+    Ok(Command::Activate {
+        name: label(name)?,
+        provider: label(provider)?,
+    })
+}
+
+fn forget_of(name: &str) -> Result<Command, Fail> {
+    Ok(Command::Forget { name: label(name)? })
+}
+
+fn rebuild_of(name: &str, provider: &str) -> Result<Command, Fail> {
+    Ok(Command::Rebuild {
         name: label(name)?,
         provider: label(provider)?,
     })

@@ -1,5 +1,5 @@
 -- Commands with one line of words are one command.
-use Rattle.std.proofs.Common.{◌≡◌, ◌≢◌, ◌∙◌, ℕ, ◌<◌, ◌^◌, ◌==◌, not, Bool, true, false, cond, refl, sym, ap, arith, List, [], ◌∷◌, get_or, true≢false, eq-eqb}
+use Rattle.std.proofs.Common.{◌≡◌, ◌≢◌, ◌∙◌, ℕ, ◌+◌, ◌<◌, ◌^◌, ◌==◌, not, Bool, true, false, cond, refl, sym, ap, arith, List, [], ◌∷◌, get_or, true≢false, eq-eqb}
 use Rattle.std.specs.Fmt.{decimal}
 use Rattle.std.specs.List.{join_with_byte}
 use Rattle.std.proofs.lemmas.Fmt.{decimal_injective}
@@ -8,7 +8,7 @@ use Rattle.gm_metadata.specs.declared.flags.MirrorFlags.{MirrorFlags}
 use Rattle.gm_state.specs.declared.command.BalanceWord.{BalanceWord}
 use Rattle.gm_state.specs.declared.command.BalanceWord.TheVariants.{Load, Prefer, RoundRobin, Split}
 use Rattle.gm_state.specs.declared.command.Command.{Command}
-use Rattle.gm_state.specs.declared.command.Command.TheVariants.{Label, Insert, Remove, Clear, Destroy}
+use Rattle.gm_state.specs.declared.command.Command.TheVariants.{Label, Insert, Remove, Deactivate, Activate, Forget, Rebuild, Clear, Destroy}
 use Rattle.gm_state.specs.Commands.{CommandFits, balance_of_word, on_where, words, words_of}
 use Rattle.gm_state.proofs.Parting.{spaceless, all_spaceless, same_words, label_spaceless, decimal_spaceless}
 
@@ -72,12 +72,16 @@ words_spaceless (Insert n p did priority h) fits =
     let small : priority < 2 ^ 8 = fits.3 in
     rw (number_spaceless did fits.2, number_spaceless priority (omega arith), switch_spaceless h, label_spaceless n fits.0, label_spaceless p fits.1) refl
 words_spaceless (Remove n p) fits = rw (label_spaceless n fits.0, label_spaceless p fits.1) refl
+words_spaceless (Deactivate n p) fits = rw (label_spaceless n fits.0, label_spaceless p fits.1) refl
+words_spaceless (Activate n p) fits = rw (label_spaceless n fits.0, label_spaceless p fits.1) refl
+words_spaceless (Forget n) fits = rw (label_spaceless n fits) refl
+words_spaceless (Rebuild n p) fits = rw (label_spaceless n fits.0, label_spaceless p fits.1) refl
 words_spaceless (Clear p) fits = rw (label_spaceless p fits) refl
 words_spaceless (Destroy n) fits = rw (label_spaceless n fits) refl
 
--- the first letter of the first word, and a word by its place
-letter : List (List ℕ) → ℕ
-letter ws = get_or (get_or ws 0 []) 0 0
+-- the first and the third letter of the first word, added up, and a word by its place
+letters : List (List ℕ) → ℕ
+letters ws = get_or (get_or ws 0 []) 0 0 + get_or (get_or ws 0 []) 2 0
 
 word : ℕ → List (List ℕ) → List ℕ
 word k ws = get_or ws k []
@@ -86,6 +90,10 @@ words_some : (c : Command) → words c ≢ []
 words_some (Label n p mid did b slice f h) e = cc
 words_some (Insert n p did priority h) e = cc
 words_some (Remove n p) e = cc
+words_some (Deactivate n p) e = cc
+words_some (Activate n p) e = cc
+words_some (Forget n) e = cc
+words_some (Rebuild n p) e = cc
 words_some (Clear p) e = cc
 words_some (Destroy n) e = cc
 
@@ -99,7 +107,7 @@ pub apart : (m n : ℕ) → (m == n) ≡ false → m ≡ n → ⊥
 apart m n e s = true≢false (sym (eq-eqb m n s) ∙ e)
 
 same_by_words : (a b : Command) → CommandFits a → CommandFits b → words a ≡ words b → a ≡ b
-unfolding letter word
+unfolding letters word
 same_by_words (Label n p mid did b slice f h) (Label n' p' mid' did' b' slice' f' h') u v e =
     let mids : mid ≡ mid' = same_number mid mid' u.2 v.2 (ap (word 2) e) in
     let dids : did ≡ did' = same_number did did' u.3 v.3 (ap (word 4) e) in
@@ -120,9 +128,13 @@ same_by_words (Insert n p did priority h) (Insert n' p' did' priority' h') u v e
     let providers : p ≡ p' = ap (word 8) e in
     rw (dids, priorities, hard, names, providers) refl
 same_by_words (Remove n p) (Remove n' p') u v e = let names : n ≡ n' = ap (word 1) e in let providers : p ≡ p' = ap (word 2) e in cc
+same_by_words (Deactivate n p) (Deactivate n' p') u v e = let names : n ≡ n' = ap (word 1) e in let providers : p ≡ p' = ap (word 2) e in cc
+same_by_words (Activate n p) (Activate n' p') u v e = let names : n ≡ n' = ap (word 1) e in let providers : p ≡ p' = ap (word 2) e in cc
+same_by_words (Forget n) (Forget n') u v e = ap Forget (ap (word 1) e)
+same_by_words (Rebuild n p) (Rebuild n' p') u v e = let names : n ≡ n' = ap (word 1) e in let providers : p ≡ p' = ap (word 2) e in cc
 same_by_words (Clear p) (Clear p') u v e = ap Clear (ap (word 1) e)
 same_by_words (Destroy n) (Destroy n') u v e = ap Destroy (ap (word 1) e)
-same_by_words a b u v e = absurd (apart (letter (words a)) (letter (words b)) refl (ap letter e))
+same_by_words a b u v e = absurd (apart (letters (words a)) (letters (words b)) refl (ap letters e))
 
 pub same_command : (a b : Command) → CommandFits a → CommandFits b → words_of a ≡ words_of b → a ≡ b
 same_command a b u v e = same_by_words a b u v (lists_same (words a) (words b) (words_some a) (words_some b) (words_spaceless a u) (words_spaceless b v) e)

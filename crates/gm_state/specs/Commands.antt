@@ -9,7 +9,7 @@ use Rattle.gm_metadata.specs.declared.balance.Balance.TheVariants as balances
 use Rattle.gm_state.specs.declared.command.BalanceWord.{BalanceWord}
 use Rattle.gm_state.specs.declared.command.BalanceWord.TheVariants.{Load, Prefer, RoundRobin, Split}
 use Rattle.gm_state.specs.declared.command.Command.{Command}
-use Rattle.gm_state.specs.declared.command.Command.TheVariants.{Label, Insert, Remove, Clear, Destroy}
+use Rattle.gm_state.specs.declared.command.Command.TheVariants.{Label, Insert, Remove, Deactivate, Activate, Forget, Rebuild, Clear, Destroy}
 
 -- the balance that a word asks for
 abbrev pub balance_of_word : BalanceWord → Balance
@@ -23,6 +23,10 @@ abbrev pub CommandFits : Command → Type 0
 CommandFits (Label n p mid did balance slice flags hardcoded) = IsTrue (is_label n) × IsTrue (is_label p) × (mid < 2 ^ 32) × (did < 2 ^ 32) × (0 < slice) × (slice < 2 ^ 32)
 CommandFits (Insert n p did priority hardcoded) = IsTrue (is_label n) × IsTrue (is_label p) × (did < 2 ^ 32) × (priority < 2 ^ 8)
 CommandFits (Remove n p) = IsTrue (is_label n) × IsTrue (is_label p)
+CommandFits (Deactivate n p) = IsTrue (is_label n) × IsTrue (is_label p)
+CommandFits (Activate n p) = IsTrue (is_label n) × IsTrue (is_label p)
+CommandFits (Forget n) = IsTrue (is_label n)
+CommandFits (Rebuild n p) = IsTrue (is_label n) × IsTrue (is_label p)
 CommandFits (Clear p) = IsTrue (is_label p)
 CommandFits (Destroy n) = IsTrue (is_label n)
 
@@ -47,6 +51,10 @@ words (Insert n p did priority hardcoded) =
     codes "insert" ∷ codes "--did" ∷ decimal did ∷ codes "--priority" ∷ decimal priority
     ∷ codes "--hardcode" ∷ on_where hardcoded ∷ n ∷ p ∷ []
 words (Remove n p) = codes "remove" ∷ n ∷ p ∷ []
+words (Deactivate n p) = codes "deactivate" ∷ n ∷ p ∷ []
+words (Activate n p) = codes "activate" ∷ n ∷ p ∷ []
+words (Forget n) = codes "forget" ∷ n ∷ []
+words (Rebuild n p) = codes "rebuild" ∷ n ∷ p ∷ []
 words (Clear p) = codes "clear" ∷ p ∷ []
 words (Destroy n) = codes "destroy" ∷ n ∷ []
 

@@ -94,6 +94,25 @@ pub enum Command {
         name: Label,
         provider: Label,
     },
+    /// A component is taken out of use: it keeps the count of syncs that it has, the others count one more.
+    Deactivate {
+        name: Label,
+        provider: Label,
+    },
+    /// A component that was taken out of use is to be filled anew.
+    Activate {
+        name: Label,
+        provider: Label,
+    },
+    /// Components that were lost are no longer waited for.
+    Forget {
+        name: Label,
+    },
+    /// A component is to be filled anew, also where the mirror doesn't fill its components by itself.
+    Rebuild {
+        name: Label,
+        provider: Label,
+    },
     /// The metadata of a provider that is no component are wiped out.
     Clear {
         provider: Label,

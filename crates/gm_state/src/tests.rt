@@ -361,6 +361,13 @@ fn canonical_words(rt: HostRuntime) -> Result<(), Fail> {
             "insert --did 2 --priority 0 --hardcode off gm0 a.img",
         ),
         (Command::Remove { name, provider }, "remove gm0 a.img"),
+        (
+            Command::Deactivate { name, provider },
+            "deactivate gm0 a.img",
+        ),
+        (Command::Activate { name, provider }, "activate gm0 a.img"),
+        (Command::Forget { name }, "forget gm0"),
+        (Command::Rebuild { name, provider }, "rebuild gm0 a.img"),
         (Command::Clear { provider }, "clear a.img"),
         (Command::Destroy { name }, "destroy gm0"),
     ] {

@@ -80,14 +80,17 @@ fn command_fits(command: Command)
             let _ = name.as_bytes();
             let _ = provider.as_bytes();
         }
-        Command::Remove { name, provider } => {
+        Command::Remove { name, provider }
+        | Command::Deactivate { name, provider }
+        | Command::Activate { name, provider }
+        | Command::Rebuild { name, provider } => {
             let _ = name.as_bytes();
             let _ = provider.as_bytes();
         }
         Command::Clear { provider } => {
             let _ = provider.as_bytes();
         }
-        Command::Destroy { name } => {
+        Command::Forget { name } | Command::Destroy { name } => {
             let _ = name.as_bytes();
         }
     }
@@ -132,6 +135,10 @@ pub fn words_of(alloc: Global, command: &Command) -> Result<String, AllocError>
             )
         }
         Command::Remove { name, provider } => format!(in alloc; "remove {name} {provider}"),
+        Command::Deactivate { name, provider } => format!(in alloc; "deactivate {name} {provider}"),
+        Command::Activate { name, provider } => format!(in alloc; "activate {name} {provider}"),
+        Command::Forget { name } => format!(in alloc; "forget {name}"),
+        Command::Rebuild { name, provider } => format!(in alloc; "rebuild {name} {provider}"),
         Command::Clear { provider } => format!(in alloc; "clear {provider}"),
         Command::Destroy { name } => format!(in alloc; "destroy {name}"),
     }

@@ -30,6 +30,10 @@ const LINES: &str =
       NAME PROV
   KEY insert --did N [--priority P] [--hardcode S] NAME PROV
   KEY remove NAME PROV
+  KEY deactivate NAME PROV
+  KEY activate NAME PROV
+  KEY forget NAME
+  KEY rebuild NAME PROV
   KEY clear PROV
   KEY destroy NAME
 B is load, prefer, round-robin or split, and S is on or off. Without options: --balance load,

@@ -1,7 +1,7 @@
 //! A shelf that stops, since its device failed or memory is wanting: the call that meets the stop says which, every
 //! later one does nothing, and both media stay.
 
-use super::stops::{CALLS, Played, check, play};
+use super::stops::{Played, check, play};
 use super::{
     label, labels, memory, must, open, sector, shelf, try_accept, try_apply, try_last, try_open,
     try_run, try_settle, try_view,
@@ -12,7 +12,9 @@ use sqlite::{Alter, Connection};
 use std::alloc::Global;
 use std::test::Fail;
 
-// A script is over long before it makes so many calls of the shelf.
+// The first four commands of the script, each accepted, carried out and settled.
+const CALLS: u64 = 12;
+// They are over long before they make so many calls of the shelf.
 const MANY: u64 = 200;
 
 // Why a shelf stops.

@@ -1,13 +1,15 @@
-//! A second component that comes and goes, also over an opening and where its image is away.
+//! A second component that comes and goes, also over an opening and where its image is away, or its record.
 
 use super::{
-    IN_SYNC, SYNCHRONIZING, accept, add, destroys, inserts, label, labels, memory, metadata, must,
-    must_keep_data, must_say, open, removes, run, sector, shelf, try_open, try_view,
+    IN_SYNC, SYNCHRONIZING, accept, add, destroys, forgets, inserts, label, labels, memory,
+    metadata, must, must_keep_data, must_say, open, removes, run, sector, shelf, try_open,
+    try_view,
 };
 use gm_bench::{Answer, Bench, BenchFault};
 use gm_metadata::Metadata;
+use gm_rules::{CallRefusal, Refusal};
 use gm_shelf::{MemShelf, Shelf};
-use gm_state::Reply;
+use gm_state::{Command, Reply};
 use sqlite::{Alter, Connection};
 use std::alloc::Global;
 use std::test::Fail;
@@ -168,4 +170,42 @@ fn waits_for_its_image<S: Alter + Drop, H: Shelf + Drop>(
 #[test]
 fn an_opening_wants_each_image_that_is_pending(rt: HostRuntime) -> Result<(), Fail> {
     waits_for_its_image(rt.alloc(), memory(rt.alloc())?, shelf(rt.alloc())?)
+}
+
+fn is_refused<S: Alter, H: Shelf>(
+    alloc: Global,
+    bench: &mut Bench<S, H>,
+    command: &Command,
+    refusal: Refusal,
+) -> Result<(), Fail> {
+    let answer = run(alloc, bench, "refused", command)?;
+    let refused = Answer::Refused(CallRefusal::ByRules(refusal));
+    must(answer == refused, "not refused so")
+}
+
+// The record of b.img is dropped by a statement of somebody else's, so that it is lost. It is forgotten once.
+fn is_forgotten<S: Alter + Drop, H: Shelf + Drop>(
+    alloc: Global,
+    store: Connection<S>,
+    shelf: H,
+) -> Result<(), Fail> {
+    let (mut store, shelf) = of_two(alloc, store, shelf)?.close();
+    store.execute("DELETE FROM components WHERE prov = 'b.img'", &[])?;
+    let mut bench = open(alloc, store, shelf)?;
+    let remove = removes("gm0", "a.img")?;
+    let forget = forgets("gm0")?;
+    is_refused(alloc, &mut bench, &remove, Refusal::SomeLost)?;
+    let answer = run(alloc, &mut bench, "k3", &forget)?;
+    must(answer == Answer::Done(3, Reply::Plain), "not forgotten")?;
+    is_refused(alloc, &mut bench, &forget, Refusal::NoneLost)?;
+    is_refused(alloc, &mut bench, &remove, Refusal::LastActive)?;
+    let (_, mut shelf) = bench.close();
+    let first = metadata(1, 1, IN_SYNC)?;
+    let second = metadata(2, 2, SYNCHRONIZING)?;
+    must_hold(&mut shelf, Some(first), Some(second))
+}
+
+#[test]
+fn a_lost_component_is_forgotten(rt: HostRuntime) -> Result<(), Fail> {
+    is_forgotten(rt.alloc(), memory(rt.alloc())?, shelf(rt.alloc())?)
 }

@@ -1,13 +1,13 @@
-//! A script of four commands that stops at each of its calls in turn, and what an opening then finds, against a model
+//! A script of seven commands that stops at each of its calls in turn, and what an opening then finds, against a model
 //! that is written down.
 
 use super::{
-    IN_SYNC, NO_FLAGS, SYNCHRONIZING, destroys, inserts, label, labels, memory, metadata, must,
-    must_be, must_keep_data, open, removes, run, shelf, try_accept, try_apply, try_last,
-    try_settle, try_view,
+    FORCED, IN_SYNC, INACTIVE, NO_FLAGS, SYNCHRONIZING, activates, deactivates, destroys, inserts,
+    label, labels, memory, metadata, must, must_be, must_keep_data, open, rebuilds, removes, run,
+    shelf, try_accept, try_apply, try_last, try_settle, try_view,
 };
 use gm_bench::{Answer, Bench, BenchFault, Phase};
-use gm_metadata::{Balance, Metadata};
+use gm_metadata::{Balance, DiskFlags, Metadata};
 use gm_rules::{CallRefusal, Refusal};
 use gm_shelf::{FaultShelf, Shelf};
 use gm_state::{Command, Component, Disk, Mirror, Reply};
@@ -16,17 +16,22 @@ use std::alloc::Global;
 use std::test::Fail;
 
 // Each command is accepted, carried out and settled.
-pub(super) const CALLS: u64 = 12;
+const CALLS: u64 = 21;
 // A script is over long before it makes so many calls of the shelf.
 const MANY: u64 = 200;
 
-// The key of the command at this place of the script, counted from 0.
+// The key of the command at this place of the script, counted from 0, and of two that aren't in it.
 fn key_at(place: u64) -> &'static str {
     match place {
         0 => "k1",
         1 => "k2",
         2 => "k3",
-        _ => "k4",
+        3 => "k4",
+        4 => "k5",
+        5 => "k6",
+        6 => "k7",
+        7 => "k8",
+        _ => "k9",
     }
 }
 
@@ -34,58 +39,117 @@ fn command_at(place: u64) -> Result<Command, Fail> {
     match place {
         0 => labels("gm0", "a.img", 7),
         1 => inserts("gm0", "b.img", 2),
-        2 => removes("gm0", "b.img"),
-        3 => destroys("gm0"),
+        2 => deactivates("gm0", "b.img"),
+        3 => activates("gm0", "b.img"),
+        4 => rebuilds("gm0", "b.img"),
+        5 => removes("gm0", "b.img"),
+        6 => destroys("gm0"),
         _ => Err("the script is over")?,
+    }
+}
+
+// How many sectors the command at this place asks for.
+fn asked_at(place: u64) -> u64 {
+    match place {
+        1 | 2 | 5 => 2,
+        _ => 1,
     }
 }
 
 // How many sectors are asked for and not settled after so many calls of the script.
 fn pending_after(calls: u64) -> u64 {
-    match calls {
-        1 | 2 => 1,
-        4 | 5 => 2,
-        7 | 8 => 2,
-        10 | 11 => 1,
-        _ => 0,
+    if calls % 3 == 0 {
+        0
+    } else {
+        asked_at(calls / 3)
     }
 }
 
-// What there is after so many commands of the script: how many components the mirror counts, 0 where there is none,
-// and what a.img and b.img say.
+// The second component: its count of syncs, and its state as records and as metadata have it.
+#[derive(Clone, Copy)]
+struct Second {
+    syncid: u32,
+    disk: Disk,
+    flags: DiskFlags,
+}
+
+// What there is after some commands of the script: how many components the mirror counts, 0 where there is none, its
+// count of syncs, and its second component.
 #[derive(Clone, Copy)]
 struct Model {
     all: u8,
-    first: Option<Metadata>,
-    second: Option<Metadata>,
+    syncid: u32,
+    second: Option<Second>,
 }
 
-fn model_after(commands: u64) -> Result<Model, Fail> {
-    let all: u8 = match commands {
-        1 | 3 => 1,
-        2 => 2,
-        _ => 0,
-    };
-    let first = if all == 0 {
-        None
-    } else {
-        Some(metadata(1, all, IN_SYNC)?)
-    };
-    let second = if all == 2 {
-        Some(metadata(2, all, SYNCHRONIZING)?)
-    } else {
-        None
-    };
-    Ok(Model { all, first, second })
+fn model_of_two(syncid: u32, second: Second) -> Model {
+    Model {
+        all: 2,
+        syncid,
+        second: Some(second),
+    }
 }
 
-fn mirror(all: u8) -> Result<Mirror, Fail> {
+fn copying(forced: bool) -> Disk {
+    Disk::Copying { forced, held: 0 }
+}
+
+fn second_in(syncid: u32, disk: Disk, flags: DiskFlags) -> Second {
+    Second {
+        syncid,
+        disk,
+        flags,
+    }
+}
+
+fn model_after(commands: u64) -> Model {
+    match commands {
+        2 => model_of_two(1, second_in(1, copying(false), SYNCHRONIZING)),
+        3 => model_of_two(2, second_in(1, Disk::Inactive, INACTIVE)),
+        4 => model_of_two(2, second_in(2, copying(false), SYNCHRONIZING)),
+        5 => model_of_two(2, second_in(2, copying(true), FORCED)),
+        1 | 6 => Model {
+            all: 1,
+            syncid: if commands == 1 { 1 } else { 2 },
+            second: None,
+        },
+        _ => Model {
+            all: 0,
+            syncid: 0,
+            second: None,
+        },
+    }
+}
+
+// What the last sector of a.img says.
+fn first_said(model: Model) -> Result<Option<Metadata>, Fail> {
+    if model.all == 0 {
+        return Ok(None);
+    }
+    Ok(Some(Metadata {
+        syncid: model.syncid,
+        ..metadata(1, model.all, IN_SYNC)?
+    }))
+}
+
+// What that of b.img says.
+fn second_said(model: Model) -> Result<Option<Metadata>, Fail> {
+    match model.second {
+        None => Ok(None),
+        Some(second) => Ok(Some(Metadata {
+            syncid: second.syncid,
+            ..metadata(2, model.all, second.flags)?
+        })),
+    }
+}
+
+fn mirror(model: Model) -> Result<Mirror, Fail> {
     Ok(Mirror {
         name: label("gm0")?,
         mid: 7,
-        all,
+        all: model.all,
         genid: 0,
-        syncid: 1,
+        syncid: model.syncid,
         slice: 4096,
         balance: Balance::Load,
         data_sectors: 3,
@@ -93,12 +157,12 @@ fn mirror(all: u8) -> Result<Mirror, Fail> {
     })
 }
 
-fn component(provider: &str, did: u32, disk: Disk) -> Result<Component, Fail> {
+fn component(provider: &str, did: u32, syncid: u32, disk: Disk) -> Result<Component, Fail> {
     Ok(Component {
         provider: label(provider)?,
         mirror: label("gm0")?,
         did,
-        syncid: 1,
+        syncid,
         priority: 0,
         disk,
         hardcoded: false,
@@ -110,20 +174,18 @@ fn component(provider: &str, did: u32, disk: Disk) -> Result<Component, Fail> {
 fn must_view<S: Alter, H: Shelf>(
     alloc: Global,
     bench: &mut Bench<S, H>,
-    all: u8,
+    model: Model,
 ) -> Result<(), Fail> {
     let state = try_view(alloc, bench)?;
-    let spare = Disk::Copying {
-        forced: false,
-        held: 0,
-    };
-    let first = component("a.img", 1, Disk::InSync)?;
-    let second = component("b.img", 2, spare)?;
-    let (mirrors, components) = match all {
-        0 => (Vec::new(alloc), Vec::new(alloc)),
-        1 => (vec![in alloc; mirror(1)?]?, vec![in alloc; first]?),
-        _ => (vec![in alloc; mirror(2)?]?, vec![in alloc; first, second]?),
-    };
+    let mut mirrors = Vec::new(alloc);
+    let mut components = Vec::new(alloc);
+    if model.all != 0 {
+        mirrors.push(mirror(model)?)?;
+        components.push(component("a.img", 1, model.syncid, Disk::InSync)?)?;
+    }
+    if let Some(second) = model.second {
+        components.push(component("b.img", 2, second.syncid, second.disk)?)?;
+    }
     must(state.mirrors() == mirrors.as_slice(), "other mirrors")?;
     must(
         state.components() == components.as_slice(),
@@ -146,10 +208,10 @@ fn must_be_after<S: Alter, H: Shelf>(
     bench: &mut Bench<S, H>,
     commands: u64,
 ) -> Result<(), Fail> {
-    let model = model_after(commands)?;
-    must_view(alloc, bench, model.all)?;
-    must_have_last(bench, "a.img", model.first)?;
-    must_have_last(bench, "b.img", model.second)?;
+    let model = model_after(commands);
+    must_view(alloc, bench, model)?;
+    must_have_last(bench, "a.img", first_said(model)?)?;
+    must_have_last(bench, "b.img", second_said(model)?)?;
     must_have_last(bench, "c.img", None)?;
     for number in 1..=commands {
         let place = number.saturating_sub(1);
@@ -162,23 +224,35 @@ fn must_be_after<S: Alter, H: Shelf>(
     Ok(())
 }
 
-// How many commands of the script were accepted, by which of their keys are taken. It writes nothing.
-fn accepted<S: Alter, H: Shelf>(alloc: Global, bench: &mut Bench<S, H>) -> Result<u64, Fail> {
-    let none = destroys("none")?;
-    let no_mirror = CallRefusal::ByRules(Refusal::NoMirror);
-    let mut taken = 0u64;
-    let mut free = 0u64;
-    for place in 0u64..4 {
-        let answer = run(alloc, bench, key_at(place), &none)?;
-        if answer == Answer::Refused(CallRefusal::KeyTaken) {
-            must(free == 0, "a later command without an earlier one")?;
-            taken = taken.saturating_add(1);
-        } else {
-            must(answer == Answer::Refused(no_mirror), "another answer")?;
-            free = free.saturating_add(1);
-        }
+// Whether the key of the command at this place is taken. It writes nothing.
+fn is_taken<S: Alter, H: Shelf>(
+    alloc: Global,
+    bench: &mut Bench<S, H>,
+    place: u64,
+) -> Result<bool, Fail> {
+    let answer = run(alloc, bench, key_at(place), &destroys("none")?)?;
+    if answer == Answer::Refused(CallRefusal::KeyTaken) {
+        return Ok(true);
     }
-    Ok(taken)
+    let no_mirror = CallRefusal::ByRules(Refusal::NoMirror);
+    must(answer == Answer::Refused(no_mirror), "another answer")?;
+    Ok(false)
+}
+
+// How many commands of the script were accepted, of which so many were answered: perhaps the one that comes next, and
+// none behind it.
+fn accepted<S: Alter, H: Shelf>(
+    alloc: Global,
+    bench: &mut Bench<S, H>,
+    done: u64,
+) -> Result<u64, Fail> {
+    let next = done.saturating_add(1);
+    let later = is_taken(alloc, bench, next)?;
+    must(!later, "a command that wasn't handed in")?;
+    if is_taken(alloc, bench, done)? {
+        return Ok(next);
+    }
+    Ok(done)
 }
 
 // How many commands of the script were answered as done before it ended or stopped.
@@ -237,12 +311,7 @@ pub(super) fn must_go_on<S: Alter, H: Shelf>(
     bench: &mut Bench<S, H>,
     done: u64,
 ) -> Result<(), Fail> {
-    let commands = accepted(alloc, bench)?;
-    must(done <= commands, "a command that was answered is lost")?;
-    must(
-        commands <= done.saturating_add(1),
-        "more commands than were handed in",
-    )?;
+    let commands = accepted(alloc, bench, done)?;
     must_be_after(alloc, bench, commands)
 }
 
@@ -320,19 +389,29 @@ fn stop_at<S: Alter + Drop>(
     Ok(played.fault.is_some())
 }
 
+// Stops at each call of the shelf in turn, until a run ends without a stop.
+fn stop_at_each(alloc: Global, picks: &[u32]) -> Result<(), Fail> {
+    let mut ended = false;
+    for nth in 1..MANY {
+        if !ended {
+            ended = !stop_at(alloc, memory(alloc)?, nth, picks)?;
+        }
+    }
+    must(ended, "no run ended")
+}
+
 // A crash leaves of each unsynced sector what was synced, the first that was written since, or the last.
-const PICKS: [[u32; 8]; 3] = [[0; 8], [1; 8], [u32::MAX; 8]];
+#[test]
+fn a_crash_to_what_was_synced_loses_no_command(rt: HostRuntime) -> Result<(), Fail> {
+    stop_at_each(rt.alloc(), &[0; 8])
+}
 
 #[test]
-fn a_shelf_that_stops_loses_no_command(rt: HostRuntime) -> Result<(), Fail> {
-    for picks in &PICKS {
-        let mut ended = false;
-        for nth in 1..MANY {
-            if !ended {
-                ended = !stop_at(rt.alloc(), memory(rt.alloc())?, nth, picks)?;
-            }
-        }
-        must(ended, "no run ended")?;
-    }
-    Ok(())
+fn a_crash_to_the_first_write_loses_no_command(rt: HostRuntime) -> Result<(), Fail> {
+    stop_at_each(rt.alloc(), &[1; 8])
+}
+
+#[test]
+fn a_crash_to_the_last_write_loses_no_command(rt: HostRuntime) -> Result<(), Fail> {
+    stop_at_each(rt.alloc(), &[u32::MAX; 8])
 }

@@ -302,13 +302,28 @@ fn a_stop_within_an_insert(rt: HostRuntime) -> Result<(), Fail> {
 }
 
 #[test]
-fn a_stop_within_a_remove(rt: HostRuntime) -> Result<(), Fail> {
+fn a_stop_within_a_deactivate(rt: HostRuntime) -> Result<(), Fail> {
     stop_command(rt.alloc(), 2)
 }
 
 #[test]
-fn a_stop_within_a_destroy(rt: HostRuntime) -> Result<(), Fail> {
+fn a_stop_within_an_activate(rt: HostRuntime) -> Result<(), Fail> {
     stop_command(rt.alloc(), 3)
+}
+
+#[test]
+fn a_stop_within_a_rebuild(rt: HostRuntime) -> Result<(), Fail> {
+    stop_command(rt.alloc(), 4)
+}
+
+#[test]
+fn a_stop_within_a_remove(rt: HostRuntime) -> Result<(), Fail> {
+    stop_command(rt.alloc(), 5)
+}
+
+#[test]
+fn a_stop_within_a_destroy(rt: HostRuntime) -> Result<(), Fail> {
+    stop_command(rt.alloc(), 6)
 }
 
 // The opening carries out an insert that was accepted.

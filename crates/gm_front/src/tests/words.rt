@@ -51,6 +51,10 @@ fn canonical_words(rt: HostRuntime) -> Result<(), Fail> {
         "insert --did 2 --priority 0 --hardcode off gm0 b.img",
         "insert --did 4294967295 --priority 255 --hardcode on gm0 b.img",
         "remove gm0 a.img",
+        "deactivate gm0 a.img",
+        "activate gm0 a.img",
+        "forget gm0",
+        "rebuild gm0 a.img",
         "clear a.img",
         "destroy gm0",
         "destroy -",
@@ -83,6 +87,67 @@ fn other_words_of_one_command(rt: HostRuntime) -> Result<(), Fail> {
     must_spell(&rt, "destroy -- -gm0", "destroy -gm0")?;
     must_spell(&rt, "remove -- -gm0 --help", "remove -gm0 --help")?;
     must_spell(&rt, "remove label help", "remove label help")
+}
+
+// Behind the word of a command, words that are as good as its canonical names, and words that spell nothing.
+fn must_take(
+    rt: &HostRuntime,
+    command: &str,
+    names: &str,
+    alike: &[&str],
+    wrong: &[&str],
+) -> Result<(), Fail> {
+    let canonical = format!(in rt.alloc(); "{command} {names}")?;
+    must_spell(rt, canonical.as_str(), canonical.as_str())?;
+    for other in alike {
+        let line = format!(in rt.alloc(); "{command} {other}")?;
+        must_spell(rt, line.as_str(), canonical.as_str())?;
+    }
+    for other in wrong {
+        let line = format!(in rt.alloc(); "{command} {other}")?;
+        must_refuse(rt, line.as_str())?;
+    }
+    Ok(())
+}
+
+#[test]
+fn commands_on_a_component(rt: HostRuntime) -> Result<(), Fail> {
+    let alike = ["-- gm0 a.img", "gm0 -- a.img", "gm0 a.img --"];
+    let wrong = [
+        "",
+        "gm0",
+        "gm0 a.img b.img",
+        "gm0 -a.img",
+        "-gm0 a.img",
+        "--did 1 gm0 a.img",
+        "gm0 a.img --hardcode on",
+        "gm0 a.img --help",
+        "gm/0 a.img",
+        "gm0 sixteen-letters-",
+    ];
+    for command in ["remove", "deactivate", "activate", "rebuild"] {
+        must_take(&rt, command, "gm0 a.img", &alike, &wrong)?;
+        must_take(&rt, command, "gm0 help", &[], &[])?;
+    }
+    Ok(())
+}
+
+#[test]
+fn commands_on_a_mirror(rt: HostRuntime) -> Result<(), Fail> {
+    let wrong = [
+        "",
+        "gm0 a.img",
+        "-gm0",
+        "--mid 7 gm0",
+        "gm0 --help",
+        "gm/0",
+        "sixteen-letters-",
+    ];
+    for command in ["forget", "destroy"] {
+        must_take(&rt, command, "gm0", &["-- gm0", "gm0 --"], &wrong)?;
+        must_take(&rt, command, "fifteen-letters", &[], &[])?;
+    }
+    Ok(())
 }
 
 #[test]
@@ -136,6 +201,8 @@ fn words_of_no_command(rt: HostRuntime) -> Result<(), Fail> {
         "destroy --version",
         "Destroy gm0",
         "destr gm0",
+        "Activate gm0 a.img",
+        "reactivate gm0 a.img",
         "list gm0",
         "-- destroy gm0",
         "--mid 7 label --did 1 gm0 a.img",

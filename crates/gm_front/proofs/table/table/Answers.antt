@@ -8,10 +8,15 @@ with_command above more = with_subcommand above more.top
 
 pub returns : goal.returns
 returns c =
-    let last = c.with_command-5 in
+    let last = c.with_command-9 in
     IfOk-weaker last.result _ _ (λ r e. e ∙ ap₂ with_command
+    (c.in_ok-command-8.ensures.app ∙ ap₂ with_command
+    (c.in_ok-command-7.ensures.app ∙ ap₂ with_command
+    (c.in_ok-command-6.ensures.app ∙ ap₂ with_command
+    (c.in_ok-command-5.ensures.app ∙ ap₂ with_command
     (c.in_ok-command-4.ensures.app ∙ ap₂ with_command
     (c.in_ok-command-3.ensures.app ∙ ap₂ with_command
     (c.in_ok-command-2.ensures.app ∙ ap₂ with_command
     (c.in_ok-command.ensures.app ∙ ap₂ with_command c.commands.ensures.app c.in_ok-label.ensures.app)
-    c.in_ok-insert.ensures.app) c.in_ok-remove.ensures.app) c.in_ok-clear.ensures.app) c.in_ok-destroy.ensures.app) last.ensures.app
+    c.in_ok-insert.ensures.app) c.in_ok-on_component.ensures.app) c.in_ok-on_component-2.ensures.app) c.in_ok-on_component-3.ensures.app)
+    c.in_ok-on_mirror.ensures.app) c.in_ok-on_component-4.ensures.app) c.in_ok-on_provider.ensures.app) c.in_ok-on_mirror-2.ensures.app) last.ensures.app

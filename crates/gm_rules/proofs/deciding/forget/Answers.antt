@@ -1,0 +1,19 @@
+use Rattle.std.proofs.Common.{◌∙◌, sym, inl, refl}
+use Rattle.gm_rules.specs.declared.refusals.Refusal.TheVariants as refusals
+use Rattle.gm_rules.specs.Bad.{seen_in}
+use Rattle.gm_rules.proofs.Good.{some_from, few_members}
+use Rattle.gm_rules.proofs.Partly.{forget_made}
+use Rattle.gm_rules.proofs.deciding.forget.Goals as goal
+
+pub unwrap-mirror-requires : goal.unwrap-mirror-requires
+unwrap-mirror-requires c = rw c.mirror.ensures.value (some_from _ (c.requires refusals.NoMirror (inl refl) refl))
+
+pub forgotten-requires : goal.forgotten-requires
+forgotten-requires c =
+    rw (c.deref.ensures.value ∙ c.in_ok-members.ensures.value)
+    (few_members c.args.part.now c.args.name _ c.mirror.ensures.state (sym c.mirror.ensures.value ∙ c.unwrap-mirror.ensures))
+
+pub returns : goal.returns
+returns c =
+    forget_made c.args.part.now (seen_in c.args.facts.now) c.args.name _ _ _ (sym c.mirror.ensures.value ∙ c.unwrap-mirror.ensures)
+    (sym (c.deref.ensures.value ∙ c.in_ok-members.ensures.value)) c.in_ok-change.ensures
