@@ -34,7 +34,13 @@ fn goes_and_comes_back<S: Alter + Drop, H: Shelf + Drop>(
     let mut bench = open(alloc, store, shelf)?;
     answers(alloc, &mut bench, LABEL.as_bytes(), "k1 ok 1\n", DONE)?;
     let last = b"k2 deactivate gm0 a.img\n";
-    answers(alloc, &mut bench, last.as_slice(), "k2 refused 17\n", REFUSED)?;
+    answers(
+        alloc,
+        &mut bench,
+        last.as_slice(),
+        "k2 refused 17\n",
+        REFUSED,
+    )?;
     answers(alloc, &mut bench, INSERT.as_bytes(), "k2 ok 2\n", DONE)?;
     let out = b"k3 deactivate gm0 b.img\n";
     answers(alloc, &mut bench, out.as_slice(), "k3 ok 3\n", DONE)?;
@@ -75,7 +81,13 @@ fn is_rebuilt<S: Alter + Drop, H: Shelf + Drop>(
     let told = "k1 ok 1\nk2 ok 2\n";
     answers(alloc, &mut bench, BY_HAND.as_bytes(), told, DONE)?;
     shows(alloc, &mut bench, STALE)?;
-    answers(alloc, &mut bench, REBUILDS.as_bytes(), TOLD_REBUILDS, REFUSED)?;
+    answers(
+        alloc,
+        &mut bench,
+        REBUILDS.as_bytes(),
+        TOLD_REBUILDS,
+        REFUSED,
+    )?;
     shows(alloc, &mut bench, OF_TWO)
 }
 

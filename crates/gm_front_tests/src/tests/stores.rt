@@ -180,8 +180,12 @@ const AS_IT_STANDS: [u32; 12] = [u32::MAX; 12];
 // Does a job over copies of both media.
 fn run(alloc: Global, from: &Media, calls: Calls, job: Job) -> Result<(u64, Media), Fail> {
     let shelf = from.shelf.crash_image(&AS_IT_STANDS)?;
-    let Left { done, files, shelf } =
-        perform_on_files(alloc, files(alloc, from, calls)?, shelf, job)?;
+    let Left { done, files, shelf } = perform_on_files(
+        alloc,
+        files(alloc, from, calls)?,
+        shelf,
+        job,
+    )?;
     Ok((done, media_of(alloc, &files, shelf)?))
 }
 
