@@ -15,6 +15,7 @@ use Rattle.gm_state.proofs.Sorting.{Has-permutation}
 use Rattle.gm_state.proofs.Words.{filter-Has}
 use Rattle.gm_state.proofs.Finding.{Has-map}
 use Rattle.gm_state.proofs.OneCommand.{same_command}
+use Rattle.gm_rules.proofs.Kept.{Has-mapped}
 use Rattle.gm_rules.specs.declared.refusals.Refusal.{Refusal}
 use Rattle.gm_rules.specs.declared.refusals.Refusal.TheVariants.{NoMirror, NameTaken, MidTaken, Absent, ProviderTaken, CarriesMetadata, TooSmall, NotMember, DidTaken, Full, TooManyMirrors, SomeLost, LastActive, AlreadyInactive, NotInactive, NoneLost, Inactive, LastSyncid, WrongSize, NoMetadata}
 use Rattle.gm_rules.specs.Refusals.{number_of, number_of_call}
@@ -25,11 +26,6 @@ use Rattle.gm_rules.specs.Worlds.{seen_of}
 use Rattle.gm_rules.specs.Run.{Call, IsBadCall, Done, Repeated, Refused, Calls}
 use Rattle.gm_rules.specs.Step.{Step, Bad}
 use Rattle.gm_registry.specs.Replies.{IsKept as IsKeptIn, IsFree, is_under, reply_in, count_of}
-
-pub mapped_from : {A B : Type 0} (f : A → B) (xs : List A) (y : B) → Has (map f xs) y → (x : A) × Has xs x × (f x ≡ y)
-mapped_from f [] y h = absurd h
-mapped_from f (x ∷ xs) y (inl e) = (x, inl refl, e)
-mapped_from f (x ∷ xs) y (inr h) = let r = mapped_from f xs y h in (r.0, inr r.1, r.2)
 
 none_has : {X : Type 0} (xs : List X) (x : X) → xs ≡ [] → Has xs x → ⊥
 none_has [] x e h = h
@@ -78,7 +74,7 @@ module _ (u : World) (t : Tables) (sound : Sound u) (holds : HoldRecords u t) (k
   pub kept_answer : (number : ℕ) (words : List ℕ) (r : Reply) → IsKeptIn t key number words r → (a : Answered) × Has u.answered a × (a.key ≡ key) × (a.number ≡ number) × (words_of a.command ≡ words) × (a.reply ≡ r)
   kept_answer number words r k =
       let stands = Has-permutation t.commands (map answer_row u.answered) k.row (IsPermutation-sym _ _ holds.commands) k.has in
-      let from = mapped_from answer_row u.answered k.row stands in
+      let from = Has-mapped answer_row u.answered k.row stands in
       let a : Answered = from.0 in
       let is : answer_row a ≡ k.row = from.2 in (
         a,

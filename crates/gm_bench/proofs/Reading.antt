@@ -11,7 +11,7 @@ use Rattle.gm_state.specs.World.{World, ReplyFits}
 use Rattle.gm_state.proofs.Sorting.{Has-permutation}
 use Rattle.gm_registry.specs.Reading.{IsInRange, AreTablesOf}
 use Rattle.gm_bench.specs.Leading.{Leads}
-use Rattle.gm_bench.proofs.Answering.{mapped_from}
+use Rattle.gm_rules.proofs.Kept.{Has-mapped}
 
 in_range : (r : Reply) → ReplyFits r → (copied_of r ≤ 1048576) × (total_of r ≤ 1048576)
 in_range Plain f = (omega arith, omega arith)
@@ -25,7 +25,7 @@ tables_of t ts x w l = record {
   intents = l.intents;
   readable = l.readable;
   commands = λ c h.
-      let from = mapped_from answer_row w.answered c (Has-permutation t.commands (map answer_row w.answered) c (IsPermutation-sym _ _ l.records.commands) h) in
+      let from = Has-mapped answer_row w.answered c (Has-permutation t.commands (map answer_row w.answered) c (IsPermutation-sym _ _ l.records.commands) h) in
       subst IsInRange from.2 (in_range from.0.reply (l.sound.answers.fit from.0 from.1).reply);
   count = (let e : length t.commands ≡ length (map answer_row w.answered) = length_permutation (map answer_row w.answered) t.commands l.records.commands in
       let f : length (map answer_row w.answered) ≡ length w.answered = length-map w.answered answer_row in
