@@ -159,7 +159,7 @@ impl<R: Files<File = File> + AllocGlobal + Clone + Drop> Shelf for FileShelf<R> 
 
     fn sync(&mut self, provider: Label) -> Result<(), ShelfFault> {
         let image = image_in(&self.images, provider)?;
-        let done = self.files.with(provider, image, |file| file.sync_data());
+        let done = self.files.sync(provider, image);
         outcome(done, &mut self.failures)?;
         Ok(())
     }

@@ -77,8 +77,8 @@ impl<R: Files<File = File> + AllocGlobal + Clone + Drop> OpenFiles<R> {
         Ok(file)
     }
 
-    /// Acts on the file of an image, which is opened at its first use and kept. Where too many are open, another one is
-    /// closed.
+    /// Acts on the file of an image, which is opened at its first use and kept, until a look finds that it is none any
+    /// more. Where too many are open, another one is closed.
     pub(crate) fn with<F: FnOnce(&File) -> io::Result<()>>(
         &mut self,
         name: Label,
@@ -89,8 +89,12 @@ impl<R: Files<File = File> + AllocGlobal + Clone + Drop> OpenFiles<R> {
         ensures { self.new.folder ≡ self.old.folder }
     {
         if let Some(file) = self.opened.get(&name) {
-            check_image(file, image)?;
-            return act(file);
+            let looked = check_image(file, image);
+            if looked.is_ok() {
+                return act(file);
+            }
+            self.opened.remove(&name);
+            return looked;
         }
         let file = self.open(name, image)?;
         check_image(&file, image)?;
@@ -98,5 +102,16 @@ impl<R: Files<File = File> + AllocGlobal + Clone + Drop> OpenFiles<R> {
             let _ = self.opened.pop_first();
         }
         act(self.opened.entry(name)?.or_insert(file))
+    }
+
+    /// Writes through what the file of an image holds. One that is open was looked at when it was written, and isn't
+    /// looked at again.
+    pub(crate) fn sync(&mut self, name: Label, image: ImageFile) -> io::Result<()>
+        ensures { self.new.folder ≡ self.old.folder }
+    {
+        if let Some(file) = self.opened.get(&name) {
+            return file.sync_data();
+        }
+        self.with(name, image, |file| file.sync_data())
     }
 }
