@@ -1,0 +1,167 @@
+# ---- a registry is made where there is none
+
+fresh_bench new
+registry=$bench/images/registry
+printf 'SQLite format 3\000' >"$work/wanted-header"
+for command in recover status list batch; do
+    rm -f "$registry" "$registry-wal"
+    case $command in
+        recover) new='recovered 0' ;;
+        batch) new='' ;;
+        *) new='no mirrors' ;;
+    esac
+    for turn in 'a first' 'a second'; do
+        at_bench $command </dev/null
+        expect "$turn $command over a new registry" 0 "$new" ''
+        head -c 16 "$registry" >"$work/header"
+        expect_same "$turn $command leaves a database" "$work/header" "$work/wanted-header"
+    done
+done
+
+# ---- files that are no registry
+
+# A database of somebody else's: examples/notes.sqlite, which SQLite's own command line made, has another table.
+fresh_bench foreign
+for file in text database; do
+    case $file in
+        text)
+            printf "Somebody's notes.\n" >"$work/kept-file"
+            fault='gmbench: F2 store'
+            ;;
+        database)
+            cp "$top/examples/notes.sqlite" "$work/kept-file"
+            fault='gmbench: F6 registry unreadable'
+            ;;
+    esac
+    registry=$bench/images/$file
+    cp "$work/kept-file" "$registry"
+    for command in recover status list batch; do
+        at_bench $command </dev/null
+        expect "a $command over somebody's $file" 3 '' "$fault"
+        expect_same "it leaves the $file" "$registry" "$work/kept-file"
+    done
+done
+for registry in "$bench/nowhere/registry" "$bench/images" '' :memory:; do
+    at_bench recover
+    expect "the registry '${registry#"$work/"}'" 3 '' 'gmbench: F2 store'
+done
+expect_images 'no fault of a registry touches an image' bare bare
+
+# ---- folders that are none
+
+fresh_bench no-folder
+for folder in nowhere images/a.img; do
+    for command in recover status list batch; do
+        run $command --registry "$registry" --shelf "$bench/$folder" </dev/null
+        expect "a $command in the folder $folder" 3 '' "$broken"
+    done
+done
+expect_none 'no registry is made for them' "$registry"
+
+# ---- a folder and a registry in use
+
+# A batch holds its folder, and has its registry open.
+put_bench others pending-a pending-b
+others=$bench
+stopped_remove in-use
+begin_batch 'k4 clear b.img\n'
+for command in recover status list batch; do
+    run $command --registry "$bench/another" --shelf "$bench/images" </dev/null
+    expect "a $command in a folder that is in use" 3 '' "$broken"
+done
+expect_none 'no registry is made for that folder' "$bench/another"
+run dump --shelf "$bench/images" a.img
+expect 'a dump in a folder that is in use' 0 "$said_by_one" ''
+for command in recover status list batch; do
+    run $command --registry "$registry" --shelf "$others/images" </dev/null
+    expect "a $command with a registry that is in use" 3 '' 'gmbench: F2 store'
+done
+end_batch
+expect 'the batch that used both' 1 'k4 refused 29' ''
+run recover --registry "$bench/another" --shelf "$bench/images"
+expect 'a recovery once the folder is free' 0 'recovered 0' ''
+bench=$others
+expect_images 'a registry in use leaves the images' pending-a pending-b
+
+# Another program may hold them as well.
+if command -v flock >/dev/null; then
+    stopped_remove held
+    for command in recover status list batch; do
+        timeout 20 flock "$bench/images" "$gmbench" $command --registry "$bench/another" --shelf "$bench/images" \
+            </dev/null >"$work/output" 2>"$work/complaints"
+        status=$?
+        expect "a $command in a folder that another program holds" 3 '' "$broken"
+    done
+    expect_none 'no registry is made for a folder that another program holds' "$bench/another"
+    timeout 20 flock "$bench/images" "$gmbench" dump --shelf "$bench/images" a.img >"$work/output" 2>"$work/complaints"
+    status=$?
+    expect 'a dump in a folder that another program holds' 0 "$said" ''
+else
+    skip 'a folder that another program holds' 'there is no flock'
+fi
+if command -v sqlite3 >/dev/null; then
+    stopped_remove open-elsewhere
+    mkfifo "$bench/in"
+    timeout 60 sqlite3 "$registry" <"$bench/in" >"$bench/answers" 2>&1 &
+    under_way=$!
+    exec 3>"$bench/in"
+    send 'PRAGMA journal_mode = DELETE;\nBEGIN EXCLUSIVE;\nSELECT 1;\n'
+    wait_for "$bench/answers"
+    at_bench recover
+    expect 'a recovery with a registry that another program has open' 3 '' 'gmbench: F2 store'
+    expect_images 'it leaves the images' pending-a pending-b
+    exec 3>&-
+    wait "$under_way"
+    at_bench recover
+    expect 'a recovery once the registry is free' 0 'recovered 2' ''
+else
+    skip 'a registry that another program has open' 'there is no sqlite3'
+fi
+
+# ---- a registry among the images
+
+# Its name is that of an image that something pending needs, and it is named by three paths.
+stopped_remove in-its-place
+mv "$registry" "$bench/images/b.img"
+ln -s b.img "$bench/images/link"
+for path in b.img link ../images/./b.img; do
+    registry=$bench/images/$path
+    at_bench recover
+    expect "a registry in the place of an image, as $path" 3 '' 'gmbench: F5 absent b.img'
+    expect_same "it stays, as $path" "$bench/images/b.img" "$top/examples/pending.sqlite"
+done
+
+# It has whole sectors, and so have the files beside it, but none of them is an image, whatever path names it.
+for path in r link ../images/./r; do
+    fresh_bench "among-${path##*/}-${path%%/*}"
+    registry=$bench/images/r
+    at_bench recover
+    ln -s r "$bench/images/link"
+    for file in r-wal r-shm r-journal r-log s-wal; do
+        head -c 1024 /dev/zero >"$bench/images/$file"
+    done
+    registry=$bench/images/$path
+    batch 'k1 label --mid 1 --did 1 gm1 r
+k2 label --mid 2 --did 1 gm2 r-wal
+k3 label --mid 3 --did 1 gm3 r-shm
+k4 label --mid 4 --did 1 gm4 r-journal
+k5 label --mid 5 --did 1 gm5 r-log
+k6 label --mid 6 --did 1 gm6 s-wal
+k7 label --mid 7 --did 1 gm7 a.img
+'
+    expect "what lies beside a registry, as $path" 1 "$(lines \
+        'k1 refused 8\nk2 refused 8\nk3 refused 8\nk4 refused 8\nk5 ok 1\nk6 ok 2\nk7 ok 3')" ''
+    at_bench recover
+    expect "it is a registry still, as $path" 0 'recovered 0' ''
+done
+
+# The log that a killed batch leaves, with zeros behind it up to a whole sector: it is no image either, and what it holds is
+# found.
+fresh_bench log-of-a-killed-one
+registry=$bench/images/r
+kill_batch "$label"
+log_length=$(wc -c <"$registry-wal")
+head -c $((512 - log_length % 512)) /dev/zero >>"$registry-wal"
+batch "${label}k2 label --mid 8 --did 1 gm1 r-wal\n"
+expect 'the log of a registry' 1 "$(lines 'k1 repeated 1\nk2 refused 8')" ''
+expect_images 'its batch is kept' fresh bare

@@ -1,0 +1,69 @@
+# ---- the program's own words
+
+run
+expect 'no words' 0 'gmbench: GEOM_MIRROR version 4' ''
+run dump --shelf "$shelf" a.img
+expect 'a dump' 0 "$said" ''
+run --version
+expect 'the version' 0 'gmbench 0.1.0' ''
+
+# Whether the help is no complaint, and has these lines.
+run --help
+helps() {
+    if [ "$status" != 0 ] || [ -s "$work/complaints" ]; then
+        fail "$1" "status $status, '$(head -n 1 "$work/complaints")'"
+    else
+        case "$(cat "$work/output")" in
+            *"$2"*) pass "$1" ;;
+            *) fail "$1" "it lacks '$2'" ;;
+        esac
+    fi
+}
+
+for about in 'dump     Prints' 'recover  Carries' 'status   Shows' 'list     Shows' 'batch    Carries'; do
+    helps "help names ${about%% *}" "
+  $about"
+done
+helps 'help has the usage' 'Usage: gmbench'
+helps 'help tells the exit statuses' '
+Exit statuses:
+  0  done
+  1  refused'
+helps 'help has an example' '
+Example:
+'
+for word in dump recover status list batch; do
+    run "$word" --help
+    if [ "$status" = 0 ] && grep -q "^Usage: gmbench $word" "$work/output" && [ ! -s "$work/complaints" ]; then
+        pass "$word has help of its own"
+    else
+        fail "$word has help of its own" "status $status"
+    fi
+done
+run paint
+expect_words 'an unknown command'
+for word in recover status list batch; do
+    run "$word" --shelf "$shelf"
+    expect_words "$word without a registry"
+    run "$word" --registry "$work/unmade"
+    expect_words "$word without a folder"
+    run "$word" --registry "$work/unmade" --shelf "$shelf" a.img
+    expect_words "$word with a word too many"
+done
+expect_none 'wrong words make no registry' "$work/unmade"
+run dump a.img
+expect_words 'a dump without a folder'
+run dump --shelf "$shelf"
+expect_words 'a word too few'
+grep -q '^Usage: gmbench dump' "$work/complaints" && pass 'the usage names the program' ||
+    fail 'the usage names the program' "$(grep Usage "$work/complaints")"
+for word in a/b '' 'two words' sixteen-letters0 'ä.img'; do
+    run dump --shelf "$shelf" "$word"
+    expect_words "the provider '$word'"
+done
+grep -q "^error: invalid value 'ä.img' for '<PROV>': " "$work/complaints" && pass 'an invalid value is named' ||
+    fail 'an invalid value is named' "$(head -n 1 "$work/complaints")"
+run dump --shelf "$shelf" "$byte"
+expect 'a word that is not UTF-8' 2 '' "error: a word isn't UTF-8"
+run dump --shelf "$work/$byte" a.img
+expect 'a folder that is not UTF-8' 2 '' "error: a word isn't UTF-8"
