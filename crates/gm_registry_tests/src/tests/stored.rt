@@ -1,12 +1,24 @@
-//! The file that a registry is, byte for byte.
+//! The files that registries are, byte for byte.
 
 use super::stops::one_command;
+use super::{NO_FLAGS, accept, bare, change, label, open, settle};
+use gm_registry::Registry;
+use gm_rules::changed_by;
+use gm_state::{BalanceWord, Command, Slice, State, words_of};
 use md5::{Digest, Md5};
+use sqlite::{Alter, Connection};
+use std::alloc::Global;
 use std::test::Fail;
+use std::{env, fs};
 
 // The MD5 of `examples/registry.sqlite`, which SQLite's own command line was shown.
 const STORED: [u8; 16] = [
     0x18, 0xd0, 0xd6, 0x78, 0x46, 0x24, 0x28, 0x74, 0x8a, 0x80, 0xeb, 0x65, 0xbe, 0xc6, 0xe1, 0x47,
+];
+
+// The MD5 of `examples/pending.sqlite`.
+const PENDING: [u8; 16] = [
+    0x08, 0x23, 0x52, 0x99, 0xd7, 0x5e, 0x8f, 0xc5, 0x61, 0xbb, 0x0c, 0xcb, 0xd9, 0x89, 0xcc, 0x9b,
 ];
 
 #[test]
@@ -16,5 +28,83 @@ fn a_registry_of_one_command_is_the_stored_file(rt: HostRuntime) -> Result<(), F
     assert_eq!(rt; bytes.len(), 49152);
     let hash: [u8; 16] = Md5::digest(bytes).into();
     assert_eq!(rt; hash, STORED);
+    Ok(())
+}
+
+fn labels_plainly() -> Result<Command, Fail> {
+    Ok(Command::Label {
+        name: label("gm0")?,
+        provider: label("a.img")?,
+        mid: 7,
+        did: 1,
+        balance: BalanceWord::Load,
+        slice: Slice::new(4096).ok_or("no slice")?,
+        flags: NO_FLAGS,
+        hardcoded: false,
+    })
+}
+
+fn inserts_plainly() -> Result<Command, Fail> {
+    Ok(Command::Insert {
+        name: label("gm0")?,
+        provider: label("b.img")?,
+        did: 2,
+        priority: 0,
+        hardcoded: false,
+    })
+}
+
+fn removes() -> Result<Command, Fail> {
+    Ok(Command::Remove {
+        name: label("gm0")?,
+        provider: label("b.img")?,
+    })
+}
+
+// Accepts a command, and answers the records after it.
+fn accept_command<S: Alter>(
+    alloc: Global,
+    registry: &mut Registry<S>,
+    state: &State,
+    command: &Command,
+    key: &str,
+) -> Result<State, Fail> {
+    let change = change(alloc, state, &[bare("a.img")?, bare("b.img")?], command)?;
+    let words = words_of(alloc, command)?;
+    accept(registry, &change, key, words.as_str())?;
+    Ok(changed_by(alloc, state, &change)?.ok_or("no state")?)
+}
+
+fn stop_within_remove<S: Alter + Drop>(
+    alloc: Global,
+    store: Connection<S>,
+) -> Result<Connection<S>, Fail> {
+    let mut registry = open(store)?;
+    let state = State::empty(alloc);
+    let state = accept_command(alloc, &mut registry, &state, &labels_plainly()?, "k1")?;
+    settle(&mut registry)?;
+    let state = accept_command(alloc, &mut registry, &state, &inserts_plainly()?, "k2")?;
+    settle(&mut registry)?;
+    accept_command(alloc, &mut registry, &state, &removes()?, "k3")?;
+    Ok(registry.close())
+}
+
+// A path in the folder for temporary files, where there is nothing.
+fn fresh_path(rt: &HostRuntime) -> Result<String, Fail> {
+    let temporary = env::temp_dir(rt)?;
+    let path = format!(in rt.alloc(); "{}/gm-registry-test-pending", temporary.display())?;
+    let _ = fs::remove_file(rt, path.as_str());
+    Ok(path)
+}
+
+#[test]
+fn a_registry_within_a_remove_is_the_stored_file(rt: HostRuntime) -> Result<(), Fail> {
+    let path = fresh_path(&rt)?;
+    let store = Connection::open(&rt, path.as_str())?;
+    stop_within_remove(rt.alloc(), store)?.close()?;
+    let bytes = fs::read(&rt, path.as_str())?;
+    assert_eq!(rt; bytes.len(), 49152);
+    let hash: [u8; 16] = Md5::digest(bytes.as_slice()).into();
+    assert_eq!(rt; hash, PENDING);
     Ok(())
 }
