@@ -11,8 +11,6 @@ mod recover;
 mod showing;
 mod status;
 mod streams;
-#[cfg(test)]
-mod tests;
 mod words;
 mod work;
 mod workplace;

@@ -70,7 +70,7 @@ fn registry_files(rt: &HostRuntime, registry: &str) -> io::Result<Vec<FileId>> {
 }
 
 // The images of a folder in which an open registry may lie.
-pub(crate) fn images(rt: &HostRuntime, place: Place<'_>) -> Result<FileShelf<HostRuntime>, Fault> {
+fn images(rt: &HostRuntime, place: Place<'_>) -> Result<FileShelf<HostRuntime>, Fault> {
     let files = match registry_files(rt, place.registry) {
         Ok(files) => files,
         Err(e) if e.kind() == ErrorKind::OutOfMemory => return Err(Fault::MEMORY),
