@@ -10,6 +10,7 @@ ghost use Rattle.std.proofs.Common.{refl, rules};
 ghost use Rattle.gm_metadata.specs.Labels.{is_label, is_label_byte, is_label_field, padded, name_in, name_len};
 
 use std::cmp::Ordering;
+use std::convert::AsStr;
 use std::fmt;
 use std::marker::Model;
 
@@ -133,6 +134,14 @@ impl fmt::Display for Label {
     fn fmt<W: fmt::Write>(&self, f: &mut fmt::Formatter<W>) -> fmt::Result {
         let text = self.as_str();
         write!(f, "{text}")
+    }
+}
+
+impl AsStr for Label {
+    ghost text = { λ text. text };
+
+    fn as_str(&self) -> &str {
+        Label::as_str(self)
     }
 }
 

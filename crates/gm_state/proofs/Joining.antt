@@ -1,13 +1,13 @@
 -- Words that are joined by a byte.
-use Rattle.std.proofs.Common.{◌≡◌, ◌∙◌, ℕ, Bool, not, refl, sym, ap, List, [], ◌∷◌, ◌++◌, append_assoc, Result, Ok, Err, IfOk}
+use Rattle.std.proofs.Common.{◌≡◌, ◌∙◌, ℕ, Bool, not, refl, sym, ap, List, [], ◌∷◌, ◌++◌, append_assoc, append-nil, Result, Ok, Err, IfOk, length, ◌<◌, arith}
 use Rattle.std.specs.Prelude.{codes}
-use Rattle.std.specs.List.{join_with_byte}
+use Rattle.std.specs.List.{join_by, join_with_byte}
 use Rattle.std.specs.Fmt.{decimal}
 use Rattle.gm_metadata.specs.Balance.{balance_name}
 use Rattle.gm_metadata.specs.declared.flags.MirrorFlags.{MirrorFlags}
 use Rattle.gm_state.specs.declared.command.BalanceWord.{BalanceWord}
 use Rattle.gm_state.specs.declared.command.Command.TheVariants.{Label}
-use Rattle.gm_state.specs.Commands.{balance_of_word, on_where, number_words, switch_words, words_of}
+use Rattle.gm_state.specs.Commands.{balance_of_word, on_where, number_words, switch_words, spaced, words_of}
 
 -- two parts of a line
 pub join_two : (c : ℕ) (a : List ℕ) (xs : List (List ℕ)) (b : List ℕ) (ys : List (List ℕ)) → join_with_byte c (a ∷ xs ++ b ∷ ys) ≡ join_with_byte c (a ∷ xs) ++ (c ∷ join_with_byte c (b ∷ ys))
@@ -31,6 +31,29 @@ label_line n p mid did word slice flags hardcoded numbers switches balance autos
     rw (e, f, b, s, x, y, z)
     (join_parts 32 (codes "label") (codes "--mid") (decimal mid ∷ codes "--did" ∷ decimal did ∷ codes "--balance" ∷ balance_name (balance_of_word word) ∷ codes "--slice" ∷ decimal slice ∷ [])
     (codes "--autosync") (on_where (not flags.no_autosync) ∷ codes "--failsync" ∷ on_where (not flags.no_failsync) ∷ codes "--hardcode" ∷ on_where hardcoded ∷ []) n p)
+
+-- ---- what is given
+
+pub spaced_pair : (o v : List ℕ) → 32 ∷ (o ++ (32 ∷ v)) ≡ spaced (o ∷ v ∷ [])
+spaced_pair o v = rw (append-nil v) refl
+
+join_spaced : (w : List ℕ) (ws : List (List ℕ)) → join_with_byte 32 (w ∷ ws) ≡ w ++ spaced ws
+join_spaced w [] = sym (append-nil w)
+join_spaced w (x ∷ ws) = ap (λ (z : List ℕ). w ++ (32 ∷ z)) (join_spaced x ws)
+
+spaced-append : (xs ys : List (List ℕ)) → spaced (xs ++ ys) ≡ spaced xs ++ spaced ys
+spaced-append [] ys = refl
+spaced-append (x ∷ xs) ys = ap (λ (z : List ℕ). (32 ∷ x) ++ z) (spaced-append xs ys) ∙ sym (append_assoc (32 ∷ x) (spaced xs) (spaced ys))
+
+-- the line of a configure, from its options with a space before each
+pub configure_line : (b s a f h p : List (List ℕ)) (n : List ℕ)
+    → codes "configure" ++ (spaced b ++ (spaced s ++ (spaced a ++ (spaced f ++ (spaced h ++ (spaced p ++ (32 ∷ n))))))) ≡ join_with_byte 32 (codes "configure" ∷ (b ++ s ++ a ++ f ++ h ++ p) ++ n ∷ [])
+configure_line b s a f h p n = sym (join_spaced (codes "configure") ((b ++ s ++ a ++ f ++ h ++ p) ++ n ∷ []) ∙ simp (spaced-append, append_assoc, append-nil))
+
+-- that of a lost
+pub lost_line : (n : List ℕ) (ps : List (List ℕ)) → 0 < length ps → codes "lost" ++ (32 ∷ (n ++ (32 ∷ join_by (λ (t : List ℕ). t) (32 ∷ []) ps))) ≡ join_with_byte 32 (codes "lost" ∷ n ∷ ps)
+lost_line n [] some = absurd (omega arith)
+lost_line n (p ∷ ps) some = sym (join_spaced (codes "lost") (n ∷ p ∷ ps))
 
 -- a text that is known where it is there
 pub ok_is : {T E : Type 0} (r : Result T E) (f : T → List ℕ) (x y : List ℕ) → x ≡ y → IfOk r (λ t. f t ≡ x) → IfOk r (λ t. f t ≡ y)

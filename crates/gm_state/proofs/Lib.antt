@@ -4,10 +4,12 @@ pub mod Finding
 pub mod Sorting
 pub mod Testing
 pub mod Creating
-pub mod Joining
+pub mod Given
+mod Joining
 pub mod Best
 pub mod Parting
 pub mod OneCommand
+mod OneWord
 pub mod SameRows
 pub mod Codec
 pub mod Claiming

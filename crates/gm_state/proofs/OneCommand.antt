@@ -1,68 +1,12 @@
 -- Commands with one line of words are one command.
-use Rattle.std.proofs.Common.{◌≡◌, ◌≢◌, ◌∙◌, ℕ, ◌+◌, ◌<◌, ◌^◌, ◌==◌, not, Bool, true, false, cond, refl, sym, ap, arith, List, [], ◌∷◌, get_or, true≢false, eq-eqb}
-use Rattle.std.specs.Fmt.{decimal}
+use Rattle.std.proofs.Common.{◌≡◌, ◌≢◌, ◌∙◌, ℕ, ◌+◌, ◌<◌, ◌^◌, ◌==◌, not, Bool, true, false, refl, sym, ap, arith, List, [], ◌∷◌, ◌++◌, get_or, true≢false, eq-eqb}
 use Rattle.std.specs.List.{join_with_byte}
-use Rattle.std.proofs.lemmas.Fmt.{decimal_injective}
-use Rattle.gm_metadata.specs.Balance.{balance_name}
-use Rattle.gm_metadata.specs.declared.flags.MirrorFlags.{MirrorFlags}
-use Rattle.gm_state.specs.declared.command.BalanceWord.{BalanceWord}
-use Rattle.gm_state.specs.declared.command.BalanceWord.TheVariants.{Load, Prefer, RoundRobin, Split}
 use Rattle.gm_state.specs.declared.command.Command.{Command}
-use Rattle.gm_state.specs.declared.command.Command.TheVariants.{Label, Insert, Remove, Deactivate, Activate, Forget, Rebuild, Clear, Destroy}
-use Rattle.gm_state.specs.Commands.{CommandFits, balance_of_word, on_where, words, words_of}
-use Rattle.gm_state.proofs.Parting.{spaceless, all_spaceless, same_words, label_spaceless, decimal_spaceless}
-
-word_back : List ℕ → BalanceWord
-word_back w = cond (get_or w 0 0 == 108) Load (cond (get_or w 0 0 == 112) Prefer (cond (get_or w 0 0 == 114) RoundRobin Split))
-
-word_again : (b : BalanceWord) → word_back (balance_name (balance_of_word b)) ≡ b
-unfolding word_back
-word_again Load = refl
-word_again Prefer = refl
-word_again RoundRobin = refl
-word_again Split = refl
-
-switch_back : List ℕ → Bool
-switch_back w = get_or w 1 0 == 110
-
-switch_again : (b : Bool) → switch_back (on_where b) ≡ b
-unfolding switch_back
-switch_again true = refl
-switch_again false = refl
-
-not_again : (b : Bool) → not (not b) ≡ b
-not_again true = refl
-not_again false = refl
-
-same_balance : (a b : BalanceWord) → balance_name (balance_of_word a) ≡ balance_name (balance_of_word b) → a ≡ b
-same_balance a b e = sym (word_again a) ∙ (ap word_back e ∙ word_again b)
-
-same_switch : (a b : Bool) → on_where a ≡ on_where b → a ≡ b
-same_switch a b e = sym (switch_again a) ∙ (ap switch_back e ∙ switch_again b)
-
-same_off : (a b : Bool) → on_where (not a) ≡ on_where (not b) → a ≡ b
-same_off a b e = sym (not_again a) ∙ (ap not (same_switch (not a) (not b) e) ∙ not_again b)
-
-same_flags : (f g : MirrorFlags) → f.no_autosync ≡ g.no_autosync → f.no_failsync ≡ g.no_failsync → f ≡ g
-same_flags f g p q =
-    ap (λ (x : Bool). let r : MirrorFlags = record { no_autosync = x; no_failsync = f.no_failsync } in r) p
-    ∙ ap (λ (y : Bool). let r : MirrorFlags = record { no_autosync = g.no_autosync; no_failsync = y } in r) q
-
-same_number : (m n : ℕ) → m < 2 ^ 32 → n < 2 ^ 32 → decimal m ≡ decimal n → m ≡ n
-same_number m n h k e = decimal_injective m n (omega arith) (omega arith) e
-
-balance_spaceless : (b : BalanceWord) → spaceless (balance_name (balance_of_word b)) ≡ true
-balance_spaceless Load = refl
-balance_spaceless Prefer = refl
-balance_spaceless RoundRobin = refl
-balance_spaceless Split = refl
-
-switch_spaceless : (b : Bool) → spaceless (on_where b) ≡ true
-switch_spaceless true = refl
-switch_spaceless false = refl
-
-number_spaceless : (n : ℕ) → n < 2 ^ 32 → spaceless (decimal n) ≡ true
-number_spaceless n h = decimal_spaceless n (omega arith)
+use Rattle.gm_state.specs.declared.command.Command.TheVariants.{Label, Insert, Remove, Deactivate, Activate, Forget, Rebuild, Configure, Clear, Destroy, Lost}
+use Rattle.gm_state.specs.Commands.{CommandFits, setting_words, words, words_of}
+use Rattle.gm_state.proofs.Given.{same_settings, settings_spaceless, last_word}
+use Rattle.gm_state.proofs.OneWord.{same_balance, same_switch, same_off, same_flags, same_number, balance_spaceless, switch_spaceless, number_spaceless}
+use Rattle.gm_state.proofs.Parting.{all_spaceless, same_words, label_spaceless, labels_spaceless}
 
 -- no word of a command has a space in it
 words_spaceless : (c : Command) → CommandFits c → all_spaceless (words c) ≡ true
@@ -76,12 +20,14 @@ words_spaceless (Deactivate n p) fits = rw (label_spaceless n fits.0, label_spac
 words_spaceless (Activate n p) fits = rw (label_spaceless n fits.0, label_spaceless p fits.1) refl
 words_spaceless (Forget n) fits = rw (label_spaceless n fits) refl
 words_spaceless (Rebuild n p) fits = rw (label_spaceless n fits.0, label_spaceless p fits.1) refl
+words_spaceless (Configure n s) fits = settings_spaceless s n (fits.1, fits.2) (label_spaceless n fits.0)
 words_spaceless (Clear p) fits = rw (label_spaceless p fits) refl
 words_spaceless (Destroy n) fits = rw (label_spaceless n fits) refl
+words_spaceless (Lost n ps) fits = rw (label_spaceless n fits.0) (labels_spaceless ps fits.1)
 
--- the first and the third letter of the first word, added up, and a word by its place
+-- the first, the third and the fourth letter of the first word, added up, and a word by its place
 letters : List (List ℕ) → ℕ
-letters ws = get_or (get_or ws 0 []) 0 0 + get_or (get_or ws 0 []) 2 0
+letters ws = get_or (get_or ws 0 []) 0 0 + get_or (get_or ws 0 []) 2 0 + get_or (get_or ws 0 []) 3 0
 
 word : ℕ → List (List ℕ) → List ℕ
 word k ws = get_or ws k []
@@ -94,8 +40,10 @@ words_some (Deactivate n p) e = cc
 words_some (Activate n p) e = cc
 words_some (Forget n) e = cc
 words_some (Rebuild n p) e = cc
+words_some (Configure n s) e = cc
 words_some (Clear p) e = cc
 words_some (Destroy n) e = cc
+words_some (Lost n ps) e = cc
 
 lists_same : (xs ys : List (List ℕ)) → xs ≢ [] → ys ≢ [] → all_spaceless xs ≡ true → all_spaceless ys ≡ true → join_with_byte 32 xs ≡ join_with_byte 32 ys → xs ≡ ys
 lists_same [] ys n m e f g = absurd (n refl)
@@ -132,8 +80,14 @@ same_by_words (Deactivate n p) (Deactivate n' p') u v e = let names : n ≡ n' =
 same_by_words (Activate n p) (Activate n' p') u v e = let names : n ≡ n' = ap (word 1) e in let providers : p ≡ p' = ap (word 2) e in cc
 same_by_words (Forget n) (Forget n') u v e = ap Forget (ap (word 1) e)
 same_by_words (Rebuild n p) (Rebuild n' p') u v e = let names : n ≡ n' = ap (word 1) e in let providers : p ≡ p' = ap (word 2) e in cc
+same_by_words (Configure n s) (Configure n' s') u v e =
+    let t : setting_words s ++ n ∷ [] ≡ setting_words s' ++ n' ∷ [] = cc in
+    let names : n ≡ n' = last_word (setting_words s) (setting_words s') n n' t in
+    let settings : s ≡ s' = same_settings s s' n n' (u.1, u.2) (v.1, v.2) t in
+    cc
 same_by_words (Clear p) (Clear p') u v e = ap Clear (ap (word 1) e)
 same_by_words (Destroy n) (Destroy n') u v e = ap Destroy (ap (word 1) e)
+same_by_words (Lost n ps) (Lost n' ps') u v e = let names : n ≡ n' = ap (word 1) e in let providers : ps ≡ ps' = cc in cc
 same_by_words a b u v e = absurd (apart (letters (words a)) (letters (words b)) refl (ap letters e))
 
 pub same_command : (a b : Command) → CommandFits a → CommandFits b → words_of a ≡ words_of b → a ≡ b

@@ -70,6 +70,10 @@ other_byte p n b e =
 pub label_spaceless : (n : List ℕ) → IsTrue (is_label n) → spaceless n ≡ true
 label_spaceless n e = all_weaker is_label_byte (λ b. not (b == 32)) (other_byte is_label_byte refl) n (and_parts (nat_lt 0 (length n) && nat_lt (length n) 16) (list_all is_label_byte n) e).1
 
+pub labels_spaceless : (ns : List (List ℕ)) → IsTrue (list_all is_label ns) → all_spaceless ns ≡ true
+labels_spaceless [] e = refl
+labels_spaceless (n ∷ ns) e = let a = and_parts (is_label n) (list_all is_label ns) e in and_from (spaceless n) (all_spaceless ns) (label_spaceless n a.0) (labels_spaceless ns a.1)
+
 digits_are : (ds : List ℕ) → all_ascii_digits ds ≡ true → list_all is_ascii_digit ds ≡ true
 digits_are [] e = refl
 digits_are (x ∷ xs) e = let a = and_parts (is_ascii_digit x) (all_ascii_digits xs) e in and_from (is_ascii_digit x) (list_all is_ascii_digit xs) a.0 (digits_are xs a.1)

@@ -3,6 +3,7 @@
 ghost use Rattle.std.specs.Prelude.{◌≡◌, ◌<◌, ◌==◌, if◌then◌else◌, Some, None};
 ghost use Rattle.gm_state.specs.Commands.{balance_of_word};
 
+use crate::named::Providers;
 use gm_metadata::{Balance, Label, MirrorFlags};
 use std::marker::Model;
 
@@ -67,8 +68,27 @@ impl Slice {
     }
 }
 
-/// A command of gmirror(8), as its words say it.
+/// The priority that one component gets.
 #[derive(Clone, Copy, Debug, PartialEq, Eq)]
+pub struct Preference {
+    pub provider: Label,
+    pub priority: u8,
+}
+
+/// What is set of a mirror that stands; what is `None` stays as it is.
+#[derive(Clone, Copy, Debug, PartialEq, Eq)]
+pub struct Settings {
+    pub balance: Option<BalanceWord>,
+    pub slice: Option<Slice>,
+    pub autosync: Option<bool>,
+    pub failsync: Option<bool>,
+    /// Whether the name of every component is hardcoded.
+    pub hardcode: Option<bool>,
+    pub preference: Option<Preference>,
+}
+
+/// A command of gmirror(8), as its words say it; `Lost` is this project's own.
+#[derive(Debug, PartialEq, Eq, Drop)]
 pub enum Command {
     /// A new mirror on one provider. mid and did are handed in.
     Label {
@@ -113,6 +133,11 @@ pub enum Command {
         name: Label,
         provider: Label,
     },
+    /// The mirror and its components are set otherwise.
+    Configure {
+        name: Label,
+        settings: Settings,
+    },
     /// The metadata of a provider that is no component are wiped out.
     Clear {
         provider: Label,
@@ -120,6 +145,11 @@ pub enum Command {
     /// The mirror and its components are dropped.
     Destroy {
         name: Label,
+    },
+    /// Components whose images won't come back are dropped; they are waited for until they are forgotten.
+    Lost {
+        name: Label,
+        providers: Providers,
     },
 }
 

@@ -10,6 +10,7 @@ mod command;
 mod keys;
 mod laws;
 mod lookups;
+mod named;
 mod records;
 mod sizes;
 mod sources;
@@ -20,12 +21,13 @@ mod tests;
 mod wording;
 
 pub use checking::{MAX_COMPONENTS, MAX_MIRRORS, MAX_SECTORS};
-pub use command::{BalanceWord, Command, Intent, Reply, Slice};
+pub use command::{BalanceWord, Command, Intent, Preference, Reply, Settings, Slice};
 pub use keys::is_key;
 pub use laws::{
     metadata_fits, one_command, one_reply, one_row, one_state, sound_claims, sound_data,
 };
 pub use lookups::{active_count, component_state, metadata, metadata_of, mirror_state, state_by};
+pub use named::Providers;
 pub use records::{Component, Disk, Mirror};
 pub use sizes::{bytes_of, sectors_of};
 pub use sources::source;

@@ -1,8 +1,9 @@
 //! What the records of worked mirrors say, with values written by hand.
 
 use crate::{
-    BalanceWord, Command, Component, ComponentState, Disk, Mirror, MirrorState, Slice, State,
-    active_count, component_state, metadata_of, mirror_state, source, words_of,
+    BalanceWord, Command, Component, ComponentState, Disk, Mirror, MirrorState, Preference,
+    Providers, Settings, Slice, State, active_count, component_state, metadata_of, mirror_state,
+    source, words_of,
 };
 use gm_metadata::{Balance, DiskFlags, Label, Metadata, MirrorFlags};
 use std::alloc::{AllocError, Global};
@@ -375,6 +376,67 @@ fn canonical_words(rt: HostRuntime) -> Result<(), Fail> {
         assert_eq!(rt; text.as_str(), words);
     }
     assert!(rt; Slice::new(0).is_none());
+    Ok(())
+}
+
+const NO_SETTINGS: Settings = Settings {
+    balance: None,
+    slice: None,
+    autosync: None,
+    failsync: None,
+    hardcode: None,
+    preference: None,
+};
+
+fn configure_text(alloc: Global, name: Label, settings: Settings) -> Result<String, AllocError> {
+    words_of(alloc, &Command::Configure { name, settings })
+}
+
+#[test]
+fn words_of_settings_that_were_given(rt: HostRuntime) -> Result<(), Fail> {
+    let name = label(&rt, "gm0");
+    let preference = Preference {
+        provider: label(&rt, "b.img"),
+        priority: 255,
+    };
+    let all = Settings {
+        balance: Some(BalanceWord::Split),
+        slice: Slice::new(1),
+        autosync: Some(false),
+        failsync: Some(true),
+        hardcode: Some(false),
+        preference: Some(preference),
+    };
+    let hardcoded = Settings {
+        hardcode: Some(true),
+        ..NO_SETTINGS
+    };
+    let text = configure_text(rt.alloc(), name, NO_SETTINGS)?;
+    assert_eq!(rt; text.as_str(), "configure gm0");
+    let text = configure_text(rt.alloc(), name, all)?;
+    assert_eq!(rt;
+        text.as_str(),
+        "configure --balance split --slice 1 --autosync off --failsync on --hardcode off --prov b.img --priority 255 gm0"
+    );
+    let text = configure_text(rt.alloc(), name, hardcoded)?;
+    assert_eq!(rt; text.as_str(), "configure --hardcode on gm0");
+    Ok(())
+}
+
+#[test]
+fn words_of_lost_components(rt: HostRuntime) -> Result<(), Fail> {
+    let name = label(&rt, "gm0");
+    let [a, b] = [label(&rt, "a.img"), label(&rt, "b.img")];
+    for (named, words) in [
+        ([b, a].as_slice(), "lost gm0 b.img a.img"),
+        ([b].as_slice(), "lost gm0 b.img"),
+    ] {
+        let named = Vec::from_slice(rt.alloc(), named)?;
+        let providers = Providers::new(named).expect(&rt, "one or more");
+        let text = words_of(rt.alloc(), &Command::Lost { name, providers })?;
+        assert_eq!(rt; text.as_str(), words);
+    }
+    assert!(rt; Providers::new(Vec::new(rt.alloc())).is_none());
     Ok(())
 }
 

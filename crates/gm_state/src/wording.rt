@@ -1,11 +1,12 @@
 //! The canonical words of a command: by these commands are compared.
 
-ghost use Rattle.std.specs.Prelude.{◌≡◌, IfOk, codes, [], ◌∷◌};
-ghost use Rattle.std.specs.List.{join_with_byte};
+ghost use Rattle.std.specs.Prelude.{◌≡◌, ◌<◌, Some, IfOk, IsTrue, length, codes, [], ◌∷◌, ◌++◌};
+ghost use Rattle.std.specs.List.{join_with_byte, list_all};
 ghost use Rattle.std.specs.String.{string_bytes};
-ghost use Rattle.gm_state.specs.Commands.{CommandFits, number_words, on_where, switch_words, words_of};
+ghost use Rattle.gm_metadata.specs.Labels.{is_label};
+ghost use Rattle.gm_state.specs.Commands.{CommandFits, PreferenceFits, SliceFits, balance_words, given_switch, number_words, on_where, preference_words, setting_words, slice_words, spaced, switch_words, words_of};
 
-use crate::command::Command;
+use crate::command::{BalanceWord, Command, Preference, Settings, Slice};
 use gm_metadata::Label;
 use std::alloc::{AllocError, Global};
 
@@ -53,11 +54,127 @@ fn label_words(
     format!(in alloc; "label {numbers} {switches} {name} {provider}")
 }
 
-// What the types of its parts say of a command; it does nothing.
-fn command_fits(command: Command)
-    ensures { CommandFits command }
+// An option and its value, each behind a space.
+fn pair(alloc: Global, option: &str, value: &str) -> Result<String, AllocError>
+    ensures { IfOk result (λ text. string_bytes text ≡ spaced (option.now ∷ value.now ∷ [])) }
 {
-    match command {
+    format!(in alloc; " {option} {value}")
+}
+
+fn given_balance(alloc: Global, balance: Option<BalanceWord>) -> Result<String, AllocError>
+    ensures { IfOk result (λ text. string_bytes text ≡ spaced (balance_words balance)) }
+{
+    match balance {
+        Some(balance) => {
+            let words = pair(alloc, "--balance", balance.balance().name())?;
+            Ok(words)
+        }
+        None => Ok(String::new(alloc)),
+    }
+}
+
+fn given_slice(alloc: Global, slice: Option<Slice>) -> Result<String, AllocError>
+    ensures { IfOk result (λ text. string_bytes text ≡ spaced (slice_words slice)) }
+{
+    match slice {
+        Some(slice) => {
+            let bytes = slice.bytes();
+            format!(in alloc; " --slice {bytes}")
+        }
+        None => Ok(String::new(alloc)),
+    }
+}
+
+fn given_switch(alloc: Global, option: &str, switch: Option<bool>) -> Result<String, AllocError>
+    ensures { IfOk result (λ text. string_bytes text ≡ spaced (given_switch option.now switch)) }
+{
+    match switch {
+        Some(set) => {
+            let words = pair(alloc, option, on_where(set))?;
+            Ok(words)
+        }
+        None => Ok(String::new(alloc)),
+    }
+}
+
+fn given_preference(alloc: Global, preference: Option<Preference>) -> Result<String, AllocError>
+    ensures { IfOk result (λ text. string_bytes text ≡ spaced (preference_words preference)) }
+{
+    match preference {
+        Some(preference) => {
+            let words = preferred(alloc, preference.provider, preference.priority)?;
+            Ok(words)
+        }
+        None => Ok(String::new(alloc)),
+    }
+}
+
+fn preferred(alloc: Global, provider: Label, priority: u8) -> Result<String, AllocError>
+    ensures { IfOk result (λ text. string_bytes text
+        ≡ spaced (preference_words (Some (record { provider = provider; priority = priority })))) }
+{
+    format!(in alloc; " --prov {provider} --priority {priority}")
+}
+
+fn configure_words(alloc: Global, name: Label, settings: Settings) -> Result<String, AllocError>
+    ensures { IfOk result (λ text. string_bytes text
+        ≡ join_with_byte 32 (codes "configure" ∷ setting_words settings ++ name ∷ [])) }
+{
+    let balance = given_balance(alloc, settings.balance)?;
+    let slice = given_slice(alloc, settings.slice)?;
+    let autosync = given_switch(alloc, "--autosync", settings.autosync)?;
+    let failsync = given_switch(alloc, "--failsync", settings.failsync)?;
+    let hardcode = given_switch(alloc, "--hardcode", settings.hardcode)?;
+    let preference = given_preference(alloc, settings.preference)?;
+    format!(in alloc; "configure{balance}{slice}{autosync}{failsync}{hardcode}{preference} {name}")
+}
+
+fn lost_words(alloc: Global, name: Label, providers: &[Label]) -> Result<String, AllocError>
+    requires { 0 < length providers.now }
+    ensures { IfOk result (λ text. string_bytes text
+        ≡ join_with_byte 32 (codes "lost" ∷ name ∷ providers.now)) }
+{
+    let providers = providers.join(alloc, " ")?;
+    format!(in alloc; "lost {name} {providers}")
+}
+
+// What the types of their parts say of a slice and a preference; these do nothing.
+fn slice_fits(slice: Option<Slice>)
+    ensures { SliceFits slice }
+{
+    if let Some(slice) = slice {
+        let _ = slice.bytes();
+    }
+}
+
+fn preference_fits(preference: Option<Preference>)
+    ensures { PreferenceFits preference }
+{
+    if let Some(
+        Preference {
+            provider,
+            priority: _priority,
+        },
+    ) = preference
+    {
+        let _ = provider.as_bytes();
+    }
+}
+
+// Each of them is a label; it does nothing.
+fn labels_fit(providers: &[Label])
+    ensures { IsTrue (list_all is_label providers.now) }
+{
+    for provider in providers {
+        let _ = provider.as_bytes();
+    }
+}
+
+// What the types of its parts say of a command; it does nothing.
+fn command_fits(command: &Command)
+    ensures { CommandFits command.now }
+{
+    match *command {
         Command::Label {
             name,
             provider,
@@ -87,8 +204,20 @@ fn command_fits(command: Command)
             let _ = name.as_bytes();
             let _ = provider.as_bytes();
         }
+        Command::Configure { name, settings } => {
+            let _ = name.as_bytes();
+            slice_fits(settings.slice);
+            preference_fits(settings.preference);
+        }
         Command::Clear { provider } => {
             let _ = provider.as_bytes();
+        }
+        Command::Lost {
+            name,
+            ref providers,
+        } => {
+            let _ = name.as_bytes();
+            labels_fit(providers.as_slice());
         }
         Command::Forget { name } | Command::Destroy { name } => {
             let _ = name.as_bytes();
@@ -102,7 +231,7 @@ pub fn words_of(alloc: Global, command: &Command) -> Result<String, AllocError>
     ensures words { IfOk result (λ text. string_bytes text ≡ words_of command.now) }
     ensures fits { CommandFits command.now }
 {
-    command_fits(*command);
+    command_fits(command);
     match *command {
         Command::Label {
             name,
@@ -139,7 +268,12 @@ pub fn words_of(alloc: Global, command: &Command) -> Result<String, AllocError>
         Command::Activate { name, provider } => format!(in alloc; "activate {name} {provider}"),
         Command::Forget { name } => format!(in alloc; "forget {name}"),
         Command::Rebuild { name, provider } => format!(in alloc; "rebuild {name} {provider}"),
+        Command::Configure { name, settings } => configure_words(alloc, name, settings),
         Command::Clear { provider } => format!(in alloc; "clear {provider}"),
         Command::Destroy { name } => format!(in alloc; "destroy {name}"),
+        Command::Lost {
+            name,
+            ref providers,
+        } => lost_words(alloc, name, providers.as_slice()),
     }
 }
