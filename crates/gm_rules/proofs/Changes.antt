@@ -5,7 +5,8 @@ use Rattle.std.proofs.lemmas.Bool.{cases_Bool}
 use Rattle.gm_metadata.specs.Images.{same_label}
 use Rattle.gm_metadata.specs.declared.flags.MirrorFlags.{MirrorFlags}
 use Rattle.gm_state.specs.declared.command.BalanceWord.{BalanceWord}
-use Rattle.gm_state.specs.declared.command.Command.TheVariants.{Label, Insert, Remove, Deactivate, Activate, Forget, Rebuild, Destroy}
+use Rattle.gm_state.specs.declared.command.Settings.{Settings}
+use Rattle.gm_state.specs.declared.command.Command.TheVariants.{Label, Insert, Remove, Deactivate, Activate, Forget, Rebuild, Configure, Destroy, Lost}
 use Rattle.gm_state.specs.declared.command.Command.TheVariants as commands
 use Rattle.gm_state.specs.declared.command.Intent.TheVariants.{Meta, Clear}
 use Rattle.gm_state.specs.declared.command.Reply.TheVariants.{Plain}
@@ -16,12 +17,12 @@ use Rattle.gm_state.specs.Records.{Records, IsState, members, provider}
 use Rattle.gm_state.specs.Lookups.{mirror_of, component_of}
 use Rattle.gm_state.proofs.Order.{same_from, same_is}
 use Rattle.gm_state.proofs.Words.{Has-filter, filter-Has, filter-put, filter_swap, filter_id, one}
-use Rattle.gm_rules.specs.Bad.{Seen}
-use Rattle.gm_rules.specs.After.{metas, clears_of, new_mirror, first_component, spare, deactivated, activated, rebuilt}
+use Rattle.gm_rules.specs.Bad.{Seen, is_on_any}
+use Rattle.gm_rules.specs.After.{metas, clears_of, new_mirror, first_component, spare, deactivated, activated, rebuilt, configured_mirror, configured}
 use Rattle.gm_rules.specs.Decides.{Changed, Makes, IsGood}
 use Rattle.gm_state.proofs.Finding.{filter_agree, any-map, any_from, some_any, not_both}
 use Rattle.gm_rules.proofs.Good.{named, new_name, provider_at}
-use Rattle.gm_rules.proofs.Kept.{keeps_deactivated, members_put}
+use Rattle.gm_rules.proofs.Kept.{keeps_configured, keeps_deactivated, members_put}
 
 pub label_makes : (s : Records) (x : Seen) (n p : List ℕ) (mid did : ℕ) (balance : BalanceWord) (slice : ℕ) (flags : MirrorFlags) (hardcoded : Bool) (sectors : ℕ) (ch : Changed)
     → IsGood s x (Label n p mid did balance slice flags hardcoded) → x.size p ≡ Some sectors
@@ -84,6 +85,14 @@ pub clear_makes : (s : Records) (x : Seen) (p : List ℕ) (ch : Changed)
     → Makes s x (commands.Clear p) ch
 clear_makes s x p ch good is = record { good = good; records = rw is refl; intents = rw is refl; reply = rw is refl }
 
+pub configure_makes : (s : Records) (x : Seen) (n : List ℕ) (settings : Settings) (m : Mirror) (ks : List Component) (ch : Changed)
+    → IsGood s x (Configure n settings) → IsState s → mirror_of s n ≡ Some m → members s.components n ≡ ks
+    → ch ≡ record { mirror = Some (configured_mirror settings m); gone_mirror = None; components = map (configured settings) ks; gone_components = []; intents = metas (map (configured settings) ks); reply = Plain }
+    → Makes s x (Configure n settings) ch
+configure_makes s x n settings m ks ch good state found mine is =
+    let placed = members_put n (configured settings) (keeps_configured settings) s.components state.components_in_order in
+    record { good = good; records = rw (is, found, mine) refl; intents = rw (is, found, placed, mine) refl; reply = rw is refl }
+
 -- two filters in a row
 filter-filter : {X : Type 0} (p q : X → Bool) (xs : List X) → filter (λ x. not (p x)) (filter (λ x. not (q x)) xs) ≡ filter (λ x. not (q x || p x)) xs
 filter-filter p q [] = refl
@@ -101,6 +110,20 @@ pub without_all-filter : (names : List (List ℕ)) (ks : List Component) → wit
 without_all-filter [] ks = sym (filter_id (λ k. true) ks (λ x h. refl))
 without_all-filter (p ∷ names) ks =
     without_all-filter names (without provider p ks) ∙ filter-filter (λ k. list_any (λ q. same_label k.provider q) names) (λ k. same_label k.provider p) ks
+
+pub without_all-swap : (names : List (List ℕ)) (q : Component → Bool) (ks : List Component) → without_all provider names (filter q ks) ≡ filter q (without_all provider names ks)
+without_all-swap names q ks =
+    let stays : Component → Bool = λ k. not (list_any (λ p. same_label k.provider p) names) in
+    without_all-filter names (filter q ks) ∙ (filter_swap stays q ks ∙ sym (ap (filter q) (without_all-filter names ks)))
+
+pub lost_makes : (s : Records) (x : Seen) (n : List ℕ) (ps : List (List ℕ)) (m : Mirror) (ks : List Component) (ch : Changed)
+    → IsGood s x (Lost n ps) → mirror_of s n ≡ Some m → members s.components n ≡ ks
+    → ch ≡ record { mirror = Some (record m { genid = m.genid + 1 }); gone_mirror = None; components = []; gone_components = ps; intents = metas (filter (λ k. not (is_on_any ps k)) ks); reply = Plain }
+    → Makes s x (Lost n ps) ch
+lost_makes s x n ps m ks ch good found mine is =
+    let left : members (without_all provider ps s.components) n ≡ filter (λ k. not (is_on_any ps k)) ks
+    = sym (without_all-swap ps (λ (k : Component). same_label k.mirror n) s.components) ∙ (ap (without_all provider ps) mine ∙ without_all-filter ps ks) in
+    record { good = good; records = rw (is, found) refl; intents = rw (is, found, left) refl; reply = rw is refl }
 
 -- a component has the provider of a member of the mirror just where it is one
 is_member : (s : Records) (n : List ℕ) → IsState s → (k : Component) → Has s.components k

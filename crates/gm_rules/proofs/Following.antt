@@ -4,25 +4,26 @@ use Rattle.std.specs.Prelude.{unwrap_or}
 use Rattle.std.proofs.lemmas.Bool.{ne_eqb}
 use Rattle.gm_metadata.specs.Images.{Sizes, same_label}
 use Rattle.gm_state.specs.declared.command.Command.{Command}
-use Rattle.gm_state.specs.declared.command.Command.TheVariants.{Label, Insert, Remove, Deactivate, Activate, Forget, Rebuild, Destroy}
+use Rattle.gm_state.specs.declared.command.Command.TheVariants.{Label, Insert, Remove, Deactivate, Activate, Forget, Rebuild, Configure, Destroy, Lost}
 use Rattle.gm_state.specs.declared.command.Command.TheVariants as commands
 use Rattle.gm_state.specs.declared.records.Mirror.{Mirror}
 use Rattle.gm_state.specs.declared.records.Component.{Component}
 use Rattle.gm_state.specs.Intents.{IsOf}
 use Rattle.gm_state.specs.Lookups.{mirror_of, component_of}
-use Rattle.gm_state.specs.Words.{Has, put, put_all, without}
+use Rattle.gm_state.specs.Words.{Has, put, put_all, without, without_all}
 use Rattle.gm_state.specs.Records.{Records, IsState, members, name, provider}
 use Rattle.gm_state.proofs.Order.{same_is}
 use Rattle.gm_state.proofs.Words.{Ascends-filter, filter-put, filter_swap, length-filter_le}
 use Rattle.gm_state.proofs.Finding.{found}
-use Rattle.gm_rules.specs.declared.refusals.Refusal.TheVariants.{NoMirror, NameTaken, MidTaken, Absent, ProviderTaken, CarriesMetadata, TooSmall, NotMember, DidTaken, Full, TooManyMirrors, SomeLost, LastActive, AlreadyInactive, NotInactive, NoneLost, Inactive, LastSyncid, WrongSize, NoMetadata}
-use Rattle.gm_rules.specs.After.{new_mirror, first_component, spare, deactivated, activated, rebuilt, on_found, after}
+use Rattle.gm_rules.specs.declared.refusals.Refusal.TheVariants.{NoMirror, NameTaken, MidTaken, Absent, ProviderTaken, CarriesMetadata, TooSmall, NotMember, DidTaken, Full, TooManyMirrors, SomeLost, LastActive, AlreadyInactive, NotInactive, NoneLost, Inactive, LastSyncid, LastGenid, NothingGiven, WrongSize, NoMetadata}
+use Rattle.gm_rules.specs.After.{new_mirror, first_component, spare, deactivated, activated, rebuilt, configured_mirror, configured, on_found, after}
 use Rattle.gm_rules.specs.Bad.{Seen, name_of, providers_of}
 use Rattle.gm_rules.specs.Decides.{Changed, Makes, IsGood, changed_by}
 use Rattle.gm_rules.specs.Parts.{IsPartOf, IsGoodButCount, IsMade, LeavesPart, is_asked, part_of}
 use Rattle.gm_rules.proofs.Agreeing.{find_within, by_names, by_names_state, by_names_of, same_of, chosen, chosen_name, chosen_owner, part_is, is_state, whole_is_part}
+use Rattle.gm_rules.proofs.Changes.{without_all-swap}
 use Rattle.gm_rules.proofs.Good.{named, not_at}
-use Rattle.gm_rules.proofs.Kept.{Keeps, filter-map, keeps_deactivated, keeps_where, put_mapped, where_of}
+use Rattle.gm_rules.proofs.Kept.{Keeps, filter-map, keeps_configured, keeps_deactivated, keeps_where, put_mapped, where_of}
 
 -- the test passes the mirror that the command names, and those whose components are on providers that it names
 record TakesIn (t : List ℕ → Bool) (c : Command) (s : Records) : Type 0 where
@@ -120,11 +121,23 @@ module _ (t : List ℕ → Bool) (s : Records) (state : IsState s) where
       let c : Command = Rebuild n p in
       on_at c takes p (inl refl) _ _ (λ k at.
       two _ _ (record { mirrors = s.mirrors; components = put provider (rebuilt k) s.components }) refl (puts_at c takes p (inl refl) k (rebuilt k) at refl refl))
+  after_names size (Configure n settings) takes =
+      let e : t n ≡ true = takes.name n refl in
+      on_named n e _ _ (λ m is.
+      two _ _ (record { mirrors = put name (configured_mirror settings m) s.mirrors; components = put_all provider (map (configured settings) (members s.components n)) s.components })
+      (puts_mirror (configured_mirror settings m) (found_passes n e m is))
+      (puts_mapped n (configured settings) (keeps_configured settings)))
   after_names size (commands.Clear p) takes = refl
   after_names size (Destroy n) takes =
       two _ _ (record { mirrors = without name n s.mirrors; components = filter (λ k. not (same_label k.mirror n)) s.components })
       (filter_swap (λ (m : Mirror). not (same_label m.name n)) (λ (m : Mirror). t m.name) s.mirrors)
       (filter_swap (λ (k : Component). not (same_label k.mirror n)) (λ (k : Component). t k.mirror) s.components)
+  after_names size (Lost n ps) takes =
+      let e : t n ≡ true = takes.name n refl in
+      on_named n e _ _ (λ m is.
+      two _ _ (record { mirrors = put name (record m { genid = m.genid + 1 }) s.mirrors; components = without_all provider ps s.components })
+      (puts_mirror (record m { genid = m.genid + 1 }) (found_passes n e m is))
+      (without_all-swap ps (λ (k : Component). t k.mirror) s.components))
 
 -- ---- so of a part
 
@@ -180,6 +193,8 @@ module _ (part s : Records) (c : Command) (of : IsPartOf part c s) where
   good_part x but good NoneLost h = but NoneLost h refl
   good_part x but good Inactive h = but Inactive h refl
   good_part x but good LastSyncid h = but LastSyncid h refl
+  good_part x but good LastGenid h = but LastGenid h refl
+  good_part x but good NothingGiven h = but NothingGiven h refl
   good_part x but good WrongSize h = but WrongSize h refl
   good_part x but good NoMetadata h = but NoMetadata h refl
 

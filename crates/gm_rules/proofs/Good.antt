@@ -7,7 +7,7 @@ use Rattle.gm_state.specs.Words.{Has}
 use Rattle.gm_state.specs.Records.{Records, IsState, IsMirror, members}
 use Rattle.gm_state.specs.Lookups.{mirror_of, component_of}
 use Rattle.gm_state.specs.declared.command.Command.{Command}
-use Rattle.gm_state.specs.declared.command.Command.TheVariants.{Label, Insert, Remove, Deactivate, Activate, Forget, Rebuild, Clear, Destroy}
+use Rattle.gm_state.specs.declared.command.Command.TheVariants.{Label, Insert, Remove, Deactivate, Activate, Forget, Rebuild, Configure, Clear, Destroy, Lost}
 use Rattle.gm_state.specs.declared.records.Mirror.{Mirror}
 use Rattle.gm_state.specs.declared.records.Component.{Component}
 use Rattle.gm_state.proofs.Order.{same_is}
@@ -65,8 +65,10 @@ own_rises (Deactivate n p) = refl
 own_rises (Activate n p) = refl
 own_rises (Forget n) = refl
 own_rises (Rebuild n p) = refl
+own_rises (Configure n settings) = refl
 own_rises (Clear p) = refl
 own_rises (Destroy n) = refl
+own_rises (Lost n ps) = refl
 
 all_of : (r : Refusal) (qs : List Refusal) → list_all (λ q. nat_lt (number_of r) (number_of q)) qs ≡ true → (q : Refusal) → Has qs q → number_of r ≤ number_of q
 all_of r [] e q h = absurd h
@@ -138,6 +140,12 @@ pub one_more_sync : (s : Records) (n : List ℕ) (m : Mirror) → IsState s → 
 one_more_sync s n m state e off =
     let apart : m.syncid ≢ 4294967295 = not_at m.syncid 4294967295 (fails_there (mirror_of s n) m (λ a. a.syncid == 4294967295) e off) in
     let small : m.syncid < 2 ^ 32 = (rules_of s n m state e).fits.syncid in omega arith
+
+-- a mirror whose genid isn't the last one
+pub one_more_loss : (s : Records) (n : List ℕ) (m : Mirror) → IsState s → mirror_of s n ≡ Some m → is_there_and (mirror_of s n) (λ m. m.genid == 4294967295) ≡ false → m.genid < 4294967295
+one_more_loss s n m state e off =
+    let apart : m.genid ≢ 4294967295 = not_at m.genid 4294967295 (fails_there (mirror_of s n) m (λ a. a.genid == 4294967295) e off) in
+    let small : m.genid < 2 ^ 32 = (rules_of s n m state e).fits.genid in omega arith
 
 -- the provider of a good label is there with a right size
 pub label_size : (s : Records) (x : Seen) (c : Command) (n p : List ℕ) (mid did : ℕ) (balance : BalanceWord) (slice : ℕ) (flags : MirrorFlags) (hardcoded : Bool)

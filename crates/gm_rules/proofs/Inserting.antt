@@ -27,7 +27,7 @@ use Rattle.gm_state.proofs.Finding.{any_one, none_any, not_both}
 use Rattle.gm_rules.proofs.Good.{there_from, none_from, named, new_name, fails_there, not_below, not_at, right_size}
 use Rattle.gm_state.proofs.Presence.{present_size, some_and}
 use Rattle.gm_rules.proofs.Planned.{Serves, has, were_bare}
-use Rattle.gm_rules.proofs.RuledOut.{all_there, carries_nothing, metas_has, metas_are, metas_plain}
+use Rattle.gm_rules.proofs.RuledOut.{each_there, carries_nothing, metas_has, metas_are, metas_plain}
 use Rattle.gm_rules.proofs.Turning.{Turns, Writes}
 
 -- what the refusals of insert rule out
@@ -165,7 +165,7 @@ can_insert u n p did priority h sound good =
         limit = range.1;
         dids = λ k o. not_at k.did did (none_any _ (members u.state.components n) (good refusals.DidTaken (inr (inr (inr (inr (inr (inl refl))))))) k (subst (λ (a : List ℕ). Has (members u.state.components a) k) at_n.1 o));
         room = omega arith;
-        there = λ k o. all_there (present u) (members u.state.components n) absent.1 k (subst (λ (a : List ℕ). Has (members u.state.components a) k) at_n.1 o);
+        there = λ k o. each_there u (p ∷ []) (members u.state.components n) (good refusals.Absent (inr (inl refl))) k (subst (λ (a : List ℕ). Has (members u.state.components a) k) at_n.1 o);
         bare = carries_nothing u p sectors size.1 (omega arith) (any_one (λ q. last_carries (last_of u q)) p (good refusals.CarriesMetadata (inr (inr (inr (inl refl))))));
       },
     )

@@ -3,6 +3,7 @@ use Rattle.std.proofs.Common.{◌≡◌, ◌≢◌, ◌∙◌, inl, inr, ℕ, Bo
 use Rattle.std.specs.Str.{bytes_eq}
 use Rattle.std.proofs.lemmas.Bool.{cases_Bool}
 use Rattle.gm_metadata.specs.Images.{same_label}
+use Rattle.gm_state.specs.declared.command.Settings.{Settings}
 use Rattle.gm_state.specs.declared.records.Component.{Component}
 use Rattle.gm_state.specs.declared.records.Disk.TheVariants.{Inactive}
 use Rattle.gm_state.specs.Words.{Has, Ascends, label_lt, put, put_all}
@@ -10,7 +11,7 @@ use Rattle.gm_state.specs.Records.{members, provider}
 use Rattle.gm_state.specs.Lookups.{is_inactive}
 use Rattle.gm_state.proofs.Order.{same_from, differ, lt_asym, lt_differ}
 use Rattle.gm_state.proofs.Words.{filter-where, put_all-where}
-use Rattle.gm_rules.specs.After.{deactivated}
+use Rattle.gm_rules.specs.After.{configured, deactivated}
 
 -- ---- a list whose elements are changed where they stand
 
@@ -101,10 +102,13 @@ put_mapped n f keeps ks a = put_all-where (λ k. same_label k.mirror n) provider
 pub members_put : (n : List ℕ) (f : Component → Component) → Keeps f → (ks : List Component) → Ascends provider ks → members (put_all provider (map f (members ks n)) ks) n ≡ map f (members ks n)
 members_put n f keeps ks a = ap (λ l. members l n) (put_mapped n f keeps ks a) ∙ filter-where (λ k. same_label k.mirror n) f (λ k. ap (λ x. same_label x n) (keeps.mirror k)) ks
 
--- ---- the change of deactivate is such a one
+-- ---- the changes of deactivate and configure are such ones
 
 pub keeps_deactivated : (syncid : ℕ) (p : List ℕ) → Keeps (deactivated syncid p)
 keeps_deactivated syncid p =
     let plain : Keeps (λ k. record k { disk = Inactive }) = record { provider = λ k. refl; mirror = λ k. refl; did = λ k. refl; sectors = λ k. refl } in
     let counted : Keeps (λ k. record k { syncid = syncid }) = record { provider = λ k. refl; mirror = λ k. refl; did = λ k. refl; sectors = λ k. refl } in
     keeps_either (λ k. same_label k.provider p) _ _ plain (keeps_either (λ k. is_inactive k.disk) _ _ keeps_id counted)
+
+pub keeps_configured : (settings : Settings) → Keeps (configured settings)
+keeps_configured settings = record { provider = λ k. refl; mirror = λ k. refl; did = λ k. refl; sectors = λ k. refl }

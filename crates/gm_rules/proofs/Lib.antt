@@ -12,6 +12,7 @@ pub mod Adjusting
 pub mod RuledOut
 pub mod Labelling
 pub mod Inserting
+pub mod Filtering
 pub mod Removing
 pub mod Wiping
 pub mod Destroying

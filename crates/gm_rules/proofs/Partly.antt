@@ -1,9 +1,10 @@
 -- What is made of a part is what the command makes of the whole.
-use Rattle.std.proofs.Common.{◌≡◌, ◌∙◌, inl, ℕ, ◌+◌, ◌-◌, Bool, false, refl, sym, ap, ap₂, subst, List, [], ◌∷◌, ◌++◌, Option, Some, None, Result, Ok, Err, OnErr, map, find, length, if◌then◌else◌}
+use Rattle.std.proofs.Common.{◌≡◌, ◌∙◌, inl, ℕ, ◌+◌, ◌-◌, Bool, false, not, refl, sym, ap, ap₂, subst, List, [], ◌∷◌, ◌++◌, Option, Some, None, Result, Ok, Err, OnErr, map, filter, find, length, if◌then◌else◌}
 use Rattle.gm_metadata.specs.declared.flags.MirrorFlags.{MirrorFlags}
 use Rattle.gm_state.specs.declared.command.BalanceWord.{BalanceWord}
+use Rattle.gm_state.specs.declared.command.Settings.{Settings}
 use Rattle.gm_state.specs.declared.command.Command.{Command}
-use Rattle.gm_state.specs.declared.command.Command.TheVariants.{Label, Insert, Remove, Deactivate, Activate, Forget, Rebuild, Destroy}
+use Rattle.gm_state.specs.declared.command.Command.TheVariants.{Label, Insert, Remove, Deactivate, Activate, Forget, Rebuild, Configure, Destroy, Lost}
 use Rattle.gm_state.specs.declared.command.Command.TheVariants as commands
 use Rattle.gm_state.specs.declared.command.Intent.TheVariants.{Meta, Clear}
 use Rattle.gm_state.specs.declared.command.Reply.TheVariants.{Plain}
@@ -12,8 +13,8 @@ use Rattle.gm_state.specs.declared.records.Component.{Component}
 use Rattle.gm_state.specs.Words.{Has, put, without}
 use Rattle.gm_state.specs.Records.{Records, members, provider}
 use Rattle.gm_state.specs.Lookups.{mirror_of, component_of}
-use Rattle.gm_rules.specs.After.{metas, clears_of, new_mirror, first_component, spare, deactivated, activated, rebuilt}
-use Rattle.gm_rules.specs.Bad.{Seen, applies, name_of, providers_of, members_named}
+use Rattle.gm_rules.specs.After.{metas, clears_of, new_mirror, first_component, spare, deactivated, activated, rebuilt, configured_mirror, configured}
+use Rattle.gm_rules.specs.Bad.{Seen, applies, name_of, providers_of, looked_at, is_awaited, is_on_any, members_named}
 use Rattle.gm_rules.specs.Worlds.{needed_by}
 use Rattle.gm_rules.specs.Decides.{Changed, IsGood}
 use Rattle.gm_rules.specs.Parts.{IsPartOf, IsMade, IsGoodButCount, applies_to_part}
@@ -21,7 +22,7 @@ use Rattle.gm_rules.specs.Refusals.{own}
 use Rattle.gm_rules.proofs.Agreeing.{same_mirror, same_members, same_component, same_named_members, same_applies}
 use Rattle.gm_state.proofs.Finding.{found_none}
 use Rattle.gm_rules.proofs.Good.{is_good}
-use Rattle.gm_rules.proofs.Changes.{label_makes, insert_makes, remove_makes, deactivate_makes, activate_makes, forget_makes, rebuild_makes, clear_makes, destroy_makes}
+use Rattle.gm_rules.proofs.Changes.{label_makes, insert_makes, remove_makes, deactivate_makes, activate_makes, forget_makes, rebuild_makes, configure_makes, clear_makes, destroy_makes, lost_makes}
 
 module _ (part s : Records) (c : Command) (of : IsPartOf part c s) where
   -- what is found in the part is found in the whole
@@ -86,6 +87,14 @@ pub rebuild_made : (part : Records) (x : Seen) (n p : List ℕ) (k : Component) 
     → IsMade part x (Rebuild n p) ch
 rebuild_made part x n p k ch at is s of good = rebuild_makes s x n p k ch good (component_in part s (Rebuild n p) of p (Some k) (inl refl) at) is
 
+pub configure_made : (part : Records) (x : Seen) (n : List ℕ) (settings : Settings) (m : Mirror) (ks : List Component) (ch : Changed)
+    → mirror_of part n ≡ Some m → members part.components n ≡ ks
+    → ch ≡ record { mirror = Some (configured_mirror settings m); gone_mirror = None; components = map (configured settings) ks; gone_components = []; intents = metas (map (configured settings) ks); reply = Plain }
+    → IsMade part x (Configure n settings) ch
+configure_made part x n settings m ks ch found mine is s of good =
+    let c : Command = Configure n settings in
+    configure_makes s x n settings m ks ch good of.state (mirror_in part s c of n m refl found) (members_in part s c of n ks refl mine) is
+
 pub clear_made : (part : Records) (x : Seen) (p : List ℕ) (ch : Changed)
     → ch ≡ record { mirror = None; gone_mirror = None; components = []; gone_components = []; intents = Clear p ∷ []; reply = Plain }
     → IsMade part x (commands.Clear p) ch
@@ -98,6 +107,14 @@ pub destroy_made : (part : Records) (x : Seen) (n : List ℕ) (ks : List Compone
 destroy_made part x n ks ch mine is s of good =
     let c : Command = Destroy n in
     destroy_makes s x n ks ch good of.state (members_in part s c of n ks refl mine) is
+
+pub lost_made : (part : Records) (x : Seen) (n : List ℕ) (ps : List (List ℕ)) (m : Mirror) (ks : List Component) (ch : Changed)
+    → mirror_of part n ≡ Some m → members part.components n ≡ ks
+    → ch ≡ record { mirror = Some (record m { genid = m.genid + 1 }); gone_mirror = None; components = []; gone_components = ps; intents = metas (filter (λ k. not (is_on_any ps k)) ks); reply = Plain }
+    → IsMade part x (Lost n ps) ch
+lost_made part x n ps m ks ch found mine is s of good =
+    let c : Command = Lost n ps in
+    lost_makes s x n ps m ks ch good (mirror_in part s c of n m refl found) (members_in part s c of n ks refl mine) is
 
 -- the test of the first in a list that pass: tests that agree find one and the same
 pub find_agree : {X : Type 0} (p q : X → Bool) → ((x : X) → p x ≡ q x) → (xs : List X) → find p xs ≡ find q xs
@@ -125,4 +142,4 @@ on_err (Err e) P p = p
 
 -- a part needs what the whole needs
 pub needed_on : (part s : Records) (c : Command) → IsPartOf part c s → needed_by part c ≡ needed_by s c
-needed_on part s c of = ap (λ (ks : List Component). providers_of c ++ map provider ks) (subst (λ (r : Records). members_named r c ≡ members_named s c) (sym of.is) (same_named_members s c of.mids of.state))
+needed_on part s c of = ap (λ (ks : List Component). looked_at c ++ map provider (filter (λ k. is_awaited c k) ks)) (subst (λ (r : Records). members_named r c ≡ members_named s c) (sym of.is) (same_named_members s c of.mids of.state))

@@ -1,15 +1,15 @@
 -- Each command that nothing refuses has a plan.
 use Rattle.std.proofs.Common.{ℕ, List}
 use Rattle.gm_state.specs.declared.command.Command.{Command}
-use Rattle.gm_state.specs.declared.command.Command.TheVariants.{Label, Insert, Remove, Deactivate, Activate, Forget, Rebuild, Clear, Destroy}
+use Rattle.gm_state.specs.declared.command.Command.TheVariants.{Label, Insert, Remove, Deactivate, Activate, Forget, Rebuild, Configure, Clear, Destroy, Lost}
 use Rattle.gm_state.specs.World.{World, Sound}
 use Rattle.gm_rules.specs.Decides.{IsGood}
 use Rattle.gm_rules.specs.Step.{CanAnswer, HasPlan}
 use Rattle.gm_rules.specs.Worlds.{seen_of}
 use Rattle.gm_rules.proofs.Labelling.{label_has}
 use Rattle.gm_rules.proofs.Inserting.{insert_has}
-use Rattle.gm_rules.proofs.Removing.{remove_has}
-use Rattle.gm_rules.proofs.Staying.{deactivate_has, activate_has, forget_has, rebuild_has}
+use Rattle.gm_rules.proofs.Removing.{lost_has, remove_has}
+use Rattle.gm_rules.proofs.Staying.{deactivate_has, activate_has, forget_has, rebuild_has, configure_has}
 use Rattle.gm_rules.proofs.Wiping.{clear_has}
 use Rattle.gm_rules.proofs.Destroying.{destroy_has}
 
@@ -21,5 +21,7 @@ every_plan u key (Deactivate n p) sound answer good = deactivate_has u key n p s
 every_plan u key (Activate n p) sound answer good = activate_has u key n p sound answer good
 every_plan u key (Forget n) sound answer good = forget_has u key n sound answer good
 every_plan u key (Rebuild n p) sound answer good = rebuild_has u key n p sound answer good
+every_plan u key (Configure n settings) sound answer good = configure_has u key n settings sound answer good
 every_plan u key (Clear p) sound answer good = clear_has u key p sound answer good
 every_plan u key (Destroy n) sound answer good = destroy_has u key n sound answer good
+every_plan u key (Lost n ps) sound answer good = lost_has u key n ps sound answer good

@@ -1,139 +1,126 @@
--- The plan of remove.
-use Rattle.std.proofs.Common.{◌≡◌, ◌≢◌, ◌∙◌, inl, inr, ℕ, ◌≤◌, ◌+◌, ◌-◌, Bool, true, false, not, refl, sym, ap, subst, arith, List, [], ◌∷◌, Some, length, IsTrue, ◌<◌}
-use Rattle.std.specs.Prelude.{IsSomeAnd}
-use Rattle.std.proofs.lemmas.Bool.{not-true}
+-- The plans of remove and lost, which drop components of their mirror.
+use Rattle.std.proofs.Common.{◌≡◌, ◌≢◌, ◌∙◌, inl, inr, ⊎_elim, ℕ, ◌<◌, ◌≤◌, ◌+◌, ◌-◌, ◌||◌, Bool, true, false, not, refl, sym, ap, subst, arith, List, [], ◌∷◌, filter, length}
+use Rattle.std.specs.List.{list_any}
+use Rattle.std.proofs.lemmas.Bool.{cases_Bool, not-false, or_parts}
 use Rattle.gm_metadata.specs.Images.{same_label}
-use Rattle.gm_metadata.specs.Labels.{is_label}
-use Rattle.gm_state.specs.declared.command.Command.TheVariants.{Remove}
+use Rattle.gm_state.specs.declared.command.Command.TheVariants.{Remove, Lost}
 use Rattle.gm_state.specs.declared.command.Intent.{Intent}
 use Rattle.gm_state.specs.declared.command.Intent.TheVariants.{Clear}
 use Rattle.gm_state.specs.declared.records.Mirror.{Mirror}
 use Rattle.gm_state.specs.declared.records.Component.{Component}
-use Rattle.gm_state.specs.Words.{Has, without}
-use Rattle.gm_state.specs.Records.{Records, IsMirror, members, provider}
-use Rattle.gm_state.specs.Lookups.{mirror_of}
-use Rattle.gm_state.specs.World.{World, Sound, present}
+use Rattle.gm_state.specs.Words.{Has, without_all}
+use Rattle.gm_state.specs.Records.{IsMirror, members, provider}
+use Rattle.gm_state.specs.World.{World, Sound}
 use Rattle.gm_state.proofs.Order.{same_is, same_from, same_refl, differ}
-use Rattle.gm_state.proofs.Words.{Has-filter, filter-Has, Ascends-filter, filter_swap, filter_id, length-filter_lt}
+use Rattle.gm_state.proofs.Words.{Has-filter, filter_swap, length-filter_le, length-filter_lt, one}
+use Rattle.gm_state.proofs.Finding.{none_any, not_both, some_any}
 use Rattle.gm_rules.specs.declared.refusals.Refusal.TheVariants as refusals
 use Rattle.gm_rules.specs.After.{metas}
+use Rattle.gm_rules.specs.Bad.{has_twice, is_on_any}
 use Rattle.gm_rules.specs.Decides.{IsGood}
 use Rattle.gm_rules.specs.Step.{CanAnswer, HasPlan}
 use Rattle.gm_rules.specs.Worlds.{seen_of}
-use Rattle.gm_rules.proofs.Adjusting.{Adjusts, adjusts_turns, adjusts_were, adjusted}
-use Rattle.gm_state.proofs.Finding.{not_both}
-use Rattle.gm_state.proofs.Presence.{present_size, some_and}
-use Rattle.gm_rules.proofs.Planned.{Serves, has, one_plain}
-use Rattle.gm_rules.proofs.RuledOut.{CanTouch, each_there, by_name, is_member, metas_has, metas_are, metas_plain, not_on, other_active}
-use Rattle.gm_rules.proofs.Turning.{Turns, Writes, IsOne}
+use Rattle.gm_rules.proofs.Changes.{without_all-filter}
+use Rattle.gm_rules.proofs.Filtering.{filtered_has}
+use Rattle.gm_rules.proofs.Good.{one_more_loss}
+use Rattle.gm_rules.proofs.Planned.{one_plain}
+use Rattle.gm_rules.proofs.RuledOut.{CanTouch, active_left, awaited_there, by_name, each_there, is_member, metas_are, metas_has, metas_plain, not_on, other_active}
+use Rattle.gm_rules.proofs.Turning.{IsOne}
 
-module _ (u : World) (key : List ℕ) (m : Mirror) (p : List ℕ) (sound : Sound u) (can : CanTouch u m p) where
-  abbrev old : List Component
-  old = members u.state.components m.name
-
-  abbrev stays : Component → Bool
-  stays k = not (same_label k.provider p)
-
-  abbrev ks : List Component
-  ks = without provider p old
-
-  abbrev comps : List Component
-  comps = without provider p u.state.components
-
-  abbrev m' : Mirror
-  m' = record m { all = m.all - 1 }
-
-  abbrev gone : List ℕ → Bool
-  gone q = same_label p q
-
-  rules : IsMirror m old
-  rules = sound.state.each m can.here
-
-  is_old : (j : Component) → Has ks j → Has old j
-  is_old j i = (Has-filter stays old j i).0
-
-  rules' : IsMirror m' ks
-  rules' = record {
-    fits = record { name = rules.fits.name; mid = rules.fits.mid; genid = rules.fits.genid; syncid = rules.fits.syncid; slice = rules.fits.slice };
-    members_fit = λ j i. rules.members_fit j (is_old j i);
-    some = rules.some;
-    all = (let r : m.all ≤ 16 = rules.all in omega arith);
-    room = (let a : length ks + 1 ≤ length old = length-filter_lt stays old can.member.0 can.member.1 (ap not (same_from can.member.0.provider p can.member.2)) in let b : length old ≤ m.all = rules.room in omega arith);
-    active = (can.active.0, filter-Has stays old can.active.0 can.active.1 (ap not (differ can.active.0.provider p can.active.3)), can.active.2);
-    sizes = λ j i. rules.sizes j (is_old j i);
-    limits = λ j i. rules.limits j (is_old j i);
-    held = λ j i. rules.held j (is_old j i);
-    dids = λ i x j y e. rules.dids i (is_old i x) j (is_old j y) e;
-    syncids = λ j i. rules.syncids j (is_old j i);
-    current = λ j i n. rules.current j (is_old j i) n;
-  }
-
-  -- the components of other mirrors stay
-  theirs : (n : List ℕ) → n ≢ m.name → (j : Component) → Has (members u.state.components n) j → stays j ≡ true
-  theirs n d j i =
-      let r = Has-filter (λ (c : Component). same_label c.mirror n) u.state.components j i in
-      ap not (differ j.provider p (not_on u m p sound.state can j r.0 (λ e. d (sym (same_is j.mirror n r.1) ∙ e))))
-
-  adjusts : Adjusts u.state m m' comps ks
-  adjusts = record {
-    same_name = refl;
-    same_mid = refl;
-    same_data = refl;
-    in_order = Ascends-filter stays provider u.state.components sound.state.components_in_order;
-    mine = filter_swap (λ (c : Component). same_label c.mirror m.name) stays u.state.components;
-    others = λ n d. filter_swap (λ (c : Component). same_label c.mirror n) stays u.state.components ∙ filter_id stays (members u.state.components n) (theirs n d);
-    rules = rules';
-  }
-
-  kept : (j : Component) → stays j ≡ true → gone j.provider ≡ false
-  kept j e = differ p j.provider (λ s. not_both (same_label j.provider p) (same_from j.provider p (sym s)) (not-true (same_label j.provider p) e))
-
-  abbrev s : Records
-  s = adjusted u.state m m' comps ks sound.state can.here adjusts
-
-  turns : Turns u u.shelf m' ks gone (u.holds m.name) s
-  turns = adjusts_turns u m m' comps ks gone sound can.here adjusts
-      (λ j i. present_size u j.provider j.sectors (can.there j (is_old j i)))
-      (λ j i. kept j (Has-filter stays u.state.components j i).1)
-      (λ j i. sound.whole m j (record { mirror = can.here; component = is_old j i }))
-
-  are : (t : Intent) → Has (Clear p ∷ metas ks) t → IsOne u u.shelf ks gone t
-  are t (inl s) = subst (λ (x : Intent). IsOne u u.shelf ks gone x) s (same_refl p)
-  are t (inr h) = metas_are u gone ks ks (λ j i. i) t h
-
-  writes : Writes u u.shelf m' ks gone (Clear p ∷ metas ks)
-  writes = record {
-    each = are;
-    metas = λ j i. inl (inr (metas_has ks j i));
-    clears = λ q e. inl (ap (λ (x : List ℕ). Clear x) (same_is p q e));
-    copied = λ q j e. refl;
-  }
-
-  has_sectors : (j : Component) → Has old j → IsSomeAnd (present u j.provider) (λ x. 0 < x)
-  has_sectors j o = some_and (present u j.provider) j.sectors (λ x. 0 < x) (can.there j o) (let b : m.data_sectors + 1 ≤ j.sectors = rules.sizes j o in omega arith)
-
-  serves : IsTrue (is_label p) → Serves u (Remove m.name p) m' ks
-  serves label = record {
-    named = λ j i. refl;
-    written = λ j i. has_sectors j (is_old j i);
-    cleared = λ q e. subst (λ (x : List ℕ). IsSomeAnd (present u x) (λ y. 0 < y)) (can.member.2 ∙ same_is p q e) (has_sectors can.member.0 can.member.1);
-    labels = λ q e. subst (λ (x : List ℕ). IsTrue (is_label x)) (same_is p q e) label;
-    reply = tt;
-  }
-
-  remove_plan : mirror_of u.state m.name ≡ Some m → IsGood u.state (seen_of u) (Remove m.name p) → CanAnswer u key (Remove m.name p) → HasPlan u key (Remove m.name p)
-  remove_plan found good answer =
-      has u key (Remove m.name p) m' ks (u.holds m.name) s (Clear p ∷ metas ks) sound turns writes (adjusts_were u m m' comps ks sound can.here adjusts) (one_plain (Clear p) tt (metas ks) (metas_plain ks)) (serves answer.fits.1) answer
-      (rw found refl) (ap (λ (js : List Component). Clear p ∷ metas js) (sym adjusts.mine)) good tt tt
+-- ---- remove
 
 pub remove_has : (u : World) (key n p : List ℕ) → Sound u → CanAnswer u key (Remove n p) → IsGood u.state (seen_of u) (Remove n p) → HasPlan u key (Remove n p)
 remove_has u key n p sound answer good =
     by_name u.state n (λ a. CanAnswer u key (Remove a p) → IsGood u.state (seen_of u) (Remove a p) → HasPlan u key (Remove a p)) (good refusals.NoMirror (inl refl))
     (λ m here found answer good.
-    let ks : List Component = members u.state.components m.name in
-    remove_plan u key m p sound (record {
+    let old : List Component = members u.state.components m.name in
+    let rules : IsMirror m old = sound.state.each m here in
+    let can : CanTouch u m p = record {
       here = here;
-      there = each_there u (p ∷ []) ks (good refusals.Absent (inr (inl refl)));
-      member = is_member ks p (good refusals.NotMember (inr (inr (inl refl))));
-      active = other_active ks p (good refusals.LastActive (inr (inr (inr (inr (inl refl))))));
-    }) found good answer) answer good
+      there = each_there u (p ∷ []) old (good refusals.Absent (inr (inl refl)));
+      member = is_member old p (good refusals.NotMember (inr (inr (inl refl))));
+      active = other_active old p (good refusals.LastActive (inr (inr (inr (inr (inl refl))))));
+    } in
+    let stays : Component → Bool = λ k. not (same_label k.provider p) in
+    let ks : List Component = filter stays old in
+    let gone : List ℕ → Bool = λ q. same_label p q in
+    let k : Component = can.member.0 in
+    let goes : stays k ≡ false = ap not (same_from k.provider p can.member.2) in
+    filtered_has u key (Remove m.name p) m (record m { all = m.all - 1 }) stays (Clear p ∷ metas ks) sound (record {
+      here = here;
+      there = λ j i e. can.there j i;
+      same_name = refl;
+      same_mid = refl;
+      same_data = refl;
+      same_syncid = refl;
+      alone = λ j i d. ap not (differ j.provider p (not_on u m p sound.state can j i d));
+      fits = record { name = rules.fits.name; mid = rules.fits.mid; genid = rules.fits.genid; syncid = rules.fits.syncid; slice = rules.fits.slice };
+      all = (let r : m.all ≤ 16 = rules.all in omega arith);
+      room = (let a : length ks + 1 ≤ length old = length-filter_lt stays old k can.member.1 goes in let b : length old ≤ m.all = rules.room in omega arith);
+      active = (can.active.0, can.active.1, can.active.2, ap not (differ can.active.0.provider p can.active.3));
+      named = refl;
+      cleared = λ q e. record {
+        component = k;
+        mine = can.member.1;
+        on = can.member.2 ∙ same_is p q e;
+        goes = goes;
+        there = can.there k can.member.1;
+        written = inl (ap Clear (same_is p q e));
+      };
+      reply = tt;
+      each = λ t h. ⊎_elim (λ (e : Clear p ≡ t). subst (λ (x : Intent). IsOne u u.shelf ks gone x) e (same_refl p)) (λ (i : Has (metas ks) t). metas_are u gone ks ks (λ j i. i) t i) h;
+      metas = λ j i. inr (metas_has ks j i);
+      plain = one_plain (Clear p) tt (metas ks) (metas_plain ks);
+    }) (rw found refl) (ap (λ (js : List Component). Clear p ∷ metas js) (filter_swap stays (λ (j : Component). same_label j.mirror m.name) u.state.components))
+    (λ w. tt) (λ w. tt) good answer) answer good
+
+-- ---- lost
+
+-- where each of the providers is a component's of the mirror, a component of another one is on none of them
+others_stay : (u : World) (m : Mirror) (ps : List (List ℕ)) → Sound u → (has_twice ps || list_any (λ p. not (list_any (λ k. same_label k.provider p) (members u.state.components m.name))) ps) ≡ false
+    → (j : Component) → Has u.state.components j → j.mirror ≢ m.name → not (is_on_any ps j) ≡ true
+others_stay u m ps sound e j h d =
+    let old : List Component = members u.state.components m.name in
+    let each = (or_parts (has_twice ps) (list_any (λ p. not (list_any (λ (k : Component). same_label k.provider p) old)) ps) e).1 in
+    elim (cases_Bool (is_on_any ps j)) [
+      | inr off ↦ ap not off
+      | inl on ↦
+          let p = some_any (λ p. same_label j.provider p) ps on in
+          let k = some_any (λ (k : Component). same_label k.provider p.0) old (not-false _ (none_any (λ p. not (list_any (λ (k : Component). same_label k.provider p) old)) ps each p.0 p.1)) in
+          let r = Has-filter (λ (c : Component). same_label c.mirror m.name) u.state.components k.0 k.1 in
+          let same : k.0 ≡ j = one provider u.state.components sound.state.components_in_order k.0 j r.0 h (same_is k.0.provider p.0 k.2 ∙ sym (same_is j.provider p.0 p.2)) in
+          absurd (d (sym (ap (λ (c : Component). c.mirror) same) ∙ same_is k.0.mirror m.name r.1))
+    ]
+
+pub lost_has : (u : World) (key n : List ℕ) (ps : List (List ℕ)) → Sound u → CanAnswer u key (Lost n ps) → IsGood u.state (seen_of u) (Lost n ps) → HasPlan u key (Lost n ps)
+lost_has u key n ps sound answer good =
+    by_name u.state n (λ a. CanAnswer u key (Lost a ps) → IsGood u.state (seen_of u) (Lost a ps) → HasPlan u key (Lost a ps)) (good refusals.NoMirror (inl refl))
+    (λ m here found answer good.
+    let old : List Component = members u.state.components m.name in
+    let rules : IsMirror m old = sound.state.each m here in
+    let stays : Component → Bool = λ k. not (is_on_any ps k) in
+    let ks : List Component = filter stays old in
+    let gone : List ℕ → Bool = λ q. false in
+    let active = active_left old ps (good refusals.LastActive (inr (inr (inr (inl refl))))) in
+    let small : m.genid < 4294967295 = one_more_loss u.state m.name m sound.state found (good refusals.LastGenid (inr (inr (inr (inr (inl refl)))))) in
+    let left : filter stays u.state.components ≡ without_all provider ps u.state.components = sym (without_all-filter ps u.state.components) in
+    filtered_has u key (Lost m.name ps) m (record m { genid = m.genid + 1 }) stays (metas ks) sound (record {
+      here = here;
+      there = awaited_there u [] stays old (good refusals.Absent (inr (inl refl)));
+      same_name = refl;
+      same_mid = refl;
+      same_data = refl;
+      same_syncid = refl;
+      alone = others_stay u m ps sound (good refusals.NotMember (inr (inr (inl refl))));
+      fits = record { name = rules.fits.name; mid = rules.fits.mid; genid = omega arith; syncid = rules.fits.syncid; slice = rules.fits.slice };
+      all = rules.all;
+      room = (let a : length ks ≤ length old = length-filter_le stays old in let b : length old ≤ m.all = rules.room in omega arith);
+      active = (active.0, active.1, active.2, ap not active.3);
+      named = refl;
+      cleared = λ q e. not_both false e refl;
+      reply = tt;
+      each = metas_are u gone ks ks (λ j i. i);
+      metas = metas_has ks;
+      plain = metas_plain ks;
+    }) (rw (found, left) refl) (ap metas (filter_swap stays (λ (j : Component). same_label j.mirror m.name) u.state.components))
+    (λ w. tt) (λ w. tt) good answer) answer good

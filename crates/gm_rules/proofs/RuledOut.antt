@@ -19,7 +19,7 @@ use Rattle.gm_rules.specs.After.{metas, clears_of}
 use Rattle.gm_rules.specs.Facts.{last_carries}
 use Rattle.gm_rules.specs.Worlds.{last_of}
 use Rattle.gm_state.proofs.Order.{same_is, same_from}
-use Rattle.gm_state.proofs.Words.{Has-filter, one}
+use Rattle.gm_state.proofs.Words.{Has-filter, filter-Has, one}
 use Rattle.gm_state.proofs.Finding.{none_any, any_one, some_any, some_other, find_one, found_none, not_both, option_cases}
 use Rattle.gm_rules.proofs.Good.{there_from, named}
 use Rattle.gm_rules.proofs.Turning.{IsOne}
@@ -34,13 +34,20 @@ has_size_is (Some k) n e = by (k == n) refl
     by false t = absurd (let f : not (k == n) ≡ false = e in let g : not false ≡ false = rw t at f in let h : ⊥ = cc in h)
 
 -- the components are there with their sizes
-pub all_there : (size : List ℕ → Option ℕ) (ks : List Component) → list_any (λ k. not (has_size (size k.provider) k.sectors)) ks ≡ false → (k : Component) → Has ks k → size k.provider ≡ Some k.sectors
+all_there : (size : List ℕ → Option ℕ) (ks : List Component) → list_any (λ k. not (has_size (size k.provider) k.sectors)) ks ≡ false → (k : Component) → Has ks k → size k.provider ≡ Some k.sectors
 all_there size ks e k h = has_size_is (size k.provider) k.sectors (none_any (λ k. not (has_size (size k.provider) k.sectors)) ks e k h)
 
--- so are those of a command that names the providers ps, and a mirror with the components ks
-pub each_there : (u : World) (ps : List (List ℕ)) (ks : List Component) → (list_any (λ p. is_none (present u p)) ps || list_any (λ k. not (has_size (present u k.provider) k.sectors)) ks) ≡ false
+-- so are those that a command waits for, which looks at the providers ps and names a mirror with the components ks
+pub awaited_there : (u : World) (ps : List (List ℕ)) (awaits : Component → Bool) (ks : List Component) → (list_any (λ p. is_none (present u p)) ps || list_any (λ k. not (has_size (present u k.provider) k.sectors)) (filter awaits ks)) ≡ false
+    → (k : Component) → Has ks k → awaits k ≡ true → present u k.provider ≡ Some k.sectors
+awaited_there u ps awaits ks e k h a =
+    let missing : List Component → Bool = list_any (λ k. not (has_size (present u k.provider) k.sectors)) in
+    all_there (present u) (filter awaits ks) (or_parts (list_any (λ p. is_none (present u p)) ps) (missing (filter awaits ks)) e).1 k (filter-Has awaits ks k h a)
+
+-- where it waits for each
+pub each_there : (u : World) (ps : List (List ℕ)) (ks : List Component) → (list_any (λ p. is_none (present u p)) ps || list_any (λ k. not (has_size (present u k.provider) k.sectors)) (filter (λ k. true) ks)) ≡ false
     → (k : Component) → Has ks k → present u k.provider ≡ Some k.sectors
-each_there u ps ks e = all_there (present u) ks (or_parts (list_any (λ p. is_none (present u p)) ps) (list_any (λ k. not (has_size (present u k.provider) k.sectors)) ks) e).1
+each_there u ps ks e k h = awaited_there u ps (λ k. true) ks e k h refl
 
 -- a provider that carries no metadata: its last sector doesn't
 pub carries_nothing : (u : World) (p : List ℕ) (n : ℕ) → present u p ≡ Some n → 0 < n → last_carries (last_of u p) ≡ false → carries (u.shelf p (n - 1)) ≡ false
@@ -92,12 +99,18 @@ on_one : (k : Component) (p : List ℕ) → k.provider ≡ p → is_on_any (p �
 on_one k p e = rw (same_from k.provider p e) refl
 
 -- an ACTIVE one is left
+pub active_left : (ks : List Component) (ps : List (List ℕ)) → list_all (is_on_any ps) (filter (λ k. is_active k.disk) ks) ≡ false
+    → (k : Component) × Has ks k × (k.disk ≡ InSync) × (is_on_any ps k ≡ false)
+active_left ks ps e =
+    let k = some_other (is_on_any ps) (filter (λ (k : Component). is_active k.disk) ks) e in
+    let parts = Has-filter (λ (k : Component). is_active k.disk) ks k.0 k.1 in
+    (k.0, parts.0, active_is k.0.disk parts.1, k.2)
+
 pub other_active : (ks : List Component) (p : List ℕ) → list_all (is_on_any (p ∷ [])) (filter (λ k. is_active k.disk) ks) ≡ false
     → (k : Component) × Has ks k × (k.disk ≡ InSync) × (k.provider ≢ p)
 other_active ks p e =
-    let k = some_other (is_on_any (p ∷ [])) (filter (λ (k : Component). is_active k.disk) ks) e in
-    let parts = Has-filter (λ (k : Component). is_active k.disk) ks k.0 k.1 in
-    (k.0, parts.0, active_is k.0.disk parts.1, λ at. not_both (is_on_any (p ∷ []) k.0) (on_one k.0 p at) k.2)
+    let k = active_left ks (p ∷ []) e in
+    (k.0, k.1, k.2, λ at. not_both (is_on_any (p ∷ []) k.0) (on_one k.0 p at) k.3)
 
 -- where the one on p is INACTIVE, another is ACTIVE
 pub other_in_use : (ks : List Component) (p : List ℕ) → list_any (λ k. is_on_any (p ∷ []) k && not (is_inactive k.disk)) ks ≡ false

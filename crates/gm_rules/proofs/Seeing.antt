@@ -3,7 +3,7 @@ use Rattle.std.proofs.Common.{◌≡◌, ◌∙◌, inl, ℕ, ◌||◌, ◌+◌,
 use Rattle.std.specs.List.{list_any}
 use Rattle.gm_metadata.specs.Images.{Sizes}
 use Rattle.gm_state.specs.declared.command.Command.{Command}
-use Rattle.gm_state.specs.declared.command.Command.TheVariants.{Label, Insert, Remove, Deactivate, Activate, Forget, Rebuild, Clear, Destroy}
+use Rattle.gm_state.specs.declared.command.Command.TheVariants.{Label, Insert, Remove, Deactivate, Activate, Forget, Rebuild, Configure, Clear, Destroy, Lost}
 use Rattle.gm_state.specs.declared.records.Mirror.{Mirror}
 use Rattle.gm_state.specs.declared.records.Component.{Component}
 use Rattle.gm_state.specs.Words.{Has, put}
@@ -12,29 +12,29 @@ use Rattle.gm_state.specs.Lookups.{mirror_of}
 use Rattle.gm_state.specs.World.{World, present}
 use Rattle.gm_rules.specs.declared.facts.Fact.{Fact}
 use Rattle.gm_rules.specs.declared.refusals.Refusal.{Refusal}
-use Rattle.gm_rules.specs.declared.refusals.Refusal.TheVariants.{NoMirror, NameTaken, MidTaken, Absent, ProviderTaken, CarriesMetadata, TooSmall, NotMember, DidTaken, Full, TooManyMirrors, SomeLost, LastActive, AlreadyInactive, NotInactive, NoneLost, Inactive, LastSyncid, WrongSize, NoMetadata}
+use Rattle.gm_rules.specs.declared.refusals.Refusal.TheVariants.{NoMirror, NameTaken, MidTaken, Absent, ProviderTaken, CarriesMetadata, TooSmall, NotMember, DidTaken, Full, TooManyMirrors, SomeLost, LastActive, AlreadyInactive, NotInactive, NoneLost, Inactive, LastSyncid, LastGenid, NothingGiven, WrongSize, NoMetadata}
 use Rattle.gm_rules.specs.Facts.{size_in, last_in, last_carries}
-use Rattle.gm_rules.specs.Bad.{applies, seen_in, has_size, has_wrong_size, providers_of, members_named, mirror_named, is_there_and}
+use Rattle.gm_rules.specs.Bad.{applies, seen_in, has_size, has_wrong_size, looked_at, awaited, mirror_named, is_there_and}
 use Rattle.gm_rules.specs.After.{after, intents_of, new_mirror, first_component, spare, on_found}
 use Rattle.gm_rules.specs.Worlds.{AreFacts, needed_by, seen_of, last_of}
 use Rattle.gm_rules.specs.Decides.{Changed, Decides}
 use Rattle.gm_state.proofs.Finding.{any_agree, Has-append_left, Has-append_right, Has-map}
 
 module _ (facts : List Fact) (u : World) (c : Command) (are : AreFacts facts u c) where
-  named : (p : List ℕ) → Has (providers_of c) p → Has (needed_by u.state c) p
-  named p h = Has-append_left (providers_of c) (map provider (members_named u.state c)) p h
+  seen : (p : List ℕ) → Has (looked_at c) p → Has (needed_by u.state c) p
+  seen p h = Has-append_left (looked_at c) (map provider (awaited u.state c)) p h
 
-  of_mirror : (k : Component) → Has (members_named u.state c) k → Has (needed_by u.state c) k.provider
-  of_mirror k h = Has-append_right (providers_of c) (map provider (members_named u.state c)) k.provider (Has-map provider (members_named u.state c) k h)
+  of_mirror : (k : Component) → Has (awaited u.state c) k → Has (needed_by u.state c) k.provider
+  of_mirror k h = Has-append_right (looked_at c) (map provider (awaited u.state c)) k.provider (Has-map provider (awaited u.state c) k h)
 
-  -- a test of what the command names comes out alike
-  by_size : (test : Option ℕ → Bool) → list_any (λ p. test (size_in facts p)) (providers_of c) ≡ list_any (λ p. test (present u p)) (providers_of c)
-  by_size test = any_agree _ _ (providers_of c) (λ p h. ap test (are.size p (named p h)))
+  -- a test of what the command looks at comes out alike
+  by_size : (test : Option ℕ → Bool) → list_any (λ p. test (size_in facts p)) (looked_at c) ≡ list_any (λ p. test (present u p)) (looked_at c)
+  by_size test = any_agree _ _ (looked_at c) (λ p h. ap test (are.size p (seen p h)))
 
-  by_last : (test : Option (List ℕ) → Bool) → list_any (λ p. test (last_in facts p)) (providers_of c) ≡ list_any (λ p. test (last_of u p)) (providers_of c)
-  by_last test = any_agree _ _ (providers_of c) (λ p h. ap test (are.last p (named p h)))
+  by_last : (test : Option (List ℕ) → Bool) → list_any (λ p. test (last_in facts p)) (looked_at c) ≡ list_any (λ p. test (last_of u p)) (looked_at c)
+  by_last test = any_agree _ _ (looked_at c) (λ p h. ap test (are.last p (seen p h)))
 
-  small : (o : Option Mirror) → is_there_and o (λ m. list_any (λ p. is_there_and (size_in facts p) (λ n. nat_lt n (m.data_sectors + 1))) (providers_of c)) ≡ is_there_and o (λ m. list_any (λ p. is_there_and (present u p) (λ n. nat_lt n (m.data_sectors + 1))) (providers_of c))
+  small : (o : Option Mirror) → is_there_and o (λ m. list_any (λ p. is_there_and (size_in facts p) (λ n. nat_lt n (m.data_sectors + 1))) (looked_at c)) ≡ is_there_and o (λ m. list_any (λ p. is_there_and (present u p) (λ n. nat_lt n (m.data_sectors + 1))) (looked_at c))
   small None = refl
   small (Some m) = by_size (λ o. is_there_and o (λ n. nat_lt n (m.data_sectors + 1)))
 
@@ -42,7 +42,7 @@ module _ (facts : List Fact) (u : World) (c : Command) (are : AreFacts facts u c
   same NoMirror = refl
   same NameTaken = refl
   same MidTaken = refl
-  same Absent = ap₂ (λ a b. a || b) (by_size is_none) (any_agree _ _ (members_named u.state c) (λ k h. ap (λ o. not (has_size o k.sectors)) (are.size k.provider (of_mirror k h))))
+  same Absent = ap₂ (λ a b. a || b) (by_size is_none) (any_agree _ _ (awaited u.state c) (λ k h. ap (λ o. not (has_size o k.sectors)) (are.size k.provider (of_mirror k h))))
   same ProviderTaken = refl
   same CarriesMetadata = by_last last_carries
   same TooSmall = small (mirror_named u.state c)
@@ -57,11 +57,13 @@ module _ (facts : List Fact) (u : World) (c : Command) (are : AreFacts facts u c
   same NoneLost = refl
   same Inactive = refl
   same LastSyncid = refl
+  same LastGenid = refl
+  same NothingGiven = refl
   same WrongSize = by_size (λ o. is_there_and o has_wrong_size)
   same NoMetadata = by_last (λ o. not (last_carries o))
 
--- the records depend on the sizes of the named providers alone
-same_after : (x y : Sizes) (c : Command) (s : Records) → ((p : List ℕ) → Has (providers_of c) p → x p ≡ y p) → after x c s ≡ after y c s
+-- the records depend on the sizes of the providers that are looked at alone
+same_after : (x y : Sizes) (c : Command) (s : Records) → ((p : List ℕ) → Has (looked_at c) p → x p ≡ y p) → after x c s ≡ after y c s
 same_after x y (Label n p mid did balance slice flags hardcoded) s e = ap (λ o. let r : Records = record { mirrors = put name (new_mirror n mid balance slice flags (unwrap_or o 0)) s.mirrors; components = put provider (first_component n p did hardcoded (unwrap_or o 0)) s.components } in r) (e p (inl refl))
 same_after x y (Insert n p did priority hardcoded) s e = ap (λ o. on_found (mirror_of s n) s (λ m. record { mirrors = put name (record m { all = m.all + 1 }) s.mirrors; components = put provider (spare m p did priority hardcoded (unwrap_or o 0)) s.components })) (e p (inl refl))
 same_after x y (Remove n p) s e = refl
@@ -69,8 +71,10 @@ same_after x y (Deactivate n p) s e = refl
 same_after x y (Activate n p) s e = refl
 same_after x y (Forget n) s e = refl
 same_after x y (Rebuild n p) s e = refl
+same_after x y (Configure n settings) s e = refl
 same_after x y (Clear p) s e = refl
 same_after x y (Destroy n) s e = refl
+same_after x y (Lost n ps) s e = refl
 
 -- what is decided from facts of the world is decided in the world
 decides_in : (facts : List Fact) (u : World) (c : Command) → AreFacts facts u c → (r : Result Changed Refusal) → Decides u.state (seen_in facts) c r → Decides u.state (seen_of u) c r
@@ -80,7 +84,7 @@ decides_in facts u c are (Err r) d = record {
   least = λ q h t. d.least q h (same facts u c are q ∙ t);
 }
 decides_in facts u c are (Ok ch) d =
-    let e = same_after (size_in facts) (present u) c u.state (λ p h. are.size p (Has-append_left (providers_of c) (map provider (members_named u.state c)) p h)) in
+    let e = same_after (size_in facts) (present u) c u.state (λ p h. are.size p (seen facts u c are p h)) in
     record {
       good = λ r h. sym (same facts u c are r) ∙ d.good r h;
       records = d.records ∙ e;

@@ -1,12 +1,15 @@
--- The plans of deactivate, activate, forget and rebuild, which keep the components of their mirror.
-use Rattle.std.proofs.Common.{◌≡◌, inl, inr, ℕ, ◌<◌, ◌≤◌, ◌+◌, ◌^◌, Bool, true, refl, sym, ap, arith, List, [], ◌∷◌, length, map}
+-- The plans of deactivate, activate, forget, rebuild and configure, which keep the components of their mirror.
+use Rattle.std.proofs.Common.{◌≡◌, inl, inr, ℕ, ◌<◌, ◌≤◌, ◌+◌, ◌^◌, Bool, true, refl, sym, ap, arith, List, [], ◌∷◌, Option, Some, None, length, map, unwrap_or}
 use Rattle.std.proofs.lemmas.Bool.{cases_Bool}
 use Rattle.gm_metadata.specs.Images.{same_label}
-use Rattle.gm_state.specs.declared.command.Command.TheVariants.{Deactivate, Activate, Forget, Rebuild}
+use Rattle.gm_state.specs.declared.command.Preference.{Preference}
+use Rattle.gm_state.specs.declared.command.Settings.{Settings}
+use Rattle.gm_state.specs.declared.command.Command.TheVariants.{Deactivate, Activate, Forget, Rebuild, Configure}
 use Rattle.gm_state.specs.declared.records.Mirror.{Mirror}
 use Rattle.gm_state.specs.declared.records.Component.{Component}
 use Rattle.gm_state.specs.declared.records.Disk.{Disk}
 use Rattle.gm_state.specs.declared.records.Disk.TheVariants.{InSync, Inactive, Copying}
+use Rattle.gm_state.specs.Commands.{PreferenceFits, SliceFits}
 use Rattle.gm_state.specs.Words.{Has}
 use Rattle.gm_state.specs.Records.{IsMirror, members}
 use Rattle.gm_state.specs.Lookups.{is_inactive}
@@ -14,12 +17,13 @@ use Rattle.gm_state.specs.World.{World, Sound}
 use Rattle.gm_state.proofs.Order.{differ}
 use Rattle.gm_state.proofs.Words.{Has-filter}
 use Rattle.gm_rules.specs.declared.refusals.Refusal.TheVariants as refusals
-use Rattle.gm_rules.specs.After.{activated, deactivated, metas, rebuilt}
+use Rattle.gm_rules.specs.After.{activated, configured, configured_mirror, deactivated, metas, priority_by, rebuilt}
+use Rattle.gm_rules.specs.Bad.{preferred}
 use Rattle.gm_rules.specs.Decides.{IsGood}
 use Rattle.gm_rules.specs.Step.{CanAnswer, HasPlan}
 use Rattle.gm_rules.specs.Worlds.{seen_of}
 use Rattle.gm_rules.proofs.Good.{one_more_sync}
-use Rattle.gm_rules.proofs.Kept.{Keeps, keeps_deactivated, keeps_id, keeps_where, map_id, mapped_members, put_mapped, where_of}
+use Rattle.gm_rules.proofs.Kept.{Keeps, keeps_configured, keeps_deactivated, keeps_id, keeps_where, map_id, mapped_members, put_mapped, where_of}
 use Rattle.gm_rules.proofs.Mapping.{Stands, mapped_has, metas_each, metas_of, replaced_has, stands_still}
 use Rattle.gm_rules.proofs.RuledOut.{CanTouch, each_there, by_name, component_at, in_use, is_member, other_active, other_in_use}
 
@@ -146,5 +150,55 @@ deactivate_has u key n p sound answer good =
       metas = metas_of (map f ks);
       written = λ k h. inl (metas_each f ks k h);
     }) (rw (found, put_mapped m.name g (keeps_deactivated (m.syncid + 1) p) u.state.components sound.state.components_in_order) refl)
+    (ap metas (sym (mapped_members f keeps u.state.components m.name)))
+    (λ w. tt) (λ w. tt) good answer) answer good
+
+-- ---- configure
+
+slice_fits : (o : Option ℕ) (n : ℕ) → SliceFits o → n < 2 ^ 32 → unwrap_or o n < 2 ^ 32
+slice_fits None n given old = old
+slice_fits (Some a) n given old = given.1
+
+priority_fits : (o : Option Preference) (k : Component) → PreferenceFits o → k.priority < 2 ^ 8 → priority_by o k < 2 ^ 8
+priority_fits None k given old = old
+priority_fits (Some p) k given old = elim (cases_Bool (same_label k.provider p.provider)) [ inl e ↦ rw e given.1 | inr e ↦ rw e old ]
+
+pub configure_has : (u : World) (key n : List ℕ) (settings : Settings) → Sound u → CanAnswer u key (Configure n settings) → IsGood u.state (seen_of u) (Configure n settings) → HasPlan u key (Configure n settings)
+configure_has u key n settings sound answer good =
+    by_name u.state n (λ a. CanAnswer u key (Configure a settings) → IsGood u.state (seen_of u) (Configure a settings) → HasPlan u key (Configure a settings)) (good refusals.NoMirror (inl refl))
+    (λ m here found answer good.
+    let ks : List Component = members u.state.components m.name in
+    let rules : IsMirror m ks = sound.state.each m here in
+    let m' : Mirror = configured_mirror settings m in
+    let is_mine : Component → Bool = λ k. same_label k.mirror m.name in
+    let g : Component → Component = configured settings in
+    let f : Component → Component = where_of m.name g in
+    let keeps : Keeps f = keeps_where m.name g (keeps_configured settings) in
+    let mine : (k : Component) → Has ks k → is_mine k ≡ true = λ k h. (Has-filter is_mine u.state.components k h).1 in
+    mapped_has u key (Configure m.name settings) m m' f (metas (map f ks)) sound (record {
+      here = here;
+      there = each_there u (preferred settings.preference) ks (good refusals.Absent (inr (inl refl)));
+      same_name = refl;
+      same_mid = refl;
+      same_data = refl;
+      keeps = keeps;
+      alone = λ k h d. rw (differ k.mirror m.name d) refl;
+      fits = record { name = rules.fits.name; mid = rules.fits.mid; genid = rules.fits.genid; syncid = rules.fits.syncid; slice = slice_fits settings.slice m.slice answer.fits.1 rules.fits.slice };
+      all = rules.all;
+      room = rules.room;
+      active = (rules.active.0, rules.active.1, rw (mine rules.active.0 rules.active.1) rules.active.2);
+      each = λ k h. rw (mine k h) (record {
+        priority = priority_fits settings.preference k answer.fits.2 (rules.members_fit k h).priority;
+        held = rules.held k h;
+        holds = omega arith;
+        syncid = rules.syncids k h;
+        current = rules.current k h;
+      });
+      named = refl;
+      none = λ q. refl;
+      reply = tt;
+      metas = metas_of (map f ks);
+      written = λ k h. inl (metas_each f ks k h);
+    }) (rw (found, put_mapped m.name g (keeps_configured settings) u.state.components sound.state.components_in_order) refl)
     (ap metas (sym (mapped_members f keeps u.state.components m.name)))
     (λ w. tt) (λ w. tt) good answer) answer good

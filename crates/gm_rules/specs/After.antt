@@ -1,9 +1,12 @@
 -- What a command makes of the records, and what it has written.
 use Rattle.std.specs.Prelude.{◌+◌, ◌-◌, ℕ, Bool, true, false, not, List, [], ◌∷◌, Option, Some, None, map, filter, length, unwrap_or, if◌then◌else◌}
 use Rattle.std.specs.List.{list_any}
+use Rattle.std.specs.Option.{option_map_or}
 use Rattle.gm_metadata.specs.Images.{Sizes, same_label}
 use Rattle.gm_metadata.specs.declared.flags.MirrorFlags.{MirrorFlags}
 use Rattle.gm_state.specs.declared.command.BalanceWord.{BalanceWord}
+use Rattle.gm_state.specs.declared.command.Preference.{Preference}
+use Rattle.gm_state.specs.declared.command.Settings.{Settings}
 use Rattle.gm_state.specs.declared.command.Command.{Command}
 use Rattle.gm_state.specs.declared.command.Command.TheVariants as commands
 use Rattle.gm_state.specs.declared.command.Intent.{Intent}
@@ -14,7 +17,7 @@ use Rattle.gm_state.specs.declared.records.Mirror.{Mirror}
 use Rattle.gm_state.specs.declared.records.Component.{Component}
 use Rattle.gm_state.specs.declared.records.Disk.TheVariants.{InSync, Inactive, Copying}
 use Rattle.gm_state.specs.Commands.{balance_of_word}
-use Rattle.gm_state.specs.Words.{put, put_all, without}
+use Rattle.gm_state.specs.Words.{put, put_all, without, without_all}
 use Rattle.gm_state.specs.Records.{Records, name, provider, members}
 use Rattle.gm_state.specs.Lookups.{mirror_of, component_of, is_inactive}
 
@@ -73,6 +76,32 @@ activated m k = record k { disk = Copying false 0; syncid = m.syncid }
 abbrev pub rebuilt : Component → Component
 rebuilt k = record k { disk = Copying true 0 }
 
+-- a mirror that is configured, and its flags: what isn't given stays
+abbrev pub configured_flags : Settings → MirrorFlags → MirrorFlags
+configured_flags settings flags = record {
+  no_autosync = option_map_or not settings.autosync flags.no_autosync;
+  no_failsync = option_map_or not settings.failsync flags.no_failsync;
+}
+
+abbrev pub configured_mirror : Settings → Mirror → Mirror
+configured_mirror settings m = record m {
+  slice = unwrap_or settings.slice m.slice;
+  balance = option_map_or balance_of_word settings.balance m.balance;
+  flags = configured_flags settings m.flags;
+}
+
+-- the priority of a component: what is given, where that is for its provider
+abbrev pub priority_by : Option Preference → Component → ℕ
+priority_by None k = k.priority
+priority_by (Some preference) k = if same_label k.provider preference.provider then preference.priority else k.priority
+
+-- a component of a mirror that is configured
+abbrev pub configured : Settings → Component → Component
+configured settings k = record k {
+  priority = priority_by settings.preference k;
+  hardcoded = unwrap_or settings.hardcode k.hardcoded;
+}
+
 -- what is made of the records by way of a mirror or a component that is registered
 abbrev pub on_found : {X : Type 0} → Option X → Records → (X → Records) → Records
 on_found None s f = s
@@ -108,11 +137,19 @@ after size (commands.Rebuild n p) s = on_found (component_of s p) s (λ k. recor
   mirrors = s.mirrors;
   components = put provider (rebuilt k) s.components;
 })
+after size (commands.Configure n settings) s = on_found (mirror_of s n) s (λ m. record {
+  mirrors = put name (configured_mirror settings m) s.mirrors;
+  components = put_all provider (map (configured settings) (members s.components n)) s.components;
+})
 after size (commands.Clear p) s = s
 after size (commands.Destroy n) s = record {
   mirrors = without name n s.mirrors;
   components = filter (λ k. not (same_label k.mirror n)) s.components;
 }
+after size (commands.Lost n ps) s = on_found (mirror_of s n) s (λ m. record {
+  mirrors = put name (record m { genid = m.genid + 1 }) s.mirrors;
+  components = without_all provider ps s.components;
+})
 
 -- what the command is answered beside its number, where the records before are s
 abbrev pub reply_to : Command → Records → Reply
@@ -134,8 +171,10 @@ intents_of (commands.Deactivate n p) s s' = metas (members s'.components n)
 intents_of (commands.Activate n p) s s' = Meta p ∷ []
 intents_of (commands.Forget n) s s' = metas (members s'.components n)
 intents_of (commands.Rebuild n p) s s' = Meta p ∷ []
+intents_of (commands.Configure n settings) s s' = metas (members s'.components n)
 intents_of (commands.Clear p) s s' = Clear p ∷ []
 intents_of (commands.Destroy n) s s' = clears_of (members s.components n)
+intents_of (commands.Lost n ps) s s' = metas (members s'.components n)
 
 -- whether the last sector of q becomes zero, where the records before are s
 abbrev pub clears : Records → Command → List ℕ → Bool
@@ -146,5 +185,7 @@ clears s (commands.Deactivate n p) q = false
 clears s (commands.Activate n p) q = false
 clears s (commands.Forget n) q = false
 clears s (commands.Rebuild n p) q = false
+clears s (commands.Configure n settings) q = false
 clears s (commands.Clear p) q = same_label p q
 clears s (commands.Destroy n) q = list_any (λ k. same_label k.provider q) (members s.components n)
+clears s (commands.Lost n ps) q = false

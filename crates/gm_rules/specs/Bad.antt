@@ -1,17 +1,19 @@
 -- When a command is refused: for each refusal one line.
-use Rattle.std.specs.Prelude.{◌+◌, ℕ, Bool, false, not, ◌==◌, ◌&&◌, ◌||◌, nat_lt, List, [], ◌∷◌, length, Option, Some, None, is_none, is_some, filter, option_and_then}
+use Rattle.std.specs.Prelude.{◌+◌, ℕ, Bool, true, false, not, ◌==◌, ◌&&◌, ◌||◌, nat_lt, List, [], ◌∷◌, length, Option, Some, None, is_none, is_some, filter, option_and_then}
 use Rattle.std.specs.List.{list_all, list_any}
 use Rattle.gm_metadata.specs.Images.{same_label}
 use Rattle.gm_state.specs.declared.records.Mirror.{Mirror}
 use Rattle.gm_state.specs.declared.records.Component.{Component}
+use Rattle.gm_state.specs.declared.command.Preference.{Preference}
+use Rattle.gm_state.specs.declared.command.Settings.{Settings}
 use Rattle.gm_state.specs.declared.command.Command.{Command}
-use Rattle.gm_state.specs.declared.command.Command.TheVariants.{Label, Insert, Remove, Deactivate, Activate, Forget, Rebuild, Clear, Destroy}
+use Rattle.gm_state.specs.declared.command.Command.TheVariants.{Label, Insert, Remove, Deactivate, Activate, Forget, Rebuild, Configure, Clear, Destroy, Lost}
 use Rattle.gm_state.specs.Records.{Records}
 use Rattle.gm_state.specs.Lookups.{mirror_of, component_of, is_active, is_inactive}
 use Rattle.gm_rules.specs.declared.facts.Fact.{Fact}
 use Rattle.gm_rules.specs.Facts.{size_in, last_in, last_carries}
 use Rattle.gm_rules.specs.declared.refusals.Refusal.{Refusal}
-use Rattle.gm_rules.specs.declared.refusals.Refusal.TheVariants.{NoMirror, NameTaken, MidTaken, Absent, ProviderTaken, CarriesMetadata, TooSmall, NotMember, DidTaken, Full, TooManyMirrors, SomeLost, LastActive, AlreadyInactive, NotInactive, NoneLost, Inactive, LastSyncid, WrongSize, NoMetadata}
+use Rattle.gm_rules.specs.declared.refusals.Refusal.TheVariants.{NoMirror, NameTaken, MidTaken, Absent, ProviderTaken, CarriesMetadata, TooSmall, NotMember, DidTaken, Full, TooManyMirrors, SomeLost, LastActive, AlreadyInactive, NotInactive, NoneLost, Inactive, LastSyncid, LastGenid, NothingGiven, WrongSize, NoMetadata}
 
 -- the mirror that a command names
 abbrev pub name_of : Command → Option (List ℕ)
@@ -22,8 +24,15 @@ name_of (Deactivate n p) = Some n
 name_of (Activate n p) = Some n
 name_of (Forget n) = Some n
 name_of (Rebuild n p) = Some n
+name_of (Configure n settings) = Some n
 name_of (Clear p) = None
 name_of (Destroy n) = Some n
+name_of (Lost n ps) = Some n
+
+-- the provider of a preference
+abbrev pub preferred : Option Preference → List (List ℕ)
+preferred None = []
+preferred (Some preference) = preference.provider ∷ []
 
 -- the providers that it names
 abbrev pub providers_of : Command → List (List ℕ)
@@ -34,8 +43,15 @@ providers_of (Deactivate n p) = p ∷ []
 providers_of (Activate n p) = p ∷ []
 providers_of (Forget n) = []
 providers_of (Rebuild n p) = p ∷ []
+providers_of (Configure n settings) = preferred settings.preference
 providers_of (Clear p) = p ∷ []
 providers_of (Destroy n) = []
+providers_of (Lost n ps) = ps
+
+-- those whose images it looks at: lost images may be gone or broken
+abbrev pub looked_at : Command → List (List ℕ)
+looked_at (Lost n ps) = []
+looked_at c = providers_of c
 
 -- the mirror has the mid that the command gives
 abbrev pub has_mid : Command → Mirror → Bool
@@ -84,6 +100,29 @@ members_named s c = filter (λ k. is_member_of (name_of c) k) s.components
 abbrev pub is_on_any : List (List ℕ) → Component → Bool
 is_on_any ps k = list_any (λ p. same_label k.provider p) ps
 
+-- the command waits for the component: it doesn't for lost ones
+abbrev pub is_awaited : Command → Component → Bool
+is_awaited (Lost n ps) k = not (is_on_any ps k)
+is_awaited _ k = true
+
+-- the components of the mirror that the command names, of those that it waits for
+abbrev pub awaited : Records → Command → List Component
+awaited s c = filter (λ k. is_awaited c k) (members_named s c)
+
+-- a provider is named twice
+abbrev pub has_twice : List (List ℕ) → Bool
+has_twice [] = false
+has_twice (p ∷ ps) = list_any (λ q. same_label q p) ps || has_twice ps
+
+-- none of the options is given
+abbrev pub is_empty : Settings → Bool
+is_empty s = is_none s.balance && is_none s.slice && is_none s.autosync && is_none s.failsync && is_none s.hardcode && is_none s.preference
+
+-- a configure without any option
+abbrev pub gives_nothing : Command → Bool
+gives_nothing (Configure n settings) = is_empty settings
+gives_nothing _ = false
+
 -- a provider has fewer than 2 or more than 1,048,576 sectors
 abbrev pub has_wrong_size : ℕ → Bool
 has_wrong_size n = nat_lt n 2 || nat_lt 1048576 n
@@ -93,11 +132,11 @@ abbrev pub applies : Records → Seen → Command → Refusal → Bool
 applies s x c NoMirror = is_none (mirror_named s c)
 applies s x c NameTaken = is_some (mirror_named s c)
 applies s x c MidTaken = list_any (has_mid c) s.mirrors
-applies s x c Absent = list_any (λ p. is_none (x.size p)) (providers_of c) || list_any (λ k. not (has_size (x.size k.provider) k.sectors)) (members_named s c)
+applies s x c Absent = list_any (λ p. is_none (x.size p)) (looked_at c) || list_any (λ k. not (has_size (x.size k.provider) k.sectors)) (awaited s c)
 applies s x c ProviderTaken = list_any (λ p. is_some (component_of s p)) (providers_of c)
-applies s x c CarriesMetadata = list_any (λ p. x.carries p) (providers_of c)
-applies s x c TooSmall = is_there_and (mirror_named s c) (λ m. list_any (λ p. is_there_and (x.size p) (λ n. nat_lt n (m.data_sectors + 1))) (providers_of c))
-applies s x c NotMember = list_any (λ p. not (list_any (λ k. same_label k.provider p) (members_named s c))) (providers_of c)
+applies s x c CarriesMetadata = list_any (λ p. x.carries p) (looked_at c)
+applies s x c TooSmall = is_there_and (mirror_named s c) (λ m. list_any (λ p. is_there_and (x.size p) (λ n. nat_lt n (m.data_sectors + 1))) (looked_at c))
+applies s x c NotMember = has_twice (providers_of c) || list_any (λ p. not (list_any (λ k. same_label k.provider p) (members_named s c))) (providers_of c)
 applies s x c DidTaken = list_any (has_did c) (members_named s c)
 applies s x c Full = is_there_and (mirror_named s c) (λ m. m.all == 16)
 applies s x c TooManyMirrors = length s.mirrors == 64
@@ -108,5 +147,7 @@ applies s x c NotInactive = list_any (λ k. is_on_any (providers_of c) k && not 
 applies s x c NoneLost = is_there_and (mirror_named s c) (λ m. length (members_named s c) == m.all)
 applies s x c Inactive = list_any (λ k. is_on_any (providers_of c) k && is_inactive k.disk) (members_named s c)
 applies s x c LastSyncid = is_there_and (mirror_named s c) (λ m. m.syncid == 4294967295)
-applies s x c WrongSize = list_any (λ p. is_there_and (x.size p) has_wrong_size) (providers_of c)
-applies s x c NoMetadata = list_any (λ p. not (x.carries p)) (providers_of c)
+applies s x c LastGenid = is_there_and (mirror_named s c) (λ m. m.genid == 4294967295)
+applies s x c NothingGiven = gives_nothing c
+applies s x c WrongSize = list_any (λ p. is_there_and (x.size p) has_wrong_size) (looked_at c)
+applies s x c NoMetadata = list_any (λ p. not (x.carries p)) (looked_at c)

@@ -1,9 +1,9 @@
 -- The refusals: their numbers, and which command lists which.
 use Rattle.std.specs.Prelude.{ℕ, List, [], ◌∷◌}
 use Rattle.gm_state.specs.declared.command.Command.{Command}
-use Rattle.gm_state.specs.declared.command.Command.TheVariants.{Label, Insert, Remove, Deactivate, Activate, Forget, Rebuild, Clear, Destroy}
+use Rattle.gm_state.specs.declared.command.Command.TheVariants.{Label, Insert, Remove, Deactivate, Activate, Forget, Rebuild, Configure, Clear, Destroy, Lost}
 use Rattle.gm_rules.specs.declared.refusals.Refusal.{Refusal}
-use Rattle.gm_rules.specs.declared.refusals.Refusal.TheVariants.{NoMirror, NameTaken, MidTaken, Absent, ProviderTaken, CarriesMetadata, TooSmall, NotMember, DidTaken, Full, TooManyMirrors, SomeLost, LastActive, AlreadyInactive, NotInactive, NoneLost, Inactive, LastSyncid, WrongSize, NoMetadata}
+use Rattle.gm_rules.specs.declared.refusals.Refusal.TheVariants.{NoMirror, NameTaken, MidTaken, Absent, ProviderTaken, CarriesMetadata, TooSmall, NotMember, DidTaken, Full, TooManyMirrors, SomeLost, LastActive, AlreadyInactive, NotInactive, NoneLost, Inactive, LastSyncid, LastGenid, NothingGiven, WrongSize, NoMetadata}
 use Rattle.gm_rules.specs.declared.refusals.CallRefusal.{CallRefusal}
 use Rattle.gm_rules.specs.declared.refusals.CallRefusal.TheVariants.{NoKey, KeyTaken, NoRoom, ByRules}
 
@@ -27,6 +27,8 @@ number_of NotInactive = 19
 number_of NoneLost = 20
 number_of Inactive = 21
 number_of LastSyncid = 23
+number_of LastGenid = 24
+number_of NothingGiven = 25
 number_of WrongSize = 28
 number_of NoMetadata = 29
 
@@ -46,5 +48,7 @@ own (Deactivate n p) = NoMirror ∷ Absent ∷ NotMember ∷ LastActive ∷ Alre
 own (Activate n p) = NoMirror ∷ Absent ∷ NotMember ∷ NotInactive ∷ []
 own (Forget n) = NoMirror ∷ Absent ∷ NoneLost ∷ []
 own (Rebuild n p) = NoMirror ∷ Absent ∷ NotMember ∷ LastActive ∷ Inactive ∷ []
+own (Configure n settings) = NoMirror ∷ Absent ∷ NotMember ∷ NothingGiven ∷ []
 own (Clear p) = Absent ∷ ProviderTaken ∷ WrongSize ∷ NoMetadata ∷ []
 own (Destroy n) = NoMirror ∷ Absent ∷ []
+own (Lost n ps) = NoMirror ∷ Absent ∷ NotMember ∷ LastActive ∷ LastGenid ∷ []

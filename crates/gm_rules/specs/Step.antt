@@ -43,8 +43,10 @@ NewData u (commands.Deactivate n p) w = Unit {0}
 NewData u (commands.Activate n p) w = Unit {0}
 NewData u (commands.Forget n) w = Unit {0}
 NewData u (commands.Rebuild n p) w = Unit {0}
+NewData u (commands.Configure n settings) w = Unit {0}
 NewData u (commands.Clear p) w = Unit {0}
 NewData u (commands.Destroy n) w = Unit {0}
+NewData u (commands.Lost n ps) w = Unit {0}
 
 -- the answer that the command's key keeps from now on
 abbrev pub answer : World → List ℕ → Command → Reply → Answered

@@ -7,7 +7,7 @@ use Rattle.gm_state.specs.Records.{Records, provider}
 use Rattle.gm_state.specs.World.{World, present}
 use Rattle.gm_rules.specs.declared.facts.Fact.{Fact}
 use Rattle.gm_rules.specs.Facts.{size_in, last_in, last_carries}
-use Rattle.gm_rules.specs.Bad.{Seen, providers_of, members_named}
+use Rattle.gm_rules.specs.Bad.{Seen, looked_at, awaited}
 
 -- the last sector of a provider that is there; zeros stand for the one of a provider without sectors
 abbrev pub last_of : World → List ℕ → Option (List ℕ)
@@ -17,9 +17,9 @@ last_of u p = option_map (λ n. if n == 0 then zeros else u.shelf p (n - 1)) (pr
 abbrev pub seen_of : World → Seen
 seen_of u = record { size = present u; carries = λ p. last_carries (last_of u p) }
 
--- the providers that a command needs to know of: those that it names, and those of the components of its mirror
+-- the providers that a command needs to know of: those that it looks at, and those of the components that it waits for
 abbrev pub needed_by : Records → Command → List (List ℕ)
-needed_by s c = providers_of c ++ map provider (members_named s c)
+needed_by s c = looked_at c ++ map provider (awaited s c)
 
 -- the facts are those of the world, for each provider that the command needs
 pub record AreFacts (facts : List Fact) (u : World) (c : Command) : Type 0 where

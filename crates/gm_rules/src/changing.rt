@@ -8,8 +8,7 @@ ghost use Rattle.gm_state.specs.Words.{Ascends, label_lt, put, put_all, without}
 ghost use Rattle.gm_rules.specs.Decides.{changed_by, put_some, without_some};
 
 use crate::change::Change;
-use crate::checks::is_on_any;
-use crate::making::others_of;
+use crate::making::{components_left, others_of};
 use gm_metadata::Label;
 use gm_state::{Component, Mirror, State, put};
 use std::alloc::{AllocError, Global};
@@ -86,21 +85,6 @@ fn with_some(
         None => Ok(mirrors),
         Some(mirror) => with_mirror(alloc, &mirrors, mirror),
     }
-}
-
-fn components_left(
-    alloc: Global,
-    components: &[Component],
-    gone: &[Label],
-) -> Result<Vec<Component>, AllocError>
-    ensures { IfOk result (λ v. v.items ≡ filter
-        (λ k. not (list_any (λ p. same_label k.provider p) gone.now)) components.now) }
-{
-    components
-        .iter()
-        .copied()
-        .filter(|k| !is_on_any(gone, k))
-        .collect(alloc)
 }
 
 // With a component in place of the one on its provider.

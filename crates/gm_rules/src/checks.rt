@@ -7,13 +7,13 @@ ghost use Rattle.gm_state.specs.Lookups.{component_of, is_active, is_inactive};
 ghost use Rattle.gm_state.specs.Records.{Records};
 ghost use Rattle.gm_rules.specs.Facts.{size_in, last_in, last_carries};
 ghost use Rattle.gm_rules.specs.Refusals.{own};
-ghost use Rattle.gm_rules.specs.Bad.{name_of, providers_of, has_mid, has_did, is_member_of, is_on_any, has_size, has_wrong_size, is_there_and, mirror_named, seen_in};
+ghost use Rattle.gm_rules.specs.Bad.{name_of, providers_of, preferred, looked_at, has_mid, has_did, is_member_of, is_on_any, is_awaited, has_twice, is_empty, gives_nothing, has_size, has_wrong_size, is_there_and, mirror_named, seen_in};
 ghost use Rattle.gm_rules.specs.Parts.{applies_to_part};
 
 use crate::facts::Facts;
 use crate::refusals::{Refusal, own};
 use gm_metadata::Label;
-use gm_state::{Command, Component, Disk, Mirror, State};
+use gm_state::{Command, Component, Disk, Mirror, Preference, Settings, State};
 use std::slice;
 
 const MAX_COMPONENTS: u8 = 16;
@@ -35,8 +35,20 @@ pub(crate) fn name_of(command: &Command) -> Option<Label>
         | Command::Activate { name, .. }
         | Command::Forget { name }
         | Command::Rebuild { name, .. }
-        | Command::Destroy { name } => Some(*name),
+        | Command::Configure { name, .. }
+        | Command::Destroy { name }
+        | Command::Lost { name, .. } => Some(*name),
         Command::Clear { .. } => None,
+    }
+}
+
+// The provider of a preference.
+fn preferred(preference: &Option<Preference>) -> &[Label]
+    ensures { result.now ≡ preferred preference.now }
+{
+    match preference {
+        None => &[],
+        Some(preference) => slice::from_ref(&preference.provider),
     }
 }
 
@@ -53,6 +65,18 @@ pub fn providers_of(command: &Command) -> &[Label]
         | Command::Rebuild { provider, .. }
         | Command::Clear { provider } => slice::from_ref(provider),
         Command::Forget { .. } | Command::Destroy { .. } => &[],
+        Command::Configure { settings, .. } => preferred(&settings.preference),
+        Command::Lost { providers, .. } => providers.as_slice(),
+    }
+}
+
+/// Those whose images it looks at: lost images may be gone or broken.
+pub(crate) fn looked_at(command: &Command) -> &[Label]
+    ensures { result.now ≡ looked_at command.now }
+{
+    match command {
+        Command::Lost { .. } => &[],
+        _ => providers_of(command),
     }
 }
 
@@ -111,13 +135,26 @@ fn is_missing(component: &Component, facts: &Facts) -> bool
     !has_size(facts.size(component.provider), component.sectors)
 }
 
-fn misses_some(components: &[Component], name: Option<Label>, facts: &Facts) -> bool
-    ensures { result ≡ list_any (λ k. not (has_size (size_in facts.now k.provider) k.sectors))
-        (filter (λ k. is_member_of name k) components.now) }
+// Whether the command waits for the component: it doesn't for lost ones.
+pub(crate) fn is_awaited(command: &Command, component: &Component) -> bool
+    ensures { result ≡ is_awaited command.now component.now }
 {
+    match command {
+        Command::Lost { providers, .. } => !is_on_any(providers.as_slice(), component),
+        _ => true,
+    }
+}
+
+fn misses_some(components: &[Component], command: &Command, facts: &Facts) -> bool
+    ensures { result ≡ list_any (λ k. not (has_size (size_in facts.now k.provider) k.sectors))
+        (filter (λ k. is_awaited command.now k)
+        (filter (λ k. is_member_of (name_of command.now) k) components.now)) }
+{
+    let name = name_of(command);
     components
         .iter()
         .filter(|k| is_member_of(name, k))
+        .filter(|k| is_awaited(command, k))
         .any(|k| is_missing(k, facts))
 }
 
@@ -191,6 +228,18 @@ fn any_stranger(providers: &[Label], components: &[Component], name: Option<Labe
     providers.iter().any(|p| !has_member(components, name, *p))
 }
 
+// Whether a provider is named twice.
+fn has_twice(providers: &[Label]) -> bool
+    ensures { result ≡ has_twice providers.now }
+{
+    for (i, provider) in providers.iter().enumerate() {
+        if providers[i + 1..].contains(provider) {
+            return true;
+        }
+    }
+    false
+}
+
 fn did_taken(components: &[Component], command: &Command) -> bool
     ensures { result ≡ list_any (has_did command.now)
         (filter (λ k. is_member_of (name_of command.now) k) components.now) }
@@ -254,6 +303,26 @@ fn any_in_use(components: &[Component], name: Option<Label>, providers: &[Label]
         .any(|k| is_on_any(providers, k) && !is_inactive(k))
 }
 
+fn is_empty(settings: &Settings) -> bool
+    ensures { result ≡ is_empty settings.now }
+{
+    settings.balance.is_none()
+        && settings.slice.is_none()
+        && settings.autosync.is_none()
+        && settings.failsync.is_none()
+        && settings.hardcode.is_none()
+        && settings.preference.is_none()
+}
+
+fn gives_nothing(command: &Command) -> bool
+    ensures { result ≡ gives_nothing command.now }
+{
+    match command {
+        Command::Configure { settings, .. } => is_empty(settings),
+        _ => false,
+    }
+}
+
 fn mirror_named(state: &State, command: &Command) -> Option<Mirror>
     ensures { result ≡ mirror_named state.now command.now }
 {
@@ -269,20 +338,21 @@ fn applies(state: &State, count: u64, facts: &Facts, command: &Command, refusal:
 {
     let name = name_of(command);
     let providers = providers_of(command);
+    let seen = looked_at(command);
     let components = state.components();
     let mirror = mirror_named(state, command);
     match refusal {
         Refusal::NoMirror => mirror.is_none(),
         Refusal::NameTaken => mirror.is_some(),
         Refusal::MidTaken => mid_taken(state.mirrors(), command),
-        Refusal::Absent => any_absent(providers, facts) || misses_some(components, name, facts),
+        Refusal::Absent => any_absent(seen, facts) || misses_some(components, command, facts),
         Refusal::ProviderTaken => any_taken(providers, state),
-        Refusal::CarriesMetadata => any_carries(providers, facts),
+        Refusal::CarriesMetadata => any_carries(seen, facts),
         Refusal::TooSmall => match mirror {
             None => false,
-            Some(m) => any_too_small(providers, &m, facts),
+            Some(m) => any_too_small(seen, &m, facts),
         },
-        Refusal::NotMember => any_stranger(providers, components, name),
+        Refusal::NotMember => has_twice(providers) || any_stranger(providers, components, name),
         Refusal::DidTaken => did_taken(components, command),
         Refusal::Full => match mirror {
             None => false,
@@ -304,8 +374,13 @@ fn applies(state: &State, count: u64, facts: &Facts, command: &Command, refusal:
             None => false,
             Some(m) => m.syncid == u32::MAX,
         },
-        Refusal::WrongSize => any_of_wrong_size(providers, facts),
-        Refusal::NoMetadata => any_bare(providers, facts),
+        Refusal::LastGenid => match mirror {
+            None => false,
+            Some(m) => m.genid == u32::MAX,
+        },
+        Refusal::NothingGiven => gives_nothing(command),
+        Refusal::WrongSize => any_of_wrong_size(seen, facts),
+        Refusal::NoMetadata => any_bare(seen, facts),
     }
 }
 

@@ -14,18 +14,18 @@ ghost use Rattle.gm_rules.specs.Worlds.{AreFacts, seen_of};
 use crate::change::Change;
 use crate::checks::least_refusal;
 use crate::facts::Facts;
-use crate::keeping::{activated, deactivated, forgotten, rebuilt, replaced};
+use crate::keeping::{activated, configured, deactivated, forgotten, rebuilt, replaced};
 use crate::making::{
-    cleared, destroyed, first_component, inserted, labelled, new_mirror, removed, spare,
+    cleared, destroyed, first_component, inserted, labelled, lost, new_mirror, removed, spare,
 };
 use crate::refusals::Refusal;
 use gm_metadata::Label;
-use gm_state::{Command, State};
+use gm_state::{Command, Providers, Settings, State};
 use std::alloc::{AllocError, Global};
 
 /// The least refusal that applies, or what the command changes. Refusals take no memory.
 ///
-/// The facts are those of the providers that the command names and of the components of its mirror.
+/// The facts are those of the providers that `needed` names.
 pub fn decide(
     alloc: Global,
     state: &State,
@@ -112,11 +112,16 @@ fn change_of(
         Command::Activate { name, provider } => activate(alloc, part, facts, name, provider),
         Command::Forget { name } => forget(alloc, part, facts, name),
         Command::Rebuild { name, provider } => rebuild(alloc, part, facts, name, provider),
+        Command::Configure { name, settings } => configure(alloc, part, facts, name, &settings),
         Command::Clear { provider } => {
             let change = cleared(alloc, provider)?;
             Ok(change)
         }
         Command::Destroy { name } => destroy(alloc, part, facts, name),
+        Command::Lost {
+            name,
+            ref providers,
+        } => lose(alloc, part, facts, name, providers),
     }
 }
 
@@ -235,6 +240,24 @@ fn rebuild(
     Ok(change)
 }
 
+fn configure(
+    alloc: Global,
+    part: &State,
+    facts: &Facts,
+    name: Label,
+    settings: &Settings,
+) -> Result<Change, AllocError>
+    requires { IsGoodButCount part.now (seen_in facts.now)
+        (commands.Configure name settings.now) }
+    ensures { IfOk result (λ ch. IsMade part.now (seen_in facts.now)
+        (commands.Configure name settings.now) ch) }
+{
+    let mirror = part.mirror(name).unwrap();
+    let members = part.members(alloc, name)?;
+    let change = configured(alloc, settings, mirror, &members)?;
+    Ok(change)
+}
+
 fn destroy(alloc: Global, part: &State, facts: &Facts, name: Label) -> Result<Change, AllocError>
     requires { IsGoodButCount part.now (seen_in facts.now)
         (commands.Destroy name) }
@@ -243,5 +266,23 @@ fn destroy(alloc: Global, part: &State, facts: &Facts, name: Label) -> Result<Ch
 {
     let members = part.members(alloc, name)?;
     let change = destroyed(alloc, name, &members)?;
+    Ok(change)
+}
+
+fn lose(
+    alloc: Global,
+    part: &State,
+    facts: &Facts,
+    name: Label,
+    providers: &Providers,
+) -> Result<Change, AllocError>
+    requires { IsGoodButCount part.now (seen_in facts.now)
+        (commands.Lost name providers.now) }
+    ensures { IfOk result (λ ch. IsMade part.now (seen_in facts.now)
+        (commands.Lost name providers.now) ch) }
+{
+    let mirror = part.mirror(name).unwrap();
+    let members = part.members(alloc, name)?;
+    let change = lost(alloc, mirror, &members, providers.as_slice())?;
     Ok(change)
 }

@@ -15,7 +15,8 @@ pub struct Fact {
     pub last: [u8; 512],
 }
 
-/// What the shelf says of the providers that a command needs: those that it names, and the components of its mirror.
+/// What the shelf says of the providers that a command needs: those that it looks at, and the components of its mirror
+/// that it waits for.
 /// A provider that is absent has no entry. In contracts these are the entries.
 #[derive(Debug, Drop)]
 pub struct Facts {

@@ -1,6 +1,6 @@
 //! The changes of commands, from values that were fetched.
 
-ghost use Rattle.std.specs.Prelude.{◌≡◌, ◌+◌, ◌-◌, ◌<◌, [], ◌∷◌, Some, None, IfOk, false, map};
+ghost use Rattle.std.specs.Prelude.{◌≡◌, ◌+◌, ◌-◌, ◌<◌, [], ◌∷◌, Some, None, IfOk, false, not, map, filter};
 ghost use Rattle.gm_metadata.specs.Images.{same_label};
 ghost use Rattle.gm_state.specs.declared.command.Intent.TheVariants as intents;
 ghost use Rattle.gm_state.specs.declared.command.Reply.TheVariants as replies;
@@ -8,8 +8,10 @@ ghost use Rattle.gm_state.specs.declared.records.Component.{Component};
 ghost use Rattle.gm_state.specs.Records.{provider as provider_of};
 ghost use Rattle.gm_state.specs.Words.{Has, put, without};
 ghost use Rattle.gm_rules.specs.After.{new_mirror, first_component, spare, metas, clears_of};
+ghost use Rattle.gm_rules.specs.Bad.{is_on_any};
 
 use crate::change::{Change, push_clears, push_metas};
+use crate::checks::is_on_any;
 use gm_metadata::{Label, MirrorFlags};
 use gm_state::{BalanceWord, Component, Disk, Intent, Mirror, Reply, Slice, put};
 use std::alloc::{AllocError, Global};
@@ -198,6 +200,54 @@ pub(crate) fn removed(
         gone_mirror: None,
         components: Vec::new(alloc),
         gone_components: vec![in alloc; provider]?,
+        intents,
+        reply: Reply::Plain,
+    })
+}
+
+/// Those of the components that are on none of the providers.
+pub(crate) fn components_left(
+    alloc: Global,
+    components: &[Component],
+    gone: &[Label],
+) -> Result<Vec<Component>, AllocError>
+    ensures { IfOk result (λ v. v.items ≡ filter (λ k. not (is_on_any gone.now k)) components.now) }
+{
+    components
+        .iter()
+        .copied()
+        .filter(|k| !is_on_any(gone, k))
+        .collect(alloc)
+}
+
+/// Components whose images won't come back are dropped; `members` are those of before.
+pub(crate) fn lost(
+    alloc: Global,
+    mirror: Mirror,
+    members: &[Component],
+    providers: &[Label],
+) -> Result<Change, AllocError>
+    requires { mirror.genid < 4294967295 }
+    ensures { IfOk result (λ ch. ch ≡ record {
+      mirror = Some (record mirror { genid = mirror.genid + 1 });
+      gone_mirror = None;
+      components = [];
+      gone_components = providers.now;
+      intents = metas (filter (λ k. not (is_on_any providers.now k)) members.now);
+      reply = replies.Plain;
+    }) }
+{
+    let left = components_left(alloc, members, providers)?;
+    let mut intents = Vec::new(alloc);
+    push_metas(&mut intents, &left)?;
+    Ok(Change {
+        mirror: Some(Mirror {
+            genid: mirror.genid + 1,
+            ..mirror
+        }),
+        gone_mirror: None,
+        components: Vec::new(alloc),
+        gone_components: providers.to_vec(alloc)?,
         intents,
         reply: Reply::Plain,
     })

@@ -2,32 +2,34 @@
 
 ghost use Rattle.std.specs.Prelude.{◌≡◌, ◌++◌, IfOk, OnOk, map, filter};
 ghost use Rattle.gm_state.specs.Records.{Records, provider};
-ghost use Rattle.gm_rules.specs.Bad.{providers_of, is_member_of};
+ghost use Rattle.gm_rules.specs.Bad.{name_of, looked_at, is_member_of, is_awaited};
 ghost use Rattle.gm_rules.specs.Parts.{IsPartOf};
 ghost use Rattle.gm_rules.specs.Worlds.{needed_by};
 
-use crate::checks::{is_member_of, name_of, providers_of};
+use crate::checks::{is_awaited, is_member_of, looked_at, name_of};
 use gm_metadata::Label;
 use gm_state::{Command, Component, State};
 use std::alloc::{AllocError, Global};
 
-fn named(alloc: Global, command: &Command) -> Result<Vec<Label>, AllocError>
-    ensures { IfOk result (λ v. v.items ≡ providers_of command.now) }
+fn seen(alloc: Global, command: &Command) -> Result<Vec<Label>, AllocError>
+    ensures { IfOk result (λ v. v.items ≡ looked_at command.now) }
 {
-    providers_of(command).iter().copied().collect(alloc)
+    looked_at(command).iter().copied().collect(alloc)
 }
 
 fn of_mirror(
     alloc: Global,
     components: &[Component],
-    name: Option<Label>,
+    command: &Command,
 ) -> Result<Vec<Label>, AllocError>
-    ensures { IfOk result (λ v. v.items
-        ≡ map provider (filter (λ k. is_member_of name k) components.now)) }
+    ensures { IfOk result (λ v. v.items ≡ map provider (filter (λ k. is_awaited command.now k)
+        (filter (λ k. is_member_of (name_of command.now) k) components.now))) }
 {
+    let name = name_of(command);
     components
         .iter()
         .filter(|k| is_member_of(name, k))
+        .filter(|k| is_awaited(command, k))
         .map(|k| k.provider)
         .collect(alloc)
 }
@@ -35,14 +37,14 @@ fn of_mirror(
 fn all_needed(alloc: Global, state: &State, command: &Command) -> Result<Vec<Label>, AllocError>
     ensures { IfOk result (λ v. v.items ≡ needed_by state.now command.now) }
 {
-    let mut names = named(alloc, command)?;
-    let mirror = of_mirror(alloc, state.components(), name_of(command))?;
+    let mut names = seen(alloc, command)?;
+    let mirror = of_mirror(alloc, state.components(), command)?;
     names.extend_from_slice(&mirror)?;
     Ok(names)
 }
 
-/// The providers of which a command needs facts: those that it names, and those of the components of the mirror that
-/// it names, in byte order.
+/// The providers of which a command needs facts: those that it looks at, and those of the components of the mirror that
+/// it names and waits for, in byte order.
 pub fn needed(alloc: Global, state: &State, command: &Command) -> Result<Vec<Label>, AllocError>
     ensures all { IfOk result (λ v. v.items ≡ needed_by state.now command.now) }
     // From the command's part of a state, all that the whole needs.

@@ -14,7 +14,8 @@ pub enum Refusal {
     NameTaken,
     /// A mirror has this mid.
     MidTaken,
-    /// The named provider isn't on the shelf, or a component of the named mirror isn't there with its size.
+    /// The named provider isn't on the shelf, or a component of the named mirror isn't there with its size; lost ones
+    /// needn't be.
     Absent,
     /// The provider is a component of some mirror.
     ProviderTaken,
@@ -22,7 +23,7 @@ pub enum Refusal {
     CarriesMetadata,
     /// The provider has no room for the data and one sector more.
     TooSmall,
-    /// The provider isn't a component of this mirror.
+    /// The provider isn't a component of this mirror, or is named twice.
     NotMember,
     /// A component of the mirror has this did.
     DidTaken,
@@ -44,6 +45,10 @@ pub enum Refusal {
     Inactive,
     /// The mirror's syncid is the greatest there is.
     LastSyncid,
+    /// The mirror's genid is the greatest there is.
+    LastGenid,
+    /// None of the options is given.
+    NothingGiven,
     /// The provider has fewer than 2 or more than 1,048,576 sectors.
     WrongSize,
     /// The provider carries no metadata.
@@ -74,6 +79,8 @@ impl Refusal {
             Refusal::NoneLost => 20,
             Refusal::Inactive => 21,
             Refusal::LastSyncid => 23,
+            Refusal::LastGenid => 24,
+            Refusal::NothingGiven => 25,
             Refusal::WrongSize => 28,
             Refusal::NoMetadata => 29,
         }
@@ -161,6 +168,12 @@ pub(crate) fn own(command: &Command) -> &'static [Refusal]
             Refusal::LastActive,
             Refusal::Inactive,
         ],
+        Command::Configure { .. } => &[
+            Refusal::NoMirror,
+            Refusal::Absent,
+            Refusal::NotMember,
+            Refusal::NothingGiven,
+        ],
         Command::Clear { .. } => &[
             Refusal::Absent,
             Refusal::ProviderTaken,
@@ -168,5 +181,12 @@ pub(crate) fn own(command: &Command) -> &'static [Refusal]
             Refusal::NoMetadata,
         ],
         Command::Destroy { .. } => &[Refusal::NoMirror, Refusal::Absent],
+        Command::Lost { .. } => &[
+            Refusal::NoMirror,
+            Refusal::Absent,
+            Refusal::NotMember,
+            Refusal::LastActive,
+            Refusal::LastGenid,
+        ],
     }
 }

@@ -1,6 +1,8 @@
 //! Each refusal by an example that meets just it, the least where two apply, and the changes of accepted commands.
 
+mod configuring;
 mod keeping;
+mod losing;
 
 use crate::{Change, Fact, Facts, Refusal, changed_by, decide, decide_part, part};
 use gm_metadata::{Balance, Label, MirrorFlags, encode};
