@@ -3,86 +3,60 @@ use Rattle.std.proofs.Common.{◌≡◌, ◌∙◌, ◌<◌, ◌^◌, ℕ, Bool,
 use Rattle.std.specs.Prelude.{⊤, codes, option_map}
 use Rattle.std.specs.Fmt.{decimal}
 use Rattle.clap.proofs.OnLiterals.{clap_on_literals}
-use Rattle.clap.specs.Walk.{Row, Text, finished, first_of}
-use Rattle.clap.specs.Simple.{App, Shape, built_leaf, inherited}
+use Rattle.clap.specs.Walk.{Row, Text}
+use Rattle.clap.specs.Simple.{App}
 use Rattle.gm_metadata.specs.Balance.{balance_name}
 use Rattle.gm_metadata.specs.Labels.{is_label}
 use Rattle.gm_metadata.specs.declared.flags.MirrorFlags.{MirrorFlags}
 use Rattle.gm_state.specs.declared.command.BalanceWord.{BalanceWord}
 use Rattle.gm_state.specs.declared.command.Command.{Command}
-use Rattle.gm_state.specs.declared.command.Command.TheVariants.{Label, Insert, Remove, Deactivate, Activate, Forget, Rebuild, Clear, Destroy}
+use Rattle.gm_state.specs.declared.command.Command.TheVariants.{Label, Insert, Remove, Deactivate, Activate, Forget, Rebuild, Configure, Clear, Destroy, Lost}
 use Rattle.gm_state.specs.Commands.{CommandFits, balance_of_word, on_where, words}
 use Rattle.gm_front.specs.Spelling.{HasNoFlags, IsNoFlag, command_of, guarded_words, insert_of, label_at, label_of, of_component, of_mirror, of_provider, spelled}
-use Rattle.gm_front.specs.Table.{insert, label, name, on_component, on_mirror, on_provider, optional, wanted}
+use Rattle.gm_front.specs.Table.{insert, label, name, names, on_component, on_mirror, on_provider, optional, possible, wanted}
+use Rattle.gm_front.proofs.Configuring.{configure_canonical, configure_guarded}
+use Rattle.gm_front.proofs.Finding.{AreFound, Finds, component, found, leaf, named}
+use Rattle.gm_front.proofs.Losing.{lost_canonical, lost_guarded}
 use Rattle.gm_front.proofs.Reading.{balance_no_flag, balance_read, component_read, decimal_no_flag, flags_read, label_read, number_read, priority_read, slice_read, switch_no_flag, switch_read}
-use Rattle.gm_front.proofs.Walking.{ArePlain, Has, Said, app, begun, ended, exact, leaf_fault, plain, said_fault, spelled_as, text_of}
+use Rattle.gm_front.proofs.Walking.{ArePlain, Has, Said, exact, plain, spelled_as, text_of}
 
 -- ---- the table has each command
 
--- what clap makes of a command of the table
-abbrev leaf : App → Shape
-leaf command = built_leaf (inherited app.top command.top)
-
 has_label : Has (codes "label") (leaf label) label_of
-unfolding clap_on_literals name optional wanted command_of
+unfolding clap_on_literals name names optional possible wanted command_of
 has_label = record { meets = refl; passes = refl; rows = λ behind. refl; faults = λ behind. refl; reads = λ found. refl }
 
 has_insert : Has (codes "insert") (leaf insert) insert_of
-unfolding clap_on_literals name optional wanted command_of
+unfolding clap_on_literals name names optional possible wanted command_of
 has_insert = record { meets = refl; passes = refl; rows = λ behind. refl; faults = λ behind. refl; reads = λ found. refl }
 
 has_remove : Has (codes "remove") (leaf (on_component (codes "remove"))) (of_component Remove)
-unfolding clap_on_literals name optional wanted command_of
+unfolding clap_on_literals name names optional possible wanted command_of
 has_remove = record { meets = refl; passes = refl; rows = λ behind. refl; faults = λ behind. refl; reads = λ found. refl }
 
 has_deactivate : Has (codes "deactivate") (leaf (on_component (codes "deactivate"))) (of_component Deactivate)
-unfolding clap_on_literals name optional wanted command_of
+unfolding clap_on_literals name names optional possible wanted command_of
 has_deactivate = record { meets = refl; passes = refl; rows = λ behind. refl; faults = λ behind. refl; reads = λ found. refl }
 
 has_activate : Has (codes "activate") (leaf (on_component (codes "activate"))) (of_component Activate)
-unfolding clap_on_literals name optional wanted command_of
+unfolding clap_on_literals name names optional possible wanted command_of
 has_activate = record { meets = refl; passes = refl; rows = λ behind. refl; faults = λ behind. refl; reads = λ found. refl }
 
 has_forget : Has (codes "forget") (leaf (on_mirror (codes "forget"))) (of_mirror Forget)
-unfolding clap_on_literals name optional wanted command_of
+unfolding clap_on_literals name names optional possible wanted command_of
 has_forget = record { meets = refl; passes = refl; rows = λ behind. refl; faults = λ behind. refl; reads = λ found. refl }
 
 has_rebuild : Has (codes "rebuild") (leaf (on_component (codes "rebuild"))) (of_component Rebuild)
-unfolding clap_on_literals name optional wanted command_of
+unfolding clap_on_literals name names optional possible wanted command_of
 has_rebuild = record { meets = refl; passes = refl; rows = λ behind. refl; faults = λ behind. refl; reads = λ found. refl }
 
 has_clear : Has (codes "clear") (leaf (on_provider (codes "clear"))) (of_provider Clear)
-unfolding clap_on_literals name optional wanted command_of
+unfolding clap_on_literals name names optional possible wanted command_of
 has_clear = record { meets = refl; passes = refl; rows = λ behind. refl; faults = λ behind. refl; reads = λ found. refl }
 
 has_destroy : Has (codes "destroy") (leaf (on_mirror (codes "destroy"))) (of_mirror Destroy)
-unfolding clap_on_literals name optional wanted command_of
+unfolding clap_on_literals name names optional possible wanted command_of
 has_destroy = record { meets = refl; passes = refl; rows = λ behind. refl; faults = λ behind. refl; reads = λ found. refl }
-
--- ---- what is found
-
--- names that don't begin with a hyphen, or any names behind `--`
-abbrev named : Bool → List Text → List Said
-named false names = map plain names
-named true names = exact (codes "--") ∷ map exact names
-
--- what clap finds at the end of a command's own words
-abbrev found : App → List Said → List Row
-found command said = finished (leaf command).rules (ended (leaf command) said).held
-
--- these texts are found, each by its id
-abbrev AreFound : List Row → List (Text × Text) → Type 0
-AreFound rows [] = ⊤
-AreFound rows (t ∷ rest) = (first_of t.0 rows ≡ Some t.1) × AreFound rows rest
-
--- the command's own words pass, and these texts are found
-record Finds (command : App) (said : List Said) (texts : List (Text × Text)) : Type 0 where
-  passes : leaf_fault (leaf command) (ended (leaf command) said) (said_fault (leaf command) begun said) ≡ []
-  are : AreFound (found command said) texts
-
--- the names that tell a component, by their ids
-abbrev component : Text → Text → List (Text × Text)
-component n p = (codes "name", n) ∷ (codes "prov", p) ∷ []
 
 -- ---- the commands that have names alone
 
@@ -244,8 +218,10 @@ canonical (Deactivate n p) fits free = component_spelled Deactivate has_deactiva
 canonical (Activate n p) fits free = component_spelled Activate has_activate n p fits false (free.0, (free.1, tt))
 canonical (Forget n) fits free = mirror_spelled Forget has_forget n fits false (free, tt)
 canonical (Rebuild n p) fits free = component_spelled Rebuild has_rebuild n p fits false (free.0, (free.1, tt))
+canonical (Configure n settings) fits free = configure_canonical n settings fits free
 canonical (Clear p) fits free = provider_spelled Clear has_clear p fits false (free, tt)
 canonical (Destroy n) fits free = mirror_spelled Destroy has_destroy n fits false (free, tt)
+canonical (Lost n ps) fits free = lost_canonical n ps fits free
 
 pub guarded : (c : Command) → CommandFits c → spelled (guarded_words c) ≡ Some c
 guarded (Label n p mid did b slice f h) fits = label_spelled n p mid did slice b f h fits true (tt, (tt, (tt, tt)))
@@ -255,5 +231,7 @@ guarded (Deactivate n p) fits = component_spelled Deactivate has_deactivate n p 
 guarded (Activate n p) fits = component_spelled Activate has_activate n p fits true (tt, (tt, (tt, tt)))
 guarded (Forget n) fits = mirror_spelled Forget has_forget n fits true (tt, (tt, tt))
 guarded (Rebuild n p) fits = component_spelled Rebuild has_rebuild n p fits true (tt, (tt, (tt, tt)))
+guarded (Configure n settings) fits = configure_guarded n settings fits
 guarded (Clear p) fits = provider_spelled Clear has_clear p fits true (tt, (tt, tt))
 guarded (Destroy n) fits = mirror_spelled Destroy has_destroy n fits true (tt, (tt, tt))
+guarded (Lost n ps) fits = lost_guarded n ps fits

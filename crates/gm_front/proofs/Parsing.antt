@@ -11,15 +11,15 @@ use Rattle.clap.specs.declared.error.ErrorKind.TheVariants.{OutOfMemory}
 use Rattle.clap.proofs.OnLiterals.{clap_on_literals}
 use Rattle.gm_state.specs.declared.command.Command.{Command}
 use Rattle.gm_front.specs.Spelling.{command_of, spelled, taken}
-use Rattle.gm_front.specs.Table.{name, optional, table, wanted}
+use Rattle.gm_front.specs.Table.{name, names, optional, possible, table, wanted}
 use Rattle.gm_front.proofs.Reading.{nonzero}
 
 pub table_is_simple : is_simple table ≡ true
-unfolding clap_on_literals name optional wanted
+unfolding clap_on_literals name names optional possible wanted
 table_is_simple = refl
 
 pub table_is_free : is_simple_and_free table ≡ true
-unfolding clap_on_literals name optional wanted
+unfolding clap_on_literals name names optional possible wanted
 table_is_free = refl
 
 pub none_at_ok : {X : Type 0} (kinds : Kinds) (r : Result X Error) → FailsBy kinds r → IfOk r (λ m. kinds ≡ [])

@@ -1,6 +1,6 @@
 -- Values that are read from texts.
 use Rattle.std.proofs.Common.{◌≡◌, ◌∙◌, ◌<◌, ◌^◌, ◌&&◌, ◌==◌, not, ℕ, Bool, true, false, refl, ap, ap₂, subst, inl, inr, arith, length, codes, List, [], ◌∷◌, Option, Some, None, Result, Ok, Err, lt-ltb, ltb-true, nat_lt}
-use Rattle.std.specs.Prelude.{if◌then◌else◌}
+use Rattle.std.specs.Prelude.{IfSome, if◌then◌else◌, option_map}
 use Rattle.std.specs.Fmt.{decimal}
 use Rattle.std.specs.List.{list_all}
 use Rattle.std.specs.Char.{digit_value}
@@ -16,8 +16,10 @@ use Rattle.gm_metadata.specs.Labels.{is_label}
 use Rattle.gm_metadata.specs.declared.flags.MirrorFlags.{MirrorFlags}
 use Rattle.gm_state.specs.declared.command.BalanceWord.{BalanceWord}
 use Rattle.gm_state.specs.declared.command.BalanceWord.TheVariants.{Load, Prefer, RoundRobin, Split}
-use Rattle.gm_state.specs.Commands.{balance_of_word, on_where}
-use Rattle.gm_front.specs.Spelling.{◌>>=◌, IsNoFlag, balance_at, balance_in, component_at, flags_at, label_at, label_in, number_at, number_below, priority_at, slice_at, slice_in, switch_at, switch_in}
+use Rattle.gm_state.specs.declared.command.Preference.{Preference}
+use Rattle.gm_state.specs.declared.command.Settings.{Settings}
+use Rattle.gm_state.specs.Commands.{PreferenceFits, SliceFits, balance_of_word, on_where}
+use Rattle.gm_front.specs.Spelling.{◌>>=◌, IsNoFlag, balance_at, balance_in, component_at, flags_at, if_given, label_at, label_in, number_at, number_below, preference_in, priority_at, settings_at, slice_at, slice_in, switch_at, switch_in}
 
 all_digits : (ds : List ℕ) → list_all (λ d. nat_lt (digit_value d) 10) ds ≡ true → AllDigits 10 ds
 all_digits [] e = tt
@@ -90,6 +92,28 @@ pub nonzero : (n : ℕ) → 0 < n → (n == 0) ≡ false
 nonzero n h =
     elim (cases_Bool (n == 0)) [ inl e ↦ (let bad : n ≡ 0 = eqb-true n 0 e in absurd (omega arith)) | inr e ↦ e ]
 
+slice_again : (n : ℕ) → 0 < n → n < 2 ^ 32 → slice_in (decimal n) ≡ Some n
+unfolding slice_in
+slice_again n some small =
+    ap (λ (o : Option ℕ). o >>= (λ bytes. if bytes == 0 then None else Some bytes)) (number_again (2 ^ 32) n small small)
+    ∙ ap (λ (b : Bool). if b then None else Some n) (nonzero n some)
+
+switch_again : (b : Bool) → switch_in (on_where b) ≡ Some b
+unfolding switch_in
+switch_again true = refl
+switch_again false = refl
+
+balance_again : (b : BalanceWord) → balance_in (balance_name (balance_of_word b)) ≡ Some b
+unfolding balance_in
+balance_again Load = refl
+balance_again Prefer = refl
+balance_again RoundRobin = refl
+balance_again Split = refl
+
+label_again : (t : List ℕ) → is_label t ≡ true → label_in t ≡ Some t
+unfolding label_in
+label_again t is = ap (λ (b : Bool). if b then Some t else None) is
+
 module _ (id : List ℕ) (rows : List Row) where
   pub number_read : (n : ℕ) → first_of id rows ≡ Some (decimal n) → n < 2 ^ 32 → number_at id rows ≡ Some n
   unfolding number_at
@@ -100,28 +124,20 @@ module _ (id : List ℕ) (rows : List Row) where
   priority_read n e small = ap (λ (o : Option (List ℕ)). o >>= number_below (2 ^ 8)) e ∙ number_again (2 ^ 8) n small (omega arith)
 
   pub slice_read : (n : ℕ) → first_of id rows ≡ Some (decimal n) → 0 < n → n < 2 ^ 32 → slice_at id rows ≡ Some n
-  unfolding slice_at slice_in
-  slice_read n e some small =
-      ap (λ (o : Option (List ℕ)). o >>= slice_in) e
-      ∙ (ap (λ (o : Option ℕ). o >>= (λ bytes. if bytes == 0 then None else Some bytes)) (number_again (2 ^ 32) n small small)
-      ∙ ap (λ (b : Bool). if b then None else Some n) (nonzero n some))
+  unfolding slice_at
+  slice_read n e some small = ap (λ (o : Option (List ℕ)). o >>= slice_in) e ∙ slice_again n some small
 
   pub switch_read : (b : Bool) → first_of id rows ≡ Some (on_where b) → switch_at id rows ≡ Some b
-  unfolding switch_at switch_in
-  switch_read true e = ap (λ (o : Option (List ℕ)). o >>= switch_in) e
-  switch_read false e = ap (λ (o : Option (List ℕ)). o >>= switch_in) e
+  unfolding switch_at
+  switch_read b e = ap (λ (o : Option (List ℕ)). o >>= switch_in) e ∙ switch_again b
 
   pub balance_read : (b : BalanceWord) → first_of id rows ≡ Some (balance_name (balance_of_word b)) → balance_at id rows ≡ Some b
-  unfolding balance_at balance_in
-  balance_read Load e = ap (λ (o : Option (List ℕ)). o >>= balance_in) e
-  balance_read Prefer e = ap (λ (o : Option (List ℕ)). o >>= balance_in) e
-  balance_read RoundRobin e = ap (λ (o : Option (List ℕ)). o >>= balance_in) e
-  balance_read Split e = ap (λ (o : Option (List ℕ)). o >>= balance_in) e
+  unfolding balance_at
+  balance_read b e = ap (λ (o : Option (List ℕ)). o >>= balance_in) e ∙ balance_again b
 
   pub label_read : (t : List ℕ) → first_of id rows ≡ Some t → is_label t ≡ true → label_at id rows ≡ Some t
-  unfolding label_at label_in
-  label_read t e is =
-      ap (λ (o : Option (List ℕ)). o >>= label_in) e ∙ ap (λ (b : Bool). if b then Some t else None) is
+  unfolding label_at
+  label_read t e is = ap (λ (o : Option (List ℕ)). o >>= label_in) e ∙ label_again t is
 
 pub component_read : (rows : List Row) (n p : List ℕ) → first_of (codes "name") rows ≡ Some n → first_of (codes "prov") rows ≡ Some p
     → is_label n ≡ true → is_label p ≡ true → component_at rows ≡ Some (record { name = n; provider = p })
@@ -139,3 +155,60 @@ unfolding flags_at
 flags_read rows f autosync failsync =
     rw (autosync, failsync)
     (ap₂ (λ (x y : Bool). let r : MirrorFlags = record { no_autosync = x; no_failsync = y } in Some r) (not_again f.no_autosync) (not_again f.no_failsync))
+
+-- ---- options that may be left out
+
+given_again : {A : Type 0} (kind : List ℕ → Option A) (word : A → List ℕ) (o : Option A) → IfSome o (λ a. kind (word a) ≡ Some a)
+    → if_given kind (option_map word o) ≡ Some o
+given_again kind word None again = refl
+given_again kind word (Some a) again = ap (option_map Some) again
+
+always : {A : Type 0} (P : A → Type 0) → ((a : A) → P a) → (o : Option A) → IfSome o P
+always P each None = tt
+always P each (Some a) = each a
+
+balance_given : (o : Option BalanceWord) → if_given balance_in (option_map (λ b. balance_name (balance_of_word b)) o) ≡ Some o
+balance_given o = given_again balance_in _ o (always _ balance_again o)
+
+switch_given : (o : Option Bool) → if_given switch_in (option_map on_where o) ≡ Some o
+switch_given o = given_again switch_in on_where o (always _ switch_again o)
+
+slice_given : (o : Option ℕ) → SliceFits o → if_given slice_in (option_map decimal o) ≡ Some o
+slice_given None fits = refl
+slice_given (Some n) fits = ap (option_map Some) (slice_again n fits.0 fits.1)
+
+preference_given : (o : Option Preference) → PreferenceFits o
+    → preference_in (option_map (λ p. p.provider) o) (option_map (λ p. decimal p.priority) o) ≡ Some o
+unfolding preference_in
+preference_given None fits = refl
+preference_given (Some p) fits =
+    let small : p.priority < 2 ^ 8 = fits.1 in
+    rw (label_again p.provider fits.0, number_again (2 ^ 8) p.priority small (omega arith)) refl
+
+-- where each option says what the settings say
+pub settings_read : (rows : List Row) (settings : Settings) → SliceFits settings.slice → PreferenceFits settings.preference
+    → first_of (codes "balance") rows ≡ option_map (λ b. balance_name (balance_of_word b)) settings.balance
+    → first_of (codes "slice") rows ≡ option_map decimal settings.slice
+    → first_of (codes "autosync") rows ≡ option_map on_where settings.autosync
+    → first_of (codes "failsync") rows ≡ option_map on_where settings.failsync
+    → first_of (codes "hardcode") rows ≡ option_map on_where settings.hardcode
+    → first_of (codes "prov") rows ≡ option_map (λ p. p.provider) settings.preference
+    → first_of (codes "priority") rows ≡ option_map (λ p. decimal p.priority) settings.preference
+    → settings_at rows ≡ Some settings
+unfolding settings_at
+settings_read rows settings slice_fits preference_fits balance slice autosync failsync hardcode provider priority =
+    rw (
+      balance,
+      balance_given settings.balance,
+      slice,
+      slice_given settings.slice slice_fits,
+      autosync,
+      switch_given settings.autosync,
+      failsync,
+      switch_given settings.failsync,
+      hardcode,
+      switch_given settings.hardcode,
+      provider,
+      priority,
+      preference_given settings.preference preference_fits,
+    ) refl

@@ -1,10 +1,11 @@
 -- Which command words spell.
-use Rattle.std.specs.Prelude.{◌≡◌, ◌==◌, ◌&&◌, ◌^◌, ⊤, ℕ, Bool, not, true, false, List, [], ◌∷◌, ◌++◌, Option, Some, None, codes, length, nat_lt, if◌then◌else◌, option_and_then, option_map}
+use Rattle.std.specs.Prelude.{All, IfSome, ◌≡◌, ◌==◌, ◌&&◌, ◌^◌, ⊤, ℕ, Bool, not, true, false, List, [], ◌∷◌, ◌++◌, Option, Some, None, codes, length, nat_lt, if◌then◌else◌, option_and_then, option_map}
 use Rattle.std.specs.Fmt.{decimal}
+use Rattle.std.specs.List.{list_all}
 use Rattle.std.specs.Str.{bytes_eq}
 use Rattle.std.specs.Str.Parse.{digits_value, without_leading_plus}
 use Rattle.clap.specs.ValueTests.{is_numeral}
-use Rattle.clap.specs.Walk.{Row, Text, first_of}
+use Rattle.clap.specs.Walk.{Row, Text, all_of, first_of}
 use Rattle.clap.specs.Simple.{subcommand_of}
 use Rattle.clap.specs.Faults.{fault_of}
 use Rattle.clap.specs.Kinds.{Kinds}
@@ -13,9 +14,11 @@ use Rattle.gm_metadata.specs.Labels.{is_label}
 use Rattle.gm_metadata.specs.declared.flags.MirrorFlags.{MirrorFlags}
 use Rattle.gm_state.specs.declared.command.BalanceWord.{BalanceWord}
 use Rattle.gm_state.specs.declared.command.BalanceWord.TheVariants.{Load, Prefer, RoundRobin, Split}
+use Rattle.gm_state.specs.declared.command.Preference.{Preference}
+use Rattle.gm_state.specs.declared.command.Settings.{Settings}
 use Rattle.gm_state.specs.declared.command.Command.{Command}
-use Rattle.gm_state.specs.declared.command.Command.TheVariants.{Label, Insert, Remove, Deactivate, Activate, Forget, Rebuild, Clear, Destroy}
-use Rattle.gm_state.specs.Commands.{balance_of_word, number_words, on_where, switch_words}
+use Rattle.gm_state.specs.declared.command.Command.TheVariants.{Label, Insert, Remove, Deactivate, Activate, Forget, Rebuild, Configure, Clear, Destroy, Lost}
+use Rattle.gm_state.specs.Commands.{balance_of_word, number_words, on_where, setting_words, switch_words}
 use Rattle.gm_front.specs.Table.{table}
 use Rattle.gm_front.specs.declared.words.ComponentNames.{ComponentNames}
 
@@ -50,6 +53,24 @@ balance_in text =
 unfoldable pub label_in : Text → Option Text
 label_in text = if is_label text then Some text else None
 
+-- labels, one or more
+unfoldable pub providers_in : List Text → Option (List Text)
+providers_in texts = if list_all is_label texts && not (length texts == 0) then Some texts else None
+
+-- of an option that may be left out: that it is, or its value, where that is one of its kind
+abbrev pub if_given : {A : Type 0} → (Text → Option A) → Option Text → Option (Option A)
+if_given kind None = Some None
+if_given kind (Some text) = option_map Some (kind text)
+
+-- a provider and its priority: both or neither
+unfoldable pub preference_in : Option Text → Option Text → Option (Option Preference)
+preference_in None None = Some None
+preference_in (Some provider) (Some priority) = do
+  provider ← label_in provider
+  priority ← number_below (2 ^ 8) priority
+  Some (Some (record { provider = provider; priority = priority }))
+preference_in _ _ = None
+
 -- ---- the commands, by what clap found for each option and name
 
 unfoldable pub number_at : Text → List Row → Option ℕ
@@ -69,6 +90,9 @@ balance_at id rows = first_of id rows >>= balance_in
 
 unfoldable pub label_at : Text → List Row → Option Text
 label_at id rows = first_of id rows >>= label_in
+
+unfoldable pub providers_at : Text → List Row → Option (List Text)
+providers_at id rows = all_of id rows >>= providers_in
 
 unfoldable pub flags_at : List Row → Option MirrorFlags
 flags_at rows = do
@@ -102,6 +126,28 @@ insert_of rows = do
   hardcoded ← switch_at (codes "hardcode") rows
   Some (Insert names.name names.provider did priority hardcoded)
 
+unfoldable pub settings_at : List Row → Option Settings
+settings_at rows = do
+  balance ← if_given balance_in (first_of (codes "balance") rows)
+  slice ← if_given slice_in (first_of (codes "slice") rows)
+  autosync ← if_given switch_in (first_of (codes "autosync") rows)
+  failsync ← if_given switch_in (first_of (codes "failsync") rows)
+  hardcode ← if_given switch_in (first_of (codes "hardcode") rows)
+  preference ← preference_in (first_of (codes "prov") rows) (first_of (codes "priority") rows)
+  Some (record { balance = balance; slice = slice; autosync = autosync; failsync = failsync; hardcode = hardcode; preference = preference })
+
+unfoldable pub configure_of : List Row → Option Command
+configure_of rows = do
+  name ← label_at (codes "name") rows
+  settings ← settings_at rows
+  Some (Configure name settings)
+
+unfoldable pub lost_of : List Row → Option Command
+lost_of rows = do
+  name ← label_at (codes "name") rows
+  providers ← providers_at (codes "prov") rows
+  Some (Lost name providers)
+
 -- a command on a component
 abbrev pub of_component : (Text → Text → Command) → List Row → Option Command
 of_component command rows = option_map (λ names. command names.name names.provider) (component_at rows)
@@ -124,8 +170,10 @@ command_of word rows =
     else if bytes_eq word (codes "activate") then of_component Activate rows
     else if bytes_eq word (codes "forget") then of_mirror Forget rows
     else if bytes_eq word (codes "rebuild") then of_component Rebuild rows
+    else if bytes_eq word (codes "configure") then configure_of rows
     else if bytes_eq word (codes "clear") then of_provider Clear rows
     else if bytes_eq word (codes "destroy") then of_mirror Destroy rows
+    else if bytes_eq word (codes "lost") then lost_of rows
     else None
 
 -- ---- the words
@@ -154,10 +202,20 @@ HasNoFlags (Deactivate name provider) = IsNoFlag name × IsNoFlag provider
 HasNoFlags (Activate name provider) = IsNoFlag name × IsNoFlag provider
 HasNoFlags (Forget name) = IsNoFlag name
 HasNoFlags (Rebuild name provider) = IsNoFlag name × IsNoFlag provider
+HasNoFlags (Configure name settings) = IsNoFlag name × IfSome settings.preference (λ p. IsNoFlag p.provider)
 HasNoFlags (Clear provider) = IsNoFlag provider
 HasNoFlags (Destroy name) = IsNoFlag name
+HasNoFlags (Lost name providers) = IsNoFlag name × All IsNoFlag providers
 
--- the canonical words with `--` before the names
+-- the options of configure with the provider behind `=`
+abbrev pub guarded_preference : Option Preference → List Text
+guarded_preference None = []
+guarded_preference (Some p) = (codes "--prov=" ++ p.provider) ∷ codes "--priority" ∷ decimal p.priority ∷ []
+
+abbrev pub guarded_settings : Settings → List Text
+guarded_settings settings = setting_words (record settings { preference = None }) ++ guarded_preference settings.preference
+
+-- the canonical words with `--` before the names, and `=` before the provider of a preference
 abbrev pub guarded_words : Command → List Text
 guarded_words (Label name provider mid did balance slice flags hardcoded) =
     codes "label" ∷ number_words mid did (balance_name (balance_of_word balance)) slice
@@ -171,5 +229,7 @@ guarded_words (Deactivate name provider) = codes "deactivate" ∷ codes "--" ∷
 guarded_words (Activate name provider) = codes "activate" ∷ codes "--" ∷ name ∷ provider ∷ []
 guarded_words (Forget name) = codes "forget" ∷ codes "--" ∷ name ∷ []
 guarded_words (Rebuild name provider) = codes "rebuild" ∷ codes "--" ∷ name ∷ provider ∷ []
+guarded_words (Configure name settings) = codes "configure" ∷ guarded_settings settings ++ codes "--" ∷ name ∷ []
 guarded_words (Clear provider) = codes "clear" ∷ codes "--" ∷ provider ∷ []
 guarded_words (Destroy name) = codes "destroy" ∷ codes "--" ∷ name ∷ []
+guarded_words (Lost name providers) = codes "lost" ∷ codes "--" ∷ name ∷ providers

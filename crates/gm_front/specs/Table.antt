@@ -2,11 +2,15 @@
 use Rattle.std.specs.Prelude.{[], ◌∷◌, List, Some, codes, fold, true}
 use Rattle.clap.specs.Walk.{Rule, Text}
 use Rattle.clap.specs.Simple.{App, new_app, new_rule, on_top, with_rule, with_subcommand}
-use Rattle.clap.specs.declared.builder.ArgAction.TheVariants.{Set}
+use Rattle.clap.specs.declared.builder.ArgAction.TheVariants.{Append, Set}
 
 -- a name, by its place
 unfoldable pub name : Text → Rule
 name id = record (new_rule id) { required = true; action = Some Set }
+
+-- one name or more, by their places: the last words
+unfoldable pub names : Text → Rule
+names id = record (new_rule id) { required = true; action = Some Append }
 
 -- an option that must be given
 unfoldable pub wanted : Text → Rule
@@ -15,6 +19,10 @@ wanted id = record (new_rule id) { long = Some id; required = true; action = Som
 -- an option that has this value where it isn't given
 unfoldable pub optional : Text → Text → Rule
 optional id other = record (new_rule id) { long = Some id; action = Some Set; defaults = other ∷ [] }
+
+-- an option that may be left out, and has no value then
+unfoldable pub possible : Text → Rule
+possible id = record (new_rule id) { long = Some id; action = Some Set }
 
 -- the command with the name of a mirror
 abbrev pub with_mirror : App → App
@@ -52,6 +60,19 @@ insert = with_provider (with_mirror (with_rule (with_rule (with_rule (new_app (c
     (optional (codes "priority") (codes "0")))
     (optional (codes "hardcode") (codes "off"))))
 
+abbrev pub configure : App
+configure = with_mirror (with_rule (with_rule (with_rule (with_rule (with_rule (with_rule (with_rule (new_app (codes "configure"))
+    (possible (codes "balance")))
+    (possible (codes "slice")))
+    (possible (codes "autosync")))
+    (possible (codes "failsync")))
+    (possible (codes "hardcode")))
+    (possible (codes "prov")))
+    (possible (codes "priority")))
+
+abbrev pub lost : App
+lost = with_rule (on_mirror (codes "lost")) (names (codes "prov"))
+
 -- one of these, and no words that ask for help
 abbrev pub commands : App
 commands = on_top (λ s. record s { no_binary_name = true; disable_help_flag = true; disable_help_subcommand = true; subcommand_required = true }) (new_app (codes "gmbench"))
@@ -59,7 +80,8 @@ commands = on_top (λ s. record s { no_binary_name = true; disable_help_flag = t
 -- the commands, in their order
 abbrev pub subcommands : List App
 subcommands = label ∷ insert ∷ on_component (codes "remove") ∷ on_component (codes "deactivate") ∷ on_component (codes "activate")
-    ∷ on_mirror (codes "forget") ∷ on_component (codes "rebuild") ∷ on_provider (codes "clear") ∷ on_mirror (codes "destroy") ∷ []
+    ∷ on_mirror (codes "forget") ∷ on_component (codes "rebuild") ∷ configure ∷ on_provider (codes "clear")
+    ∷ on_mirror (codes "destroy") ∷ lost ∷ []
 
 abbrev pub table : App
 table = fold (λ above more. with_subcommand above more.top) commands subcommands

@@ -13,7 +13,7 @@ use std::alloc::{AllocError, Global};
 use std::str;
 
 /// What a line asks of the bench.
-#[derive(Clone, Copy)]
+#[derive(Drop)]
 pub(crate) enum Request<'a> {
     /// Nothing: it has no pieces.
     Nothing,

@@ -5,8 +5,8 @@ ghost use Rattle.gm_state.specs.declared.command.Command.{Command};
 ghost use Rattle.gm_state.specs.Commands.{CommandFits, words};
 ghost use Rattle.gm_front.specs.Spelling.{HasNoFlags, guarded_words, spelled};
 
-/// The canonical words of a command spell it, where no name of it begins with a hyphen, and with `--` before the names
-/// whatever they are.
+/// The canonical words of a command spell it, where no name of it begins with a hyphen. Whatever its names are, so do the
+/// words with `--` before the names that stand by their places, and `--prov=` before the provider of a preference.
 pub fn canonical_words()
     ensures plain { (c : Command) → CommandFits c → HasNoFlags c → spelled (words c) ≡ Some c }
     ensures guarded { (c : Command) → CommandFits c → spelled (guarded_words c) ≡ Some c }

@@ -125,7 +125,7 @@ pub(crate) fn ask<'a, S: Alter, H: Shelf>(
     match *request {
         Request::Nothing => Outcome::Nothing,
         Request::Wrong(key) => Outcome::Wrong(key),
-        Request::Call(key, command) => match bench.run(alloc, key, &command) {
+        Request::Call(key, ref command) => match bench.run(alloc, key, command) {
             Ok(answer) => Outcome::Answered(key, answer),
             Err(fault) => Outcome::Failed(key, fault),
         },

@@ -3,7 +3,7 @@
 ghost use Rattle.std.specs.Prelude.{◌≡◌, IfOk, false};
 ghost use Rattle.clap.specs.Words.{app_of, rule_of, with_rule, with_subcommand};
 ghost use Rattle.clap.specs.declared.Command.TheViews.{out-Command};
-ghost use Rattle.gm_front.specs.Table.{commands, insert, label, name, on_component, on_mirror, on_provider, optional, table, wanted, with_mirror, with_provider};
+ghost use Rattle.gm_front.specs.Table.{commands, configure, insert, label, lost, name, names, on_component, on_mirror, on_provider, optional, possible, table, wanted, with_mirror, with_provider};
 
 use clap::{Arg, ArgAction, Command};
 use std::alloc::{AllocError, Global};
@@ -15,6 +15,15 @@ fn name<'a>(alloc: Global, id: &'a str) -> Arg<'a>
     ensures local { result.global ≡ false }
 {
     Arg::new(alloc, id).required(true).action(ArgAction::Set)
+}
+
+// One name or more, by their places: the last words.
+#[tactic(auto, unfolding(crate::specs::Table::names))]
+fn names<'a>(alloc: Global, id: &'a str) -> Arg<'a>
+    ensures rule { rule_of result ≡ names id.entry.now }
+    ensures local { result.global ≡ false }
+{
+    Arg::new(alloc, id).required(true).action(ArgAction::Append)
 }
 
 // An option that must be given.
@@ -39,6 +48,15 @@ fn optional<'a>(alloc: Global, id: &'a str, other: &'a str) -> Arg<'a>
         .long(id)
         .action(ArgAction::Set)
         .default_value(other)
+}
+
+// An option that may be left out, and has no value then.
+#[tactic(auto, unfolding(crate::specs::Table::possible))]
+fn possible<'a>(alloc: Global, id: &'a str) -> Arg<'a>
+    ensures rule { rule_of result ≡ possible id.entry.now }
+    ensures local { result.global ≡ false }
+{
+    Arg::new(alloc, id).long(id).action(ArgAction::Set)
 }
 
 // The command with one more argument.
@@ -120,6 +138,28 @@ fn insert<'a>(alloc: Global) -> Result<Command<'a>, AllocError>
     with_provider(alloc, with_mirror(alloc, command)?)
 }
 
+fn configure<'a>(alloc: Global) -> Result<Command<'a>, AllocError>
+    ensures app { IfOk result (λ c. app_of c ≡ configure) }
+    ensures local { IfOk result (λ c. (out-Command c).has_globals ≡ false) }
+{
+    let command = Command::new(alloc, "configure");
+    let command = with(command, possible(alloc, "balance"))?;
+    let command = with(command, possible(alloc, "slice"))?;
+    let command = with(command, possible(alloc, "autosync"))?;
+    let command = with(command, possible(alloc, "failsync"))?;
+    let command = with(command, possible(alloc, "hardcode"))?;
+    let command = with(command, possible(alloc, "prov"))?;
+    let command = with(command, possible(alloc, "priority"))?;
+    with_mirror(alloc, command)
+}
+
+fn lost<'a>(alloc: Global) -> Result<Command<'a>, AllocError>
+    ensures app { IfOk result (λ c. app_of c ≡ lost) }
+    ensures local { IfOk result (λ c. (out-Command c).has_globals ≡ false) }
+{
+    with(on_mirror(alloc, "lost")?, names(alloc, "prov"))
+}
+
 fn commands<'a>(alloc: Global) -> Command<'a>
     ensures app { app_of result ≡ commands }
     ensures local { (out-Command result).has_globals ≡ false }
@@ -153,6 +193,8 @@ pub(crate) fn table<'a>(alloc: Global) -> Result<Command<'a>, AllocError>
     let command = with_command(command, on_component(alloc, "activate")?)?;
     let command = with_command(command, on_mirror(alloc, "forget")?)?;
     let command = with_command(command, on_component(alloc, "rebuild")?)?;
+    let command = with_command(command, configure(alloc)?)?;
     let command = with_command(command, on_provider(alloc, "clear")?)?;
-    with_command(command, on_mirror(alloc, "destroy")?)
+    let command = with_command(command, on_mirror(alloc, "destroy")?)?;
+    with_command(command, lost(alloc)?)
 }

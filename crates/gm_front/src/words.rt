@@ -1,16 +1,16 @@
 //! The words of a command, as a shell would split them.
 
-ghost use Rattle.std.specs.Prelude.{◌≡◌, ◌≢◌, ◌^◌, [], Some, None, IfErr, IfOk, MatchOption, MatchResult, option_and_then};
+ghost use Rattle.std.specs.Prelude.{◌≡◌, ◌≢◌, ◌^◌, [], Some, None, IfErr, IfOk, MatchOption, MatchResult, option_and_then, option_map};
 ghost use Rattle.clap.specs.Words.{fault_of, found_of, kind_of, rows_of, subcommand_of, subcommand_rows_of};
-ghost use Rattle.clap.specs.Walk.{first_of, texts};
-ghost use Rattle.gm_front.specs.Spelling.{balance_at, balance_in, command_of, component_at, flags_at, insert_of, label_at, label_of, number_at, number_below, priority_at, slice_at, spelled, switch_at, switch_in};
+ghost use Rattle.clap.specs.Walk.{all_of, first_of, texts};
+ghost use Rattle.gm_front.specs.Spelling.{balance_at, balance_in, command_of, component_at, configure_of, flags_at, if_given, insert_of, label_at, label_of, lost_of, number_at, number_below, preference_in, priority_at, providers_at, providers_in, settings_at, slice_at, slice_in, spelled, switch_at, switch_in};
 ghost use Rattle.gm_front.specs.Table.{table};
 
 use crate::table::table;
 use clap::error::ErrorKind;
 use clap::{ArgMatches, Error};
 use gm_metadata::{Label, MirrorFlags};
-use gm_state::{BalanceWord, Command, Slice};
+use gm_state::{BalanceWord, Command, Preference, Providers, Settings, Slice};
 use std::alloc::{AllocError, Global};
 
 /// The words aren't those of a command; every cause is refusal 1.
@@ -51,6 +51,21 @@ fn priority(text: &str) -> Option<u8>
     ensures { result ≡ number_below (2 ^ 8) text.now }
 {
     text.parse::<u8>().ok()
+}
+
+// These texts as providers, where each is a label and there is one.
+#[tactic(auto, unfolding(crate::specs::Spelling::providers_in))]
+fn providers(alloc: Global, found: &[&str]) -> Result<Option<Providers>, AllocError>
+    ensures { IfOk result (λ r. r ≡ providers_in (texts found.now)) }
+{
+    let mut named = Vec::new(alloc);
+    for text in found {
+        let Some(provider) = Label::new(text) else {
+            return Ok(None);
+        };
+        named.push(provider)?;
+    }
+    Ok(Providers::new(named))
 }
 
 // What clap found for an option or a name.
@@ -115,6 +130,87 @@ fn flags_of(matches: &ArgMatches<'_>) -> Option<MirrorFlags>
     })
 }
 
+// What clap found for names that are providers.
+#[tactic(auto, unfolding(crate::specs::Spelling::providers_at))]
+fn providers_at(
+    alloc: Global,
+    matches: &ArgMatches<'_>,
+    id: &str,
+) -> Result<Option<Providers>, AllocError>
+    ensures { IfOk result (λ r. r ≡ providers_at id.now (rows_of (found_of matches.now))) }
+{
+    match matches.get_strs(id) {
+        Some(found) => providers(alloc, found),
+        None => Ok(None),
+    }
+}
+
+// The value of an option that may be left out: `Some(None)` where it was, `None` where it is none of its kind.
+#[tactic(auto, unfolding(crate::specs::Spelling::slice_in))]
+fn given_slice(matches: &ArgMatches<'_>, id: &str) -> Option<Option<Slice>>
+    ensures { result ≡ if_given slice_in (first_of id.now (rows_of (found_of matches.now))) }
+{
+    match text_at(matches, id) {
+        Some(text) => Some(Some(Slice::new(number(text)?)?)),
+        None => Some(None),
+    }
+}
+
+fn given_switch(matches: &ArgMatches<'_>, id: &str) -> Option<Option<bool>>
+    ensures { result ≡ if_given switch_in (first_of id.now (rows_of (found_of matches.now))) }
+{
+    match text_at(matches, id) {
+        Some(text) => Some(Some(switch(text)?)),
+        None => Some(None),
+    }
+}
+
+fn given_balance(matches: &ArgMatches<'_>, id: &str) -> Option<Option<BalanceWord>>
+    ensures { result ≡ if_given balance_in (first_of id.now (rows_of (found_of matches.now))) }
+{
+    match text_at(matches, id) {
+        Some(text) => Some(Some(balance(text)?)),
+        None => Some(None),
+    }
+}
+
+// A provider and its priority, or neither: one without the other is no command.
+#[tactic(auto, unfolding(crate::specs::Spelling::preference_in, crate::specs::Spelling::label_in))]
+fn given_preference(provider: Option<&str>, value: Option<&str>) -> Option<Option<Preference>>
+    ensures { result ≡ preference_in (option_map (λ t. t.now) provider.entry)
+        (option_map (λ t. t.now) value.entry) }
+{
+    match (provider, value) {
+        (Some(provider), Some(value)) => {
+            let provider = Label::new(provider)?;
+            let priority = priority(value)?;
+            Some(Some(Preference { provider, priority }))
+        }
+        (None, None) => Some(None),
+        _ => None,
+    }
+}
+
+#[tactic(auto, unfolding(crate::specs::Spelling::settings_at))]
+fn settings_at(matches: &ArgMatches<'_>) -> Option<Settings>
+    ensures { result ≡ settings_at (rows_of (found_of matches.now)) }
+{
+    let balance = given_balance(matches, "balance")?;
+    let slice = given_slice(matches, "slice")?;
+    let autosync = given_switch(matches, "autosync")?;
+    let failsync = given_switch(matches, "failsync")?;
+    let hardcode = given_switch(matches, "hardcode")?;
+    let preference = given_preference(text_at(matches, "prov"), text_at(matches, "priority"))?;
+    Some(Settings {
+        balance,
+        slice,
+        autosync,
+        failsync,
+        hardcode,
+        preference,
+    })
+}
+
 // The names that tell a component.
 #[derive(Clone, Copy, Debug)]
 struct ComponentNames {
@@ -171,37 +267,65 @@ fn insert_of(matches: &ArgMatches<'_>) -> Option<Command>
     })
 }
 
+#[tactic(auto, unfolding(crate::specs::Spelling::configure_of))]
+fn configure_of(matches: &ArgMatches<'_>) -> Option<Command>
+    ensures { result ≡ configure_of (rows_of (found_of matches.now)) }
+{
+    let name = label_at(matches, "name")?;
+    let settings = settings_at(matches)?;
+    Some(Command::Configure { name, settings })
+}
+
+#[tactic(auto, unfolding(crate::specs::Spelling::lost_of))]
+fn lost_of(alloc: Global, matches: &ArgMatches<'_>) -> Result<Option<Command>, AllocError>
+    ensures { IfOk result (λ r. r ≡ lost_of (rows_of (found_of matches.now))) }
+{
+    let Some(name) = label_at(matches, "name") else {
+        return Ok(None);
+    };
+    match providers_at(alloc, matches, "prov")? {
+        Some(providers) => Ok(Some(Command::Lost { name, providers })),
+        None => Ok(None),
+    }
+}
+
 // The command of this word, of which clap found these.
 #[tactic(auto, unfolding(crate::specs::Spelling::command_of))]
-fn command_of(word: &str, matches: &ArgMatches<'_>) -> Option<Command>
-    ensures { result ≡ command_of word.now (rows_of (found_of matches.now)) }
+fn command_of(
+    alloc: Global,
+    word: &str,
+    matches: &ArgMatches<'_>,
+) -> Result<Option<Command>, AllocError>
+    ensures { IfOk result (λ r. r ≡ command_of word.now (rows_of (found_of matches.now))) }
 {
     let component = component_at(matches);
     let name = label_at(matches, "name");
     let provider = label_at(matches, "prov");
     match word {
-        "label" => label_of(matches),
-        "insert" => insert_of(matches),
-        "remove" => component.map(|c| Command::Remove {
+        "label" => Ok(label_of(matches)),
+        "insert" => Ok(insert_of(matches)),
+        "remove" => Ok(component.map(|c| Command::Remove {
             name: c.name,
             provider: c.provider,
-        }),
-        "deactivate" => component.map(|c| Command::Deactivate {
+        })),
+        "deactivate" => Ok(component.map(|c| Command::Deactivate {
             name: c.name,
             provider: c.provider,
-        }),
-        "activate" => component.map(|c| Command::Activate {
+        })),
+        "activate" => Ok(component.map(|c| Command::Activate {
             name: c.name,
             provider: c.provider,
-        }),
-        "forget" => name.map(|name| Command::Forget { name }),
-        "rebuild" => component.map(|c| Command::Rebuild {
+        })),
+        "forget" => Ok(name.map(|name| Command::Forget { name })),
+        "rebuild" => Ok(component.map(|c| Command::Rebuild {
             name: c.name,
             provider: c.provider,
-        }),
-        "clear" => provider.map(|provider| Command::Clear { provider }),
-        "destroy" => name.map(|name| Command::Destroy { name }),
-        _ => None,
+        })),
+        "configure" => Ok(configure_of(matches)),
+        "clear" => Ok(provider.map(|provider| Command::Clear { provider })),
+        "destroy" => Ok(name.map(|name| Command::Destroy { name })),
+        "lost" => lost_of(alloc, matches),
+        _ => Ok(None),
     }
 }
 
@@ -217,13 +341,13 @@ fn parsed<'a>(alloc: Global, words: &'a [&'a str]) -> Result<ArgMatches<'a>, Err
 }
 
 // The command that clap found, where each value is one of its kind.
-fn command_found(matches: &ArgMatches<'_>) -> Option<Command>
-    ensures { result
-        ≡ option_and_then (λ p. command_of p.0 p.1) (subcommand_rows_of matches.now) }
+fn command_found(alloc: Global, matches: &ArgMatches<'_>) -> Result<Option<Command>, AllocError>
+    ensures { IfOk result (λ r. r
+        ≡ option_and_then (λ p. command_of p.0 p.1) (subcommand_rows_of matches.now)) }
 {
     match matches.subcommand() {
-        Some((name, own)) => command_of(name, own),
-        None => None,
+        Some((name, own)) => command_of(alloc, name, own),
+        None => Ok(None),
     }
 }
 
@@ -234,7 +358,7 @@ pub fn read_words(alloc: Global, words: &[&str]) -> Result<Result<Command, Words
         (λ _. spelled (texts words.now) ≡ None)) }
 {
     match parsed(alloc, words) {
-        Ok(matches) => Ok(command_found(&matches).ok_or(WordsFault)),
+        Ok(matches) => Ok(command_found(alloc, &matches)?.ok_or(WordsFault)),
         Err(e) => match e.kind() {
             ErrorKind::OutOfMemory => Err(AllocError),
             _ => Ok(Err(WordsFault)),

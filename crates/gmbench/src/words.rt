@@ -34,10 +34,13 @@ const LINES: &str =
   KEY activate NAME PROV
   KEY forget NAME
   KEY rebuild NAME PROV
+  KEY configure [--balance B] [--slice N] [--autosync S] [--failsync S] [--hardcode S]
+      [--prov PROV --priority P] NAME
   KEY clear PROV
   KEY destroy NAME
-B is load, prefer, round-robin or split, and S is on or off. Without options: --balance load,
---slice 4096, --autosync on, --failsync on, --hardcode off, --priority 0.
+  KEY lost NAME PROV..
+B is load, prefer, round-robin or split, and S is on or off. Where label and insert aren't given
+them: --balance load, --slice 4096, --autosync on, --failsync on, --hardcode off, --priority 0.
 
 Each line is answered before the next is read:
   KEY ok SEQ        done, and kept under this number

@@ -40,6 +40,9 @@ fn must_refuse(rt: &HostRuntime, line: &str) -> Result<(), Fail> {
 const LABEL: &str =
     "label --mid 7 --did 1 --balance load --slice 4096 --autosync on --failsync on --hardcode off gm0 a.img";
 
+const CONFIGURE: &str =
+    "configure --balance split --slice 512 --autosync off --failsync on --hardcode on --prov a.img --priority 255 gm0";
+
 // Words that are canonical spell the command that they are the words of.
 #[test]
 fn canonical_words(rt: HostRuntime) -> Result<(), Fail> {
@@ -55,9 +58,11 @@ fn canonical_words(rt: HostRuntime) -> Result<(), Fail> {
         "activate gm0 a.img",
         "forget gm0",
         "rebuild gm0 a.img",
+        CONFIGURE,
         "clear a.img",
         "destroy gm0",
         "destroy -",
+        "lost gm0 b.img",
     ];
     for line in lines {
         must_spell(&rt, line, line)?;
@@ -89,20 +94,19 @@ fn other_words_of_one_command(rt: HostRuntime) -> Result<(), Fail> {
     must_spell(&rt, "remove label help", "remove label help")
 }
 
-// Behind the word of a command, words that are as good as its canonical names, and words that spell nothing.
-fn must_take(
-    rt: &HostRuntime,
-    command: &str,
-    names: &str,
-    alike: &[&str],
-    wrong: &[&str],
-) -> Result<(), Fail> {
+// Behind the word of a command, words that are as good as its canonical names.
+fn must_take(rt: &HostRuntime, command: &str, names: &str, alike: &[&str]) -> Result<(), Fail> {
     let canonical = format!(in rt.alloc(); "{command} {names}")?;
     must_spell(rt, canonical.as_str(), canonical.as_str())?;
     for other in alike {
         let line = format!(in rt.alloc(); "{command} {other}")?;
         must_spell(rt, line.as_str(), canonical.as_str())?;
     }
+    Ok(())
+}
+
+// Behind the word of a command, words that spell nothing.
+fn must_refuse_all(rt: &HostRuntime, command: &str, wrong: &[&str]) -> Result<(), Fail> {
     for other in wrong {
         let line = format!(in rt.alloc(); "{command} {other}")?;
         must_refuse(rt, line.as_str())?;
@@ -126,8 +130,9 @@ fn commands_on_a_component(rt: HostRuntime) -> Result<(), Fail> {
         "gm0 sixteen-letters-",
     ];
     for command in ["remove", "deactivate", "activate", "rebuild"] {
-        must_take(&rt, command, "gm0 a.img", &alike, &wrong)?;
-        must_take(&rt, command, "gm0 help", &[], &[])?;
+        must_take(&rt, command, "gm0 a.img", &alike)?;
+        must_take(&rt, command, "gm0 help", &[])?;
+        must_refuse_all(&rt, command, &wrong)?;
     }
     Ok(())
 }
@@ -144,10 +149,106 @@ fn commands_on_a_mirror(rt: HostRuntime) -> Result<(), Fail> {
         "sixteen-letters-",
     ];
     for command in ["forget", "destroy"] {
-        must_take(&rt, command, "gm0", &["-- gm0", "gm0 --"], &wrong)?;
-        must_take(&rt, command, "fifteen-letters", &[], &[])?;
+        must_take(&rt, command, "gm0", &["-- gm0", "gm0 --"])?;
+        must_take(&rt, command, "fifteen-letters", &[])?;
+        must_refuse_all(&rt, command, &wrong)?;
     }
     Ok(())
+}
+
+// Each option of configure alone, none, and all at once, in any order.
+#[test]
+fn options_that_may_be_left_out(rt: HostRuntime) -> Result<(), Fail> {
+    let lines = [
+        "gm0",
+        "--balance load gm0",
+        "--slice 1 gm0",
+        "--autosync on gm0",
+        "--failsync off gm0",
+        "--hardcode off gm0",
+        "--prov a.img --priority 0 gm0",
+        "--slice 4294967295 --failsync on gm0",
+    ];
+    for line in lines {
+        must_take(&rt, "configure", line, &[])?;
+    }
+    let alike = [
+        "gm0 --balance load --slice 1",
+        "--slice 1 gm0 --balance load",
+        "--slice=1 --balance=load gm0",
+        "--slice +01 --balance load -- gm0",
+    ];
+    must_take(&rt, "configure", "--balance load --slice 1 gm0", &alike)?;
+    let backwards = [
+        "--priority 255 --prov a.img --hardcode on --failsync on --autosync off --slice 512 --balance split gm0",
+    ];
+    must_take(
+        &rt,
+        "configure",
+        "--balance split --slice 512 --autosync off --failsync on --hardcode on --prov a.img --priority 255 gm0",
+        &backwards,
+    )?;
+    let hyphen = "configure --prov -a.img --priority 1 gm0";
+    must_spell(&rt, "configure --prov=-a.img --priority 1 gm0", hyphen)?;
+    must_refuse(&rt, hyphen)
+}
+
+#[test]
+fn options_that_configure_refuses(rt: HostRuntime) -> Result<(), Fail> {
+    let wrong = [
+        "",
+        "--balance load",
+        "gm0 gm1",
+        "gm/0",
+        "-gm0",
+        "--prov a.img gm0",
+        "--priority 1 gm0",
+        "--prov a.img --priority 256 gm0",
+        "--prov a.img --priority -1 gm0",
+        "--prov a/img --priority 1 gm0",
+        "--slice 0 gm0",
+        "--slice 4294967296 gm0",
+        "--slice= gm0",
+        "--balance none gm0",
+        "--autosync maybe gm0",
+        "--failsync ON gm0",
+        "--hardcode true gm0",
+        "--balance load --balance load gm0",
+        "--prov a.img --prov b.img --priority 1 gm0",
+        "--autosync gm0",
+        "--mid 7 gm0",
+        "--help gm0",
+    ];
+    must_refuse_all(&rt, "configure", &wrong)
+}
+
+#[test]
+fn providers_in_a_row(rt: HostRuntime) -> Result<(), Fail> {
+    must_take(
+        &rt,
+        "lost",
+        "gm0 b.img",
+        &["-- gm0 b.img", "gm0 -- b.img", "gm0 b.img --"],
+    )?;
+    must_take(&rt, "lost", "gm0 b.img b.img", &[])?;
+    must_take(&rt, "lost", "gm0 b.img a.img", &["gm0 b.img -- a.img"])?;
+    must_take(&rt, "lost", "gm0 lost c.img help a.img", &[])?;
+    must_spell(&rt, "lost -- gm0 -b.img --", "lost gm0 -b.img --")?;
+    let wrong = [
+        "",
+        "gm0",
+        "gm0 b/img",
+        "gm0 b.img a/img",
+        "gm0 b.img sixteen-letters-",
+        "gm/0 b.img",
+        "gm0 -b.img",
+        "gm0 b.img -a.img",
+        "-gm0 b.img",
+        "gm0 b.img --hardcode on",
+        "--prov b.img gm0",
+        "gm0 b.img --help",
+    ];
+    must_refuse_all(&rt, "lost", &wrong)
 }
 
 #[test]

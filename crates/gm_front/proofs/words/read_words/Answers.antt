@@ -7,7 +7,7 @@ pub returns-in-Ok : goal.returns-in-Ok
 returns-in-Ok c =
     let words = texts c.args.words.now in
     answered _ _ (spelled_by words c.in-Ok.matches c.in-Ok.ensures.taken c.in-Ok.ensures.rows
-    ∙ (sym c.command_found.ensures ∙ c.ok_or.ensures.ok_part))
+    ∙ (sym c.in_ok-command_found-in-Ok.ensures ∙ c.ok_or.ensures.ok_part))
 
 -- another error than want of memory tells a fault of the words
 pub returns : goal.returns
