@@ -13,7 +13,7 @@ mod store;
 use gm_bench::{Answer, Bench, BenchFault, OpenFault, Phase};
 use gm_metadata::{Balance, DiskFlags, Label, Metadata, MirrorFlags, encode};
 use gm_shelf::{MemShelf, Shelf};
-use gm_state::{BalanceWord, Command, Slice, State};
+use gm_state::{BalanceWord, Command, Providers, Settings, Slice, State};
 use sqlite::{Alter, Connection, MemStore};
 use std::alloc::Global;
 use std::test::Fail;
@@ -21,6 +21,16 @@ use std::test::Fail;
 const NO_FLAGS: MirrorFlags = MirrorFlags {
     no_autosync: false,
     no_failsync: false,
+};
+
+// Another balance, and nothing else.
+const SPLIT: Settings = Settings {
+    balance: Some(BalanceWord::Split),
+    slice: None,
+    autosync: None,
+    failsync: None,
+    hardcode: None,
+    preference: None,
 };
 
 const IN_SYNC: DiskFlags = DiskFlags {
@@ -107,6 +117,28 @@ fn activates(name: &str, provider: &str) -> Result<Command, Fail> {
 fn rebuilds(name: &str, provider: &str) -> Result<Command, Fail> {
     Ok(Command::Rebuild {
         name: label(name)?,
+        provider: label(provider)?,
+    })
+}
+
+fn configures(name: &str, settings: Settings) -> Result<Command, Fail> {
+    Ok(Command::Configure {
+        name: label(name)?,
+        settings,
+    })
+}
+
+// One component that is lost.
+fn loses(alloc: Global, name: &str, provider: &str) -> Result<Command, Fail> {
+    let named = Vec::from_slice(alloc, &[label(provider)?])?;
+    Ok(Command::Lost {
+        name: label(name)?,
+        providers: Providers::new(named).ok_or("no provider")?,
+    })
+}
+
+fn clears(provider: &str) -> Result<Command, Fail> {
+    Ok(Command::Clear {
         provider: label(provider)?,
     })
 }

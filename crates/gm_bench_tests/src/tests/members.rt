@@ -1,12 +1,12 @@
 //! A second component that comes and goes, also over an opening and where its image is away, or its record.
 
 use super::{
-    IN_SYNC, SYNCHRONIZING, accept, add, destroys, forgets, inserts, label, labels, memory,
-    metadata, must, must_keep_data, must_say, open, removes, run, sector, shelf, try_open,
-    try_view,
+    IN_SYNC, INACTIVE, SYNCHRONIZING, accept, activates, add, deactivates, destroys, forgets,
+    inserts, label, labels, loses, memory, metadata, must, must_keep_data, must_say, open,
+    rebuilds, removes, run, sector, shelf, try_open, try_view,
 };
 use gm_bench::{Answer, Bench, BenchFault};
-use gm_metadata::Metadata;
+use gm_metadata::{Metadata, encode};
 use gm_rules::{CallRefusal, Refusal};
 use gm_shelf::{MemShelf, Shelf};
 use gm_state::{Command, Reply};
@@ -183,29 +183,104 @@ fn is_refused<S: Alter, H: Shelf>(
     must(answer == refused, "not refused so")
 }
 
-// The record of b.img is dropped by a statement of somebody else's, so that it is lost. It is forgotten once.
-fn is_forgotten<S: Alter + Drop, H: Shelf + Drop>(
+// gm0 on a.img and b.img after three commands, of which both are in sync: the copy is made by a statement and a write of
+// somebody else's.
+fn in_sync<S: Alter + Drop, H: Shelf + Drop>(
+    alloc: Global,
+    store: Connection<S>,
+    shelf: H,
+) -> Result<(Connection<S>, H), Fail> {
+    let mut bench = of_two(alloc, store, shelf)?;
+    run(alloc, &mut bench, "k3", &rebuilds("gm0", "b.img")?)?;
+    let (mut store, mut shelf) = bench.close();
+    store.execute("UPDATE components SET dflags = 0 WHERE prov = 'b.img'", &[])?;
+    let second = label("b.img")?;
+    shelf.write(second, 3, &encode(&metadata(2, 2, IN_SYNC)?))?;
+    shelf.sync(second)?;
+    Ok((store, shelf))
+}
+
+fn is_done<S: Alter, H: Shelf>(
+    alloc: Global,
+    bench: &mut Bench<S, H>,
+    key: &str,
+    command: &Command,
+    number: u64,
+) -> Result<(), Fail> {
+    let answer = run(alloc, bench, key, command)?;
+    must(answer == Answer::Done(number, Reply::Plain), "not done")
+}
+
+fn goes_and_comes_back<S: Alter + Drop, H: Shelf + Drop>(
     alloc: Global,
     store: Connection<S>,
     shelf: H,
 ) -> Result<(), Fail> {
-    let (mut store, shelf) = of_two(alloc, store, shelf)?.close();
-    store.execute("DELETE FROM components WHERE prov = 'b.img'", &[])?;
+    let (store, shelf) = in_sync(alloc, store, shelf)?;
     let mut bench = open(alloc, store, shelf)?;
-    let remove = removes("gm0", "a.img")?;
-    let forget = forgets("gm0")?;
-    is_refused(alloc, &mut bench, &remove, Refusal::SomeLost)?;
-    let answer = run(alloc, &mut bench, "k3", &forget)?;
-    must(answer == Answer::Done(3, Reply::Plain), "not forgotten")?;
-    is_refused(alloc, &mut bench, &forget, Refusal::NoneLost)?;
-    is_refused(alloc, &mut bench, &remove, Refusal::LastActive)?;
+    is_done(alloc, &mut bench, "k4", &deactivates("gm0", "b.img")?, 4)?;
+    let (store, mut shelf) = bench.close();
+    let first = Metadata {
+        syncid: 2,
+        ..metadata(1, 2, IN_SYNC)?
+    };
+    must_hold(&mut shelf, Some(first), Some(metadata(2, 2, INACTIVE)?))?;
+    let mut bench = open(alloc, store, shelf)?;
+    is_done(alloc, &mut bench, "k5", &activates("gm0", "b.img")?, 5)?;
     let (_, mut shelf) = bench.close();
-    let first = metadata(1, 1, IN_SYNC)?;
-    let second = metadata(2, 2, SYNCHRONIZING)?;
+    let second = Metadata {
+        syncid: 2,
+        ..metadata(2, 2, SYNCHRONIZING)?
+    };
     must_hold(&mut shelf, Some(first), Some(second))
 }
 
 #[test]
-fn a_lost_component_is_forgotten(rt: HostRuntime) -> Result<(), Fail> {
-    is_forgotten(rt.alloc(), memory(rt.alloc())?, shelf(rt.alloc())?)
+fn an_active_component_goes_out_of_use_and_comes_back(rt: HostRuntime) -> Result<(), Fail> {
+    goes_and_comes_back(rt.alloc(), memory(rt.alloc())?, shelf(rt.alloc())?)
+}
+
+// Refused once b.img is lost, and then taken.
+fn is_forgotten_once<S: Alter, H: Shelf>(
+    alloc: Global,
+    bench: &mut Bench<S, H>,
+) -> Result<(), Fail> {
+    let remove = removes("gm0", "a.img")?;
+    let forget = forgets("gm0")?;
+    is_refused(alloc, bench, &remove, Refusal::SomeLost)?;
+    is_done(alloc, bench, "k5", &forget, 5)?;
+    is_refused(alloc, bench, &forget, Refusal::NoneLost)?;
+    is_refused(alloc, bench, &remove, Refusal::LastActive)
+}
+
+// b.img is lost while its image is away: it is neither waited for nor touched.
+fn is_lost<S: Alter + Drop, H: Shelf + Drop>(
+    alloc: Global,
+    store: Connection<S>,
+    shelf: H,
+) -> Result<(), Fail> {
+    let (store, mut shelf) = in_sync(alloc, store, shelf)?;
+    let away = without_second(alloc, &mut shelf)?;
+    let mut bench = open(alloc, store, away)?;
+    let lost = loses(alloc, "gm0", "b.img")?;
+    is_refused(alloc, &mut bench, &forgets("gm0")?, Refusal::Absent)?;
+    is_done(alloc, &mut bench, "k4", &lost, 4)?;
+    is_refused(alloc, &mut bench, &lost, Refusal::NotMember)?;
+    let (store, mut away) = bench.close();
+    let first = Metadata {
+        genid: 1,
+        ..metadata(1, 2, IN_SYNC)?
+    };
+    must_say(&mut away, "a.img", Some(first))?;
+    let mut bench = open(alloc, store, away)?;
+    is_forgotten_once(alloc, &mut bench)?;
+    let (_, mut away) = bench.close();
+    must_say(&mut away, "a.img", Some(Metadata { all: 1, ..first }))?;
+    must_keep_data(&mut away, "a.img")?;
+    must_say(&mut shelf, "b.img", Some(metadata(2, 2, IN_SYNC)?))
+}
+
+#[test]
+fn an_image_that_is_away_is_lost_and_forgotten(rt: HostRuntime) -> Result<(), Fail> {
+    is_lost(rt.alloc(), memory(rt.alloc())?, shelf(rt.alloc())?)
 }

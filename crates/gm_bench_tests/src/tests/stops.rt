@@ -1,10 +1,11 @@
-//! A script of seven commands that stops at each of its calls in turn, and what an opening then finds, against a model
+//! A script of all commands that stops at each of its calls in turn, and what an opening then finds, against a model
 //! that is written down.
 
 use super::{
-    FORCED, IN_SYNC, INACTIVE, NO_FLAGS, SYNCHRONIZING, activates, deactivates, destroys, inserts,
-    label, labels, memory, metadata, must, must_be, must_keep_data, open, rebuilds, removes, run,
-    shelf, try_accept, try_apply, try_last, try_settle, try_view,
+    FORCED, IN_SYNC, INACTIVE, NO_FLAGS, SPLIT, SYNCHRONIZING, activates, clears, configures,
+    deactivates, destroys, forgets, inserts, label, labels, loses, memory, metadata, must, must_be,
+    must_keep_data, open, rebuilds, removes, run, shelf, try_accept, try_apply, try_last,
+    try_settle, try_view,
 };
 use gm_bench::{Answer, Bench, BenchFault, Phase};
 use gm_metadata::{Balance, DiskFlags, Metadata};
@@ -16,9 +17,9 @@ use std::alloc::Global;
 use std::test::Fail;
 
 // Each command is accepted, carried out and settled.
-const CALLS: u64 = 21;
+const CALLS: u64 = 36;
 // A script is over long before it makes so many calls of the shelf.
-const MANY: u64 = 200;
+const MANY: u64 = 300;
 
 // The key of the command at this place of the script, counted from 0, and of two that aren't in it.
 fn key_at(place: u64) -> &'static str {
@@ -31,19 +32,28 @@ fn key_at(place: u64) -> &'static str {
         5 => "k6",
         6 => "k7",
         7 => "k8",
-        _ => "k9",
+        8 => "k9",
+        9 => "k10",
+        10 => "k11",
+        11 => "k12",
+        12 => "k13",
+        _ => "k14",
     }
 }
 
-fn command_at(place: u64) -> Result<Command, Fail> {
+fn command_at(alloc: Global, place: u64) -> Result<Command, Fail> {
     match place {
         0 => labels("gm0", "a.img", 7),
-        1 => inserts("gm0", "b.img", 2),
+        1 | 7 => inserts("gm0", "b.img", 2),
         2 => deactivates("gm0", "b.img"),
         3 => activates("gm0", "b.img"),
         4 => rebuilds("gm0", "b.img"),
-        5 => removes("gm0", "b.img"),
-        6 => destroys("gm0"),
+        5 => configures("gm0", SPLIT),
+        6 => removes("gm0", "b.img"),
+        8 => loses(alloc, "gm0", "b.img"),
+        9 => forgets("gm0"),
+        10 => clears("b.img"),
+        11 => destroys("gm0"),
         _ => Err("the script is over")?,
     }
 }
@@ -51,7 +61,7 @@ fn command_at(place: u64) -> Result<Command, Fail> {
 // How many sectors the command at this place asks for.
 fn asked_at(place: u64) -> u64 {
     match place {
-        1 | 2 | 5 => 2,
+        1 | 2 | 5 | 6 | 7 => 2,
         _ => 1,
     }
 }
@@ -74,12 +84,30 @@ struct Second {
 }
 
 // What there is after some commands of the script: how many components the mirror counts, 0 where there is none, its
-// count of syncs, and its second component.
+// counts of losses and of syncs, whether it is set otherwise, and its second component.
 #[derive(Clone, Copy)]
 struct Model {
     all: u8,
+    genid: u32,
     syncid: u32,
+    is_set: bool,
     second: Option<Second>,
+}
+
+const NO_MIRROR: Model = Model {
+    all: 0,
+    genid: 0,
+    syncid: 0,
+    is_set: false,
+    second: None,
+};
+
+fn model_of_one(syncid: u32) -> Model {
+    Model {
+        all: 1,
+        syncid,
+        ..NO_MIRROR
+    }
 }
 
 fn model_of_two(syncid: u32, second: Second) -> Model {
@@ -87,6 +115,23 @@ fn model_of_two(syncid: u32, second: Second) -> Model {
         all: 2,
         syncid,
         second: Some(second),
+        ..NO_MIRROR
+    }
+}
+
+fn set(model: Model) -> Model {
+    Model {
+        is_set: true,
+        ..model
+    }
+}
+
+// One component is left, of so many that the mirror counts.
+fn model_of_a_loss(all: u8) -> Model {
+    Model {
+        all,
+        genid: 1,
+        ..set(model_of_one(2))
     }
 }
 
@@ -104,40 +149,53 @@ fn second_in(syncid: u32, disk: Disk, flags: DiskFlags) -> Second {
 
 fn model_after(commands: u64) -> Model {
     match commands {
+        1 => model_of_one(1),
         2 => model_of_two(1, second_in(1, copying(false), SYNCHRONIZING)),
         3 => model_of_two(2, second_in(1, Disk::Inactive, INACTIVE)),
         4 => model_of_two(2, second_in(2, copying(false), SYNCHRONIZING)),
         5 => model_of_two(2, second_in(2, copying(true), FORCED)),
-        1 | 6 => Model {
-            all: 1,
-            syncid: if commands == 1 { 1 } else { 2 },
-            second: None,
-        },
-        _ => Model {
-            all: 0,
-            syncid: 0,
-            second: None,
-        },
+        6 => set(model_of_two(2, second_in(2, copying(true), FORCED))),
+        7 => set(model_of_one(2)),
+        8 => set(model_of_two(2, second_in(2, copying(false), SYNCHRONIZING))),
+        9 => model_of_a_loss(2),
+        10 | 11 => model_of_a_loss(1),
+        _ => NO_MIRROR,
     }
 }
 
-// What the last sector of a.img says.
-fn first_said(model: Model) -> Result<Option<Metadata>, Fail> {
+fn balance_of(model: Model) -> Balance {
+    if model.is_set {
+        Balance::Split
+    } else {
+        Balance::Load
+    }
+}
+
+// What the last sector of a.img says after so many commands.
+fn first_said(commands: u64) -> Result<Option<Metadata>, Fail> {
+    let model = model_after(commands);
     if model.all == 0 {
         return Ok(None);
     }
     Ok(Some(Metadata {
+        genid: model.genid,
         syncid: model.syncid,
+        balance: balance_of(model),
         ..metadata(1, model.all, IN_SYNC)?
     }))
 }
 
-// What that of b.img says.
-fn second_said(model: Model) -> Result<Option<Metadata>, Fail> {
+// What that of b.img says. The image of a lost component isn't touched until it is cleared.
+fn second_said(commands: u64) -> Result<Option<Metadata>, Fail> {
+    let model = match commands {
+        9 | 10 => model_after(8),
+        _ => model_after(commands),
+    };
     match model.second {
         None => Ok(None),
         Some(second) => Ok(Some(Metadata {
             syncid: second.syncid,
+            balance: balance_of(model),
             ..metadata(2, model.all, second.flags)?
         })),
     }
@@ -148,10 +206,10 @@ fn mirror(model: Model) -> Result<Mirror, Fail> {
         name: label("gm0")?,
         mid: 7,
         all: model.all,
-        genid: 0,
+        genid: model.genid,
         syncid: model.syncid,
         slice: 4096,
-        balance: Balance::Load,
+        balance: balance_of(model),
         data_sectors: 3,
         flags: NO_FLAGS,
     })
@@ -208,14 +266,13 @@ fn must_be_after<S: Alter, H: Shelf>(
     bench: &mut Bench<S, H>,
     commands: u64,
 ) -> Result<(), Fail> {
-    let model = model_after(commands);
-    must_view(alloc, bench, model)?;
-    must_have_last(bench, "a.img", first_said(model)?)?;
-    must_have_last(bench, "b.img", second_said(model)?)?;
+    must_view(alloc, bench, model_after(commands))?;
+    must_have_last(bench, "a.img", first_said(commands)?)?;
+    must_have_last(bench, "b.img", second_said(commands)?)?;
     must_have_last(bench, "c.img", None)?;
     for number in 1..=commands {
         let place = number.saturating_sub(1);
-        let again = run(alloc, bench, key_at(place), &command_at(place)?)?;
+        let again = run(alloc, bench, key_at(place), &command_at(alloc, place)?)?;
         must(
             again == Answer::Repeated(number, Reply::Plain),
             "not repeated",
@@ -270,7 +327,7 @@ fn step<S: Alter, H: Shelf>(
 ) -> Result<Result<bool, BenchFault>, Fail> {
     match bench.phase() {
         Phase::Ready => {
-            match try_accept(alloc, bench, key_at(done), &command_at(done)?)? {
+            match try_accept(alloc, bench, key_at(done), &command_at(alloc, done)?)? {
                 Ok(answer) => {
                     let number = done.saturating_add(1);
                     must(answer == Answer::Done(number, Reply::Plain), "not accepted")?;

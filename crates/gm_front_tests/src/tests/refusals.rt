@@ -49,7 +49,7 @@ fn images(alloc: Global) -> Result<MemShelf, Fail> {
 }
 
 // On a bench with gm0 on a.img and b.img. No image is d.img.
-const REFUSALS: [(&str, &str); 22] = [
+const REFUSALS: [(&str, &str); 30] = [
     ("k3 insert --did 3 gm1 c.img", "k3 refused 5\n"),
     ("k3 insert --did 3 gm1 d.img", "k3 refused 5\n"),
     ("k3 remove gm1 a.img", "k3 refused 5\n"),
@@ -72,6 +72,20 @@ const REFUSALS: [(&str, &str); 22] = [
     ("k3 remove gm0 a.img", "k3 refused 17\n"),
     ("k3 label --mid 8 --did 1 gm1 one.img", "k3 refused 28\n"),
     ("k3 clear c.img", "k3 refused 29\n"),
+    ("k3 configure --hardcode on gm1", "k3 refused 5\n"),
+    (
+        "k3 configure --prov d.img --priority 5 gm0",
+        "k3 refused 8\n",
+    ),
+    (
+        "k3 configure --prov c.img --priority 5 gm0",
+        "k3 refused 12\n",
+    ),
+    ("k3 configure gm0", "k3 refused 25\n"),
+    ("k3 lost gm1 d.img", "k3 refused 5\n"),
+    ("k3 lost gm0 c.img", "k3 refused 12\n"),
+    ("k3 lost gm0 b.img b.img", "k3 refused 12\n"),
+    ("k3 lost gm0 b.img a.img", "k3 refused 17\n"),
 ];
 
 // The key is still free behind them all.

@@ -28,7 +28,7 @@ const SAME: [&str; 16] = [
 ];
 
 // Other commands.
-const OTHERS: [&str; 26] = [
+const OTHERS: [&str; 29] = [
     "label --mid 8 --did 1 gm0 a.img",
     "label --mid 0 --did 1 gm0 a.img",
     "label --mid 4294967295 --did 1 gm0 a.img",
@@ -55,10 +55,13 @@ const OTHERS: [&str; 26] = [
     "remove gm0 a.img",
     "clear a.img",
     "destroy gm0",
+    "configure gm0",
+    "configure --hardcode on --prov a.img --priority 255 gm0",
+    "lost gm0 a.img a.img",
 ];
 
 // Numbers that are none of their kind.
-const NO_NUMBERS: [&str; 22] = [
+const NO_NUMBERS: [&str; 24] = [
     "label --mid 4294967296 --did 1 gm0 a.img",
     "label --mid 7 --did 4294967296 gm0 a.img",
     "label --mid 7 --did 18446744073709551617 gm0 a.img",
@@ -81,10 +84,12 @@ const NO_NUMBERS: [&str; 22] = [
     "label --mid 7.0 --did 1 gm0 a.img",
     "label --mid 1e1 --did 1 gm0 a.img",
     "label --mid \u{667} --did 1 gm0 a.img",
+    "configure --slice 0 gm0",
+    "configure --prov a.img --priority 256 gm0",
 ];
 
 // Words that are none of a command.
-const NO_WORDS: [&str; 33] = [
+const NO_WORDS: [&str; 40] = [
     "label --mid 7 gm0 a.img",
     "label --did 1 gm0 a.img",
     "label --mid 7 --did 1 gm0",
@@ -118,6 +123,13 @@ const NO_WORDS: [&str; 33] = [
     "destroy gm0 gm1",
     "destroy --help",
     "destroy gm0 -",
+    "configure",
+    "configure --prov a.img gm0",
+    "configure --priority 3 gm0",
+    "configure --balance none gm0",
+    "configure --balance load --balance load gm0",
+    "lost gm0",
+    "lost gm0 --hardcode on",
 ];
 
 fn each_is<S: Alter + Drop, H: Shelf + Drop>(
