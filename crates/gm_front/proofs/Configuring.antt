@@ -18,50 +18,53 @@ use Rattle.gm_front.specs.Spelling.{HasNoFlags, IsNoFlag, guarded_words, command
 use Rattle.gm_front.specs.Table.{configure, name, names, optional, possible, wanted}
 use Rattle.gm_front.proofs.Finding.{leaf, named}
 use Rattle.gm_front.proofs.Reading.{balance_no_flag, decimal_no_flag, switch_no_flag, label_read, settings_read}
-use Rattle.gm_front.proofs.Options.{AreOptions, Ends, IsApart, IsAttached, IsOption, Slot, Stands, all_new, apart, apart_option, attached, attached_option, begins, ends_by, first_in, first_use, found_in, found_more, given_or_none, given_words, held_fault, none_in, options_step, plain_more, said_in, said_told, value_at}
+use Rattle.gm_front.proofs.Options.{AreOptions, Ends, IsOption, Slot, Stands, all_new, apart, apart_option, attached, attached_option, begins, ends_by, first_in, first_use, found_in, found_more, given_or_none, given_words, held_fault, none_in, options_step, plain_more, said_in, said_told, value_at}
 use Rattle.gm_front.proofs.Rows.{added, added_new, given_last, row}
 use Rattle.gm_front.proofs.Walking.{ArePlain, begun, Has, Said, spelled_as, text_of, said_fault, said_walked}
 
-pub has_configure : Has (codes "configure") (leaf configure) configure_of
+has_configure : Has (codes "configure") (leaf configure) configure_of
 unfolding clap_on_literals name names optional possible wanted command_of
 has_configure = record { meets = refl; passes = refl; rows = λ behind. refl; faults = λ behind. refl; reads = λ found. refl }
 
 -- ---- its options
 
+-- what clap makes of the command
 abbrev s : Shape
 s = leaf configure
 
-balance_apart : IsApart s (codes "balance")
+balance_option : IsOption s (codes "balance") (apart (codes "balance"))
 unfolding clap_on_literals name possible
-balance_apart = record { walks = λ v h rest. refl; fails = λ v h rest. refl; settles = λ v h. refl; rows = λ v h. refl }
+balance_option = apart_option s (codes "balance") (record { walks = λ v h rest. refl; fails = λ v h rest. refl; settles = λ v h. refl; rows = λ v h. refl })
 
-slice_apart : IsApart s (codes "slice")
+slice_option : IsOption s (codes "slice") (apart (codes "slice"))
 unfolding clap_on_literals name possible
-slice_apart = record { walks = λ v h rest. refl; fails = λ v h rest. refl; settles = λ v h. refl; rows = λ v h. refl }
+slice_option = apart_option s (codes "slice") (record { walks = λ v h rest. refl; fails = λ v h rest. refl; settles = λ v h. refl; rows = λ v h. refl })
 
-autosync_apart : IsApart s (codes "autosync")
+autosync_option : IsOption s (codes "autosync") (apart (codes "autosync"))
 unfolding clap_on_literals name possible
-autosync_apart = record { walks = λ v h rest. refl; fails = λ v h rest. refl; settles = λ v h. refl; rows = λ v h. refl }
+autosync_option = apart_option s (codes "autosync") (record { walks = λ v h rest. refl; fails = λ v h rest. refl; settles = λ v h. refl; rows = λ v h. refl })
 
-failsync_apart : IsApart s (codes "failsync")
+failsync_option : IsOption s (codes "failsync") (apart (codes "failsync"))
 unfolding clap_on_literals name possible
-failsync_apart = record { walks = λ v h rest. refl; fails = λ v h rest. refl; settles = λ v h. refl; rows = λ v h. refl }
+failsync_option = apart_option s (codes "failsync") (record { walks = λ v h rest. refl; fails = λ v h rest. refl; settles = λ v h. refl; rows = λ v h. refl })
 
-hardcode_apart : IsApart s (codes "hardcode")
+hardcode_option : IsOption s (codes "hardcode") (apart (codes "hardcode"))
 unfolding clap_on_literals name possible
-hardcode_apart = record { walks = λ v h rest. refl; fails = λ v h rest. refl; settles = λ v h. refl; rows = λ v h. refl }
+hardcode_option = apart_option s (codes "hardcode") (record { walks = λ v h rest. refl; fails = λ v h rest. refl; settles = λ v h. refl; rows = λ v h. refl })
 
-provider_apart : IsApart s (codes "prov")
+priority_option : IsOption s (codes "priority") (apart (codes "priority"))
 unfolding clap_on_literals name possible
-provider_apart = record { walks = λ v h rest. refl; fails = λ v h rest. refl; settles = λ v h. refl; rows = λ v h. refl }
+priority_option = apart_option s (codes "priority") (record { walks = λ v h rest. refl; fails = λ v h rest. refl; settles = λ v h. refl; rows = λ v h. refl })
 
-provider_attached : IsAttached s (codes "prov")
-unfolding clap_on_literals name possible
-provider_attached = record { walks = λ v h rest. refl; fails = λ v h rest. refl }
+-- the words of a provider, which stands behind `=` where the names are guarded
+abbrev provider_words : Bool → Text → List Said
+provider_words false = apart (codes "prov")
+provider_words true = attached (codes "prov")
 
-priority_apart : IsApart s (codes "priority")
+provider_option : (guarded : Bool) → IsOption s (codes "prov") (provider_words guarded)
 unfolding clap_on_literals name possible
-priority_apart = record { walks = λ v h rest. refl; fails = λ v h rest. refl; settles = λ v h. refl; rows = λ v h. refl }
+provider_option false = apart_option s (codes "prov") (record { walks = λ v h rest. refl; fails = λ v h rest. refl; settles = λ v h. refl; rows = λ v h. refl })
+provider_option true = attached_option s (codes "prov") (record { walks = λ v h rest. refl; fails = λ v h rest. refl })
 
 -- ---- its name
 
@@ -108,11 +111,6 @@ name_ends guarded n h rows stands new =
 abbrev slot : Text → Option Text → Slot
 slot id value = record { id = id; words = apart id; value = value }
 
--- the words of a provider, which stands behind `=` where the names are guarded
-abbrev provider_words : Bool → Text → List Said
-provider_words false = apart (codes "prov")
-provider_words true = attached (codes "prov")
-
 -- the options other than the preference
 abbrev others : Settings → List Slot
 others settings =
@@ -127,24 +125,9 @@ slots guarded settings = others settings
     ++ record { id = codes "prov"; words = provider_words guarded; value = option_map (λ p. p.provider) settings.preference }
     ∷ slot (codes "priority") (option_map (λ p. decimal p.priority) settings.preference) ∷ []
 
-provider_option : (guarded : Bool) → IsOption s (codes "prov") (provider_words guarded)
-provider_option false = apart_option s (codes "prov") provider_apart
-provider_option true = attached_option s (codes "prov") provider_attached
-
 are_options : (guarded : Bool) (settings : Settings) → AreOptions s (slots guarded settings)
-are_options guarded settings = (
-  apart_option s (codes "balance") balance_apart,
-  (
-    apart_option s (codes "slice") slice_apart,
-    (
-      apart_option s (codes "autosync") autosync_apart,
-      (
-        apart_option s (codes "failsync") failsync_apart,
-        (apart_option s (codes "hardcode") hardcode_apart, (provider_option guarded, (apart_option s (codes "priority") priority_apart, tt))),
-      ),
-    ),
-  ),
-)
+are_options guarded settings =
+    (balance_option, (slice_option, (autosync_option, (failsync_option, (hardcode_option, (provider_option guarded, (priority_option, tt)))))))
 
 -- its own words
 abbrev said : Bool → Text → Settings → List Said

@@ -95,6 +95,7 @@ has_lost : Has (codes "lost") (leaf lost) lost_of
 unfolding clap_on_literals name names optional possible wanted command_of
 has_lost = record { meets = refl; passes = refl; rows = λ behind. refl; faults = λ behind. refl; reads = λ found. refl }
 
+-- what clap makes of the command
 abbrev s : Shape
 s = leaf lost
 
