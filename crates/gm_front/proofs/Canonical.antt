@@ -12,7 +12,7 @@ use Rattle.gm_state.specs.declared.command.BalanceWord.{BalanceWord}
 use Rattle.gm_state.specs.declared.command.Command.{Command}
 use Rattle.gm_state.specs.declared.command.Command.TheVariants.{Label, Insert, Remove, Deactivate, Activate, Forget, Rebuild, Configure, Clear, Destroy, Lost}
 use Rattle.gm_state.specs.Commands.{CommandFits, balance_of_word, on_where, words}
-use Rattle.gm_front.specs.Spelling.{HasNoFlags, IsNoFlag, command_of, guarded_words, insert_of, label_at, label_of, of_component, of_mirror, of_provider, spelled}
+use Rattle.gm_front.specs.Spelling.{HasNoFlags, IsNoFlag, command_of, guarded_words, insert_of, label_at, label_of, named_of, of_component, of_mirror, of_provider, spelled}
 use Rattle.gm_front.specs.Table.{insert, label, name, names, on_component, on_mirror, on_provider, optional, possible, wanted}
 use Rattle.gm_front.proofs.Configuring.{configure_canonical, configure_guarded}
 use Rattle.gm_front.proofs.Finding.{AreFound, Finds, component, found, leaf, named}
@@ -23,39 +23,39 @@ use Rattle.gm_front.proofs.Walking.{ArePlain, Has, Said, exact, plain, spelled_a
 -- ---- the table has each command
 
 has_label : Has (codes "label") (leaf label) label_of
-unfolding clap_on_literals name names optional possible wanted command_of
+unfolding clap_on_literals name names optional possible wanted command_of named_of
 has_label = record { meets = refl; passes = refl; rows = λ behind. refl; faults = λ behind. refl; reads = λ found. refl }
 
 has_insert : Has (codes "insert") (leaf insert) insert_of
-unfolding clap_on_literals name names optional possible wanted command_of
+unfolding clap_on_literals name names optional possible wanted command_of named_of
 has_insert = record { meets = refl; passes = refl; rows = λ behind. refl; faults = λ behind. refl; reads = λ found. refl }
 
 has_remove : Has (codes "remove") (leaf (on_component (codes "remove"))) (of_component Remove)
-unfolding clap_on_literals name names optional possible wanted command_of
+unfolding clap_on_literals name names optional possible wanted command_of named_of
 has_remove = record { meets = refl; passes = refl; rows = λ behind. refl; faults = λ behind. refl; reads = λ found. refl }
 
 has_deactivate : Has (codes "deactivate") (leaf (on_component (codes "deactivate"))) (of_component Deactivate)
-unfolding clap_on_literals name names optional possible wanted command_of
+unfolding clap_on_literals name names optional possible wanted command_of named_of
 has_deactivate = record { meets = refl; passes = refl; rows = λ behind. refl; faults = λ behind. refl; reads = λ found. refl }
 
 has_activate : Has (codes "activate") (leaf (on_component (codes "activate"))) (of_component Activate)
-unfolding clap_on_literals name names optional possible wanted command_of
+unfolding clap_on_literals name names optional possible wanted command_of named_of
 has_activate = record { meets = refl; passes = refl; rows = λ behind. refl; faults = λ behind. refl; reads = λ found. refl }
 
 has_forget : Has (codes "forget") (leaf (on_mirror (codes "forget"))) (of_mirror Forget)
-unfolding clap_on_literals name names optional possible wanted command_of
+unfolding clap_on_literals name names optional possible wanted command_of named_of
 has_forget = record { meets = refl; passes = refl; rows = λ behind. refl; faults = λ behind. refl; reads = λ found. refl }
 
 has_rebuild : Has (codes "rebuild") (leaf (on_component (codes "rebuild"))) (of_component Rebuild)
-unfolding clap_on_literals name names optional possible wanted command_of
+unfolding clap_on_literals name names optional possible wanted command_of named_of
 has_rebuild = record { meets = refl; passes = refl; rows = λ behind. refl; faults = λ behind. refl; reads = λ found. refl }
 
 has_clear : Has (codes "clear") (leaf (on_provider (codes "clear"))) (of_provider Clear)
-unfolding clap_on_literals name names optional possible wanted command_of
+unfolding clap_on_literals name names optional possible wanted command_of named_of
 has_clear = record { meets = refl; passes = refl; rows = λ behind. refl; faults = λ behind. refl; reads = λ found. refl }
 
 has_destroy : Has (codes "destroy") (leaf (on_mirror (codes "destroy"))) (of_mirror Destroy)
-unfolding clap_on_literals name names optional possible wanted command_of
+unfolding clap_on_literals name names optional possible wanted command_of named_of
 has_destroy = record { meets = refl; passes = refl; rows = λ behind. refl; faults = λ behind. refl; reads = λ found. refl }
 
 -- ---- the commands that have names alone

@@ -160,21 +160,26 @@ of_mirror command rows = option_map command (label_at (codes "name") rows)
 abbrev pub of_provider : (Text → Command) → List Row → Option Command
 of_provider command rows = option_map command (label_at (codes "prov") rows)
 
+-- the command of this word that has one name or a component's
+unfoldable pub named_of : Text → List Row → Option Command
+named_of word rows =
+    if bytes_eq word (codes "remove") then of_component Remove rows
+    else if bytes_eq word (codes "deactivate") then of_component Deactivate rows
+    else if bytes_eq word (codes "activate") then of_component Activate rows
+    else if bytes_eq word (codes "forget") then of_mirror Forget rows
+    else if bytes_eq word (codes "rebuild") then of_component Rebuild rows
+    else if bytes_eq word (codes "clear") then of_provider Clear rows
+    else if bytes_eq word (codes "destroy") then of_mirror Destroy rows
+    else None
+
 -- the command of this word, of which these rows were found
 unfoldable pub command_of : Text → List Row → Option Command
 command_of word rows =
     if bytes_eq word (codes "label") then label_of rows
     else if bytes_eq word (codes "insert") then insert_of rows
-    else if bytes_eq word (codes "remove") then of_component Remove rows
-    else if bytes_eq word (codes "deactivate") then of_component Deactivate rows
-    else if bytes_eq word (codes "activate") then of_component Activate rows
-    else if bytes_eq word (codes "forget") then of_mirror Forget rows
-    else if bytes_eq word (codes "rebuild") then of_component Rebuild rows
     else if bytes_eq word (codes "configure") then configure_of rows
-    else if bytes_eq word (codes "clear") then of_provider Clear rows
-    else if bytes_eq word (codes "destroy") then of_mirror Destroy rows
     else if bytes_eq word (codes "lost") then lost_of rows
-    else None
+    else named_of word rows
 
 -- ---- the words
 

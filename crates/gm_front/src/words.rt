@@ -3,7 +3,7 @@
 ghost use Rattle.std.specs.Prelude.{◌≡◌, ◌≢◌, ◌^◌, [], Some, None, IfErr, IfOk, MatchOption, MatchResult, option_and_then, option_map};
 ghost use Rattle.clap.specs.Words.{fault_of, found_of, kind_of, rows_of, subcommand_of, subcommand_rows_of};
 ghost use Rattle.clap.specs.Walk.{all_of, first_of, texts};
-ghost use Rattle.gm_front.specs.Spelling.{balance_at, balance_in, command_of, component_at, configure_of, flags_at, if_given, insert_of, label_at, label_of, lost_of, number_at, number_below, preference_in, priority_at, providers_at, providers_in, settings_at, slice_at, slice_in, spelled, switch_at, switch_in};
+ghost use Rattle.gm_front.specs.Spelling.{balance_at, balance_in, command_of, component_at, configure_of, flags_at, if_given, insert_of, label_at, label_of, lost_of, named_of, number_at, number_below, preference_in, priority_at, providers_at, providers_in, settings_at, slice_at, slice_in, spelled, switch_at, switch_in};
 ghost use Rattle.gm_front.specs.Table.{table};
 
 use crate::table::table;
@@ -289,6 +289,38 @@ fn lost_of(alloc: Global, matches: &ArgMatches<'_>) -> Result<Option<Command>, A
     }
 }
 
+// The command of this word that has one name or a component's, of which clap found these.
+#[tactic(auto, unfolding(crate::specs::Spelling::named_of))]
+fn named_of(word: &str, matches: &ArgMatches<'_>) -> Option<Command>
+    ensures { result ≡ named_of word.now (rows_of (found_of matches.now)) }
+{
+    let component = component_at(matches);
+    let name = label_at(matches, "name");
+    let provider = label_at(matches, "prov");
+    match word {
+        "remove" => component.map(|c| Command::Remove {
+            name: c.name,
+            provider: c.provider,
+        }),
+        "deactivate" => component.map(|c| Command::Deactivate {
+            name: c.name,
+            provider: c.provider,
+        }),
+        "activate" => component.map(|c| Command::Activate {
+            name: c.name,
+            provider: c.provider,
+        }),
+        "forget" => name.map(|name| Command::Forget { name }),
+        "rebuild" => component.map(|c| Command::Rebuild {
+            name: c.name,
+            provider: c.provider,
+        }),
+        "clear" => provider.map(|provider| Command::Clear { provider }),
+        "destroy" => name.map(|name| Command::Destroy { name }),
+        _ => None,
+    }
+}
+
 // The command of this word, of which clap found these.
 #[tactic(auto, unfolding(crate::specs::Spelling::command_of))]
 fn command_of(
@@ -298,34 +330,12 @@ fn command_of(
 ) -> Result<Option<Command>, AllocError>
     ensures { IfOk result (λ r. r ≡ command_of word.now (rows_of (found_of matches.now))) }
 {
-    let component = component_at(matches);
-    let name = label_at(matches, "name");
-    let provider = label_at(matches, "prov");
     match word {
         "label" => Ok(label_of(matches)),
         "insert" => Ok(insert_of(matches)),
-        "remove" => Ok(component.map(|c| Command::Remove {
-            name: c.name,
-            provider: c.provider,
-        })),
-        "deactivate" => Ok(component.map(|c| Command::Deactivate {
-            name: c.name,
-            provider: c.provider,
-        })),
-        "activate" => Ok(component.map(|c| Command::Activate {
-            name: c.name,
-            provider: c.provider,
-        })),
-        "forget" => Ok(name.map(|name| Command::Forget { name })),
-        "rebuild" => Ok(component.map(|c| Command::Rebuild {
-            name: c.name,
-            provider: c.provider,
-        })),
         "configure" => Ok(configure_of(matches)),
-        "clear" => Ok(provider.map(|provider| Command::Clear { provider })),
-        "destroy" => Ok(name.map(|name| Command::Destroy { name })),
         "lost" => lost_of(alloc, matches),
-        _ => Ok(None),
+        _ => Ok(named_of(word, matches)),
     }
 }
 
