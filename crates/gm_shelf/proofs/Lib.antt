@@ -6,6 +6,7 @@ pub mod EachPicked
 pub mod Fresh
 pub mod Picking
 pub mod InTurn
+pub mod Runs
 pub mod SoFar
 pub mod Steps
 pub mod Walking

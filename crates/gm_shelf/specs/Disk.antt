@@ -1,10 +1,10 @@
 -- A shelf as contracts see it, and what its calls may do to what it holds and to what a crash may leave.
-use Rattle.std.specs.Prelude.{◌≡◌, ◌≤◌, ◌⊎◌, ◌↔◌, ◌+◌, ℕ, List, Result, Err, IsSome, Contains}
+use Rattle.std.specs.Prelude.{◌≡◌, ◌≤◌, ◌<◌, ◌⊎◌, ◌↔◌, ◌+◌, ◌-◌, ◌&&◌, ℕ, List, [], Result, Err, IsSome, Contains, length, slice_index_or, nat_le, nat_lt, if◌then◌else◌}
 use Rattle.std.specs.Ordering.{nat_cmp}
 use Rattle.std.specs.Cmp.Lexicographic.{slice_cmp}
 use Rattle.std.specs.List.Sorted.{IsStrictlySortedBy}
 use Rattle.gm_metadata.specs.declared.label.Label.{Label}
-use Rattle.gm_metadata.specs.Images.{Image, Sizes, Same}
+use Rattle.gm_metadata.specs.Images.{Image, Sizes, Same, same_label}
 use Rattle.gm_shelf.specs.declared.fault.ShelfFault.{ShelfFault}
 use Rattle.gm_shelf.specs.declared.fault.ShelfFault.TheVariants.{Device}
 
@@ -52,6 +52,35 @@ pub record IsWrite (p : Label) (i : ℕ) (s : List ℕ) (old new : View) : Type 
   pub seen : Torn p i s old.seen new.seen
   pub crash : (x : Image) → new.may_leave x → From old.may_leave (λ d. Torn p i s d x)
   pub time : Elapses old new
+
+-- one sector of a run
+abbrev pub sector_of : List (List ℕ) → ℕ → List ℕ
+sector_of run k = slice_index_or run k []
+
+-- the run is what the image holds from that sector on
+abbrev pub IsRun : Label → ℕ → Image → List (List ℕ) → Type 0
+IsRun p first x run = (k : ℕ) → k < length run → sector_of run k ≡ x p (first + k)
+
+-- the image with this run laid over it, from that sector on
+abbrev pub put_run : Label → ℕ → List (List ℕ) → Image → Image
+put_run p first run x q j =
+    if same_label q p && (nat_le first j && nat_lt j (first + length run)) then sector_of run (j - first) else x q j
+
+-- the value is the one that the run has for this sector
+abbrev pub IsPutByRun : Label → ℕ → List (List ℕ) → Label → ℕ → List ℕ → Type 0
+IsPutByRun p first run q j v = (k : ℕ) × (k < length run) × IsPut p (first + k) (sector_of run k) q j v
+
+-- a write of a run that may have failed: each sector, chosen by itself, holds what it held or what the run has for it
+abbrev pub TornRun : Label → ℕ → List (List ℕ) → Image → Image → Type 0
+TornRun p first run old new = (q : Label) (j : ℕ) → (new q j ≡ old q j) ⊎ IsPutByRun p first run q j (new q j)
+
+-- a write of a run, also one that failed: so torn is what is seen, and what a crash leaves, now or at any moment since
+pub record IsRunWrite (p : Label) (first : ℕ) (run : List (List ℕ)) (old new : View) : Type 0 where
+  pub seen : TornRun p first run old.seen new.seen
+  pub crash : (x : Image) → new.may_leave x → From old.may_leave (λ d. TornRun p first run d x)
+  pub later : old.moment ≤ new.moment
+  pub since : (t : ℕ) (x : Image) → t ≤ old.moment → new.left_since t x → old.left_since t x ⊎ From old.may_leave (λ d. TornRun p first run d x)
+  pub keeps : (t : ℕ) (x : Image) → t ≤ old.moment → old.left_since t x → new.left_since t x
 
 -- a sync that succeeded fixes what the provider holds
 abbrev pub IsFixed : Label → View → View → Type 0

@@ -100,5 +100,20 @@ pub(crate) fn check_place(sectors: Option<u64>, place: u64) -> Result<(), ShelfF
     }
 }
 
+// The fault of a call on a run of so many sectors, by the provider's size alone.
+pub(crate) fn check_run(sectors: Option<u64>, first: u64, length: u64) -> Result<(), ShelfFault>
+    ensures absent { IsErrOf result ShelfFault.Absent ↔ (sectors ≡ None) }
+    ensures range { IsErrOf result ShelfFault.Range ↔ IsSomeAnd sectors (λ n. n < first + length) }
+    ensures there { IsOk result ↔ IsSomeAnd sectors (λ n. first + length ≤ n) }
+    ensures not_device { IsErrOf result ShelfFault.Device → ⊥ }
+    ensures not_memory { IsErrOf result ShelfFault.Memory → ⊥ }
+{
+    match sectors {
+        None => Err(ShelfFault::Absent),
+        Some(count) if count < first || count - first < length => Err(ShelfFault::Range),
+        Some(_) => Ok(()),
+    }
+}
+
 #[cfg(test)]
 mod tests;

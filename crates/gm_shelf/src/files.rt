@@ -1,13 +1,13 @@
 //! A folder of image files.
 
-ghost use Rattle.std.specs.Prelude.{◌≡◌, ◌≢◌, ◌≤◌, ◌<◌, ◌/◌, ◌*◌, ◌↔◌, Some, None, IsOk, IfOk, IfErr, IsErrOf};
+ghost use Rattle.std.specs.Prelude.{◌≡◌, ◌≢◌, ◌≤◌, ◌<◌, ◌+◌, ◌/◌, ◌*◌, ◌↔◌, Some, None, IsOk, IfOk, IfErr, IsErrOf};
 ghost use Rattle.std.specs.IoError.{error_kind};
 ghost use Rattle.std.specs.declared.io.ErrorKind.TheVariants.{OutOfMemory};
 ghost use Rattle.gm_shelf.specs.Disk.{View, faults_after};
 ghost use Rattle.gm_shelf.specs.Faults.{fault_after};
 ghost use Rattle.gm_shelf.specs.Folder.{unknown, sectors_of};
 
-use crate::fault::{ShelfFault, device_failed};
+use crate::fault::{ShelfFault, check_run, device_failed};
 use crate::file_id::FileId;
 use crate::images::{ImageFile, Images, images_in, images_named};
 use crate::law::Shelf;
@@ -93,6 +93,16 @@ fn offset_in(length: u64, place: u64) -> Result<u64, ShelfFault>
     Ok(place * 512)
 }
 
+// Where a run of so many sectors begins in a file of this length, in bytes.
+fn run_in(length: u64, first: u64, sectors: u64) -> Result<u64, ShelfFault>
+    ensures range { IsErrOf result ShelfFault.Range ↔ (length / 512 < first + sectors) }
+    ensures only_range { IfErr result (λ e. e ≡ ShelfFault.Range) }
+    ensures offset { IfOk result (λ at. at ≡ first * 512) }
+{
+    check_run(Some(length / 512), first, sectors)?;
+    Ok(first * 512)
+}
+
 // How a call is answered where its file did this.
 fn outcome(done: io::Result<()>, failures: &mut u64) -> Result<(), ShelfFault>
     ensures ok { IsOk done ↔ IsOk result }
@@ -153,6 +163,44 @@ impl<R: Files<File = File> + AllocGlobal + Clone + Drop> Shelf for FileShelf<R> 
         let done = self
             .files
             .with(provider, image, |file| file.write_all_at(sector, at));
+        outcome(done, &mut self.failures)?;
+        Ok(())
+    }
+
+    // One read of all the sectors.
+    fn read_run(
+        &mut self,
+        provider: Label,
+        first: u64,
+        out: &mut [[u8; 512]],
+    ) -> Result<(), ShelfFault> {
+        let image = image_in(&self.images, provider)?;
+        let at = run_in(image.length, first, out.len() as u64)?;
+        if out.is_empty() {
+            return Ok(());
+        }
+        let done = self.files.with(provider, image, |file| {
+            file.read_exact_at(out.as_flattened_mut(), at)
+        });
+        outcome(done, &mut self.failures)?;
+        Ok(())
+    }
+
+    // One write of all the sectors.
+    fn write_run(
+        &mut self,
+        provider: Label,
+        first: u64,
+        sectors: &[[u8; 512]],
+    ) -> Result<(), ShelfFault> {
+        let image = image_in(&self.images, provider)?;
+        let at = run_in(image.length, first, sectors.len() as u64)?;
+        if sectors.is_empty() {
+            return Ok(());
+        }
+        let done = self.files.with(provider, image, |file| {
+            file.write_all_at(sectors.as_flattened(), at)
+        });
         outcome(done, &mut self.failures)?;
         Ok(())
     }

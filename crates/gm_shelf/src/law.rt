@@ -1,11 +1,11 @@
 //! The trait that every shelf keeps to.
 
-ghost use Rattle.std.specs.Prelude.{◌≡◌, ◌≤◌, ◌<◌, ◌↔◌, ℕ, List, None, IfOk, OnOk, IsErrOf, IsSomeAnd};
+ghost use Rattle.std.specs.Prelude.{◌≡◌, ◌≤◌, ◌<◌, ◌+◌, ◌↔◌, ◌⊎◌, ℕ, List, None, length, IfOk, OnOk, IsErrOf, IsSomeAnd};
 ghost use Rattle.gm_metadata.specs.declared.label.Label.{Label};
 ghost use Rattle.gm_metadata.specs.Images.{Image, Sizes, Same, put};
-ghost use Rattle.gm_shelf.specs.Disk.{View, Answer, AreNames, IsQuiet, IsWrite, IsFixed, IsLawful, faults_after};
+ghost use Rattle.gm_shelf.specs.Disk.{View, Answer, AreNames, IsQuiet, IsWrite, IsRun, put_run, IsRunWrite, IsFixed, IsLawful, faults_after};
 
-use crate::fault::ShelfFault;
+use crate::fault::{ShelfFault, check_run};
 use gm_metadata::Label;
 use std::alloc::AllocError;
 
@@ -81,6 +81,77 @@ pub trait Shelf {
         ensures device { IsErrOf result ShelfFault.Device →
             (view self.old).faults < (view self.new).faults }
         ensures gives { write_gives self.old provider place sector.now result self.new };
+
+    /// Reads a run of sectors, from this one on. It changes nothing of what is held or left, also where
+    /// it fails; after a fault `out` holds anything. A run that goes past the end is `Range`, and of an
+    /// empty one that doesn't nothing is read.
+    fn read_run(
+        &mut self,
+        provider: Label,
+        first: u64,
+        out: &mut [[u8; 512]],
+    ) -> Result<(), ShelfFault>
+        ensures bytes { honest self.old →
+            OnOk result (IsRun provider first (view self.old).seen out.new) }
+        ensures quiet { honest self.old → IsQuiet (view self.old) (view self.new) }
+        ensures kept { honest self.old →
+            (x : Image) → (view self.old).may_leave x → (view self.new).may_leave x }
+        ensures honest { honest self.old → honest self.new }
+        ensures size { size self.new ≡ size self.old }
+        ensures count { (view self.old).faults ≤ (view self.new).faults }
+        ensures counted { (view self.new).faults ≡ faults_after result (view self.old).faults }
+        ensures absent { IsErrOf result ShelfFault.Absent ↔ (size self.old provider ≡ None) }
+        ensures range { IsErrOf result ShelfFault.Range ↔
+            IsSomeAnd (size self.old provider) (λ n. n < first + length out.old) }
+        ensures nothing_done { (size self.old provider ≡ None)
+            ⊎ IsSomeAnd (size self.old provider) (λ n. n < first + length out.old)
+            ⊎ (length out.old ≡ 0) →
+            self.new ≡ self.old }
+        ensures device { IsErrOf result ShelfFault.Device →
+            (view self.old).faults < (view self.new).faults }
+    {
+        let length = out.len() as u64;
+        check_run(self.sectors(provider), first, length)?;
+        for index in 0..length {
+            self.read(provider, first + index, &mut out[index as usize])?;
+        }
+        Ok(())
+    }
+
+    /// Writes a run of sectors, from this one on. After a fault a read gives of each, by itself, the old
+    /// or the new value, the same one until the next write. A run that goes past the end is `Range`, and
+    /// of an empty one that doesn't nothing is written.
+    fn write_run(
+        &mut self,
+        provider: Label,
+        first: u64,
+        sectors: &[[u8; 512]],
+    ) -> Result<(), ShelfFault>
+        ensures written { honest self.old → OnOk result (Same (view self.new).seen
+            (put_run provider first sectors.now (view self.old).seen)) }
+        ensures law { honest self.old →
+            IsRunWrite provider first sectors.now (view self.old) (view self.new) }
+        ensures honest { honest self.old → honest self.new }
+        ensures size { size self.new ≡ size self.old }
+        ensures count { (view self.old).faults ≤ (view self.new).faults }
+        ensures counted { (view self.new).faults ≡ faults_after result (view self.old).faults }
+        ensures absent { IsErrOf result ShelfFault.Absent ↔ (size self.old provider ≡ None) }
+        ensures range { IsErrOf result ShelfFault.Range ↔
+            IsSomeAnd (size self.old provider) (λ n. n < first + length sectors.now) }
+        ensures nothing_done { (size self.old provider ≡ None)
+            ⊎ IsSomeAnd (size self.old provider) (λ n. n < first + length sectors.now)
+            ⊎ (length sectors.now ≡ 0) →
+            self.new ≡ self.old }
+        ensures device { IsErrOf result ShelfFault.Device →
+            (view self.old).faults < (view self.new).faults }
+    {
+        let length = sectors.len() as u64;
+        check_run(self.sectors(provider), first, length)?;
+        for index in 0..length {
+            self.write(provider, first + index, &sectors[index as usize])?;
+        }
+        Ok(())
+    }
 
     /// Fixes what the provider holds: after it a crash leaves that. After a sync that failed a crash
     /// leaves nothing but what it could leave before.

@@ -151,6 +151,32 @@ fn reads_and_writes_sectors(rt: HostRuntime) -> Result<(), Fail> {
 }
 
 #[test]
+fn reads_and_writes_runs(rt: HostRuntime) -> Result<(), Fail> {
+    let folder = new_folder(&rt, "runs")?;
+    put_file(&rt, &folder, "a.img", &[7; 2048])?;
+    let a = label("a.img")?;
+    let mut shelf = FileShelf::open(&rt, folder.as_str())?;
+    let mut run = [[0; 512]; 3];
+    shelf.write_run(a, 1, &[[8; 512], [9; 512]])?;
+    shelf.read_run(a, 1, &mut run)?;
+    assert!(rt; run == [[8; 512], [9; 512], [7; 512]]);
+    assert!(rt; holds(&rt, &folder, "a.img", 0, &[7; 512])?);
+    assert!(rt; holds(&rt, &folder, "a.img", 1, &[8; 512])?);
+    assert!(rt; holds(&rt, &folder, "a.img", 2, &[9; 512])?);
+    assert!(rt; holds(&rt, &folder, "a.img", 3, &[7; 512])?);
+    assert_eq!(rt; shelf.write_run(a, 2, &run), Err(ShelfFault::Range));
+    assert_eq!(rt; shelf.write_run(a, 4, &[]), Ok(()));
+    assert_eq!(rt; shelf.write_run(a, 5, &[]), Err(ShelfFault::Range));
+    assert_eq!(rt;
+        shelf.read_run(label("b.img")?, 0, &mut run),
+        Err(ShelfFault::Absent)
+    );
+    assert!(rt; holds(&rt, &folder, "a.img", 3, &[7; 512])?);
+    fs::remove_dir_all(&rt, folder.as_str())?;
+    Ok(())
+}
+
+#[test]
 fn writes_metadata_last(rt: HostRuntime) -> Result<(), Fail> {
     let folder = new_folder(&rt, "meta")?;
     put_file(&rt, &folder, "a.img", &[7; 2048])?;

@@ -107,3 +107,21 @@ fn stops_at_each_call(rt: HostRuntime) -> Result<(), Fail> {
     }
     Ok(())
 }
+
+// A run stops before each of its sectors.
+#[test]
+fn a_run_stops_within(rt: HostRuntime) -> Result<(), Fail> {
+    let a = label("a")?;
+    let left: [[u8; 6]; 3] = [[1, 1, 1, 2, 2, 2], [1, 5, 1, 2, 2, 2], [1, 5, 6, 2, 2, 2]];
+    for (passing, wanted) in left.iter().enumerate() {
+        let mut stops = FaultShelf::stop_from(two_disks(&rt)?, passing as u64 + 1);
+        let done = stops.write_run(a, 1, &[[5; 512], [6; 512]]);
+        assert_eq!(rt; done.is_ok(), passing == 2);
+        assert_eq!(rt;
+            stops.write_run(a, 2, &[[5; 512], [6; 512]]),
+            Err(ShelfFault::Range)
+        );
+        assert_eq!(rt; bytes_of(&mut stops.into_inner())?, *wanted);
+    }
+    Ok(())
+}
