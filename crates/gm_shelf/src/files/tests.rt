@@ -172,6 +172,11 @@ fn reads_and_writes_runs(rt: HostRuntime) -> Result<(), Fail> {
         Err(ShelfFault::Absent)
     );
     assert!(rt; holds(&rt, &folder, "a.img", 3, &[7; 512])?);
+    // An empty run doesn't look at the file.
+    fs::remove_file(&rt, path_in(&rt, &folder, "a.img")?.as_str())?;
+    assert_eq!(rt; shelf.write_run(a, 4, &[]), Ok(()));
+    assert_eq!(rt; shelf.write_run(a, 3, &[[8; 512]]), Err(ShelfFault::Device));
+    assert_eq!(rt; shelf.read_run(a, 1, &mut run), Err(ShelfFault::Device));
     fs::remove_dir_all(&rt, folder.as_str())?;
     Ok(())
 }

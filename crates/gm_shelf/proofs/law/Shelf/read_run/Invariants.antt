@@ -1,4 +1,4 @@
-use Rattle.std.proofs.Common.{◌≡◌, ◌<◌, ◌+◌, ℕ, length}
+use Rattle.std.proofs.Common.{◌≡◌, ◌<◌, ◌+◌, ℕ}
 use Rattle.gm_shelf.specs.Disk.{AreReads, sector_of}
 use Rattle.gm_shelf.proofs.law.Shelf.read_run.Given as goal
 
