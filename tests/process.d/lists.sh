@@ -1,0 +1,61 @@
+# What the tests of many lines share: a list of lines is read from standard input, and each line is compared with its answer.
+
+# Hands the kept lines to a batch at that bench. What it leaves of them counts as a complaint.
+take_lines() {
+    {
+        at_bench batch
+        cat >>"$work/complaints"
+    } <"$work/lines"
+}
+
+# Whether one batch answers each line of a list so, and ends so. A line and its answer are parted by a bar; the first line
+# that is answered otherwise is named.
+expect_list() {
+    cat >"$work/list"
+    sed 's/|.*//' "$work/list" >"$work/lines"
+    sed 's/.*|//' "$work/list" >"$work/wanted-answers"
+    take_lines
+    wrong=$(paste -d '|' "$work/list" "$work/output" | awk -F '|' '
+        $2 != $3 { print "\047" $1 "\047 was answered \047" $3 "\047, and not \047" $2 "\047"; exit }')
+    if [ -n "$wrong" ]; then
+        fail "$1" "$wrong"
+    else
+        expect "$1" "$2" "$(cat "$work/wanted-answers")" ''
+    fi
+}
+
+# Whether a batch of each input of a list by itself is answered so, and ends so. An input and its answers are parted by a
+# bar, with escapes as printf's %b takes them; the first input that is answered otherwise is named.
+expect_inputs() {
+    cat >"$work/list"
+    wrong=
+    while IFS='|' read -r input told; do
+        printf '%b' "$input" >"$work/lines"
+        printf '%b' "$told" >"$work/wanted-output"
+        take_lines
+        if [ "$status" != "$2" ]; then
+            wrong=${wrong:-"'$input': status $status, and not $2"}
+        elif ! cmp -s "$work/output" "$work/wanted-output"; then
+            wrong=${wrong:-"'$input' was answered '$(cat "$work/output")', and not '$told'"}
+        elif [ -s "$work/complaints" ]; then
+            wrong=${wrong:-"'$input': it complained '$(head -n 3 "$work/complaints")'"}
+        fi
+    done <"$work/list"
+    [ -z "$wrong" ] && pass "$1" || fail "$1" "$wrong"
+}
+
+# Keeps the images and the registry of that bench.
+keep_bench() {
+    rm -rf "$work/kept-images"
+    cp -R "$bench/images" "$work/kept-images"
+    cp "$registry" "$work/kept-registry"
+}
+
+# Whether they are as they were kept, byte for byte.
+expect_kept() {
+    if other=$(diff -r "$bench/images" "$work/kept-images" 2>&1 && cmp "$registry" "$work/kept-registry" 2>&1); then
+        pass "$1"
+    else
+        fail "$1" "$other"
+    fi
+}
