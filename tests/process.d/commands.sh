@@ -52,9 +52,10 @@ expect 'a status of two sectors' 0 "$(lines 'gm1             COMPLETE 1/1\n  two
 
 # Each option of a label and an insertion, with a value that isn't the one it has unless it is given.
 fresh_bench options
-batch 'k1 label --mid 4294967295 --did 0 --balance round-robin --slice 1 --autosync off --failsync off --hardcode on gm0 a.img
+given='--balance round-robin --slice 1 --autosync off --failsync off --hardcode on'
+batch "k1 label --mid 4294967295 --did 0 $given gm0 a.img
 k2 insert --did 4294967295 --priority 255 --hardcode on gm0 b.img
-'
+"
 expect 'each option is taken' 0 "$(lines 'k1 ok 1\nk2 ok 2')" ''
 at_bench list
 expect 'a list of each option' 0 'Mirror: gm0

@@ -10,8 +10,8 @@ take_anew() {
     take_lines
 }
 
-# Hands over the lines before this one and its first bytes, so many of them. They are to be answered so and to end so; what
-# is wrong first is kept.
+# Hands over the lines before this one and its first bytes, so many of them. They are to be answered so and to end so;
+# what is wrong first is kept.
 try_cut() {
     printf '%s\n' "$line" | head -c "$1" | cat "$work/before" - >"$work/lines"
     printf '%s' "$2" | cat "$work/told-before" - >"$work/wanted-output"

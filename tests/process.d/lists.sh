@@ -1,4 +1,4 @@
-# What the tests of many lines share: a list of lines is read from standard input, and each line is compared with its answer.
+# What tests of many lines share: a list is read from standard input, and each of its lines compared with its answer.
 
 # Hands the kept lines to a batch at that bench. What it leaves of them counts as a complaint.
 take_lines() {

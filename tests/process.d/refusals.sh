@@ -1,7 +1,7 @@
 # ---- refusals, each for the least number that applies
 
-# gm0 is of a.img and b.img. c.img carries nothing, used.img what made it a component of gm9 elsewhere; one.img and two.img
-# have so many sectors, and there is no d.img.
+# gm0 is of a.img and b.img. c.img carries nothing, and used.img what made it a component of gm9 elsewhere; one.img and
+# two.img have so many sectors, and there is no d.img.
 fresh_bench refusals
 put_image "$bench/images/c.img" c bare
 put_image "$bench/images/used.img" u bare
@@ -14,7 +14,9 @@ registry=$bench/elsewhere
 batch 'k1 label --mid 9 --did 1 gm9 used.img\n'
 expect 'an image is used elsewhere' 0 'k1 ok 1' ''
 run dump --shelf "$bench/images" used.img
-expect 'a dump of it says so' 0 "$(dumped 1 1 NONE c574ffe1252eafe9eebdeeb8791410cd | sed 's/^name: .*/name: gm9/; s/^mid: .*/mid: 9/')" ''
+expect 'a dump of it says so' 0 "$(dumped 1 1 NONE c574ffe1252eafe9eebdeeb8791410cd | sed '
+    s/^name: .*/name: gm9/
+    s/^mid: .*/mid: 9/')" ''
 registry=$bench/registry
 batch "$label$insert"
 expect 'a mirror of two among other images' 0 "$(lines 'k1 ok 1\nk2 ok 2')" ''

@@ -1,15 +1,9 @@
 //! What the tests share: images, benches, lines, and batches of them. The expected values are worked out by hand.
 
-mod cuts;
 mod faults;
 mod flushes;
-mod keys;
-mod lines;
 mod readers;
-mod refusals;
-mod rows;
-mod spellings;
-mod states;
+mod repeats;
 mod stores;
 mod writers;
 
@@ -33,9 +27,6 @@ const DESTROY: &str = "k4 destroy gm0\n";
 const NO_MIRRORS: &str = "no mirrors\n";
 
 const OF_ONE: &str = "gm0             COMPLETE 1/1\n  a.img           ACTIVE\n";
-
-const OF_TWO: &str =
-    "gm0             DEGRADED 1/2\n  a.img           ACTIVE\n  b.img           SYNCHRONIZING 0 of 3\n";
 
 // How batches end of which nothing was refused, and of which something was.
 const DONE: BatchEnd = BatchEnd::Ended { refused: false };
