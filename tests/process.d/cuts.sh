@@ -19,7 +19,7 @@ try_cut() {
     if [ "$status" != "$3" ]; then
         wrong=${wrong:-"behind $1 bytes: status $status, and not $3"}
     elif ! cmp -s "$work/output" "$work/wanted-output"; then
-        wrong=${wrong:-"behind $1 bytes: '$(tail -n 1 "$work/output")', and not '$2'"}
+        wrong=${wrong:-"behind $1 bytes: '$(cat "$work/output")', and not '$(cat "$work/wanted-output")'"}
     elif [ -s "$work/complaints" ]; then
         wrong=${wrong:-"behind $1 bytes: it complained '$(head -n 1 "$work/complaints")'"}
     fi

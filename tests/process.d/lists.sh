@@ -1,11 +1,12 @@
 # What tests of many lines share: a list is read from standard input, and each of its lines compared with its answer.
 
-# Hands the kept lines to a batch at that bench. What it leaves of them counts as a complaint.
+# Hands the kept lines to a batch at that bench. Where it leaves something of them that counts as a complaint.
 take_lines() {
     {
         at_bench batch
-        cat >>"$work/complaints"
+        left=$(wc -c)
     } <"$work/lines"
+    [ "$left" -eq 0 ] || echo "it left $left bytes of its input" >>"$work/complaints"
 }
 
 # Whether one batch answers each line of a list so, and ends so. A line and its answer are parted by a bar; the first line
@@ -15,7 +16,7 @@ expect_list() {
     sed 's/|.*//' "$work/list" >"$work/lines"
     sed 's/.*|//' "$work/list" >"$work/wanted-answers"
     take_lines
-    wrong=$(paste -d '|' "$work/list" "$work/output" | awk -F '|' '
+    wrong=$(paste -d '|' "$work/lines" "$work/wanted-answers" "$work/output" | awk -F '|' '
         $2 != $3 { print "\047" $1 "\047 was answered \047" $3 "\047, and not \047" $2 "\047"; exit }')
     if [ -n "$wrong" ]; then
         fail "$1" "$wrong"
