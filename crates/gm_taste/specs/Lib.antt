@@ -1,0 +1,5 @@
+pub mod Words
+pub mod Verdicts
+pub mod States
+pub mod Tasted
+pub mod Making
