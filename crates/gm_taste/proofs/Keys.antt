@@ -1,14 +1,14 @@
 -- Keys of mirrors in order, and what is put among them.
-use Rattle.std.proofs.Common.{◌≡◌, ◌∙◌, ◌⊎◌, inl, inr, ⊎_elim, ℕ, suc, ◌+◌, ◌<◌, ◌≤◌, Bool, true, false, ◌||◌, ◌&&◌, ◌==◌, nat_lt, refl, sym, ap, ap₂, subst, arith, List, [], ◌∷◌, length, get_or, true≢false}
+use Rattle.std.proofs.Common.{◌≡◌, ◌∙◌, ◌⊎◌, inl, inr, ⊎_elim, ℕ, suc, ◌+◌, ◌<◌, ◌≤◌, Bool, true, false, ◌&&◌, ◌==◌, nat_lt, refl, sym, ap, ap₂, subst, arith, List, [], ◌∷◌, length, get_or}
 use Rattle.std.specs.List.{prefix_len, insert}
 use Rattle.std.specs.Str.{bytes_eq}
-use Rattle.std.proofs.lemmas.Bool.{cases_Bool, and_parts, or_parts, or_left, or_right}
+use Rattle.std.proofs.lemmas.Bool.{cases_Bool, and_parts, or_parts}
 use Rattle.std.proofs.lemmas.Bool.Decides.{nat_tests}
 use Rattle.gm_taste.specs.declared.groups.Key.{Key}
 use Rattle.gm_taste.specs.declared.groups.Taken.{Taken}
 use Rattle.gm_taste.specs.Words.{label_lt, Has, Ascends}
 use Rattle.gm_taste.specs.Making.{key_lt, same_key, put_key, key_in, keys_from, is_of}
-use Rattle.gm_taste.proofs.Order.{same_tells, same_refl, same_is, same_from, lt_trans, lt_irrefl, lt_other, lt_differ}
+use Rattle.gm_taste.proofs.Order.{same_is, same_from, lt_trans, lt_other}
 
 one_more : (n : ℕ) → 1 + n ≡ suc n
 one_more n = omega arith

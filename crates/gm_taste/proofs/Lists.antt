@@ -1,5 +1,5 @@
 -- Being one of a list, and standing in order, through filters and maps.
-use Rattle.std.proofs.Common.{◌≡◌, ◌∙◌, ◌⊎◌, inl, inr, ⊎_elim, ℕ, Bool, true, false, refl, sym, ap, subst, List, [], ◌∷◌, ◌++◌, filter, map, Option, Some, None}
+use Rattle.std.proofs.Common.{◌≡◌, ◌∙◌, ◌⊎◌, inl, inr, ⊎_elim, ℕ, Bool, true, refl, sym, ap, subst, List, [], ◌∷◌, ◌++◌, filter, map, Option, Some, None}
 use Rattle.std.specs.List.{filter_map, cons_option}
 use Rattle.std.proofs.lemmas.Bool.{cases_Bool}
 use Rattle.gm_taste.specs.Words.{label_lt, Has, Ascends}
@@ -92,9 +92,12 @@ module _ {X Y : Type 0} (f : X → Option Y) where
     where
       joined : (o : Option Y) → f x ≡ o → Ascends (λ a b. label_lt (name a) (name b)) (filter_map f xs) → Ascends (λ a b. label_lt (name a) (name b)) (cons_option o (filter_map f xs))
       joined None e rest = rest
-      joined (Some y) e rest = (λ z h.
-          let r = Has-filter_map xs z h in
-          let l : label_lt (key x) (key r.0) ≡ true = a.0 r.0 r.1 in
-          let n : key x ≡ name y = keeps x y e in
-          let m : key r.0 ≡ name z = keeps r.0 z r.2 in
-          rw (n, m) at l, rest)
+      joined (Some y) e rest = (
+        λ z h.
+            let r = Has-filter_map xs z h in
+            let l : label_lt (key x) (key r.0) ≡ true = a.0 r.0 r.1 in
+            let n : key x ≡ name y = keeps x y e in
+            let m : key r.0 ≡ name z = keeps r.0 z r.2 in
+            rw (n, m) at l,
+        rest,
+      )

@@ -1,5 +1,5 @@
 -- The numbers of a group, and what its list of members says.
-use Rattle.std.proofs.Common.{◌≡◌, ◌∙◌, ◌⊎◌, inl, inr, ⊎_elim, ℕ, ◌<◌, ◌≤◌, Bool, true, false, ◌&&◌, nat_lt, cond, refl, sym, ap, subst, arith, List, [], ◌∷◌, filter, map}
+use Rattle.std.proofs.Common.{◌≡◌, ◌∙◌, ◌⊎◌, inl, inr, ⊎_elim, ℕ, ◌≤◌, Bool, true, false, ◌&&◌, nat_lt, cond, refl, sym, ap, subst, arith, List, [], ◌∷◌}
 use Rattle.std.proofs.lemmas.Bool.{cases_Bool}
 use Rattle.std.proofs.lemmas.Bool.Decides.{nat_tests}
 use Rattle.gm_taste.specs.declared.groups.Key.{Key}

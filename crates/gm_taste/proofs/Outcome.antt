@@ -1,5 +1,5 @@
 -- What is made of the providers in order is what the definition says of them.
-use Rattle.std.proofs.Common.{◌≡◌, ◌∙◌, ◌⊎◌, inl, inr, ⊎_elim, ℕ, ◌≤◌, Bool, true, false, ◌==◌, nat_lt, refl, sym, ap, ap₂, subst, arith, List, [], ◌∷◌, filter, map, Option, Some, None, Result, Ok, Err}
+use Rattle.std.proofs.Common.{◌≡◌, ◌∙◌, ⊎_elim, ℕ, true, ◌==◌, refl, sym, ap, ap₂, subst, arith, List, [], filter, map, Some, Result, Ok, Err}
 use Rattle.std.specs.List.{filter_map}
 use Rattle.std.specs.List.Sorted.{IsPermutation, IsSortedByKey}
 use Rattle.std.specs.Ordering.{nat_cmp}
@@ -15,11 +15,11 @@ use Rattle.gm_taste.specs.declared.tasted.Group.{Group}
 use Rattle.gm_taste.specs.declared.tasted.Tasted.{Tasted}
 use Rattle.gm_taste.specs.declared.groups.Key.{Key}
 use Rattle.gm_taste.specs.declared.groups.Taken.{Taken}
-use Rattle.gm_taste.specs.Words.{label_lt, Has, Ascends, Distinct}
+use Rattle.gm_taste.specs.Words.{label_lt, Has, Ascends}
 use Rattle.gm_taste.specs.Verdicts.{verdict}
 use Rattle.gm_taste.specs.States.{state_of}
 use Rattle.gm_taste.specs.Tasted.{DistinctNames, SaysOf, IsLeftOut, IsMember, IsGreatest, IsGroup, IsTasted, group_lt}
-use Rattle.gm_taste.specs.Making.{taken_as, taken_by, left_as, left_by, key_lt, key_in, key_of, keys_from, is_of, member, genid_in, syncid_in, Made}
+use Rattle.gm_taste.specs.Making.{taken_as, taken_by, left_as, left_by, key_lt, key_in, key_of, keys_from, is_of, member, Made}
 use Rattle.gm_taste.proofs.Lists.{Has-filter, filter-Has, Ascends-filter, Has-map, map-Has, Ascends-map, Ascends-unmap, Has-filter_map, filter_map-Has, Ascends-filter_map}
 use Rattle.gm_taste.proofs.Sorting.{Has-permutation, sorted_ascends, InOrder}
 use Rattle.gm_taste.proofs.Keys.{keys_ascend, keys_have, keys_are, is_of_tells, is_of_from}
@@ -59,9 +59,10 @@ module _ (ps : List Provider) where
       filter_map-Has taken_by ps s.0 (record { provider = name; metadata = m }) s.1 e
 
   pub left_are : (x : LeftOut) → (Has (filter_map left_by ps) x → IsLeftOut ps x) × (IsLeftOut ps x → Has (filter_map left_by ps) x)
-  left_are x =
-      (λ h. (let r = Has-filter_map left_by ps x h in let e = left_as_is r.0.name (verdict r.0) x r.2 in (r.0, r.1, e.0, e.1)),
-      λ s. (let e : left_by s.0 ≡ left_as x.provider (Err x.reason) = ap₂ left_as s.2 s.3 in filter_map-Has left_by ps s.0 x s.1 e))
+  left_are x = (
+    λ h. (let r = Has-filter_map left_by ps x h in let e = left_as_is r.0.name (verdict r.0) x r.2 in (r.0, r.1, e.0, e.1)),
+    λ s. (let e : left_by s.0 ≡ left_as x.provider (Err x.reason) = ap₂ left_as s.2 s.3 in filter_map-Has left_by ps s.0 x s.1 e),
+  )
 
   pub taken_ascend : InOrder (λ (p : Provider). p.name) ps → Ascends (λ (a b : Taken). label_lt a.provider b.provider) taken
   taken_ascend a = Ascends-filter_map taken_by (λ p. p.name) (λ t. t.provider) (λ p t e. (taken_as_is p.name (verdict p) t e).0) ps a
@@ -72,9 +73,11 @@ module _ (ps : List Provider) where
 -- ---- one group
 
 member_is : (genid syncid : ℕ) (t : Taken) (x : Member) → member genid syncid t ≡ x → (t.provider ≡ x.provider) × (t.metadata ≡ x.metadata) × (state_of genid syncid x.metadata ≡ x.state)
-member_is genid syncid t x e =
-    (ap (λ (y : Member). y.provider) e, ap (λ (y : Member). y.metadata) e,
-    ap (state_of genid syncid) (sym (ap (λ (y : Member). y.metadata) e)) ∙ ap (λ (y : Member). y.state) e)
+member_is genid syncid t x e = (
+  ap (λ (y : Member). y.provider) e,
+  ap (λ (y : Member). y.metadata) e,
+  ap (state_of genid syncid) (sym (ap (λ (y : Member). y.metadata) e)) ∙ ap (λ (y : Member). y.state) e,
+)
 
 equal_tells : (a b : ℕ) → (a == b) ≡ true → a ≡ b
 equal_tells a b h = grind (arith, nat_tests)
@@ -128,9 +131,9 @@ module _ (ps : List Provider) (g : Group) (made : Made (taken ps) (key_of g) g) 
       record {
         reached = (as_member r.0, to_members (as_member r.0) (map-Has as_member own r.0 r.1), tt, r.3 ∙ sym made.genid_is);
         bound = λ x i _. (let u = from_members x i in
-          let b = bound (λ v. true) (λ v. v.metadata.genid) 0 own u.0 u.1 refl in
-          let e = (member_is g.genid g.syncid u.0 x u.2).1 in
-          rw (ap (λ (m : Metadata). m.genid) e, ← made.genid_is) at b);
+            let b = bound (λ v. true) (λ v. v.metadata.genid) 0 own u.0 u.1 refl in
+            let e = (member_is g.genid g.syncid u.0 x u.2).1 in
+            rw (ap (λ (m : Metadata). m.genid) e, ← made.genid_is) at b);
       }
 
   syncid_greatest : (t : Taken) → Has own t → t.metadata.genid ≡ g.genid → IsGreatest g.members.items (λ x. x.metadata.genid ≡ g.genid) (λ x. x.metadata.syncid) g.syncid
@@ -139,10 +142,10 @@ module _ (ps : List Provider) (g : Group) (made : Made (taken ps) (key_of g) g) 
       record {
         reached = (as_member r.0, to_members (as_member r.0) (map-Has as_member own r.0 r.1), equal_tells r.0.metadata.genid g.genid r.2, r.3 ∙ sym made.syncid_is);
         bound = λ x i k. (let u = from_members x i in
-          let f = (member_is g.genid g.syncid u.0 x u.2).1 in
-          let q : u.0.metadata.genid ≡ g.genid = ap (λ (m : Metadata). m.genid) f ∙ k in
-          let b = bound (λ v. v.metadata.genid == g.genid) (λ v. v.metadata.syncid) 0 own u.0 u.1 (equal_holds u.0.metadata.genid g.genid q) in
-          rw (ap (λ (m : Metadata). m.syncid) f, ← made.syncid_is) at b);
+            let f = (member_is g.genid g.syncid u.0 x u.2).1 in
+            let q : u.0.metadata.genid ≡ g.genid = ap (λ (m : Metadata). m.genid) f ∙ k in
+            let b = bound (λ v. v.metadata.genid == g.genid) (λ v. v.metadata.syncid) 0 own u.0 u.1 (equal_holds u.0.metadata.genid g.genid q) in
+            rw (ap (λ (m : Metadata). m.syncid) f, ← made.syncid_is) at b);
       }
 
   -- a group that has one is a group
@@ -180,9 +183,10 @@ module _ (ps os : List Provider) (to : (p : Provider) → Has ps p → Has os p)
   }
 
   left_from : (x : LeftOut) → (Has (filter_map left_by os) x → IsLeftOut ps x) × (IsLeftOut ps x → Has (filter_map left_by os) x)
-  left_from x =
-      (λ h. (let s = (left_are os x).0 h in (s.0, from s.0 s.1, s.2, s.3)),
-      λ s. (left_are os x).1 (s.0, to s.0 s.1, s.2, s.3))
+  left_from x = (
+    λ h. (let s = (left_are os x).0 h in (s.0, from s.0 s.1, s.2, s.3)),
+    λ s. (left_are os x).1 (s.0, to s.0 s.1, s.2, s.3),
+  )
 
 -- ---- all of them
 
@@ -193,7 +197,7 @@ module _ (ps os : List Provider) (t : Tasted) (ordered : InOrder (λ (p : Provid
   has_one g h =
       let k : Has (keys_from [] (taken os)) (key_of g) = subst (λ (ks : List Key). Has ks (key_of g)) keys (map-Has key_of t.groups.items g h) in
       ⊎_elim (λ (n : ⊥). absurd n) (λ (r : (u : Taken) × Has (taken os) u × (key_in u ≡ key_of g)).
-          (r.0, filter-Has (is_of (key_of g)) (taken os) r.0 r.1 (is_of_from (key_of g) r.0 (ap (λ (k : Key). k.name) r.2) (ap (λ (k : Key). k.mid) r.2))))
+      (r.0, filter-Has (is_of (key_of g)) (taken os) r.0 r.1 (is_of_from (key_of g) r.0 (ap (λ (k : Key). k.name) r.2) (ap (λ (k : Key). k.mid) r.2))))
       (keys_are [] (taken os) (key_of g) k)
 
   groups_are : (g : Group) → Has t.groups.items g → IsGroup ps g

@@ -1,5 +1,5 @@
 -- A list of distinct names that was sorted by name: it has the same elements, in order.
-use Rattle.std.proofs.Common.{◌≡◌, ◌∙◌, ◌⊎◌, inl, inr, ⊎_elim, ℕ, zero, suc, ◌<◌, ◌≤◌, ◌+◌, Bool, true, false, refl, sym, ap, subst, arith, add-one, List, [], ◌∷◌, cond, filter, length, get_or, true≢false}
+use Rattle.std.proofs.Common.{◌≡◌, ◌∙◌, inl, inr, ⊎_elim, ℕ, zero, suc, ◌<◌, ◌≤◌, ◌+◌, Bool, true, false, refl, sym, subst, arith, add-one, List, [], ◌∷◌, cond, filter, length, get_or, true≢false}
 use Rattle.std.specs.List.{Contains}
 use Rattle.std.specs.List.Sorted.{IsPermutation, IsSortedByKey}
 use Rattle.std.specs.Ordering.{nat_cmp}
@@ -90,4 +90,3 @@ module _ {X : Type 0} (key : X → List ℕ) where
             let one : length (filter (λ x. bytes_eq (key x) n) ys) ≤ 1 = once ys a n in
             absurd (omega arith)
       ])
-

@@ -45,7 +45,7 @@ pub struct Member {
 }
 
 /// The providers that tell of one mirror, by its name and its number.
-#[derive(Clone, Debug, Drop)]
+#[derive(Clone, Debug, PartialEq, Eq, Drop)]
 pub struct Group {
     pub name: Label,
     pub mid: u32,
@@ -58,7 +58,7 @@ pub struct Group {
 }
 
 /// What the last sectors of some providers tell.
-#[derive(Clone, Debug, Drop)]
+#[derive(Clone, Debug, PartialEq, Eq, Drop)]
 pub struct Tasted {
     /// In byte order of names, then by mid.
     pub groups: Vec<Group>,

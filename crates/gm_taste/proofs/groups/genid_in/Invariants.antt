@@ -1,4 +1,4 @@
-use Rattle.std.proofs.Common.{◌≡◌, ◌==◌, true, drop}
+use Rattle.std.proofs.Common.{◌≡◌, true, drop}
 use Rattle.gm_taste.specs.Making.{raised, genid_in}
 use Rattle.gm_taste.proofs.groups.genid_in.Given as goal
 

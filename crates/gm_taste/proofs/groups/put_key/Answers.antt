@@ -1,4 +1,4 @@
-use Rattle.std.proofs.Common.{rules, arith, ◌≡◌, ◌∙◌, sym, ap, true, false, ℕ, ◌<◌, length, get_or}
+use Rattle.std.proofs.Common.{rules, arith, ◌≡◌, ◌∙◌, sym, ap, true, ◌<◌, length}
 use Rattle.gm_taste.specs.Making.{same_key}
 use Rattle.gm_taste.proofs.Keys.{place, found_at, new_at}
 use Rattle.gm_taste.proofs.groups.put_key.Goals as goal

@@ -1,4 +1,4 @@
-use Rattle.std.proofs.Common.{◌≡◌, ◌==◌, true, drop}
+use Rattle.std.proofs.Common.{◌≡◌, ◌==◌, drop}
 use Rattle.gm_taste.specs.Making.{raised, syncid_in}
 use Rattle.gm_taste.proofs.groups.syncid_in.Given as goal
 
