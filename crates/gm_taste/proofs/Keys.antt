@@ -8,7 +8,7 @@ use Rattle.gm_taste.specs.declared.groups.Key.{Key}
 use Rattle.gm_taste.specs.declared.groups.Taken.{Taken}
 use Rattle.gm_taste.specs.Words.{label_lt, Has, Ascends}
 use Rattle.gm_taste.specs.Making.{key_lt, same_key, put_key, key_in, keys_from, is_of}
-use Rattle.gm_taste.proofs.Order.{same_is, same_from, lt_trans, lt_other}
+use Rattle.gm_taste.proofs.Order.{same_is, same_from, lt_trans, lt_other, lt_irrefl}
 
 one_more : (n : ℕ) → 1 + n ≡ suc n
 one_more n = omega arith
@@ -69,8 +69,14 @@ before_trans a b c (inl e) (inr f) = inl (subst (λ (n : List ℕ). label_lt a.n
 before_trans a b c (inr e) (inl f) = inl (subst (λ (n : List ℕ). label_lt n c.name ≡ true) (sym e.0) f)
 before_trans a b c (inr e) (inr f) = let l : a.mid < b.mid = e.1 in let m : b.mid < c.mid = f.1 in inr (e.0 ∙ f.0, omega arith)
 
-key_lt_trans : (a b c : Key) → key_lt a b ≡ true → key_lt b c ≡ true → key_lt a c ≡ true
+pub key_lt_trans : (a b c : Key) → key_lt a b ≡ true → key_lt b c ≡ true → key_lt a c ≡ true
 key_lt_trans a b c h k = before_from a c (before_trans a b c (before a b h) (before b c k))
+
+pub key_lt_irrefl : (a : Key) → key_lt a a ≡ true → ⊥
+key_lt_irrefl a h = ⊎_elim (λ (e : label_lt a.name a.name ≡ true). lt_irrefl a.name e) (λ (e : (a.name ≡ a.name) × (a.mid < a.mid)). never a.mid e.1) (before a a h)
+  where
+    never : (n : ℕ) → n < n → ⊥
+    never n l = omega arith
 
 -- where y is not before x and isn't x, x is before y
 key_lt_other : (y x : Key) → key_lt y x ≡ false → same_key y x ≡ false → key_lt x y ≡ true

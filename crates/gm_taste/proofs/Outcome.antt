@@ -174,7 +174,7 @@ module _ (ps os : List Provider) (to : (p : Provider) → Has ps p → Has os p)
   member_to : (g : Group) (x : Member) → IsMember ps g x → IsMember os g x
   member_to g x i = record { says = says_to x.provider x.metadata i.says; name_is = i.name_is; mid_is = i.mid_is; state_is = i.state_is }
 
-  group_from : (g : Group) → IsGroup os g → IsGroup ps g
+  pub group_from : (g : Group) → IsGroup os g → IsGroup ps g
   group_from g i = record {
     members_are = λ x. (λ h. member_from g x ((i.members_are x).0 h), λ m. (i.members_are x).1 (member_to g x m));
     members_ascend = i.members_ascend;

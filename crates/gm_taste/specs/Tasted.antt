@@ -54,3 +54,18 @@ pub record IsTasted (ps : List Provider) (t : Tasted) : Type 0 where
   pub groups_ascend : Ascends group_lt t.groups.items
   pub left_are : (x : LeftOut) → Has t.left.items x ↔ IsLeftOut ps x
   pub left_ascend : Ascends (λ x y. label_lt x.provider y.provider) t.left.items
+
+-- two lists hold the same providers
+abbrev pub SameProviders : List Provider → List Provider → Type 0
+SameProviders ps qs = (p : Provider) → Has ps p ↔ Has qs p
+
+-- what a group says, with its members as a list
+pub record Seen : Type 0 where
+  pub name : List ℕ
+  pub mid : ℕ
+  pub genid : ℕ
+  pub syncid : ℕ
+  pub members : List Member
+
+abbrev pub seen : Group → Seen
+seen g = record { name = g.name; mid = g.mid; genid = g.genid; syncid = g.syncid; members = g.members.items }

@@ -9,6 +9,7 @@
 #![tactic(auto)]
 
 mod groups;
+mod laws;
 mod provider;
 mod sectors;
 mod tasted;
@@ -17,6 +18,7 @@ mod tasting;
 mod tests;
 mod verdicts;
 
+pub use laws::one_tasting;
 pub use provider::Provider;
 pub use sectors::same;
 pub use tasted::{Group, LeftOut, Member, MemberState, Reason, Tasted};
