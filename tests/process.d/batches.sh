@@ -186,14 +186,8 @@ if [ "$(id -u)" = 0 ] && command -v setpriv >/dev/null; then
     printf "$label${insert}k3 destroy gm0\n" >"$work/lines"
     chmod 644 "$work/lines"
     chown -R 65534:65534 "$bench"
-    batch_as_another() {
-        timeout 20 setpriv --reuid=65534 --regid=65534 --clear-groups "$gmbench" \
-            batch --registry "$registry" --shelf "$bench/images" \
-            <"$work/lines" >"$work/output" 2>"$work/complaints"
-        status=$?
-    }
     chmod 444 "$bench/images/b.img"
-    batch_as_another
+    at_bench_as_another batch <"$work/lines"
     if [ "$status" = 126 ] || [ "$status" = 127 ]; then
         skip 'a batch that may not open an image' 'another user can not run the program where it lies'
     else
@@ -201,7 +195,7 @@ if [ "$(id -u)" = 0 ] && command -v setpriv >/dev/null; then
         chmod 644 "$bench/images/b.img"
         at_bench recover
         expect 'a recovery behind that one' 0 'recovered 0' ''
-        batch_as_another
+        at_bench_as_another batch <"$work/lines"
         expect 'the same batch once it may' 0 "$(lines 'k1 repeated 1\nk2 ok 2\nk3 ok 3')" ''
     fi
 else

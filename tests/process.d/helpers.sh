@@ -171,6 +171,13 @@ at_bench() {
     status=$?
 }
 
+# The same as a user who owns nothing but that bench.
+at_bench_as_another() {
+    timeout 20 setpriv --reuid=65534 --regid=65534 --clear-groups "$gmbench" "$1" \
+        --registry "$registry" --shelf "$bench/images" >"$work/output" 2>"$work/complaints"
+    status=$?
+}
+
 # Hands these lines to a batch at that bench.
 batch() {
     printf "$1" >"$work/lines"

@@ -71,13 +71,8 @@ stopped_remove unwritable
 if [ "$(id -u)" = 0 ] && command -v setpriv >/dev/null; then
     chmod 755 "$work"
     chown -R 65534:65534 "$bench"
-    as_another() {
-        timeout 20 setpriv --reuid=65534 --regid=65534 --clear-groups "$gmbench" \
-            recover --registry "$registry" --shelf "$bench/images" >"$work/output" 2>"$work/complaints"
-        status=$?
-    }
     chmod 444 "$bench/images/b.img"
-    as_another
+    at_bench_as_another recover
     if [ "$status" = 126 ] || [ "$status" = 127 ]; then
         skip 'a recovery that may not write an image' 'another user can not run the program where it lies'
     else
@@ -85,7 +80,7 @@ if [ "$(id -u)" = 0 ] && command -v setpriv >/dev/null; then
         put_image "$work/wanted-b" b pending-b
         expect_same 'that image stays' "$bench/images/b.img" "$work/wanted-b"
         chmod 644 "$bench/images/b.img"
-        as_another
+        at_bench_as_another recover
         expect 'the same once it may' 0 'recovered 2' ''
         expect_images 'it is carried out then' fresh bare
     fi

@@ -22,9 +22,7 @@ for words in '' "dump --shelf $shelf a.img" '--help' '--version' "recover $at_ma
         echo $? >"$work/status"
     } | true
     # A shell may go on before the writer has ended.
-    for _ in 1 2 3 4 5 6 7 8 9 10; do
-        [ -s "$work/status" ] || sleep 1
-    done
+    wait_for "$work/status"
     status=$(cat "$work/status")
     expect "$named to a reader that has gone" 3 '' "$broken"
 done
@@ -91,9 +89,7 @@ for how in closed full gone; do
                     2>"$work/complaints"
                 echo $? >"$work/status"
             } | true
-            for _ in 1 2 3 4 5 6 7 8 9 10; do
-                [ -s "$work/status" ] || sleep 1
-            done
+            wait_for "$work/status"
             status=$(cat "$work/status")
             ;;
     esac
