@@ -2,4 +2,5 @@ pub mod Words
 pub mod Verdicts
 pub mod States
 pub mod Tasted
+pub mod Sources
 pub mod Making

@@ -1,5 +1,5 @@
--- The state of a member of a group.
-use Rattle.std.specs.Prelude.{ℕ, not, ◌&&◌, nat_lt, if◌then◌else◌}
+-- The state of a member of a group, and its name.
+use Rattle.std.specs.Prelude.{ℕ, Bool, true, false, not, ◌&&◌, nat_lt, List, codes, if◌then◌else◌}
 use Rattle.gm_metadata.specs.declared.metadata.Metadata.{Metadata}
 use Rattle.gm_taste.specs.declared.tasted.MemberState.{MemberState}
 use Rattle.gm_taste.specs.declared.tasted.MemberState.TheVariants.{Inactive, Broken, Stale, Synchronizing, Active}
@@ -16,3 +16,19 @@ state_of genid syncid m =
     else (if nat_lt m.syncid syncid then behind m 0
     else (if m.dflags.synchronizing then behind m m.sync_offset
     else Active)))
+
+-- it holds the data
+abbrev pub is_active : MemberState → Bool
+is_active Inactive = false
+is_active Broken = false
+is_active (Stale offset) = false
+is_active (Synchronizing offset) = false
+is_active Active = true
+
+-- the names of the states in texts
+abbrev pub member_state_name : MemberState → List ℕ
+member_state_name Inactive = codes "INACTIVE"
+member_state_name Broken = codes "BROKEN"
+member_state_name (Stale offset) = codes "STALE"
+member_state_name (Synchronizing offset) = codes "SYNCHRONIZING"
+member_state_name Active = codes "ACTIVE"

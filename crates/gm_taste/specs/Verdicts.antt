@@ -1,9 +1,11 @@
 -- Which providers are taken, and why the others aren't.
-use Rattle.std.specs.Prelude.{ℕ, ◌*◌, Bool, true, not, ◌||◌, ◌==◌, List, Option, Some, None, Result, Ok, Err, if◌then◌else◌}
+use Rattle.std.specs.Prelude.{ℕ, ◌*◌, Bool, true, false, not, ◌||◌, ◌==◌, List, Option, Some, None, Result, Ok, Err, if◌then◌else◌}
 use Rattle.gm_metadata.specs.Images.{same_label}
 use Rattle.gm_metadata.specs.Reading.{decode_of}
 use Rattle.gm_metadata.specs.declared.metadata.Metadata.{Metadata}
 use Rattle.gm_metadata.specs.declared.fault.DecodeFault.{DecodeFault}
+use Rattle.gm_metadata.specs.declared.fault.DecodeFault.TheVariants.{Magic, Version, Hash, Name, Balance, Flags, SectorSize}
+use Rattle.gm_metadata.specs.declared.fault.DecodeFault.TheVariants as faults
 use Rattle.gm_taste.specs.declared.provider.Provider.{Provider}
 use Rattle.gm_taste.specs.declared.tasted.Reason.{Reason}
 use Rattle.gm_taste.specs.declared.tasted.Reason.TheVariants.{Decode, OtherName, OtherSize}
@@ -28,3 +30,20 @@ judged p (Ok m) = if not (own_name p m) then Err OtherName else (if not (own_siz
 -- what the provider's last sector is taken to say, or the first reason to leave the provider out
 abbrev pub verdict : Provider → Result Metadata Reason
 verdict p = judged p (decode_of p.last)
+
+-- the sector doesn't begin with the magic field
+abbrev pub is_magic : DecodeFault → Bool
+is_magic Magic = true
+is_magic Version = false
+is_magic Hash = false
+is_magic Name = false
+is_magic faults.Provider = false
+is_magic Balance = false
+is_magic Flags = false
+is_magic SectorSize = false
+
+-- what is left out for this reason carries metadata
+abbrev pub of_metadata : Reason → Bool
+of_metadata (Decode fault) = not (is_magic fault)
+of_metadata OtherName = true
+of_metadata OtherSize = true

@@ -1,5 +1,9 @@
 //! What last sectors tell: mirrors, their members, and the providers that are no members.
 
+ghost use Rattle.std.specs.Prelude.{◌≡◌};
+ghost use Rattle.gm_taste.specs.States.{is_active, member_state_name};
+ghost use Rattle.gm_taste.specs.Verdicts.{of_metadata};
+
 use gm_metadata::{DecodeFault, Label, Metadata};
 
 /// Why a provider is left out: the first of these that applies.
@@ -11,6 +15,15 @@ pub enum Reason {
     OtherName,
     /// Its last sector tells another size.
     OtherSize,
+}
+
+impl Reason {
+    /// Whether the last sector carries metadata all the same: it begins with the magic field.
+    pub fn is_of_metadata(self) -> bool
+        ensures { result ≡ of_metadata self }
+    {
+        !matches!(self, Reason::Decode(DecodeFault::Magic))
+    }
 }
 
 /// A provider that is left out.
@@ -33,6 +46,28 @@ pub enum MemberState {
     Synchronizing(u64),
     /// It holds the data.
     Active,
+}
+
+impl MemberState {
+    /// Whether the member holds the data.
+    pub fn is_active(self) -> bool
+        ensures { result ≡ is_active self }
+    {
+        matches!(self, MemberState::Active)
+    }
+
+    /// Its name in texts.
+    pub fn name(self) -> &'static str
+        ensures { result.now ≡ member_state_name self }
+    {
+        match self {
+            MemberState::Inactive => "INACTIVE",
+            MemberState::Broken => "BROKEN",
+            MemberState::Stale(_) => "STALE",
+            MemberState::Synchronizing(_) => "SYNCHRONIZING",
+            MemberState::Active => "ACTIVE",
+        }
+    }
 }
 
 /// A provider that is taken, in its group.

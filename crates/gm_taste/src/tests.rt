@@ -1,6 +1,6 @@
 //! Sectors that are compared, and what the last sectors of worked images tell, with values written by hand.
 
-use crate::{Group, Member, MemberState, Provider, Reason, Tasted, same, taste};
+use crate::{Group, Member, MemberState, Provider, Reason, Tasted, same, source_of, taste};
 use gm_metadata::{Balance, DecodeFault, DiskFlags, Label, Metadata, MirrorFlags, encode};
 use std::alloc::{AllocError, Global};
 use std::process::Abort;
@@ -330,9 +330,11 @@ fn a_flipped_bit_is_told(rt: HostRuntime) -> Result<(), Fail> {
     image.last[100] = image.last[100] ^ 1;
     let hash = Reason::Decode(DecodeFault::Hash);
     assert_eq!(rt; reason_of(rt.alloc(), image)?, Some(hash));
+    assert!(rt; hash.is_of_metadata());
     image.last = [0; 512];
     let magic = Reason::Decode(DecodeFault::Magic);
     assert_eq!(rt; reason_of(rt.alloc(), image)?, Some(magic));
+    assert!(rt; !magic.is_of_metadata());
     Ok(())
 }
 
@@ -390,5 +392,53 @@ fn every_order_tells_the_same(rt: HostRuntime) -> Result<(), Fail> {
         let tasted = taste(rt.alloc(), &ordered)?;
         assert!(rt; tasted == first);
     }
+    Ok(())
+}
+
+/// The source of the one group that these images tell of.
+fn source_among(alloc: Global, images: &[Provider]) -> Result<Option<Label>, AllocError> {
+    let tasted = taste(alloc, images)?;
+    if tasted.groups.len() == 1 {
+        Ok(source_of(&tasted.groups[0]))
+    } else {
+        Ok(None)
+    }
+}
+
+#[test]
+fn the_source_is_active_and_has_the_greatest_priority(rt: HostRuntime) -> Result<(), Fail> {
+    let low = metadata(&rt, 1);
+    let high = Metadata {
+        priority: 3,
+        ..metadata(&rt, 2)
+    };
+    // Behind, but for its priority the first.
+    let behind = Metadata {
+        syncid: 1,
+        priority: 200,
+        ..metadata(&rt, 3)
+    };
+    let a = provider(&rt, "a.img", &low);
+    let b = provider(&rt, "b.img", &high);
+    let c = provider(&rt, "c.img", &behind);
+    let d = provider(&rt, "d.img", &Metadata { did: 4, ..high });
+    assert_eq!(rt; source_among(rt.alloc(), &[a, b, c])?, Some(b.name));
+    // Of two that are equal the one whose name comes first, in whatever order they are handed in.
+    assert_eq!(rt; source_among(rt.alloc(), &[d, c, b, a])?, Some(b.name));
+    assert_eq!(rt; source_among(rt.alloc(), &[a, d])?, Some(d.name));
+    Ok(())
+}
+
+#[test]
+fn a_group_without_an_active_member_has_no_source(rt: HostRuntime) -> Result<(), Fail> {
+    let idle = Metadata {
+        dflags: DiskFlags {
+            inactive: true,
+            ..NO_FLAGS
+        },
+        ..metadata(&rt, 1)
+    };
+    let a = provider(&rt, "a.img", &idle);
+    assert_eq!(rt; source_among(rt.alloc(), &[a])?, None);
     Ok(())
 }
