@@ -1,5 +1,6 @@
 pub mod UnderWay
 pub mod Sectors
+pub mod Stretches
 pub mod Written
 pub mod Others
 pub mod Lists

@@ -1,19 +1,15 @@
 -- What stays of the sectors that nobody writes.
-use Rattle.std.proofs.Common.{◌≡◌, ◌∙◌, ◌⊎◌, inl, inr, ⊎_elim, ℕ, ◌+◌, ◌&&◌, List, [], ◌∷◌, Bool, true, false, refl, sym, ap, subst, arith, Option, Some, None}
-use Rattle.std.specs.List.{list_any}
-use Rattle.std.specs.Prelude.{is_some}
+use Rattle.std.proofs.Common.{◌≡◌, ◌∙◌, ◌⊎◌, inl, inr, ⊎_elim, ℕ, ◌+◌, ◌&&◌, List, Bool, true, false, refl, subst, Some, None}
 use Rattle.std.proofs.lemmas.Bool.{cases_Bool}
 use Rattle.gm_metadata.specs.Images.{Image, Sizes}
-use Rattle.gm_shelf.specs.Disk.{View, IsPut, Torn, From, IsQuiet, IsWrite}
+use Rattle.gm_shelf.specs.Disk.{View, IsPut, Torn, From}
 use Rattle.gm_shelf.specs.LastSector.{OldOrNew}
 use Rattle.gm_state.specs.declared.command.Intent.{Intent}
-use Rattle.gm_state.specs.Intents.{names}
-use Rattle.gm_state.specs.Lookups.{metadata_of}
 use Rattle.gm_state.specs.Records.{Records}
 use Rattle.gm_state.specs.Words.{Has}
 use Rattle.gm_state.proofs.Finding.{any_from, not_both}
-use Rattle.gm_apply.specs.Redo.{Places, AgreeBut, CrashLeaves, KeepsOthers, writes, is_written}
-use Rattle.gm_apply.proofs.UnderWay.{at_start, goes_on, leaves_trans}
+use Rattle.gm_apply.specs.Redo.{Places, AgreeBut, KeepsOthers, writes, is_written}
+use Rattle.gm_apply.proofs.UnderWay.{at_start, leaves_trans}
 use Rattle.gm_apply.proofs.Written.{last_of, by_size, here}
 
 pub agree_trans : (place : Places) (d y x : Image) → AgreeBut place d y → AgreeBut place y x → AgreeBut place d x
@@ -27,16 +23,6 @@ agree_torn place p i s d x there torn q j off =
 
 pub keeps_start : (place : Places) (v : View) → KeepsOthers place v v
 keeps_start place v = record { seen = λ q j off. refl; left = λ x left. (x, left, λ q j off. refl); moments = at_start v _ }
-
-pub keeps_quiet : (place : Places) (old new : View) → IsQuiet old new → KeepsOthers place old new
-keeps_quiet place old new quiet =
-    let left : (x : Image) → new.may_leave x → From old.may_leave (λ d. AgreeBut place d x) = λ x left. (x, quiet.crash x left, λ q j off. refl) in
-    record { seen = λ q j off. quiet.seen q j; left = left; moments = goes_on old old new _ (at_start old _) quiet.time left }
-
-pub keeps_write : (place : Places) (p : List ℕ) (i : ℕ) (s : List ℕ) (old new : View) → place p i ≡ true → IsWrite p i s old new → KeepsOthers place old new
-keeps_write place p i s old new there law =
-    let left : (x : Image) → new.may_leave x → From old.may_leave (λ d. AgreeBut place d x) = λ x left. let before = law.crash x left in (before.0, before.1, agree_torn place p i s before.0 x there before.2) in
-    record { seen = agree_torn place p i s old.seen new.seen there law.seen; left = left; moments = goes_on old old new _ (at_start old _) law.time left }
 
 pub keeps_trans : (place : Places) (old mid new : View) → KeepsOthers place old mid → KeepsOthers place mid new → KeepsOthers place old new
 keeps_trans place old mid new first second =

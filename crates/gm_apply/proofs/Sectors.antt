@@ -1,13 +1,13 @@
--- A copy, one sector after another.
-use Rattle.std.proofs.Common.{◌≡◌, ◌⊎◌, inl, inr, ℕ, ◌≤◌, ◌<◌, ◌+◌, List, Bool, true, false, ◌==◌, ◌&&◌, ◌||◌, refl, sym, ◌∙◌, ap, arith, le-leb, lt-ltb, le-ltb, eqb-true, nat_le, nat_lt, if◌then◌else◌}
-use Rattle.std.proofs.lemmas.Bool.{cases_Bool}
+-- A copy, one run after another.
+use Rattle.std.proofs.Common.{◌≡◌, inl, inr, ℕ, ◌≤◌, ◌<◌, ◌+◌, ◌-◌, length, List, Bool, true, false, ◌&&◌, ◌||◌, refl, sym, ◌∙◌, ap, subst, arith, le-leb, lt-ltb, le-ltb, leb-true, ltb-true, nat_le, nat_lt, if◌then◌else◌}
+use Rattle.std.proofs.lemmas.Bool.{cases_Bool, and_parts}
 use Rattle.std.proofs.lemmas.Bool.Decides.{nat_tests}
-use Rattle.gm_metadata.specs.Images.{Image, Same, put, same_label, label_tells, label_refl}
-use Rattle.gm_shelf.specs.Disk.{View, IsQuiet, IsWrite}
+use Rattle.gm_metadata.specs.Images.{Image, Same, same_label, label_tells, label_refl}
+use Rattle.gm_shelf.specs.Disk.{View, sector_of, IsRun, put_run, IsRunWrite}
 use Rattle.gm_state.specs.declared.command.Intent.TheVariants.{Copy}
 use Rattle.gm_state.specs.Intents.{copies}
 use Rattle.gm_apply.specs.Redo.{with_places, IsUnderWay}
-use Rattle.gm_apply.proofs.UnderWay.{going_write, going_quiet, laid_in, laid_out}
+use Rattle.gm_apply.proofs.UnderWay.{going_run, going_trans, laid_out}
 
 and_false : (b : Bool) → (b && false) ≡ false
 and_false true = refl
@@ -30,66 +30,74 @@ module _ (s t : List ℕ) (a b : ℕ) where
   pub copies_none : (q : List ℕ) (j : ℕ) → b ≤ j → copies (Copy s t a b) q j ≡ false
   copies_none q j high = elim (label_tells t q) [ inl same ↦ (rw (same.0, le-ltb j b high) (and_false (nat_le a j))) | inr other ↦ rw other.0 refl ]
 
-within : (a i j : ℕ) → a ≤ i → (nat_le a j && nat_lt j (i + 1)) ≡ ((j == i) || (nat_le a j && nat_lt j i))
-within a i j low = grind (arith, nat_tests)
+  pub copies_range : (q : List ℕ) (j : ℕ) → copies (Copy s t a b) q j ≡ true → (a ≤ j) × (j < b)
+  copies_range q j e = elim (label_tells t q) [
+    | inr other ↦ (let h = rw other.0 at e in cc)
+    | inl same ↦ (let h : (nat_le a j && nat_lt j b) ≡ true = rw same.0 at e in
+        let parts = and_parts (nat_le a j) (nat_lt j b) h in
+        (leb-true a j parts.0, ltb-true j b parts.1))
+  ]
 
-copies_more : (s t : List ℕ) (a i : ℕ) (q : List ℕ) (j : ℕ) → a ≤ i → copies (Copy s t a (i + 1)) q j ≡ ((same_label q t && (j == i)) || copies (Copy s t a i) q j)
-copies_more s t a i q j low =
-    elim (label_tells t q) [
-      | inr other ↦ rw (swapped q t, other.0) refl
-      | inl same ↦ rw (swapped q t, same.0) (within a i j low)
-    ]
-
--- the sector that was read and written
-copies_seen : (s t : List ℕ) (a i : ℕ) (old mid new : Image) (v : List ℕ) → a ≤ i
-    → Same mid (with_places (copies (Copy s t a i)) (λ q j. old s j) old) → v ≡ mid s i → Same new (put t i v mid)
-    → Same new (with_places (copies (Copy s t a (i + 1))) (λ q j. old s j) old)
-copies_seen s t a i old mid new v low so_far read written q j =
-    let source : mid s i ≡ old s i = so_far s i ∙ laid_out (copies (Copy s t a i)) (λ q j. old s j) old s i (copies_none s t a i s i (omega arith)) in
-    written q j ∙ elim (cases_Bool (same_label q t && (j == i))) [
+-- a run that was read, and is laid over the target
+pub run_laid : (s t : List ℕ) (a n : ℕ) (x : Image) (run : List (List ℕ)) → length run ≡ n → IsRun s a x run → Same (put_run t a run x) (with_places (copies (Copy s t a (a + n))) (λ q j. x s j) x)
+run_laid s t a n x run long read q j =
+    elim (cases_Bool (copies (Copy s t a (a + n)) q j)) [
       | inl here ↦
-          let at : j ≡ i = on_place here in
-          let value : v ≡ old s j = cc in
-          let more : copies (Copy s t a (i + 1)) q j ≡ true = rw (copies_more s t a i q j low, here) refl in
-          rw here (value ∙ sym (laid_in (copies (Copy s t a (i + 1))) (λ q j. old s j) old q j more))
+          let at = copies_range s t a (a + n) q j here in
+          let from : a ≤ j = at.0 in
+          let below : j < a + n = at.1 in
+          let sum : a + (j - a) ≡ j = omega (arith, from) in
+          let few : j - a < length run = omega (arith, from, below, long) in
+          let value : sector_of run (j - a) ≡ x s j = read (j - a) few ∙ ap (x s) sum in
+          let inside : (same_label q t && (nat_le a j && nat_lt j (a + length run))) ≡ true = ap (λ (n : ℕ). same_label q t && (nat_le a j && nat_lt j (a + n))) long ∙ turned q j ∙ here in
+          rw (inside, here) value
       | inr off ↦
-          let same : copies (Copy s t a i) q j ≡ copies (Copy s t a (i + 1)) q j = sym (rw (copies_more s t a i q j low, off) refl) in
-          rw off (so_far q j ∙ ap (λ (b : Bool). if b then old s j else old q j) same)
+          let outside : (same_label q t && (nat_le a j && nat_lt j (a + length run))) ≡ false = ap (λ (n : ℕ). same_label q t && (nat_le a j && nat_lt j (a + n))) long ∙ turned q j ∙ off in
+          rw (outside, off) refl
     ]
   where
-    on_place : (same_label q t && (j == i)) ≡ true → j ≡ i
-    on_place e = elim (cases_Bool (same_label q t)) [ inl y ↦ eqb-true j i (rw y at e) | inr n ↦ (let h = rw n at e in cc) ]
+    turned : (q : List ℕ) (j : ℕ) → (same_label q t && (nat_le a j && nat_lt j (a + n))) ≡ copies (Copy s t a (a + n)) q j
+    turned q j = ap (λ (b : Bool). b && (nat_le a j && nat_lt j (a + n))) (swapped q t)
 
-module _ (s t : List ℕ) (a b i : ℕ) (low : a ≤ i) (old cur mid : View) (v : List ℕ) where
-  copied_value : Same cur.seen (with_places (copies (Copy s t a i)) (λ q j. old.seen s j) old.seen) → v ≡ cur.seen s i → old.seen s i ≡ v
-  copied_value so_far read = sym (read ∙ so_far s i ∙ laid_out (copies (Copy s t a i)) (λ q j. old.seen s j) old.seen s i (copies_none s t a i s i (omega arith)))
+-- a run was read, and written over the target where it differs
+module _ (s t : List ℕ) (a n : ℕ) (old mid new : View) (run : List (List ℕ)) (long : length run ≡ n) (read : IsRun s a old.seen run) where
+  pub run_going : IsUnderWay (copies (Copy s t a (a + n))) (λ q j. old.seen s j) old mid → IsRunWrite t a run mid new → IsUnderWay (copies (Copy s t a (a + n))) (λ q j. old.seen s j) old new
+  run_going so_far law =
+      let place = copies (Copy s t a (a + n)) in
+      going_trans place (λ q j. old.seen s j) place (λ q j. old.seen s j) (λ q j e. (e, refl)) old mid new so_far
+      (going_run place (λ q j. old.seen s j) mid new t a run (λ k few. (copies_here s t a (a + n) (a + k) (omega arith) (omega (arith, few, long)), sym (read k few))) law)
 
-  pub copy_going : (new : View) → i < b → IsUnderWay (copies (Copy s t a b)) (λ q j. old.seen s j) old cur
-      → Same cur.seen (with_places (copies (Copy s t a i)) (λ q j. old.seen s j) old.seen) → IsQuiet cur mid → v ≡ cur.seen s i → IsWrite t i v mid new
-      → IsUnderWay (copies (Copy s t a b)) (λ q j. old.seen s j) old new
-  copy_going new high going seen quiet read law =
-      going_write (copies (Copy s t a b)) (λ q j. old.seen s j) old mid new t i v (copies_here s t a b i low high) (copied_value seen read)
-      (going_quiet (copies (Copy s t a b)) (λ q j. old.seen s j) old cur mid going quiet) law
+  pub run_copied : Same mid.seen old.seen → Same new.seen (put_run t a run mid.seen) → Same new.seen (with_places (copies (Copy s t a (a + n))) (λ q j. old.seen s j) old.seen)
+  run_copied same written q j = written q j ∙ ap (λ (x : List ℕ). if same_label q t && (nat_le a j && nat_lt j (a + length run)) then sector_of run (j - a) else x) (same q j) ∙ run_laid s t a n old.seen run long read q j
 
-  pub copy_seen : (new : View) → Same cur.seen (with_places (copies (Copy s t a i)) (λ q j. old.seen s j) old.seen) → IsQuiet cur mid → v ≡ cur.seen s i → Same new.seen (put t i v mid.seen)
-      → Same new.seen (with_places (copies (Copy s t a (i + 1))) (λ q j. old.seen s j) old.seen)
-  copy_seen new seen quiet read written =
-      copies_seen s t a i old.seen mid.seen new.seen v low (λ q j. quiet.seen q j ∙ seen q j) (read ∙ sym (quiet.seen s i)) written
+-- a run was copied, behind what had been copied before it
+module _ (s t : List ℕ) (a b i n : ℕ) (low : a ≤ i) (old mid : View) (so_far : Same mid.seen (with_places (copies (Copy s t a i)) (λ q j. old.seen s j) old.seen)) where
+  ahead : (j : ℕ) → i ≤ j → mid.seen s j ≡ old.seen s j
+  ahead j high = so_far s j ∙ laid_out (copies (Copy s t a i)) (λ q j. old.seen s j) old.seen s j (copies_none s t a i s j high)
 
--- before the first sector
-pub laid_none : (s t : List ℕ) (a : ℕ) (old : Image) → Same old (with_places (copies (Copy s t a a)) (λ q j. old s j) old)
-laid_none s t a old q j = sym (laid_out (copies (Copy s t a a)) (λ k i. old s i) old q j (none a j))
-  where
-    empty : (a j : ℕ) → (nat_le a j && nat_lt j a) ≡ false
-    empty a j = grind (arith, nat_tests)
+  pub run_told : i + n ≤ b → (q : List ℕ) (j : ℕ) → copies (Copy s t i (i + n)) q j ≡ true → (copies (Copy s t a b) q j ≡ true) × (mid.seen s j ≡ old.seen s j)
+  run_told high q j e =
+      let at = copies_range s t i (i + n) q j e in
+      let from : i ≤ j = at.0 in
+      let below : j < i + n = at.1 in
+      let same : q ≡ t = copies_on s t i (i + n) q j e in
+      let here : copies (Copy s t a b) t j ≡ true = copies_here s t a b j (omega (arith, low, from)) (omega (arith, below, high)) in
+      (subst (λ (p : List ℕ). copies (Copy s t a b) p j ≡ true) (sym same) here, ahead j from)
 
-    none : (a j : ℕ) → copies (Copy s t a a) q j ≡ false
-    none a j = rw (empty a j) (and_false (same_label t q))
+  widened : (j : ℕ) → (nat_le a j && nat_lt j (i + n)) ≡ ((nat_le i j && nat_lt j (i + n)) || (nat_le a j && nat_lt j i))
+  widened j = grind (arith, nat_tests)
 
--- behind the last
-pub laid_end : (s t : List ℕ) (a i b : ℕ) (old now : Image) → b ≤ i → (i ≤ b) ⊎ (i ≡ a) → Same now (with_places (copies (Copy s t a i)) (λ q j. old s j) old) → Same now (with_places (copies (Copy s t a b)) (λ q j. old s j) old)
-laid_end s t a i b old now past reach so_far q j =
-    so_far q j ∙ ap (λ (r : Bool). if r then old s j else old q j) (ap (λ (r : Bool). same_label t q && r) (same a i b j past reach))
-  where
-    same : (a i b j : ℕ) → b ≤ i → (i ≤ b) ⊎ (i ≡ a) → (nat_le a j && nat_lt j i) ≡ (nat_le a j && nat_lt j b)
-    same a i b j past reach = grind (arith, nat_tests)
+  copies_run : (q : List ℕ) (j : ℕ) → copies (Copy s t a (i + n)) q j ≡ (copies (Copy s t i (i + n)) q j || copies (Copy s t a i) q j)
+  copies_run q j = elim (label_tells t q) [ inr other ↦ rw other.0 refl | inl same ↦ rw same.0 (widened j) ]
+
+  pub run_seen : (new : Image) → Same new (with_places (copies (Copy s t i (i + n))) (λ q j. mid.seen s j) mid.seen) → Same new (with_places (copies (Copy s t a (i + n))) (λ q j. old.seen s j) old.seen)
+  run_seen new copied q j =
+      copied q j ∙ elim (cases_Bool (copies (Copy s t i (i + n)) q j)) [
+        | inl here ↦
+            let value : mid.seen s j ≡ old.seen s j = ahead j (copies_range s t i (i + n) q j here).0 in
+            let more : copies (Copy s t a (i + n)) q j ≡ true = rw (copies_run q j, here) refl in
+            rw (here, more) value
+        | inr off ↦
+            let same : copies (Copy s t a (i + n)) q j ≡ copies (Copy s t a i) q j = rw (copies_run q j, off) refl in
+            rw (off, same) (so_far q j)
+      ]

@@ -1,9 +1,8 @@
 -- One call of a shelf after another, within one intent.
-use Rattle.std.proofs.Common.{◌≡◌, inl, inr, ⊎_elim, ℕ, List, true, false, refl, sym, ◌∙◌, subst, arith}
+use Rattle.std.proofs.Common.{◌≡◌, ◌<◌, ◌+◌, length, inl, inr, ⊎_elim, ℕ, List, true, false, refl, ◌∙◌, arith}
 use Rattle.std.proofs.lemmas.Bool.{cases_Bool}
-use Rattle.gm_metadata.specs.Images.{Image, Same}
-use Rattle.gm_shelf.specs.Disk.{View, IsPut, Torn, From, Elapses, IsQuiet, IsWrite, IsFixed}
-use Rattle.gm_state.proofs.Finding.{not_both}
+use Rattle.gm_metadata.specs.Images.{Image}
+use Rattle.gm_shelf.specs.Disk.{View, From, Elapses, IsQuiet, sector_of, IsPutByRun, TornRun, IsRunWrite}
 use Rattle.gm_apply.specs.Redo.{Places, with_places, SomePlacesNew, CrashLeaves, PlacesAreNew, Moments, IsUnderWay}
 
 -- before the first call
@@ -28,54 +27,67 @@ module _ (place : Places) (w : Image) where
   pub mix_refl : (d : Image) → SomePlacesNew place w d d
   mix_refl d q j = inl refl
 
-  mix_torn : (d x y : Image) (p : List ℕ) (i : ℕ) (s : List ℕ) → place p i ≡ true → w p i ≡ s → SomePlacesNew place w d x → Torn p i s x y → SomePlacesNew place w d y
-  mix_torn d x y p i s is_there value mix torn q j =
+  mix_torn_run : (x y : Image) (p : List ℕ) (first : ℕ) (run : List (List ℕ)) → ((k : ℕ) → k < length run → (place p (first + k) ≡ true) × (w p (first + k) ≡ sector_of run k)) → TornRun p first run x y → SomePlacesNew place w x y
+  mix_torn_run x y p first run told torn q j =
       ⊎_elim
-      (λ (e : y q j ≡ x q j). ⊎_elim (λ (h : x q j ≡ d q j). inl (e ∙ h)) (λ (h : (place q j ≡ true) × (x q j ≡ w q j)). inr (h.0, e ∙ h.1)) (mix q j))
-      (λ (h : IsPut p i s q j (y q j)). let a = h.provider in let b = h.place in let v = h.value in inr ((let r : place q j ≡ true = cc in r), (let r : y q j ≡ w q j = cc in r)))
+      (λ (e : y q j ≡ x q j). inl e)
+      (λ (h : IsPutByRun p first run q j (y q j)).
+      let there = (told h.0 h.1).0 in
+      let value = (told h.0 h.1).1 in
+      let a = h.2.provider in
+      let b = h.2.place in
+      let v = h.2.value in
+      inr ((let r : place q j ≡ true = cc in r), (let r : y q j ≡ w q j = cc in r)))
       (torn q j)
 
   pub going_start : (v : View) → IsUnderWay place w v v
-  going_start v = record { moments = at_start v _; left = λ x left. (x, left, mix_refl x) }
+  going_start v = record { seen = mix_refl v.seen; moments = at_start v _; left = λ x left. (x, left, mix_refl x) }
 
-  pub going_write : (old mid new : View) (p : List ℕ) (i : ℕ) (s : List ℕ) → place p i ≡ true → w p i ≡ s → IsUnderWay place w old mid → IsWrite p i s mid new → IsUnderWay place w old new
-  going_write old mid new p i s is_there value so_far law =
-      let here : (x : Image) → new.may_leave x → From old.may_leave (λ d. SomePlacesNew place w d x) = λ x left.
-      let before = law.crash x left in
-      let from = so_far.left before.0 before.1 in
-      (from.0, from.1, mix_torn from.0 before.0 x p i s is_there value from.2 before.2) in
-      record { moments = goes_on old mid new _ so_far.moments law.time here; left = here }
+  -- a run of places was written
+  pub going_run : (old new : View) (p : List ℕ) (first : ℕ) (run : List (List ℕ)) → ((k : ℕ) → k < length run → (place p (first + k) ≡ true) × (w p (first + k) ≡ sector_of run k)) → IsRunWrite p first run old new
+      → IsUnderWay place w old new
+  going_run old new p first run told law =
+      let torn : (x : Image) → From old.may_leave (λ d. TornRun p first run d x) → From old.may_leave (λ d. SomePlacesNew place w d x) = λ x from. (from.0, from.1, mix_torn_run from.0 x p first run told from.2) in
+      record {
+        seen = mix_torn_run old.seen new.seen p first run told law.seen;
+        moments = record { later = law.later; since = λ t x le left. ⊎_elim (λ before. inl before) (λ from. inr (torn x from)) (law.since t x le left) };
+        left = λ x left. torn x (law.crash x left);
+      }
+
+  -- a part of the places comes after another
+  module _ (part : Places) (v : Image) (told : (q : List ℕ) (j : ℕ) → part q j ≡ true → (place q j ≡ true) × (v q j ≡ w q j)) where
+    mix_trans : (d x y : Image) → SomePlacesNew place w d x → SomePlacesNew part v x y → SomePlacesNew place w d y
+    mix_trans d x y first second q j =
+        ⊎_elim
+        (λ (e : y q j ≡ x q j). ⊎_elim (λ (h : x q j ≡ d q j). inl (e ∙ h)) (λ (h : (place q j ≡ true) × (x q j ≡ w q j)). inr (h.0, e ∙ h.1)) (first q j))
+        (λ (h : (part q j ≡ true) × (y q j ≡ v q j)). inr ((told q j h.0).0, h.1 ∙ (told q j h.0).1))
+        (second q j)
+
+    pub going_trans : (old mid new : View) → IsUnderWay place w old mid → IsUnderWay part v mid new → IsUnderWay place w old new
+    going_trans old mid new first second =
+        let join : (x : Image) → From mid.may_leave (λ y. SomePlacesNew part v y x) → From old.may_leave (λ d. SomePlacesNew place w d x) = λ x y.
+        let from = first.left y.0 y.1 in
+        (from.0, from.1, mix_trans from.0 y.0 x from.2 y.2) in
+        record {
+          seen = mix_trans old.seen mid.seen new.seen first.seen second.seen;
+          moments = leaves_trans old mid new _ (λ x. From mid.may_leave (λ y. SomePlacesNew part v y x)) first.moments second.moments join;
+          left = λ x left. join x (second.left x left);
+        }
 
   pub going_quiet : (old mid new : View) → IsUnderWay place w old mid → IsQuiet mid new → IsUnderWay place w old new
   going_quiet old mid new so_far law =
       let here : (x : Image) → new.may_leave x → From old.may_leave (λ d. SomePlacesNew place w d x) = λ x left. so_far.left x (law.crash x left) in
-      record { moments = goes_on old mid new _ so_far.moments law.time here; left = here }
+      record {
+        seen = λ q j. ⊎_elim (λ (h : mid.seen q j ≡ old.seen q j). inl (law.seen q j ∙ h)) (λ (h : (place q j ≡ true) × (mid.seen q j ≡ w q j)). inr (h.0, law.seen q j ∙ h.1)) (so_far.seen q j);
+        moments = goes_on old mid new _ so_far.moments law.time here;
+        left = here;
+      }
 
   pub laid_in : (d : Image) (q : List ℕ) (j : ℕ) → place q j ≡ true → with_places place w d q j ≡ w q j
   laid_in d q j e = rw e refl
 
   pub laid_out : (d : Image) (q : List ℕ) (j : ℕ) → place q j ≡ false → with_places place w d q j ≡ d q j
   laid_out d q j e = rw e refl
-
-  -- a sync of the provider that has all the places
-  pub fixed : (old mid new : View) (t : List ℕ) → ((q : List ℕ) (j : ℕ) → place q j ≡ true → q ≡ t) → IsUnderWay place w old mid → Same mid.seen (with_places place w old.seen) → IsQuiet mid new → IsFixed t mid new
-      → PlacesAreNew place w old new
-  fixed old mid new t on so_far seen quiet fix = record {
-    seen = λ q j. quiet.seen q j ∙ seen q j;
-    left = λ x left.
-        let from = so_far.left x (quiet.crash x left) in
-        (from.0, from.1, λ q j. at x left from.0 from.2 q j);
-  }
-    where
-      at : (x : Image) → new.may_leave x → (d : Image) → SomePlacesNew place w d x → Same x (with_places place w d)
-      at x left d mix q j =
-          ⊎_elim
-          (λ (e : place q j ≡ true).
-          let here : q ≡ t = on q j e in
-          let f : x q j ≡ mid.seen q j = subst (λ (k : List ℕ). x k j ≡ mid.seen k j) (sym here) (fix x left j) in
-          f ∙ seen q j ∙ laid_in old.seen q j e ∙ sym (laid_in d q j e))
-          (λ (e : place q j ≡ false). ⊎_elim (λ (h : x q j ≡ d q j). h ∙ sym (laid_out d q j e)) (λ (h : (place q j ≡ true) × (x q j ≡ w q j)). not_both _ h.0 e) (mix q j))
-          (cases_Bool (place q j))
 
 -- only what the places are as in matters
 module _ (place : Places) (v w : Image) (same : (q : List ℕ) (j : ℕ) → place q j ≡ true → v q j ≡ w q j) where

@@ -1,6 +1,5 @@
 -- What readable intents say of one sector, and an image that they lead to.
-use Rattle.std.proofs.Common.{◌≡◌, ◌∙◌, ◌⊎◌, inl, inr, ⊎_elim, ℕ, ◌≤◌, ◌<◌, ◌&&◌, ◌||◌, List, [], ◌∷◌, Bool, true, false, refl, sym, ap, subst, arith, Option, None, Some, filter, if◌then◌else◌}
-use Rattle.std.specs.Prelude.{IsSome}
+use Rattle.std.proofs.Common.{◌≡◌, ◌∙◌, inl, inr, ⊎_elim, ℕ, ◌&&◌, List, [], ◌∷◌, Bool, true, false, refl, sym, ap, subst, Option, None, Some, filter, if◌then◌else◌}
 use Rattle.std.proofs.lemmas.Bool.{cases_Bool, and_parts, or_parts}
 use Rattle.gm_metadata.specs.Images.{Image, Sizes, same_label, zeros}
 use Rattle.gm_metadata.specs.Reading.{encoded}
@@ -12,8 +11,8 @@ use Rattle.gm_state.specs.declared.records.Component.{Component}
 use Rattle.gm_state.specs.Words.{Has}
 use Rattle.gm_state.specs.Records.{Records, IsState}
 use Rattle.gm_state.specs.Lookups.{metadata, metadata_of, component_of}
-use Rattle.gm_state.specs.Intents.{IsOf, AreThere, is_last, copies, names, is_place, Says, AllSay, IsRedo, LeadSomewhere}
-use Rattle.gm_state.specs.Readable.{is_copy, IsReadable, AreReadable}
+use Rattle.gm_state.specs.Intents.{IsOf, AreThere, is_last, copies, names, is_place, Says, LeadSomewhere}
+use Rattle.gm_state.specs.Readable.{is_copy, AreReadable}
 use Rattle.gm_state.proofs.Finding.{found, not_both, option_cases}
 use Rattle.gm_state.proofs.Placing.{place_from}
 use Rattle.gm_state.proofs.Order.{same_is, same_from}

@@ -50,8 +50,9 @@ pub record PlacesAreNew (place : Places) (w : Image) (old new : View) : Type 0 w
 abbrev pub Moments : Places → Image → View → View → Type 0
 Moments place w old new = CrashLeaves old new (λ x. From old.may_leave (λ d. SomePlacesNew place w d x))
 
--- in the middle of a call: what each moment so far left, and what a crash leaves now
+-- in the middle of a call some places are as in w: in what a read gives, in what each moment so far left, and in what a crash leaves now
 pub record IsUnderWay (place : Places) (w : Image) (old now : View) : Type 0 where
+  pub seen : SomePlacesNew place w old.seen now.seen
   pub moments : Moments place w old now
   pub left : (x : Image) → now.may_leave x → From old.may_leave (λ d. SomePlacesNew place w d x)
 

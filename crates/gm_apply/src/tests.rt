@@ -1,4 +1,8 @@
 //! A copy and the metadata that claim it, stopped before each call, with every image that a crash may then leave.
+//! `copies.rt` tries copies alone.
+
+mod copies;
+mod counting;
 
 use crate::apply;
 use gm_metadata::{Balance, Label, MirrorFlags, decode, encode};
@@ -11,8 +15,9 @@ use std::test::Fail;
 // The mirror's data: what the first byte of each sector is.
 const DATA: [u8; 2] = [7, 8];
 
-// How many reads, writes and syncs the whole run makes: two for each copied sector and a sync, a write and a sync.
-const CALLS: u64 = 7;
+// How many reads, writes and syncs the whole run makes: two reads and a write for each copied sector and a sync, a write
+// and a sync.
+const CALLS: u64 = 9;
 
 fn label(text: &str) -> Result<Label, Fail> {
     Ok(Label::new(text).ok_or("no label")?)
