@@ -1,8 +1,9 @@
 -- A command that keeps its mirror: another record for it, and other components.
-use Rattle.std.proofs.Common.{◌≡◌, ◌≢◌, ◌∙◌, ◌⊎◌, inl, inr, ⊎_elim, ℕ, Bool, false, refl, sym, ap, subst, List, Some}
-use Rattle.gm_metadata.specs.Images.{same_label}
+use Rattle.std.proofs.Common.{◌≡◌, ◌≢◌, ◌∙◌, ◌⊎◌, inl, inr, ⊎_elim, ℕ, Bool, true, false, find, refl, sym, ap, subst, List, None, Some}
+use Rattle.gm_metadata.specs.Images.{Image, same_label}
 use Rattle.gm_state.specs.declared.records.Mirror.{Mirror}
 use Rattle.gm_state.specs.declared.records.Component.{Component}
+use Rattle.gm_state.specs.Intents.{is_last}
 use Rattle.gm_state.specs.Words.{Has, Ascends, put}
 use Rattle.gm_state.specs.Records.{Records, IsState, IsMirror, held_by, members, name, provider}
 use Rattle.gm_state.specs.World.{World, Sound, Below}
@@ -59,13 +60,15 @@ module _ (s : Records) (m m' : Mirror) (comps ks : List Component) (state : IsSt
     ];
   }
 
--- so the world turns by m' and ks
-pub adjusts_turns : (u : World) (m m' : Mirror) (comps ks : List Component) (gone : List ℕ → Bool) (sound : Sound u) (here : Has u.state.mirrors m) → (a : Adjusts u.state m m' comps ks)
+-- so the world turns by m' and ks, where mid differs from its shelf in data of them alone
+pub adjusts_turns_by : (u : World) (mid : Image) (m m' : Mirror) (comps ks : List Component) (gone : List ℕ → Bool) (sound : Sound u) (here : Has u.state.mirrors m) → (a : Adjusts u.state m m' comps ks)
     → ((k : Component) → Has ks k → u.size k.provider ≡ Some k.sectors)
     → ((k : Component) → Has comps k → gone k.provider ≡ false)
-    → ((k : Component) → Has ks k → Below u.shelf (u.holds m.name) k.provider (held_by k.disk m'.data_sectors))
-    → Turns u u.shelf m' ks gone (u.holds m.name) (adjusted u.state m m' comps ks sound.state here a)
-adjusts_turns u m m' comps ks gone sound here a there cleared below = record {
+    → ((k : Component) → Has ks k → Below mid (u.holds m.name) k.provider (held_by k.disk m'.data_sectors))
+    → ((q : List ℕ) (j : ℕ) → is_last (u.size q) j ≡ true → mid q j ≡ u.shelf q j)
+    → ((q : List ℕ) → find (λ k. same_label k.provider q) ks ≡ None → (j : ℕ) → mid q j ≡ u.shelf q j)
+    → Turns u mid m' ks gone (u.holds m.name) (adjusted u.state m m' comps ks sound.state here a)
+adjusts_turns_by u mid m m' comps ks gone sound here a there cleared below last untouched = record {
   state = adjusted_state u.state m m' comps ks sound.state here a;
   mirror = each_mirror u.state m m' comps ks sound.state here a;
   mine = mine' u.state m m' comps ks sound.state here a;
@@ -73,9 +76,18 @@ adjusts_turns u m m' comps ks gone sound here a there cleared below = record {
   there = there;
   cleared = cleared;
   below = below;
-  last = λ q j e. refl;
-  untouched = λ q e j. refl;
+  last = last;
+  untouched = untouched;
 }
+
+-- where no data are copied
+pub adjusts_turns : (u : World) (m m' : Mirror) (comps ks : List Component) (gone : List ℕ → Bool) (sound : Sound u) (here : Has u.state.mirrors m) → (a : Adjusts u.state m m' comps ks)
+    → ((k : Component) → Has ks k → u.size k.provider ≡ Some k.sectors)
+    → ((k : Component) → Has comps k → gone k.provider ≡ false)
+    → ((k : Component) → Has ks k → Below u.shelf (u.holds m.name) k.provider (held_by k.disk m'.data_sectors))
+    → Turns u u.shelf m' ks gone (u.holds m.name) (adjusted u.state m m' comps ks sound.state here a)
+adjusts_turns u m m' comps ks gone sound here a there cleared below =
+    adjusts_turns_by u u.shelf m m' comps ks gone sound here a there cleared below (λ q j e. refl) (λ q e j. refl)
 
 -- the mirror kept its data
 pub adjusts_were : (u : World) (m m' : Mirror) (comps ks : List Component) (sound : Sound u) (here : Has u.state.mirrors m) → Adjusts u.state m m' comps ks

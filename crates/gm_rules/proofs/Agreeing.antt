@@ -16,7 +16,7 @@ use Rattle.gm_state.proofs.Order.{same_from, same_is, same_refl}
 use Rattle.gm_state.proofs.Words.{Has-filter, filter-Has, Ascends-filter, filter_id, length-filter_le, one}
 use Rattle.gm_state.proofs.Finding.{any_from, some_any, any_agree, filter_agree, not_both, Has-map}
 use Rattle.gm_rules.specs.declared.refusals.Refusal.{Refusal}
-use Rattle.gm_rules.specs.declared.refusals.Refusal.TheVariants.{NoMirror, NameTaken, MidTaken, Absent, ProviderTaken, CarriesMetadata, TooSmall, NotMember, DidTaken, Full, TooManyMirrors, SomeLost, LastActive, AlreadyInactive, NotInactive, NoneLost, Inactive, LastSyncid, LastGenid, NothingGiven, WrongSize, NoMetadata}
+use Rattle.gm_rules.specs.declared.refusals.Refusal.TheVariants.{NoMirror, NameTaken, MidTaken, Absent, ProviderTaken, CarriesMetadata, TooSmall, NotMember, DidTaken, Full, TooManyMirrors, SomeLost, LastActive, AlreadyInactive, NotInactive, NoneLost, Inactive, NotSynchronizing, LastSyncid, LastGenid, NothingGiven, WrongSize, NoMetadata}
 use Rattle.gm_rules.specs.Bad.{Seen, applies, name_of, providers_of, has_mid, is_member_of, members_named, mirror_named}
 use Rattle.gm_rules.specs.Parts.{is_named, is_asked, with_components, part_of, IsPartOf, applies_to_part}
 
@@ -178,6 +178,7 @@ module _ (s : Records) (c : Command) (mids : List ℕ) (state : IsState s) where
   same_applies count is x NotInactive = rw same_named_members refl
   same_applies count is x NoneLost = rw (same_named_members, same_named) refl
   same_applies count is x Inactive = rw same_named_members refl
+  same_applies count is x NotSynchronizing = rw (same_named_members, same_named) refl
   same_applies count is x LastSyncid = rw same_named refl
   same_applies count is x LastGenid = rw same_named refl
   same_applies count is x NothingGiven = refl

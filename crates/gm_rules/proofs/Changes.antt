@@ -1,24 +1,25 @@
 -- The changes of the commands are what the commands make of the records.
-use Rattle.std.proofs.Common.{◌≡◌, ◌∙◌, inl, inr, ℕ, ◌+◌, ◌-◌, Bool, true, not, ◌||◌, refl, sym, ap, List, [], ◌∷◌, filter, map, length, Some, None}
+use Rattle.std.proofs.Common.{◌≡◌, ◌∙◌, inl, inr, ℕ, ◌+◌, ◌-◌, Bool, true, not, ◌||◌, refl, sym, ap, List, [], ◌∷◌, filter, map, length, option_map, Some, None}
 use Rattle.std.specs.List.{list_any}
 use Rattle.std.proofs.lemmas.Bool.{cases_Bool}
 use Rattle.gm_metadata.specs.Images.{same_label}
 use Rattle.gm_metadata.specs.declared.flags.MirrorFlags.{MirrorFlags}
 use Rattle.gm_state.specs.declared.command.BalanceWord.{BalanceWord}
 use Rattle.gm_state.specs.declared.command.Settings.{Settings}
-use Rattle.gm_state.specs.declared.command.Command.TheVariants.{Label, Insert, Remove, Deactivate, Activate, Forget, Rebuild, Configure, Destroy, Lost}
+use Rattle.gm_state.specs.declared.command.Command.TheVariants.{Label, Insert, Remove, Deactivate, Activate, Forget, Rebuild, Configure, Destroy, Lost, Advance}
 use Rattle.gm_state.specs.declared.command.Command.TheVariants as commands
 use Rattle.gm_state.specs.declared.command.Intent.TheVariants.{Meta, Clear}
-use Rattle.gm_state.specs.declared.command.Reply.TheVariants.{Plain}
+use Rattle.gm_state.specs.declared.command.Reply.TheVariants.{Plain, Copied}
 use Rattle.gm_state.specs.declared.records.Mirror.{Mirror}
 use Rattle.gm_state.specs.declared.records.Component.{Component}
 use Rattle.gm_state.specs.Words.{Has, put, without, without_all}
 use Rattle.gm_state.specs.Records.{Records, IsState, members, provider}
 use Rattle.gm_state.specs.Lookups.{mirror_of, component_of}
+use Rattle.gm_state.specs.Sources.{source_among}
 use Rattle.gm_state.proofs.Order.{same_from, same_is}
 use Rattle.gm_state.proofs.Words.{Has-filter, filter-Has, filter-put, filter_swap, filter_id, one}
 use Rattle.gm_rules.specs.Bad.{Seen, is_on_any}
-use Rattle.gm_rules.specs.After.{metas, clears_of, new_mirror, first_component, spare, deactivated, activated, rebuilt, configured_mirror, configured}
+use Rattle.gm_rules.specs.After.{metas, clears_of, advanced, filling, reach, new_mirror, first_component, spare, deactivated, activated, rebuilt, configured_mirror, configured}
 use Rattle.gm_rules.specs.Decides.{Changed, Makes, IsGood}
 use Rattle.gm_state.proofs.Finding.{filter_agree, any-map, any_from, some_any, not_both}
 use Rattle.gm_rules.proofs.Good.{named, new_name, provider_at}
@@ -78,6 +79,13 @@ pub rebuild_makes : (s : Records) (x : Seen) (n p : List ℕ) (k : Component) (c
     → Makes s x (Rebuild n p) ch
 rebuild_makes s x n p k ch good at is =
     record { good = good; records = rw (is, at) refl; intents = rw (is, provider_at s p k at) refl; reply = rw is refl }
+
+pub advance_makes : (s : Records) (x : Seen) (n p : List ℕ) (m : Mirror) (k : Component) (source : List ℕ) (ch : Changed)
+    → IsGood s x (Advance n p) → mirror_of s n ≡ Some m → component_of s p ≡ Some k → option_map provider (source_among k (members s.components k.mirror)) ≡ Some source
+    → ch ≡ record { mirror = None; gone_mirror = None; components = advanced m k ∷ []; gone_components = []; intents = filling m k source; reply = Copied (reach m k) m.data_sectors }
+    → Makes s x (Advance n p) ch
+advance_makes s x n p m k source ch good found at lent is =
+    record { good = good; records = rw (is, found, at) refl; intents = rw (is, found, at, lent) refl; reply = rw (is, found, at) refl }
 
 pub clear_makes : (s : Records) (x : Seen) (p : List ℕ) (ch : Changed)
     → IsGood s x (commands.Clear p)

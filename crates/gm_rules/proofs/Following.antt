@@ -4,7 +4,7 @@ use Rattle.std.specs.Prelude.{unwrap_or}
 use Rattle.std.proofs.lemmas.Bool.{ne_eqb}
 use Rattle.gm_metadata.specs.Images.{Sizes, same_label}
 use Rattle.gm_state.specs.declared.command.Command.{Command}
-use Rattle.gm_state.specs.declared.command.Command.TheVariants.{Label, Insert, Remove, Deactivate, Activate, Forget, Rebuild, Configure, Destroy, Lost}
+use Rattle.gm_state.specs.declared.command.Command.TheVariants.{Label, Insert, Remove, Deactivate, Activate, Forget, Rebuild, Configure, Destroy, Lost, Advance}
 use Rattle.gm_state.specs.declared.command.Command.TheVariants as commands
 use Rattle.gm_state.specs.declared.records.Mirror.{Mirror}
 use Rattle.gm_state.specs.declared.records.Component.{Component}
@@ -15,8 +15,8 @@ use Rattle.gm_state.specs.Records.{Records, IsState, members, name, provider}
 use Rattle.gm_state.proofs.Order.{same_is}
 use Rattle.gm_state.proofs.Words.{Ascends-filter, filter-put, filter_swap, length-filter_le}
 use Rattle.gm_state.proofs.Finding.{found}
-use Rattle.gm_rules.specs.declared.refusals.Refusal.TheVariants.{NoMirror, NameTaken, MidTaken, Absent, ProviderTaken, CarriesMetadata, TooSmall, NotMember, DidTaken, Full, TooManyMirrors, SomeLost, LastActive, AlreadyInactive, NotInactive, NoneLost, Inactive, LastSyncid, LastGenid, NothingGiven, WrongSize, NoMetadata}
-use Rattle.gm_rules.specs.After.{new_mirror, first_component, spare, deactivated, activated, rebuilt, configured_mirror, configured, on_found, after}
+use Rattle.gm_rules.specs.declared.refusals.Refusal.TheVariants.{NoMirror, NameTaken, MidTaken, Absent, ProviderTaken, CarriesMetadata, TooSmall, NotMember, DidTaken, Full, TooManyMirrors, SomeLost, LastActive, AlreadyInactive, NotInactive, NoneLost, Inactive, NotSynchronizing, LastSyncid, LastGenid, NothingGiven, WrongSize, NoMetadata}
+use Rattle.gm_rules.specs.After.{advanced, new_mirror, first_component, spare, deactivated, activated, rebuilt, configured_mirror, configured, on_found, after}
 use Rattle.gm_rules.specs.Bad.{Seen, name_of, providers_of}
 use Rattle.gm_rules.specs.Decides.{Changed, Makes, IsGood, changed_by}
 use Rattle.gm_rules.specs.Parts.{IsPartOf, IsGoodButCount, IsMade, LeavesPart, is_asked, part_of}
@@ -138,6 +138,10 @@ module _ (t : List ℕ → Bool) (s : Records) (state : IsState s) where
       two _ _ (record { mirrors = put name (record m { genid = m.genid + 1 }) s.mirrors; components = without_all provider ps s.components })
       (puts_mirror (record m { genid = m.genid + 1 }) (found_passes n e m is))
       (without_all-swap ps (λ (k : Component). t k.mirror) s.components))
+  after_names size (Advance n p) takes =
+      let c : Command = Advance n p in
+      on_named n (takes.name n refl) _ _ (λ m is. on_at c takes p (inl refl) _ _ (λ k at.
+      two _ _ (record { mirrors = s.mirrors; components = put provider (advanced m k) s.components }) refl (puts_at c takes p (inl refl) k (advanced m k) at refl refl)))
 
 -- ---- so of a part
 
@@ -192,6 +196,7 @@ module _ (part s : Records) (c : Command) (of : IsPartOf part c s) where
   good_part x but good NotInactive h = but NotInactive h refl
   good_part x but good NoneLost h = but NoneLost h refl
   good_part x but good Inactive h = but Inactive h refl
+  good_part x but good NotSynchronizing h = but NotSynchronizing h refl
   good_part x but good LastSyncid h = but LastSyncid h refl
   good_part x but good LastGenid h = but LastGenid h refl
   good_part x but good NothingGiven h = but NothingGiven h refl

@@ -7,7 +7,7 @@ use Rattle.gm_state.specs.Words.{Has}
 use Rattle.gm_state.specs.Records.{Records, IsState, IsMirror, members}
 use Rattle.gm_state.specs.Lookups.{mirror_of, component_of}
 use Rattle.gm_state.specs.declared.command.Command.{Command}
-use Rattle.gm_state.specs.declared.command.Command.TheVariants.{Label, Insert, Remove, Deactivate, Activate, Forget, Rebuild, Configure, Clear, Destroy, Lost}
+use Rattle.gm_state.specs.declared.command.Command.TheVariants.{Label, Insert, Remove, Deactivate, Activate, Forget, Rebuild, Configure, Clear, Destroy, Lost, Advance}
 use Rattle.gm_state.specs.declared.records.Mirror.{Mirror}
 use Rattle.gm_state.specs.declared.records.Component.{Component}
 use Rattle.gm_state.proofs.Order.{same_is}
@@ -69,6 +69,7 @@ own_rises (Configure n settings) = refl
 own_rises (Clear p) = refl
 own_rises (Destroy n) = refl
 own_rises (Lost n ps) = refl
+own_rises (Advance n p) = refl
 
 all_of : (r : Refusal) (qs : List Refusal) → list_all (λ q. nat_lt (number_of r) (number_of q)) qs ≡ true → (q : Refusal) → Has qs q → number_of r ≤ number_of q
 all_of r [] e q h = absurd h

@@ -12,6 +12,8 @@ pub mod Adjusting
 pub mod RuledOut
 pub mod Labelling
 pub mod Inserting
+pub mod Lending
+pub mod Filling
 pub mod Filtering
 pub mod Removing
 pub mod Wiping

@@ -1,19 +1,20 @@
 -- What is made of a part is what the command makes of the whole.
-use Rattle.std.proofs.Common.{◌≡◌, ◌∙◌, inl, ℕ, ◌+◌, ◌-◌, Bool, false, not, refl, sym, ap, ap₂, subst, List, [], ◌∷◌, ◌++◌, Option, Some, None, Result, Ok, Err, OnErr, map, filter, find, length, if◌then◌else◌}
+use Rattle.std.proofs.Common.{◌≡◌, ◌∙◌, inl, ℕ, ◌+◌, ◌-◌, Bool, false, not, refl, inr, option_map, sym, ap, ap₂, subst, List, [], ◌∷◌, ◌++◌, Option, Some, None, Result, Ok, Err, OnErr, map, filter, find, length, if◌then◌else◌}
 use Rattle.gm_metadata.specs.declared.flags.MirrorFlags.{MirrorFlags}
 use Rattle.gm_state.specs.declared.command.BalanceWord.{BalanceWord}
 use Rattle.gm_state.specs.declared.command.Settings.{Settings}
 use Rattle.gm_state.specs.declared.command.Command.{Command}
-use Rattle.gm_state.specs.declared.command.Command.TheVariants.{Label, Insert, Remove, Deactivate, Activate, Forget, Rebuild, Configure, Destroy, Lost}
+use Rattle.gm_state.specs.declared.command.Command.TheVariants.{Label, Insert, Remove, Deactivate, Activate, Forget, Rebuild, Configure, Destroy, Lost, Advance}
 use Rattle.gm_state.specs.declared.command.Command.TheVariants as commands
 use Rattle.gm_state.specs.declared.command.Intent.TheVariants.{Meta, Clear}
-use Rattle.gm_state.specs.declared.command.Reply.TheVariants.{Plain}
+use Rattle.gm_state.specs.declared.command.Reply.TheVariants.{Plain, Copied}
 use Rattle.gm_state.specs.declared.records.Mirror.{Mirror}
 use Rattle.gm_state.specs.declared.records.Component.{Component}
 use Rattle.gm_state.specs.Words.{Has, put, without}
 use Rattle.gm_state.specs.Records.{Records, members, provider}
 use Rattle.gm_state.specs.Lookups.{mirror_of, component_of}
-use Rattle.gm_rules.specs.After.{metas, clears_of, new_mirror, first_component, spare, deactivated, activated, rebuilt, configured_mirror, configured}
+use Rattle.gm_state.specs.Sources.{source_among, source_of}
+use Rattle.gm_rules.specs.After.{metas, clears_of, advanced, filling, reach, new_mirror, first_component, spare, deactivated, activated, rebuilt, configured_mirror, configured}
 use Rattle.gm_rules.specs.Bad.{Seen, applies, name_of, providers_of, looked_at, is_awaited, is_on_any, members_named}
 use Rattle.gm_rules.specs.Worlds.{needed_by}
 use Rattle.gm_rules.specs.Decides.{Changed, IsGood}
@@ -22,7 +23,9 @@ use Rattle.gm_rules.specs.Refusals.{own}
 use Rattle.gm_rules.proofs.Agreeing.{same_mirror, same_members, same_component, same_named_members, same_applies}
 use Rattle.gm_state.proofs.Finding.{found_none}
 use Rattle.gm_rules.proofs.Good.{is_good}
-use Rattle.gm_rules.proofs.Changes.{label_makes, insert_makes, remove_makes, deactivate_makes, activate_makes, forget_makes, rebuild_makes, configure_makes, clear_makes, destroy_makes, lost_makes}
+use Rattle.gm_rules.proofs.RuledOut.{home_of}
+use Rattle.gm_rules.specs.declared.refusals.Refusal.TheVariants as refusals
+use Rattle.gm_rules.proofs.Changes.{label_makes, insert_makes, remove_makes, deactivate_makes, activate_makes, forget_makes, rebuild_makes, advance_makes, configure_makes, clear_makes, destroy_makes, lost_makes}
 
 module _ (part s : Records) (c : Command) (of : IsPartOf part c s) where
   -- what is found in the part is found in the whole
@@ -86,6 +89,18 @@ pub rebuild_made : (part : Records) (x : Seen) (n p : List ℕ) (k : Component) 
     → ch ≡ record { mirror = None; gone_mirror = None; components = rebuilt k ∷ []; gone_components = []; intents = Meta k.provider ∷ []; reply = Plain }
     → IsMade part x (Rebuild n p) ch
 rebuild_made part x n p k ch at is s of good = rebuild_makes s x n p k ch good (component_in part s (Rebuild n p) of p (Some k) (inl refl) at) is
+
+pub advance_made : (part : Records) (x : Seen) (n p : List ℕ) (m : Mirror) (k : Component) (source : List ℕ) (ch : Changed)
+    → mirror_of part n ≡ Some m → component_of part p ≡ Some k → source_of part p ≡ Some source
+    → ch ≡ record { mirror = None; gone_mirror = None; components = advanced m k ∷ []; gone_components = []; intents = filling m k source; reply = Copied (reach m k) m.data_sectors }
+    → IsMade part x (Advance n p) ch
+advance_made part x n p m k source ch found at lent is s of good =
+    let c : Command = Advance n p in
+    let there : component_of s p ≡ Some k = component_in part s c of p (Some k) (inl refl) at in
+    let home : k.mirror ≡ n = home_of s n p of.state k there (good refusals.NotMember (inr (inr (inl refl)))) in
+    let mine : members s.components k.mirror ≡ members part.components k.mirror = subst (λ (a : List ℕ). members s.components a ≡ members part.components a) (sym home) (members_in part s c of n (members part.components n) refl refl) in
+    let here : option_map provider (source_among k (members part.components k.mirror)) ≡ Some source = rw at at lent in
+    advance_makes s x n p m k source ch good (mirror_in part s c of n m refl found) there (rw mine here) is
 
 pub configure_made : (part : Records) (x : Seen) (n : List ℕ) (settings : Settings) (m : Mirror) (ks : List Component) (ch : Changed)
     → mirror_of part n ≡ Some m → members part.components n ≡ ks

@@ -1,10 +1,10 @@
 -- From what a command makes of the records to its plan.
-use Rattle.std.proofs.Common.{◌≡◌, ◌∙◌, ◌⊎◌, inl, inr, ⊎_elim, ℕ, ◌+◌, ◌-◌, ◌<◌, ◌==◌, ◌&&◌, Bool, true, false, IsTrue, refl, sym, ap, subst, arith, List, [], ◌∷◌, length, filter, find, Option, Some, None}
+use Rattle.std.proofs.Common.{◌≡◌, ◌∙◌, ◌⊎◌, inl, inr, ⊎_elim, ℕ, ◌+◌, ◌-◌, ◌<◌, ◌≤◌, ◌==◌, ◌&&◌, ◌||◌, Bool, true, false, IsTrue, refl, sym, ap, subst, arith, List, [], ◌∷◌, length, filter, find, Option, Some, None}
 use Rattle.std.specs.Prelude.{IsSomeAnd}
 use Rattle.gm_metadata.specs.Labels.{is_label}
 use Rattle.std.specs.List.{list_any}
 use Rattle.std.proofs.lemmas.Bool.{cases_Bool, or_parts}
-use Rattle.gm_metadata.specs.Images.{Sizes, same_label}
+use Rattle.gm_metadata.specs.Images.{Image, Sizes, same_label}
 use Rattle.gm_state.specs.declared.command.Command.{Command}
 use Rattle.gm_state.specs.declared.command.Intent.{Intent}
 use Rattle.gm_state.specs.declared.command.Intent.TheVariants.{Meta, Clear, Copy}
@@ -12,15 +12,15 @@ use Rattle.gm_state.specs.declared.records.Mirror.{Mirror}
 use Rattle.gm_state.specs.declared.records.Component.{Component}
 use Rattle.gm_state.specs.Words.{Has}
 use Rattle.gm_state.specs.Records.{Records, members}
-use Rattle.gm_state.specs.Intents.{is_last, any_copies, InOrder, Lends, IsAtHand}
-use Rattle.gm_state.specs.Readable.{is_copy, is_copy_to, IsReadable, AreOrdered, AreReadable}
-use Rattle.gm_state.specs.World.{World, Sound, ReplyFits, present}
+use Rattle.gm_state.specs.Intents.{IsOf, is_last, any_copies, InOrder, Lends, IsAtHand}
+use Rattle.gm_state.specs.Readable.{is_copy, is_copy_to, IsCopyWithin, IsReadable, AreOrdered}
+use Rattle.gm_state.specs.World.{World, Sound, CopiesData, ReplyFits, present}
 use Rattle.gm_state.proofs.Order.{same_is, same_from, same_refl, same_tells, differ}
 use Rattle.gm_metadata.specs.Sector.{carries, Bears}
 use Rattle.gm_metadata.specs.declared.metadata.Metadata.{Metadata}
 use Rattle.gm_state.specs.Lookups.{component_of}
 use Rattle.gm_state.proofs.Codec.{bears_carries}
-use Rattle.gm_rules.specs.After.{after, clears, intents_of, reply_to}
+use Rattle.gm_rules.specs.After.{after, clears, fills, intents_of, reply_to}
 use Rattle.gm_rules.specs.Bad.{applies, name_of, is_member_of}
 use Rattle.gm_rules.specs.Decides.{IsGood}
 use Rattle.gm_rules.specs.Step.{Plan, IsOwn, NewData, CanAnswer, HasPlan, WereBare, is_changed, answer}
@@ -94,8 +94,30 @@ no_copy (Meta p ∷ ts) h = no_copy ts (λ t k. h t (inr k))
 no_copy (Clear p ∷ ts) h = no_copy ts (λ t k. h t (inr k))
 no_copy (Copy a b c d ∷ ts) h = absurd (h (Copy a b c d) (inl refl))
 
-plain_readable : (s : Records) (ts : List Intent) → ArePlain ts → ((t : Intent) → Has ts t → IsReadable s t) → AreReadable s ts
-plain_readable s ts plain each = record { each = each; one_copy = (let e : length (filter is_copy ts) ≡ 0 = ap length (no_copy ts plain) in omega (arith, e)); ordered = ordered ts plain }
+-- What the copies among the intents bring, where mid is the image with them done: what they read and write is there, and
+-- is the data of the mirror, their targets say so behind them, and they copy just what the command fills.
+pub record Brings (u : World) (c : Command) (mid : Image) (s : Records) (ts : List Intent) : Type 0 where
+  pub lends : (t : Intent) → Has ts t → Lends u.size ts t
+  pub order : InOrder u.size ts
+  pub readable : (a b : List ℕ) (x y : ℕ) → Has ts (Copy a b x y) → IsCopyWithin s a b x y
+  pub one_copy : length (filter is_copy ts) ≤ 1
+  pub ordered : AreOrdered ts
+  pub at_hand : (a b : List ℕ) (x y : ℕ) → Has ts (Copy a b x y) → IsAtHand (present u) (Copy a b x y)
+  pub mirrored : (m : Mirror) (k : Component) → IsOf u.state m k → (i : ℕ) → any_copies ts k.provider i ≡ true → (is_last (u.size k.provider) i ≡ false) × (mid k.provider i ≡ u.holds m.name i)
+  pub kept : (q : List ℕ) (j : ℕ) → fills u.state c q j ≡ false → mid q j ≡ u.shelf q j
+
+-- intents without a copy bring nothing
+pub plain_brings : (u : World) (c : Command) (s : Records) (ts : List Intent) → ArePlain ts → Brings u c u.shelf s ts
+plain_brings u c s ts plain = record {
+  lends = λ t h. lent u.size ts t (plain t h);
+  order = in_order u.size ts plain;
+  readable = λ a b x y h. absurd (plain (Copy a b x y) h);
+  one_copy = (let e : length (filter is_copy ts) ≡ 0 = ap length (no_copy ts plain) in omega (arith, e));
+  ordered = ordered ts plain;
+  at_hand = λ a b x y h. absurd (plain (Copy a b x y) h);
+  mirrored = λ m k o i e. not_both (any_copies ts k.provider i) e (no_copies ts plain k.provider i);
+  kept = λ q j e. refl;
+}
 
 -- What the refusals and the words of a command give its intents: it names the mirror of the components that it writes,
 -- the providers of the components that it writes are
@@ -107,7 +129,7 @@ pub record Serves (u : World) (c : Command) (m : Mirror) (ks : List Component) :
   pub labels : (q : List ℕ) → clears u.state c q ≡ true → IsTrue (is_label q)
   pub reply : ReplyFits (reply_to c u.state)
 
-module _ (u : World) (key : List ℕ) (c : Command) (m : Mirror) (ks : List Component) (list : ℕ → List ℕ) (s : Records) (ts : List Intent) (sound : Sound u) (t : Turns u u.shelf m ks (clears u.state c) list s) (writes : Writes u u.shelf m ks (clears u.state c) ts) (were : Were u m ks list) (plain : ArePlain ts) (serves : Serves u c m ks) (can : CanAnswer u key c) where
+module _ (u : World) (key : List ℕ) (c : Command) (mid : Image) (m : Mirror) (ks : List Component) (list : ℕ → List ℕ) (s : Records) (ts : List Intent) (sound : Sound u) (t : Turns u mid m ks (clears u.state c) list s) (writes : Writes u mid m ks (clears u.state c) ts) (were : Were u m ks list) (brings : Brings u c mid s ts) (serves : Serves u c m ks) (can : CanAnswer u key c) where
   abbrev gone : List ℕ → Bool
   gone = clears u.state c
 
@@ -117,25 +139,27 @@ module _ (u : World) (key : List ℕ) (c : Command) (m : Mirror) (ks : List Comp
     state = s;
     holds = holds_after m.name list u.holds;
     answered = answer u key c (reply_to c u.state) ∷ u.answered;
-    shelf = shelf_after u.size m ks gone u.shelf;
+    shelf = shelf_after u.size m ks gone mid;
     size = u.size;
     there = u.there;
   }
 
   sound_next : Sound next
-  sound_next = let before = sound_after u u.shelf m ks gone list s sound t in
+  sound_next = let before = sound_after u mid m ks gone list s sound t in
       record { state = before.state; answers = answers_after u key c (reply_to c u.state) serves.reply sound.answers can; sizes = before.sizes; full = before.full; whole = before.whole }
 
-  -- what is neither a last sector of a component nor cleared is as it was
-  others : (q : List ℕ) (j : ℕ) → is_changed u c next q j ≡ false → shelf_after u.size m ks gone u.shelf q j ≡ u.shelf q j
+  -- what is neither a last sector of a component nor cleared nor filled is as it was
+  others : (q : List ℕ) (j : ℕ) → is_changed u c next q j ≡ false → shelf_after u.size m ks gone mid q j ≡ u.shelf q j
   others q j off =
-      let parts : (list_any (λ k. same_label k.provider q && k.sectors == j + 1) s.components ≡ false) × ((gone q && is_last (u.size q) j) ≡ false)
-      = or_parts (list_any (λ k. same_label k.provider q && k.sectors == j + 1) s.components) (gone q && is_last (u.size q) j) off in
+      let first = or_parts (list_any (λ k. same_label k.provider q && k.sectors == j + 1) s.components) ((gone q && is_last (u.size q) j) || fills u.state c q j) off in
+      let rest = or_parts (gone q && is_last (u.size q) j) (fills u.state c q j) first.1 in
+      let parts : (list_any (λ k. same_label k.provider q && k.sectors == j + 1) s.components ≡ false) × ((gone q && is_last (u.size q) j) ≡ false) = (first.0, rest.0) in
+      let same : mid q j ≡ u.shelf q j = brings.kept q j rest.1 in
       elim (cases_Bool (is_last (u.size q) j)) [
-        | inr e ↦ rw e refl
+        | inr e ↦ rw e same
         | inl e ↦ elim (option_cases (find (λ (k : Component). same_label k.provider q) ks)) [
           | inl none ↦ elim (cases_Bool (gone q)) [
-            | inr g ↦ rw (e, none, g) refl
+            | inr g ↦ rw (e, none, g) same
             | inl g ↦ not_both (gone q && is_last (u.size q) j) (rw (g, e) refl) parts.1
           ]
           | inr some ↦
@@ -145,30 +169,30 @@ module _ (u : World) (key : List ℕ) (c : Command) (m : Mirror) (ks : List Comp
               let size : u.size q ≡ Some k.sectors = subst (λ (x : List ℕ). u.size x ≡ Some k.sectors) at (t.there k f.0) in
               let last : (k.sectors == j + 1) ≡ true = sectors_at (u.size q) k.sectors j size e in
               not_both (list_any (λ k. same_label k.provider q && k.sectors == j + 1) s.components)
-              (any_from (λ k. same_label k.provider q && k.sectors == j + 1) s.components k (in_s u u.shelf m ks gone list s sound t k f.0).0 (rw (f.1, last) refl)) parts.0
+              (any_from (λ k. same_label k.provider q && k.sectors == j + 1) s.components k (in_s u mid m ks gone list s sound t k f.0).0 (rw (f.1, last) refl)) parts.0
         ]
       ]
 
-  readable_one : (r : Intent) → IsPlain r → IsOne u u.shelf ks gone r → IsReadable s r
-  readable_one (Meta p) plain one = λ none.
+  readable_one : (r : Intent) → Has ts r → IsOne u mid ks gone r → IsReadable s r
+  readable_one (Meta p) in_ts one = λ none.
       let k : Component = one.0 in
-      let h = (in_s u u.shelf m ks gone list s sound t k one.1).0 in
+      let h = (in_s u mid m ks gone list s sound t k one.1).0 in
       not_both (same_label k.provider p) (same_from k.provider p one.2) (found_none (λ (j : Component). same_label j.provider p) s.components none k h)
-  readable_one (Clear p) plain one = (
+  readable_one (Clear p) in_ts one = (
     serves.labels p one,
     find_none (λ (j : Component). same_label j.provider p) s.components (λ j h. differ j.provider p (λ e. not_both (gone p) one (subst (λ (x : List ℕ). gone x ≡ false) e (t.cleared j h)))),
   )
-  readable_one (Copy a b x y) plain one = absurd plain
+  readable_one (Copy a b x y) in_ts one = brings.readable a b x y in_ts
 
   is_readable : (r : Intent) → Has ts r → IsReadable s r
-  is_readable r h = readable_one r (plain r h) (writes.each r h)
+  is_readable r h = readable_one r h (writes.each r h)
 
-  hand_one : (r : Intent) → IsPlain r → IsOne u u.shelf ks gone r → IsAtHand (present u) r
-  hand_one (Meta p) plain one = subst (λ (x : List ℕ). IsSomeAnd (present u x) (λ n. 0 < n)) one.2 (serves.written one.0 one.1)
-  hand_one (Clear p) plain one = serves.cleared p one
-  hand_one (Copy a b x y) plain one = absurd plain
+  hand_one : (r : Intent) → Has ts r → IsOne u mid ks gone r → IsAtHand (present u) r
+  hand_one (Meta p) in_ts one = subst (λ (x : List ℕ). IsSomeAnd (present u x) (λ n. 0 < n)) one.2 (serves.written one.0 one.1)
+  hand_one (Clear p) in_ts one = serves.cleared p one
+  hand_one (Copy a b x y) in_ts one = brings.at_hand a b x y in_ts
 
-  own_one : (p : List ℕ) → IsOne u u.shelf ks gone (Meta p) → IsOwn s c p
+  own_one : (p : List ℕ) → IsOne u mid ks gone (Meta p) → IsOwn s c p
   own_one p one =
       let k : Component = one.0 in
       let all : Has (members s.components m.name) k = subst (λ (l : List Component). Has l k) (sym t.mine) one.1 in
@@ -178,7 +202,11 @@ module _ (u : World) (key : List ℕ) (c : Command) (m : Mirror) (ks : List Comp
   is_own p h = own_one p (writes.each (Meta p) h)
 
   is_at_hand : (r : Intent) → Has ts r → IsAtHand (present u) r
-  is_at_hand r h = hand_one r (plain r h) (writes.each r h)
+  is_at_hand r h = hand_one r h (writes.each r h)
+
+  -- what is copied to a component of before isn't its last sector, so that it stays
+  copied : CopiesData u next ts
+  copied a k o i e = let b = brings.mirrored a k o i e in rw b.0 b.1
 
   planned : s ≡ after (present u) c u.state → IsGood u.state (seen_of u) c → NewData u c next → WereBare c u next → Plan u key c ts next
   planned is good new bare = record {
@@ -191,24 +219,33 @@ module _ (u : World) (key : List ℕ) (c : Command) (m : Mirror) (ks : List Comp
       there = λ q. refl;
       holds = λ a h i. elim (same_tells a.name m.name) [ inl y ↦ rw y.0 (were.list_stays a h y.1 i ∙ ap (λ (n : List ℕ). u.holds n i) (sym y.1)) | inr n ↦ rw n.0 refl ];
       new = new;
+      held = sound_next.whole;
       full = sound_next.full;
-      cleared = λ q j g l. says_after u u.shelf m ks gone list s sound t ts writes (Clear q) (writes.clears q g) q j (rw (same_refl q, l) refl);
+      cleared = λ q j g l. says_after u mid m ks gone list s sound t ts writes (Clear q) (writes.clears q g) q j (rw (same_refl q, l) refl);
       others = others;
     };
     sound = sound_next;
     redo = record {
-      says = says_after u u.shelf m ks gone list s sound t ts writes;
-      lends = λ r h. lent u.size ts r (plain r h);
-      agrees = λ q there j off. agrees_after u u.shelf m ks gone list s sound t ts writes q j off;
+      says = says_after u mid m ks gone list s sound t ts writes;
+      lends = brings.lends;
+      agrees = λ q there j off. agrees_after u mid m ks gone list s sound t ts writes q j off;
     };
-    order = in_order u.size ts plain;
-    claims = claims_after u u.shelf m ks gone list s sound t were;
-    readable = plain_readable s ts plain is_readable;
+    order = brings.order;
+    claims = claims_after u mid m ks gone list s sound t were;
+    readable = record { each = is_readable; one_copy = brings.one_copy; ordered = brings.ordered };
     at_hand = is_at_hand;
     own = is_own;
-    copies = λ a k o i e. not_both (any_copies ts k.provider i) e (no_copies ts plain k.provider i);
+    copies = copied;
     bare = bare;
   }
 
-  pub has : s ≡ after (present u) c u.state → ts ≡ intents_of c u.state s → IsGood u.state (seen_of u) c → NewData u c next → WereBare c u next → HasPlan u key c
-  has is are good new bare = (next, subst (λ (l : List Intent). Plan u key c l next) are (planned is good new bare))
+  pub has_by : s ≡ after (present u) c u.state → ts ≡ intents_of c u.state s → IsGood u.state (seen_of u) c → NewData u c next → WereBare c u next → HasPlan u key c
+  has_by is are good new bare = (next, subst (λ (l : List Intent). Plan u key c l next) are (planned is good new bare))
+
+-- where nothing is copied
+module _ (u : World) (key : List ℕ) (c : Command) (m : Mirror) (ks : List Component) (list : ℕ → List ℕ) (s : Records) (ts : List Intent) (sound : Sound u) (t : Turns u u.shelf m ks (clears u.state c) list s) (writes : Writes u u.shelf m ks (clears u.state c) ts) (were : Were u m ks list) (plain : ArePlain ts) (serves : Serves u c m ks) (can : CanAnswer u key c) where
+  abbrev after_all : World
+  after_all = next u key c u.shelf m ks list s ts sound t writes were (plain_brings u c s ts plain) serves can
+
+  pub has : s ≡ after (present u) c u.state → ts ≡ intents_of c u.state s → IsGood u.state (seen_of u) c → NewData u c after_all → WereBare c u after_all → HasPlan u key c
+  has is are good new bare = has_by u key c u.shelf m ks list s ts sound t writes were (plain_brings u c s ts plain) serves can is are good new bare

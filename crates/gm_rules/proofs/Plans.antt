@@ -1,7 +1,7 @@
 -- Each command that nothing refuses has a plan.
 use Rattle.std.proofs.Common.{ℕ, List}
 use Rattle.gm_state.specs.declared.command.Command.{Command}
-use Rattle.gm_state.specs.declared.command.Command.TheVariants.{Label, Insert, Remove, Deactivate, Activate, Forget, Rebuild, Configure, Clear, Destroy, Lost}
+use Rattle.gm_state.specs.declared.command.Command.TheVariants.{Label, Insert, Remove, Deactivate, Activate, Forget, Rebuild, Configure, Clear, Destroy, Lost, Advance}
 use Rattle.gm_state.specs.World.{World, Sound}
 use Rattle.gm_rules.specs.Decides.{IsGood}
 use Rattle.gm_rules.specs.Step.{CanAnswer, HasPlan}
@@ -10,6 +10,7 @@ use Rattle.gm_rules.proofs.Labelling.{label_has}
 use Rattle.gm_rules.proofs.Inserting.{insert_has}
 use Rattle.gm_rules.proofs.Removing.{lost_has, remove_has}
 use Rattle.gm_rules.proofs.Staying.{deactivate_has, activate_has, forget_has, rebuild_has, configure_has}
+use Rattle.gm_rules.proofs.Filling.{advance_has}
 use Rattle.gm_rules.proofs.Wiping.{clear_has}
 use Rattle.gm_rules.proofs.Destroying.{destroy_has}
 
@@ -25,3 +26,4 @@ every_plan u key (Configure n settings) sound answer good = configure_has u key 
 every_plan u key (Clear p) sound answer good = clear_has u key p sound answer good
 every_plan u key (Destroy n) sound answer good = destroy_has u key n sound answer good
 every_plan u key (Lost n ps) sound answer good = lost_has u key n ps sound answer good
+every_plan u key (Advance n p) sound answer good = advance_has u key n p sound answer good

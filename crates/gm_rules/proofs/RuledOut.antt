@@ -20,7 +20,7 @@ use Rattle.gm_rules.specs.Facts.{last_carries}
 use Rattle.gm_rules.specs.Worlds.{last_of}
 use Rattle.gm_state.proofs.Order.{same_is, same_from}
 use Rattle.gm_state.proofs.Words.{Has-filter, filter-Has, one}
-use Rattle.gm_state.proofs.Finding.{none_any, any_one, some_any, some_other, find_one, found_none, not_both, option_cases}
+use Rattle.gm_state.proofs.Finding.{none_any, any_one, some_any, some_other, find_one, found, found_none, not_both, option_cases}
 use Rattle.gm_rules.proofs.Good.{there_from, named}
 use Rattle.gm_rules.proofs.Turning.{IsOne}
 use Rattle.gm_rules.proofs.Planned.{IsPlain, ArePlain}
@@ -90,12 +90,21 @@ member_found s n p e =
           (found_none (λ (j : Component). same_label j.provider p) s.components none k.0 (Has-filter (λ (j : Component). same_label j.mirror n) s.components k.0 k.1).0)
     ]
 
-active_is : (d : Disk) → is_active d ≡ true → d ≡ InSync
+-- and is one of that mirror
+pub home_of : (s : Records) (n p : List ℕ) → IsState s → (k : Component) → component_of s p ≡ Some k → list_any (λ q. not (list_any (λ k. same_label k.provider q) (members s.components n))) (p ∷ []) ≡ false → k.mirror ≡ n
+home_of s n p state k at off =
+    let j = is_member (members s.components n) p off in
+    let mine = Has-filter (λ (c : Component). same_label c.mirror n) s.components j.0 j.1 in
+    let f = found (λ (c : Component). same_label c.provider p) s.components k at in
+    let same : k ≡ j.0 = one provider s.components state.components_in_order k j.0 f.0 mine.0 (same_is k.provider p f.1 ∙ sym j.2) in
+    ap (λ (c : Component). c.mirror) same ∙ same_is j.0.mirror n mine.1
+
+pub active_is : (d : Disk) → is_active d ≡ true → d ≡ InSync
 active_is InSync e = refl
 active_is Inactive e = cc
 active_is (Copying f h) e = cc
 
-on_one : (k : Component) (p : List ℕ) → k.provider ≡ p → is_on_any (p ∷ []) k ≡ true
+pub on_one : (k : Component) (p : List ℕ) → k.provider ≡ p → is_on_any (p ∷ []) k ≡ true
 on_one k p e = rw (same_from k.provider p e) refl
 
 -- an ACTIVE one is left

@@ -3,7 +3,7 @@ use Rattle.std.proofs.Common.{◌≡◌, ◌∙◌, inl, ℕ, ◌||◌, ◌+◌,
 use Rattle.std.specs.List.{list_any}
 use Rattle.gm_metadata.specs.Images.{Sizes}
 use Rattle.gm_state.specs.declared.command.Command.{Command}
-use Rattle.gm_state.specs.declared.command.Command.TheVariants.{Label, Insert, Remove, Deactivate, Activate, Forget, Rebuild, Configure, Clear, Destroy, Lost}
+use Rattle.gm_state.specs.declared.command.Command.TheVariants.{Label, Insert, Remove, Deactivate, Activate, Forget, Rebuild, Configure, Clear, Destroy, Lost, Advance}
 use Rattle.gm_state.specs.declared.records.Mirror.{Mirror}
 use Rattle.gm_state.specs.declared.records.Component.{Component}
 use Rattle.gm_state.specs.Words.{Has, put}
@@ -12,7 +12,7 @@ use Rattle.gm_state.specs.Lookups.{mirror_of}
 use Rattle.gm_state.specs.World.{World, present}
 use Rattle.gm_rules.specs.declared.facts.Fact.{Fact}
 use Rattle.gm_rules.specs.declared.refusals.Refusal.{Refusal}
-use Rattle.gm_rules.specs.declared.refusals.Refusal.TheVariants.{NoMirror, NameTaken, MidTaken, Absent, ProviderTaken, CarriesMetadata, TooSmall, NotMember, DidTaken, Full, TooManyMirrors, SomeLost, LastActive, AlreadyInactive, NotInactive, NoneLost, Inactive, LastSyncid, LastGenid, NothingGiven, WrongSize, NoMetadata}
+use Rattle.gm_rules.specs.declared.refusals.Refusal.TheVariants.{NoMirror, NameTaken, MidTaken, Absent, ProviderTaken, CarriesMetadata, TooSmall, NotMember, DidTaken, Full, TooManyMirrors, SomeLost, LastActive, AlreadyInactive, NotInactive, NoneLost, Inactive, NotSynchronizing, LastSyncid, LastGenid, NothingGiven, WrongSize, NoMetadata}
 use Rattle.gm_rules.specs.Facts.{size_in, last_in, last_carries}
 use Rattle.gm_rules.specs.Bad.{applies, seen_in, has_size, has_wrong_size, looked_at, awaited, mirror_named, is_there_and}
 use Rattle.gm_rules.specs.After.{after, intents_of, new_mirror, first_component, spare, on_found}
@@ -56,6 +56,7 @@ module _ (facts : List Fact) (u : World) (c : Command) (are : AreFacts facts u c
   same NotInactive = refl
   same NoneLost = refl
   same Inactive = refl
+  same NotSynchronizing = refl
   same LastSyncid = refl
   same LastGenid = refl
   same NothingGiven = refl
@@ -75,6 +76,7 @@ same_after x y (Configure n settings) s e = refl
 same_after x y (Clear p) s e = refl
 same_after x y (Destroy n) s e = refl
 same_after x y (Lost n ps) s e = refl
+same_after x y (Advance n p) s e = refl
 
 -- what is decided from facts of the world is decided in the world
 decides_in : (facts : List Fact) (u : World) (c : Command) → AreFacts facts u c → (r : Result Changed Refusal) → Decides u.state (seen_in facts) c r → Decides u.state (seen_of u) c r

@@ -62,11 +62,11 @@ same_both false x = refl
 Ascends-members : (ks : List Component) → Ascends provider ks → (n : List ℕ) → Ascends provider (members ks n)
 Ascends-members ks a n = Ascends-filter (λ (c : Component). same_label c.mirror n) provider ks a
 
-last_at : (o : Option ℕ) (n : ℕ) → o ≡ Some n → 0 < n → is_last o (n - 1) ≡ true
+pub last_at : (o : Option ℕ) (n : ℕ) → o ≡ Some n → 0 < n → is_last o (n - 1) ≡ true
 last_at None n e l = cc
 last_at (Some k) n e l = let h : k ≡ n = cc in eq-eqb k (n - 1 + 1) (omega arith)
 
-not_last : (o : Option ℕ) (n i : ℕ) → o ≡ Some n → i + 1 < n → is_last o i ≡ false
+pub not_last : (o : Option ℕ) (n i : ℕ) → o ≡ Some n → i + 1 < n → is_last o i ≡ false
 not_last None n i e l = cc
 not_last (Some k) n i e l = let h : k ≡ n = cc in ne_eqb k (i + 1) (λ (x : k ≡ i + 1). omega arith)
 

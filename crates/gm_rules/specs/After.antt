@@ -1,5 +1,5 @@
 -- What a command makes of the records, and what it has written.
-use Rattle.std.specs.Prelude.{◌+◌, ◌-◌, ℕ, Bool, true, false, not, List, [], ◌∷◌, Option, Some, None, map, filter, length, unwrap_or, if◌then◌else◌}
+use Rattle.std.specs.Prelude.{◌+◌, ◌-◌, ◌==◌, ◌&&◌, ℕ, Bool, true, false, not, nat_le, nat_lt, List, [], ◌∷◌, Option, Some, None, map, filter, length, unwrap_or, if◌then◌else◌}
 use Rattle.std.specs.List.{list_any}
 use Rattle.std.specs.Option.{option_map_or}
 use Rattle.gm_metadata.specs.Images.{Sizes, same_label}
@@ -10,16 +10,18 @@ use Rattle.gm_state.specs.declared.command.Settings.{Settings}
 use Rattle.gm_state.specs.declared.command.Command.{Command}
 use Rattle.gm_state.specs.declared.command.Command.TheVariants as commands
 use Rattle.gm_state.specs.declared.command.Intent.{Intent}
-use Rattle.gm_state.specs.declared.command.Intent.TheVariants.{Meta, Clear}
+use Rattle.gm_state.specs.declared.command.Intent.TheVariants.{Meta, Clear, Copy}
 use Rattle.gm_state.specs.declared.command.Reply.{Reply}
-use Rattle.gm_state.specs.declared.command.Reply.TheVariants.{Plain}
+use Rattle.gm_state.specs.declared.command.Reply.TheVariants.{Plain, Copied}
 use Rattle.gm_state.specs.declared.records.Mirror.{Mirror}
 use Rattle.gm_state.specs.declared.records.Component.{Component}
+use Rattle.gm_state.specs.declared.records.Disk.{Disk}
 use Rattle.gm_state.specs.declared.records.Disk.TheVariants.{InSync, Inactive, Copying}
 use Rattle.gm_state.specs.Commands.{balance_of_word}
 use Rattle.gm_state.specs.Words.{put, put_all, without, without_all}
 use Rattle.gm_state.specs.Records.{Records, name, provider, members}
-use Rattle.gm_state.specs.Lookups.{mirror_of, component_of, is_inactive}
+use Rattle.gm_state.specs.Lookups.{mirror_of, component_of, held_of, is_inactive}
+use Rattle.gm_state.specs.Sources.{source_of}
 
 -- the record of a labelled mirror: genid 0, syncid 1, one component, and all sectors of the provider but the last as data
 abbrev pub new_mirror : List ℕ → ℕ → BalanceWord → ℕ → MirrorFlags → ℕ → Mirror
@@ -102,10 +104,24 @@ configured settings k = record k {
   hardcoded = unwrap_or settings.hardcode k.hardcoded;
 }
 
--- what is made of the records by way of a mirror or a component that is registered
-abbrev pub on_found : {X : Type 0} → Option X → Records → (X → Records) → Records
-on_found None s f = s
-on_found (Some x) s f = f x
+-- how many of the mirror's data sectors a component holds after its next stretch, which has at most 256
+abbrev pub reach : Mirror → Component → ℕ
+reach m k = if nat_lt (held_of k.disk + 256) m.data_sectors then held_of k.disk + 256 else m.data_sectors
+
+-- a component that is filled, and holds so many of them by now: in sync where it holds all
+abbrev pub holding : Mirror → ℕ → Disk → Disk
+holding m held InSync = InSync
+holding m held Inactive = Inactive
+holding m held (Copying forced was) = if held == m.data_sectors then InSync else Copying forced held
+
+-- a component to which its next stretch was copied
+abbrev pub advanced : Mirror → Component → Component
+advanced m k = record k { disk = holding m (reach m k) k.disk }
+
+-- what is made by way of a mirror or a component that is registered
+abbrev pub on_found : {X Y : Type 0} → Option X → Y → (X → Y) → Y
+on_found None y f = y
+on_found (Some x) y f = f x
 
 -- the records after the command: those before but for what is named here
 abbrev pub after : Sizes → Command → Records → Records
@@ -150,9 +166,14 @@ after size (commands.Lost n ps) s = on_found (mirror_of s n) s (λ m. record {
   mirrors = put name (record m { genid = m.genid + 1 }) s.mirrors;
   components = without_all provider ps s.components;
 })
+after size (commands.Advance n p) s = on_found (mirror_of s n) s (λ m. on_found (component_of s p) s (λ k. record {
+  mirrors = s.mirrors;
+  components = put provider (advanced m k) s.components;
+}))
 
 -- what the command is answered beside its number, where the records before are s
 abbrev pub reply_to : Command → Records → Reply
+reply_to (commands.Advance n p) s = on_found (mirror_of s n) Plain (λ m. on_found (component_of s p) Plain (λ k. Copied (reach m k) m.data_sectors))
 reply_to _ s = Plain
 
 -- Meta of each of the components, and Clear of each
@@ -161,6 +182,10 @@ metas ks = map (λ k. Meta k.provider) ks
 
 abbrev pub clears_of : List Component → List Intent
 clears_of ks = map (λ k. Clear k.provider) ks
+
+-- the next stretch of a component is copied to it, and then it says so
+abbrev pub filling : Mirror → Component → List ℕ → List Intent
+filling m k source = Copy source k.provider (held_of k.disk) (reach m k) ∷ Meta k.provider ∷ []
 
 -- the intents in their order, where the records before are s and those after s'
 abbrev pub intents_of : Command → Records → Records → List Intent
@@ -175,6 +200,8 @@ intents_of (commands.Configure n settings) s s' = metas (members s'.components n
 intents_of (commands.Clear p) s s' = Clear p ∷ []
 intents_of (commands.Destroy n) s s' = clears_of (members s.components n)
 intents_of (commands.Lost n ps) s s' = metas (members s'.components n)
+intents_of (commands.Advance n p) s s' =
+    on_found (mirror_of s n) [] (λ m. on_found (component_of s p) [] (λ k. on_found (source_of s p) [] (λ source. filling m k source)))
 
 -- whether the last sector of q becomes zero, where the records before are s
 abbrev pub clears : Records → Command → List ℕ → Bool
@@ -189,3 +216,10 @@ clears s (commands.Configure n settings) q = false
 clears s (commands.Clear p) q = same_label p q
 clears s (commands.Destroy n) q = list_any (λ k. same_label k.provider q) (members s.components n)
 clears s (commands.Lost n ps) q = false
+clears s (commands.Advance n p) q = false
+
+-- whether sector j of q is one that the command copies, where the records before are s
+abbrev pub fills : Records → Command → List ℕ → ℕ → Bool
+fills s (commands.Advance n p) q j =
+    on_found (mirror_of s n) false (λ m. on_found (component_of s p) false (λ k. same_label p q && (nat_le (held_of k.disk) j && nat_lt j (reach m k))))
+fills s _ q j = false

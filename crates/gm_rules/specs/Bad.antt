@@ -7,13 +7,16 @@ use Rattle.gm_state.specs.declared.records.Component.{Component}
 use Rattle.gm_state.specs.declared.command.Preference.{Preference}
 use Rattle.gm_state.specs.declared.command.Settings.{Settings}
 use Rattle.gm_state.specs.declared.command.Command.{Command}
-use Rattle.gm_state.specs.declared.command.Command.TheVariants.{Label, Insert, Remove, Deactivate, Activate, Forget, Rebuild, Configure, Clear, Destroy, Lost}
+use Rattle.gm_state.specs.declared.command.Command.TheVariants.{Label, Insert, Remove, Deactivate, Activate, Forget, Rebuild, Configure, Clear, Destroy, Lost, Advance}
 use Rattle.gm_state.specs.Records.{Records}
 use Rattle.gm_state.specs.Lookups.{mirror_of, component_of, is_active, is_inactive}
+use Rattle.gm_state.specs.declared.states.ComponentState.{ComponentState}
+use Rattle.gm_state.specs.declared.states.ComponentState.TheVariants as states
+use Rattle.gm_state.specs.States.{state_by}
 use Rattle.gm_rules.specs.declared.facts.Fact.{Fact}
 use Rattle.gm_rules.specs.Facts.{size_in, last_in, last_carries}
 use Rattle.gm_rules.specs.declared.refusals.Refusal.{Refusal}
-use Rattle.gm_rules.specs.declared.refusals.Refusal.TheVariants.{NoMirror, NameTaken, MidTaken, Absent, ProviderTaken, CarriesMetadata, TooSmall, NotMember, DidTaken, Full, TooManyMirrors, SomeLost, LastActive, AlreadyInactive, NotInactive, NoneLost, Inactive, LastSyncid, LastGenid, NothingGiven, WrongSize, NoMetadata}
+use Rattle.gm_rules.specs.declared.refusals.Refusal.TheVariants.{NoMirror, NameTaken, MidTaken, Absent, ProviderTaken, CarriesMetadata, TooSmall, NotMember, DidTaken, Full, TooManyMirrors, SomeLost, LastActive, AlreadyInactive, NotInactive, NoneLost, Inactive, NotSynchronizing, LastSyncid, LastGenid, NothingGiven, WrongSize, NoMetadata}
 
 -- the mirror that a command names
 abbrev pub name_of : Command → Option (List ℕ)
@@ -28,6 +31,7 @@ name_of (Configure n settings) = Some n
 name_of (Clear p) = None
 name_of (Destroy n) = Some n
 name_of (Lost n ps) = Some n
+name_of (Advance n p) = Some n
 
 -- the provider of a preference
 abbrev pub preferred : Option Preference → List (List ℕ)
@@ -47,6 +51,7 @@ providers_of (Configure n settings) = preferred settings.preference
 providers_of (Clear p) = p ∷ []
 providers_of (Destroy n) = []
 providers_of (Lost n ps) = ps
+providers_of (Advance n p) = p ∷ []
 
 -- those whose images it looks at: lost images may be gone or broken
 abbrev pub looked_at : Command → List (List ℕ)
@@ -118,6 +123,11 @@ has_twice (p ∷ ps) = list_any (λ q. same_label q p) ps || has_twice ps
 abbrev pub is_empty : Settings → Bool
 is_empty s = is_none s.balance && is_none s.slice && is_none s.autosync && is_none s.failsync && is_none s.hardcode && is_none s.preference
 
+-- a component of a mirror is SYNCHRONIZING
+abbrev pub is_synchronizing : ComponentState → Bool
+is_synchronizing states.Synchronizing = true
+is_synchronizing _ = false
+
 -- a configure without any option
 abbrev pub gives_nothing : Command → Bool
 gives_nothing (Configure n settings) = is_empty settings
@@ -146,6 +156,7 @@ applies s x c AlreadyInactive = list_any (λ k. is_on_any (providers_of c) k && 
 applies s x c NotInactive = list_any (λ k. is_on_any (providers_of c) k && not (is_inactive k.disk)) (members_named s c)
 applies s x c NoneLost = is_there_and (mirror_named s c) (λ m. length (members_named s c) == m.all)
 applies s x c Inactive = list_any (λ k. is_on_any (providers_of c) k && is_inactive k.disk) (members_named s c)
+applies s x c NotSynchronizing = is_there_and (mirror_named s c) (λ m. list_any (λ k. is_on_any (providers_of c) k && not (is_synchronizing (state_by m.flags k.disk))) (members_named s c))
 applies s x c LastSyncid = is_there_and (mirror_named s c) (λ m. m.syncid == 4294967295)
 applies s x c LastGenid = is_there_and (mirror_named s c) (λ m. m.genid == 4294967295)
 applies s x c NothingGiven = gives_nothing c

@@ -1,9 +1,9 @@
 -- The refusals: their numbers, and which command lists which.
 use Rattle.std.specs.Prelude.{ℕ, List, [], ◌∷◌}
 use Rattle.gm_state.specs.declared.command.Command.{Command}
-use Rattle.gm_state.specs.declared.command.Command.TheVariants.{Label, Insert, Remove, Deactivate, Activate, Forget, Rebuild, Configure, Clear, Destroy, Lost}
+use Rattle.gm_state.specs.declared.command.Command.TheVariants.{Label, Insert, Remove, Deactivate, Activate, Forget, Rebuild, Configure, Clear, Destroy, Lost, Advance}
 use Rattle.gm_rules.specs.declared.refusals.Refusal.{Refusal}
-use Rattle.gm_rules.specs.declared.refusals.Refusal.TheVariants.{NoMirror, NameTaken, MidTaken, Absent, ProviderTaken, CarriesMetadata, TooSmall, NotMember, DidTaken, Full, TooManyMirrors, SomeLost, LastActive, AlreadyInactive, NotInactive, NoneLost, Inactive, LastSyncid, LastGenid, NothingGiven, WrongSize, NoMetadata}
+use Rattle.gm_rules.specs.declared.refusals.Refusal.TheVariants.{NoMirror, NameTaken, MidTaken, Absent, ProviderTaken, CarriesMetadata, TooSmall, NotMember, DidTaken, Full, TooManyMirrors, SomeLost, LastActive, AlreadyInactive, NotInactive, NoneLost, Inactive, NotSynchronizing, LastSyncid, LastGenid, NothingGiven, WrongSize, NoMetadata}
 use Rattle.gm_rules.specs.declared.refusals.CallRefusal.{CallRefusal}
 use Rattle.gm_rules.specs.declared.refusals.CallRefusal.TheVariants.{NoKey, KeyTaken, NoRoom, ByRules}
 
@@ -26,6 +26,7 @@ number_of AlreadyInactive = 18
 number_of NotInactive = 19
 number_of NoneLost = 20
 number_of Inactive = 21
+number_of NotSynchronizing = 22
 number_of LastSyncid = 23
 number_of LastGenid = 24
 number_of NothingGiven = 25
@@ -52,3 +53,4 @@ own (Configure n settings) = NoMirror ∷ Absent ∷ NotMember ∷ NothingGiven 
 own (Clear p) = Absent ∷ ProviderTaken ∷ WrongSize ∷ NoMetadata ∷ []
 own (Destroy n) = NoMirror ∷ Absent ∷ []
 own (Lost n ps) = NoMirror ∷ Absent ∷ NotMember ∷ LastActive ∷ LastGenid ∷ []
+own (Advance n p) = NoMirror ∷ Absent ∷ NotMember ∷ Inactive ∷ NotSynchronizing ∷ []

@@ -17,22 +17,22 @@ use Rattle.gm_state.specs.Words.{Has}
 use Rattle.gm_state.specs.Lookups.{metadata, component_of}
 use Rattle.gm_state.specs.Intents.{IsOf, is_last, IsRedo, InOrder, IsAtHand}
 use Rattle.gm_state.specs.Readable.{AreReadable}
-use Rattle.gm_state.specs.World.{World, Answered, Sound, Claims, CopiesData, is_key, present}
+use Rattle.gm_state.specs.World.{World, Answered, Sound, Claims, Below, CopiesData, is_key, present}
 use Rattle.gm_rules.specs.declared.refusals.Refusal.{Refusal}
 use Rattle.gm_rules.specs.Refusals.{own}
-use Rattle.gm_state.specs.Records.{Records}
+use Rattle.gm_state.specs.Records.{Records, held_by}
 use Rattle.gm_rules.specs.Bad.{applies, members_named}
 use Rattle.gm_rules.specs.Worlds.{seen_of}
-use Rattle.gm_rules.specs.After.{after, intents_of, reply_to, clears}
+use Rattle.gm_rules.specs.After.{after, intents_of, reply_to, clears, fills}
 
 -- the refusal applies to the command in the world
 pub record Bad (u : World) (c : Command) (r : Refusal) : Type 0 where
   pub listed : Has (own c) r
   pub met : applies u.state (seen_of u) c r ≡ true
 
--- sector j of q is the last one of a component after the command, or of a provider that is cleared
+-- sector j of q is the last one of a component after the command, or of a provider that is cleared, or the command copies it
 abbrev pub is_changed : World → Command → World → List ℕ → ℕ → Bool
-is_changed u c w q j = list_any (λ k. same_label k.provider q && k.sectors == j + 1) w.state.components || (clears u.state c q && is_last (u.size q) j)
+is_changed u c w q j = list_any (λ k. same_label k.provider q && k.sectors == j + 1) w.state.components || ((clears u.state c q && is_last (u.size q) j) || fills u.state c q j)
 
 -- the data list of a new mirror: the first sectors of its provider
 abbrev pub NewData : World → Command → World → Type 0
@@ -47,6 +47,7 @@ NewData u (commands.Configure n settings) w = Unit {0}
 NewData u (commands.Clear p) w = Unit {0}
 NewData u (commands.Destroy n) w = Unit {0}
 NewData u (commands.Lost n ps) w = Unit {0}
+NewData u (commands.Advance n p) w = Unit {0}
 
 -- the answer that the command's key keeps from now on
 abbrev pub answer : World → List ℕ → Command → Reply → Answered
@@ -62,6 +63,7 @@ pub record Step (u : World) (key : List ℕ) (c : Command) (w : World) (r : Repl
   pub there : (q : List ℕ) → w.there q ≡ u.there q
   pub holds : (m : Mirror) → Has u.state.mirrors m → (i : ℕ) → w.holds m.name i ≡ u.holds m.name i
   pub new : NewData u c w
+  pub held : (m : Mirror) (k : Component) → IsOf w.state m k → Below w.shelf (w.holds m.name) k.provider (held_by k.disk m.data_sectors)
   pub full : (m : Mirror) (k : Component) → IsOf w.state m k → w.shelf k.provider (k.sectors - 1) ≡ encoded (metadata m k)
   pub cleared : (q : List ℕ) (j : ℕ) → clears u.state c q ≡ true → is_last (u.size q) j ≡ true → w.shelf q j ≡ zeros
   pub others : (q : List ℕ) (j : ℕ) → is_changed u c w q j ≡ false → w.shelf q j ≡ u.shelf q j

@@ -5,15 +5,18 @@ ghost use Rattle.std.specs.List.{list_all, list_any};
 ghost use Rattle.gm_metadata.specs.Images.{same_label};
 ghost use Rattle.gm_state.specs.Lookups.{component_of, is_active, is_inactive};
 ghost use Rattle.gm_state.specs.Records.{Records};
+ghost use Rattle.gm_state.specs.States.{state_by};
 ghost use Rattle.gm_rules.specs.Facts.{size_in, last_in, last_carries};
 ghost use Rattle.gm_rules.specs.Refusals.{own};
-ghost use Rattle.gm_rules.specs.Bad.{name_of, providers_of, preferred, looked_at, has_mid, has_did, is_member_of, is_on_any, is_awaited, has_twice, is_empty, gives_nothing, has_size, has_wrong_size, is_there_and, mirror_named, seen_in};
+ghost use Rattle.gm_rules.specs.Bad.{name_of, providers_of, preferred, looked_at, has_mid, has_did, is_member_of, is_on_any, is_awaited, has_twice, is_synchronizing, is_empty, gives_nothing, has_size, has_wrong_size, is_there_and, mirror_named, seen_in};
 ghost use Rattle.gm_rules.specs.Parts.{applies_to_part};
 
 use crate::facts::Facts;
 use crate::refusals::{Refusal, own};
 use gm_metadata::Label;
-use gm_state::{Command, Component, Disk, Mirror, Preference, Settings, State};
+use gm_state::{
+    Command, Component, ComponentState, Disk, Mirror, Preference, Settings, State, state_by,
+};
 use std::slice;
 
 const MAX_COMPONENTS: u8 = 16;
@@ -37,7 +40,8 @@ pub(crate) fn name_of(command: &Command) -> Option<Label>
         | Command::Rebuild { name, .. }
         | Command::Configure { name, .. }
         | Command::Destroy { name }
-        | Command::Lost { name, .. } => Some(*name),
+        | Command::Lost { name, .. }
+        | Command::Advance { name, .. } => Some(*name),
         Command::Clear { .. } => None,
     }
 }
@@ -63,7 +67,8 @@ pub fn providers_of(command: &Command) -> &[Label]
         | Command::Deactivate { provider, .. }
         | Command::Activate { provider, .. }
         | Command::Rebuild { provider, .. }
-        | Command::Clear { provider } => slice::from_ref(provider),
+        | Command::Clear { provider }
+        | Command::Advance { provider, .. } => slice::from_ref(provider),
         Command::Forget { .. } | Command::Destroy { .. } => &[],
         Command::Configure { settings, .. } => preferred(&settings.preference),
         Command::Lost { providers, .. } => providers.as_slice(),
@@ -303,6 +308,27 @@ fn any_in_use(components: &[Component], name: Option<Label>, providers: &[Label]
         .any(|k| is_on_any(providers, k) && !is_inactive(k))
 }
 
+fn is_synchronizing(state: ComponentState) -> bool
+    ensures { result ≡ is_synchronizing state }
+{
+    matches!(state, ComponentState::Synchronizing)
+}
+
+// Whether a component of the mirror that is on one of these providers isn't SYNCHRONIZING.
+fn any_not_synchronizing(
+    components: &[Component],
+    mirror: &Mirror,
+    name: Option<Label>,
+    providers: &[Label],
+) -> bool
+    ensures { result ≡ list_any
+        (λ k. is_on_any providers.now k && not (is_synchronizing (state_by mirror.now.flags k.disk)))
+        (filter (λ k. is_member_of name k) components.now) }
+{
+    components.iter().filter(|k| is_member_of(name, k)).any(|k| is_on_any(providers, k)
+        && !is_synchronizing(state_by(mirror.flags, k.disk)))
+}
+
 fn is_empty(settings: &Settings) -> bool
     ensures { result ≡ is_empty settings.now }
 {
@@ -369,6 +395,10 @@ fn applies(state: &State, count: u64, facts: &Facts, command: &Command, refusal:
         Refusal::NoneLost => match mirror {
             None => false,
             Some(m) => count_of(components, name) == usize::from(m.all),
+        },
+        Refusal::NotSynchronizing => match mirror {
+            None => false,
+            Some(m) => any_not_synchronizing(components, &m, name, providers),
         },
         Refusal::LastSyncid => match mirror {
             None => false,

@@ -11,6 +11,7 @@ ghost use Rattle.gm_rules.specs.Facts.{size_in};
 ghost use Rattle.gm_rules.specs.Parts.{IsPartOf, IsGoodButCount, IsMade, LeavesPart};
 ghost use Rattle.gm_rules.specs.Worlds.{AreFacts, seen_of};
 
+use crate::advancing::advanced;
 use crate::change::Change;
 use crate::checks::least_refusal;
 use crate::facts::Facts;
@@ -20,7 +21,7 @@ use crate::making::{
 };
 use crate::refusals::Refusal;
 use gm_metadata::Label;
-use gm_state::{Command, Providers, Settings, State};
+use gm_state::{Command, Providers, Settings, State, source};
 use std::alloc::{AllocError, Global};
 
 /// The least refusal that applies, or what the command changes. Refusals take no memory.
@@ -122,6 +123,7 @@ fn change_of(
             name,
             ref providers,
         } => lose(alloc, part, facts, name, providers),
+        Command::Advance { name, provider } => advance(alloc, part, facts, name, provider),
     }
 }
 
@@ -284,5 +286,24 @@ fn lose(
     let mirror = part.mirror(name).unwrap();
     let members = part.members(alloc, name)?;
     let change = lost(alloc, mirror, &members, providers.as_slice())?;
+    Ok(change)
+}
+
+fn advance(
+    alloc: Global,
+    part: &State,
+    facts: &Facts,
+    name: Label,
+    provider: Label,
+) -> Result<Change, AllocError>
+    requires { IsGoodButCount part.now (seen_in facts.now)
+        (commands.Advance name provider) }
+    ensures { IfOk result (λ ch. IsMade part.now (seen_in facts.now)
+        (commands.Advance name provider) ch) }
+{
+    let mirror = part.mirror(name).unwrap();
+    let component = part.component(provider).unwrap();
+    let source = source(part, provider).unwrap();
+    let change = advanced(alloc, &mirror, component, source)?;
     Ok(change)
 }

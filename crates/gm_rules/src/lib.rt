@@ -1,10 +1,11 @@
 //! What a command does, or why it is refused: pure decisions over the records and what the shelf says.
 //!
 //! Begin with `refusals.rt` and `change.rt`, the answers; `deciding.rt` makes them. `checks.rt` has a test for each
-//! refusal, `making.rt` and `keeping.rt` the change of each command. `parts.rt` says which
+//! refusal, `making.rt`, `keeping.rt` and `advancing.rt` the change of each command. `parts.rt` says which
 //! records it takes to decide, and `needs.rt` which providers; `changing.rt` makes the change.
 #![tactic(auto)]
 
+mod advancing;
 mod change;
 mod changing;
 mod checks;

@@ -43,6 +43,8 @@ pub enum Refusal {
     NoneLost,
     /// The component is INACTIVE.
     Inactive,
+    /// The component isn't SYNCHRONIZING.
+    NotSynchronizing,
     /// The mirror's syncid is the greatest there is.
     LastSyncid,
     /// The mirror's genid is the greatest there is.
@@ -78,6 +80,7 @@ impl Refusal {
             Refusal::NotInactive => 19,
             Refusal::NoneLost => 20,
             Refusal::Inactive => 21,
+            Refusal::NotSynchronizing => 22,
             Refusal::LastSyncid => 23,
             Refusal::LastGenid => 24,
             Refusal::NothingGiven => 25,
@@ -187,6 +190,13 @@ pub(crate) fn own(command: &Command) -> &'static [Refusal]
             Refusal::NotMember,
             Refusal::LastActive,
             Refusal::LastGenid,
+        ],
+        Command::Advance { .. } => &[
+            Refusal::NoMirror,
+            Refusal::Absent,
+            Refusal::NotMember,
+            Refusal::Inactive,
+            Refusal::NotSynchronizing,
         ],
     }
 }

@@ -1,5 +1,6 @@
 //! Each refusal by an example that meets just it, the least where two apply, and the changes of accepted commands.
 
+mod advancing;
 mod configuring;
 mod keeping;
 mod losing;

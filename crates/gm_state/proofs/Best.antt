@@ -1,12 +1,17 @@
 -- What is found is the source.
-use Rattle.std.proofs.Common.{◌≡◌, ◌⊎◌, ◌∙◌, inl, inr, ⊎_elim, ℕ, ◌<◌, ◌≤◌, nat_lt, true, false, refl, sym, ap, subst, arith, List, [], ◌∷◌, Option, Some, None, ltb-true, ltb-false, option_map}
-use Rattle.std.proofs.lemmas.Bool.{cases_Bool, cases_order}
+use Rattle.std.proofs.Common.{◌≡◌, ◌⊎◌, ◌∙◌, inl, inr, ⊎_elim, ℕ, ◌<◌, ◌≤◌, ◌&&◌, Bool, not, nat_lt, true, false, refl, sym, ap, subst, arith, List, [], ◌∷◌, Option, Some, None, eq-eqb, ltb-true, ltb-false, option_map}
+use Rattle.std.specs.List.{list_any}
+use Rattle.gm_metadata.specs.Images.{same_label}
+use Rattle.std.proofs.lemmas.Bool.{cases_Bool, cases_order, and_parts, lt-ltb, le-ltb, ne_eqb, not-true}
 use Rattle.gm_state.specs.declared.records.Component.{Component}
 use Rattle.gm_state.specs.Words.{Has, Ascends, label_lt}
-use Rattle.gm_state.specs.Records.{Records, IsState, provider}
-use Rattle.gm_state.specs.Lookups.{component_of}
-use Rattle.gm_state.specs.Sources.{lends_to, GoesFirst, IsBest, IsSource}
+use Rattle.gm_state.specs.Records.{Records, IsState, members, provider}
+use Rattle.gm_state.specs.Lookups.{component_of, is_active}
+use Rattle.gm_state.specs.Sources.{lends_to, goes_first, source_among, source_of, GoesFirst, IsBest, IsSource}
 use Rattle.gm_state.specs.Choosing.{better, best_of}
+use Rattle.gm_state.proofs.Order.{lt_asym, lt_irrefl}
+use Rattle.gm_state.proofs.Finding.{any_from, any_none, find_none, find_only, not_both, option_cases}
+use Rattle.gm_state.proofs.Words.{Has-filter, filter-Has}
 
 IsBest-same : (P Q : Component → Type 0) → ((j : Component) → P j → Q j) → ((j : Component) → Q j → P j) → (o : Option Component) → IsBest P o → IsBest Q o
 IsBest-same P Q f g None h = λ j q. h j (g j q)
@@ -78,3 +83,69 @@ source_none s target r e f = rw e f
 
 pub source_some : (s : Records) (target : List ℕ) (t : Component) (r : Option (List ℕ)) → component_of s target ≡ Some t → IsState s → r ≡ option_map (λ (k : Component). k.provider) (best_of t None s.components) → IsSource s target r
 source_some s target t r e state f = rw e (best_of t None s.components, best_found t s.components state.components_in_order, f)
+
+-- ---- and the one that is found as the function says it
+
+goes_from : (a b : Component) → GoesFirst a b → goes_first a b ≡ true
+goes_from a b (inl l) = rw (lt-ltb b.priority a.priority l) refl
+goes_from a b (inr g) = rw (le-ltb b.priority a.priority (let e : b.priority ≡ a.priority = g.0 in omega arith), eq-eqb b.priority a.priority g.0, g.1) refl
+
+goes_not : (a b : Component) → GoesFirst a b → goes_first b a ≡ false
+goes_not a b (inl l) = rw (le-ltb a.priority b.priority (omega arith), ne_eqb a.priority b.priority (λ (e : a.priority ≡ b.priority). omega arith)) refl
+goes_not a b (inr g) = rw (le-ltb a.priority b.priority (let e : b.priority ≡ a.priority = g.0 in omega arith), lt_asym a.provider b.provider g.1, eq-eqb a.priority b.priority (sym g.0)) refl
+
+goes_itself : (a : Component) → goes_first a a ≡ false
+goes_itself a = elim (cases_Bool (label_lt a.provider a.provider)) [
+  | inl e ↦ absurd (lt_irrefl a.provider e)
+  | inr e ↦ rw (le-ltb a.priority a.priority (omega arith), e, eq-eqb a.priority a.priority refl) refl
+]
+
+module _ (t : Component) (all : List Component) where
+  abbrev ms : List Component
+  ms = members all t.mirror
+
+  abbrev beaten : Component → Bool
+  beaten k = list_any (λ j. lends_to t j && goes_first j k) ms
+
+  abbrev is_it : Component → Bool
+  is_it k = lends_to t k && not (beaten k)
+
+  in_members : (j : Component) → Has all j → lends_to t j ≡ true → Has ms j
+  in_members j h e = filter-Has (λ (c : Component). same_label c.mirror t.mirror) all j h (and_parts (same_label j.mirror t.mirror) (is_active j.disk && not (same_label j.provider t.provider)) e).0
+
+  in_all : (j : Component) → Has ms j → Has all j
+  in_all j h = (Has-filter (λ (c : Component). same_label c.mirror t.mirror) all j h).0
+
+  pub source_is : (o : Option Component) → IsBest (λ j. Has all j × (lends_to t j ≡ true)) o → source_among t ms ≡ o
+  source_is None none = find_none is_it ms (λ j h. elim (cases_Bool (lends_to t j)) [ inl e ↦ absurd (none j (in_all j h, e)) | inr e ↦ rw e refl ])
+  source_is (Some k) best =
+      let none_first : (j : Component) → Has ms j → (lends_to t j && goes_first j k) ≡ false = λ j h. elim (cases_Bool (lends_to t j)) [
+        | inr e ↦ rw e refl
+        | inl e ↦ rw e (⊎_elim
+            (λ (s : j ≡ k). subst (λ (c : Component). goes_first c k ≡ false) (sym s) (goes_itself k))
+            (λ (g : GoesFirst k j). goes_not k j g)
+            (best.1 j (in_all j h, e)))
+      ] in
+      find_only is_it ms k (in_members k best.0.0 best.0.1)
+      (rw (best.0.1, any_none (λ j. lends_to t j && goes_first j k) ms none_first) refl)
+      (λ j h e.
+      let parts = and_parts (lends_to t j) (not (beaten j)) e in
+      ⊎_elim (λ (s : j ≡ k). s)
+      (λ (g : GoesFirst k j). not_both (beaten j)
+      (any_from (λ i. lends_to t i && goes_first i j) ms k (in_members k best.0.0 best.0.1) (rw (best.0.1, goes_from k j g) refl))
+      (not-true (beaten j) parts.1))
+      (best.1 j (in_all j h, parts.0)))
+
+pub source_value : (s : Records) (target : List ℕ) (t : Component) (r : Option (List ℕ)) → component_of s target ≡ Some t → IsState s → r ≡ option_map (λ (k : Component). k.provider) (best_of t None s.components) → r ≡ source_of s target
+source_value s target t r e state f = rw (e, source_is t s.components (best_of t None s.components) (best_found t s.components state.components_in_order)) f
+
+pub source_of_is : (s : Records) (target : List ℕ) → IsState s → IsSource s target (source_of s target)
+source_of_is s target state =
+    elim (option_cases (component_of s target)) [
+      | inl none ↦ source_none s target (source_of s target) none (rw none refl)
+      | inr some ↦
+          let t : Component = some.0 in
+          let same : source_of s target ≡ option_map (λ (k : Component). k.provider) (best_of t None s.components)
+          = rw some.1 (ap (option_map (λ (k : Component). k.provider)) (source_is t s.components (best_of t None s.components) (best_found t s.components state.components_in_order))) in
+          source_some s target t (source_of s target) some.1 state same
+    ]

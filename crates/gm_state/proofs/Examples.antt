@@ -10,7 +10,7 @@ use Rattle.gm_state.specs.Words.{Has}
 use Rattle.gm_state.specs.Records.{members, held_by}
 use Rattle.gm_state.specs.Lookups.{metadata}
 use Rattle.gm_state.specs.Intents.{IsOf}
-use Rattle.gm_state.specs.World.{World, Answered, AnswerFits, Sound, Below, present}
+use Rattle.gm_state.specs.World.{Answered, AnswerFits, Sound, Below, present}
 use Rattle.gm_state.specs.Rows.{AreRows}
 use Rattle.gm_state.specs.Examples.{gm0, a_img, b_img, records, data_of_gm0, sector_of_a, sector_of_b, cleared, example, without_b, shown_without_b, resized, crowded, misnumbered, unmarked, lacking, overclaiming, example_tables, short_tables, pending_tables}
 use Rattle.gm_state.proofs.OneCommand.{apart}

@@ -41,6 +41,10 @@ none_any p (y ∷ ys) e x h =
     let parts : (p y ≡ false) × (list_any p ys ≡ false) = or_parts (p y) (list_any p ys) e in
     ⊎_elim (λ (s : y ≡ x). sym (ap p s) ∙ parts.0) (λ (k : Has ys x). none_any p ys parts.1 x k) h
 
+pub any_none : {X : Type 0} (p : X → Bool) (xs : List X) → ((x : X) → Has xs x → p x ≡ false) → list_any p xs ≡ false
+any_none p [] h = refl
+any_none p (x ∷ xs) h = rw (h x (inl refl)) (any_none p xs (λ y i. h y (inr i)))
+
 -- some one passes
 pub some_any : {X : Type 0} (p : X → Bool) (xs : List X) → list_any p xs ≡ true → (x : X) × Has xs x × (p x ≡ true)
 some_any p [] e = absurd (let h : ⊥ = cc in h)
@@ -88,6 +92,14 @@ any_one p x e = none_any p (x ∷ []) e x (inl refl)
 
 pub not_both : {A : Type 0} (b : Bool) → b ≡ true → b ≡ false → A
 not_both b p q = cc
+
+-- the one element that passes is found
+pub find_only : {X : Type 0} (p : X → Bool) (xs : List X) (x : X) → Has xs x → p x ≡ true → ((y : X) → Has xs y → p y ≡ true → y ≡ x) → find p xs ≡ Some x
+find_only p xs x h e only =
+    elim (option_cases (find p xs)) [
+      | inl none ↦ not_both (p x) e (found_none p xs none x h)
+      | inr some ↦ (let f = found p xs some.0 some.1 in some.1 ∙ ap Some (only some.0 f.0 f.1))
+    ]
 
 -- in byte order of names each is found by its own
 pub find_one : {X : Type 0} (key : X → List ℕ) (xs : List X) → Ascends key xs → (x : X) → Has xs x → find (λ y. same_label (key y) (key x)) xs ≡ Some x

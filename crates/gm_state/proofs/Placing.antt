@@ -1,5 +1,5 @@
 -- Sectors that intents name.
-use Rattle.std.proofs.Common.{◌≡◌, ◌&&◌, ◌||◌, inl, inr, ℕ, List, [], ◌∷◌, true, sym, subst}
+use Rattle.std.proofs.Common.{◌≡◌, inl, inr, ℕ, List, [], ◌∷◌, true, sym, subst}
 use Rattle.std.proofs.lemmas.Bool.{or_left, or_right}
 use Rattle.gm_metadata.specs.Images.{Sizes}
 use Rattle.gm_state.specs.declared.command.Intent.{Intent}

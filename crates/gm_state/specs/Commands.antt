@@ -1,5 +1,5 @@
 -- Commands: what they can hold, and their canonical words.
-use Rattle.std.specs.Prelude.{◌≡◌, ◌<◌, ◌^◌, ℕ, Bool, true, not, IsTrue, IfSome, List, [], ◌∷◌, ◌++◌, length, codes, Option, Some, None, if◌then◌else◌}
+use Rattle.std.specs.Prelude.{◌<◌, ◌^◌, ℕ, Bool, not, IsTrue, IfSome, List, [], ◌∷◌, ◌++◌, length, codes, Option, Some, None, if◌then◌else◌}
 use Rattle.std.specs.List.{join_with_byte, list_all, flat_map}
 use Rattle.std.specs.Fmt.{decimal}
 use Rattle.gm_metadata.specs.Balance.{balance_name}
@@ -11,7 +11,7 @@ use Rattle.gm_state.specs.declared.command.BalanceWord.TheVariants.{Load, Prefer
 use Rattle.gm_state.specs.declared.command.Preference.{Preference}
 use Rattle.gm_state.specs.declared.command.Settings.{Settings}
 use Rattle.gm_state.specs.declared.command.Command.{Command}
-use Rattle.gm_state.specs.declared.command.Command.TheVariants.{Label, Insert, Remove, Deactivate, Activate, Forget, Rebuild, Configure, Clear, Destroy, Lost}
+use Rattle.gm_state.specs.declared.command.Command.TheVariants.{Label, Insert, Remove, Deactivate, Activate, Forget, Rebuild, Configure, Clear, Destroy, Lost, Advance}
 
 -- the balance that a word asks for
 abbrev pub balance_of_word : BalanceWord → Balance
@@ -41,6 +41,7 @@ CommandFits (Configure n settings) = IsTrue (is_label n) × SliceFits settings.s
 CommandFits (Clear p) = IsTrue (is_label p)
 CommandFits (Destroy n) = IsTrue (is_label n)
 CommandFits (Lost n ps) = IsTrue (is_label n) × IsTrue (list_all is_label ps) × (0 < length ps)
+CommandFits (Advance n p) = IsTrue (is_label n) × IsTrue (is_label p)
 
 -- on or off
 abbrev pub on_where : Bool → List ℕ
@@ -97,6 +98,7 @@ words (Configure n settings) = codes "configure" ∷ setting_words settings ++ n
 words (Clear p) = codes "clear" ∷ p ∷ []
 words (Destroy n) = codes "destroy" ∷ n ∷ []
 words (Lost n ps) = codes "lost" ∷ n ∷ ps
+words (Advance n p) = codes "advance" ∷ n ∷ p ∷ []
 
 -- the canonical words: joined by one space
 abbrev pub words_of : Command → List ℕ

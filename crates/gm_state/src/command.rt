@@ -87,7 +87,7 @@ pub struct Settings {
     pub preference: Option<Preference>,
 }
 
-/// A command of gmirror(8), as its words say it; `Lost` is this project's own.
+/// A command of gmirror(8), as its words say it; `Lost` and `Advance` are this project's own.
 #[derive(Debug, PartialEq, Eq, Drop)]
 pub enum Command {
     /// A new mirror on one provider. mid and did are handed in.
@@ -150,6 +150,11 @@ pub enum Command {
     Lost {
         name: Label,
         providers: Providers,
+    },
+    /// The next sectors of the mirror's data are copied to a component that is to be filled, at most 256.
+    Advance {
+        name: Label,
+        provider: Label,
     },
 }
 

@@ -1,7 +1,7 @@
 //! Where a copy comes from.
 
 ghost use Rattle.std.specs.Prelude.{◌≡◌, Option, None, option_map};
-ghost use Rattle.gm_state.specs.Sources.{lends_to, IsSource};
+ghost use Rattle.gm_state.specs.Sources.{lends_to, source_of, IsSource};
 ghost use Rattle.gm_state.specs.Choosing.{better, best_of};
 
 use crate::records::Component;
@@ -55,7 +55,8 @@ fn name_of(component: Option<Component>) -> Option<Label>
 /// The source of a copy to the target: the ACTIVE component of its mirror other than itself with the greatest
 /// priority, among equals the one with the least name. `None` where there is none, or the target is no component.
 pub fn source(state: &State, target: Label) -> Option<Label>
-    ensures { IsSource state.now target result }
+    ensures best { IsSource state.now target result }
+    ensures value { result ≡ source_of state.now target }
 {
     let target = state.component(target)?;
     name_of(best_in(state.components(), &target))

@@ -369,6 +369,7 @@ fn canonical_words(rt: HostRuntime) -> Result<(), Fail> {
         (Command::Activate { name, provider }, "activate gm0 a.img"),
         (Command::Forget { name }, "forget gm0"),
         (Command::Rebuild { name, provider }, "rebuild gm0 a.img"),
+        (Command::Advance { name, provider }, "advance gm0 a.img"),
         (Command::Clear { provider }, "clear a.img"),
         (Command::Destroy { name }, "destroy gm0"),
     ] {

@@ -200,7 +200,8 @@ fn command_fits(command: &Command)
         Command::Remove { name, provider }
         | Command::Deactivate { name, provider }
         | Command::Activate { name, provider }
-        | Command::Rebuild { name, provider } => {
+        | Command::Rebuild { name, provider }
+        | Command::Advance { name, provider } => {
             let _ = name.as_bytes();
             let _ = provider.as_bytes();
         }
@@ -275,5 +276,6 @@ pub fn words_of(alloc: Global, command: &Command) -> Result<String, AllocError>
             name,
             ref providers,
         } => lost_words(alloc, name, providers.as_slice()),
+        Command::Advance { name, provider } => format!(in alloc; "advance {name} {provider}"),
     }
 }

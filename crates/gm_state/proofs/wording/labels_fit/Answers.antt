@@ -1,4 +1,4 @@
-use Rattle.std.proofs.Common.{◌≡◌, ◌∙◌, ap, sym, refl, take_all, ◌+◌, ℕ}
+use Rattle.std.proofs.Common.{◌∙◌, ap, sym, refl, take_all}
 use Rattle.std.specs.List.{list_all}
 use Rattle.std.proofs.lemmas.List.Folds.{list_all_more}
 use Rattle.std.proofs.lemmas.Bool.{and_from}
