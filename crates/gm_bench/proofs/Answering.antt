@@ -17,7 +17,7 @@ use Rattle.gm_state.proofs.Finding.{Has-map}
 use Rattle.gm_state.proofs.OneCommand.{same_command}
 use Rattle.gm_rules.proofs.Kept.{Has-mapped}
 use Rattle.gm_rules.specs.declared.refusals.Refusal.{Refusal}
-use Rattle.gm_rules.specs.declared.refusals.Refusal.TheVariants.{NoMirror, NameTaken, MidTaken, Absent, ProviderTaken, CarriesMetadata, TooSmall, NotMember, DidTaken, Full, TooManyMirrors, SomeLost, LastActive, AlreadyInactive, NotInactive, NoneLost, Inactive, LastSyncid, LastGenid, NothingGiven, WrongSize, NoMetadata}
+use Rattle.gm_rules.specs.declared.refusals.Refusal.TheVariants.{NoMirror, NameTaken, MidTaken, Absent, ProviderTaken, CarriesMetadata, TooSmall, NotMember, DidTaken, Full, TooManyMirrors, SomeLost, LastActive, AlreadyInactive, NotInactive, NoneLost, Inactive, NotSynchronizing, LastSyncid, LastGenid, NothingGiven, WrongSize, NoMetadata}
 use Rattle.gm_rules.specs.Refusals.{number_of, number_of_call}
 use Rattle.gm_rules.specs.declared.refusals.CallRefusal.{CallRefusal}
 use Rattle.gm_rules.specs.declared.refusals.CallRefusal.TheVariants.{NoKey, KeyTaken, NoRoom, ByRules}
@@ -53,6 +53,7 @@ at_least_five AlreadyInactive = omega arith
 at_least_five NotInactive = omega arith
 at_least_five NoneLost = omega arith
 at_least_five Inactive = omega arith
+at_least_five NotSynchronizing = omega arith
 at_least_five LastSyncid = omega arith
 at_least_five LastGenid = omega arith
 at_least_five NothingGiven = omega arith

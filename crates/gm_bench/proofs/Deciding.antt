@@ -10,6 +10,8 @@ use Rattle.gm_shelf.specs.Disk.{View, IsLawful, IsQuiet}
 use Rattle.gm_shelf.proofs.InTurn.{quiet_itself, quiet_moment}
 use Rattle.gm_state.specs.declared.command.Command.{Command}
 use Rattle.gm_state.specs.declared.command.Intent.{Intent}
+use Rattle.gm_state.specs.Intents.{IsAtHand}
+use Rattle.gm_state.specs.Words.{Has}
 use Rattle.gm_state.specs.World.{World}
 use Rattle.gm_registry.specs.Registry.{CrashLeaves, CrashLeavesOnly, DiskKept, HasTables, IsRegistry, LeavesAlone, LeavesNothingNew, WasClean}
 use Rattle.sqlite.specs.Held.{state}
@@ -26,6 +28,18 @@ module _ {S H : Type 0} (g : Ghosts S) (view : H → View) (size : H → Sizes) 
   -- the same tables in another registry, with the same shelf
   abbrev pub at_next : (s : Held S) (k : H) → k ≡ h → HasTables g s at.tables → IsAt g view size s k away ts u w
   at_next s k same has = subst (λ (x : H). IsAt g view size s x away ts u w) (sym same) (record { tables = at.tables; has = has; sizes = at.sizes; at_hand = at.at_hand; leads = at.leads })
+
+-- a shelf that was only read
+module _ {S H : Type 0} (g : Ghosts S) (view : H → View) (size : H → Sizes) (r : Held S) (h k : H) (away : Image) (ts : List Intent) (u w : World) (at : IsAt g view size r h away ts u w) (quiet : IsQuiet (view h) (view k)) (same : size k ≡ size h) where
+  -- the same tables, in whatever phase
+  abbrev pub at_read : (s : Held S) → HasTables g s at.tables → IsAt g view size s k away ts u w
+  at_read s has = record {
+    tables = at.tables;
+    has = has;
+    sizes = at.sizes ∙ sym same;
+    at_hand = subst (λ (z : Sizes). (t : Intent) → Has ts t → IsAtHand z t) (sym same) at.at_hand;
+    leads = subst (λ (z : Sizes). AllLead at.tables ts z away (view k).may_leave u w) (sym same) (λ x left. at.leads x (quiet.crash x left));
+  }
 
 -- a shelf that wasn't touched
 pub quiet_same : {H : Type 0} (view : H → View) (h k : H) → k ≡ h → IsQuiet (view h) (view k)

@@ -19,3 +19,6 @@ pub mod Commits
 pub mod Phases
 pub mod Carried
 pub mod Induction
+pub mod Listed
+pub mod Showing
+pub mod Agreeing

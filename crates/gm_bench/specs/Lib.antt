@@ -9,3 +9,6 @@ pub mod Schedule
 pub mod Running
 pub mod Progressing
 pub mod Owed
+pub mod Auditing
+pub mod Showing
+pub mod Agreeing

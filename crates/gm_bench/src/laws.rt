@@ -1,11 +1,18 @@
-//! What holds of every schedule.
+//! What holds of every schedule, and of an audit that lists none.
 
-ghost use Rattle.std.specs.Prelude.{List};
+ghost use Rattle.std.specs.Prelude.{List, []};
 ghost use Rattle.sqlite.specs.Held.{Held};
-ghost use Rattle.gm_metadata.specs.Images.{Sizes};
+ghost use Rattle.gm_metadata.specs.Images.{Image, Sizes};
+ghost use Rattle.gm_state.specs.Records.{IsState, Records};
+ghost use Rattle.gm_taste.specs.declared.provider.Provider.{Provider};
+ghost use Rattle.gm_taste.specs.declared.tasted.Tasted.{Tasted};
+ghost use Rattle.gm_taste.specs.Tasted.{IsTasted};
+ghost use Rattle.gm_bench.specs.Agreeing.{Agree, AreRegistered};
+ghost use Rattle.gm_bench.specs.Auditing.{IsAudit};
 ghost use Rattle.gm_bench.specs.Schedule.{Event, Now, Runs, Headline};
 
 use gm_shelf::Shelf;
+use gm_state::metadata_fits;
 use sqlite::Alter;
 
 /// With an honest shelf and a disk that keeps what is written, whatever is handed in, wherever it is stopped, and
@@ -18,3 +25,13 @@ pub fn whole_run_law<S: Alter, H: Shelf>()
         → Runs S.Store H.view H.size all events now
         → Headline S.Store H.view H.size all now.phase now.away now.accepted now.acknowledged }
 {}
+
+/// Where an audit lists none, the last sectors of the registered components tell by themselves what the registry says:
+/// tasted alone, each is a member, and has the state that the records name.
+pub fn clean_audit_law()
+    ensures { (s : Records) (size : Sizes) (seen : Image) (ps : List Provider) (t : Tasted)
+        → IsState s → IsAudit s size seen [] → AreRegistered s size seen ps → IsTasted ps t
+        → Agree s t }
+{
+    metadata_fits();
+}

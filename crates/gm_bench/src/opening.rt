@@ -66,6 +66,9 @@ impl<S: Alter, H: Shelf> Media<S, H> {
             → IfOk result (λ r. (away : Image) (ts : List Intent) (u w : World)
             → (at : IsFound S.Store H.view H.size self.old.registry self.old.shelf away ts u w)
             → (r.0 ≡ w.state) × (r.1.items ≡ ts) × HasTables S.Store self.new.registry at.tables) }
+        ensures loaded { DiskKept S.Store self.new.registry
+            → IfOk result (λ r. (t : Tables) → HasTables S.Store self.old.registry t
+            → AreTablesOf t r.0 r.1.items × HasTables S.Store self.new.registry t) }
         ensures unreadable { DiskKept S.Store self.new.registry
             → IsErrOf result BenchFault.Unreadable → (t : Tables) (s : Records) (ts : List Intent)
             → HasTables S.Store self.old.registry t → AreTablesOf t s ts → ⊥ }

@@ -12,8 +12,12 @@ use gm_rules::{Fact, Facts};
 use gm_shelf::Shelf;
 use std::alloc::Global;
 
-// The last sector of a provider that has so many.
-fn last_of<H: Shelf>(shelf: &mut H, provider: Label, sectors: u64) -> Result<[u8; 512], BenchFault>
+/// The last sector of a provider that has so many.
+pub(crate) fn last_of<H: Shelf>(
+    shelf: &mut H,
+    provider: Label,
+    sectors: u64,
+) -> Result<[u8; 512], BenchFault>
     ensures bytes { H.honest shelf.old
         → IfOk result (λ last. last ≡ last_of sectors ((H.view shelf.old).seen provider)) }
     ensures disk { H.size shelf.old provider ≡ Some sectors → IsErrOf result BenchFault.Disk
