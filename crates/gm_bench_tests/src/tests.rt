@@ -1,10 +1,12 @@
 //! What the tests share: images, commands, calls, and what a last sector is expected to say. The expected values are
 //! worked out by hand.
 
+mod advancing;
 mod answers;
 mod faults;
 mod files;
 mod limits;
+mod looking;
 mod members;
 mod phases;
 mod stops;
@@ -116,6 +118,13 @@ fn activates(name: &str, provider: &str) -> Result<Command, Fail> {
 
 fn rebuilds(name: &str, provider: &str) -> Result<Command, Fail> {
     Ok(Command::Rebuild {
+        name: label(name)?,
+        provider: label(provider)?,
+    })
+}
+
+fn advances(name: &str, provider: &str) -> Result<Command, Fail> {
+    Ok(Command::Advance {
         name: label(name)?,
         provider: label(provider)?,
     })

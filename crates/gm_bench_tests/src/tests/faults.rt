@@ -1,6 +1,7 @@
 //! A shelf that stops, since its device failed or memory is wanting: the call that meets the stop says which, every
 //! later one does nothing, and both media stay.
 
+use super::looking::try_audit;
 use super::stops::{Played, check, play};
 use super::{
     label, labels, memory, must, open, sector, shelf, try_accept, try_apply, try_last, try_open,
@@ -59,6 +60,7 @@ pub(super) fn must_be_closed<S: Alter, H: Shelf>(
     let run = try_run(alloc, bench, "k8", &command)?;
     must(run.err() == closed, "run")?;
     must(try_view(alloc, bench).err() == closed, "viewed")?;
+    must(try_audit(alloc, bench).err() == closed, "audited")?;
     let last = try_last(bench, label("a.img")?);
     must(last.err() == closed, "a last sector")?;
     must(bench.phase() == Phase::Failed, "open again")

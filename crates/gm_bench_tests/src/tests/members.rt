@@ -1,12 +1,12 @@
 //! A second component that comes and goes, also over an opening and where its image is away, or its record.
 
 use super::{
-    IN_SYNC, INACTIVE, SYNCHRONIZING, accept, activates, add, deactivates, destroys, forgets,
-    inserts, label, labels, loses, memory, metadata, must, must_keep_data, must_say, open,
-    rebuilds, removes, run, sector, shelf, try_open, try_view,
+    IN_SYNC, INACTIVE, SYNCHRONIZING, accept, activates, add, advances, deactivates, destroys,
+    forgets, inserts, label, labels, loses, memory, metadata, must, must_keep_data, must_say, open,
+    removes, run, sector, shelf, try_open, try_view,
 };
 use gm_bench::{Answer, Bench, BenchFault};
-use gm_metadata::{Metadata, encode};
+use gm_metadata::Metadata;
 use gm_rules::{CallRefusal, Refusal};
 use gm_shelf::{MemShelf, Shelf};
 use gm_state::{Command, Reply};
@@ -15,7 +15,7 @@ use std::alloc::Global;
 use std::test::Fail;
 
 // gm0 on a.img and b.img, by k1 and k2.
-fn of_two<S: Alter + Drop, H: Shelf + Drop>(
+pub(super) fn of_two<S: Alter + Drop, H: Shelf + Drop>(
     alloc: Global,
     store: Connection<S>,
     shelf: H,
@@ -28,7 +28,7 @@ fn of_two<S: Alter + Drop, H: Shelf + Drop>(
 }
 
 // What the last sectors of a.img and b.img say; the data are as they were.
-fn must_hold<H: Shelf>(
+pub(super) fn must_hold<H: Shelf>(
     shelf: &mut H,
     first: Option<Metadata>,
     second: Option<Metadata>,
@@ -172,7 +172,7 @@ fn an_opening_wants_each_image_that_is_pending(rt: HostRuntime) -> Result<(), Fa
     waits_for_its_image(rt.alloc(), memory(rt.alloc())?, shelf(rt.alloc())?)
 }
 
-fn is_refused<S: Alter, H: Shelf>(
+pub(super) fn is_refused<S: Alter, H: Shelf>(
     alloc: Global,
     bench: &mut Bench<S, H>,
     command: &Command,
@@ -183,21 +183,15 @@ fn is_refused<S: Alter, H: Shelf>(
     must(answer == refused, "not refused so")
 }
 
-// gm0 on a.img and b.img after three commands, of which both are in sync: the copy is made by a statement and a write of
-// somebody else's.
+// gm0 on a.img and b.img after three commands, of which both are in sync.
 fn in_sync<S: Alter + Drop, H: Shelf + Drop>(
     alloc: Global,
     store: Connection<S>,
     shelf: H,
 ) -> Result<(Connection<S>, H), Fail> {
     let mut bench = of_two(alloc, store, shelf)?;
-    run(alloc, &mut bench, "k3", &rebuilds("gm0", "b.img")?)?;
-    let (mut store, mut shelf) = bench.close();
-    store.execute("UPDATE components SET dflags = 0 WHERE prov = 'b.img'", &[])?;
-    let second = label("b.img")?;
-    shelf.write(second, 3, &encode(&metadata(2, 2, IN_SYNC)?))?;
-    shelf.sync(second)?;
-    Ok((store, shelf))
+    run(alloc, &mut bench, "k3", &advances("gm0", "b.img")?)?;
+    Ok(bench.close())
 }
 
 fn is_done<S: Alter, H: Shelf>(

@@ -2,10 +2,10 @@
 //! that is written down.
 
 use super::{
-    FORCED, IN_SYNC, INACTIVE, NO_FLAGS, SPLIT, SYNCHRONIZING, activates, clears, configures,
-    deactivates, destroys, forgets, inserts, label, labels, loses, memory, metadata, must, must_be,
-    must_keep_data, open, rebuilds, removes, run, shelf, try_accept, try_apply, try_last,
-    try_settle, try_view,
+    FORCED, IN_SYNC, INACTIVE, NO_FLAGS, SPLIT, SYNCHRONIZING, activates, advances, clears,
+    configures, deactivates, destroys, forgets, inserts, label, labels, loses, memory, metadata,
+    must, must_be, must_keep_data, open, rebuilds, removes, run, shelf, try_accept, try_apply,
+    try_last, try_settle, try_view,
 };
 use gm_bench::{Answer, Bench, BenchFault, Phase};
 use gm_metadata::{Balance, DiskFlags, Metadata};
@@ -17,7 +17,7 @@ use std::alloc::Global;
 use std::test::Fail;
 
 // Each command is accepted, carried out and settled.
-const CALLS: u64 = 36;
+const CALLS: u64 = 39;
 // A script is over long before it makes so many calls of the shelf.
 const MANY: u64 = 300;
 
@@ -37,31 +37,41 @@ fn key_at(place: u64) -> &'static str {
         10 => "k11",
         11 => "k12",
         12 => "k13",
-        _ => "k14",
+        13 => "k14",
+        _ => "k15",
     }
 }
 
 fn command_at(alloc: Global, place: u64) -> Result<Command, Fail> {
     match place {
         0 => labels("gm0", "a.img", 7),
-        1 | 7 => inserts("gm0", "b.img", 2),
+        1 | 8 => inserts("gm0", "b.img", 2),
         2 => deactivates("gm0", "b.img"),
         3 => activates("gm0", "b.img"),
         4 => rebuilds("gm0", "b.img"),
-        5 => configures("gm0", SPLIT),
-        6 => removes("gm0", "b.img"),
-        8 => loses(alloc, "gm0", "b.img"),
-        9 => forgets("gm0"),
-        10 => clears("b.img"),
-        11 => destroys("gm0"),
+        5 => advances("gm0", "b.img"),
+        6 => configures("gm0", SPLIT),
+        7 => removes("gm0", "b.img"),
+        9 => loses(alloc, "gm0", "b.img"),
+        10 => forgets("gm0"),
+        11 => clears("b.img"),
+        12 => destroys("gm0"),
         _ => Err("the script is over")?,
+    }
+}
+
+// What it is answered beside its number.
+fn reply_at(place: u64) -> Reply {
+    match place {
+        5 => Reply::Copied { held: 3, total: 3 },
+        _ => Reply::Plain,
     }
 }
 
 // How many sectors the command at this place asks for.
 fn asked_at(place: u64) -> u64 {
     match place {
-        1 | 2 | 5 | 6 | 7 => 2,
+        1 | 2 | 5 | 6 | 7 | 8 => 2,
         _ => 1,
     }
 }
@@ -154,11 +164,12 @@ fn model_after(commands: u64) -> Model {
         3 => model_of_two(2, second_in(1, Disk::Inactive, INACTIVE)),
         4 => model_of_two(2, second_in(2, copying(false), SYNCHRONIZING)),
         5 => model_of_two(2, second_in(2, copying(true), FORCED)),
-        6 => set(model_of_two(2, second_in(2, copying(true), FORCED))),
-        7 => set(model_of_one(2)),
-        8 => set(model_of_two(2, second_in(2, copying(false), SYNCHRONIZING))),
-        9 => model_of_a_loss(2),
-        10 | 11 => model_of_a_loss(1),
+        6 => model_of_two(2, second_in(2, Disk::InSync, IN_SYNC)),
+        7 => set(model_of_two(2, second_in(2, Disk::InSync, IN_SYNC))),
+        8 => set(model_of_one(2)),
+        9 => set(model_of_two(2, second_in(2, copying(false), SYNCHRONIZING))),
+        10 => model_of_a_loss(2),
+        11 | 12 => model_of_a_loss(1),
         _ => NO_MIRROR,
     }
 }
@@ -188,7 +199,7 @@ fn first_said(commands: u64) -> Result<Option<Metadata>, Fail> {
 // What that of b.img says. The image of a lost component isn't touched until it is cleared.
 fn second_said(commands: u64) -> Result<Option<Metadata>, Fail> {
     let model = match commands {
-        9 | 10 => model_after(8),
+        10 | 11 => model_after(9),
         _ => model_after(commands),
     };
     match model.second {
@@ -274,7 +285,7 @@ fn must_be_after<S: Alter, H: Shelf>(
         let place = number.saturating_sub(1);
         let again = run(alloc, bench, key_at(place), &command_at(alloc, place)?)?;
         must(
-            again == Answer::Repeated(number, Reply::Plain),
+            again == Answer::Repeated(number, reply_at(place)),
             "not repeated",
         )?;
     }
@@ -330,7 +341,10 @@ fn step<S: Alter, H: Shelf>(
             match try_accept(alloc, bench, key_at(done), &command_at(alloc, done)?)? {
                 Ok(answer) => {
                     let number = done.saturating_add(1);
-                    must(answer == Answer::Done(number, Reply::Plain), "not accepted")?;
+                    must(
+                        answer == Answer::Done(number, reply_at(done)),
+                        "not accepted",
+                    )?;
                     Ok(Ok(true))
                 }
                 Err(fault) => Ok(Err(fault)),

@@ -317,33 +317,38 @@ fn a_stop_within_a_rebuild(rt: HostRuntime) -> Result<(), Fail> {
 }
 
 #[test]
-fn a_stop_within_a_configure(rt: HostRuntime) -> Result<(), Fail> {
+fn a_stop_within_an_advance(rt: HostRuntime) -> Result<(), Fail> {
     stop_command(rt.alloc(), 5)
 }
 
 #[test]
-fn a_stop_within_a_remove(rt: HostRuntime) -> Result<(), Fail> {
+fn a_stop_within_a_configure(rt: HostRuntime) -> Result<(), Fail> {
     stop_command(rt.alloc(), 6)
 }
 
 #[test]
-fn a_stop_within_a_loss(rt: HostRuntime) -> Result<(), Fail> {
-    stop_command(rt.alloc(), 8)
+fn a_stop_within_a_remove(rt: HostRuntime) -> Result<(), Fail> {
+    stop_command(rt.alloc(), 7)
 }
 
 #[test]
-fn a_stop_within_a_forget(rt: HostRuntime) -> Result<(), Fail> {
+fn a_stop_within_a_loss(rt: HostRuntime) -> Result<(), Fail> {
     stop_command(rt.alloc(), 9)
 }
 
 #[test]
-fn a_stop_within_a_clear(rt: HostRuntime) -> Result<(), Fail> {
+fn a_stop_within_a_forget(rt: HostRuntime) -> Result<(), Fail> {
     stop_command(rt.alloc(), 10)
 }
 
 #[test]
-fn a_stop_within_a_destroy(rt: HostRuntime) -> Result<(), Fail> {
+fn a_stop_within_a_clear(rt: HostRuntime) -> Result<(), Fail> {
     stop_command(rt.alloc(), 11)
+}
+
+#[test]
+fn a_stop_within_a_destroy(rt: HostRuntime) -> Result<(), Fail> {
+    stop_command(rt.alloc(), 12)
 }
 
 // The opening carries out an insert that was accepted.

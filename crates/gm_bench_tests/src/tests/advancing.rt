@@ -1,0 +1,272 @@
+//! A component that is filled stretch by stretch, also over a stop within one, and what is read and written on the way.
+
+use super::members::{is_refused, must_hold, of_two};
+use super::{
+    IN_SYNC, SYNCHRONIZING, accept, add, advances, image, inserts, label, labels, memory, metadata,
+    must, open, run, sector, try_run,
+};
+use gm_bench::{Answer, Bench, BenchFault};
+use gm_metadata::{DiskFlags, Metadata, encode};
+use gm_rules::Refusal;
+use gm_shelf::{FaultShelf, MemShelf, Shelf};
+use gm_state::Reply;
+use sqlite::{Alter, Connection};
+use std::alloc::Global;
+use std::test::Fail;
+
+// An advance is over long before it makes so many calls of the shelf.
+const MANY: u64 = 60;
+
+const ALL_THREE: Reply = Reply::Copied { held: 3, total: 3 };
+
+// a.img and b.img of four sectors, whose data differ in each sector.
+fn unlike(alloc: Global) -> Result<MemShelf, Fail> {
+    let mut shelf = MemShelf::new(alloc);
+    add(&mut shelf, "a.img", image(alloc, 3)?)?;
+    let mut sectors = Vec::new(alloc);
+    for place in 0u8..3 {
+        sectors.push([place + 101; 512])?;
+    }
+    sectors.push([0; 512])?;
+    add(&mut shelf, "b.img", sectors)?;
+    Ok(shelf)
+}
+
+// Both are in sync, and hold the data of a.img.
+fn must_be_in_sync<H: Shelf>(shelf: &mut H) -> Result<(), Fail> {
+    let first = metadata(1, 2, IN_SYNC)?;
+    let second = metadata(2, 2, IN_SYNC)?;
+    must_hold(shelf, Some(first), Some(second))
+}
+
+fn is_filled<S: Alter + Drop, H: Shelf + Drop>(
+    alloc: Global,
+    store: Connection<S>,
+    shelf: H,
+) -> Result<(), Fail> {
+    let mut bench = of_two(alloc, store, shelf)?;
+    let advance = advances("gm0", "b.img")?;
+    let answer = run(alloc, &mut bench, "k3", &advance)?;
+    must(answer == Answer::Done(3, ALL_THREE), "not copied")?;
+    let again = run(alloc, &mut bench, "k3", &advance)?;
+    must(again == Answer::Repeated(3, ALL_THREE), "not repeated")?;
+    is_refused(alloc, &mut bench, &advance, Refusal::NotSynchronizing)?;
+    let (_, mut shelf) = bench.close();
+    must_be_in_sync(&mut shelf)
+}
+
+#[test]
+fn a_component_is_filled_by_one_stretch(rt: HostRuntime) -> Result<(), Fail> {
+    is_filled(rt.alloc(), memory(rt.alloc())?, unlike(rt.alloc())?)
+}
+
+// ---- a stop within an advance
+
+// gm0 on both after two commands.
+fn before_advance(alloc: Global) -> Result<MemShelf, Fail> {
+    let mut shelf = unlike(alloc)?;
+    let last = [metadata(1, 2, IN_SYNC)?, metadata(2, 2, SYNCHRONIZING)?];
+    for (name, said) in ["a.img", "b.img"].into_iter().zip(&last) {
+        shelf.write(label(name)?, 3, &encode(said))?;
+        shelf.sync(label(name)?)?;
+    }
+    Ok(shelf)
+}
+
+// A store with these two commands.
+fn two_commands<S: Alter + Drop>(
+    alloc: Global,
+    store: Connection<S>,
+) -> Result<Connection<S>, Fail> {
+    let (store, _) = of_two(alloc, store, unlike(alloc)?)?.close();
+    Ok(store)
+}
+
+// What b.img says of itself before anything is opened again: nothing more than before, or that it is in sync, and then
+// it holds the data.
+fn claims_what_it_holds<H: Shelf>(shelf: &mut H) -> Result<(), Fail> {
+    let last = sector(shelf, "b.img", 3)?;
+    if last == encode(&metadata(2, 2, IN_SYNC)?) {
+        return must_be_in_sync(shelf);
+    }
+    must(
+        last == encode(&metadata(2, 2, SYNCHRONIZING)?),
+        "another claim",
+    )
+}
+
+fn is_over<S: Alter + Drop, H: Shelf + Drop>(
+    alloc: Global,
+    store: Connection<S>,
+    shelf: H,
+    accepted: bool,
+) -> Result<(), Fail> {
+    let mut bench = open(alloc, store, shelf)?;
+    let answer = run(alloc, &mut bench, "k3", &advances("gm0", "b.img")?)?;
+    let repeated = answer == Answer::Repeated(3, ALL_THREE);
+    let done = answer == Answer::Done(3, ALL_THREE);
+    must(repeated || done && !accepted, "another answer")?;
+    let (_, mut shelf) = bench.close();
+    must_be_in_sync(&mut shelf)
+}
+
+// An advance over a shelf that stops; whether it was accepted and whether the stop came.
+fn stopped<S: Alter, H: Shelf>(
+    alloc: Global,
+    bench: &mut Bench<S, H>,
+) -> Result<(bool, bool), Fail> {
+    match try_run(alloc, bench, "k3", &advances("gm0", "b.img")?)? {
+        Ok(answer) => {
+            must(answer == Answer::Done(3, ALL_THREE), "another answer")?;
+            Ok((true, false))
+        }
+        Err(fault) => {
+            must(fault == BenchFault::Disk, "another fault")?;
+            Ok((false, true))
+        }
+    }
+}
+
+// One advance whose shelf stops from its nth call on, and then crashes so; whether the stop came.
+fn stop_at<S: Alter + Drop>(
+    alloc: Global,
+    store: Connection<S>,
+    nth: u64,
+    picks: &[u32],
+) -> Result<bool, Fail> {
+    let store = two_commands(alloc, store)?;
+    let stopping = FaultShelf::stop_from(before_advance(alloc)?, nth);
+    let mut bench = open(alloc, store, stopping)?;
+    let (accepted, came) = stopped(alloc, &mut bench)?;
+    let (store, stopping) = bench.close();
+    let mut left = stopping.into_inner().crash_image(picks)?;
+    claims_what_it_holds(&mut left)?;
+    is_over(alloc, store, left, accepted)?;
+    Ok(came)
+}
+
+// Which of three unsynced sectors a crash leaves as they were synced, by the bits of a number.
+fn picks(number: u32) -> [u32; 3] {
+    [number % 2, number / 2 % 2, number / 4 % 2]
+}
+
+fn stop_at_each(alloc: Global, number: u32) -> Result<(), Fail> {
+    let mut ended = false;
+    for nth in 1..MANY {
+        if !ended {
+            ended = !stop_at(alloc, memory(alloc)?, nth, &picks(number))?;
+        }
+    }
+    must(ended, "no run ended")
+}
+
+#[test]
+fn a_stop_within_an_advance_leaves_no_false_claim(rt: HostRuntime) -> Result<(), Fail> {
+    for number in 0..8 {
+        stop_at_each(rt.alloc(), number)?;
+    }
+    Ok(())
+}
+
+fn is_carried_out_later<S: Alter + Drop, H: Shelf + Drop>(
+    alloc: Global,
+    store: Connection<S>,
+    shelf: H,
+) -> Result<(), Fail> {
+    let mut bench = of_two(alloc, store, shelf)?;
+    let answer = accept(alloc, &mut bench, "k3", &advances("gm0", "b.img")?)?;
+    must(answer == Answer::Done(3, ALL_THREE), "not accepted")?;
+    let (store, mut shelf) = bench.close();
+    let kept = sector(&mut shelf, "b.img", 0)?;
+    must(kept == [101; 512], "copied before it was carried out")?;
+    let bench = open(alloc, store, shelf)?;
+    must(bench.redone() == 2, "another count")?;
+    let (_, mut shelf) = bench.close();
+    must_be_in_sync(&mut shelf)
+}
+
+#[test]
+fn an_opening_copies_what_is_pending(rt: HostRuntime) -> Result<(), Fail> {
+    is_carried_out_later(rt.alloc(), memory(rt.alloc())?, unlike(rt.alloc())?)
+}
+
+// ---- two stretches
+
+// 257 sectors of data, of which the last is of this byte but for its last one, and a last sector that carries nothing.
+fn long_image(alloc: Global, last: u8) -> Result<Vec<[u8; 512]>, Fail> {
+    let mut sectors = Vec::new(alloc);
+    for place in 0..=255 {
+        sectors.push([place; 512])?;
+    }
+    let mut data = [7; 512];
+    data[511] = last;
+    sectors.push(data)?;
+    sectors.push([0; 512])?;
+    Ok(sectors)
+}
+
+// a.img and b.img, which differ in the last byte of the last data sector alone.
+fn nearly_alike(alloc: Global) -> Result<MemShelf, Fail> {
+    let mut shelf = MemShelf::new(alloc);
+    add(&mut shelf, "a.img", long_image(alloc, 8)?)?;
+    add(&mut shelf, "b.img", long_image(alloc, 9)?)?;
+    Ok(shelf)
+}
+
+// What the last sector of b.img says with this offset (bytes).
+fn says_offset<H: Shelf>(shelf: &mut H, dflags: DiskFlags, sync_offset: u64) -> Result<(), Fail> {
+    let said = Metadata {
+        mediasize: 131_584,
+        provsize: 132_096,
+        sync_offset,
+        ..metadata(2, 2, dflags)?
+    };
+    let last = sector(shelf, "b.img", 257)?;
+    must(last == encode(&said), "another offset")
+}
+
+// One advance, and the shelf behind it.
+fn advanced<S: Alter + Drop, H: Shelf + Drop>(
+    alloc: Global,
+    store: Connection<S>,
+    shelf: H,
+    key: &str,
+    wanted: Answer,
+) -> Result<(Connection<S>, H), Fail> {
+    let mut bench = open(alloc, store, shelf)?;
+    let answer = run(alloc, &mut bench, key, &advances("gm0", "b.img")?)?;
+    must(answer == wanted, "another answer")?;
+    Ok(bench.close())
+}
+
+fn is_filled_by_two<S: Alter + Drop, H: Shelf + Drop>(
+    alloc: Global,
+    store: Connection<S>,
+    shelf: H,
+) -> Result<(), Fail> {
+    let mut bench = open(alloc, store, shelf)?;
+    run(alloc, &mut bench, "k1", &labels("gm0", "a.img", 7)?)?;
+    run(alloc, &mut bench, "k2", &inserts("gm0", "b.img", 2)?)?;
+    let (store, shelf) = bench.close();
+    let most = Reply::Copied {
+        held: 256,
+        total: 257,
+    };
+    let all = Reply::Copied {
+        held: 257,
+        total: 257,
+    };
+    let (store, mut shelf) = advanced(alloc, store, shelf, "k3", Answer::Done(3, most))?;
+    says_offset(&mut shelf, SYNCHRONIZING, 131_072)?;
+    let kept = sector(&mut shelf, "b.img", 256)?;
+    must(kept[511] == 9, "copied more than a stretch")?;
+    let (_, mut shelf) = advanced(alloc, store, shelf, "k4", Answer::Done(4, all))?;
+    says_offset(&mut shelf, IN_SYNC, 0)?;
+    let copied = sector(&mut shelf, "b.img", 256)?;
+    must(copied == sector(&mut shelf, "a.img", 256)?, "not copied")
+}
+
+#[test]
+fn a_component_is_filled_by_two_stretches(rt: HostRuntime) -> Result<(), Fail> {
+    is_filled_by_two(rt.alloc(), memory(rt.alloc())?, nearly_alike(rt.alloc())?)
+}
