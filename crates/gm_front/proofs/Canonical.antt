@@ -10,7 +10,7 @@ use Rattle.gm_metadata.specs.Labels.{is_label}
 use Rattle.gm_metadata.specs.declared.flags.MirrorFlags.{MirrorFlags}
 use Rattle.gm_state.specs.declared.command.BalanceWord.{BalanceWord}
 use Rattle.gm_state.specs.declared.command.Command.{Command}
-use Rattle.gm_state.specs.declared.command.Command.TheVariants.{Label, Insert, Remove, Deactivate, Activate, Forget, Rebuild, Configure, Clear, Destroy, Lost}
+use Rattle.gm_state.specs.declared.command.Command.TheVariants.{Label, Insert, Remove, Deactivate, Activate, Forget, Rebuild, Configure, Clear, Destroy, Lost, Advance}
 use Rattle.gm_state.specs.Commands.{CommandFits, balance_of_word, on_where, words}
 use Rattle.gm_front.specs.Spelling.{HasNoFlags, IsNoFlag, command_of, guarded_words, insert_of, label_at, label_of, named_of, of_component, of_mirror, of_provider, spelled}
 use Rattle.gm_front.specs.Table.{insert, label, name, names, on_component, on_mirror, on_provider, optional, possible, wanted}
@@ -49,6 +49,10 @@ has_forget = record { meets = refl; passes = refl; rows = λ behind. refl; fault
 has_rebuild : Has (codes "rebuild") (leaf (on_component (codes "rebuild"))) (of_component Rebuild)
 unfolding clap_on_literals name names optional possible wanted command_of named_of
 has_rebuild = record { meets = refl; passes = refl; rows = λ behind. refl; faults = λ behind. refl; reads = λ found. refl }
+
+has_advance : Has (codes "advance") (leaf (on_component (codes "advance"))) (of_component Advance)
+unfolding clap_on_literals name names optional possible wanted command_of named_of
+has_advance = record { meets = refl; passes = refl; rows = λ behind. refl; faults = λ behind. refl; reads = λ found. refl }
 
 has_clear : Has (codes "clear") (leaf (on_provider (codes "clear"))) (of_provider Clear)
 unfolding clap_on_literals name names optional possible wanted command_of named_of
@@ -222,6 +226,7 @@ canonical (Configure n settings) fits free = configure_canonical n settings fits
 canonical (Clear p) fits free = provider_spelled Clear has_clear p fits false (free, tt)
 canonical (Destroy n) fits free = mirror_spelled Destroy has_destroy n fits false (free, tt)
 canonical (Lost n ps) fits free = lost_canonical n ps fits free
+canonical (Advance n p) fits free = component_spelled Advance has_advance n p fits false (free.0, (free.1, tt))
 
 pub guarded : (c : Command) → CommandFits c → spelled (guarded_words c) ≡ Some c
 guarded (Label n p mid did b slice f h) fits = label_spelled n p mid did slice b f h fits true (tt, (tt, (tt, tt)))
@@ -235,3 +240,4 @@ guarded (Configure n settings) fits = configure_guarded n settings fits
 guarded (Clear p) fits = provider_spelled Clear has_clear p fits true (tt, (tt, tt))
 guarded (Destroy n) fits = mirror_spelled Destroy has_destroy n fits true (tt, (tt, tt))
 guarded (Lost n ps) fits = lost_guarded n ps fits
+guarded (Advance n p) fits = component_spelled Advance has_advance n p fits true (tt, (tt, (tt, tt)))

@@ -8,3 +8,4 @@ pub mod Outcomes
 pub mod Spelling
 pub mod Status
 pub mod Table
+pub mod Tasting

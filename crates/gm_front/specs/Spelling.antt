@@ -17,7 +17,7 @@ use Rattle.gm_state.specs.declared.command.BalanceWord.TheVariants.{Load, Prefer
 use Rattle.gm_state.specs.declared.command.Preference.{Preference}
 use Rattle.gm_state.specs.declared.command.Settings.{Settings}
 use Rattle.gm_state.specs.declared.command.Command.{Command}
-use Rattle.gm_state.specs.declared.command.Command.TheVariants.{Label, Insert, Remove, Deactivate, Activate, Forget, Rebuild, Configure, Clear, Destroy, Lost}
+use Rattle.gm_state.specs.declared.command.Command.TheVariants.{Label, Insert, Remove, Deactivate, Activate, Forget, Rebuild, Configure, Clear, Destroy, Lost, Advance}
 use Rattle.gm_state.specs.Commands.{balance_of_word, number_words, on_where, setting_words, switch_words}
 use Rattle.gm_front.specs.Table.{table}
 use Rattle.gm_front.specs.declared.words.ComponentNames.{ComponentNames}
@@ -170,6 +170,7 @@ named_of word rows =
     else if bytes_eq word (codes "rebuild") then of_component Rebuild rows
     else if bytes_eq word (codes "clear") then of_provider Clear rows
     else if bytes_eq word (codes "destroy") then of_mirror Destroy rows
+    else if bytes_eq word (codes "advance") then of_component Advance rows
     else None
 
 -- the command of this word, of which these rows were found
@@ -211,6 +212,7 @@ HasNoFlags (Configure name settings) = IsNoFlag name × IfSome settings.preferen
 HasNoFlags (Clear provider) = IsNoFlag provider
 HasNoFlags (Destroy name) = IsNoFlag name
 HasNoFlags (Lost name providers) = IsNoFlag name × All IsNoFlag providers
+HasNoFlags (Advance name provider) = IsNoFlag name × IsNoFlag provider
 
 -- the options of configure with the provider behind `=`
 abbrev pub guarded_preference : Option Preference → List Text
@@ -238,3 +240,4 @@ guarded_words (Configure name settings) = codes "configure" ∷ guarded_settings
 guarded_words (Clear provider) = codes "clear" ∷ codes "--" ∷ provider ∷ []
 guarded_words (Destroy name) = codes "destroy" ∷ codes "--" ∷ name ∷ []
 guarded_words (Lost name providers) = codes "lost" ∷ codes "--" ∷ name ∷ providers
+guarded_words (Advance name provider) = codes "advance" ∷ codes "--" ∷ name ∷ provider ∷ []

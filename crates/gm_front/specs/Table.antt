@@ -81,7 +81,7 @@ commands = on_top (λ s. record s { no_binary_name = true; disable_help_flag = t
 abbrev pub subcommands : List App
 subcommands = label ∷ insert ∷ on_component (codes "remove") ∷ on_component (codes "deactivate") ∷ on_component (codes "activate")
     ∷ on_mirror (codes "forget") ∷ on_component (codes "rebuild") ∷ configure ∷ on_provider (codes "clear")
-    ∷ on_mirror (codes "destroy") ∷ lost ∷ []
+    ∷ on_mirror (codes "destroy") ∷ lost ∷ on_component (codes "advance") ∷ []
 
 abbrev pub table : App
 table = fold (λ above more. with_subcommand above more.top) commands subcommands

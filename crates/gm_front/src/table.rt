@@ -196,5 +196,6 @@ pub(crate) fn table<'a>(alloc: Global) -> Result<Command<'a>, AllocError>
     let command = with_command(command, configure(alloc)?)?;
     let command = with_command(command, on_provider(alloc, "clear")?)?;
     let command = with_command(command, on_mirror(alloc, "destroy")?)?;
-    with_command(command, lost(alloc)?)
+    let command = with_command(command, lost(alloc)?)?;
+    with_command(command, on_component(alloc, "advance")?)
 }

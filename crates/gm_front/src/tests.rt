@@ -1,6 +1,7 @@
 //! Texts, by mirrors that are put together by hand.
 
 mod input;
+mod tasting;
 mod words;
 
 use crate::{dump_text, list_text, status_text};

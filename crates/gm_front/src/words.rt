@@ -317,6 +317,10 @@ fn named_of(word: &str, matches: &ArgMatches<'_>) -> Option<Command>
         }),
         "clear" => provider.map(|provider| Command::Clear { provider }),
         "destroy" => name.map(|name| Command::Destroy { name }),
+        "advance" => component.map(|c| Command::Advance {
+            name: c.name,
+            provider: c.provider,
+        }),
         _ => None,
     }
 }

@@ -63,6 +63,7 @@ fn canonical_words(rt: HostRuntime) -> Result<(), Fail> {
         "destroy gm0",
         "destroy -",
         "lost gm0 b.img",
+        "advance gm0 b.img",
     ];
     for line in lines {
         must_spell(&rt, line, line)?;
@@ -129,7 +130,7 @@ fn commands_on_a_component(rt: HostRuntime) -> Result<(), Fail> {
         "gm/0 a.img",
         "gm0 sixteen-letters-",
     ];
-    for command in ["remove", "deactivate", "activate", "rebuild"] {
+    for command in ["remove", "deactivate", "activate", "rebuild", "advance"] {
         must_take(&rt, command, "gm0 a.img", &alike)?;
         must_take(&rt, command, "gm0 help", &[])?;
         must_refuse_all(&rt, command, &wrong)?;
