@@ -1,7 +1,12 @@
 -- What is told of work at a bench.
-use Rattle.std.specs.Prelude.{◌≡◌, ◌⊎◌, ℕ, List, [], ◌∷◌, ◌++◌, codes}
+use Rattle.std.specs.Prelude.{◌≡◌, ◌⊎◌, ℕ, ◌==◌, List, [], ◌∷◌, ◌++◌, codes, flat_map, length, if◌then◌else◌}
 use Rattle.std.specs.Fmt.{decimal}
+use Rattle.std.specs.List.{list_any}
 use Rattle.std.specs.String.{string_bytes}
+use Rattle.gm_front.specs.Lines.{line}
+use Rattle.gm_front.specs.Tasting.{tasting_text}
+use Rattle.gm_taste.specs.declared.tasted.Tasted.{Tasted}
+use Rattle.gm_taste.specs.Verdicts.{of_metadata}
 use Rattle.gmbench.specs.declared.status.Status.{Status}
 use Rattle.gmbench.specs.declared.status.Status.TheVariants.{Done, Refused}
 use Rattle.gmbench.specs.declared.work.Work.{Work}
@@ -16,9 +21,25 @@ IsDone text report = (report.status ≡ Done) × (string_bytes report.text ≡ t
 abbrev pub recovered_text : ℕ → List ℕ
 recovered_text redone = codes "recovered " ++ decimal redone ++ 10 ∷ []
 
--- what shows something is done; of a batch a line may be refused
+-- a name a line
+abbrev pub names_text : List (List ℕ) → List ℕ
+names_text names = flat_map line names
+
+-- an audit that lists these: damage was found where there is any
+abbrev pub IsAudited : List (List ℕ) → Report → Type 0
+IsAudited names report =
+    (report.status ≡ (if length names == 0 then Done else Refused)) × (string_bytes report.text ≡ names_text names)
+
+-- what was tasted: damage was found where an image is left out for metadata that it carries
+abbrev pub IsTasting : Tasted → Report → Type 0
+IsTasting t report =
+    (report.status ≡ (if list_any (λ x. of_metadata x.reason) t.left.items then Refused else Done))
+    × (string_bytes report.text ≡ tasting_text t)
+
+-- what shows mirrors is done; an audit may find damage, and of a batch a line may be refused
 abbrev pub MayEnd : Work → Status → Type 0
 MayEnd work.Recover status = status ≡ Done
 MayEnd work.Status status = status ≡ Done
 MayEnd work.List status = status ≡ Done
+MayEnd work.Audit status = (status ≡ Done) ⊎ (status ≡ Refused)
 MayEnd work.Batch status = (status ≡ Done) ⊎ (status ≡ Refused)

@@ -1,21 +1,26 @@
 //! The program: words in, lines and an exit status out. `program.rt` is all of it; `main` hands it the real streams, once
-//! `streams.rt` has seen to it that there are three.
+//! `stack.rt` has seen to it that there is stack enough, and `streams.rt` that there are three streams.
 //!
 //! `words.rt` has the program's own words. What is done at a bench, by `work.rt`, is done in the folder and with the
-//! registry that `workplace.rt` opens and closes; `recover.rt`, `showing.rt` and `batch.rt` have the commands.
+//! registry that `workplace.rt` opens and closes; `recover.rt`, `showing.rt`, `auditing.rt` and `batch.rt` have
+//! the commands. `tasting.rt` has the one that looks at a folder without a registry.
 #![tactic(auto)]
 
+mod auditing;
 mod batch;
 mod program;
 mod recover;
 mod showing;
+mod stack;
 mod status;
 mod streams;
+mod tasting;
 mod words;
 mod work;
 mod workplace;
 
 use program::program;
+use stack::take_stack;
 use status::{Fault, Status};
 use std::env;
 use std::io::{BufReader, BufWriter, ErrorKind, Write};
@@ -24,6 +29,7 @@ use streams::StandardStreams;
 
 // Runs the program over the real streams.
 fn run(rt: &HostRuntime) -> Result<Status, Fault> {
+    take_stack(rt)?;
     let alloc = rt.alloc();
     let _streams = StandardStreams::take(rt)?;
     let mut complaints = rt.stderr();

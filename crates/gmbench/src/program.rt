@@ -1,6 +1,7 @@
 //! All that the program does, over any streams.
 
 use crate::status::{DumpRefusal, Fault, Status};
+use crate::tasting::taste_folder;
 use crate::words::{Job, job_of};
 use crate::workplace::{Place, work_at};
 use clap::Error;
@@ -79,6 +80,7 @@ fn perform<I: Read, O: Write>(
             Ok(Status::Done)
         }
         Job::Dump { folder, provider } => dump(rt, folder, provider, output),
+        Job::Taste { folder } => taste_folder(rt, folder, output),
         Job::AtBench {
             work,
             registry,

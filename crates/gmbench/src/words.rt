@@ -8,9 +8,9 @@ use std::alloc::{AllocError, Global};
 
 // What the help of the program says below its commands.
 const MORE: &str =
-    "recover, status, list and batch take --registry FILE --shelf DIR: the registry, which is made where
-there is none, and the folder with the images. Each first carries out what a run that stopped left
-pending.
+    "recover, status, list, audit and batch take --registry FILE --shelf DIR: the registry, which is made
+where there is none, and the folder with the images. Each first carries out what a run that stopped
+left pending. dump and taste look at images alone, and write nothing.
 
 Exit statuses:
   0  done
@@ -39,11 +39,13 @@ const LINES: &str =
   KEY clear PROV
   KEY destroy NAME
   KEY lost NAME PROV..
+  KEY advance NAME PROV
 B is load, prefer, round-robin or split, and S is on or off. Where label and insert aren't given
 them: --balance load, --slice 4096, --autosync on, --failsync on, --hardcode off, --priority 0.
 
 Each line is answered before the next is read:
-  KEY ok SEQ        done, and kept under this number
+  KEY ok SEQ        done, and kept under this number; behind it an advance says
+                    `copied K of N`, so many sectors by now of all
   KEY repeated SEQ  it was done before
   KEY refused N     nothing was written
   KEY fault N       a fault, which ends the batch";
@@ -57,6 +59,10 @@ pub enum Job<'a> {
     Dump {
         folder: &'a str,
         provider: Label,
+    },
+    /// Print what the images of a folder tell by themselves.
+    Taste {
+        folder: &'a str,
     },
     /// Do work at the bench of a registry and a folder.
     AtBench {
@@ -96,6 +102,12 @@ fn dump_command<'a>(alloc: Global) -> Result<Command<'a>, AllocError> {
         .arg(provider)
 }
 
+fn taste_command<'a>(alloc: Global) -> Result<Command<'a>, AllocError> {
+    Command::new(alloc, "taste")
+        .about("Prints which mirrors the images of a folder tell of by themselves")
+        .arg(shelf_option(alloc))
+}
+
 // A subcommand for work at a bench.
 fn bench_command<'a>(
     alloc: Global,
@@ -132,6 +144,14 @@ fn list_command<'a>(alloc: Global) -> Result<Command<'a>, AllocError> {
     )
 }
 
+fn audit_command<'a>(alloc: Global) -> Result<Command<'a>, AllocError> {
+    bench_command(
+        alloc,
+        "audit",
+        "Lists the components whose images aren't as they are registered",
+    )
+}
+
 fn batch_command<'a>(alloc: Global) -> Result<Command<'a>, AllocError> {
     let command = bench_command(
         alloc,
@@ -150,9 +170,11 @@ fn program_command<'a>(alloc: Global) -> Result<Command<'a>, AllocError> {
         .subcommand_required(true)
         .after_help(MORE)
         .subcommand(dump_command(alloc)?)?
+        .subcommand(taste_command(alloc)?)?
         .subcommand(recover_command(alloc)?)?
         .subcommand(status_command(alloc)?)?
         .subcommand(list_command(alloc)?)?
+        .subcommand(audit_command(alloc)?)?
         .subcommand(batch_command(alloc)?)
 }
 
@@ -176,12 +198,19 @@ fn dump_of<'a>(alloc: Global, matches: &ArgMatches<'a>) -> Result<Job<'a>, Error
     Ok(Job::Dump { folder, provider })
 }
 
+fn taste_of<'a>(matches: &ArgMatches<'a>) -> Job<'a> {
+    Job::Taste {
+        folder: matches.get_str("shelf").unwrap_or(""),
+    }
+}
+
 // The work at a bench that a subcommand is for; none where it is for no bench.
 fn work_of(name: &str) -> Option<Work> {
     match name {
         "recover" => Some(Work::Recover),
         "status" => Some(Work::Status),
         "list" => Some(Work::List),
+        "audit" => Some(Work::Audit),
         "batch" => Some(Work::Batch),
         _ => None,
     }
@@ -205,6 +234,7 @@ pub fn job_of<'a>(alloc: Global, words: &'a [&'a str]) -> Result<Job<'a>, Error>
     match matches.subcommand() {
         Some((name, given)) => match work_of(name) {
             Some(work) => Ok(at_bench_of(work, given)),
+            None if name == "taste" => Ok(taste_of(given)),
             None => dump_of(alloc, given),
         },
         None => Ok(Job::Introduce),

@@ -4,6 +4,7 @@ ghost use Rattle.std.specs.Prelude.{IfOk};
 ghost use Rattle.gm_bench.specs.Progressing.{TakesCommands};
 ghost use Rattle.gmbench.specs.Reports.{MayEnd};
 
+use crate::auditing::audit_report;
 use crate::batch::hand_in;
 use crate::recover::recovered;
 use crate::showing::{list_report, status_report};
@@ -23,6 +24,8 @@ pub enum Work {
     Status,
     /// Say all that is known of the mirrors.
     List,
+    /// List the components that the images no longer show as they are registered.
+    Audit,
     /// Hand in the commands of an input, and answer each.
     Batch,
 }
@@ -55,6 +58,10 @@ impl Work {
             Work::List => {
                 let state = bench.view(alloc)?;
                 list_report(alloc, &state)
+            }
+            Work::Audit => {
+                let names = bench.audit(alloc)?;
+                audit_report(alloc, &names)
             }
             Work::Batch => {
                 let status = hand_in(alloc, bench, input, output)?;
