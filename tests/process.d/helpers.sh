@@ -84,6 +84,17 @@ put_image() {
     esac >>"$1"
 }
 
+# Writes these bytes at that place of the last sector of an image of four sectors.
+overwrite() {
+    printf "$3" | dd of="$1" bs=1 seek=$((1536 + $2)) conv=notrunc 2>/dev/null
+}
+
+# Gives that sector the MD5 that its first 119 bytes have.
+rehash() {
+    hash=$(dd if="$1" bs=1 skip=1536 count=119 2>/dev/null | md5sum | cut -c 1-32 | sed 's/../0x& /g')
+    printf '%b' "$(printf '\\0%03o' $hash)" | dd of="$1" bs=1 seek=1655 conv=notrunc 2>/dev/null
+}
+
 # What a dump prints of a component of gm0 on an image of four sectors: its number, how many the mirror counts, its flags
 # and its hash.
 dumped() {
@@ -147,6 +158,14 @@ fresh_bench() {
 stopped_remove() {
     put_bench "$1" pending-a pending-b
     cp "$top/examples/pending.sqlite" "$registry"
+}
+
+# A bench that stopped when it was to copy the data of a.img to b.img, behind its insertion, and had written nothing of it.
+# No batch stops there by itself: so SQLite's own command line writes that into the registry.
+stopped_copy() {
+    fresh_bench "$1"
+    batch "$label$insert"
+    sqlite3 "$registry" "INSERT INTO intents VALUES (1, 3, 'b.img', 'a.img', 0, 3), (2, 1, 'b.img', '', 0, 0)"
 }
 
 # Whether the images of that bench have their data still, and these last sectors.

@@ -40,6 +40,21 @@ batch 'k3 remove gm0 b.img\nk4 clear b.img\n'
 expect 'a batch behind a stop' 1 "$(lines 'k3 repeated 3\nk4 refused 29')" ''
 expect_images 'the stopped removal came first' fresh bare
 
+# ---- a copy
+
+if command -v sqlite3 >/dev/null; then
+    stopped_copy copied
+    expect_images 'nothing is copied yet' pending-a pending-b
+    at_bench recover
+    expect 'a stopped copy is carried out' 0 'recovered 2' ''
+    put_image "$work/wanted-b" a pending-b
+    expect_same 'the data are copied' "$bench/images/b.img" "$work/wanted-b"
+    put_image "$work/wanted-a" a pending-a
+    expect_same 'what they are copied from stays' "$bench/images/a.img" "$work/wanted-a"
+else
+    skip 'a stopped copy is carried out' 'there is no sqlite3'
+fi
+
 # ---- images that are away
 
 # The intents are b.img's and a.img's, in this order: the first whose image is away is told.

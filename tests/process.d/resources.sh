@@ -59,13 +59,23 @@ else
     fail 'a recovery with 4 descriptors' "status $status, '$(head -n 1 "$work/complaints")'"
 fi
 
+# What a run is handed on its input, what it may print where memory is wanting, and the bench that it begins with, where it
+# changes one: a copy of it is put in place each time.
+input=/dev/null
+told=
+kept=
+
 # How the program ends with these words in so many KB of memory.
 end_in() {
+    if [ -n "$kept" ]; then
+        rm -rf "$bench"
+        cp -R "$kept" "$bench"
+    fi
     (
         ulimit -v "$1"
         shift
         exec "$gmbench" "$@"
-    ) >"$work/output" 2>"$work/complaints"
+    ) <"$input" >"$work/output" 2>"$work/complaints"
     status=$?
 }
 
@@ -93,7 +103,8 @@ grow_memory() {
         if [ "$status" -le 3 ]; then
             started=yes
         fi
-        if [ "$status" = 3 ] && [ "$(cat "$work/complaints")" = "$no_memory" ] && [ ! -s "$work/output" ]; then
+        if [ "$status" = 3 ] && [ "$(cat "$work/complaints")" = "$no_memory" ] &&
+            { [ ! -s "$work/output" ] || [ "$(cat "$work/output")" = "$told" ]; }; then
             refused=$((refused + 1))
         elif [ "$status" = 0 ] && [ "$(cat "$work/output")" = "$lines" ] && [ ! -s "$work/complaints" ]; then
             answered=yes
@@ -114,6 +125,59 @@ grow_memory() {
 grow_memory 'a dump in little memory' 4 "$said" dump --shelf "$shelf" a.img
 grow_memory 'a recovery in little memory' 40 'recovered 0' recover --registry "$work/made" --shelf "$shelf"
 grow_memory 'a status in little memory' 40 'no mirrors' status --registry "$work/made" --shelf "$shelf"
+
+# Runs words whose lines are known in ever more stack: the program ends by a signal before it has done anything, and from
+# somewhere on it answers.
+grow_stack() {
+    name=$1
+    lines=$2
+    shift 2
+    kilobytes=100
+    answered=no
+    wrong=
+    while [ "$kilobytes" -le 700 ]; do
+        rm -rf "$bench"
+        cp -R "$kept" "$bench"
+        (ulimit -s "$kilobytes" && exec "$gmbench" "$@") <"$input" >"$work/output" 2>"$work/complaints"
+        status=$?
+        if [ "$status" = 0 ] && [ "$(cat "$work/output")" = "$lines" ]; then
+            answered=yes
+        elif [ "$status" -le 3 ] || [ $answered = yes ] || ! diff -r "$kept" "$bench" >/dev/null; then
+            wrong="in $kilobytes KB status $status, '$(head -n 1 "$work/output" "$work/complaints")'"
+        fi
+        kilobytes=$((kilobytes + 20))
+    done 2>/dev/null
+    if [ -n "$wrong" ]; then
+        fail "$name" "$wrong"
+    elif [ $answered = no ]; then
+        fail "$name" 'it never answered'
+    else
+        pass "$name"
+    fi
+}
+
+# A label and a copy, each time from the same bench.
+fresh_bench little
+kept=$work/kept-bench
+cp -R "$bench" "$kept"
+printf "$label" >"$work/lines"
+input=$work/lines
+told='k1 fault 1'
+grow_memory 'a batch in little memory' 40 'k1 ok 1' batch --registry "$registry" --shelf "$bench/images"
+grow_stack 'a batch in little stack' 'k1 ok 1' batch --registry "$registry" --shelf "$bench/images"
+fresh_bench little-copy
+batch "$label$insert"
+rm -rf "$kept"
+cp -R "$bench" "$kept"
+printf 'k3 advance gm0 b.img\n' >"$work/lines"
+input=$work/lines
+told='k3 fault 1'
+copied='k3 ok 3 copied 3 of 3'
+grow_memory 'a copy in little memory' 40 "$copied" batch --registry "$registry" --shelf "$bench/images"
+grow_stack 'a copy in little stack' "$copied" batch --registry "$registry" --shelf "$bench/images"
+input=/dev/null
+told=
+kept=
 
 # ---- a folder of many files
 

@@ -1,16 +1,5 @@
 # ---- what the last sector of an image says
 
-# Writes these bytes at that place of the last sector of an image of four sectors.
-overwrite() {
-    printf "$3" | dd of="$1" bs=1 seek=$((1536 + $2)) conv=notrunc 2>/dev/null
-}
-
-# Gives that sector the MD5 that its first 119 bytes have.
-rehash() {
-    hash=$(dd if="$1" bs=1 skip=1536 count=119 2>/dev/null | md5sum | cut -c 1-32 | sed 's/../0x& /g')
-    printf '%b' "$(printf '\\0%03o' $hash)" | dd of="$1" bs=1 seek=1655 conv=notrunc 2>/dev/null
-}
-
 sectors=$work/sectors
 mkdir "$sectors"
 put_image "$sectors/a.img" a fresh

@@ -20,7 +20,7 @@ helps() {
     fi
 }
 
-for about in 'dump     Prints' 'recover  Carries' 'status   Shows' 'list     Shows' 'batch    Carries'; do
+for about in 'dump     Prints' 'taste    Prints' 'recover  Carries' 'status   Shows' 'list     Shows' 'audit    Lists' 'batch    Carries'; do
     helps "help names ${about%% *}" "
   $about"
 done
@@ -32,7 +32,7 @@ Exit statuses:
 helps 'help has an example' '
 Example:
 '
-for word in dump recover status list batch; do
+for word in dump taste recover status list audit batch; do
     run "$word" --help
     if [ "$status" = 0 ] && grep -q "^Usage: gmbench $word" "$work/output" && [ ! -s "$work/complaints" ]; then
         pass "$word has help of its own"
@@ -42,7 +42,7 @@ for word in dump recover status list batch; do
 done
 run paint
 expect_words 'an unknown command'
-for word in recover status list batch; do
+for word in recover status list audit batch; do
     run "$word" --shelf "$shelf"
     expect_words "$word without a registry"
     run "$word" --registry "$work/unmade"
@@ -51,6 +51,12 @@ for word in recover status list batch; do
     expect_words "$word with a word too many"
 done
 expect_none 'wrong words make no registry' "$work/unmade"
+run taste
+expect_words 'a taste without a folder'
+run taste --shelf "$shelf" a.img
+expect_words 'a taste with a word too many'
+run taste --registry "$work/unmade" --shelf "$shelf"
+expect_words 'a taste with a registry'
 run dump a.img
 expect_words 'a dump without a folder'
 run dump --shelf "$shelf"
