@@ -3,10 +3,12 @@
 
     benches/plain.py --registry FILE --shelf DIR [--fdatasync] <lines
 
-Takes the lines label, insert, remove and destroy, and answers each with `KEY ok SEQ` before it reads the next. For each it
+Takes the lines label, insert, remove, destroy and advance, and answers each with `KEY ok SEQ` before it reads the next. For
+each it
 
 1. writes the records, the intents and the key in one transaction of SQLite, which is synced;
-2. writes the last sector of each image that an intent names, and syncs that image;
+2. writes the last sector of each image that an intent names, and syncs that image; an advance reads a stretch of both
+   images before, writes it whole where it differs, and syncs the image;
 3. empties the intents in a second transaction.
 
 An image is synced by fsync, or as gmbench does it, by fdatasync. What a run that stopped left pending is carried out first.
@@ -23,8 +25,10 @@ import sys
 SECTOR = 512
 BALANCES = {"round-robin": 1, "load": 2, "split": 3, "prefer": 4}
 SYNCHRONIZING = 2
-# What an intent does with the last sector of its image: metadata or zeros.
-META, CLEAR = 1, 2
+# What an intent does: metadata or zeros into the last sector of its image, or a stretch of another one.
+META, CLEAR, COPY = 1, 2, 3
+# How many sectors a stretch has at most.
+STRETCH = 256
 
 # The tables and keys that gmbench has, so that as many trees are written.
 TABLES = """
@@ -34,15 +38,16 @@ CREATE TABLE IF NOT EXISTS mirrors(name TEXT PRIMARY KEY NOT NULL, mid INTEGER N
 CREATE TABLE IF NOT EXISTS components(prov TEXT PRIMARY KEY NOT NULL, mirror TEXT NOT NULL,
   did INTEGER NOT NULL, syncid INTEGER NOT NULL, priority INTEGER NOT NULL, sync_offset INTEGER NOT NULL,
   dflags INTEGER NOT NULL, hard INTEGER NOT NULL, provsize INTEGER NOT NULL, UNIQUE (mirror, did));
-CREATE TABLE IF NOT EXISTS intents(ord INTEGER PRIMARY KEY, kind INTEGER NOT NULL, prov TEXT NOT NULL);
+CREATE TABLE IF NOT EXISTS intents(ord INTEGER PRIMARY KEY, kind INTEGER NOT NULL, prov TEXT NOT NULL,
+  source TEXT NOT NULL, first_sector INTEGER NOT NULL, end_sector INTEGER NOT NULL);
 CREATE TABLE IF NOT EXISTS commands(call_key TEXT PRIMARY KEY NOT NULL, seq INTEGER NOT NULL UNIQUE,
-  words TEXT NOT NULL);
+  words TEXT NOT NULL, copied INTEGER NOT NULL, of_total INTEGER NOT NULL);
 """
 
 # The intents in their order, with the fields of the sector that each writes; those of a CLEAR are NULL, since its
 # component is gone.
 PENDING = """
-SELECT i.kind, i.prov, m.name, m.mid, c.did, m.total, m.genid, c.syncid, c.priority, m.slice, m.balance, m.mediasize,
+SELECT i.kind, i.prov, i.source, i.first_sector, i.end_sector, m.name, m.mid, c.did, m.total, m.genid, c.syncid, c.priority, m.slice, m.balance, m.mediasize,
   c.sync_offset, m.mflags, c.dflags, c.hard, c.provsize
 FROM intents i LEFT JOIN components c ON c.prov = i.prov LEFT JOIN mirrors m ON m.name = c.mirror ORDER BY i.ord
 """
@@ -83,6 +88,14 @@ class Shelf:
         os.pwrite(file, sector, self.size(prov) - SECTOR)
         self.sync(file)
 
+    def copy(self, source, target, first, end):
+        length, place = (end - first) * SECTOR, first * SECTOR
+        file = self.file(target)
+        wanted = os.pread(self.file(source), length, place)
+        if os.pread(file, length, place) != wanted:
+            os.pwrite(file, wanted, place)
+        self.sync(file)
+
 
 def sector_of(prov, fields):
     """The sector of metadata: the fields, their MD5, and zeros."""
@@ -115,14 +128,15 @@ def put_component(store, name, prov, options, syncid, dflags, size):
     store.execute("INSERT INTO components VALUES (?, ?, ?, ?, ?, ?, ?, ?, ?)", row)
 
 
-def put_intent(store, kind, prov):
-    store.execute("INSERT INTO intents (kind, prov) VALUES (?, ?)", (kind, prov))
+def put_intent(store, kind, prov, source="", first=0, end=0):
+    store.execute("INSERT INTO intents (kind, prov, source, first_sector, end_sector) VALUES (?, ?, ?, ?, ?)",
+                  (kind, prov, source, first, end))
 
 
 def put_intents(store, kind, name):
     """An intent for each component of the mirror."""
-    store.execute("INSERT INTO intents (kind, prov) SELECT ?, prov FROM components WHERE mirror = ? ORDER BY prov",
-                  (kind, name))
+    store.execute("INSERT INTO intents (kind, prov, source, first_sector, end_sector) "
+                  "SELECT ?, prov, '', 0, 0 FROM components WHERE mirror = ? ORDER BY prov", (kind, name))
 
 
 def label(store, shelf, options, name, prov):
@@ -162,18 +176,38 @@ def destroy(store, shelf, options, name):
     store.execute("DELETE FROM mirrors WHERE name = ?", (name,))
 
 
-COMMANDS = {"label": label, "insert": insert, "remove": remove, "destroy": destroy}
+def advance(store, shelf, options, name, prov):
+    mirror_named(store, name)
+    (total,) = store.execute("SELECT mediasize / 512 FROM mirrors WHERE name = ?", (name,)).fetchone()
+    found = store.execute("SELECT sync_offset / 512, dflags FROM components WHERE prov = ? AND mirror = ?",
+                          (prov, name)).fetchone()
+    if found is None:
+        raise Refused(12)
+    first, dflags = found
+    if not dflags & SYNCHRONIZING:
+        raise Refused(22)
+    (source,) = store.execute("SELECT prov FROM components WHERE mirror = ? AND dflags = 0 AND prov <> ? "
+                              "ORDER BY priority DESC, prov LIMIT 1", (name, prov)).fetchone()
+    end = min(first + STRETCH, total)
+    said = (0, 0) if end == total else (dflags, end * SECTOR)
+    store.execute("UPDATE components SET dflags = ?, sync_offset = ? WHERE prov = ?", (*said, prov))
+    put_intent(store, COPY, prov, source, first, end)
+    put_intent(store, META, prov)
+    return end, total
+
+
+COMMANDS = {"label": label, "insert": insert, "remove": remove, "destroy": destroy, "advance": advance}
 
 
 def change(store, shelf, words):
-    """Carries a command out on the records."""
+    """Carries a command out on the records; of an advance, how many of how many sectors are held behind it."""
     options, names, rest = {}, [], iter(words[1:])
     for word in rest:
         if word.startswith("--"):
             options[word[2:]] = next(rest)
         else:
             names.append(word)
-    COMMANDS[words[0]](store, shelf, options, *names)
+    return COMMANDS[words[0]](store, shelf, options, *names) or (0, 0)
 
 
 def accept(store, shelf, key, words):
@@ -184,17 +218,20 @@ def accept(store, shelf, key, words):
         if found[1] != line:
             raise Refused(3)
         return f"{key} repeated {found[0]}"
-    change(store, shelf, words)
+    copied, total = change(store, shelf, words)
     (seq,) = store.execute("SELECT COALESCE(MAX(seq), 0) + 1 FROM commands").fetchone()
-    store.execute("INSERT INTO commands VALUES (?, ?, ?)", (key, seq, line))
-    return f"{key} ok {seq}"
+    store.execute("INSERT INTO commands VALUES (?, ?, ?, ?, ?)", (key, seq, line, copied, total))
+    return f"{key} ok {seq} copied {copied} of {total}" if total else f"{key} ok {seq}"
 
 
 def carry_out(store, shelf):
     """Writes what is pending to the images, and forgets it."""
     pending = store.execute(PENDING).fetchall()
-    for kind, prov, *fields in pending:
-        shelf.write_last(prov, sector_of(prov, fields) if kind == META else bytes(SECTOR))
+    for kind, prov, source, first, end, *fields in pending:
+        if kind == COPY:
+            shelf.copy(source, prov, first, end)
+        else:
+            shelf.write_last(prov, sector_of(prov, fields) if kind == META else bytes(SECTOR))
     if pending:
         store.execute("DELETE FROM intents")
 
