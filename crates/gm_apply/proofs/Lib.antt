@@ -7,3 +7,4 @@ pub mod Lists
 pub mod Leading
 pub mod Safe
 pub mod Values
+pub mod Agreeing

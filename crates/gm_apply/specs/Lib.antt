@@ -1,2 +1,3 @@
 pub mod Redo
 pub mod Continues
+pub mod Comparing

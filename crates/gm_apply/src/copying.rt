@@ -11,8 +11,8 @@ use gm_metadata::Label;
 use gm_shelf::{Shelf, ShelfFault};
 use gm_taste::same;
 
-// How many sectors a run has, but for the last one, which may have fewer.
-const RUN: usize = 128;
+/// How many sectors a run has, but for the last one, which may have fewer.
+pub(crate) const RUN: usize = 128;
 
 // Writes a stretch of sectors, where there are any.
 fn write_stretch<H: Shelf>(

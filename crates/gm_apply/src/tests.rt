@@ -1,6 +1,7 @@
 //! A copy and the metadata that claim it, stopped before each call, with every image that a crash may then leave.
-//! `copies.rt` tries copies alone.
+//! `copies.rt` tries copies alone, `comparing.rt` the count of equal sectors.
 
+mod comparing;
 mod copies;
 mod counting;
 

@@ -1,5 +1,5 @@
 -- What providers hold: the words for sectors that shelves and worlds share.
-use Rattle.std.specs.Prelude.{◌≡◌, ◌≢◌, ◌⊎◌, ℕ, List, Bool, true, false, ◌==◌, ◌&&◌, Option, IsSome, replicate, if◌then◌else◌}
+use Rattle.std.specs.Prelude.{◌≡◌, ◌≢◌, ◌⊎◌, ℕ, zero, suc, List, Bool, true, false, ◌==◌, ◌&&◌, Option, IsSome, replicate, if◌then◌else◌}
 use Rattle.std.specs.Str.{bytes_eq}
 use Rattle.std.proofs.Common.{inl, inr, refl}
 use Rattle.std.proofs.lemmas.Slice.Eq.{bytes_eq-Decides}
@@ -29,6 +29,11 @@ same_label a b = bytes_eq a b
 -- the image with one sector changed
 abbrev pub put : Label → ℕ → List ℕ → Image → Image
 put p i s x q j = if same_label q p && (j == i) then s else x q j
+
+-- the first k sectors of two providers hold the same
+abbrev pub agree : Image → Label → Label → ℕ → Bool
+agree x p q zero = true
+agree x p q (suc k) = agree x p q k && bytes_eq (x p k) (x q k)
 
 -- a sector of zeros
 abbrev pub zeros : List ℕ
