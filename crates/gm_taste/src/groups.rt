@@ -10,11 +10,11 @@ use crate::verdicts::state_of;
 use gm_metadata::{Label, Metadata};
 use std::alloc::{AllocError, Global};
 
-// A provider that is taken, with what its last sector says.
-#[derive(Clone, Copy)]
-pub(crate) struct Taken {
-    pub(crate) provider: Label,
-    pub(crate) metadata: Metadata,
+/// A provider that is taken, with what its last sector says.
+#[derive(Clone, Copy, Debug)]
+pub struct Taken {
+    pub provider: Label,
+    pub metadata: Metadata,
 }
 
 // What tells mirrors apart.
@@ -109,6 +109,17 @@ fn syncid_in(own: &[Taken], genid: u32) -> u32
     syncid
 }
 
+/// What a provider is in a group with this genid and this syncid.
+pub fn member(genid: u32, syncid: u32, taken: &Taken) -> Member
+    ensures { result ≡ member genid syncid taken.now }
+{
+    Member {
+        provider: taken.provider,
+        metadata: taken.metadata,
+        state: state_of(genid, syncid, &taken.metadata),
+    }
+}
+
 fn members_of(
     alloc: Global,
     own: &[Taken],
@@ -119,11 +130,7 @@ fn members_of(
 {
     let mut members = Vec::new(alloc);
     for t in own {
-        members.push(Member {
-            provider: t.provider,
-            metadata: t.metadata,
-            state: state_of(genid, syncid, &t.metadata),
-        })?;
+        members.push(member(genid, syncid, t))?;
     }
     Ok(members)
 }

@@ -16,9 +16,10 @@ mod tasting;
 mod tests;
 mod verdicts;
 
+pub use groups::{Taken, member};
 pub use laws::{one_tasting, reasons_tell};
 pub use provider::Provider;
 pub use sectors::same;
-pub use sources::source_of;
+pub use sources::{first_of_two, source_of};
 pub use tasted::{Group, LeftOut, Member, MemberState, Reason, Tasted};
-pub use tasting::taste;
+pub use tasting::{taken_by, taste};

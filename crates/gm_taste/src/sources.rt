@@ -22,7 +22,9 @@ fn takes_place(known: &Option<Member>, member: &Member) -> bool
     }
 }
 
-fn first_of_two(known: Option<Member>, member: &Member) -> Option<Member>
+/// The one of the two that data are rather taken from: the member where it is ACTIVE and goes before the one that is
+/// known so far, or none is.
+pub fn first_of_two(known: Option<Member>, member: &Member) -> Option<Member>
     ensures { result ≡ first_of_two known member.now }
 {
     if takes_place(&known, member) {

@@ -11,7 +11,8 @@ use crate::tasted::{LeftOut, Tasted};
 use crate::verdicts::verdict;
 use std::alloc::{AllocError, Global};
 
-fn taken_by(provider: &Provider) -> Option<Taken>
+/// The provider where it is taken: its last sector decodes, and names this provider or none, and its size or none.
+pub fn taken_by(provider: &Provider) -> Option<Taken>
     ensures { result ≡ taken_by provider.now }
 {
     match verdict(provider) {
