@@ -17,7 +17,7 @@ use Rattle.gm_state.proofs.Finding.{Has-map}
 use Rattle.gm_state.proofs.OneCommand.{same_command}
 use Rattle.gm_rules.proofs.Kept.{Has-mapped}
 use Rattle.gm_rules.specs.declared.refusals.Refusal.{Refusal}
-use Rattle.gm_rules.specs.declared.refusals.Refusal.TheVariants.{NoMirror, NameTaken, MidTaken, Absent, ProviderTaken, CarriesMetadata, TooSmall, NotMember, DidTaken, Full, TooManyMirrors, SomeLost, LastActive, AlreadyInactive, NotInactive, NoneLost, Inactive, NotSynchronizing, LastSyncid, LastGenid, NothingGiven, WrongSize, NoMetadata}
+use Rattle.gm_rules.specs.declared.refusals.Refusal.TheVariants.{NoMirror, NameTaken, MidTaken, Absent, ProviderTaken, CarriesMetadata, TooSmall, NotMember, DidTaken, Full, TooManyMirrors, SomeLost, LastActive, AlreadyInactive, NotInactive, NoneLost, Inactive, NotSynchronizing, LastSyncid, LastGenid, NothingGiven, NotAdoptable, WrongSize, NoMetadata}
 use Rattle.gm_rules.specs.Refusals.{number_of, number_of_call}
 use Rattle.gm_rules.specs.declared.refusals.CallRefusal.{CallRefusal}
 use Rattle.gm_rules.specs.declared.refusals.CallRefusal.TheVariants.{NoKey, KeyTaken, NoRoom, ByRules}
@@ -57,6 +57,7 @@ at_least_five NotSynchronizing = omega arith
 at_least_five LastSyncid = omega arith
 at_least_five LastGenid = omega arith
 at_least_five NothingGiven = omega arith
+at_least_five NotAdoptable = omega arith
 at_least_five WrongSize = omega arith
 at_least_five NoMetadata = omega arith
 

@@ -19,8 +19,6 @@ use Rattle.gm_rules.specs.Step.{CanAnswer, IsOwn}
 use Rattle.gm_rules.specs.Worlds.{seen_of}
 use Rattle.gm_rules.proofs.Plans.{every_plan}
 use Rattle.gm_rules.proofs.Agreeing.{of_part, is_state}
-use Rattle.gm_registry.specs.declared.parts.Part.{Part}
-use Rattle.gm_registry.specs.Parts.{IsPartFor}
 use Rattle.gm_bench.specs.Recovering.{Cover}
 
 -- a component of the mirror that the command names is of that name
@@ -61,10 +59,6 @@ module _ (c : Command) (part s w : Records) (ch : Changed) (leaves : LeavesPart 
         let named : m.name ≡ n.0 = sym (member w m.name k o.component).1 ∙ (ap (λ (x : Component). x.mirror) same ∙ n.2) in
         leaves.own m k (subst (λ (r : Records). IsOf r m k) (sym is) o) (n.1 ∙ ap Some (sym named));
   }
-
--- what the registry reads of a command is its part
-pub is_part : (s : Records) (c : Command) (mids : List ℕ) (p : Part) → IsState s → IsPartFor s c mids p → IsPartOf p.state c s
-is_part s c mids p state read = record { state = state; mids = mids; is = read.state }
 
 -- what a command leaves of its part is a state
 pub part_stays : (u : World) (key : List ℕ) (c : Command) (ch : Changed) (part : Records) → Sound u → CanAnswer u key c → Makes u.state (seen_of u) c ch → LeavesPart part c u.state ch → IsState (changed_by ch part)

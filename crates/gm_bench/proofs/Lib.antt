@@ -14,6 +14,8 @@ pub mod Causes
 pub mod TakingUp
 pub mod Reopening
 pub mod Facts
+pub mod Asked
+pub mod Gathering
 pub mod Deciding
 pub mod Commits
 pub mod Phases

@@ -71,7 +71,7 @@ module _ (size : Sizes) (seen : Image) (names : List (List ℕ)) (are : AreNames
   pub not_absent : (i : ℕ) (name : List ℕ) → i < length names → name ≡ get_or names i name → size name ≡ None → ⊥
   not_absent i name low is gone = let there : IsSome (size name) = (are.there name).0 (i, low, sym is) in let none = subst (λ (o : Option ℕ). IsSome o) gone there in (let no : ⊥ = cc in no)
 
-  pub shown_more : (i : ℕ) (name : List ℕ) (f : Fact) (ps : List Provider) → i < length names → name ≡ get_or names i name → IsFact size seen f → f.provider ≡ name → ShownSoFar size seen (take i names) ps
+  pub shown_more : (i : ℕ) (name : List ℕ) (f : Fact) (ps : List Provider) → i < length names → name ≡ get_or names i name → IsFact size seen None f → f.provider ≡ name → ShownSoFar size seen (take i names) ps
       → ShownSoFar size seen (take (i + 1) names) (ps ++ provider_of f ∷ [])
   shown_more i name f ps low is fact at so = record {
     each = λ p h. ⊎_elim (λ (was : Has ps p). so.each p was) (λ (e : provider_of f ≡ p). subst (IsShown size seen) e (record { sectors_are = fact.sectors; last_is = fact.last })) (Has-push ps (provider_of f) p h);

@@ -1,6 +1,7 @@
 pub mod Leading
 pub mod Recovering
 pub mod Accepting
+pub mod Finding
 pub mod Seeing
 pub mod Faults
 pub mod Presence

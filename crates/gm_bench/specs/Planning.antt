@@ -1,13 +1,15 @@
 -- What is decided on a command, and what is carried out once that is accepted.
-use Rattle.std.specs.Prelude.{◌≡◌, Result, Ok, Err}
+use Rattle.std.specs.Prelude.{◌≡◌, length, Result, Ok, Err}
 use Rattle.gm_state.specs.declared.command.Command.{Command}
 use Rattle.gm_state.specs.Records.{Records}
 use Rattle.gm_state.specs.World.{World}
 use Rattle.gm_rules.specs.declared.refusals.Refusal.{Refusal}
 use Rattle.gm_rules.specs.Decides.{Makes, IsLeast, changed_by}
-use Rattle.gm_rules.specs.Parts.{LeavesPart}
-use Rattle.gm_rules.specs.Worlds.{seen_of}
+use Rattle.gm_rules.specs.Parts.{LeavesPart, IsPartToDecide}
+use Rattle.gm_rules.specs.Seen.{seen_in}
+use Rattle.gm_rules.specs.Worlds.{AreFacts, seen_of}
 use Rattle.gm_bench.specs.declared.asking.Planned.{Planned}
+use Rattle.gm_bench.specs.declared.asking.Gathered.{Gathered}
 
 -- the change is the command's, the intents are the change's, and the part is what the change leaves of one
 pub record IsPlanned (u : World) (c : Command) (p : Planned) : Type 0 where
@@ -21,3 +23,9 @@ pub record IsPlanned (u : World) (c : Command) (p : Planned) : Type 0 where
 abbrev pub IsDecided : World → Command → Result Planned Refusal → Type 0
 IsDecided u c (Ok planned) = IsPlanned u c planned
 IsDecided u c (Err r) = IsLeast u.state (seen_of u) c r
+
+-- a part of the records that serves to decide on the command, how many mirrors there are, and facts of the world
+pub record IsKnown (u : World) (c : Command) (g : Gathered) : Type 0 where
+  pub part : IsPartToDecide g.part.state (seen_in g.facts) c u.state
+  pub mirrors : g.part.mirrors ≡ length u.state.mirrors
+  pub facts : AreFacts g.facts u c

@@ -8,22 +8,27 @@ ghost use Rattle.gm_state.specs.Rows.{Tables};
 ghost use Rattle.gm_state.specs.Records.{Records, IsState};
 ghost use Rattle.gm_state.specs.World.{World, Sound};
 ghost use Rattle.gm_rules.specs.Decides.{changed_by};
-ghost use Rattle.gm_rules.specs.Parts.{IsPartOf};
+ghost use Rattle.gm_rules.specs.Parts.{IsPartOf, IsPartToDecide, part_of};
+ghost use Rattle.gm_rules.specs.Seen.{seen_in};
 ghost use Rattle.gm_rules.specs.Step.{CanAnswer};
-ghost use Rattle.gm_rules.specs.Worlds.{AreFacts};
+ghost use Rattle.gm_rules.specs.Worlds.{AreFacts, needed_by};
 ghost use Rattle.gm_registry.specs.Reading.{AreRecordsOf};
 ghost use Rattle.gm_registry.specs.Registry.{DiskKept, HasTables, Reads};
 ghost use Rattle.gm_registry.specs.Replies.{count_of};
 ghost use Rattle.gm_bench.specs.Faults.{IsOfCall, IsOfMedia};
 ghost use Rattle.gm_bench.specs.Recovering.{IsAt};
-ghost use Rattle.gm_bench.specs.Planning.{IsDecided};
+ghost use Rattle.gm_bench.specs.Planning.{IsDecided, IsKnown};
+ghost use Rattle.gm_bench.specs.Seeing.{Tell};
+ghost use Rattle.gm_state.specs.Words.{Has};
 
 use crate::answer::Work;
 use crate::fault::BenchFault;
+use crate::finding::{Compared, adopted_from, compared_with};
 use crate::media::Media;
 use crate::seeing::facts_of;
+use gm_metadata::Label;
 use gm_registry::Part;
-use gm_rules::{Change, Facts, Refusal, changed_by, decide_part, needed};
+use gm_rules::{Change, Facts, Refusal, adopt_source, changed_by, decide_part, found_mids, needed};
 use gm_shelf::Shelf;
 use gm_state::{Command, Intent, State};
 use sqlite::Alter;
@@ -37,6 +42,13 @@ const MAX_COMMANDS: u64 = 100_000;
 pub(crate) struct Planned {
     pub(crate) change: Change,
     pub(crate) work: Work,
+}
+
+// What is known to decide on a command: its part of the records, and what the shelf says.
+#[derive(Drop)]
+pub(crate) struct Gathered {
+    pub(crate) part: Part,
+    pub(crate) facts: Facts,
 }
 
 // What a change leaves to be done.
@@ -74,13 +86,15 @@ fn decide_on(
     facts: &Facts,
     command: &Command,
 ) -> Result<Result<Planned, Refusal>, BenchFault>
-    ensures decides { IfOk result (λ r. (u : World) → IsPartOf part.now command.now u.state
+    ensures decides { IfOk result (λ r. (u : World)
+        → IsPartToDecide part.now (seen_in facts.now) command.now u.state
         → count ≡ length u.state.mirrors → AreFacts facts.now u command.now
         → IsDecided u command.now r) }
     ensures disk { IsErrOf result BenchFault.Disk → ⊥ }
     ensures fault { IfErr result IsOfCall }
     ensures readable { IsErrOf result BenchFault.Unreadable → (u : World) (key : List ℕ) → Sound u
-        → CanAnswer u key command.now → IsPartOf part.now command.now u.state
+        → CanAnswer u key command.now
+        → IsPartToDecide part.now (seen_in facts.now) command.now u.state
         → count ≡ length u.state.mirrors → AreFacts facts.now u command.now → ⊥ }
 {
     match decide_part(alloc, part, count, facts, command) {
@@ -113,12 +127,19 @@ impl<S: Alter, H: Shelf> Media<S, H> {
         }
     }
 
-    /// The part of the records that the command asks for, and how many mirrors there are. It writes nothing.
-    pub(crate) fn part(&mut self, alloc: Global, command: &Command) -> Result<Part, BenchFault>
+    /// The part of the records that the command asks for, and that has each of these mids, and how many
+    /// mirrors there are. It writes nothing.
+    pub(crate) fn part(
+        &mut self,
+        alloc: Global,
+        command: &Command,
+        mids: &[u32],
+    ) -> Result<Part, BenchFault>
         ensures part { H.honest self.old.shelf → DiskKept S.Store self.new.registry
             → IfOk result (λ r. (away : Image) (ts : List Intent) (u w : World)
             → (at : IsAt S.Store H.view H.size self.old.registry self.old.shelf away ts u w)
-            → IsPartOf r.state command.now w.state × (r.mirrors ≡ length w.state.mirrors)
+            → (r.state ≡ part_of w.state command.now mids.now) × IsState w.state
+            × (r.mirrors ≡ length w.state.mirrors)
             × HasTables S.Store self.new.registry at.tables) }
         ensures disk { IsErrOf result BenchFault.Disk → ⊥ }
         ensures fault { IfErr result IsOfCall }
@@ -128,18 +149,49 @@ impl<S: Alter, H: Shelf> Media<S, H> {
         ensures reads { Reads S.Store self.old.registry self.new.registry }
         ensures shelf { self.new.shelf ≡ self.old.shelf }
     {
-        match self.registry.part(alloc, command, &[]) {
+        match self.registry.part(alloc, command, mids) {
             Ok(part) => Ok(part),
             Err(fault) => Err(BenchFault::of_store(fault)),
         }
     }
 
-    /// What the shelf says of the providers that a command needs, of which the part is known.
-    fn look(&mut self, alloc: Global, part: &State, command: &Command) -> Result<Facts, BenchFault>
-        ensures facts { H.honest self.old.shelf
-            → IfOk result (λ facts. (away : Image) (u : World)
-            → IsAt S.Store H.view H.size self.old.registry self.old.shelf away [] u u
-            → IsPartOf part.now command.now u.state → AreFacts facts u command.now) }
+    // What the images of these providers say; with the others, those are compared with this.
+    fn look_at(
+        &mut self,
+        alloc: Global,
+        against: &Option<Compared>,
+        names: &[Label],
+    ) -> Result<Facts, BenchFault>
+        ensures tell { H.honest self.old.shelf → IfOk result (λ facts. (q : List ℕ)
+            → Has names.now q → Tell facts (H.size self.old.shelf)
+            (H.view self.old.shelf).seen against.now q) }
+        ensures disk { IsErrOf result BenchFault.Disk
+            → (H.view self.old.shelf).faults < (H.view self.new.shelf).faults }
+        ensures fault { IfErr result IsOfMedia }
+        ensures reads { H.honest self.old.shelf
+            → AreReads (H.view self.old.shelf) (H.view self.new.shelf) }
+        ensures registry { self.new.registry ≡ self.old.registry }
+        ensures honest { H.honest self.old.shelf → H.honest self.new.shelf }
+        ensures size { H.size self.new.shelf ≡ H.size self.old.shelf }
+        ensures count { (H.view self.old.shelf).faults ≤ (H.view self.new.shelf).faults }
+    {
+        match facts_of(alloc, &mut self.shelf, against, names) {
+            Ok(facts) => Ok(facts),
+            Err(fault) => Err(fault),
+        }
+    }
+
+    // What the shelf says of the providers that a command needs, of which the part is known.
+    fn look(
+        &mut self,
+        alloc: Global,
+        part: &State,
+        command: &Command,
+        against: &Option<Compared>,
+    ) -> Result<Facts, BenchFault>
+        ensures tell { H.honest self.old.shelf → IfOk result (λ facts. (s : Records)
+            → IsPartOf part.now command.now s → (q : List ℕ) → Has (needed_by s command.now) q
+            → Tell facts (H.size self.old.shelf) (H.view self.old.shelf).seen against.now q) }
         ensures disk { IsErrOf result BenchFault.Disk
             → (H.view self.old.shelf).faults < (H.view self.new.shelf).faults }
         ensures fault { IfErr result IsOfMedia }
@@ -151,11 +203,51 @@ impl<S: Alter, H: Shelf> Media<S, H> {
         ensures count { (H.view self.old.shelf).faults ≤ (H.view self.new.shelf).faults }
     {
         match needed(alloc, part, command) {
-            Ok(names) => match facts_of(alloc, &mut self.shelf, &names) {
+            Ok(names) => match self.look_at(alloc, against, &names) {
                 Ok(facts) => Ok(facts),
                 Err(fault) => Err(fault),
             },
             Err(_) => Err(BenchFault::Memory),
+        }
+    }
+
+    // What is to be known to decide on the command: the images that it adopts from say which mids its
+    // part has, and which data are to be compared.
+    fn gather(&mut self, alloc: Global, command: &Command) -> Result<Gathered, BenchFault>
+        ensures known { H.honest self.old.shelf → DiskKept S.Store self.new.registry
+            → IfOk result (λ r. (away : Image) (u : World)
+            → (at : IsAt S.Store H.view H.size self.old.registry self.old.shelf away [] u u)
+            → IsKnown u command.now r × HasTables S.Store self.new.registry at.tables) }
+        ensures disk { IsErrOf result BenchFault.Disk
+            → (H.view self.old.shelf).faults < (H.view self.new.shelf).faults }
+        ensures fault { IfErr result IsOfCall }
+        ensures readable { H.honest self.old.shelf → DiskKept S.Store self.new.registry
+            → IsErrOf result BenchFault.Unreadable → (away : Image) (u : World) (key : List ℕ)
+            → IsAt S.Store H.view H.size self.old.registry self.old.shelf away [] u u → ⊥ }
+        ensures store { Reads S.Store self.old.registry self.new.registry }
+        ensures reads { H.honest self.old.shelf
+            → AreReads (H.view self.old.shelf) (H.view self.new.shelf) }
+        ensures honest { H.honest self.old.shelf → H.honest self.new.shelf }
+        ensures size { H.size self.new.shelf ≡ H.size self.old.shelf }
+        ensures count { (H.view self.old.shelf).faults ≤ (H.view self.new.shelf).faults }
+    {
+        let providers = adopted_from(command);
+        let first = match self.look_at(alloc, &None, providers) {
+            Ok(first) => first,
+            Err(fault) => return Err(fault),
+        };
+        let mids = match found_mids(alloc, &first, providers) {
+            Ok(mids) => mids,
+            Err(_) => return Err(BenchFault::Memory),
+        };
+        let part = match self.part(alloc, command, &mids) {
+            Ok(part) => part,
+            Err(fault) => return Err(fault),
+        };
+        let against = compared_with(adopt_source(&first, providers));
+        match self.look(alloc, &part.state, command, &against) {
+            Ok(facts) => Ok(Gathered { part, facts }),
+            Err(fault) => Err(fault),
         }
     }
 
@@ -183,15 +275,12 @@ impl<S: Alter, H: Shelf> Media<S, H> {
         ensures size { H.size self.new.shelf ≡ H.size self.old.shelf }
         ensures count { (H.view self.old.shelf).faults ≤ (H.view self.new.shelf).faults }
     {
-        let part = match self.part(alloc, command) {
-            Ok(part) => part,
+        let known = match self.gather(alloc, command) {
+            Ok(known) => known,
             Err(fault) => return Err(fault),
         };
-        let facts = match self.look(alloc, &part.state, command) {
-            Ok(facts) => facts,
-            Err(fault) => return Err(fault),
-        };
-        match decide_on(alloc, &part.state, part.mirrors, &facts, command) {
+        let part = &known.part;
+        match decide_on(alloc, &part.state, part.mirrors, &known.facts, command) {
             Ok(decided) => Ok(decided),
             Err(fault) => Err(fault),
         }

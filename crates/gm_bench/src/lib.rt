@@ -16,6 +16,7 @@ mod auditing;
 mod bench;
 mod checking;
 mod fault;
+mod finding;
 mod laws;
 mod looking;
 mod media;

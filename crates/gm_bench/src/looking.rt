@@ -85,7 +85,7 @@ impl<S: Alter, H: Shelf> Bench<S, H> {
             Progress::Failed => return Err(BenchFault::Closed),
             _ => {}
         }
-        match fact_of(&mut self.media.shelf, provider) {
+        match fact_of(&mut self.media.shelf, None, provider) {
             Ok(Some(fact)) if 0 < fact.sectors => Ok(Some(fact.last)),
             Ok(_) => Ok(None),
             Err(fault) => {

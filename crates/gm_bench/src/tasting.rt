@@ -42,7 +42,7 @@ fn providers_on<H: Shelf>(alloc: Global, shelf: &mut H) -> Result<Vec<Provider>,
     };
     let mut providers = Vec::new(alloc);
     for name in &names {
-        match fact_of(shelf, *name)? {
+        match fact_of(shelf, None, *name)? {
             None => {}
             Some(fact) => match providers.push(provider_of(&fact)) {
                 Ok(()) => {}

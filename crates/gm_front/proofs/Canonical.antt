@@ -10,13 +10,13 @@ use Rattle.gm_metadata.specs.Labels.{is_label}
 use Rattle.gm_metadata.specs.declared.flags.MirrorFlags.{MirrorFlags}
 use Rattle.gm_state.specs.declared.command.BalanceWord.{BalanceWord}
 use Rattle.gm_state.specs.declared.command.Command.{Command}
-use Rattle.gm_state.specs.declared.command.Command.TheVariants.{Label, Insert, Remove, Deactivate, Activate, Forget, Rebuild, Configure, Clear, Destroy, Lost, Advance}
+use Rattle.gm_state.specs.declared.command.Command.TheVariants.{Label, Insert, Remove, Deactivate, Activate, Forget, Rebuild, Configure, Clear, Destroy, Lost, Advance, Adopt}
 use Rattle.gm_state.specs.Commands.{CommandFits, balance_of_word, on_where, words}
 use Rattle.gm_front.specs.Spelling.{HasNoFlags, IsNoFlag, command_of, guarded_words, insert_of, label_at, label_of, named_of, of_component, of_mirror, of_provider, spelled}
 use Rattle.gm_front.specs.Table.{insert, label, name, names, on_component, on_mirror, on_provider, optional, possible, wanted}
 use Rattle.gm_front.proofs.Configuring.{configure_canonical, configure_guarded}
 use Rattle.gm_front.proofs.Finding.{AreFound, Finds, component, found, leaf, named}
-use Rattle.gm_front.proofs.Losing.{lost_canonical, lost_guarded}
+use Rattle.gm_front.proofs.Several.{adopt_canonical, adopt_guarded, lost_canonical, lost_guarded}
 use Rattle.gm_front.proofs.Reading.{balance_no_flag, balance_read, component_read, decimal_no_flag, flags_read, label_read, number_read, priority_read, slice_read, switch_no_flag, switch_read}
 use Rattle.gm_front.proofs.Walking.{ArePlain, Has, Said, exact, plain, spelled_as, text_of}
 
@@ -227,6 +227,7 @@ canonical (Clear p) fits free = provider_spelled Clear has_clear p fits false (f
 canonical (Destroy n) fits free = mirror_spelled Destroy has_destroy n fits false (free, tt)
 canonical (Lost n ps) fits free = lost_canonical n ps fits free
 canonical (Advance n p) fits free = component_spelled Advance has_advance n p fits false (free.0, (free.1, tt))
+canonical (Adopt n ps) fits free = adopt_canonical n ps fits free
 
 pub guarded : (c : Command) → CommandFits c → spelled (guarded_words c) ≡ Some c
 guarded (Label n p mid did b slice f h) fits = label_spelled n p mid did slice b f h fits true (tt, (tt, (tt, tt)))
@@ -241,3 +242,4 @@ guarded (Clear p) fits = provider_spelled Clear has_clear p fits true (tt, (tt, 
 guarded (Destroy n) fits = mirror_spelled Destroy has_destroy n fits true (tt, (tt, tt))
 guarded (Lost n ps) fits = lost_guarded n ps fits
 guarded (Advance n p) fits = component_spelled Advance has_advance n p fits true (tt, (tt, (tt, tt)))
+guarded (Adopt n ps) fits = adopt_guarded n ps fits

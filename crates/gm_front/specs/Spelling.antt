@@ -17,10 +17,11 @@ use Rattle.gm_state.specs.declared.command.BalanceWord.TheVariants.{Load, Prefer
 use Rattle.gm_state.specs.declared.command.Preference.{Preference}
 use Rattle.gm_state.specs.declared.command.Settings.{Settings}
 use Rattle.gm_state.specs.declared.command.Command.{Command}
-use Rattle.gm_state.specs.declared.command.Command.TheVariants.{Label, Insert, Remove, Deactivate, Activate, Forget, Rebuild, Configure, Clear, Destroy, Lost, Advance}
+use Rattle.gm_state.specs.declared.command.Command.TheVariants.{Label, Insert, Remove, Deactivate, Activate, Forget, Rebuild, Configure, Clear, Destroy, Lost, Advance, Adopt}
 use Rattle.gm_state.specs.Commands.{balance_of_word, number_words, on_where, setting_words, switch_words}
 use Rattle.gm_front.specs.Table.{table}
 use Rattle.gm_front.specs.declared.words.ComponentNames.{ComponentNames}
+use Rattle.gm_front.specs.declared.words.SeveralNames.{SeveralNames}
 
 infixl 10 ◌>>=◌
 abbrev pub ◌>>=◌ : {A B : Type 0} → Option A → (A → Option B) → Option B
@@ -142,11 +143,16 @@ configure_of rows = do
   settings ← settings_at rows
   Some (Configure name settings)
 
-unfoldable pub lost_of : List Row → Option Command
-lost_of rows = do
+-- the names of a mirror and of one or more providers
+unfoldable pub several_at : List Row → Option SeveralNames
+several_at rows = do
   name ← label_at (codes "name") rows
   providers ← providers_at (codes "prov") rows
-  Some (Lost name providers)
+  Some (record { name = name; providers = providers })
+
+-- a command on them
+abbrev pub several_of : (Text → List Text → Command) → List Row → Option Command
+several_of command rows = option_map (λ names. command names.name names.providers) (several_at rows)
 
 -- a command on a component
 abbrev pub of_component : (Text → Text → Command) → List Row → Option Command
@@ -179,7 +185,8 @@ command_of word rows =
     if bytes_eq word (codes "label") then label_of rows
     else if bytes_eq word (codes "insert") then insert_of rows
     else if bytes_eq word (codes "configure") then configure_of rows
-    else if bytes_eq word (codes "lost") then lost_of rows
+    else if bytes_eq word (codes "lost") then several_of Lost rows
+    else if bytes_eq word (codes "adopt") then several_of Adopt rows
     else named_of word rows
 
 -- ---- the words
@@ -213,6 +220,7 @@ HasNoFlags (Clear provider) = IsNoFlag provider
 HasNoFlags (Destroy name) = IsNoFlag name
 HasNoFlags (Lost name providers) = IsNoFlag name × All IsNoFlag providers
 HasNoFlags (Advance name provider) = IsNoFlag name × IsNoFlag provider
+HasNoFlags (Adopt name providers) = IsNoFlag name × All IsNoFlag providers
 
 -- the options of configure with the provider behind `=`
 abbrev pub guarded_preference : Option Preference → List Text
@@ -241,3 +249,4 @@ guarded_words (Clear provider) = codes "clear" ∷ codes "--" ∷ provider ∷ [
 guarded_words (Destroy name) = codes "destroy" ∷ codes "--" ∷ name ∷ []
 guarded_words (Lost name providers) = codes "lost" ∷ codes "--" ∷ name ∷ providers
 guarded_words (Advance name provider) = codes "advance" ∷ codes "--" ∷ name ∷ provider ∷ []
+guarded_words (Adopt name providers) = codes "adopt" ∷ codes "--" ∷ name ∷ providers

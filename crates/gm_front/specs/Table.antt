@@ -70,8 +70,9 @@ configure = with_mirror (with_rule (with_rule (with_rule (with_rule (with_rule (
     (possible (codes "prov")))
     (possible (codes "priority")))
 
-abbrev pub lost : App
-lost = with_rule (on_mirror (codes "lost")) (names (codes "prov"))
+-- a command on a mirror and one or more providers
+abbrev pub on_several : Text → App
+on_several word = with_rule (on_mirror word) (names (codes "prov"))
 
 -- one of these, and no words that ask for help
 abbrev pub commands : App
@@ -81,7 +82,7 @@ commands = on_top (λ s. record s { no_binary_name = true; disable_help_flag = t
 abbrev pub subcommands : List App
 subcommands = label ∷ insert ∷ on_component (codes "remove") ∷ on_component (codes "deactivate") ∷ on_component (codes "activate")
     ∷ on_mirror (codes "forget") ∷ on_component (codes "rebuild") ∷ configure ∷ on_provider (codes "clear")
-    ∷ on_mirror (codes "destroy") ∷ lost ∷ on_component (codes "advance") ∷ []
+    ∷ on_mirror (codes "destroy") ∷ on_several (codes "lost") ∷ on_component (codes "advance") ∷ on_several (codes "adopt") ∷ []
 
 abbrev pub table : App
 table = fold (λ above more. with_subcommand above more.top) commands subcommands

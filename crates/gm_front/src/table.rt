@@ -3,7 +3,7 @@
 ghost use Rattle.std.specs.Prelude.{◌≡◌, IfOk, false};
 ghost use Rattle.clap.specs.Words.{app_of, rule_of, with_rule, with_subcommand};
 ghost use Rattle.clap.specs.declared.Command.TheViews.{out-Command};
-ghost use Rattle.gm_front.specs.Table.{commands, configure, insert, label, lost, name, names, on_component, on_mirror, on_provider, optional, possible, table, wanted, with_mirror, with_provider};
+ghost use Rattle.gm_front.specs.Table.{commands, configure, insert, label, name, names, on_component, on_mirror, on_provider, on_several, optional, possible, table, wanted, with_mirror, with_provider};
 
 use clap::{Arg, ArgAction, Command};
 use std::alloc::{AllocError, Global};
@@ -153,11 +153,12 @@ fn configure<'a>(alloc: Global) -> Result<Command<'a>, AllocError>
     with_mirror(alloc, command)
 }
 
-fn lost<'a>(alloc: Global) -> Result<Command<'a>, AllocError>
-    ensures app { IfOk result (λ c. app_of c ≡ lost) }
+// A command on a mirror and one or more providers.
+fn on_several<'a>(alloc: Global, word: &'static str) -> Result<Command<'a>, AllocError>
+    ensures app { IfOk result (λ c. app_of c ≡ on_several word.now) }
     ensures local { IfOk result (λ c. (out-Command c).has_globals ≡ false) }
 {
-    with(on_mirror(alloc, "lost")?, names(alloc, "prov"))
+    with(on_mirror(alloc, word)?, names(alloc, "prov"))
 }
 
 fn commands<'a>(alloc: Global) -> Command<'a>
@@ -196,6 +197,7 @@ pub(crate) fn table<'a>(alloc: Global) -> Result<Command<'a>, AllocError>
     let command = with_command(command, configure(alloc)?)?;
     let command = with_command(command, on_provider(alloc, "clear")?)?;
     let command = with_command(command, on_mirror(alloc, "destroy")?)?;
-    let command = with_command(command, lost(alloc)?)?;
-    with_command(command, on_component(alloc, "advance")?)
+    let command = with_command(command, on_several(alloc, "lost")?)?;
+    let command = with_command(command, on_component(alloc, "advance")?)?;
+    with_command(command, on_several(alloc, "adopt")?)
 }

@@ -3,7 +3,7 @@
 ghost use Rattle.std.specs.Prelude.{◌≡◌, ◌≢◌, ◌^◌, [], Some, None, IfErr, IfOk, MatchOption, MatchResult, option_and_then, option_map};
 ghost use Rattle.clap.specs.Words.{fault_of, found_of, kind_of, rows_of, subcommand_of, subcommand_rows_of};
 ghost use Rattle.clap.specs.Walk.{all_of, first_of, texts};
-ghost use Rattle.gm_front.specs.Spelling.{balance_at, balance_in, command_of, component_at, configure_of, flags_at, if_given, insert_of, label_at, label_of, lost_of, named_of, number_at, number_below, preference_in, priority_at, providers_at, providers_in, settings_at, slice_at, slice_in, spelled, switch_at, switch_in};
+ghost use Rattle.gm_front.specs.Spelling.{balance_at, balance_in, command_of, component_at, configure_of, flags_at, if_given, insert_of, label_at, label_of, named_of, number_at, number_below, preference_in, priority_at, providers_at, providers_in, settings_at, several_at, slice_at, slice_in, spelled, switch_at, switch_in};
 ghost use Rattle.gm_front.specs.Table.{table};
 
 use crate::table::table;
@@ -276,15 +276,22 @@ fn configure_of(matches: &ArgMatches<'_>) -> Option<Command>
     Some(Command::Configure { name, settings })
 }
 
-#[tactic(auto, unfolding(crate::specs::Spelling::lost_of))]
-fn lost_of(alloc: Global, matches: &ArgMatches<'_>) -> Result<Option<Command>, AllocError>
-    ensures { IfOk result (λ r. r ≡ lost_of (rows_of (found_of matches.now))) }
+// The names of a mirror and of one or more providers.
+#[derive(Drop)]
+struct SeveralNames {
+    name: Label,
+    providers: Providers,
+}
+
+#[tactic(auto, unfolding(crate::specs::Spelling::several_at))]
+fn several_at(alloc: Global, matches: &ArgMatches<'_>) -> Result<Option<SeveralNames>, AllocError>
+    ensures { IfOk result (λ r. r ≡ several_at (rows_of (found_of matches.now))) }
 {
     let Some(name) = label_at(matches, "name") else {
         return Ok(None);
     };
     match providers_at(alloc, matches, "prov")? {
-        Some(providers) => Ok(Some(Command::Lost { name, providers })),
+        Some(providers) => Ok(Some(SeveralNames { name, providers })),
         None => Ok(None),
     }
 }
@@ -338,7 +345,14 @@ fn command_of(
         "label" => Ok(label_of(matches)),
         "insert" => Ok(insert_of(matches)),
         "configure" => Ok(configure_of(matches)),
-        "lost" => lost_of(alloc, matches),
+        "lost" => Ok(several_at(alloc, matches)?.map(|s| Command::Lost {
+            name: s.name,
+            providers: s.providers,
+        })),
+        "adopt" => Ok(several_at(alloc, matches)?.map(|s| Command::Adopt {
+            name: s.name,
+            providers: s.providers,
+        })),
         _ => Ok(named_of(word, matches)),
     }
 }

@@ -68,6 +68,7 @@ fn bare(provider: &str) -> Result<Fact, Fail> {
         provider: label(provider)?,
         sectors: 4,
         last: [0; 512],
+        equal: 0,
     })
 }
 

@@ -16,9 +16,10 @@ use Rattle.gm_state.proofs.Order.{same_from, same_is, same_refl}
 use Rattle.gm_state.proofs.Words.{Has-filter, filter-Has, Ascends-filter, filter_id, length-filter_le, one}
 use Rattle.gm_state.proofs.Finding.{any_from, some_any, any_agree, filter_agree, not_both, Has-map}
 use Rattle.gm_rules.specs.declared.refusals.Refusal.{Refusal}
-use Rattle.gm_rules.specs.declared.refusals.Refusal.TheVariants.{NoMirror, NameTaken, MidTaken, Absent, ProviderTaken, CarriesMetadata, TooSmall, NotMember, DidTaken, Full, TooManyMirrors, SomeLost, LastActive, AlreadyInactive, NotInactive, NoneLost, Inactive, NotSynchronizing, LastSyncid, LastGenid, NothingGiven, WrongSize, NoMetadata}
-use Rattle.gm_rules.specs.Bad.{Seen, applies, name_of, providers_of, has_mid, is_member_of, members_named, mirror_named}
-use Rattle.gm_rules.specs.Parts.{is_named, is_asked, with_components, part_of, IsPartOf, applies_to_part}
+use Rattle.gm_rules.specs.declared.refusals.Refusal.TheVariants.{NoMirror, NameTaken, MidTaken, Absent, ProviderTaken, CarriesMetadata, TooSmall, NotMember, DidTaken, Full, TooManyMirrors, SomeLost, LastActive, AlreadyInactive, NotInactive, NoneLost, Inactive, NotSynchronizing, LastSyncid, LastGenid, NothingGiven, NotAdoptable, WrongSize, NoMetadata}
+use Rattle.gm_rules.specs.Seen.{Seen}
+use Rattle.gm_rules.specs.Bad.{applies, name_of, providers_of, has_mid, takes_mid, is_member_of, members_named, mirror_named}
+use Rattle.gm_rules.specs.Parts.{is_named, is_asked, with_components, part_of, IsPartOf, IsPartToDecide, applies_to_part}
 
 -- ---- lists of which the rest was left out
 
@@ -111,9 +112,6 @@ module _ (s : Records) (c : Command) (mids : List ℕ) (state : IsState s) where
       let named : is_named c m ≡ true = rw e (same_from m.name n is) in
       or_left _ _ (or_left _ _ (or_left (is_named c m) (has_mid c m) named))
 
-  asked_mid : (m : Mirror) → has_mid c m ≡ true → is_asked s c mids m ≡ true
-  asked_mid m e = or_left _ _ (or_left _ _ (or_right (is_named c m) (has_mid c m) e))
-
   asked_provider : (p : List ℕ) → Has (providers_of c) p → (k : Component) → Has s.components k → k.provider ≡ p → (m : Mirror) → m.name ≡ k.mirror → is_asked s c mids m ≡ true
   asked_provider p h k there e m home =
       let on : list_any (λ q. same_label k.provider q) (providers_of c) ≡ true = any_from (λ (q : List ℕ). same_label k.provider q) (providers_of c) p h (same_from k.provider p e) in
@@ -142,9 +140,6 @@ module _ (s : Records) (c : Command) (mids : List ℕ) (state : IsState s) where
       let home = state.homes k h in
       keeps k home.0 home.1 home.2 (asked_provider p i k h (same_is k.provider p t) home.0 home.2))
 
-  same_mids : list_any (has_mid c) kept ≡ list_any (has_mid c) s.mirrors
-  same_mids = any_within (has_mid c) (is_asked s c mids) s.mirrors (λ m h t. asked_mid m t)
-
   named_by : (o : Option (List ℕ)) → name_of c ≡ o → option_and_then (λ n. mirror_of (part_of s c mids) n) o ≡ option_and_then (λ n. mirror_of s n) o
   named_by None e = refl
   named_by (Some n) e = same_mirror n e
@@ -160,30 +155,32 @@ module _ (s : Records) (c : Command) (mids : List ℕ) (state : IsState s) where
   same_named_members = named_members_by (name_of c) refl
 
   -- so each refusal applies to the part where it applies to the whole, but for the one that asks for the count
-  pub same_applies : (count : ℕ) → count ≡ length s.mirrors → (x : Seen) (r : Refusal) → applies_to_part (part_of s c mids) count x c r ≡ applies s x c r
-  same_applies count is x NoMirror = ap is_none same_named
-  same_applies count is x NameTaken = ap is_some same_named
-  same_applies count is x MidTaken = same_mids
-  same_applies count is x Absent = rw same_named_members refl
-  same_applies count is x ProviderTaken = any_agree _ _ (providers_of c) (λ p h. ap is_some (same_component p h))
-  same_applies count is x CarriesMetadata = refl
-  same_applies count is x TooSmall = rw same_named refl
-  same_applies count is x NotMember = rw same_named_members refl
-  same_applies count is x DidTaken = rw same_named_members refl
-  same_applies count is x Full = rw same_named refl
-  same_applies count is x TooManyMirrors = rw is refl
-  same_applies count is x SomeLost = rw (same_named_members, same_named) refl
-  same_applies count is x LastActive = rw same_named_members refl
-  same_applies count is x AlreadyInactive = rw same_named_members refl
-  same_applies count is x NotInactive = rw same_named_members refl
-  same_applies count is x NoneLost = rw (same_named_members, same_named) refl
-  same_applies count is x Inactive = rw same_named_members refl
-  same_applies count is x NotSynchronizing = rw (same_named_members, same_named) refl
-  same_applies count is x LastSyncid = rw same_named refl
-  same_applies count is x LastGenid = rw same_named refl
-  same_applies count is x NothingGiven = refl
-  same_applies count is x WrongSize = refl
-  same_applies count is x NoMetadata = refl
+  pub same_applies : (count : ℕ) → count ≡ length s.mirrors → (x : Seen) → ((m : Mirror) → Has s.mirrors m → takes_mid x c m ≡ true → Has (part_of s c mids).mirrors m)
+      → (r : Refusal) → applies_to_part (part_of s c mids) count x c r ≡ applies s x c r
+  same_applies count is x found NoMirror = ap is_none same_named
+  same_applies count is x found NameTaken = ap is_some same_named
+  same_applies count is x found MidTaken = any_within (takes_mid x c) (is_asked s c mids) s.mirrors (λ m h t. (Has-filter (is_asked s c mids) s.mirrors m (found m h t)).1)
+  same_applies count is x found Absent = rw same_named_members refl
+  same_applies count is x found ProviderTaken = any_agree _ _ (providers_of c) (λ p h. ap is_some (same_component p h))
+  same_applies count is x found CarriesMetadata = refl
+  same_applies count is x found TooSmall = rw same_named refl
+  same_applies count is x found NotMember = rw same_named_members refl
+  same_applies count is x found DidTaken = rw same_named_members refl
+  same_applies count is x found Full = rw same_named refl
+  same_applies count is x found TooManyMirrors = rw is refl
+  same_applies count is x found SomeLost = rw (same_named_members, same_named) refl
+  same_applies count is x found LastActive = rw same_named_members refl
+  same_applies count is x found AlreadyInactive = rw same_named_members refl
+  same_applies count is x found NotInactive = rw same_named_members refl
+  same_applies count is x found NoneLost = rw (same_named_members, same_named) refl
+  same_applies count is x found Inactive = rw same_named_members refl
+  same_applies count is x found NotSynchronizing = rw (same_named_members, same_named) refl
+  same_applies count is x found LastSyncid = rw same_named refl
+  same_applies count is x found LastGenid = rw same_named refl
+  same_applies count is x found NothingGiven = refl
+  same_applies count is x found NotAdoptable = refl
+  same_applies count is x found WrongSize = refl
+  same_applies count is x found NoMetadata = refl
 
   -- ---- the part has the mirrors of these names, and is a state
 
@@ -250,3 +247,7 @@ whole_is_part s c state =
     = filter_id _ s.components (λ k h. let home = state.homes k h in any_from (λ (m : Mirror). same_label k.mirror m.name) s.mirrors home.0 home.1 (same_from k.mirror home.0.name (sym home.2))) in
     let is : s ≡ part_of s c mids = sym (ap (λ ms. with_components ms s.components) mirrors ∙ ap (λ ks. let r : Records = record { mirrors = s.mirrors; components = ks } in r) components) in
     record { state = state; mids = mids; is = is }
+
+-- and serves to decide
+pub whole_to_decide : (s : Records) (x : Seen) (c : Command) → IsState s → IsPartToDecide s x c s
+whole_to_decide s x c state = record { of = whole_is_part s c state; found = λ m h e. h }

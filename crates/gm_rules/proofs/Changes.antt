@@ -1,28 +1,34 @@
 -- The changes of the commands are what the commands make of the records.
-use Rattle.std.proofs.Common.{◌≡◌, ◌∙◌, inl, inr, ℕ, ◌+◌, ◌-◌, Bool, true, not, ◌||◌, refl, sym, ap, List, [], ◌∷◌, filter, map, length, option_map, Some, None}
+use Rattle.std.proofs.Common.{◌≡◌, ◌∙◌, inl, inr, ℕ, ◌+◌, ◌-◌, Bool, true, false, not, ◌||◌, refl, sym, ap, List, [], ◌∷◌, filter, map, length, option_map, is_some, Some, None}
 use Rattle.std.specs.List.{list_any}
 use Rattle.std.proofs.lemmas.Bool.{cases_Bool}
 use Rattle.gm_metadata.specs.Images.{same_label}
 use Rattle.gm_metadata.specs.declared.flags.MirrorFlags.{MirrorFlags}
 use Rattle.gm_state.specs.declared.command.BalanceWord.{BalanceWord}
 use Rattle.gm_state.specs.declared.command.Settings.{Settings}
-use Rattle.gm_state.specs.declared.command.Command.TheVariants.{Label, Insert, Remove, Deactivate, Activate, Forget, Rebuild, Configure, Destroy, Lost, Advance}
+use Rattle.gm_state.specs.declared.command.Command.TheVariants.{Label, Insert, Remove, Deactivate, Activate, Forget, Rebuild, Configure, Destroy, Lost, Advance, Adopt}
 use Rattle.gm_state.specs.declared.command.Command.TheVariants as commands
 use Rattle.gm_state.specs.declared.command.Intent.TheVariants.{Meta, Clear}
 use Rattle.gm_state.specs.declared.command.Reply.TheVariants.{Plain, Copied}
+use Rattle.gm_taste.specs.declared.tasted.Member.{Member}
 use Rattle.gm_state.specs.declared.records.Mirror.{Mirror}
 use Rattle.gm_state.specs.declared.records.Component.{Component}
-use Rattle.gm_state.specs.Words.{Has, put, without, without_all}
+use Rattle.gm_state.specs.Words.{Has, put, put_all, without, without_all}
 use Rattle.gm_state.specs.Records.{Records, IsState, members, provider}
 use Rattle.gm_state.specs.Lookups.{mirror_of, component_of}
 use Rattle.gm_state.specs.Sources.{source_among}
 use Rattle.gm_state.proofs.Order.{same_from, same_is}
 use Rattle.gm_state.proofs.Words.{Has-filter, filter-Has, filter-put, filter_swap, filter_id, one}
-use Rattle.gm_rules.specs.Bad.{Seen, is_on_any}
+use Rattle.gm_rules.specs.Seen.{Seen}
+use Rattle.gm_rules.specs.Bad.{is_on_any}
 use Rattle.gm_rules.specs.After.{metas, clears_of, advanced, filling, reach, new_mirror, first_component, spare, deactivated, activated, rebuilt, configured_mirror, configured}
-use Rattle.gm_rules.specs.Decides.{Changed, Makes, IsGood}
-use Rattle.gm_state.proofs.Finding.{filter_agree, any-map, any_from, some_any, not_both}
-use Rattle.gm_rules.proofs.Good.{named, new_name, provider_at}
+use Rattle.gm_rules.specs.Decides.{Changed, Makes, IsGood, adopting}
+use Rattle.gm_state.proofs.Finding.{filter_agree, any-map, any_from, some_any, none_any, found_none, no_members, not_both}
+use Rattle.gm_rules.specs.declared.refusals.Refusal.TheVariants as refusals
+use Rattle.gm_rules.specs.Adopting.{source_in, adopted}
+use Rattle.gm_rules.proofs.Good.{named, new_name, none_from, provider_at}
+use Rattle.gm_rules.proofs.PuttingAll.{filter-put_all, put_ordered}
+use Rattle.gm_rules.proofs.Adopted.{adopted_on, adopted_mirror_is, Ascends-adopted}
 use Rattle.gm_rules.proofs.Kept.{keeps_configured, keeps_deactivated, members_put}
 
 pub label_makes : (s : Records) (x : Seen) (n p : List ℕ) (mid did : ℕ) (balance : BalanceWord) (slice : ℕ) (flags : MirrorFlags) (hardcoded : Bool) (sectors : ℕ) (ch : Changed)
@@ -133,6 +139,12 @@ lost_makes s x n ps m ks ch good found mine is =
     = sym (without_all-swap ps (λ (k : Component). same_label k.mirror n) s.components) ∙ (ap (without_all provider ps) mine ∙ without_all-filter ps ks) in
     record { good = good; records = rw (is, found) refl; intents = rw (is, found, left) refl; reply = rw is refl }
 
+-- a mirror that isn't registered has no components
+no_component : (s : Records) (n : List ℕ) → IsState s → mirror_of s n ≡ None → (k : Component) → Has s.components k → same_label k.mirror n ≡ false
+no_component s n state none k h =
+    let home = state.homes k h in
+    sym (ap (λ (a : List ℕ). same_label a n) home.2) ∙ found_none (λ (m : Mirror). same_label m.name n) s.mirrors none home.0 home.1
+
 -- a component has the provider of a member of the mirror just where it is one
 is_member : (s : Records) (n : List ℕ) → IsState s → (k : Component) → Has s.components k
     → list_any (λ p. same_label k.provider p) (map provider (members s.components n)) ≡ same_label k.mirror n
@@ -158,3 +170,18 @@ destroy_makes s x n ks ch good state mine is =
     let left : without_all provider (map provider (members s.components n)) s.components ≡ filter (λ k. not (same_label k.mirror n)) s.components
     = without_all-filter (map provider (members s.components n)) s.components ∙ filter_agree _ _ s.components (λ k h. ap not (is_member s n state k h)) in
     record { good = good; records = rw (is, ← mine, left) refl; intents = rw (is, mine) refl; reply = rw is refl }
+
+pub adopt_makes : (s : Records) (x : Seen) (n : List ℕ) (ps : List (List ℕ)) (b : Member) (ch : Changed)
+    → IsGood s x (Adopt n ps) → IsState s → source_in x ps ≡ Some b → ch ≡ adopting x n ps b → Makes s x (Adopt n ps) ch
+adopt_makes s x n ps b ch good state from is =
+    let ks : List Component = adopted x n ps b in
+    let other : (k : Component) → Has s.components k → same_label k.mirror n ≡ false
+    = no_component s n state (none_from (mirror_of s n) (good refusals.NameTaken (inl refl))) in
+    let free : (k j : Component) → Has ks k → Has s.components j → j.provider ≡ k.provider → same_label j.mirror n ≡ true = λ k j h i e.
+    not_both (same_label j.provider k.provider) (same_from j.provider k.provider e)
+    (new_name s k.provider (none_from (component_of s k.provider) (none_any (λ p. is_some (component_of s p)) ps (good refusals.ProviderTaken (inr (inr (inr (inl refl))))) k.provider (adopted_on x n ps b k h))) j i) in
+    let mine : (k : Component) → Has ks k → same_label k.mirror n ≡ true = λ k h. same_from k.mirror n (adopted_mirror_is x n ps b k h) in
+    let placed : members (put_all provider ks s.components) n ≡ ks
+    = filter-put_all provider (λ (k : Component). same_label k.mirror n) ks s.components state.components_in_order mine free
+    ∙ (ap (put_all provider ks) (no_members s.components n other) ∙ put_ordered provider ks (Ascends-adopted x n ps b)) in
+    record { good = good; records = rw (is, from) refl; intents = rw (is, from, placed) refl; reply = rw is refl }

@@ -154,7 +154,7 @@ module _ (u : World) (key : List ℕ) (c : Command) (m m' : Mirror) (stays : Com
     reply = a.reply;
   }
 
-  pub filtered_has : s ≡ after (present u) c u.state → ts ≡ intents_of c u.state s → ((w : World) → NewData u c w) → ((w : World) → WereBare c u w)
+  pub filtered_has : s ≡ after (seen_of u) c u.state → ts ≡ intents_of c u.state s → ((w : World) → NewData u c w) → ((w : World) → WereBare c u w)
       → IsGood u.state (seen_of u) c → CanAnswer u key c → HasPlan u key c
   filtered_has is are new bare good answer =
       has u key c m' ks (u.holds m.name) s ts sound turns writes (adjusts_were u m m' comps ks sound a.here adjusts) a.plain serves answer is are good (new _) (bare _)

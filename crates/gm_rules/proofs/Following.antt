@@ -2,9 +2,9 @@
 use Rattle.std.proofs.Common.{◌≡◌, ◌≢◌, ◌∙◌, inl, ℕ, ◌+◌, ◌-◌, ◌≤◌, ◌==◌, Bool, true, false, not, refl, sym, ap, ap₂, subst, List, Option, Some, None, filter, map, length, arith}
 use Rattle.std.specs.Prelude.{unwrap_or}
 use Rattle.std.proofs.lemmas.Bool.{ne_eqb}
-use Rattle.gm_metadata.specs.Images.{Sizes, same_label}
+use Rattle.gm_metadata.specs.Images.{same_label}
 use Rattle.gm_state.specs.declared.command.Command.{Command}
-use Rattle.gm_state.specs.declared.command.Command.TheVariants.{Label, Insert, Remove, Deactivate, Activate, Forget, Rebuild, Configure, Destroy, Lost, Advance}
+use Rattle.gm_state.specs.declared.command.Command.TheVariants.{Label, Insert, Remove, Deactivate, Activate, Forget, Rebuild, Configure, Destroy, Lost, Advance, Adopt}
 use Rattle.gm_state.specs.declared.command.Command.TheVariants as commands
 use Rattle.gm_state.specs.declared.records.Mirror.{Mirror}
 use Rattle.gm_state.specs.declared.records.Component.{Component}
@@ -15,12 +15,16 @@ use Rattle.gm_state.specs.Records.{Records, IsState, members, name, provider}
 use Rattle.gm_state.proofs.Order.{same_is}
 use Rattle.gm_state.proofs.Words.{Ascends-filter, filter-put, filter_swap, length-filter_le}
 use Rattle.gm_state.proofs.Finding.{found}
-use Rattle.gm_rules.specs.declared.refusals.Refusal.TheVariants.{NoMirror, NameTaken, MidTaken, Absent, ProviderTaken, CarriesMetadata, TooSmall, NotMember, DidTaken, Full, TooManyMirrors, SomeLost, LastActive, AlreadyInactive, NotInactive, NoneLost, Inactive, NotSynchronizing, LastSyncid, LastGenid, NothingGiven, WrongSize, NoMetadata}
+use Rattle.gm_rules.specs.declared.refusals.Refusal.TheVariants.{NoMirror, NameTaken, MidTaken, Absent, ProviderTaken, CarriesMetadata, TooSmall, NotMember, DidTaken, Full, TooManyMirrors, SomeLost, LastActive, AlreadyInactive, NotInactive, NoneLost, Inactive, NotSynchronizing, LastSyncid, LastGenid, NothingGiven, NotAdoptable, WrongSize, NoMetadata}
 use Rattle.gm_rules.specs.After.{advanced, new_mirror, first_component, spare, deactivated, activated, rebuilt, configured_mirror, configured, on_found, after}
-use Rattle.gm_rules.specs.Bad.{Seen, name_of, providers_of}
+use Rattle.gm_rules.specs.Seen.{Seen}
+use Rattle.gm_rules.specs.Adopting.{source_in, adopted_mirror, adopted}
+use Rattle.gm_rules.proofs.PuttingAll.{filter-put_all}
+use Rattle.gm_rules.proofs.Adopted.{adopted_on, adopted_mirror_is}
+use Rattle.gm_rules.specs.Bad.{name_of, providers_of}
 use Rattle.gm_rules.specs.Decides.{Changed, Makes, IsGood, changed_by}
-use Rattle.gm_rules.specs.Parts.{IsPartOf, IsGoodButCount, IsMade, LeavesPart, is_asked, part_of}
-use Rattle.gm_rules.proofs.Agreeing.{find_within, by_names, by_names_state, by_names_of, same_of, chosen, chosen_name, chosen_owner, part_is, is_state, whole_is_part}
+use Rattle.gm_rules.specs.Parts.{IsPartOf, IsPartToDecide, IsGoodButCount, IsMade, LeavesPart, is_asked, part_of}
+use Rattle.gm_rules.proofs.Agreeing.{find_within, by_names, by_names_state, by_names_of, same_of, chosen, chosen_name, chosen_owner, part_is, is_state, whole_to_decide}
 use Rattle.gm_rules.proofs.Changes.{without_all-swap}
 use Rattle.gm_rules.proofs.Good.{named, not_at}
 use Rattle.gm_rules.proofs.Kept.{Keeps, filter-map, keeps_configured, keeps_deactivated, keeps_where, put_mapped, where_of}
@@ -81,67 +85,76 @@ module _ (t : List ℕ → Bool) (s : Records) (state : IsState s) where
       ∙ (sym (filter-map (where_of n f) (λ (k : Component). t k.mirror) (λ k. ap t ((keeps_where n f keeps).mirror k)) s.components)
       ∙ sym (ap (filter (λ (k : Component). t k.mirror)) (put_mapped n f keeps s.components state.components_in_order)))
 
-  after_names : (size : Sizes) (c : Command) → TakesIn t c s → after size c (by_names t s) ≡ by_names t (after size c s)
-  after_names size (Label n p mid did balance slice flags hardcoded) takes =
-      let m : Mirror = new_mirror n mid balance slice flags (unwrap_or (size p) 0) in
-      let k : Component = first_component n p did hardcoded (unwrap_or (size p) 0) in
+  after_names : (x : Seen) (c : Command) → TakesIn t c s → after x c (by_names t s) ≡ by_names t (after x c s)
+  after_names x (Label n p mid did balance slice flags hardcoded) takes =
+      let m : Mirror = new_mirror n mid balance slice flags (unwrap_or (x.size p) 0) in
+      let k : Component = first_component n p did hardcoded (unwrap_or (x.size p) 0) in
       let e : t n ≡ true = takes.name n refl in
       two _ _ (record { mirrors = put name m s.mirrors; components = put provider k s.components })
       (puts_mirror m e) (puts_component (Label n p mid did balance slice flags hardcoded) takes k e (inl refl))
-  after_names size (Insert n p did priority h) takes =
+  after_names x (Insert n p did priority h) takes =
       let e : t n ≡ true = takes.name n refl in
       on_named n e _ _ (λ m is.
-      let k : Component = spare m p did priority h (unwrap_or (size p) 0) in
+      let k : Component = spare m p did priority h (unwrap_or (x.size p) 0) in
       let u : t m.name ≡ true = found_passes n e m is in
       two _ _ (record { mirrors = put name (record m { all = m.all + 1 }) s.mirrors; components = put provider k s.components })
       (puts_mirror (record m { all = m.all + 1 }) u) (puts_component (Insert n p did priority h) takes k u (inl refl)))
-  after_names size (Remove n p) takes =
+  after_names x (Remove n p) takes =
       let e : t n ≡ true = takes.name n refl in
       on_named n e _ _ (λ m is.
       two _ _ (record { mirrors = put name (record m { all = m.all - 1 }) s.mirrors; components = without provider p s.components })
       (puts_mirror (record m { all = m.all - 1 }) (found_passes n e m is))
       (filter_swap (λ (k : Component). not (same_label k.provider p)) (λ (k : Component). t k.mirror) s.components))
-  after_names size (Deactivate n p) takes =
+  after_names x (Deactivate n p) takes =
       let e : t n ≡ true = takes.name n refl in
       on_named n e _ _ (λ m is.
       two _ _ (record { mirrors = put name (record m { syncid = m.syncid + 1 }) s.mirrors; components = put_all provider (map (deactivated (m.syncid + 1) p) (members s.components n)) s.components })
       (puts_mirror (record m { syncid = m.syncid + 1 }) (found_passes n e m is))
       (puts_mapped n (deactivated (m.syncid + 1) p) (keeps_deactivated (m.syncid + 1) p)))
-  after_names size (Activate n p) takes =
+  after_names x (Activate n p) takes =
       let c : Command = Activate n p in
       on_named n (takes.name n refl) _ _ (λ m is. on_at c takes p (inl refl) _ _ (λ k at.
       two _ _ (record { mirrors = s.mirrors; components = put provider (activated m k) s.components }) refl (puts_at c takes p (inl refl) k (activated m k) at refl refl)))
-  after_names size (Forget n) takes =
+  after_names x (Forget n) takes =
       let e : t n ≡ true = takes.name n refl in
       on_named n e _ _ (λ m is.
       let same : length (members (by_names t s).components n) ≡ length (members s.components n) = ap length (same_of t s n e) in
       two _ _ (record { mirrors = put name (record m { all = length (members s.components n) }) s.mirrors; components = s.components })
       (rw same (puts_mirror (record m { all = length (members s.components n) }) (found_passes n e m is))) refl)
-  after_names size (Rebuild n p) takes =
+  after_names x (Rebuild n p) takes =
       let c : Command = Rebuild n p in
       on_at c takes p (inl refl) _ _ (λ k at.
       two _ _ (record { mirrors = s.mirrors; components = put provider (rebuilt k) s.components }) refl (puts_at c takes p (inl refl) k (rebuilt k) at refl refl))
-  after_names size (Configure n settings) takes =
+  after_names x (Configure n settings) takes =
       let e : t n ≡ true = takes.name n refl in
       on_named n e _ _ (λ m is.
       two _ _ (record { mirrors = put name (configured_mirror settings m) s.mirrors; components = put_all provider (map (configured settings) (members s.components n)) s.components })
       (puts_mirror (configured_mirror settings m) (found_passes n e m is))
       (puts_mapped n (configured settings) (keeps_configured settings)))
-  after_names size (commands.Clear p) takes = refl
-  after_names size (Destroy n) takes =
+  after_names x (commands.Clear p) takes = refl
+  after_names x (Destroy n) takes =
       two _ _ (record { mirrors = without name n s.mirrors; components = filter (λ k. not (same_label k.mirror n)) s.components })
       (filter_swap (λ (m : Mirror). not (same_label m.name n)) (λ (m : Mirror). t m.name) s.mirrors)
       (filter_swap (λ (k : Component). not (same_label k.mirror n)) (λ (k : Component). t k.mirror) s.components)
-  after_names size (Lost n ps) takes =
+  after_names x (Lost n ps) takes =
       let e : t n ≡ true = takes.name n refl in
       on_named n e _ _ (λ m is.
       two _ _ (record { mirrors = put name (record m { genid = m.genid + 1 }) s.mirrors; components = without_all provider ps s.components })
       (puts_mirror (record m { genid = m.genid + 1 }) (found_passes n e m is))
       (without_all-swap ps (λ (k : Component). t k.mirror) s.components))
-  after_names size (Advance n p) takes =
+  after_names x (Advance n p) takes =
       let c : Command = Advance n p in
       on_named n (takes.name n refl) _ _ (λ m is. on_at c takes p (inl refl) _ _ (λ k at.
       two _ _ (record { mirrors = s.mirrors; components = put provider (advanced m k) s.components }) refl (puts_at c takes p (inl refl) k (advanced m k) at refl refl)))
+  after_names x (Adopt n ps) takes =
+      let e : t n ≡ true = takes.name n refl in
+      of_found (source_in x ps) _ _ (λ b from.
+      let ks : List Component = adopted x n ps b in
+      let mine : (k : Component) → Has ks k → t k.mirror ≡ true = λ k h. ap t (adopted_mirror_is x n ps b k h) ∙ e in
+      let owned : (k j : Component) → Has ks k → Has s.components j → j.provider ≡ k.provider → t j.mirror ≡ true = λ k j h i o. takes.owners k.provider (adopted_on x n ps b k h) j i o in
+      two _ _ (record { mirrors = put name (adopted_mirror n b.metadata) s.mirrors; components = put_all provider ks s.components })
+      (puts_mirror (adopted_mirror n b.metadata) e)
+      (sym (filter-put_all provider (λ (k : Component). t k.mirror) ks s.components state.components_in_order mine owned)))
 
 -- ---- so of a part
 
@@ -157,7 +170,7 @@ module _ (part s : Records) (c : Command) (of : IsPartOf part c s) where
 
   follows : (x : Seen) (ch : Changed) → Makes part x c ch → Makes s x c ch → changed_by ch part ≡ by_names passes (changed_by ch s)
   follows x ch p w =
-      p.records ∙ (ap (after x.size c) (of.is ∙ part_is s c of.mids of.state) ∙ (after_names passes s of.state x.size c takes_in ∙ ap (by_names passes) (sym w.records)))
+      p.records ∙ (ap (after x c) (of.is ∙ part_is s c of.mids of.state) ∙ (after_names passes s of.state x c takes_in ∙ ap (by_names passes) (sym w.records)))
 
   pub leaves_part : (x : Seen) (ch : Changed) → Makes part x c ch → Makes s x c ch → LeavesPart part c s ch
   leaves_part x ch p w =
@@ -200,9 +213,10 @@ module _ (part s : Records) (c : Command) (of : IsPartOf part c s) where
   good_part x but good LastSyncid h = but LastSyncid h refl
   good_part x but good LastGenid h = but LastGenid h refl
   good_part x but good NothingGiven h = but NothingGiven h refl
+  good_part x but good NotAdoptable h = but NotAdoptable h refl
   good_part x but good WrongSize h = but WrongSize h refl
   good_part x but good NoMetadata h = but NoMetadata h refl
 
-  pub made_leaves : (x : Seen) (ch : Changed) → IsMade part x c ch → IsGoodButCount part x c → IsGood s x c → LeavesPart part c s ch
-  made_leaves x ch made but good =
-      leaves_part x ch (made part (whole_is_part part c part_state) (good_part x but good)) (made s of good)
+pub made_leaves : (part s : Records) (x : Seen) (c : Command) → IsPartToDecide part x c s → (ch : Changed) → IsMade part x c ch → IsGoodButCount part x c → IsGood s x c → LeavesPart part c s ch
+made_leaves part s x c to ch made but good =
+    leaves_part part s c to.of x ch (made part (whole_to_decide part x c (part_state part s c to.of)) (good_part part s c to.of x but good)) (made s to good)

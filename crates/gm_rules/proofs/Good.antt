@@ -7,7 +7,7 @@ use Rattle.gm_state.specs.Words.{Has}
 use Rattle.gm_state.specs.Records.{Records, IsState, IsMirror, members}
 use Rattle.gm_state.specs.Lookups.{mirror_of, component_of}
 use Rattle.gm_state.specs.declared.command.Command.{Command}
-use Rattle.gm_state.specs.declared.command.Command.TheVariants.{Label, Insert, Remove, Deactivate, Activate, Forget, Rebuild, Configure, Clear, Destroy, Lost, Advance}
+use Rattle.gm_state.specs.declared.command.Command.TheVariants.{Label, Insert, Remove, Deactivate, Activate, Forget, Rebuild, Configure, Clear, Destroy, Lost, Advance, Adopt}
 use Rattle.gm_state.specs.declared.records.Mirror.{Mirror}
 use Rattle.gm_state.specs.declared.records.Component.{Component}
 use Rattle.gm_state.proofs.Order.{same_is}
@@ -17,7 +17,8 @@ use Rattle.gm_state.specs.declared.command.BalanceWord.{BalanceWord}
 use Rattle.gm_rules.specs.declared.refusals.Refusal.{Refusal}
 use Rattle.gm_rules.specs.declared.refusals.Refusal.TheVariants.{Absent, WrongSize}
 use Rattle.gm_rules.specs.Refusals.{number_of, own}
-use Rattle.gm_rules.specs.Bad.{Seen, applies, is_there_and, has_wrong_size}
+use Rattle.gm_rules.specs.Seen.{Seen, is_there_and}
+use Rattle.gm_rules.specs.Bad.{applies, has_wrong_size}
 use Rattle.gm_rules.specs.Decides.{IsLeast, IsGood}
 use Rattle.gm_rules.specs.Parts.{IsGoodButCount}
 use Rattle.gm_state.proofs.Finding.{found, found_none, any_one}
@@ -70,6 +71,7 @@ own_rises (Clear p) = refl
 own_rises (Destroy n) = refl
 own_rises (Lost n ps) = refl
 own_rises (Advance n p) = refl
+own_rises (Adopt n ps) = refl
 
 all_of : (r : Refusal) (qs : List Refusal) → list_all (λ q. nat_lt (number_of r) (number_of q)) qs ≡ true → (q : Refusal) → Has qs q → number_of r ≤ number_of q
 all_of r [] e q h = absurd h

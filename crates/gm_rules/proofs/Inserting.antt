@@ -17,7 +17,8 @@ use Rattle.gm_state.proofs.Order.{same_from, same_refl, differ}
 use Rattle.gm_state.proofs.Words.{Has-filter, filter-put, filter-put_out, put_stays, put_or, Ascends-put, length-put_le}
 use Rattle.gm_rules.specs.declared.refusals.Refusal.TheVariants as refusals
 use Rattle.gm_rules.specs.After.{spare, metas}
-use Rattle.gm_rules.specs.Bad.{is_there_and, has_wrong_size}
+use Rattle.gm_rules.specs.Seen.{is_there_and}
+use Rattle.gm_rules.specs.Bad.{has_wrong_size}
 use Rattle.gm_rules.specs.Decides.{IsGood}
 use Rattle.gm_rules.specs.Facts.{last_carries}
 use Rattle.gm_rules.specs.Step.{CanAnswer, HasPlan}
@@ -150,7 +151,7 @@ can_insert u n p did priority h sound good =
     let range = right_size sectors (fails_there (present u p) sectors has_wrong_size size.1 wrong) in
     let small : is_there_and (present u p) (λ n. nat_lt n (m.data_sectors + 1)) ≡ false = any_one (λ q. is_there_and (present u q) (λ n. nat_lt n (m.data_sectors + 1))) p
     (fails_there (mirror_of u.state n) m (λ a. list_any (λ q. is_there_and (present u q) (λ n. nat_lt n (a.data_sectors + 1))) (p ∷ [])) found.1 (good refusals.TooSmall (inr (inr (inr (inr (inl refl))))))) in
-    let full : (m.all == 16) ≡ false = fails_there (mirror_of u.state n) m (λ a. a.all == 16) found.1 (good refusals.Full (inr (inr (inr (inr (inr (inr (inl refl)))))))) in
+    let full : (m.all == 16) ≡ false = fails_there (mirror_of u.state n) m (λ a. a.all == 16) found.1 (or_parts _ _ (good refusals.Full (inr (inr (inr (inr (inr (inr (inl refl))))))))).0 in
     let all : m.all ≤ 16 = (sound.state.each m at_n.0).all in
     let apart : m.all ≢ 16 = not_at m.all 16 full in
     let some : 2 ≤ sectors = range.0 in (
@@ -163,7 +164,7 @@ can_insert u n p did priority h sound good =
         fresh = new_name u.state p (none_from (component_of u.state p) (any_one (λ q. is_some (component_of u.state q)) p (good refusals.ProviderTaken (inr (inr (inl refl))))));
         big = not_below sectors (m.data_sectors + 1) (fails_there (present u p) sectors (λ n. nat_lt n (m.data_sectors + 1)) size.1 small);
         limit = range.1;
-        dids = λ k o. not_at k.did did (none_any _ (members u.state.components n) (good refusals.DidTaken (inr (inr (inr (inr (inr (inl refl))))))) k (subst (λ (a : List ℕ). Has (members u.state.components a) k) at_n.1 o));
+        dids = λ k o. not_at k.did did (none_any _ (members u.state.components n) (or_parts _ _ (good refusals.DidTaken (inr (inr (inr (inr (inr (inl refl)))))))).0 k (subst (λ (a : List ℕ). Has (members u.state.components a) k) at_n.1 o));
         room = omega arith;
         there = λ k o. each_there u (p ∷ []) (members u.state.components n) (good refusals.Absent (inr (inl refl))) k (subst (λ (a : List ℕ). Has (members u.state.components a) k) at_n.1 o);
         bare = carries_nothing u p sectors size.1 (omega arith) (any_one (λ q. last_carries (last_of u q)) p (good refusals.CarriesMetadata (inr (inr (inr (inl refl))))));

@@ -16,7 +16,8 @@ use Rattle.gm_state.specs.Sources.{IsBest, IsSource, IsSourceOf, lends_to}
 use Rattle.gm_state.proofs.Order.{same_from, same_is, differ}
 use Rattle.gm_state.proofs.Words.{Has-filter, filter-Has, one}
 use Rattle.gm_state.proofs.Finding.{found, none_any, not_both, option_cases}
-use Rattle.gm_rules.specs.Bad.{is_on_any, is_synchronizing, is_there_and}
+use Rattle.gm_rules.specs.Seen.{is_there_and}
+use Rattle.gm_rules.specs.Bad.{is_on_any, is_synchronizing}
 use Rattle.gm_rules.proofs.Good.{fails_there, provider_at, rules_of}
 use Rattle.gm_rules.proofs.RuledOut.{active_is, on_one}
 

@@ -1,4 +1,6 @@
 pub mod Good
+pub mod Adopted
+pub mod Alike
 pub mod Changes
 pub mod Seeing
 pub mod Agreeing
@@ -10,7 +12,13 @@ pub mod Answering
 pub mod Planned
 pub mod Adjusting
 pub mod RuledOut
+pub mod PuttingAll
+pub mod Enrolling
 pub mod Labelling
+pub mod AdoptingFound
+pub mod AdoptingEqual
+pub mod AdoptingState
+pub mod AdoptingPlan
 pub mod Inserting
 pub mod Lending
 pub mod Filling

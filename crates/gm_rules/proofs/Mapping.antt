@@ -229,7 +229,7 @@ module _ (u : World) (key : List ℕ) (c : Command) (m m' : Mirror) (f : Compone
   plain : ArePlain ts
   plain t h = subst IsPlain (a.metas t h).2 tt
 
-  pub mapped_has : s ≡ after (present u) c u.state → ts ≡ intents_of c u.state s → ((w : World) → NewData u c w) → ((w : World) → WereBare c u w)
+  pub mapped_has : s ≡ after (seen_of u) c u.state → ts ≡ intents_of c u.state s → ((w : World) → NewData u c w) → ((w : World) → WereBare c u w)
       → IsGood u.state (seen_of u) c → CanAnswer u key c → HasPlan u key c
   mapped_has is are new bare good answer =
       has u key c m' changed (u.holds m.name) s ts sound turns writes (adjusts_were u m m' all_changed changed sound a.here (adjusts u m m' f sound shape)) plain serves answer is are good (new _) (bare _)
@@ -294,7 +294,7 @@ module _ (u : World) (m : Mirror) (p : List ℕ) (g : Component → Component) (
 pub replaced_has : (u : World) (key : List ℕ) (c : Command) (m : Mirror) (p : List ℕ) (g : Component → Component) → Sound u → (can : CanTouch u m p) → Keeps g
     → ((k : Component) → Has (members u.state.components m.name) k → k.provider ≡ p → Stands m m k (g k))
     → name_of c ≡ Some m.name → ((q : List ℕ) → clears u.state c q ≡ false) → ReplyFits (reply_to c u.state)
-    → record { mirrors = u.state.mirrors; components = put provider (g can.member.0) u.state.components } ≡ after (present u) c u.state
+    → record { mirrors = u.state.mirrors; components = put provider (g can.member.0) u.state.components } ≡ after (seen_of u) c u.state
     → ((s : Records) → Meta p ∷ [] ≡ intents_of c u.state s) → ((w : World) → NewData u c w) → ((w : World) → WereBare c u w)
     → IsGood u.state (seen_of u) c → CanAnswer u key c → HasPlan u key c
 replaced_has u key c m p g sound can keeps stands named none reply is are new bare good answer =

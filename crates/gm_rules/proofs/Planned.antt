@@ -208,7 +208,7 @@ module _ (u : World) (key : List ℕ) (c : Command) (mid : Image) (m : Mirror) (
   copied : CopiesData u next ts
   copied a k o i e = let b = brings.mirrored a k o i e in rw b.0 b.1
 
-  planned : s ≡ after (present u) c u.state → IsGood u.state (seen_of u) c → NewData u c next → WereBare c u next → Plan u key c ts next
+  planned : s ≡ after (seen_of u) c u.state → IsGood u.state (seen_of u) c → NewData u c next → WereBare c u next → Plan u key c ts next
   planned is good new bare = record {
     step = record {
       good = λ r b. not_both (applies u.state (seen_of u) c r) b.met (good r b.listed);
@@ -239,7 +239,7 @@ module _ (u : World) (key : List ℕ) (c : Command) (mid : Image) (m : Mirror) (
     bare = bare;
   }
 
-  pub has_by : s ≡ after (present u) c u.state → ts ≡ intents_of c u.state s → IsGood u.state (seen_of u) c → NewData u c next → WereBare c u next → HasPlan u key c
+  pub has_by : s ≡ after (seen_of u) c u.state → ts ≡ intents_of c u.state s → IsGood u.state (seen_of u) c → NewData u c next → WereBare c u next → HasPlan u key c
   has_by is are good new bare = (next, subst (λ (l : List Intent). Plan u key c l next) are (planned is good new bare))
 
 -- where nothing is copied
@@ -247,5 +247,5 @@ module _ (u : World) (key : List ℕ) (c : Command) (m : Mirror) (ks : List Comp
   abbrev after_all : World
   after_all = next u key c u.shelf m ks list s ts sound t writes were (plain_brings u c s ts plain) serves can
 
-  pub has : s ≡ after (present u) c u.state → ts ≡ intents_of c u.state s → IsGood u.state (seen_of u) c → NewData u c after_all → WereBare c u after_all → HasPlan u key c
+  pub has : s ≡ after (seen_of u) c u.state → ts ≡ intents_of c u.state s → IsGood u.state (seen_of u) c → NewData u c after_all → WereBare c u after_all → HasPlan u key c
   has is are good new bare = has_by u key c u.shelf m ks list s ts sound t writes were (plain_brings u c s ts plain) serves can is are good new bare

@@ -1,7 +1,7 @@
 -- Each command that nothing refuses has a plan.
 use Rattle.std.proofs.Common.{ℕ, List}
 use Rattle.gm_state.specs.declared.command.Command.{Command}
-use Rattle.gm_state.specs.declared.command.Command.TheVariants.{Label, Insert, Remove, Deactivate, Activate, Forget, Rebuild, Configure, Clear, Destroy, Lost, Advance}
+use Rattle.gm_state.specs.declared.command.Command.TheVariants.{Label, Insert, Remove, Deactivate, Activate, Forget, Rebuild, Configure, Clear, Destroy, Lost, Advance, Adopt}
 use Rattle.gm_state.specs.World.{World, Sound}
 use Rattle.gm_rules.specs.Decides.{IsGood}
 use Rattle.gm_rules.specs.Step.{CanAnswer, HasPlan}
@@ -13,6 +13,7 @@ use Rattle.gm_rules.proofs.Staying.{deactivate_has, activate_has, forget_has, re
 use Rattle.gm_rules.proofs.Filling.{advance_has}
 use Rattle.gm_rules.proofs.Wiping.{clear_has}
 use Rattle.gm_rules.proofs.Destroying.{destroy_has}
+use Rattle.gm_rules.proofs.AdoptingPlan.{adopt_has}
 
 pub every_plan : (u : World) (key : List ℕ) (c : Command) → Sound u → CanAnswer u key c → IsGood u.state (seen_of u) c → HasPlan u key c
 every_plan u key (Label n p mid did balance slice flags hardcoded) sound answer good = label_has u key n p mid did balance slice flags hardcoded sound answer good
@@ -27,3 +28,4 @@ every_plan u key (Clear p) sound answer good = clear_has u key p sound answer go
 every_plan u key (Destroy n) sound answer good = destroy_has u key n sound answer good
 every_plan u key (Lost n ps) sound answer good = lost_has u key n ps sound answer good
 every_plan u key (Advance n p) sound answer good = advance_has u key n p sound answer good
+every_plan u key (Adopt n ps) sound answer good = adopt_has u key n ps sound answer good

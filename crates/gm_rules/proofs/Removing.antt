@@ -16,7 +16,8 @@ use Rattle.gm_state.proofs.Words.{Has-filter, filter_swap, length-filter_le, len
 use Rattle.gm_state.proofs.Finding.{none_any, not_both, some_any}
 use Rattle.gm_rules.specs.declared.refusals.Refusal.TheVariants as refusals
 use Rattle.gm_rules.specs.After.{metas}
-use Rattle.gm_rules.specs.Bad.{has_twice, is_on_any}
+use Rattle.gm_rules.specs.Adopting.{has_twice}
+use Rattle.gm_rules.specs.Bad.{is_on_any}
 use Rattle.gm_rules.specs.Decides.{IsGood}
 use Rattle.gm_rules.specs.Step.{CanAnswer, HasPlan}
 use Rattle.gm_rules.specs.Worlds.{seen_of}

@@ -50,7 +50,7 @@ module _ {X : Type 0} (key : X → List ℕ) where
   Ascends-without_all [] ys a = a
   Ascends-without_all (n ∷ names) ys a = Ascends-without_all names (without key n ys) (Ascends-filter (λ (y : X). not (bytes_eq (key y) n)) key ys a)
 
-  Ascends-put_all : (xs ys : List X) → Ascends key ys → Ascends key (put_all key xs ys)
+  pub Ascends-put_all : (xs ys : List X) → Ascends key ys → Ascends key (put_all key xs ys)
   Ascends-put_all [] ys a = a
   Ascends-put_all (x ∷ xs) ys a = Ascends-put_all xs (put key x ys) (Ascends-put key x ys a)
 

@@ -14,7 +14,8 @@ use Rattle.gm_state.specs.Records.{Records, IsState, members, provider}
 use Rattle.gm_state.specs.Lookups.{mirror_of, component_of, is_active, is_inactive}
 use Rattle.gm_state.specs.Words.{Has}
 use Rattle.gm_state.specs.World.{World, present}
-use Rattle.gm_rules.specs.Bad.{has_size, is_on_any}
+use Rattle.gm_rules.specs.Seen.{has_size}
+use Rattle.gm_rules.specs.Bad.{is_on_any}
 use Rattle.gm_rules.specs.After.{metas, clears_of}
 use Rattle.gm_rules.specs.Facts.{last_carries}
 use Rattle.gm_rules.specs.Worlds.{last_of}

@@ -17,7 +17,8 @@ use Rattle.gm_state.specs.Lookups.{component_of}
 use Rattle.gm_state.specs.World.{World, Sound, present}
 use Rattle.gm_state.proofs.Order.{same_is, same_from, same_refl, differ}
 use Rattle.gm_rules.specs.declared.refusals.Refusal.TheVariants as refusals
-use Rattle.gm_rules.specs.Bad.{is_there_and, has_wrong_size}
+use Rattle.gm_rules.specs.Seen.{is_there_and}
+use Rattle.gm_rules.specs.Bad.{has_wrong_size}
 use Rattle.gm_rules.specs.Decides.{IsGood}
 use Rattle.gm_rules.specs.Step.{CanAnswer, HasPlan}
 use Rattle.gm_rules.specs.Worlds.{seen_of}

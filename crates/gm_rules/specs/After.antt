@@ -2,7 +2,7 @@
 use Rattle.std.specs.Prelude.{◌+◌, ◌-◌, ◌==◌, ◌&&◌, ℕ, Bool, true, false, not, nat_le, nat_lt, List, [], ◌∷◌, Option, Some, None, map, filter, length, unwrap_or, if◌then◌else◌}
 use Rattle.std.specs.List.{list_any}
 use Rattle.std.specs.Option.{option_map_or}
-use Rattle.gm_metadata.specs.Images.{Sizes, same_label}
+use Rattle.gm_metadata.specs.Images.{same_label}
 use Rattle.gm_metadata.specs.declared.flags.MirrorFlags.{MirrorFlags}
 use Rattle.gm_state.specs.declared.command.BalanceWord.{BalanceWord}
 use Rattle.gm_state.specs.declared.command.Preference.{Preference}
@@ -22,6 +22,8 @@ use Rattle.gm_state.specs.Words.{put, put_all, without, without_all}
 use Rattle.gm_state.specs.Records.{Records, name, provider, members}
 use Rattle.gm_state.specs.Lookups.{mirror_of, component_of, held_of, is_inactive}
 use Rattle.gm_state.specs.Sources.{source_of}
+use Rattle.gm_rules.specs.Seen.{Seen}
+use Rattle.gm_rules.specs.Adopting.{source_in, adopted_mirror, adopted}
 
 -- the record of a labelled mirror: genid 0, syncid 1, one component, and all sectors of the provider but the last as data
 abbrev pub new_mirror : List ℕ → ℕ → BalanceWord → ℕ → MirrorFlags → ℕ → Mirror
@@ -124,52 +126,56 @@ on_found None y f = y
 on_found (Some x) y f = f x
 
 -- the records after the command: those before but for what is named here
-abbrev pub after : Sizes → Command → Records → Records
-after size (commands.Label n p mid did balance slice flags hardcoded) s = record {
-  mirrors = put name (new_mirror n mid balance slice flags (unwrap_or (size p) 0)) s.mirrors;
-  components = put provider (first_component n p did hardcoded (unwrap_or (size p) 0)) s.components;
+abbrev pub after : Seen → Command → Records → Records
+after x (commands.Label n p mid did balance slice flags hardcoded) s = record {
+  mirrors = put name (new_mirror n mid balance slice flags (unwrap_or (x.size p) 0)) s.mirrors;
+  components = put provider (first_component n p did hardcoded (unwrap_or (x.size p) 0)) s.components;
 }
-after size (commands.Insert n p did priority hardcoded) s = on_found (mirror_of s n) s (λ m. record {
+after x (commands.Insert n p did priority hardcoded) s = on_found (mirror_of s n) s (λ m. record {
   mirrors = put name (record m { all = m.all + 1 }) s.mirrors;
-  components = put provider (spare m p did priority hardcoded (unwrap_or (size p) 0)) s.components;
+  components = put provider (spare m p did priority hardcoded (unwrap_or (x.size p) 0)) s.components;
 })
-after size (commands.Remove n p) s = on_found (mirror_of s n) s (λ m. record {
+after x (commands.Remove n p) s = on_found (mirror_of s n) s (λ m. record {
   mirrors = put name (record m { all = m.all - 1 }) s.mirrors;
   components = without provider p s.components;
 })
-after size (commands.Deactivate n p) s = on_found (mirror_of s n) s (λ m. record {
+after x (commands.Deactivate n p) s = on_found (mirror_of s n) s (λ m. record {
   mirrors = put name (record m { syncid = m.syncid + 1 }) s.mirrors;
   components = put_all provider (map (deactivated (m.syncid + 1) p) (members s.components n)) s.components;
 })
-after size (commands.Activate n p) s = on_found (mirror_of s n) s (λ m. on_found (component_of s p) s (λ k. record {
+after x (commands.Activate n p) s = on_found (mirror_of s n) s (λ m. on_found (component_of s p) s (λ k. record {
   mirrors = s.mirrors;
   components = put provider (activated m k) s.components;
 }))
-after size (commands.Forget n) s = on_found (mirror_of s n) s (λ m. record {
+after x (commands.Forget n) s = on_found (mirror_of s n) s (λ m. record {
   mirrors = put name (record m { all = length (members s.components n) }) s.mirrors;
   components = s.components;
 })
-after size (commands.Rebuild n p) s = on_found (component_of s p) s (λ k. record {
+after x (commands.Rebuild n p) s = on_found (component_of s p) s (λ k. record {
   mirrors = s.mirrors;
   components = put provider (rebuilt k) s.components;
 })
-after size (commands.Configure n settings) s = on_found (mirror_of s n) s (λ m. record {
+after x (commands.Configure n settings) s = on_found (mirror_of s n) s (λ m. record {
   mirrors = put name (configured_mirror settings m) s.mirrors;
   components = put_all provider (map (configured settings) (members s.components n)) s.components;
 })
-after size (commands.Clear p) s = s
-after size (commands.Destroy n) s = record {
+after x (commands.Clear p) s = s
+after x (commands.Destroy n) s = record {
   mirrors = without name n s.mirrors;
   components = filter (λ k. not (same_label k.mirror n)) s.components;
 }
-after size (commands.Lost n ps) s = on_found (mirror_of s n) s (λ m. record {
+after x (commands.Lost n ps) s = on_found (mirror_of s n) s (λ m. record {
   mirrors = put name (record m { genid = m.genid + 1 }) s.mirrors;
   components = without_all provider ps s.components;
 })
-after size (commands.Advance n p) s = on_found (mirror_of s n) s (λ m. on_found (component_of s p) s (λ k. record {
+after x (commands.Advance n p) s = on_found (mirror_of s n) s (λ m. on_found (component_of s p) s (λ k. record {
   mirrors = s.mirrors;
   components = put provider (advanced m k) s.components;
 }))
+after x (commands.Adopt n ps) s = on_found (source_in x ps) s (λ b. record {
+  mirrors = put name (adopted_mirror n b.metadata) s.mirrors;
+  components = put_all provider (adopted x n ps b) s.components;
+})
 
 -- what the command is answered beside its number, where the records before are s
 abbrev pub reply_to : Command → Records → Reply
@@ -202,6 +208,7 @@ intents_of (commands.Destroy n) s s' = clears_of (members s.components n)
 intents_of (commands.Lost n ps) s s' = metas (members s'.components n)
 intents_of (commands.Advance n p) s s' =
     on_found (mirror_of s n) [] (λ m. on_found (component_of s p) [] (λ k. on_found (source_of s p) [] (λ source. filling m k source)))
+intents_of (commands.Adopt n ps) s s' = metas (members s'.components n)
 
 -- whether the last sector of q becomes zero, where the records before are s
 abbrev pub clears : Records → Command → List ℕ → Bool
@@ -217,6 +224,7 @@ clears s (commands.Clear p) q = same_label p q
 clears s (commands.Destroy n) q = list_any (λ k. same_label k.provider q) (members s.components n)
 clears s (commands.Lost n ps) q = false
 clears s (commands.Advance n p) q = false
+clears s (commands.Adopt n ps) q = false
 
 -- whether sector j of q is one that the command copies, where the records before are s
 abbrev pub fills : Records → Command → List ℕ → ℕ → Bool

@@ -7,16 +7,16 @@ use Rattle.gm_state.specs.declared.records.Component.{Component}
 use Rattle.gm_state.specs.declared.command.Preference.{Preference}
 use Rattle.gm_state.specs.declared.command.Settings.{Settings}
 use Rattle.gm_state.specs.declared.command.Command.{Command}
-use Rattle.gm_state.specs.declared.command.Command.TheVariants.{Label, Insert, Remove, Deactivate, Activate, Forget, Rebuild, Configure, Clear, Destroy, Lost, Advance}
+use Rattle.gm_state.specs.declared.command.Command.TheVariants.{Label, Insert, Remove, Deactivate, Activate, Forget, Rebuild, Configure, Clear, Destroy, Lost, Advance, Adopt}
 use Rattle.gm_state.specs.Records.{Records}
 use Rattle.gm_state.specs.Lookups.{mirror_of, component_of, is_active, is_inactive}
 use Rattle.gm_state.specs.declared.states.ComponentState.{ComponentState}
 use Rattle.gm_state.specs.declared.states.ComponentState.TheVariants as states
 use Rattle.gm_state.specs.States.{state_by}
-use Rattle.gm_rules.specs.declared.facts.Fact.{Fact}
-use Rattle.gm_rules.specs.Facts.{size_in, last_in, last_carries}
+use Rattle.gm_rules.specs.Seen.{Seen, is_bearing, has_size, is_there_and}
+use Rattle.gm_rules.specs.Adopting.{has_twice, tells_mid, tells_did_twice, is_adoptable}
 use Rattle.gm_rules.specs.declared.refusals.Refusal.{Refusal}
-use Rattle.gm_rules.specs.declared.refusals.Refusal.TheVariants.{NoMirror, NameTaken, MidTaken, Absent, ProviderTaken, CarriesMetadata, TooSmall, NotMember, DidTaken, Full, TooManyMirrors, SomeLost, LastActive, AlreadyInactive, NotInactive, NoneLost, Inactive, NotSynchronizing, LastSyncid, LastGenid, NothingGiven, WrongSize, NoMetadata}
+use Rattle.gm_rules.specs.declared.refusals.Refusal.TheVariants.{NoMirror, NameTaken, MidTaken, Absent, ProviderTaken, CarriesMetadata, TooSmall, NotMember, DidTaken, Full, TooManyMirrors, SomeLost, LastActive, AlreadyInactive, NotInactive, NoneLost, Inactive, NotSynchronizing, LastSyncid, LastGenid, NothingGiven, NotAdoptable, WrongSize, NoMetadata}
 
 -- the mirror that a command names
 abbrev pub name_of : Command → Option (List ℕ)
@@ -32,6 +32,7 @@ name_of (Clear p) = None
 name_of (Destroy n) = Some n
 name_of (Lost n ps) = Some n
 name_of (Advance n p) = Some n
+name_of (Adopt n ps) = Some n
 
 -- the provider of a preference
 abbrev pub preferred : Option Preference → List (List ℕ)
@@ -52,6 +53,7 @@ providers_of (Clear p) = p ∷ []
 providers_of (Destroy n) = []
 providers_of (Lost n ps) = ps
 providers_of (Advance n p) = p ∷ []
+providers_of (Adopt n ps) = ps
 
 -- those whose images it looks at: lost images may be gone or broken
 abbrev pub looked_at : Command → List (List ℕ)
@@ -63,30 +65,31 @@ abbrev pub has_mid : Command → Mirror → Bool
 has_mid (Label n p mid did balance slice flags hardcoded) m = m.mid == mid
 has_mid _ m = false
 
+-- the mirror has it, or a mid that is found on images to be adopted
+abbrev pub takes_mid : Seen → Command → Mirror → Bool
+takes_mid x (Adopt n ps) m = list_any (tells_mid x m.mid) ps
+takes_mid x c m = has_mid c m
+
 -- the component has the did that the command gives
 abbrev pub has_did : Command → Component → Bool
 has_did (Label n p mid did balance slice flags hardcoded) k = k.did == did
 has_did (Insert n p did priority hardcoded) k = k.did == did
 has_did _ k = false
 
--- what is seen of a provider: its size where it is there, and whether its last sector carries metadata
-pub record Seen : Type 0 where
-  pub size : List ℕ → Option ℕ
-  pub carries : List ℕ → Bool
+-- images to be adopted tell of one did twice
+abbrev pub finds_did_twice : Seen → Command → Bool
+finds_did_twice x (Adopt n ps) = tells_did_twice x ps
+finds_did_twice x _ = false
 
--- what facts say
-abbrev pub seen_in : List Fact → Seen
-seen_in facts = record { size = size_in facts; carries = λ p. last_carries (last_in facts p) }
+-- a mirror is to be adopted on more providers than one may have
+abbrev pub names_too_many : Command → Bool
+names_too_many (Adopt n ps) = nat_lt 16 (length ps)
+names_too_many _ = false
 
--- a provider is there with just so many sectors
-abbrev pub has_size : Option ℕ → ℕ → Bool
-has_size None n = false
-has_size (Some k) n = k == n
-
--- it is there, and passes the test
-abbrev pub is_there_and : {X : Type 0} → Option X → (X → Bool) → Bool
-is_there_and None test = false
-is_there_and (Some x) test = test x
+-- a mirror is to be adopted that can't be
+abbrev pub is_unfit : Seen → Command → Bool
+is_unfit x (Adopt n ps) = not (is_adoptable x n ps)
+is_unfit x _ = false
 
 -- the mirror that the command names, where it is registered
 abbrev pub mirror_named : Records → Command → Option Mirror
@@ -114,11 +117,6 @@ is_awaited _ k = true
 abbrev pub awaited : Records → Command → List Component
 awaited s c = filter (λ k. is_awaited c k) (members_named s c)
 
--- a provider is named twice
-abbrev pub has_twice : List (List ℕ) → Bool
-has_twice [] = false
-has_twice (p ∷ ps) = list_any (λ q. same_label q p) ps || has_twice ps
-
 -- none of the options is given
 abbrev pub is_empty : Settings → Bool
 is_empty s = is_none s.balance && is_none s.slice && is_none s.autosync && is_none s.failsync && is_none s.hardcode && is_none s.preference
@@ -141,14 +139,14 @@ has_wrong_size n = nat_lt n 2 || nat_lt 1048576 n
 abbrev pub applies : Records → Seen → Command → Refusal → Bool
 applies s x c NoMirror = is_none (mirror_named s c)
 applies s x c NameTaken = is_some (mirror_named s c)
-applies s x c MidTaken = list_any (has_mid c) s.mirrors
+applies s x c MidTaken = list_any (takes_mid x c) s.mirrors
 applies s x c Absent = list_any (λ p. is_none (x.size p)) (looked_at c) || list_any (λ k. not (has_size (x.size k.provider) k.sectors)) (awaited s c)
 applies s x c ProviderTaken = list_any (λ p. is_some (component_of s p)) (providers_of c)
-applies s x c CarriesMetadata = list_any (λ p. x.carries p) (looked_at c)
+applies s x c CarriesMetadata = list_any (λ p. is_bearing x p) (looked_at c)
 applies s x c TooSmall = is_there_and (mirror_named s c) (λ m. list_any (λ p. is_there_and (x.size p) (λ n. nat_lt n (m.data_sectors + 1))) (looked_at c))
 applies s x c NotMember = has_twice (providers_of c) || list_any (λ p. not (list_any (λ k. same_label k.provider p) (members_named s c))) (providers_of c)
-applies s x c DidTaken = list_any (has_did c) (members_named s c)
-applies s x c Full = is_there_and (mirror_named s c) (λ m. m.all == 16)
+applies s x c DidTaken = list_any (has_did c) (members_named s c) || finds_did_twice x c
+applies s x c Full = is_there_and (mirror_named s c) (λ m. m.all == 16) || names_too_many c
 applies s x c TooManyMirrors = length s.mirrors == 64
 applies s x c SomeLost = is_there_and (mirror_named s c) (λ m. nat_lt (length (members_named s c)) m.all)
 applies s x c LastActive = list_all (is_on_any (providers_of c)) (filter (λ k. is_active k.disk) (members_named s c))
@@ -160,5 +158,6 @@ applies s x c NotSynchronizing = is_there_and (mirror_named s c) (λ m. list_any
 applies s x c LastSyncid = is_there_and (mirror_named s c) (λ m. m.syncid == 4294967295)
 applies s x c LastGenid = is_there_and (mirror_named s c) (λ m. m.genid == 4294967295)
 applies s x c NothingGiven = gives_nothing c
+applies s x c NotAdoptable = is_unfit x c
 applies s x c WrongSize = list_any (λ p. is_there_and (x.size p) has_wrong_size) (looked_at c)
-applies s x c NoMetadata = list_any (λ p. not (x.carries p)) (looked_at c)
+applies s x c NoMetadata = list_any (λ p. not (is_bearing x p)) (looked_at c)

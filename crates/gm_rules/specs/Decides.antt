@@ -1,16 +1,20 @@
 -- What `decide` answers.
-use Rattle.std.specs.Prelude.{◌≡◌, ◌≤◌, ℕ, true, false, List, Option, Some, None, Result, Ok, Err}
+use Rattle.std.specs.Prelude.{◌≡◌, ◌≤◌, ℕ, true, false, List, [], Option, Some, None, Result, Ok, Err}
+use Rattle.gm_taste.specs.declared.tasted.Member.{Member}
 use Rattle.gm_state.specs.declared.command.Command.{Command}
 use Rattle.gm_state.specs.declared.command.Intent.{Intent}
 use Rattle.gm_state.specs.declared.command.Reply.{Reply}
+use Rattle.gm_state.specs.declared.command.Reply.TheVariants.{Plain}
 use Rattle.gm_state.specs.declared.records.Mirror.{Mirror}
 use Rattle.gm_state.specs.declared.records.Component.{Component}
 use Rattle.gm_state.specs.Words.{Has, put, put_all, without, without_all}
 use Rattle.gm_state.specs.Records.{Records, name, provider}
 use Rattle.gm_rules.specs.declared.refusals.Refusal.{Refusal}
 use Rattle.gm_rules.specs.Refusals.{number_of, own}
-use Rattle.gm_rules.specs.Bad.{Seen, applies}
-use Rattle.gm_rules.specs.After.{after, intents_of, reply_to}
+use Rattle.gm_rules.specs.Seen.{Seen}
+use Rattle.gm_rules.specs.Adopting.{adopted_mirror, adopted}
+use Rattle.gm_rules.specs.Bad.{applies}
+use Rattle.gm_rules.specs.After.{after, intents_of, metas, reply_to}
 
 -- records to put, names of records to delete, intents, reply
 pub record Changed : Type 0 where
@@ -20,6 +24,17 @@ pub record Changed : Type 0 where
   pub gone_components : List (List ℕ)
   pub intents : List Intent
   pub reply : Reply
+
+-- the change of an adoption whose source is b
+abbrev pub adopting : Seen → List ℕ → List (List ℕ) → Member → Changed
+adopting x n ps b = record {
+  mirror = Some (adopted_mirror n b.metadata);
+  gone_mirror = None;
+  components = adopted x n ps b;
+  gone_components = [];
+  intents = metas (adopted x n ps b);
+  reply = Plain;
+}
 
 abbrev pub put_some : Option Mirror → List Mirror → List Mirror
 put_some None ms = ms
@@ -49,8 +64,8 @@ IsGood s x c = (r : Refusal) → Has (own c) r → applies s x c r ≡ false
 -- no refusal applies, and the change is what the command makes of the records, with its intents and its reply
 pub record Makes (s : Records) (x : Seen) (c : Command) (ch : Changed) : Type 0 where
   pub good : IsGood s x c
-  pub records : changed_by ch s ≡ after x.size c s
-  pub intents : ch.intents ≡ intents_of c s (after x.size c s)
+  pub records : changed_by ch s ≡ after x c s
+  pub intents : ch.intents ≡ intents_of c s (after x c s)
   pub reply : ch.reply ≡ reply_to c s
 
 -- the least refusal, or the change

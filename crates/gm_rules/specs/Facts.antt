@@ -1,5 +1,6 @@
 -- What facts say of a provider.
 use Rattle.std.specs.Prelude.{ℕ, Bool, false, List, Option, Some, None, find, option_map}
+use Rattle.std.specs.Option.{option_map_or}
 use Rattle.gm_metadata.specs.Images.{same_label}
 use Rattle.gm_metadata.specs.Sector.{carries}
 use Rattle.gm_rules.specs.declared.facts.Fact.{Fact}
@@ -20,3 +21,7 @@ last_in facts provider = option_map (λ f. f.last) (fact_of facts provider)
 abbrev pub last_carries : Option (List ℕ) → Bool
 last_carries None = false
 last_carries (Some x) = carries x
+
+-- how many of its first sectors are known to equal those of the source
+abbrev pub equals_in : List Fact → List ℕ → ℕ
+equals_in facts provider = option_map_or (λ f. f.equal) (fact_of facts provider) 0

@@ -1,5 +1,7 @@
 pub mod Refusals
 pub mod Facts
+pub mod Seen
+pub mod Adopting
 pub mod Bad
 pub mod After
 pub mod Decides

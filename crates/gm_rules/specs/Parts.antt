@@ -11,7 +11,8 @@ use Rattle.gm_state.specs.Words.{Has}
 use Rattle.gm_state.specs.Records.{Records, IsState, members}
 use Rattle.gm_rules.specs.declared.refusals.Refusal.{Refusal}
 use Rattle.gm_rules.specs.declared.refusals.Refusal.TheVariants.{TooManyMirrors}
-use Rattle.gm_rules.specs.Bad.{Seen, applies, name_of, providers_of, has_mid, is_on_any}
+use Rattle.gm_rules.specs.Seen.{Seen}
+use Rattle.gm_rules.specs.Bad.{applies, name_of, providers_of, has_mid, takes_mid, is_on_any}
 use Rattle.gm_rules.specs.Decides.{Changed, IsGood, Makes, changed_by}
 use Rattle.gm_rules.specs.Refusals.{own}
 
@@ -50,6 +51,12 @@ pub record IsPartOf (part : Records) (c : Command) (s : Records) : Type 0 where
   pub mids : List ℕ
   pub is : part ≡ part_of s c mids
 
+-- The part serves to decide on the command, where this is seen: it has each mirror whose mid is found on images to be
+-- adopted.
+pub record IsPartToDecide (part : Records) (x : Seen) (c : Command) (s : Records) : Type 0 where
+  pub of : IsPartOf part c s
+  pub found : (m : Mirror) → Has s.mirrors m → takes_mid x c m ≡ true → Has part.mirrors m
+
 -- the one refusal that asks how many mirrors there are
 abbrev pub asks_count : Refusal → Bool
 asks_count TooManyMirrors = true
@@ -68,7 +75,7 @@ IsGoodButCount part x c =
 -- the change is what the command makes of each whole state that the part is of, where no refusal
 -- applies
 abbrev pub IsMade : Records → Seen → Command → Changed → Type 0
-IsMade part x c ch = (s : Records) → IsPartOf part c s → IsGood s x c → Makes s x c ch
+IsMade part x c ch = (s : Records) → IsPartToDecide part x c s → IsGood s x c → Makes s x c ch
 
 -- The change leaves of the part what it leaves of the whole, as far as the command's mirror: a state
 -- where that is one, and each component of the mirror that the command names.

@@ -1,9 +1,9 @@
 -- The refusals: their numbers, and which command lists which.
 use Rattle.std.specs.Prelude.{ℕ, List, [], ◌∷◌}
 use Rattle.gm_state.specs.declared.command.Command.{Command}
-use Rattle.gm_state.specs.declared.command.Command.TheVariants.{Label, Insert, Remove, Deactivate, Activate, Forget, Rebuild, Configure, Clear, Destroy, Lost, Advance}
+use Rattle.gm_state.specs.declared.command.Command.TheVariants.{Label, Insert, Remove, Deactivate, Activate, Forget, Rebuild, Configure, Clear, Destroy, Lost, Advance, Adopt}
 use Rattle.gm_rules.specs.declared.refusals.Refusal.{Refusal}
-use Rattle.gm_rules.specs.declared.refusals.Refusal.TheVariants.{NoMirror, NameTaken, MidTaken, Absent, ProviderTaken, CarriesMetadata, TooSmall, NotMember, DidTaken, Full, TooManyMirrors, SomeLost, LastActive, AlreadyInactive, NotInactive, NoneLost, Inactive, NotSynchronizing, LastSyncid, LastGenid, NothingGiven, WrongSize, NoMetadata}
+use Rattle.gm_rules.specs.declared.refusals.Refusal.TheVariants.{NoMirror, NameTaken, MidTaken, Absent, ProviderTaken, CarriesMetadata, TooSmall, NotMember, DidTaken, Full, TooManyMirrors, SomeLost, LastActive, AlreadyInactive, NotInactive, NoneLost, Inactive, NotSynchronizing, LastSyncid, LastGenid, NothingGiven, NotAdoptable, WrongSize, NoMetadata}
 use Rattle.gm_rules.specs.declared.refusals.CallRefusal.{CallRefusal}
 use Rattle.gm_rules.specs.declared.refusals.CallRefusal.TheVariants.{NoKey, KeyTaken, NoRoom, ByRules}
 
@@ -30,6 +30,7 @@ number_of NotSynchronizing = 22
 number_of LastSyncid = 23
 number_of LastGenid = 24
 number_of NothingGiven = 25
+number_of NotAdoptable = 26
 number_of WrongSize = 28
 number_of NoMetadata = 29
 
@@ -54,3 +55,4 @@ own (Clear p) = Absent ∷ ProviderTaken ∷ WrongSize ∷ NoMetadata ∷ []
 own (Destroy n) = NoMirror ∷ Absent ∷ []
 own (Lost n ps) = NoMirror ∷ Absent ∷ NotMember ∷ LastActive ∷ LastGenid ∷ []
 own (Advance n p) = NoMirror ∷ Absent ∷ NotMember ∷ Inactive ∷ NotSynchronizing ∷ []
+own (Adopt n ps) = NameTaken ∷ MidTaken ∷ Absent ∷ ProviderTaken ∷ DidTaken ∷ Full ∷ TooManyMirrors ∷ NotAdoptable ∷ WrongSize ∷ []

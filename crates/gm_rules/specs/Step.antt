@@ -1,10 +1,11 @@
 -- The step of the abstract bench by a command, and the plan that carries it out.
-use Rattle.std.specs.Prelude.{◌≡◌, ◌+◌, ◌-◌, ◌<◌, ◌==◌, ◌&&◌, ◌||◌, ℕ, Bool, IsTrue, true, false, List, ◌∷◌, length, None, unwrap_or}
+use Rattle.std.specs.Prelude.{◌≡◌, ◌+◌, ◌-◌, ◌<◌, ◌==◌, ◌&&◌, ◌||◌, ℕ, Bool, IsTrue, true, false, List, ◌∷◌, length, Some, None, unwrap_or}
 use Rattle.std.specs.List.{list_any}
 use Rattle.gm_metadata.specs.Images.{same_label, zeros}
 use Rattle.gm_metadata.specs.Reading.{encoded}
 use Rattle.gm_metadata.specs.Sector.{Bears}
 use Rattle.gm_metadata.specs.declared.metadata.Metadata.{Metadata}
+use Rattle.gm_taste.specs.declared.tasted.Member.{Member}
 use Rattle.gm_state.specs.declared.command.Command.{Command}
 use Rattle.gm_state.specs.declared.command.Command.TheVariants as commands
 use Rattle.gm_state.specs.declared.command.Intent.{Intent}
@@ -23,6 +24,7 @@ use Rattle.gm_rules.specs.Refusals.{own}
 use Rattle.gm_state.specs.Records.{Records, held_by}
 use Rattle.gm_rules.specs.Bad.{applies, members_named}
 use Rattle.gm_rules.specs.Worlds.{seen_of}
+use Rattle.gm_rules.specs.Adopting.{source_in, data_of}
 use Rattle.gm_rules.specs.After.{after, intents_of, reply_to, clears, fills}
 
 -- the refusal applies to the command in the world
@@ -34,7 +36,7 @@ pub record Bad (u : World) (c : Command) (r : Refusal) : Type 0 where
 abbrev pub is_changed : World → Command → World → List ℕ → ℕ → Bool
 is_changed u c w q j = list_any (λ k. same_label k.provider q && k.sectors == j + 1) w.state.components || ((clears u.state c q && is_last (u.size q) j) || fills u.state c q j)
 
--- the data list of a new mirror: the first sectors of its provider
+-- the data list of a new mirror: the first sectors of its provider, or of the source that it is adopted from
 abbrev pub NewData : World → Command → World → Type 0
 NewData u (commands.Label n p mid did balance slice flags hardcoded) w = (i : ℕ) → i + 1 < unwrap_or (u.size p) 0 → w.holds n i ≡ u.shelf p i
 NewData u (commands.Insert n p did priority hardcoded) w = Unit {0}
@@ -48,6 +50,7 @@ NewData u (commands.Clear p) w = Unit {0}
 NewData u (commands.Destroy n) w = Unit {0}
 NewData u (commands.Lost n ps) w = Unit {0}
 NewData u (commands.Advance n p) w = Unit {0}
+NewData u (commands.Adopt n ps) w = (b : Member) → source_in (seen_of u) ps ≡ Some b → (i : ℕ) → i < data_of b.metadata → w.holds n i ≡ u.shelf b.provider i
 
 -- the answer that the command's key keeps from now on
 abbrev pub answer : World → List ℕ → Command → Reply → Answered
@@ -56,7 +59,7 @@ answer u key c r = record { key = key; command = c; number = length u.answered +
 -- the command under the key takes u to w, and is answered by r
 pub record Step (u : World) (key : List ℕ) (c : Command) (w : World) (r : Reply) : Type 0 where
   pub good : (q : Refusal) → Bad u c q → ⊥
-  pub records : w.state ≡ after (present u) c u.state
+  pub records : w.state ≡ after (seen_of u) c u.state
   pub reply : r ≡ reply_to c u.state
   pub answered : w.answered ≡ answer u key c r ∷ u.answered
   pub sizes : (q : List ℕ) → w.size q ≡ u.size q

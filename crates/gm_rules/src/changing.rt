@@ -101,7 +101,7 @@ fn with_component(
     Ok(all)
 }
 
-fn with_all(
+pub(crate) fn with_all(
     alloc: Global,
     mut components: Vec<Component>,
     added: &[Component],

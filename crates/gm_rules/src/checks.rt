@@ -8,9 +8,12 @@ ghost use Rattle.gm_state.specs.Records.{Records};
 ghost use Rattle.gm_state.specs.States.{state_by};
 ghost use Rattle.gm_rules.specs.Facts.{size_in, last_in, last_carries};
 ghost use Rattle.gm_rules.specs.Refusals.{own};
-ghost use Rattle.gm_rules.specs.Bad.{name_of, providers_of, preferred, looked_at, has_mid, has_did, is_member_of, is_on_any, is_awaited, has_twice, is_synchronizing, is_empty, gives_nothing, has_size, has_wrong_size, is_there_and, mirror_named, seen_in};
+ghost use Rattle.gm_rules.specs.Seen.{has_size, is_there_and, seen_in};
+ghost use Rattle.gm_rules.specs.Adopting.{has_twice};
+ghost use Rattle.gm_rules.specs.Bad.{name_of, providers_of, preferred, looked_at, has_mid, takes_mid, has_did, finds_did_twice, names_too_many, is_unfit, is_member_of, is_on_any, is_awaited, is_synchronizing, is_empty, gives_nothing, has_wrong_size, mirror_named};
 ghost use Rattle.gm_rules.specs.Parts.{applies_to_part};
 
+use crate::adopting::{any_tells_mid, has_twice, is_adoptable, tells_did_twice};
 use crate::facts::Facts;
 use crate::refusals::{Refusal, own};
 use gm_metadata::Label;
@@ -41,7 +44,8 @@ pub(crate) fn name_of(command: &Command) -> Option<Label>
         | Command::Configure { name, .. }
         | Command::Destroy { name }
         | Command::Lost { name, .. }
-        | Command::Advance { name, .. } => Some(*name),
+        | Command::Advance { name, .. }
+        | Command::Adopt { name, .. } => Some(*name),
         Command::Clear { .. } => None,
     }
 }
@@ -71,7 +75,7 @@ pub fn providers_of(command: &Command) -> &[Label]
         | Command::Advance { provider, .. } => slice::from_ref(provider),
         Command::Forget { .. } | Command::Destroy { .. } => &[],
         Command::Configure { settings, .. } => preferred(&settings.preference),
-        Command::Lost { providers, .. } => providers.as_slice(),
+        Command::Lost { providers, .. } | Command::Adopt { providers, .. } => providers.as_slice(),
     }
 }
 
@@ -121,10 +125,19 @@ fn has_size(size: Option<u64>, sectors: u32) -> bool
     }
 }
 
-fn mid_taken(mirrors: &[Mirror], command: &Command) -> bool
-    ensures { result ≡ list_any (has_mid command.now) mirrors.now }
+fn takes_mid(facts: &Facts, command: &Command, mirror: &Mirror) -> bool
+    ensures { result ≡ takes_mid (seen_in facts.now) command.now mirror.now }
 {
-    mirrors.iter().any(|m| has_mid(command, m))
+    match command {
+        Command::Adopt { providers, .. } => any_tells_mid(facts, mirror.mid, providers.as_slice()),
+        _ => has_mid(command, mirror),
+    }
+}
+
+fn mid_taken(mirrors: &[Mirror], facts: &Facts, command: &Command) -> bool
+    ensures { result ≡ list_any (takes_mid (seen_in facts.now) command.now) mirrors.now }
+{
+    mirrors.iter().any(|m| takes_mid(facts, command, m))
 }
 
 fn any_absent(providers: &[Label], facts: &Facts) -> bool
@@ -233,18 +246,6 @@ fn any_stranger(providers: &[Label], components: &[Component], name: Option<Labe
     providers.iter().any(|p| !has_member(components, name, *p))
 }
 
-// Whether a provider is named twice.
-fn has_twice(providers: &[Label]) -> bool
-    ensures { result ≡ has_twice providers.now }
-{
-    for (i, provider) in providers.iter().enumerate() {
-        if providers[i + 1..].contains(provider) {
-            return true;
-        }
-    }
-    false
-}
-
 fn did_taken(components: &[Component], command: &Command) -> bool
     ensures { result ≡ list_any (has_did command.now)
         (filter (λ k. is_member_of (name_of command.now) k) components.now) }
@@ -349,6 +350,47 @@ fn gives_nothing(command: &Command) -> bool
     }
 }
 
+// Whether images to be adopted tell of one did twice.
+fn finds_did_twice(facts: &Facts, command: &Command) -> bool
+    ensures { result ≡ finds_did_twice (seen_in facts.now) command.now }
+{
+    match command {
+        Command::Adopt { providers, .. } => tells_did_twice(facts, providers.as_slice()),
+        _ => false,
+    }
+}
+
+fn is_full(mirror: &Option<Mirror>) -> bool
+    ensures { result ≡ is_there_and mirror.now (λ m. m.all == 16) }
+{
+    match mirror {
+        None => false,
+        Some(m) => m.all == MAX_COMPONENTS,
+    }
+}
+
+// Whether a mirror is to be adopted on more providers than one may have.
+fn names_too_many(command: &Command) -> bool
+    ensures { result ≡ names_too_many command.now }
+{
+    match command {
+        Command::Adopt { providers, .. } => {
+            providers.as_slice().len() > usize::from(MAX_COMPONENTS)
+        }
+        _ => false,
+    }
+}
+
+// Whether a mirror is to be adopted that can't be.
+fn is_unfit(facts: &Facts, command: &Command) -> bool
+    ensures { result ≡ is_unfit (seen_in facts.now) command.now }
+{
+    match command {
+        Command::Adopt { name, providers } => !is_adoptable(facts, *name, providers.as_slice()),
+        _ => false,
+    }
+}
+
 fn mirror_named(state: &State, command: &Command) -> Option<Mirror>
     ensures { result ≡ mirror_named state.now command.now }
 {
@@ -370,7 +412,7 @@ fn applies(state: &State, count: u64, facts: &Facts, command: &Command, refusal:
     match refusal {
         Refusal::NoMirror => mirror.is_none(),
         Refusal::NameTaken => mirror.is_some(),
-        Refusal::MidTaken => mid_taken(state.mirrors(), command),
+        Refusal::MidTaken => mid_taken(state.mirrors(), facts, command),
         Refusal::Absent => any_absent(seen, facts) || misses_some(components, command, facts),
         Refusal::ProviderTaken => any_taken(providers, state),
         Refusal::CarriesMetadata => any_carries(seen, facts),
@@ -379,11 +421,8 @@ fn applies(state: &State, count: u64, facts: &Facts, command: &Command, refusal:
             Some(m) => any_too_small(seen, &m, facts),
         },
         Refusal::NotMember => has_twice(providers) || any_stranger(providers, components, name),
-        Refusal::DidTaken => did_taken(components, command),
-        Refusal::Full => match mirror {
-            None => false,
-            Some(m) => m.all == MAX_COMPONENTS,
-        },
+        Refusal::DidTaken => did_taken(components, command) || finds_did_twice(facts, command),
+        Refusal::Full => is_full(&mirror) || names_too_many(command),
         Refusal::TooManyMirrors => count == MAX_MIRRORS,
         Refusal::SomeLost => match mirror {
             None => false,
@@ -409,6 +448,7 @@ fn applies(state: &State, count: u64, facts: &Facts, command: &Command, refusal:
             Some(m) => m.genid == u32::MAX,
         },
         Refusal::NothingGiven => gives_nothing(command),
+        Refusal::NotAdoptable => is_unfit(facts, command),
         Refusal::WrongSize => any_of_wrong_size(seen, facts),
         Refusal::NoMetadata => any_bare(seen, facts),
     }

@@ -5,12 +5,13 @@ ghost use Rattle.std.specs.Option.{ForSome};
 ghost use Rattle.gm_state.specs.declared.command.Command.TheVariants as commands;
 ghost use Rattle.gm_state.specs.Records.{Records};
 ghost use Rattle.gm_state.specs.World.{World};
-ghost use Rattle.gm_rules.specs.Bad.{seen_in};
+ghost use Rattle.gm_rules.specs.Seen.{seen_in};
 ghost use Rattle.gm_rules.specs.Decides.{Decides, IsGood};
 ghost use Rattle.gm_rules.specs.Facts.{size_in};
-ghost use Rattle.gm_rules.specs.Parts.{IsPartOf, IsGoodButCount, IsMade, LeavesPart};
+ghost use Rattle.gm_rules.specs.Parts.{IsPartToDecide, IsGoodButCount, IsMade, LeavesPart};
 ghost use Rattle.gm_rules.specs.Worlds.{AreFacts, seen_of};
 
+use crate::adoption::adopted_on;
 use crate::advancing::advanced;
 use crate::change::Change;
 use crate::checks::least_refusal;
@@ -54,17 +55,21 @@ pub fn decide_part(
     facts: &Facts,
     command: &Command,
 ) -> Result<Result<Change, Refusal>, AllocError>
-    ensures facts { IfOk result (λ r. (s : Records) → IsPartOf part.now command.now s
+    ensures facts { IfOk result (λ r. (s : Records)
+        → IsPartToDecide part.now (seen_in facts.now) command.now s
         → count ≡ length s.mirrors → Decides s (seen_in facts.now) command.now r) }
     // In each world that the part and the facts are of.
-    ensures world { IfOk result (λ r. (u : World) → IsPartOf part.now command.now u.state
+    ensures world { IfOk result (λ r. (u : World)
+        → IsPartToDecide part.now (seen_in facts.now) command.now u.state
         → count ≡ length u.state.mirrors → AreFacts facts.now u command.now
         → Decides u.state (seen_of u) command.now r) }
     // The change can be made of the part alone.
-    ensures part { IfOk result (λ r. IfOk r (λ ch. (s : Records) → IsPartOf part.now command.now s
+    ensures part { IfOk result (λ r. IfOk r (λ ch. (s : Records)
+        → IsPartToDecide part.now (seen_in facts.now) command.now s
         → count ≡ length s.mirrors → LeavesPart part.now command.now s ch)) }
     // Where memory is wanting, no refusal applies.
-    ensures memory { OnErr result ((s : Records) → IsPartOf part.now command.now s
+    ensures memory { OnErr result ((s : Records)
+        → IsPartToDecide part.now (seen_in facts.now) command.now s
         → count ≡ length s.mirrors → IsGood s (seen_in facts.now) command.now) }
 {
     if let Some(refusal) = least_refusal(part, count, facts, command) {
@@ -124,6 +129,10 @@ fn change_of(
             ref providers,
         } => lose(alloc, part, facts, name, providers),
         Command::Advance { name, provider } => advance(alloc, part, facts, name, provider),
+        Command::Adopt {
+            name,
+            ref providers,
+        } => adopt(alloc, part, facts, name, providers),
     }
 }
 
@@ -305,5 +314,21 @@ fn advance(
     let component = part.component(provider).unwrap();
     let source = source(part, provider).unwrap();
     let change = advanced(alloc, &mirror, component, source)?;
+    Ok(change)
+}
+
+fn adopt(
+    alloc: Global,
+    part: &State,
+    facts: &Facts,
+    name: Label,
+    providers: &Providers,
+) -> Result<Change, AllocError>
+    requires { IsGoodButCount part.now (seen_in facts.now)
+        (commands.Adopt name providers.now) }
+    ensures { IfOk result (λ ch. IsMade part.now (seen_in facts.now)
+        (commands.Adopt name providers.now) ch) }
+{
+    let change = adopted_on(alloc, facts, name, providers.as_slice())?;
     Ok(change)
 }

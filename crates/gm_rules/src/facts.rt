@@ -1,7 +1,7 @@
 //! What the shelf says of the providers that a command needs.
 
 ghost use Rattle.std.specs.Prelude.{◌≡◌};
-ghost use Rattle.gm_rules.specs.Facts.{fact_of, size_in, last_in, last_carries};
+ghost use Rattle.gm_rules.specs.Facts.{fact_of, size_in, last_in, last_carries, equals_in};
 
 use gm_metadata::{Label, carries_metadata};
 use std::marker::Model;
@@ -13,6 +13,9 @@ pub struct Fact {
     pub provider: Label,
     pub sectors: u64,
     pub last: [u8; 512],
+    /// How many of its first sectors equal those of the source that a mirror found on images takes its
+    /// data from, counted up to the data and both lengths; 0 where that isn't asked.
+    pub equal: u64,
 }
 
 /// What the shelf says of the providers that a command needs: those that it looks at, and the components of its mirror
@@ -46,7 +49,7 @@ impl Facts {
         Facts { entries }
     }
 
-    fn fact(&self, provider: Label) -> Option<Fact>
+    pub(crate) fn fact(&self, provider: Label) -> Option<Fact>
         ensures { result ≡ fact_of self.now provider }
     {
         fact_in(&self.entries, provider)
@@ -69,6 +72,26 @@ impl Facts {
         match self.fact(provider) {
             None => false,
             Some(fact) => carries_metadata(&fact.last),
+        }
+    }
+
+    /// The last sector of the provider, where it is there.
+    pub(crate) fn last(&self, provider: Label) -> Option<[u8; 512]>
+        ensures { result ≡ last_in self.now provider }
+    {
+        match self.fact(provider) {
+            None => None,
+            Some(fact) => Some(fact.last),
+        }
+    }
+
+    /// How many of its first sectors are known to equal those of the source.
+    pub(crate) fn equal(&self, provider: Label) -> u64
+        ensures { result ≡ equals_in self.now provider }
+    {
+        match self.fact(provider) {
+            None => 0,
+            Some(fact) => fact.equal,
         }
     }
 }

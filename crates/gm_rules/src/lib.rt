@@ -3,8 +3,12 @@
 //! Begin with `refusals.rt` and `change.rt`, the answers; `deciding.rt` makes them. `checks.rt` has a test for each
 //! refusal, `making.rt`, `keeping.rt` and `advancing.rt` the change of each command. `parts.rt` says which
 //! records it takes to decide, and `needs.rt` which providers; `changing.rt` makes the change.
+//! `adopting.rt` says what images tell that a mirror is found on, and whether it can be adopted;
+//! `adoption.rt` makes the change.
 #![tactic(auto)]
 
+mod adopting;
+mod adoption;
 mod advancing;
 mod change;
 mod changing;
@@ -20,6 +24,7 @@ mod refusals;
 #[cfg(test)]
 mod tests;
 
+pub use adopting::{adopt_source, data_of, found_mids};
 pub use change::Change;
 pub use changing::changed_by;
 pub use checks::providers_of;

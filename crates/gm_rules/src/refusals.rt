@@ -51,6 +51,8 @@ pub enum Refusal {
     LastGenid,
     /// None of the options is given.
     NothingGiven,
+    /// The images don't tell of one mirror that can be adopted.
+    NotAdoptable,
     /// The provider has fewer than 2 or more than 1,048,576 sectors.
     WrongSize,
     /// The provider carries no metadata.
@@ -84,6 +86,7 @@ impl Refusal {
             Refusal::LastSyncid => 23,
             Refusal::LastGenid => 24,
             Refusal::NothingGiven => 25,
+            Refusal::NotAdoptable => 26,
             Refusal::WrongSize => 28,
             Refusal::NoMetadata => 29,
         }
@@ -197,6 +200,17 @@ pub(crate) fn own(command: &Command) -> &'static [Refusal]
             Refusal::NotMember,
             Refusal::Inactive,
             Refusal::NotSynchronizing,
+        ],
+        Command::Adopt { .. } => &[
+            Refusal::NameTaken,
+            Refusal::MidTaken,
+            Refusal::Absent,
+            Refusal::ProviderTaken,
+            Refusal::DidTaken,
+            Refusal::Full,
+            Refusal::TooManyMirrors,
+            Refusal::NotAdoptable,
+            Refusal::WrongSize,
         ],
     }
 }

@@ -1,11 +1,12 @@
 //! Each refusal by an example that meets just it, the least where two apply, and the changes of accepted commands.
 
+mod adopting;
 mod advancing;
 mod configuring;
 mod keeping;
 mod losing;
 
-use crate::{Change, Fact, Facts, Refusal, changed_by, decide, decide_part, part};
+use crate::{Change, Fact, Facts, Refusal, changed_by, decide, decide_part, found_mids, part};
 use gm_metadata::{Balance, Label, MirrorFlags, encode};
 use gm_state::{
     BalanceWord, Command, Component, Disk, Intent, Mirror, Reply, Slice, State, metadata,
@@ -81,6 +82,7 @@ fn bare(provider: &str, sectors: u64) -> Result<Fact, Fail> {
         provider: label(provider)?,
         sectors,
         last: [0; 512],
+        equal: 0,
     })
 }
 
@@ -91,6 +93,7 @@ fn carrying(provider: &str, sectors: u64) -> Result<Fact, Fail> {
         provider: label(provider)?,
         sectors,
         last,
+        equal: 0,
     })
 }
 
@@ -187,6 +190,14 @@ fn is_part_after(
     Ok(same_mirrors && made.components() == of_whole.components())
 }
 
+// The mids that the images tell of that a mirror is to be adopted from.
+fn mids_of(alloc: Global, facts: &Facts, command: &Command) -> Result<Vec<u32>, Fail> {
+    match command {
+        Command::Adopt { providers, .. } => Ok(found_mids(alloc, facts, providers.as_slice())?),
+        _ => Ok(Vec::new(alloc)),
+    }
+}
+
 // What is decided on the whole state, which is what is decided on the command's part of it.
 fn decided(
     alloc: Global,
@@ -195,7 +206,8 @@ fn decided(
     command: &Command,
 ) -> Result<Result<Change, Refusal>, Fail> {
     let facts = Facts::new(facts.to_vec(alloc)?);
-    let part = part(alloc, state, command, &[])?;
+    let mids = mids_of(alloc, &facts, command)?;
+    let part = part(alloc, state, command, &mids)?;
     let count = state.mirrors().len() as u64;
     let on_part = decide_part(alloc, &part, count, &facts, command)?;
     let on_whole = decide(alloc, state, &facts, command)?;

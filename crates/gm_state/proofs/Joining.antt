@@ -50,10 +50,10 @@ pub configure_line : (b s a f h p : List (List ℕ)) (n : List ℕ)
     → codes "configure" ++ (spaced b ++ (spaced s ++ (spaced a ++ (spaced f ++ (spaced h ++ (spaced p ++ (32 ∷ n))))))) ≡ join_with_byte 32 (codes "configure" ∷ (b ++ s ++ a ++ f ++ h ++ p) ++ n ∷ [])
 configure_line b s a f h p n = sym (join_spaced (codes "configure") ((b ++ s ++ a ++ f ++ h ++ p) ++ n ∷ []) ∙ simp (spaced-append, append_assoc, append-nil))
 
--- that of a lost
-pub lost_line : (n : List ℕ) (ps : List (List ℕ)) → 0 < length ps → codes "lost" ++ (32 ∷ (n ++ (32 ∷ join_by (λ (t : List ℕ). t) (32 ∷ []) ps))) ≡ join_with_byte 32 (codes "lost" ∷ n ∷ ps)
-lost_line n [] some = absurd (omega arith)
-lost_line n (p ∷ ps) some = sym (join_spaced (codes "lost") (n ∷ p ∷ ps))
+-- that of a mirror and a row of providers
+pub row_line : (word n : List ℕ) (ps : List (List ℕ)) → 0 < length ps → word ++ (32 ∷ (n ++ (32 ∷ join_by (λ (t : List ℕ). t) (32 ∷ []) ps))) ≡ join_with_byte 32 (word ∷ n ∷ ps)
+row_line word n [] some = absurd (omega arith)
+row_line word n (p ∷ ps) some = sym (join_spaced word (n ∷ p ∷ ps))
 
 -- a text that is known where it is there
 pub ok_is : {T E : Type 0} (r : Result T E) (f : T → List ℕ) (x y : List ℕ) → x ≡ y → IfOk r (λ t. f t ≡ x) → IfOk r (λ t. f t ≡ y)

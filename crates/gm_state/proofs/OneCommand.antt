@@ -2,7 +2,7 @@
 use Rattle.std.proofs.Common.{◌≡◌, ◌≢◌, ◌∙◌, ℕ, ◌+◌, ◌<◌, ◌^◌, ◌==◌, not, true, false, refl, sym, ap, arith, List, [], ◌∷◌, ◌++◌, get_or, true≢false, eq-eqb}
 use Rattle.std.specs.List.{join_with_byte}
 use Rattle.gm_state.specs.declared.command.Command.{Command}
-use Rattle.gm_state.specs.declared.command.Command.TheVariants.{Label, Insert, Remove, Deactivate, Activate, Forget, Rebuild, Configure, Clear, Destroy, Lost, Advance}
+use Rattle.gm_state.specs.declared.command.Command.TheVariants.{Label, Insert, Remove, Deactivate, Activate, Forget, Rebuild, Configure, Clear, Destroy, Lost, Advance, Adopt}
 use Rattle.gm_state.specs.Commands.{CommandFits, setting_words, words, words_of}
 use Rattle.gm_state.proofs.Given.{same_settings, settings_spaceless, last_word}
 use Rattle.gm_state.proofs.OneWord.{same_balance, same_switch, same_off, same_flags, same_number, balance_spaceless, switch_spaceless, number_spaceless}
@@ -25,6 +25,7 @@ words_spaceless (Clear p) fits = rw (label_spaceless p fits) refl
 words_spaceless (Destroy n) fits = rw (label_spaceless n fits) refl
 words_spaceless (Lost n ps) fits = rw (label_spaceless n fits.0) (labels_spaceless ps fits.1)
 words_spaceless (Advance n p) fits = rw (label_spaceless n fits.0, label_spaceless p fits.1) refl
+words_spaceless (Adopt n ps) fits = rw (label_spaceless n fits.0) (labels_spaceless ps fits.1)
 
 -- the first, the third and the fourth letter of the first word, added up, and a word by its place
 letters : List (List ℕ) → ℕ
@@ -46,6 +47,7 @@ words_some (Clear p) e = cc
 words_some (Destroy n) e = cc
 words_some (Lost n ps) e = cc
 words_some (Advance n p) e = cc
+words_some (Adopt n ps) e = cc
 
 lists_same : (xs ys : List (List ℕ)) → xs ≢ [] → ys ≢ [] → all_spaceless xs ≡ true → all_spaceless ys ≡ true → join_with_byte 32 xs ≡ join_with_byte 32 ys → xs ≡ ys
 lists_same [] ys n m e f g = absurd (n refl)
@@ -91,6 +93,7 @@ same_by_words (Clear p) (Clear p') u v e = ap Clear (ap (word 1) e)
 same_by_words (Destroy n) (Destroy n') u v e = ap Destroy (ap (word 1) e)
 same_by_words (Lost n ps) (Lost n' ps') u v e = let names : n ≡ n' = ap (word 1) e in let providers : ps ≡ ps' = cc in cc
 same_by_words (Advance n p) (Advance n' p') u v e = let names : n ≡ n' = ap (word 1) e in let providers : p ≡ p' = ap (word 2) e in cc
+same_by_words (Adopt n ps) (Adopt n' ps') u v e = let names : n ≡ n' = ap (word 1) e in let providers : ps ≡ ps' = cc in cc
 same_by_words a b u v e = absurd (apart (letters (words a)) (letters (words b)) refl (ap letters e))
 
 pub same_command : (a b : Command) → CommandFits a → CommandFits b → words_of a ≡ words_of b → a ≡ b

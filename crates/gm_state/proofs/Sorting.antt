@@ -19,7 +19,7 @@ Has-Contains [] x h = absurd h
 Has-Contains (y ∷ ys) x (inl s) = (0, omega arith, s)
 Has-Contains (y ∷ ys) x (inr h) = let c = Has-Contains ys x h in (suc c.0, omega arith, c.2)
 
-Contains-Has : {X : Type 0} (xs : List X) (x : X) (k : ℕ) → k < length xs → get_or xs k x ≡ x → Has xs x
+pub Contains-Has : {X : Type 0} (xs : List X) (x : X) (k : ℕ) → k < length xs → get_or xs k x ≡ x → Has xs x
 Contains-Has [] x k l e = absurd (omega arith)
 Contains-Has (y ∷ ys) x zero l e = inl e
 Contains-Has (y ∷ ys) x (suc k) l e = inr (Contains-Has ys x k (omega arith) e)

@@ -11,7 +11,7 @@ use Rattle.gm_state.specs.declared.command.BalanceWord.TheVariants.{Load, Prefer
 use Rattle.gm_state.specs.declared.command.Preference.{Preference}
 use Rattle.gm_state.specs.declared.command.Settings.{Settings}
 use Rattle.gm_state.specs.declared.command.Command.{Command}
-use Rattle.gm_state.specs.declared.command.Command.TheVariants.{Label, Insert, Remove, Deactivate, Activate, Forget, Rebuild, Configure, Clear, Destroy, Lost, Advance}
+use Rattle.gm_state.specs.declared.command.Command.TheVariants.{Label, Insert, Remove, Deactivate, Activate, Forget, Rebuild, Configure, Clear, Destroy, Lost, Advance, Adopt}
 
 -- the balance that a word asks for
 abbrev pub balance_of_word : BalanceWord → Balance
@@ -42,6 +42,7 @@ CommandFits (Clear p) = IsTrue (is_label p)
 CommandFits (Destroy n) = IsTrue (is_label n)
 CommandFits (Lost n ps) = IsTrue (is_label n) × IsTrue (list_all is_label ps) × (0 < length ps)
 CommandFits (Advance n p) = IsTrue (is_label n) × IsTrue (is_label p)
+CommandFits (Adopt n ps) = IsTrue (is_label n) × IsTrue (list_all is_label ps) × (0 < length ps)
 
 -- on or off
 abbrev pub on_where : Bool → List ℕ
@@ -99,6 +100,7 @@ words (Clear p) = codes "clear" ∷ p ∷ []
 words (Destroy n) = codes "destroy" ∷ n ∷ []
 words (Lost n ps) = codes "lost" ∷ n ∷ ps
 words (Advance n p) = codes "advance" ∷ n ∷ p ∷ []
+words (Adopt n ps) = codes "adopt" ∷ n ∷ ps
 
 -- the canonical words: joined by one space
 abbrev pub words_of : Command → List ℕ

@@ -87,7 +87,7 @@ pub struct Settings {
     pub preference: Option<Preference>,
 }
 
-/// A command of gmirror(8), as its words say it; `Lost` and `Advance` are this project's own.
+/// A command of gmirror(8), as its words say it; `Lost`, `Advance` and `Adopt` are this project's own.
 #[derive(Debug, PartialEq, Eq, Drop)]
 pub enum Command {
     /// A new mirror on one provider. mid and did are handed in.
@@ -155,6 +155,11 @@ pub enum Command {
     Advance {
         name: Label,
         provider: Label,
+    },
+    /// A mirror that is found on these providers is registered, with what their images bear out.
+    Adopt {
+        name: Label,
+        providers: Providers,
     },
 }
 

@@ -437,6 +437,9 @@ fn words_of_lost_components(rt: HostRuntime) -> Result<(), Fail> {
         let text = words_of(rt.alloc(), &Command::Lost { name, providers })?;
         assert_eq!(rt; text.as_str(), words);
     }
+    let providers = Providers::new(vec![in rt.alloc(); b, a]?).expect(&rt, "one or more");
+    let text = words_of(rt.alloc(), &Command::Adopt { name, providers })?;
+    assert_eq!(rt; text.as_str(), "adopt gm0 b.img a.img");
     assert!(rt; Providers::new(Vec::new(rt.alloc())).is_none());
     Ok(())
 }

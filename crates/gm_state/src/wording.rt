@@ -129,13 +129,19 @@ fn configure_words(alloc: Global, name: Label, settings: Settings) -> Result<Str
     format!(in alloc; "configure{balance}{slice}{autosync}{failsync}{hardcode}{preference} {name}")
 }
 
-fn lost_words(alloc: Global, name: Label, providers: &[Label]) -> Result<String, AllocError>
+// The words of a command that names a mirror and one or more providers.
+fn row_words(
+    alloc: Global,
+    word: &str,
+    name: Label,
+    providers: &[Label],
+) -> Result<String, AllocError>
     requires { 0 < length providers.now }
     ensures { IfOk result (λ text. string_bytes text
-        ≡ join_with_byte 32 (codes "lost" ∷ name ∷ providers.now)) }
+        ≡ join_with_byte 32 (word.now ∷ name ∷ providers.now)) }
 {
     let providers = providers.join(alloc, " ")?;
-    format!(in alloc; "lost {name} {providers}")
+    format!(in alloc; "{word} {name} {providers}")
 }
 
 // What the types of their parts say of a slice and a preference; these do nothing.
@@ -216,6 +222,10 @@ fn command_fits(command: &Command)
         Command::Lost {
             name,
             ref providers,
+        }
+        | Command::Adopt {
+            name,
+            ref providers,
         } => {
             let _ = name.as_bytes();
             labels_fit(providers.as_slice());
@@ -275,7 +285,11 @@ pub fn words_of(alloc: Global, command: &Command) -> Result<String, AllocError>
         Command::Lost {
             name,
             ref providers,
-        } => lost_words(alloc, name, providers.as_slice()),
+        } => row_words(alloc, "lost", name, providers.as_slice()),
         Command::Advance { name, provider } => format!(in alloc; "advance {name} {provider}"),
+        Command::Adopt {
+            name,
+            ref providers,
+        } => row_words(alloc, "adopt", name, providers.as_slice()),
     }
 }

@@ -40,6 +40,7 @@ const LINES: &str =
   KEY destroy NAME
   KEY lost NAME PROV..
   KEY advance NAME PROV
+  KEY adopt NAME PROV..
 B is load, prefer, round-robin or split, and S is on or off. Where label and insert aren't given
 them: --balance load, --slice 4096, --autosync on, --failsync on, --hardcode off, --priority 0.
 

@@ -1,7 +1,7 @@
 //! A component that is filled stretch by stretch, also over a stop within one, and what is read and written on the way.
 
 use super::members::{is_refused, must_hold, of_two};
-use super::{
+use crate::support::{
     IN_SYNC, SYNCHRONIZING, accept, add, advances, image, inserts, label, labels, memory, metadata,
     must, open, run, sector, try_run,
 };

@@ -1,6 +1,6 @@
 //! What commands are answered, and what they leave.
 
-use super::{
+use crate::support::{
     IN_SYNC, add, destroys, image, inserts, labels, memory, metadata, must, must_keep_data,
     must_say, open, run, sector, shelf,
 };

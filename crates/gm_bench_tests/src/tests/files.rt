@@ -1,8 +1,8 @@
 //! The rows over real files: a folder of images, and a registry that lies beside the folder.
 
 use super::answers::{answers, refuses_one_sector, stays, takes_two_sectors};
-use super::image;
 use super::members::{is_carried_out_later, is_destroyed, is_inserted, is_removed, removing};
+use crate::support::image;
 use gm_shelf::FileShelf;
 use sqlite::{Connection, File, FileStore};
 use std::test::Fail;

@@ -1,6 +1,6 @@
 //! As many mirrors as there may be, of as many components.
 
-use super::{add, image, inserts, labels, memory, must, open, run, try_view};
+use crate::support::{add, image, inserts, labels, memory, must, open, run, try_view};
 use gm_bench::{Answer, Bench};
 use gm_rules::{CallRefusal, Refusal};
 use gm_shelf::{MemShelf, Shelf};

@@ -1,9 +1,9 @@
 //! What an audit lists once somebody else changed images, and what a shelf tells without a registry. Neither changes
 //! anything.
 
-use super::{
+use crate::support::{
     IN_SYNC, SYNCHRONIZING, add, inserts, label, labels, memory, metadata, must, must_say, open,
-    run, sector, shelf,
+    run, sector, shelf, try_audit,
 };
 use gm_bench::{Bench, BenchFault, Phase, taste_shelf};
 use gm_metadata::{DecodeFault, Label, decode};
@@ -12,13 +12,6 @@ use gm_taste::{MemberState, Reason, Tasted};
 use sqlite::{Alter, Connection};
 use std::alloc::Global;
 use std::test::Fail;
-
-pub(super) fn try_audit<S: Alter, H: Shelf>(
-    alloc: Global,
-    bench: &mut Bench<S, H>,
-) -> Result<Vec<Label>, BenchFault> {
-    bench.audit(alloc)
-}
 
 // What an audit lists, each name with a space behind it.
 fn must_list<S: Alter, H: Shelf>(

@@ -1,6 +1,6 @@
 //! A second component that comes and goes, also over an opening and where its image is away, or its record.
 
-use super::{
+use crate::support::{
     IN_SYNC, INACTIVE, SYNCHRONIZING, accept, activates, add, advances, deactivates, destroys,
     forgets, inserts, label, labels, loses, memory, metadata, must, must_keep_data, must_say, open,
     removes, run, sector, shelf, try_open, try_view,

@@ -1,6 +1,6 @@
 //! A command whose calls are made one by one, and what the bench shows between them.
 
-use super::{
+use crate::support::{
     IN_SYNC, accept, add, image, label, labels, memory, metadata, must, must_be, open, try_apply,
     try_last, try_settle, try_view,
 };

@@ -64,6 +64,7 @@ fn canonical_words(rt: HostRuntime) -> Result<(), Fail> {
         "destroy -",
         "lost gm0 b.img",
         "advance gm0 b.img",
+        "adopt gm0 b.img a.img",
     ];
     for line in lines {
         must_spell(&rt, line, line)?;
@@ -235,6 +236,7 @@ fn providers_in_a_row(rt: HostRuntime) -> Result<(), Fail> {
     must_take(&rt, "lost", "gm0 b.img a.img", &["gm0 b.img -- a.img"])?;
     must_take(&rt, "lost", "gm0 lost c.img help a.img", &[])?;
     must_spell(&rt, "lost -- gm0 -b.img --", "lost gm0 -b.img --")?;
+    must_take(&rt, "adopt", "gm0 b.img b.img", &["gm0 b.img -- b.img"])?;
     let wrong = [
         "",
         "gm0",

@@ -1,7 +1,8 @@
 use Rattle.std.proofs.Common.{◌≡◌, Err, IfOk, length, ap, subst}
 use Rattle.gm_state.specs.Records.{Records}
 use Rattle.gm_rules.specs.Decides.{Decides, Makes}
-use Rattle.gm_rules.specs.Parts.{IsPartOf, LeavesPart}
+use Rattle.gm_rules.specs.Parts.{IsPartToDecide, LeavesPart}
+use Rattle.gm_rules.specs.Seen.{seen_in}
 use Rattle.gm_rules.specs.Worlds.{seen_of}
 use Rattle.gm_bench.specs.declared.fault.BenchFault.TheVariants.{Unreadable}
 use Rattle.gm_bench.proofs.Covering.{part_stays}
@@ -12,6 +13,6 @@ returns-in-Err-plan-clause-readable c is u key sound can of count facts =
     let command = c.args.command.now in
     let part = c.args.part.now in
     let made : Makes u.state (seen_of u) command c.in-Ok-Ok.change = subst (λ r. Decides u.state (seen_of u) command r) c.in-Ok-Ok.field-0-is (c.in-Ok-Ok.ensures.world u of count facts) in
-    let leaves = subst (λ r. IfOk r (λ ch. (s : Records) → IsPartOf part command s → c.args.count ≡ length s.mirrors → LeavesPart part command s ch)) c.in-Ok-Ok.field-0-is c.in-Ok-Ok.ensures.part in
+    let leaves = subst (λ r. IfOk r (λ ch. (s : Records) → IsPartToDecide part (seen_in c.args.facts.now) command s → c.args.count ≡ length s.mirrors → LeavesPart part command s ch)) c.in-Ok-Ok.field-0-is c.in-Ok-Ok.ensures.part in
     let fault : c.in-Err-plan.fault ≡ Unreadable = cc in
     c.in-Err-plan.ensures.readable (ap Err fault) (part_stays u key command c.in-Ok-Ok.change part sound can made (leaves u.state of count))

@@ -1,4 +1,4 @@
-use Rattle.gm_front.proofs.Losing.{all_read, goes_on, stops}
+use Rattle.gm_front.proofs.Several.{all_read, goes_on, stops}
 use Rattle.gm_front.proofs.words.providers.Goals as goal
 
 pub returns-in_default : goal.returns-in_default

@@ -3,7 +3,7 @@ use Rattle.std.proofs.lemmas.Result.{IfOk-weaker}
 use Rattle.clap.specs.Words.{found_of}
 use Rattle.clap.proofs.WalkLemmas.{raw_values-rows}
 use Rattle.gm_front.specs.Spelling.{◌>>=◌, providers_at, providers_in}
-use Rattle.gm_front.proofs.Losing.{strs_none, strs_some}
+use Rattle.gm_front.proofs.Several.{strs_none, strs_some}
 use Rattle.gm_front.proofs.words.providers_at.Goals as goal
 
 pub returns-in-Some : goal.returns-in-Some

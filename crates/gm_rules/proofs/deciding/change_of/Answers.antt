@@ -1,4 +1,4 @@
-use Rattle.gm_rules.specs.Bad.{seen_in}
+use Rattle.gm_rules.specs.Seen.{seen_in}
 use Rattle.gm_rules.proofs.Good.{some_from, fits_32, label_size}
 use Rattle.gm_rules.proofs.deciding.change_of.Goals as goal
 

@@ -1,23 +1,23 @@
 use Rattle.std.proofs.Common.{◌∙◌, sym, ap, length, subst}
 use Rattle.gm_state.specs.Records.{Records}
-use Rattle.gm_rules.specs.Bad.{seen_in}
+use Rattle.gm_rules.specs.Seen.{seen_in}
 use Rattle.gm_rules.specs.Decides.{IsGood}
-use Rattle.gm_rules.specs.Parts.{IsPartOf}
-use Rattle.gm_rules.proofs.Agreeing.{whole_is_part}
+use Rattle.gm_rules.specs.Parts.{IsPartToDecide}
+use Rattle.gm_rules.proofs.Agreeing.{whole_to_decide}
 use Rattle.gm_rules.proofs.Partly.{on_err}
 use Rattle.gm_rules.proofs.deciding.decide.Goals as goal
 
 pub returns-in_err-decided-clause-memory : goal.returns-in_err-decided-clause-memory
 returns-in_err-decided-clause-memory c =
     on_err c.from_residual.result (IsGood c.args.state.now (seen_in c.args.facts.now) c.args.command.now)
-    (c.in_err-decided.ensures.memory c.args.state.now (whole_is_part c.args.state.now c.args.command.now c.mirrors.ensures.state) (ap length c.mirrors.ensures.value))
+    (c.in_err-decided.ensures.memory c.args.state.now (whole_to_decide c.args.state.now (seen_in c.args.facts.now) c.args.command.now c.mirrors.ensures.state) (ap length c.mirrors.ensures.value))
 
 pub returns-clause-facts : goal.returns-clause-facts
 returns-clause-facts c =
-    c.in_ok-decided.ensures.facts c.args.state.now (whole_is_part c.args.state.now c.args.command.now c.mirrors.ensures.state) (ap length c.mirrors.ensures.value)
+    c.in_ok-decided.ensures.facts c.args.state.now (whole_to_decide c.args.state.now (seen_in c.args.facts.now) c.args.command.now c.mirrors.ensures.state) (ap length c.mirrors.ensures.value)
 
 pub returns-clause-world : goal.returns-clause-world
 returns-clause-world c u e are =
-    let of : IsPartOf c.args.state.now c.args.command.now u.state
-    = subst (λ (s : Records). IsPartOf c.args.state.now c.args.command.now s) (sym e) (whole_is_part c.args.state.now c.args.command.now c.mirrors.ensures.state) in
-    c.in_ok-decided.ensures.world u of (ap length (c.mirrors.ensures.value ∙ sym (ap (λ (s : Records). s.mirrors) e))) are
+    let to : IsPartToDecide c.args.state.now (seen_in c.args.facts.now) c.args.command.now u.state
+    = subst (λ (s : Records). IsPartToDecide c.args.state.now (seen_in c.args.facts.now) c.args.command.now s) (sym e) (whole_to_decide c.args.state.now (seen_in c.args.facts.now) c.args.command.now c.mirrors.ensures.state) in
+    c.in_ok-decided.ensures.world u to (ap length (c.mirrors.ensures.value ∙ sym (ap (λ (s : Records). s.mirrors) e))) are

@@ -1,5 +1,5 @@
 use Rattle.std.proofs.Common.{◌∙◌, sym}
-use Rattle.gm_rules.specs.Bad.{seen_in}
+use Rattle.gm_rules.specs.Seen.{seen_in}
 use Rattle.gm_rules.proofs.Partly.{destroy_made}
 use Rattle.gm_rules.proofs.deciding.destroy.Goals as goal
 

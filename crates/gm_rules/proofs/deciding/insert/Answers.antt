@@ -6,7 +6,8 @@ use Rattle.gm_state.specs.Words.{Has}
 use Rattle.gm_state.specs.Lookups.{component_of}
 use Rattle.gm_state.proofs.Words.{Has-filter}
 use Rattle.gm_rules.specs.declared.refusals.Refusal.TheVariants as refusals
-use Rattle.gm_rules.specs.Bad.{seen_in, is_there_and, has_wrong_size}
+use Rattle.gm_rules.specs.Seen.{seen_in, is_there_and}
+use Rattle.gm_rules.specs.Bad.{has_wrong_size}
 use Rattle.gm_rules.specs.Facts.{size_in}
 use Rattle.gm_state.proofs.Finding.{any_one}
 use Rattle.gm_rules.proofs.Good.{some_from, none_from, few_all, new_name, fits_32}

@@ -1,6 +1,6 @@
 use Rattle.std.proofs.Common.{◌∙◌, sym, inl, inr, refl}
 use Rattle.gm_rules.specs.declared.refusals.Refusal.TheVariants as refusals
-use Rattle.gm_rules.specs.Bad.{seen_in}
+use Rattle.gm_rules.specs.Seen.{seen_in}
 use Rattle.gm_rules.proofs.Partly.{rebuild_made}
 use Rattle.gm_rules.proofs.RuledOut.{member_found}
 use Rattle.gm_rules.proofs.deciding.rebuild.Goals as goal

@@ -1,6 +1,6 @@
 use Rattle.std.proofs.Common.{◌∙◌, sym, inl, refl}
 use Rattle.gm_rules.specs.declared.refusals.Refusal.TheVariants as refusals
-use Rattle.gm_rules.specs.Bad.{seen_in}
+use Rattle.gm_rules.specs.Seen.{seen_in}
 use Rattle.gm_rules.proofs.Good.{some_from, some_all}
 use Rattle.gm_rules.proofs.Partly.{remove_made}
 use Rattle.gm_rules.proofs.deciding.remove.Goals as goal

@@ -1,6 +1,0 @@
-use Rattle.std.specs.String.{string_bytes}
-use Rattle.gm_state.proofs.Joining.{lost_line, ok_is}
-use Rattle.gm_state.proofs.wording.lost_words.Goals as goal
-
-pub returns : goal.returns
-returns c = let h = c.format.ensures.ok in ok_is c.format.result string_bytes _ _ (lost_line c.args.name c.args.providers.now c.requires) (rw c.in_ok-providers.ensures.ok at h)
