@@ -11,8 +11,8 @@ use Rattle.gm_rules.specs.Refusals.{number_of_call}
 use Rattle.gm_rules.specs.Run as run
 use Rattle.gm_bench.specs.declared.fault.BenchFault.{BenchFault}
 use Rattle.gm_bench.specs.Faults.{fault_number}
-use Rattle.gm_front.specs.Lines.{line}
-use Rattle.gm_front.specs.Spelling.{spelled}
+use Rattle.gm_words.specs.Lines.{line}
+use Rattle.gm_words.specs.Spelling.{spelled}
 
 -- what a line asks: nothing, no command under what stands for its key, or a command under a key
 pub data Asked : Type 0 where

@@ -1,11 +1,4 @@
 pub mod Asking
 pub mod Batch
-pub mod Dump
 pub mod Input
-pub mod Lines
-pub mod Listing
 pub mod Outcomes
-pub mod Spelling
-pub mod Status
-pub mod Table
-pub mod Tasting

@@ -3,11 +3,11 @@
 ghost use Rattle.std.specs.Prelude.{◌≡◌, IfOk};
 ghost use Rattle.gm_front.specs.Asking.{asked_by, pieces, shown};
 ghost use Rattle.gm_front.specs.Input.{Fits};
-ghost use Rattle.gm_front.specs.Lines.{texts};
+ghost use Rattle.gm_words.specs.Lines.{texts};
 ghost use Rattle.gm_front.specs.Outcomes.{asked_at, asked_of};
 
 use crate::input::Line;
-use crate::words::read_words;
+use gm_words::read_words;
 use gm_state::{Command, is_key};
 use std::alloc::{AllocError, Global};
 use std::str;

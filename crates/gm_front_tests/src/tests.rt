@@ -8,9 +8,10 @@ mod stores;
 mod writers;
 
 use gm_bench::{Bench, BenchFault, OpenFault, Phase};
-use gm_front::{BatchEnd, FrontFault, batch, status_text};
+use gm_front::{BatchEnd, FrontFault, batch};
 use gm_metadata::Label;
 use gm_shelf::{MemShelf, Shelf};
+use gm_words::status_text;
 use sqlite::{Alter, Connection, MemStore};
 use std::alloc::Global;
 use std::io::{Read, Write};

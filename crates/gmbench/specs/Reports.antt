@@ -3,8 +3,8 @@ use Rattle.std.specs.Prelude.{◌≡◌, ◌⊎◌, ℕ, ◌==◌, List, [], ◌
 use Rattle.std.specs.Fmt.{decimal}
 use Rattle.std.specs.List.{list_any}
 use Rattle.std.specs.String.{string_bytes}
-use Rattle.gm_front.specs.Lines.{line}
-use Rattle.gm_front.specs.Tasting.{tasting_text}
+use Rattle.gm_words.specs.Lines.{line}
+use Rattle.gm_words.specs.Tasting.{tasting_text}
 use Rattle.gm_taste.specs.declared.tasted.Tasted.{Tasted}
 use Rattle.gm_taste.specs.Verdicts.{of_metadata}
 use Rattle.gmbench.specs.declared.status.Status.{Status}

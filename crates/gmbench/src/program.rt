@@ -6,7 +6,7 @@ use crate::words::{Job, job_of};
 use crate::workplace::{Place, work_at};
 use clap::Error;
 use clap::error::ErrorKind;
-use gm_front::dump_text;
+use gm_words::dump_text;
 use gm_metadata::{Label, decode};
 use gm_shelf::{FileShelf, Shelf};
 use std::io::{Read, Write};

@@ -1,13 +1,13 @@
 //! The commands `status` and `list`, which show the mirrors of a bench.
 
 ghost use Rattle.std.specs.Prelude.{IfOk};
-ghost use Rattle.gm_front.specs.Listing.{list_text};
-ghost use Rattle.gm_front.specs.Status.{status_text};
+ghost use Rattle.gm_words.specs.Listing.{list_text};
+ghost use Rattle.gm_words.specs.Status.{status_text};
 ghost use Rattle.gmbench.specs.Reports.{IsDone};
 
 use crate::status::{Fault, Status};
 use crate::work::Report;
-use gm_front::{list_text, status_text};
+use gm_words::{list_text, status_text};
 use gm_state::State;
 use std::alloc::Global;
 

@@ -9,7 +9,7 @@ ghost use Rattle.gmbench.specs.Reports.{IsTasting};
 use crate::status::{Fault, Status};
 use crate::work::Report;
 use gm_bench::taste_shelf;
-use gm_front::tasting_text;
+use gm_words::tasting_text;
 use gm_shelf::{FileShelf, Shelf};
 use gm_taste::{LeftOut, Tasted};
 use std::alloc::Global;

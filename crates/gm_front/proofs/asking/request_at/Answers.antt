@@ -1,7 +1,7 @@
 use Rattle.std.proofs.Common.{◌∙◌, take, sym, ap}
 use Rattle.std.proofs.lemmas.Result.{IfOk-weaker}
 use Rattle.gm_front.specs.Asking.{asked_by, pieces}
-use Rattle.gm_front.specs.Lines.{texts}
+use Rattle.gm_words.specs.Lines.{texts}
 use Rattle.gm_front.proofs.Requests.{IsShort, asked_text, asked_bytes, short_front}
 use Rattle.gm_front.proofs.asking.request_at.Goals as goal
 

@@ -1,6 +1,6 @@
 use Rattle.std.proofs.Common.{◌≡◌, flat_map, take}
 use Rattle.std.specs.String.{string_bytes}
-use Rattle.gm_front.specs.Lines.{line}
+use Rattle.gm_words.specs.Lines.{line}
 use Rattle.gmbench.proofs.auditing.names_text.Given as goal
 
 abbrev pub invariant-loop-name : goal.invariant-loop-name

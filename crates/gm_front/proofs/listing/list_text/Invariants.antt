@@ -1,9 +1,0 @@
-use Rattle.std.proofs.Common.{◌≡◌, map, take}
-use Rattle.std.specs.String.{string_bytes}
-use Rattle.gm_state.specs.Records.{members}
-use Rattle.gm_front.specs.Listing.{block}
-use Rattle.gm_front.proofs.listing.list_text.Given as goal
-
-abbrev pub invariant-loop-mirror : goal.invariant-loop-mirror
-invariant-loop-mirror l =
-    map string_bytes l.blocks.items ≡ map (λ m. block m (members l.fn.state.components m.name)) (take l.mirror-index l.fn.state.mirrors)

@@ -1,0 +1,11 @@
+mod Canonical
+mod Configuring
+mod Finding
+mod Growing
+mod Naming
+mod Options
+mod Parsing
+mod Reading
+mod Rows
+mod Several
+mod Walking

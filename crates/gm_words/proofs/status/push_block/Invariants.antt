@@ -1,0 +1,8 @@
+use Rattle.std.proofs.Common.{◌≡◌, ◌++◌, flat_map, take}
+use Rattle.std.specs.String.{string_bytes}
+use Rattle.gm_words.specs.Status.{component_line, mirror_line}
+use Rattle.gm_words.proofs.status.push_block.Given as goal
+
+abbrev pub invariant-loop-component : goal.invariant-loop-component
+invariant-loop-component l =
+    string_bytes l.text ≡ (string_bytes l.fn.text ++ mirror_line l.fn.mirror l.fn.members) ++ flat_map (component_line l.fn.mirror) (take l.component-index l.fn.members)

@@ -1,0 +1,7 @@
+pub mod Dump
+pub mod Lines
+pub mod Listing
+pub mod Spelling
+pub mod Status
+pub mod Table
+pub mod Tasting
