@@ -4,7 +4,7 @@
 use gm_bench::{Answer, Bench, BenchFault, OpenFault, Phase};
 use gm_metadata::{Balance, DiskFlags, Label, Metadata, MirrorFlags, encode};
 use gm_shelf::{MemShelf, Shelf};
-use gm_state::{BalanceWord, Command, Providers, Settings, Slice, State};
+use gm_state::{BalanceWord, Command, Providers, Reply, Settings, Slice, State};
 use sqlite::{Alter, Connection, MemStore};
 use std::alloc::Global;
 use std::test::Fail;
@@ -345,4 +345,29 @@ pub fn must_be(last: &[u8; 512], said: Option<Metadata>) -> Result<(), Fail> {
         None => [0; 512],
     };
     must(*last == expected, "a last sector says something else")
+}
+
+// gm0 on a.img and b.img, by k1 and k2.
+pub fn of_two<S: Alter + Drop, H: Shelf + Drop>(
+    alloc: Global,
+    store: Connection<S>,
+    shelf: H,
+) -> Result<Bench<S, H>, Fail> {
+    let mut bench = open(alloc, store, shelf)?;
+    run(alloc, &mut bench, "k1", &labels("gm0", "a.img", 7)?)?;
+    let answer = run(alloc, &mut bench, "k2", &inserts("gm0", "b.img", 2)?)?;
+    must(answer == Answer::Done(2, Reply::Plain), "not inserted")?;
+    Ok(bench)
+}
+
+// What the last sectors of a.img and b.img say; the data are as they were.
+pub fn must_hold<H: Shelf>(
+    shelf: &mut H,
+    first: Option<Metadata>,
+    second: Option<Metadata>,
+) -> Result<(), Fail> {
+    must_say(shelf, "a.img", first)?;
+    must_say(shelf, "b.img", second)?;
+    must_keep_data(shelf, "a.img")?;
+    must_keep_data(shelf, "b.img")
 }

@@ -1,10 +1,10 @@
-//! The tests, each part of the bench's calls in a file.
+//! The tests: stops of the shelf within a script of commands, within an advance and within an adoption; stops of the store;
+//! what a bench answers behind a fault, and which phases its calls lead through.
 
 mod adopting;
 mod advancing;
-mod answers;
-mod files;
-mod limits;
+mod faults;
 mod looking;
-mod members;
 mod phases;
+mod stops;
+mod store;

@@ -1,13 +1,11 @@
-//! A component that is filled stretch by stretch, also over a stop within one, and what is read and written on the way.
+//! An advance whose shelf stops at each of its calls in turn, and what its target then claims.
 
-use super::members::{is_refused, must_hold, of_two};
 use crate::support::{
-    IN_SYNC, SYNCHRONIZING, accept, add, advances, image, inserts, label, labels, memory, metadata,
-    must, open, run, sector, try_run,
+    IN_SYNC, SYNCHRONIZING, add, advances, image, label, memory, metadata, must, must_hold, of_two,
+    open, run, sector, try_run,
 };
 use gm_bench::{Answer, Bench, BenchFault};
-use gm_metadata::{DiskFlags, Metadata, encode};
-use gm_rules::Refusal;
+use gm_metadata::encode;
 use gm_shelf::{FaultShelf, MemShelf, Shelf};
 use gm_state::Reply;
 use sqlite::{Alter, Connection};
@@ -38,29 +36,6 @@ fn must_be_in_sync<H: Shelf>(shelf: &mut H) -> Result<(), Fail> {
     let second = metadata(2, 2, IN_SYNC)?;
     must_hold(shelf, Some(first), Some(second))
 }
-
-fn is_filled<S: Alter + Drop, H: Shelf + Drop>(
-    alloc: Global,
-    store: Connection<S>,
-    shelf: H,
-) -> Result<(), Fail> {
-    let mut bench = of_two(alloc, store, shelf)?;
-    let advance = advances("gm0", "b.img")?;
-    let answer = run(alloc, &mut bench, "k3", &advance)?;
-    must(answer == Answer::Done(3, ALL_THREE), "not copied")?;
-    let again = run(alloc, &mut bench, "k3", &advance)?;
-    must(again == Answer::Repeated(3, ALL_THREE), "not repeated")?;
-    is_refused(alloc, &mut bench, &advance, Refusal::NotSynchronizing)?;
-    let (_, mut shelf) = bench.close();
-    must_be_in_sync(&mut shelf)
-}
-
-#[test]
-fn a_component_is_filled_by_one_stretch(rt: HostRuntime) -> Result<(), Fail> {
-    is_filled(rt.alloc(), memory(rt.alloc())?, unlike(rt.alloc())?)
-}
-
-// ---- a stop within an advance
 
 // gm0 on both after two commands.
 fn before_advance(alloc: Global) -> Result<MemShelf, Fail> {
@@ -166,107 +141,4 @@ fn a_stop_within_an_advance_leaves_no_false_claim(rt: HostRuntime) -> Result<(),
         stop_at_each(rt.alloc(), number)?;
     }
     Ok(())
-}
-
-fn is_carried_out_later<S: Alter + Drop, H: Shelf + Drop>(
-    alloc: Global,
-    store: Connection<S>,
-    shelf: H,
-) -> Result<(), Fail> {
-    let mut bench = of_two(alloc, store, shelf)?;
-    let answer = accept(alloc, &mut bench, "k3", &advances("gm0", "b.img")?)?;
-    must(answer == Answer::Done(3, ALL_THREE), "not accepted")?;
-    let (store, mut shelf) = bench.close();
-    let kept = sector(&mut shelf, "b.img", 0)?;
-    must(kept == [101; 512], "copied before it was carried out")?;
-    let bench = open(alloc, store, shelf)?;
-    must(bench.redone() == 2, "another count")?;
-    let (_, mut shelf) = bench.close();
-    must_be_in_sync(&mut shelf)
-}
-
-#[test]
-fn an_opening_copies_what_is_pending(rt: HostRuntime) -> Result<(), Fail> {
-    is_carried_out_later(rt.alloc(), memory(rt.alloc())?, unlike(rt.alloc())?)
-}
-
-// ---- two stretches
-
-// 257 sectors of data, of which the last is of this byte but for its last one, and a last sector that carries nothing.
-fn long_image(alloc: Global, last: u8) -> Result<Vec<[u8; 512]>, Fail> {
-    let mut sectors = Vec::new(alloc);
-    for place in 0..=255 {
-        sectors.push([place; 512])?;
-    }
-    let mut data = [7; 512];
-    data[511] = last;
-    sectors.push(data)?;
-    sectors.push([0; 512])?;
-    Ok(sectors)
-}
-
-// a.img and b.img, which differ in the last byte of the last data sector alone.
-fn nearly_alike(alloc: Global) -> Result<MemShelf, Fail> {
-    let mut shelf = MemShelf::new(alloc);
-    add(&mut shelf, "a.img", long_image(alloc, 8)?)?;
-    add(&mut shelf, "b.img", long_image(alloc, 9)?)?;
-    Ok(shelf)
-}
-
-// What the last sector of b.img says with this offset (bytes).
-fn says_offset<H: Shelf>(shelf: &mut H, dflags: DiskFlags, sync_offset: u64) -> Result<(), Fail> {
-    let said = Metadata {
-        mediasize: 131_584,
-        provsize: 132_096,
-        sync_offset,
-        ..metadata(2, 2, dflags)?
-    };
-    let last = sector(shelf, "b.img", 257)?;
-    must(last == encode(&said), "another offset")
-}
-
-// One advance, and the shelf behind it.
-fn advanced<S: Alter + Drop, H: Shelf + Drop>(
-    alloc: Global,
-    store: Connection<S>,
-    shelf: H,
-    key: &str,
-    wanted: Answer,
-) -> Result<(Connection<S>, H), Fail> {
-    let mut bench = open(alloc, store, shelf)?;
-    let answer = run(alloc, &mut bench, key, &advances("gm0", "b.img")?)?;
-    must(answer == wanted, "another answer")?;
-    Ok(bench.close())
-}
-
-fn is_filled_by_two<S: Alter + Drop, H: Shelf + Drop>(
-    alloc: Global,
-    store: Connection<S>,
-    shelf: H,
-) -> Result<(), Fail> {
-    let mut bench = open(alloc, store, shelf)?;
-    run(alloc, &mut bench, "k1", &labels("gm0", "a.img", 7)?)?;
-    run(alloc, &mut bench, "k2", &inserts("gm0", "b.img", 2)?)?;
-    let (store, shelf) = bench.close();
-    let most = Reply::Copied {
-        held: 256,
-        total: 257,
-    };
-    let all = Reply::Copied {
-        held: 257,
-        total: 257,
-    };
-    let (store, mut shelf) = advanced(alloc, store, shelf, "k3", Answer::Done(3, most))?;
-    says_offset(&mut shelf, SYNCHRONIZING, 131_072)?;
-    let kept = sector(&mut shelf, "b.img", 256)?;
-    must(kept[511] == 9, "copied more than a stretch")?;
-    let (_, mut shelf) = advanced(alloc, store, shelf, "k4", Answer::Done(4, all))?;
-    says_offset(&mut shelf, IN_SYNC, 0)?;
-    let copied = sector(&mut shelf, "b.img", 256)?;
-    must(copied == sector(&mut shelf, "a.img", 256)?, "not copied")
-}
-
-#[test]
-fn a_component_is_filled_by_two_stretches(rt: HostRuntime) -> Result<(), Fail> {
-    is_filled_by_two(rt.alloc(), memory(rt.alloc())?, nearly_alike(rt.alloc())?)
 }

@@ -1,12 +1,8 @@
-//! What an audit lists once somebody else changed images, and what a shelf tells without a registry. Neither changes
-//! anything.
+//! An audit and a tasting whose shelf stops at each of their looks. Neither changes anything.
 
-use crate::support::{
-    IN_SYNC, SYNCHRONIZING, add, inserts, label, labels, memory, metadata, must, must_say, open,
-    run, sector, shelf, try_audit,
-};
+use crate::support::{add, inserts, label, labels, memory, must, open, run, shelf, try_audit};
 use gm_bench::{Bench, BenchFault, Phase, taste_shelf};
-use gm_metadata::{DecodeFault, Label, decode};
+use gm_metadata::DecodeFault;
 use gm_shelf::{FaultShelf, MemShelf, Shelf};
 use gm_taste::{MemberState, Reason, Tasted};
 use sqlite::{Alter, Connection};
@@ -50,82 +46,6 @@ fn lists<S: Alter + Drop, H: Shelf + Drop>(
     let mut bench = open(alloc, store, shelf)?;
     must_list(alloc, &mut bench, expected)?;
     Ok(bench.close())
-}
-
-// Flips one bit of the last sector of an image of four sectors.
-fn flip<H: Shelf>(shelf: &mut H, name: &str, at: usize) -> Result<(), Fail> {
-    let provider = label(name)?;
-    let mut last = sector(shelf, name, 3)?;
-    if at < 512 {
-        last[at] = last[at] ^ 1;
-    }
-    shelf.write(provider, 3, &last)?;
-    shelf.sync(provider)?;
-    Ok(())
-}
-
-// An image of the shelf, with so many sectors of zeros before its last one.
-fn longer<H: Shelf>(
-    alloc: Global,
-    shelf: &mut H,
-    name: &str,
-    more: u8,
-) -> Result<Vec<[u8; 512]>, Fail> {
-    let mut sectors = Vec::new(alloc);
-    for place in 0u64..3 {
-        sectors.push(sector(shelf, name, place)?)?;
-    }
-    for _ in 0..more {
-        sectors.push([0; 512])?;
-    }
-    sectors.push(sector(shelf, name, 3)?)?;
-    Ok(sectors)
-}
-
-#[test]
-fn a_flipped_bit_is_listed(rt: HostRuntime) -> Result<(), Fail> {
-    let alloc = rt.alloc();
-    let (store, shelf) = labelled(alloc, memory(alloc)?, shelf(alloc)?)?;
-    let (store, mut shelf) = lists(alloc, store, shelf, "")?;
-    flip(&mut shelf, "a.img", 200)?;
-    let a = metadata(1, 2, IN_SYNC)?;
-    let read = decode(&sector(&mut shelf, "a.img", 3)?);
-    must(read == Ok(a), "it isn't read as before")?;
-    let (store, mut shelf) = lists(alloc, store, shelf, "a.img ")?;
-    flip(&mut shelf, "a.img", 200)?;
-    flip(&mut shelf, "a.img", 100)?;
-    let read = decode(&sector(&mut shelf, "a.img", 3)?);
-    must(read == Err(DecodeFault::Hash), "it is read")?;
-    let (store, mut shelf) = lists(alloc, store, shelf, "a.img ")?;
-    flip(&mut shelf, "b.img", 511)?;
-    let (store, mut shelf) = lists(alloc, store, shelf, "a.img b.img ")?;
-    // What was listed is as it was: nothing was mended.
-    flip(&mut shelf, "a.img", 100)?;
-    flip(&mut shelf, "b.img", 511)?;
-    must_say(&mut shelf, "a.img", Some(a))?;
-    must_say(&mut shelf, "b.img", Some(metadata(2, 2, SYNCHRONIZING)?))?;
-    lists(alloc, store, shelf, "")?;
-    Ok(())
-}
-
-#[test]
-fn an_absent_image_is_listed_and_one_of_another_size(rt: HostRuntime) -> Result<(), Fail> {
-    let alloc = rt.alloc();
-    let (store, mut shelf) = labelled(alloc, memory(alloc)?, shelf(alloc)?)?;
-    let mut without = MemShelf::new(alloc);
-    add(
-        &mut without,
-        "a.img",
-        longer(alloc, &mut shelf, "a.img", 0)?,
-    )?;
-    let (store, _) = lists(alloc, store, without, "b.img ")?;
-    let mut larger = MemShelf::new(alloc);
-    add(&mut larger, "a.img", longer(alloc, &mut shelf, "a.img", 1)?)?;
-    add(&mut larger, "b.img", longer(alloc, &mut shelf, "b.img", 0)?)?;
-    let (store, _) = lists(alloc, store, larger, "a.img ")?;
-    let (store, _) = lists(alloc, store, MemShelf::new(alloc), "a.img b.img ")?;
-    lists(alloc, store, shelf, "")?;
-    Ok(())
 }
 
 // An audit whose nth look at a sector fails; whether that came.

@@ -1,13 +1,13 @@
 //! A script of all commands that stops at each of its calls in turn, and what an opening then finds, against a model
 //! that is written down.
 
-use gm_bench::{Answer, Bench, BenchFault, Phase};
-use gm_bench_tests::support::{
+use crate::support::{
     FORCED, IN_SYNC, INACTIVE, NO_FLAGS, SPLIT, SYNCHRONIZING, activates, advances, clears,
     configures, deactivates, destroys, forgets, inserts, label, labels, loses, memory, metadata,
     must, must_be, must_keep_data, open, rebuilds, removes, run, shelf, try_accept, try_apply,
     try_last, try_settle, try_view,
 };
+use gm_bench::{Answer, Bench, BenchFault, Phase};
 use gm_metadata::{Balance, DiskFlags, Metadata};
 use gm_rules::{CallRefusal, Refusal};
 use gm_shelf::{FaultShelf, Shelf};

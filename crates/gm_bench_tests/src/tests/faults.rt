@@ -2,11 +2,11 @@
 //! later one does nothing, and both media stay.
 
 use super::stops::{Played, check, play};
-use gm_bench::{Bench, BenchFault, Phase};
-use gm_bench_tests::support::{
+use crate::support::{
     label, labels, memory, must, open, sector, shelf, try_accept, try_apply, try_audit, try_last,
     try_open, try_run, try_settle, try_view,
 };
+use gm_bench::{Bench, BenchFault, Phase};
 use gm_shelf::{FaultShelf, MemShelf, Shelf};
 use sqlite::{Alter, Connection};
 use std::alloc::Global;

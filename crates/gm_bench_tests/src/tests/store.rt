@@ -3,8 +3,8 @@
 
 use super::faults::must_be_closed;
 use super::stops::{Played, must_go_on, play};
+use crate::support::{must, must_keep_data, shelf, try_open};
 use gm_bench::{Bench, BenchFault};
-use gm_bench_tests::support::{must, must_keep_data, shelf, try_open};
 use gm_shelf::{MemShelf, Shelf};
 use sqlite::{Alter, Connection, Files, Options};
 use sqlite_disk::{Crash, Disk, Fuse, Memory};
