@@ -163,20 +163,6 @@ fn settle<S: Alter>(registry: &mut Registry<S>) -> Result<(), StoreFault> {
     registry.settle()
 }
 
-fn is_kept<S: Alter>(
-    registry: &mut Registry<S>,
-    key: &str,
-    number: u64,
-    words: &str,
-) -> Result<bool, StoreFault> {
-    match registry.reply_of(key)? {
-        None => Ok(false),
-        Some((at, text, reply)) => {
-            Ok(at == number && text.as_str() == words && reply == Reply::Plain)
-        }
-    }
-}
-
 fn is_free<S: Alter>(registry: &mut Registry<S>, key: &str) -> Result<bool, StoreFault> {
     Ok(registry.reply_of(key)?.is_none())
 }
@@ -234,25 +220,6 @@ fn an_empty_store_is_a_registry_without_records(rt: HostRuntime) -> Result<(), F
     is_empty_at_first(memory(rt.alloc())?)
 }
 
-fn are_kept<S: Alter + Drop>(alloc: Global, store: Connection<S>) -> Result<(), Fail> {
-    let mut registry = filled(alloc, store)?;
-    must(accepted(&mut registry)? == 2, "another count")?;
-    must(
-        is_kept(&mut registry, "k1", 1, "label gm0 a.img")?,
-        "not the first",
-    )?;
-    must(
-        is_kept(&mut registry, "k2", 2, "insert gm0 b.img")?,
-        "not the second",
-    )?;
-    must(is_free(&mut registry, "k3")?, "a third")
-}
-
-#[test]
-fn accepted_commands_are_numbered_and_kept(rt: HostRuntime) -> Result<(), Fail> {
-    are_kept(rt.alloc(), memory(rt.alloc())?)
-}
-
 fn hold_bytes<S: Alter + Drop>(alloc: Global, store: Connection<S>) -> Result<(), Fail> {
     let mut store = filled(alloc, store)?.close();
     must_count(
@@ -280,94 +247,6 @@ fn hold_bytes<S: Alter + Drop>(alloc: Global, store: Connection<S>) -> Result<()
 #[test]
 fn rows_hold_bytes_codes_and_flags(rt: HostRuntime) -> Result<(), Fail> {
     hold_bytes(rt.alloc(), memory(rt.alloc())?)
-}
-
-fn are_settled<S: Alter + Drop>(alloc: Global, store: Connection<S>) -> Result<(), Fail> {
-    let mut store = filled(alloc, store)?.close();
-    must_count(
-        &mut store,
-        2,
-        "SELECT count(*) FROM intents WHERE kind = 1 AND source = '' AND first_sector = 0 AND end_sector = 0",
-    )?;
-    must_count(
-        &mut store,
-        1,
-        "SELECT ord FROM intents WHERE prov = 'a.img'",
-    )?;
-    must_count(
-        &mut store,
-        2,
-        "SELECT ord FROM intents WHERE prov = 'b.img'",
-    )?;
-    let mut registry = open(store)?;
-    settle(&mut registry)?;
-    must(accepted(&mut registry)? == 2, "another count")?;
-    must_count(&mut registry.close(), 0, "SELECT count(*) FROM intents")
-}
-
-#[test]
-fn intents_are_numbered_and_settled(rt: HostRuntime) -> Result<(), Fail> {
-    are_settled(rt.alloc(), memory(rt.alloc())?)
-}
-
-fn writes_what_it_names<S: Alter + Drop>(alloc: Global, store: Connection<S>) -> Result<(), Fail> {
-    let mut registry = open(store)?;
-    accept(&mut registry, &labels(alloc)?, "k1", "label gm0 a.img")?;
-    settle(&mut registry)?;
-    let mut store = registry.close();
-    run(
-        &mut store,
-        "INSERT INTO mirrors VALUES ('gm9', 9, 1, 0, 1, 4096, 2, 1536, 0)",
-    )?;
-    run(
-        &mut store,
-        "INSERT INTO components VALUES ('z.img', 'gm9', 1, 1, 77, 0, 0, 0, 2048)",
-    )?;
-    let mut registry = open(store)?;
-    accept(&mut registry, &inserts(alloc)?, "k2", "insert gm0 b.img")?;
-    let mut store = registry.close();
-    must_count(
-        &mut store,
-        77,
-        "SELECT priority FROM components WHERE prov = 'z.img'",
-    )?;
-    must_count(&mut store, 3, "SELECT count(*) FROM components")
-}
-
-#[test]
-fn a_change_writes_only_what_it_names(rt: HostRuntime) -> Result<(), Fail> {
-    writes_what_it_names(rt.alloc(), memory(rt.alloc())?)
-}
-
-fn leaves_no_row<S: Alter + Drop>(alloc: Global, store: Connection<S>) -> Result<(), Fail> {
-    let mut registry = filled(alloc, store)?;
-    settle(&mut registry)?;
-    accept(&mut registry, &destroys(alloc)?, "k3", "destroy gm0")?;
-    let mut store = registry.close();
-    must_count(&mut store, 0, "SELECT count(*) FROM mirrors")?;
-    must_count(&mut store, 0, "SELECT count(*) FROM components")?;
-    must_count(&mut store, 2, "SELECT count(*) FROM intents WHERE kind = 2")
-}
-
-#[test]
-fn a_destroyed_mirror_leaves_no_row(rt: HostRuntime) -> Result<(), Fail> {
-    leaves_no_row(rt.alloc(), memory(rt.alloc())?)
-}
-
-fn leaves_no_trace<S: Alter + Drop>(alloc: Global, store: Connection<S>) -> Result<(), Fail> {
-    let mut registry = filled(alloc, store)?;
-    // The key is taken, which the last of its statements finds.
-    settle(&mut registry)?;
-    let refused = accept(&mut registry, &destroys(alloc)?, "k2", "destroy gm0");
-    must(refused == Err(StoreFault::Store), "another answer")?;
-    let mut store = registry.close();
-    must_count(&mut store, 2, "SELECT count(*) FROM components")?;
-    must_count(&mut store, 0, "SELECT count(*) FROM intents")
-}
-
-#[test]
-fn a_refused_change_leaves_no_trace(rt: HostRuntime) -> Result<(), Fail> {
-    leaves_no_trace(rt.alloc(), memory(rt.alloc())?)
 }
 
 fn fault_of_opening<S: Alter + Drop>(store: Connection<S>) -> Result<StoreFault, Fail> {
@@ -411,14 +290,6 @@ fn other_stores_are_unreadable(rt: HostRuntime) -> Result<(), Fail> {
     for sql in ["CREATE TABLE note(a INTEGER) STRICT", MIRRORS] {
         is_unread_over(memory(rt.alloc())?, sql)?;
     }
-    Ok(())
-}
-
-#[test]
-fn faults_are_numbered(rt: HostRuntime) -> Result<(), Fail> {
-    assert_eq!(rt; StoreFault::Memory.number(), 1);
-    assert_eq!(rt; StoreFault::Store.number(), 2);
-    assert_eq!(rt; StoreFault::Unreadable.number(), 3);
     Ok(())
 }
 

@@ -1,10 +1,9 @@
 //! Tables that say a state, and tables that say none.
 
-use super::{NO_FLAGS, accept, bare, change, label, memory, must, open, settle};
+use super::{NO_FLAGS, label, memory, must, open};
 use gm_metadata::{Balance, MirrorFlags};
 use gm_registry::{Registry, StoreFault};
-use gm_rules::Fact;
-use gm_state::{BalanceWord, Command, Component, Disk, Intent, Mirror, Slice, State};
+use gm_state::{Component, Disk, Intent, Mirror, State};
 use sqlite::{Alter, Connection};
 use std::alloc::Global;
 use std::test::Fail;
@@ -170,105 +169,4 @@ fn edited_rows_say_none(rt: HostRuntime) -> Result<(), Fail> {
         say_none(rt.alloc(), memory(rt.alloc())?, edit)?;
     }
     Ok(())
-}
-
-// Seven images without metadata.
-fn images() -> Result<[Fact; 7], Fail> {
-    Ok([
-        bare("a.img")?,
-        bare("b.img")?,
-        bare("c.img")?,
-        bare("d.img")?,
-        bare("e.img")?,
-        bare("f.img")?,
-        bare("g.img")?,
-    ])
-}
-
-fn new_mirror(name: &str, provider: &str, mid: u32) -> Result<Command, Fail> {
-    Ok(Command::Label {
-        name: label(name)?,
-        provider: label(provider)?,
-        mid,
-        did: 1,
-        balance: BalanceWord::Split,
-        slice: Slice::new(4294967295).ok_or("no slice")?,
-        flags: NO_FLAGS,
-        hardcoded: true,
-    })
-}
-
-fn new_component(name: &str, provider: &str, did: u32) -> Result<Command, Fail> {
-    Ok(Command::Insert {
-        name: label(name)?,
-        provider: label(provider)?,
-        did,
-        priority: 200,
-        hardcoded: false,
-    })
-}
-
-// What the command does to the state that is loaded, accepted and settled.
-fn step<S: Alter>(
-    alloc: Global,
-    registry: &mut Registry<S>,
-    key: &str,
-    command: &Command,
-) -> Result<(), Fail> {
-    let (state, _) = load(alloc, registry)?;
-    let change = change(alloc, &state, &images()?, command)?;
-    accept(registry, &change, key, key)?;
-    settle(registry)?;
-    Ok(())
-}
-
-fn three_mirrors<S: Alter>(alloc: Global, registry: &mut Registry<S>) -> Result<(), Fail> {
-    step(alloc, registry, "k1", &new_mirror("gm2", "e.img", 9)?)?;
-    step(alloc, registry, "k2", &new_mirror("gm0", "a.img", 7)?)?;
-    step(alloc, registry, "k3", &new_mirror("gm1", "d.img", 8)?)
-}
-
-fn four_more<S: Alter>(alloc: Global, registry: &mut Registry<S>) -> Result<(), Fail> {
-    step(alloc, registry, "k4", &new_component("gm0", "c.img", 3)?)?;
-    step(alloc, registry, "k5", &new_component("gm2", "g.img", 2)?)?;
-    step(alloc, registry, "k6", &new_component("gm0", "b.img", 2)?)?;
-    step(
-        alloc,
-        registry,
-        "k7",
-        &new_component("gm2", "f.img", 4294967295)?,
-    )
-}
-
-fn is_loaded<S: Alter + Drop>(alloc: Global, store: Connection<S>) -> Result<(), Fail> {
-    let mut registry = open(store)?;
-    three_mirrors(alloc, &mut registry)?;
-    four_more(alloc, &mut registry)?;
-    let (state, pending) = load(alloc, &mut open(registry.close())?)?;
-    must(state.components().len() == 7, "components")?;
-    must(state.mirrors().len() == 3, "mirrors")?;
-    must(pending.is_empty(), "intents")?;
-    must(state.component(label("f.img")?) == Some(f_img()?), "f.img")
-}
-
-#[test]
-fn what_is_accepted_is_loaded(rt: HostRuntime) -> Result<(), Fail> {
-    is_loaded(rt.alloc(), memory(rt.alloc())?)
-}
-
-// f.img as the last command made it.
-fn f_img() -> Result<Component, Fail> {
-    Ok(Component {
-        provider: label("f.img")?,
-        mirror: label("gm2")?,
-        did: 4294967295,
-        syncid: 1,
-        priority: 200,
-        disk: Disk::Copying {
-            forced: false,
-            held: 0,
-        },
-        hardcoded: false,
-        sectors: 4,
-    })
 }

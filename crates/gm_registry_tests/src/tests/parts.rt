@@ -1,6 +1,6 @@
-//! The part of the records that a command asks for, as the store holds it when it is asked.
+//! The part of the records that a command asks for is read by keys.
 
-use super::{accept, inserts, label, labels, memory, must, must_count, open, run, settle};
+use super::{accept, label, labels, memory, must, must_count, open, settle};
 use gm_registry::{Part, Registry, StoreFault};
 use gm_state::Command;
 use sqlite::{Alter, Connection};
@@ -31,10 +31,6 @@ fn part<S: Alter>(
     registry.part(alloc, command, mids)
 }
 
-fn destroys(name: &str) -> Result<Command, Fail> {
-    Ok(Command::Destroy { name: label(name)? })
-}
-
 fn clears(provider: &str) -> Result<Command, Fail> {
     Ok(Command::Clear {
         provider: label(provider)?,
@@ -46,86 +42,6 @@ fn has(part: &Part, mirrors: usize, components: usize, of: u64) -> bool {
     part.state.mirrors().len() == mirrors
         && part.state.components().len() == components
         && part.mirrors == of
-}
-
-fn has_mirror(part: &Part, name: &str) -> Result<bool, Fail> {
-    Ok(part.state.mirror(label(name)?).is_some())
-}
-
-fn has_priority(part: &Part, provider: &str, priority: u8) -> Result<bool, Fail> {
-    match part.state.component(label(provider)?) {
-        Some(component) => Ok(component.priority == priority),
-        None => Ok(false),
-    }
-}
-
-fn shows_what_is_stored<S: Alter + Drop>(alloc: Global, store: Connection<S>) -> Result<(), Fail> {
-    let mut registry = two_mirrors(alloc, store)?;
-    let before = part(alloc, &mut registry, &destroys("gm9")?, &[])?;
-    must(has(&before, 1, 1, 2), "another part")?;
-    must(has_mirror(&before, "gm9")?, "another mirror")?;
-    must(has_priority(&before, "z.img", 77)?, "another priority")?;
-    accept(&mut registry, &inserts(alloc)?, "k2", "insert gm0 b.img")?;
-    let after = part(alloc, &mut registry, &destroys("gm9")?, &[])?;
-    must(has_priority(&after, "z.img", 77)?, "a changed priority")?;
-    let mut store = registry.close();
-    must_count(
-        &mut store,
-        77,
-        "SELECT priority FROM components WHERE prov = 'z.img'",
-    )
-}
-
-#[test]
-fn a_part_shows_what_is_stored(rt: HostRuntime) -> Result<(), Fail> {
-    shows_what_is_stored(rt.alloc(), memory(rt.alloc())?)
-}
-
-fn has_what_is_asked<S: Alter + Drop>(alloc: Global, store: Connection<S>) -> Result<(), Fail> {
-    let mut registry = two_mirrors(alloc, store)?;
-    // The provider is a component of the other mirror.
-    let taken = Command::Remove {
-        name: label("gm0")?,
-        provider: label("z.img")?,
-    };
-    let both = part(alloc, &mut registry, &taken, &[])?;
-    must(has(&both, 2, 2, 2), "not the owner of a provider")?;
-    let further = part(alloc, &mut registry, &destroys("gm0")?, &[9])?;
-    must(has(&further, 2, 2, 2), "not the mirror of a mid")?;
-    let owner = part(alloc, &mut registry, &clears("z.img")?, &[])?;
-    must(
-        has(&owner, 1, 1, 2) && has_mirror(&owner, "gm9")?,
-        "not the owner alone",
-    )?;
-    let none = part(alloc, &mut registry, &clears("x.img")?, &[])?;
-    must(has(&none, 0, 0, 2), "something that isn't asked for")
-}
-
-#[test]
-fn a_part_has_what_is_asked_for(rt: HostRuntime) -> Result<(), Fail> {
-    has_what_is_asked(rt.alloc(), memory(rt.alloc())?)
-}
-
-// A row that says no component is met only where its mirror is asked for.
-fn meets_its_own_rows<S: Alter + Drop>(alloc: Global, store: Connection<S>) -> Result<(), Fail> {
-    let mut store = two_mirrors(alloc, store)?.close();
-    run(
-        &mut store,
-        "UPDATE components SET hard = 2 WHERE prov = 'z.img'",
-    )?;
-    let mut registry = open(store)?;
-    let first = part(alloc, &mut registry, &destroys("gm0")?, &[])?;
-    must(has(&first, 1, 1, 2), "another part")?;
-    let second = part(alloc, &mut registry, &destroys("gm9")?, &[]);
-    must(
-        second.map(|_| ()) == Err(StoreFault::Unreadable),
-        "another answer",
-    )
-}
-
-#[test]
-fn a_part_meets_its_own_rows(rt: HostRuntime) -> Result<(), Fail> {
-    meets_its_own_rows(rt.alloc(), memory(rt.alloc())?)
 }
 
 // Adds mirrors of four components each.
