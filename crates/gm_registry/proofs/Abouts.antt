@@ -33,7 +33,7 @@ both : (x y : Bool) → x && y ≡ true → (x ≡ true) × (y ≡ true)
 both true y e = (refl, e)
 both false y e = absurd (let f : false ≡ true = e in cc)
 
-only_null : (v : Value) → is_null v ≡ true → v ≡ Null
+pub only_null : (v : Value) → is_null v ≡ true → v ≡ Null
 only_null Null e = refl
 only_null (Int n) e = absurd (let f : false ≡ true = e in cc)
 only_null (Real x) e = absurd (let f : false ≡ true = e in cc)

@@ -31,3 +31,6 @@ pub mod RecordsUnder
 pub mod SomeReads
 pub mod Labels
 pub mod PartOf
+pub mod Whole
+pub mod Stored
+pub mod Held

@@ -29,11 +29,11 @@ use Rattle.gm_registry.proofs.Ordering.{one_order}
 use Rattle.gm_registry.proofs.Counted.{count_from, counted_up, in_their_order, commands_from, numbers_shown, any_command}
 
 -- the text and the number of a value
-abbrev text_in : Value → List ℕ
+abbrev pub text_in : Value → List ℕ
 text_in (Text t) = t
 text_in _ = []
 
-abbrev number_in : Value → ℕ
+abbrev pub number_in : Value → ℕ
 number_in (Int (pos n)) = n
 number_in _ = 0
 
@@ -51,7 +51,7 @@ pub again_shown : {A : Type 0} (again : Row → Row) (shown : A → Row) → ((x
 again_shown again shown same records rows are =
     subst (λ l. IsPermutation l (map again rows)) (map-map again shown records ∙ (λ i. map (λ x. same x i) records)) (IsPermutation-map again _ _ are)
 
-nine_picked : (row : Row) → columns_at nine (columns row) ≡ columns_at (shown_places Mirrors) row
+pub nine_picked : (row : Row) → columns_at nine (columns row) ≡ columns_at (shown_places Mirrors) row
 nine_picked [] = refl
 nine_picked (x ∷ row) = refl
 

@@ -1,5 +1,5 @@
 -- What is said of a registry, and of a store before it is opened and after it is closed.
-use Rattle.std.specs.Prelude.{◌≡◌, ◌≤◌, ◌⊎◌, IsTrue, IsSome, Result, OnOk, OnErr}
+use Rattle.std.specs.Prelude.{◌≡◌, ◌≤◌, ◌⊎◌, List, IsTrue, IsSome, Result, OnOk, OnErr}
 use Rattle.sqlite_disk.specs.Disk.{MoreFaults}
 use Rattle.sqlite_trees.specs.declared.store.Store.{Ghosts}
 use Rattle.sqlite_trees.specs.View.{doubt}
@@ -9,8 +9,11 @@ use Rattle.sqlite.specs.Held.{Held, state}
 use Rattle.sqlite.specs.State.{HasCleanDisk, Survives}
 use Rattle.sqlite.specs.State as sql
 use Rattle.sqlite_rows.specs.Reads as rows
+use Rattle.gm_state.specs.declared.command.Intent.{Intent}
+use Rattle.gm_state.specs.Records.{Records}
 use Rattle.gm_state.specs.Rows.{Tables}
 use Rattle.gm_registry.specs.Tables.{Holds, SeesTables, SeesRegistry, IsInside}
+use Rattle.gm_registry.specs.Reading.{AreTablesOf}
 use Rattle.gm_registry.specs.Reads as reads
 
 module _ {S : Type 0} (g : Ghosts S) where
@@ -36,6 +39,12 @@ module _ {S : Type 0} (g : Ghosts S) where
   -- it is open, outside a transaction, over a registry with these tables
   abbrev pub HasTables : Held S → Tables → Type 0
   HasTables r t = SeesTables (state g r) t
+
+  -- it has tables, and they are those of the state with these intents pending
+  pub record HasTablesOf (r : Held S) (s : Records) (ts : List Intent) : Type 0 where
+    pub tables : Tables
+    pub has : HasTables r tables
+    pub are : AreTablesOf tables s ts
 
   -- it is open, outside a transaction, over the tables of a registry, whatever they hold
   abbrev pub IsRegistry : Held S → Type 0

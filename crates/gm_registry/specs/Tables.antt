@@ -5,6 +5,8 @@ use Rattle.sqlite.specs.Tree.{Trees}
 use Rattle.sqlite.specs.Effect.{Database}
 use Rattle.sqlite.specs.State.{State}
 use Rattle.sqlite_catalog.specs.Listing.{IsSound}
+use Rattle.sqlite_trees.specs.View.{IsShaped}
+use Rattle.sqlite_trees.specs.declared.store.Shape.TheVariants as shape
 use Rattle.sqlite_rows.specs.Keeps.{Keeps, columns, whole}
 use Rattle.sqlite_rows.specs.Calls.{Holds as HoldsBy, HasRecords, IsInside as IsInsideBy}
 use Rattle.gm_state.specs.Rows.{Tables, CommandRow}
@@ -60,3 +62,10 @@ pub record SeesRegistry (s : State) : Type 0 where
   pub settled : s.now ≡ s.committed
   pub sound : IsSound registry_schema s.committed.trees
   pub about : s.committed.trees 0 ≡ about_values ∷ []
+
+-- in each of the four tables, whatever they hold, the rowids are integers, and rise
+pub record HasRisingRowids (db : Trees) : Type 0 where
+  pub mirrors : IsShaped shape.Table (db 1)
+  pub components : IsShaped shape.Table (db 4)
+  pub intents : IsShaped shape.Table (db 7)
+  pub commands : IsShaped shape.Table (db 8)

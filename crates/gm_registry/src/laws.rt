@@ -8,7 +8,9 @@ ghost use Rattle.gm_state.specs.Rows.{Tables, intent_rows};
 ghost use Rattle.gm_rules.specs.Decides.{Changed, changed_by};
 ghost use Rattle.gm_registry.specs.Changes.{command_row, with_accepted};
 ghost use Rattle.gm_registry.specs.Reading.{AreTablesOf, HoldState};
-ghost use Rattle.gm_registry.specs.Registry.{HasTables, HasSaved};
+ghost use Rattle.gm_registry.specs.Registry.{HasTables, HasTablesOf, HasSaved, IsRegistry, seen};
+ghost use Rattle.gm_registry.specs.Says.{TablesSay};
+ghost use Rattle.gm_registry.specs.Tables.{HasRisingRowids};
 
 use gm_state::one_row;
 use sqlite::Alter;
@@ -36,4 +38,13 @@ pub fn change_holds()
 /// A registry that has tables has them saved: a crash between two calls leaves them and nothing else.
 pub fn tables_are_saved<S: Alter>()
     ensures { (r : Held S) (t : Tables) → HasTables S.Store r t → HasSaved S.Store r t }
+{}
+
+/// A registry that was only read, as `load` reads it, has tables: those of the state and the intents that `load` tells.
+/// That the rowids rise in each table is asked for: a read tells none but those of `intents`, and `sqlite` keeps its
+/// tables so, but no clause of a connection says it. A registry that has tables has rowids that rise.
+pub fn what_is_read_is_held<S: Alter>()
+    ensures { (r : Held S) (s : Records) (ts : List Intent) → IsRegistry S.Store r
+        → HasRisingRowids (seen S.Store r) → TablesSay (seen S.Store r) s ts
+        → HasTablesOf S.Store r s ts }
 {}

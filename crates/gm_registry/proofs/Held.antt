@@ -1,0 +1,158 @@
+-- A registry that was read as a state has tables of it.
+use Rattle.std.proofs.Common.{◌≡◌, ◌∙◌, inl, inr, ℕ, pos, ◌≤◌, true, List, [], ◌∷◌, map, length, refl, sym, ap, subst, subst₂}
+use Rattle.std.specs.List.Sorted.{IsPermutation}
+use Rattle.std.proofs.lemmas.Bool.{and_parts}
+use Rattle.std.proofs.lemmas.List.{length-map}
+use Rattle.std.proofs.lemmas.List.Sorted.{IsPermutation-refl, IsPermutation-map, IsPermutation-sym}
+use Rattle.sqlite.specs.Order.{Row, column}
+use Rattle.sqlite.specs.Effect.{Database}
+use Rattle.sqlite.specs.Held.{Held}
+use Rattle.sqlite.specs.Tree.{Trees}
+use Rattle.sqlite.specs.declared.types.Value.TheVariants.{Int, Text}
+use Rattle.sqlite_catalog.specs.Listing.{IsSound}
+use Rattle.sqlite_rows.proofs.Keyed.{mapped_from, has_mapped}
+use Rattle.sqlite_rows.specs.Keeps.{Keeps, columns, whole}
+use Rattle.sqlite_rules.specs.Lists.{Has as Stands}
+use Rattle.sqlite_schema.specs.Rules.{are_typed}
+use Rattle.sqlite_trees.proofs.ListLemmas.{map-map}
+use Rattle.sqlite_trees.specs.declared.store.Store.{Ghosts}
+use Rattle.sqlite_value.specs.declared.value.Value.{Value}
+use Rattle.gm_state.specs.Records.{Records}
+use Rattle.gm_state.specs.Rows.{Tables, CommandRow, mirror_row, component_row, intent_rows}
+use Rattle.gm_state.specs.Words.{Has}
+use Rattle.gm_state.specs.declared.command.Intent.{Intent}
+use Rattle.gm_registry.specs.Queries.{shown_places}
+use Rattle.gm_registry.specs.Reading.{AreTablesOf, IsInRange}
+use Rattle.gm_registry.specs.Registry as of
+use Rattle.gm_registry.specs.Rows.{about_values, mirror_values, component_values, intent_values, command_values}
+use Rattle.gm_registry.specs.Says.{mirror_shown, component_shown, number_value, TablesSay}
+use Rattle.gm_registry.specs.Schema.{registry_schema, mirrors, components, intents, commands}
+use Rattle.gm_registry.specs.Tables.{HasRows, AreNumbered, HasRisingRowids, numbers_of}
+use Rattle.gm_registry.specs.Values.{columns_at, shown_intent}
+use Rattle.gm_registry.specs.declared.fetching.Table.TheVariants.{Mirrors, Components, Intents}
+use Rattle.gm_registry.proofs.Counted.{count_from}
+use Rattle.gm_registry.proofs.Listed.{has_from, stands_from, stands_permuted}
+use Rattle.gm_registry.proofs.Telling.{text_in, number_in, rows_numbered}
+use Rattle.gm_registry.proofs.Whole.{its_columns}
+use Rattle.gm_registry.proofs.Stored.{with_null, intent_whole, command_in, text_is, number_is, at_most, five_picked, typed, present, whole_row, nine_whole}
+
+map_agree : {A B : Type 0} (f g : A → B) (xs : List A) → ((x : A) → Stands xs x → f x ≡ g x) → map f xs ≡ map g xs
+map_agree f g [] same = refl
+map_agree f g (x ∷ xs) same = ap (λ y. y ∷ map f xs) (same x (inl refl)) ∙ ap (λ ys. g x ∷ ys) (map_agree f g xs (λ y later. same y (inr later)))
+
+-- records are kept by rows that show them, where what is shown of a row tells the row
+kept_as : {A : Type 0} (part stored back : Row → Row) (values shown : A → Row) → ((x : A) → back (shown x) ≡ values x) → (records : List A) (rows : List Row)
+    → ((row : Row) → Stands rows row → back (stored row) ≡ part row) → IsPermutation (map shown records) (map stored rows) → IsPermutation (map values records) (map part rows)
+kept_as part stored back values shown same records rows told are =
+    let mine : map back (map shown records) ≡ map values records = map-map back shown records ∙ (λ i. map (λ x. same x i) records) in
+    let theirs : map back (map stored rows) ≡ map part rows = map-map back stored rows ∙ map_agree (λ row. back (stored row)) part rows told in
+    subst₂ IsPermutation mine theirs (IsPermutation-map back _ _ are)
+
+-- what a registry says that was read as a state
+module _ (db : Trees) (sound : IsSound registry_schema db) (s : Records) (ts : List Intent) (about : db 0 ≡ about_values ∷ [])
+    (rising : HasRisingRowids db) (says : TablesSay db s ts) where
+  mirrors_kept : Keeps columns mirror_values (map mirror_row s.mirrors) (db 1)
+  mirrors_kept = record {
+    same = subst (λ l. IsPermutation l (map columns (db 1))) (sym (map-map mirror_values mirror_row s.mirrors))
+        (kept_as columns (columns_at (shown_places Mirrors)) (λ row. row) mirror_shown mirror_shown (λ m. refl) s.mirrors (db 1)
+        (nine_whole db sound mirrors (inr (inl refl)) (λ k low. refl) refl refl) says.mirrors);
+    keyed = rising.mirrors;
+  }
+
+  components_kept : Keeps columns component_values (map component_row s.components) (db 4)
+  components_kept = record {
+    same = subst (λ l. IsPermutation l (map columns (db 4))) (sym (map-map component_values component_row s.components))
+        (kept_as columns (columns_at (shown_places Components)) (λ row. row) component_shown component_shown (λ m. refl) s.components (db 4)
+        (nine_whole db sound components (inr (inr (inl refl))) (λ k low. refl) refl refl) says.components);
+    keyed = rising.components;
+  }
+
+  intents_kept : Keeps whole intent_values (intent_rows 1 ts) (db 7)
+  intents_kept = record {
+    same = kept_as whole (columns_at (shown_places Intents)) with_null intent_values shown_intent (λ i. refl) (intent_rows 1 ts) (db 7)
+        (λ row there. intent_whole row (typed db sound intents (inr (inr (inr (inl refl)))) row there) (present db sound intents (inr (inr (inr (inl refl)))) row there))
+        (subst (λ l. IsPermutation l (map (columns_at (shown_places Intents)) (db 7))) (sym (rows_numbered 1 ts)) says.intents);
+    keyed = rising.intents;
+  }
+
+  -- the command's number is one
+  has_number : (row : Row) → Stands (db 8) row → column row 2 ≡ Int (pos (number_in (column row 2)))
+  has_number row there =
+      let number : Row → Value = λ r. column r 2 in
+      let back = stands_permuted (map number (db 8)) (map number_value (numbers_of (length (db 8)))) (column row 2) (IsPermutation-sym _ _ says.numbers) (has_mapped number (db 8) row there) in
+      let from = mapped_from number_value (numbers_of (length (db 8))) (column row 2) back in
+      number_is (column row 2) from.0 from.2
+
+  command_whole : (row : Row) → Stands (db 8) row → command_values (command_in row) ≡ columns row
+  command_whole row there =
+      let listed : Stands registry_schema.tables commands = inr (inr (inr (inr (inl refl)))) in
+      let many = whole_row db sound commands listed (λ k low. refl) refl row there in
+      let is : columns_at (count_from 1 5) row ≡ columns row = sym (five_picked row) ∙ its_columns 5 (columns row) many in
+      let suits : are_typed commands.key 0 commands.columns (columns_at (count_from 1 5) row) ≡ true = ap (are_typed commands.key 0 commands.columns) is ∙ typed db sound commands listed row there in
+      let full = present db sound commands listed row there in
+      let key : column row 1 ≡ Text (text_in (column row 1)) = text_is (column row 1) (and_parts _ _ suits).0 (and_parts _ _ full).0 in
+      let words : column row 3 ≡ Text (text_in (column row 3)) = text_is (column row 3) (and_parts _ _ (and_parts _ _ (and_parts _ _ suits).1).1).0 (and_parts _ _ (and_parts _ _ (and_parts _ _ full).1).1).0 in
+      let seq = has_number row there in
+      let limits = says.replies row (has_from (db 8) row there) in
+      let copied = number_is (column row 4) limits.0.0 limits.0.1 in
+      let total = number_is (column row 5) limits.1.0 limits.1.1 in
+      (λ i. sym key i ∷ sym seq i ∷ sym words i ∷ sym copied i ∷ sym total i ∷ []) ∙ is
+
+  commands_kept : Keeps columns command_values (map command_in (db 8)) (db 8)
+  commands_kept = record {
+    same = subst (IsPermutation (map command_values (map command_in (db 8)))) (map-map command_values command_in (db 8) ∙ map_agree (λ row. command_values (command_in row)) columns (db 8) command_whole) (IsPermutation-refl _);
+    keyed = rising.commands;
+  }
+
+  numbers_said : (ns : List ℕ) → map number_in (map number_value ns) ≡ ns
+  numbers_said [] = refl
+  numbers_said (n ∷ ns) = ap (λ more. n ∷ more) (numbers_said ns)
+
+  numbered : AreNumbered (map command_in (db 8))
+  numbered =
+      let number : Row → Value = λ row. column row 2 in
+      let seq : CommandRow → ℕ = λ c. c.seq in
+      let mine : map number_in (map number_value (numbers_of (length (db 8)))) ≡ numbers_of (length (map command_in (db 8))) = numbers_said _ ∙ ap numbers_of (sym (length-map (db 8) command_in)) in
+      let theirs : map number_in (map number (db 8)) ≡ map seq (map command_in (db 8)) = map-map number_in number (db 8) ∙ sym (map-map seq command_in (db 8)) in
+      subst₂ IsPermutation mine theirs (IsPermutation-map number_in _ _ says.numbers)
+
+  in_range : (c : CommandRow) → Has (map command_in (db 8)) c → IsInRange c
+  in_range c has =
+      let from = mapped_from command_in (db 8) c (stands_from _ c has) in
+      let limits = says.replies from.0 (has_from (db 8) from.0 from.1) in
+      subst IsInRange (sym from.2) (at_most 1048576 (column from.0 4) limits.0, at_most 1048576 (column from.0 5) limits.1)
+
+  abbrev tables : Tables
+  tables = record { mirrors = map mirror_row s.mirrors; components = map component_row s.components; intents = intent_rows 1 ts; commands = map command_in (db 8) }
+
+  rows : HasRows db tables
+  rows = record { about = about; mirrors = mirrors_kept; components = components_kept; intents = intents_kept; commands = commands_kept }
+
+  are_of : AreTablesOf tables s ts
+  are_of = record {
+    state = says.state;
+    mirrors = IsPermutation-refl _;
+    components = IsPermutation-refl _;
+    intents = IsPermutation-refl _;
+    readable = says.readable;
+    commands = in_range;
+    count = subst (λ n. n ≤ 100000) (sym (length-map (db 8) command_in)) says.count;
+  }
+
+pub read_held : {S : Type 0} (g : Ghosts S) (r : Held S) (s : Records) (ts : List Intent) → of.IsRegistry g r → HasRisingRowids (of.seen g r) → TablesSay (of.seen g r) s ts → of.HasTablesOf g r s ts
+read_held g r s ts is rising says =
+    let db = of.stored g r in
+    let same : of.seen g r ≡ db = ap (λ (d : Database). d.trees) is.settled in
+    let up : HasRisingRowids db = subst HasRisingRowids same rising in
+    let told : TablesSay db s ts = subst (λ d. TablesSay d s ts) same says in
+    record {
+      tables = tables db is.sound s ts is.about up told;
+      has = record {
+        is_open = is.is_open;
+        autocommit = is.autocommit;
+        schema_is = is.schema_is;
+        settled = is.settled;
+        tables = record { rows = record { rows = rows db is.sound s ts is.about up told; numbered = numbered db is.sound s ts is.about up told }; sound = is.sound };
+      };
+      are = are_of db is.sound s ts is.about up told;
+    }

@@ -1,0 +1,99 @@
+-- Rows that obey the tables of a registry are what is shown of them.
+use Rattle.std.proofs.Common.{◌≡◌, ◌∙◌, ℕ, suc, pos, ◌+◌, ◌≤◌, true, false, not, Some, [], ◌∷◌, drop, length, refl, sym, ap, arith}
+use Rattle.std.proofs.lemmas.Bool.{and_parts, true≢false, ne_eqb}
+use Rattle.sqlite.specs.Order.{Row, column}
+use Rattle.sqlite.specs.Kind.TheVariants as kind
+use Rattle.sqlite.specs.Table.{Table}
+use Rattle.sqlite.specs.Tree.{Trees}
+use Rattle.sqlite.specs.declared.types.Value.TheVariants.{Null, Int, Real, Text, Blob}
+use Rattle.sqlite_catalog.specs.Listing.{IsSound}
+use Rattle.sqlite_rows.specs.Keeps.{columns}
+use Rattle.sqlite_rules.proofs.RuleLemmas.{keeps_at}
+use Rattle.sqlite_rules.specs.Lists.{Has as Stands}
+use Rattle.sqlite_schema.specs.Names.{is_key}
+use Rattle.sqlite_schema.specs.Rules.{are_typed, are_present, is_of}
+use Rattle.sqlite_schema.specs.declared.schema.Constraint.TheVariants.{Datatype, NotNull}
+use Rattle.sqlite_sql.specs.Ops.{is_null}
+use Rattle.sqlite_value.specs.declared.value.Value.{Value}
+use Rattle.gm_state.specs.Rows.{CommandRow}
+use Rattle.gm_registry.specs.Queries.{shown_places}
+use Rattle.gm_registry.specs.Says.{IsBetween}
+use Rattle.gm_registry.specs.Schema.{registry_schema, intents}
+use Rattle.gm_registry.specs.Values.{columns_at}
+use Rattle.gm_registry.specs.declared.fetching.Table.TheVariants.{Mirrors, Intents}
+use Rattle.gm_registry.proofs.Counted.{count_from}
+use Rattle.gm_registry.proofs.Telling.{text_in, number_in, nine_picked}
+use Rattle.gm_registry.proofs.Whole.{are_required, as_many, its_columns}
+use Rattle.gm_registry.proofs.Abouts.{only_null}
+
+-- ---- rows of intents
+
+-- with the NULL in the column for which the rowid stands
+abbrev pub with_null : Row → Row
+with_null vs = column vs 0 ∷ Null ∷ column vs 1 ∷ column vs 2 ∷ column vs 3 ∷ column vs 4 ∷ column vs 5 ∷ []
+
+behind_key : (k : ℕ) → 1 ≤ k → is_key (Some 0) k ≡ false
+behind_key k low = ne_eqb 0 k (λ e. omega arith)
+
+-- five values stand behind it
+five_behind : (row vs : Row) → ((k : ℕ) → column row (suc (suc k)) ≡ column vs k) → are_typed (Some 0) 1 (drop 1 intents.columns) vs ≡ true → are_present (Some 0) 1 (drop 1 intents.columns) row ≡ true
+    → length vs ≡ 5
+five_behind row vs same =
+    as_many (Some 0) row 1 (drop 1 intents.columns) vs behind_key refl (λ k. let two : 1 + 1 + k ≡ suc (suc k) = omega arith in ap (column row) two ∙ same k)
+
+pub intent_whole : (row : Row) → are_typed (Some 0) 0 intents.columns (drop 1 row) ≡ true → are_present (Some 0) 0 intents.columns row ≡ true → with_null (columns_at (shown_places Intents) row) ≡ row
+intent_whole [] typed present = absurd (omega (arith, five_behind [] [] (λ k. refl) typed present))
+intent_whole (id ∷ []) typed present = absurd (omega (arith, five_behind (id ∷ []) [] (λ k. refl) typed present))
+intent_whole (id ∷ v ∷ vs) typed present =
+    let parts = and_parts (is_null v) (are_typed (Some 0) 1 (drop 1 intents.columns) vs) typed in
+    let many = five_behind (id ∷ v ∷ vs) vs (λ k. refl) parts.1 present in
+    ap (λ more. id ∷ Null ∷ more) (its_columns 5 vs many) ∙ ap (λ n. id ∷ n ∷ vs) (sym (only_null v parts.0))
+
+-- ---- rows of commands
+
+abbrev pub command_in : Row → CommandRow
+command_in row = record {
+  call_key = text_in (column row 1);
+  seq = number_in (column row 2);
+  words = text_in (column row 3);
+  copied = number_in (column row 4);
+  of_total = number_in (column row 5);
+}
+
+pub text_is : (v : Value) → is_of kind.Text v ≡ true → not (is_null v) ≡ true → v ≡ Text (text_in v)
+text_is Null typed present = absurd (true≢false (sym present))
+text_is (Int n) typed present = absurd (true≢false (sym typed))
+text_is (Real x) typed present = absurd (true≢false (sym typed))
+text_is (Text t) typed present = refl
+text_is (Blob b) typed present = absurd (true≢false (sym typed))
+
+pub number_is : (v : Value) (n : ℕ) → v ≡ Int (pos n) → v ≡ Int (pos (number_in v))
+number_is v n e = e ∙ ap (λ w. Int (pos (number_in w))) (sym e)
+
+pub at_most : (high : ℕ) (v : Value) → IsBetween 0 high v → number_in v ≤ high
+at_most high v it = let e : number_in v ≡ it.0 = ap number_in it.1 in let below = it.3 in omega (arith, e, below)
+
+pub five_picked : (row : Row) → columns_at (count_from 0 5) (columns row) ≡ columns_at (count_from 1 5) row
+five_picked [] = refl
+five_picked (v ∷ row) = refl
+
+-- ---- rows that obey the tables
+
+behind : (row : Row) (k : ℕ) → column row (0 + 1 + k) ≡ column (columns row) k
+behind [] k = refl
+behind (v ∷ row) k = let e : 0 + 1 + k ≡ suc k = omega arith in ap (column (v ∷ row)) e
+
+module _ (db : Trees) (sound : IsSound registry_schema db) where
+  pub typed : (t : Table) → Stands registry_schema.tables t → (row : Row) → Stands (db t.tree) row → are_typed t.key 0 t.columns (drop 1 row) ≡ true
+  typed t listed row there = (and_parts _ _ (keeps_at Datatype registry_schema db t row (sound.obeys.rules Datatype) listed there)).0
+
+  pub present : (t : Table) → Stands registry_schema.tables t → (row : Row) → Stands (db t.tree) row → are_present t.key 0 t.columns row ≡ true
+  present t listed row there = keeps_at NotNull registry_schema db t row (sound.obeys.rules NotNull) listed there
+
+  -- of a table without a column for the rowid
+  pub whole_row : (t : Table) → Stands registry_schema.tables t → ((k : ℕ) → 0 ≤ k → is_key t.key k ≡ false) → are_required t.columns ≡ true → (row : Row) → Stands (db t.tree) row → length (columns row) ≡ length t.columns
+  whole_row t listed free must row there = as_many t.key row 0 t.columns (columns row) free must (behind row) (typed t listed row there) (present t listed row there)
+
+  pub nine_whole : (t : Table) → Stands registry_schema.tables t → ((k : ℕ) → 0 ≤ k → is_key t.key k ≡ false) → are_required t.columns ≡ true → length t.columns ≡ 9 → (row : Row) → Stands (db t.tree) row
+      → columns_at (shown_places Mirrors) row ≡ columns row
+  nine_whole t listed free must nine row there = sym (nine_picked row) ∙ its_columns 9 (columns row) (whole_row t listed free must row there ∙ nine)
