@@ -95,6 +95,26 @@ rehash() {
     printf '%b' "$(printf '\\0%03o' $hash)" | dd of="$1" bs=1 seek=1655 conv=notrunc 2>/dev/null
 }
 
+# Writes bytes at places of that sector: words of a place and its bytes each.
+edit_sector() {
+    edited=$1
+    shift
+    while [ $# -gt 1 ]; do
+        overwrite "$edited" "$1" "$2"
+        shift 2
+    done
+}
+
+# An image of four sectors whose last one is that of examples/fresh.sector but for such bytes, with the MD5 that it has
+# then.
+put_edited() {
+    put_image "$1" "$2" fresh
+    edited=$1
+    shift 2
+    edit_sector "$edited" "$@"
+    rehash "$edited"
+}
+
 # What a dump prints of a component of gm0 on an image of four sectors: its number, how many the mirror counts, its flags
 # and its hash.
 dumped() {

@@ -106,6 +106,17 @@ expect 'a last line of 1025 spaces, without its line feed' 1 '? refused 1' ''
 filled '' ' ' 1024 >"$work/lines"
 take_lines
 expect 'a last line of 1024 spaces, without its line feed' 0 '' ''
+{
+    filled '' x 1024
+    echo
+    filled '' y 1025
+    echo
+    filled '' z 5000
+    printf '\nnext'
+} >"$work/lines"
+take_lines
+expect 'the longest line, two that are too long, and the next' 1 "$(lines \
+    '? refused 1\n? refused 1\n? refused 1\nnext refused 1')" ''
 
 # ---- keys
 

@@ -60,3 +60,13 @@ expect_kept() {
         fail "$1" "$other"
     fi
 }
+
+# A list of words, each of which stands behind the key of a label that was carried out: whether each is answered so, and
+# leaves that label's mirror, its image and the registry as they are.
+expect_words_of_key() {
+    sed "s/.*/k1 &|k1 $3/" >"$work/words"
+    expect_list "$1" "$2" <"$work/words"
+    expect_kept "no byte is changed by $4"
+    at_bench status
+    expect "the mirror stands behind $4" 0 "$of_one" ''
+}

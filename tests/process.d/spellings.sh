@@ -1,15 +1,5 @@
 # ---- words that are a command, and which are the same one
 
-# A list of words, each of which stands behind the key of a label that was carried out: whether each is answered so, and
-# leaves that label's mirror, its image and the registry as they are.
-expect_words_of_key() {
-    sed "s/.*/k1 &|k1 $3/" >"$work/words"
-    expect_list "$1" "$2" <"$work/words"
-    expect_kept "no byte is changed by $4"
-    at_bench status
-    expect "the mirror stands behind $4" 0 "$of_one" ''
-}
-
 fresh_bench spellings
 batch "$label"
 expect 'a command that is spelled again' 0 'k1 ok 1' ''
