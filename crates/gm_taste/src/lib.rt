@@ -12,8 +12,6 @@ mod sectors;
 mod sources;
 mod tasted;
 mod tasting;
-#[cfg(test)]
-mod tests;
 mod verdicts;
 
 pub use groups::{Taken, member};
