@@ -12,8 +12,6 @@ mod flags;
 mod label;
 mod laws;
 mod metadata;
-#[cfg(test)]
-mod tests;
 
 pub use balance::Balance;
 pub use decoding::{carries_metadata, decode};
