@@ -7,8 +7,8 @@ ghost use Rattle.gm_words.specs.Lines.{texts};
 ghost use Rattle.gm_front.specs.Outcomes.{asked_at, asked_of};
 
 use crate::input::Line;
-use gm_words::read_words;
 use gm_state::{Command, is_key};
+use gm_words::read_words;
 use std::alloc::{AllocError, Global};
 use std::str;
 

@@ -6,9 +6,9 @@ use crate::words::{Job, job_of};
 use crate::workplace::{Place, work_at};
 use clap::Error;
 use clap::error::ErrorKind;
-use gm_words::dump_text;
 use gm_metadata::{Label, decode};
 use gm_shelf::{FileShelf, Shelf};
+use gm_words::dump_text;
 use std::io::{Read, Write};
 
 // Prints what clap has to say, on the stream where it belongs.

@@ -7,8 +7,8 @@ ghost use Rattle.gmbench.specs.Reports.{IsDone};
 
 use crate::status::{Fault, Status};
 use crate::work::Report;
-use gm_words::{list_text, status_text};
 use gm_state::State;
+use gm_words::{list_text, status_text};
 use std::alloc::Global;
 
 /// Says how the mirrors stand.

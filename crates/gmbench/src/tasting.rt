@@ -9,9 +9,9 @@ ghost use Rattle.gmbench.specs.Reports.{IsTasting};
 use crate::status::{Fault, Status};
 use crate::work::Report;
 use gm_bench::taste_shelf;
-use gm_words::tasting_text;
 use gm_shelf::{FileShelf, Shelf};
 use gm_taste::{LeftOut, Tasted};
+use gm_words::tasting_text;
 use std::alloc::Global;
 use std::io::Write;
 
