@@ -21,8 +21,6 @@ mod making;
 mod needs;
 mod parts;
 mod refusals;
-#[cfg(test)]
-mod tests;
 
 pub use adopting::{adopt_source, data_of, found_mids};
 pub use change::Change;

@@ -16,8 +16,6 @@ mod sizes;
 mod sources;
 mod state;
 mod states;
-#[cfg(test)]
-mod tests;
 mod wording;
 
 pub use checking::{MAX_COMPONENTS, MAX_MIRRORS, MAX_SECTORS};
