@@ -3,9 +3,10 @@
 fresh_bench neighbours
 put_image "$bench/images/aa.img" d bare
 put_image "$bench/images/c.img" c bare
-batch 'k1 label --mid 8 --did 1 gm1 c.img\nk2 label --mid 7 --did 1 gm0 b.img\nk3 insert --did 2 gm0 a.img\n'
-expect 'a mirror that is made behind another' 0 "$(lines 'k1 ok 1\nk2 ok 2\nk3 ok 3')" ''
-expect_records 'it stands before it, and so do their components' <<'END'
+put_told e.img 3 x name=gm5
+batch 'k1 label --mid 8 --did 1 gm1 c.img\nk2 label --mid 7 --did 1 gm0 b.img\n'
+expect 'a mirror that is made behind another' 0 "$(lines 'k1 ok 1\nk2 ok 2')" ''
+expect_step 'it stands before it, and so do its components' 'k3 insert --did 2 gm0 a.img' 'k3 ok 3' 'a.img b.img' <<'END'
 gm0 DEGRADED 7 2 0 1 load 4096 NONE 1536
 a.img SYNCHRONIZING 2 0 1 SYNCHRONIZING 0 2048 no
 b.img ACTIVE 1 0 1 NONE 0 2048 no
@@ -44,6 +45,12 @@ gm1 COMPLETE 8 1 0 1 load 4096 NONE 1536
 c.img ACTIVE 1 0 1 NONE 0 2048 no
 END
 expect_step 'one is dropped' 'k6 destroy gm00' 'k6 ok 6' 'aa.img' <<'END'
+gm0 COMPLETE 7 1 0 1 load 4096 NONE 1536
+b.img ACTIVE 1 0 1 NONE 0 2048 no
+gm1 COMPLETE 8 1 0 1 load 4096 NONE 1536
+c.img ACTIVE 1 0 1 NONE 0 2048 no
+END
+expect_step 'an image of none is cleared' 'k7 clear e.img' 'k7 ok 7' 'e.img' <<'END'
 gm0 COMPLETE 7 1 0 1 load 4096 NONE 1536
 b.img ACTIVE 1 0 1 NONE 0 2048 no
 gm1 COMPLETE 8 1 0 1 load 4096 NONE 1536
