@@ -34,3 +34,4 @@ pub mod PartOf
 pub mod Whole
 pub mod Stored
 pub mod Held
+pub mod Rising

@@ -1,5 +1,5 @@
 -- What is said of a registry, and of a store before it is opened and after it is closed.
-use Rattle.std.specs.Prelude.{◌≡◌, ◌≤◌, ◌⊎◌, List, IsTrue, IsSome, Result, OnOk, OnErr}
+use Rattle.std.specs.Prelude.{◌≡◌, ◌≤◌, ◌⊎◌, false, List, IsTrue, IsSome, Result, OnOk, OnErr}
 use Rattle.sqlite_disk.specs.Disk.{MoreFaults}
 use Rattle.sqlite_trees.specs.declared.store.Store.{Ghosts}
 use Rattle.sqlite_trees.specs.View.{doubt}
@@ -27,6 +27,10 @@ module _ {S : Type 0} (g : Ghosts S) where
   -- what the last commit left
   abbrev pub stored : Held S → Trees
   stored r = (state g r).committed.trees
+
+  -- the store can go on, as it says of itself
+  abbrev pub IsUnbroken : Held S → Type 0
+  IsUnbroken r = (g.view r.store).is_broken ≡ false
 
   -- what is seen of it now
   abbrev pub seen : Held S → Trees

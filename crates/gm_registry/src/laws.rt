@@ -8,7 +8,7 @@ ghost use Rattle.gm_state.specs.Rows.{Tables, intent_rows};
 ghost use Rattle.gm_rules.specs.Decides.{Changed, changed_by};
 ghost use Rattle.gm_registry.specs.Changes.{command_row, with_accepted};
 ghost use Rattle.gm_registry.specs.Reading.{AreTablesOf, HoldState};
-ghost use Rattle.gm_registry.specs.Registry.{HasTables, HasTablesOf, HasSaved, IsRegistry, seen};
+ghost use Rattle.gm_registry.specs.Registry.{HasTables, HasTablesOf, HasSaved, IsRegistry, IsUnbroken, seen};
 ghost use Rattle.gm_registry.specs.Says.{TablesSay};
 ghost use Rattle.gm_registry.specs.Tables.{HasRisingRowids};
 
@@ -47,4 +47,11 @@ pub fn what_is_read_is_held<S: Alter>()
     ensures { (r : Held S) (s : Records) (ts : List Intent) → IsRegistry S.Store r
         → HasRisingRowids (seen S.Store r) → TablesSay (seen S.Store r) s ts
         → HasTablesOf S.Store r s ts }
+{}
+
+/// The rowids rise in each table of a registry whose store isn't broken, as `sqlite` has it: no call of it has failed so that
+/// it can't go on. Of an open connection that holds, but no clause says it.
+pub fn unbroken_rowids_rise<S: Alter>()
+    ensures { (r : Held S) → IsRegistry S.Store r → IsUnbroken S.Store r
+        → HasRisingRowids (seen S.Store r) }
 {}
