@@ -166,6 +166,9 @@ taste 'no member has the data' 0 'gm0             mid 7 genid 0 syncid 1
 
 run taste --shelf "$work/none"
 expect 'a taste of no folder' 3 '' "$broken"
+mkdir "$work/no-images"
+run taste --shelf "$work/no-images"
+expect 'a taste of an empty folder' 0 'no mirrors' ''
 run taste --shelf "$images/c.img"
 expect 'a taste of a file' 3 '' "$broken"
 ln "$images/c.img" "$images/again"

@@ -1,9 +1,7 @@
-use crate::file_id::FileId;
 use crate::open_files::OPEN_FILES;
-use crate::{FileShelf, Shelf, ShelfFault, write_meta};
-use gm_metadata::{Balance, DiskFlags, Label, Metadata, MirrorFlags, encode};
+use crate::{FileShelf, Shelf, ShelfFault};
+use gm_metadata::Label;
 use std::os::unix::fs::symlink;
-use std::path::Path;
 use std::process::Abort;
 use std::test::Fail;
 use std::{env, fs, io, process};
@@ -27,41 +25,8 @@ fn put_file(rt: &HostRuntime, folder: &String, name: &str, bytes: &[u8]) -> io::
     fs::write(rt, path_in(rt, folder, name)?.as_str(), bytes)
 }
 
-// The last part of its path.
-fn folder_name(folder: &String) -> &str {
-    Path::new(folder.as_str()).file_name().unwrap_or("")
-}
-
 fn label(text: &str) -> Result<Label, Fail> {
     Ok(Label::new(text).ok_or("no label")?)
-}
-
-fn metadata() -> Result<Metadata, Fail> {
-    Ok(Metadata {
-        name: label("home")?,
-        mid: 1,
-        did: 2,
-        all: 1,
-        genid: 0,
-        syncid: 1,
-        priority: 0,
-        slice: 4096,
-        balance: Balance::Load,
-        mediasize: 1536,
-        sync_offset: 0,
-        mflags: MirrorFlags {
-            no_autosync: false,
-            no_failsync: false,
-        },
-        dflags: DiskFlags {
-            dirty: false,
-            synchronizing: false,
-            force_sync: false,
-            inactive: false,
-        },
-        provider: None,
-        provsize: 2048,
-    })
 }
 
 // Whether these bytes stand at this sector of the file.
@@ -79,54 +44,6 @@ fn holds(
             .nth(place)
             .is_some_and(|found| found == sector),
     )
-}
-
-#[test]
-fn lists_images_alone(rt: HostRuntime) -> Result<(), Fail> {
-    let folder = new_folder(&rt, "lists")?;
-    for name in ["b.img", "Z", "two words", "sixteen-letters0"] {
-        put_file(&rt, &folder, name, &[0; 1024])?;
-    }
-    put_file(&rt, &folder, "a-empty", &[])?;
-    put_file(&rt, &folder, "odd", &[0; 1000])?;
-    fs::create_dir(&rt, path_in(&rt, &folder, "folder")?.as_str())?;
-    symlink(&rt, "b.img", path_in(&rt, &folder, "link")?.as_str())?;
-    let shelf = FileShelf::open(&rt, folder.as_str())?;
-    let mut found = Vec::new(rt.alloc());
-    for name in shelf.names()? {
-        found.push((name, shelf.sectors(name)))?;
-    }
-    let wanted = [
-        (label("Z")?, Some(2)),
-        (label("a-empty")?, Some(0)),
-        (label("b.img")?, Some(2)),
-    ];
-    assert_eq!(rt; found.as_slice(), wanted.as_slice());
-    assert_eq!(rt; shelf.sectors(label("link")?), None);
-    fs::remove_dir_all(&rt, folder.as_str())?;
-    let gone = FileShelf::open(&rt, folder.as_str());
-    assert!(rt; gone.is_err());
-    Ok(())
-}
-
-// A file is left out by what it is: the path that told it goes by a link and has another name.
-#[test]
-fn files_that_are_left_out_are_no_images(rt: HostRuntime) -> Result<(), Fail> {
-    let folder = new_folder(&rt, "left-out")?;
-    for name in ["a.img", "b.img", "c.img"] {
-        put_file(&rt, &folder, name, &[7; 1024])?;
-    }
-    symlink(&rt, "b.img", path_in(&rt, &folder, "link")?.as_str())?;
-    let link = format!(in rt.alloc(); "{}/../{}/link", folder, folder_name(&folder))?;
-    let left_out = FileId::of(&fs::metadata(&rt, link.as_str())?);
-    let shelf = FileShelf::open_without(&rt, folder.as_str(), &[left_out])?;
-    let wanted = [label("a.img")?, label("c.img")?];
-    assert_eq!(rt; shelf.names()?.as_slice(), wanted.as_slice());
-    assert_eq!(rt; shelf.sectors(label("b.img")?), None);
-    let all = FileShelf::open_without(&rt, folder.as_str(), &[])?;
-    assert_eq!(rt; all.sectors(label("b.img")?), Some(2));
-    fs::remove_dir_all(&rt, folder.as_str())?;
-    Ok(())
 }
 
 #[test]
@@ -181,19 +98,6 @@ fn reads_and_writes_runs(rt: HostRuntime) -> Result<(), Fail> {
     Ok(())
 }
 
-#[test]
-fn writes_metadata_last(rt: HostRuntime) -> Result<(), Fail> {
-    let folder = new_folder(&rt, "meta")?;
-    put_file(&rt, &folder, "a.img", &[7; 2048])?;
-    let metadata = metadata()?;
-    let mut shelf = FileShelf::open(&rt, folder.as_str())?;
-    write_meta(&mut shelf, label("a.img")?, &metadata)?;
-    assert!(rt; holds(&rt, &folder, "a.img", 2, &[7; 512])?);
-    assert!(rt; holds(&rt, &folder, "a.img", 3, &encode(&metadata))?);
-    fs::remove_dir_all(&rt, folder.as_str())?;
-    Ok(())
-}
-
 // The shelf has two sectors in the file, of which the second can't be reached.
 fn fails_at(rt: &impl Abort, shelf: &mut FileShelf<HostRuntime>, name: Label) {
     let mut sector = [0; 512];
@@ -223,16 +127,6 @@ fn a_file_that_goes_is_a_device_that_fails(rt: HostRuntime) -> Result<(), Fail> 
     for name in ["before", "after"] {
         assert!(rt; fs::metadata(&rt, path_in(&rt, &folder, name)?.as_str()).is_err());
     }
-    fs::remove_dir_all(&rt, folder.as_str())?;
-    Ok(())
-}
-
-#[test]
-fn an_empty_folder_has_no_names(rt: HostRuntime) -> Result<(), Fail> {
-    let folder = new_folder(&rt, "empty")?;
-    let mut shelf = FileShelf::open(&rt, folder.as_str())?;
-    assert!(rt; shelf.names()?.is_empty());
-    assert_eq!(rt; shelf.sync(label("a.img")?), Err(ShelfFault::Absent));
     fs::remove_dir_all(&rt, folder.as_str())?;
     Ok(())
 }
@@ -412,64 +306,5 @@ fn what_takes_the_place_of_an_image_is_none(rt: HostRuntime) -> Result<(), Fail>
         assert!(rt; holds(&rt, &folder, name, 1, &[7; 512])?);
     }
     fs::remove_dir_all(&rt, folder.as_str())?;
-    Ok(())
-}
-
-#[test]
-fn two_names_of_one_file_are_no_images(rt: HostRuntime) -> Result<(), Fail> {
-    let folder = new_folder(&rt, "twice")?;
-    put_file(&rt, &folder, "a.img", &[7; 1024])?;
-    put_file(&rt, &folder, "b.img", &[7; 1024])?;
-    let (a, b) = (
-        path_in(&rt, &folder, "a.img")?,
-        path_in(&rt, &folder, "b.img")?,
-    );
-    // A second name that is no image's.
-    fs::hard_link(
-        &rt,
-        a.as_str(),
-        path_in(&rt, &folder, "two words")?.as_str(),
-    )?;
-    assert_eq!(rt; FileShelf::open(&rt, folder.as_str())?.names()?.len(), 2);
-    fs::remove_file(&rt, b.as_str())?;
-    fs::hard_link(&rt, a.as_str(), b.as_str())?;
-    let names = [label("a.img")?, label("b.img")?];
-    assert!(rt; FileShelf::open(&rt, folder.as_str()).is_err());
-    assert!(rt; FileShelf::look_at(&rt, folder.as_str(), &names).is_err());
-    let first = FileShelf::look_at(&rt, folder.as_str(), &[names[0]])?;
-    assert_eq!(rt; first.sectors(names[0]), Some(2));
-    let left_out = FileId::of(&fs::metadata(&rt, a.as_str())?);
-    let none = FileShelf::open_without(&rt, folder.as_str(), &[left_out])?;
-    assert!(rt; none.names()?.is_empty());
-    fs::remove_dir_all(&rt, folder.as_str())?;
-    Ok(())
-}
-
-#[test]
-fn a_look_reads_what_is_named(rt: HostRuntime) -> Result<(), Fail> {
-    let folder = new_folder(&rt, "look")?;
-    put_file(&rt, &folder, "a.img", &[7; 1024])?;
-    put_file(&rt, &folder, "b.img", &[7; 1024])?;
-    put_file(&rt, &folder, "odd", &[7; 1000])?;
-    symlink(&rt, "a.img", path_in(&rt, &folder, "link")?.as_str())?;
-    let names = [label("b.img")?, label("a.img")?, label("none")?];
-    let mut shelf = FileShelf::look_at(&rt, folder.as_str(), &names)?;
-    assert_eq!(rt; shelf.names()?.as_slice(), [names[1], names[0]].as_slice());
-    let mut sector = [0; 512];
-    shelf.read(names[1], 1, &mut sector)?;
-    assert!(rt; sector == [7; 512]);
-    assert_eq!(rt;
-        shelf.write(names[1], 1, &[8; 512]),
-        Err(ShelfFault::Device)
-    );
-    assert!(rt; holds(&rt, &folder, "a.img", 1, &[7; 512])?);
-    for name in ["odd", "link"] {
-        let none = FileShelf::look_at(&rt, folder.as_str(), &[label(name)?])?;
-        assert_eq!(rt; none.sectors(label(name)?), None);
-    }
-    let a_file = path_in(&rt, &folder, "a.img")?;
-    assert!(rt; FileShelf::look_at(&rt, a_file.as_str(), &names).is_err());
-    fs::remove_dir_all(&rt, folder.as_str())?;
-    assert!(rt; FileShelf::look_at(&rt, folder.as_str(), &[]).is_err());
     Ok(())
 }
