@@ -3,7 +3,7 @@ use Rattle.std.proofs.Common.{◌≡◌, ◌∙◌, inl, inr, ⊎_elim, ℕ, ◌
 use Rattle.std.proofs.lemmas.Bool.{cases_Bool, or_parts}
 use Rattle.std.specs.List.{list_any}
 use Rattle.gm_state.proofs.Finding.{not_both}
-use Rattle.gm_state.proofs.Claiming.{some_there}
+use Rattle.gm_state.proofs.Claiming.{some_there, same_data}
 use Rattle.std.proofs.lemmas.Bool.Decides.{eqb_tells}
 use Rattle.gm_metadata.specs.Images.{Image, Sizes, Same, SameThere, same_label, label_tells}
 use Rattle.gm_metadata.specs.Sector.{Bears}
@@ -14,7 +14,7 @@ use Rattle.gm_state.specs.declared.records.Mirror.{Mirror}
 use Rattle.gm_state.specs.declared.records.Component.{Component}
 use Rattle.gm_state.specs.Records.{Records}
 use Rattle.gm_state.specs.Intents.{IsOf, touches, is_last, names, copies, is_place, any_copies, Agrees, IsRedo, InOrder}
-use Rattle.gm_state.specs.World.{World, Claims, NewClaims, Below, claimed}
+use Rattle.gm_state.specs.World.{World, Claims, NewClaims, Below, claimed, data_at}
 use Rattle.gm_apply.specs.Redo.{with_places, SomePlacesNew, IsPartlyDone}
 use Rattle.gm_apply.specs.Continues.{Continues}
 use Rattle.gm_apply.proofs.UnderWay.{laid_in, laid_out}
@@ -137,13 +137,14 @@ module _ (u w : World) (ts : List Intent) (goes : Continues u w ts) where
       goes.there m k o touched ∙ ap Some whole
 
 -- the components of before
-pub claims_kept : (u w : World) (ts : List Intent) (d x : Image) → Continues u w ts → InOrder u.size ts → Agrees u.size ts d w.shelf → Claims u d → IsPartlyDone u.size ts w.shelf d x → Claims u x
-claims_kept u w ts d x goes order agrees claims partly m k e o fits bears named mid active =
-    claim_kept u.size ts w.shelf d x order agrees partly k.provider (k.sectors - 1) (u.holds m.name) (goes.copies m k o) (last_there u w ts goes m k o) e (claimed m e)
-    (λ b. claims m k e o fits b named mid active) (λ b. goes.claims m k e o fits b named mid active) bears
+pub claims_kept : (u w : World) (ts : List Intent) (d x : Image) → Continues u w ts → InOrder u.size ts → Agrees u.size ts d w.shelf → Claims u w d → IsPartlyDone u.size ts w.shelf d x → Claims u w x
+claims_kept u w ts d x goes order agrees claims partly m k e o fits bears named mid active clean =
+    claim_kept u.size ts w.shelf d x order agrees partly k.provider (k.sectors - 1) (data_at u w m.name e.syncid)
+    (λ i is. let c = goes.copies m k o i is in c.0 ∙ sym (same_data u w m.name e.syncid i c.1)) (last_there u w ts goes m k o) e (claimed m e)
+    (λ b. claims m k e o fits b named mid active clean) (λ b. goes.claims m k e o fits b named mid active clean) bears
 
 -- those that are new in w
 pub new_claims_kept : (u w : World) (ts : List Intent) (d x : Image) → Continues w w ts → InOrder w.size ts → Agrees w.size ts d w.shelf → NewClaims u w d → IsPartlyDone w.size ts w.shelf d x → NewClaims u w x
-new_claims_kept u w ts d x goes order agrees claims partly m k e o new fits bears named mid active =
-    claim_kept w.size ts w.shelf d x order agrees partly k.provider (k.sectors - 1) (w.holds m.name) (goes.copies m k o) (last_there w w ts goes m k o) e (claimed m e)
-    (λ b. claims m k e o new fits b named mid active) (λ b. goes.claims m k e o fits b named mid active) bears
+new_claims_kept u w ts d x goes order agrees claims partly m k e o new fits bears named mid active clean =
+    claim_kept w.size ts w.shelf d x order agrees partly k.provider (k.sectors - 1) (w.holds m.name) (λ i is. (goes.copies m k o i is).0) (last_there w w ts goes m k o) e (claimed m e)
+    (λ b. claims m k e o new fits b named mid active clean) (λ b i below. goes.claims m k e o fits b named mid active clean i below ∙ same_data w w m.name e.syncid i refl) bears

@@ -17,7 +17,7 @@ use Rattle.gm_state.specs.Readable.{is_copy, is_copy_to, IsCopyWithin, IsReadabl
 use Rattle.gm_state.specs.World.{World, Sound, CopiesData}
 use Rattle.gm_state.proofs.Finding.{any_from, found_none, not_both}
 use Rattle.gm_state.proofs.Order.{same_from}
-use Rattle.gm_state.proofs.Claiming.{some_there}
+use Rattle.gm_state.proofs.Claiming.{some_there, mirror_found}
 use Rattle.gm_state.proofs.Testing.{member}
 use Rattle.gm_state.proofs.Words.{one}
 use Rattle.gm_apply.proofs.Lists.{or_true, copy_range}
@@ -171,4 +171,6 @@ module _ (w : World) (size : Sizes) (ts : List Intent) (sound : Sound w) (readab
       from ∙ subst (λ (q : List ℕ). w.shelf q i ≡ w.holds c.mirror.name i) c.source_is value ∙ ap (λ (n : List ℕ). w.holds n i) home
 
   pub copies_data : CopiesData w w ts
-  copies_data m k o i e = let by = copied_by ts k.provider i e in by_copy m k o i by.0 by.1 by.2
+  copies_data m k o i e =
+      let by = copied_by ts k.provider i e in
+      (by_copy m k o i by.0 by.1 by.2, refl, mirror_found w.state m o.mirror)

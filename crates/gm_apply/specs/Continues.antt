@@ -10,5 +10,5 @@ use Rattle.gm_state.specs.World.{World, Claims, CopiesData}
 pub record Continues (u w : World) (ts : List Intent) : Type 0 where
   pub state : IsState u.state
   pub there : AreThere u.state ts u.size
-  pub claims : Claims u w.shelf
+  pub claims : Claims u w w.shelf
   pub copies : CopiesData u w ts

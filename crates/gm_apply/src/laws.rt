@@ -25,8 +25,8 @@ pub fn every_image_leads_on()
 /// those that are new where the intents lead.
 pub fn true_claims_stay_true()
     ensures old { (u w : World) (ts : List Intent) (d x : Image) → Continues u w ts
-        → InOrder u.size ts → Agrees u.size ts d w.shelf → Claims u d
-        → IsPartlyDone u.size ts w.shelf d x → Claims u x }
+        → InOrder u.size ts → Agrees u.size ts d w.shelf → Claims u w d
+        → IsPartlyDone u.size ts w.shelf d x → Claims u w x }
     ensures new { (u w : World) (ts : List Intent) (d x : Image) → Continues w w ts
         → InOrder w.size ts → Agrees w.size ts d w.shelf → NewClaims u w d
         → IsPartlyDone w.size ts w.shelf d x → NewClaims u w x }

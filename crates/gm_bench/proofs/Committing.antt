@@ -12,18 +12,16 @@ use Rattle.gm_state.specs.Commands.{words_of}
 use Rattle.gm_state.specs.Intents.{IsAtHand, IsRedo}
 use Rattle.gm_state.specs.Records.{Records}
 use Rattle.gm_state.specs.Rows.{Tables, CommandRow, answer_row, intent_rows}
-use Rattle.gm_state.specs.Words.{Has}
-use Rattle.gm_state.specs.World.{World, Answered, NewClaims, present}
-use Rattle.gm_state.proofs.Claiming.{some_there, sound_claims}
-use Rattle.gm_state.proofs.Testing.{member}
+use Rattle.gm_state.specs.World.{World, Answered, present}
+use Rattle.gm_state.proofs.Claiming.{some_there, sound_claims, same_data}
 use Rattle.gm_rules.specs.After.{reply_to}
 use Rattle.gm_rules.specs.Decides.{Changed, Makes, changed_by}
-use Rattle.gm_rules.specs.Step.{Plan, NewAreBare, answer}
+use Rattle.gm_rules.specs.Step.{Plan, answer}
 use Rattle.gm_rules.specs.Worlds.{seen_of}
 use Rattle.gm_registry.specs.Changes.{with_accepted, command_row}
 use Rattle.gm_registry.specs.Reading.{HoldState}
 use Rattle.gm_registry.proofs.Written.{change_held, change_intents, change_commands}
-use Rattle.gm_bench.specs.Leading.{Leads, KeepsClaims}
+use Rattle.gm_bench.specs.Leading.{Leads, KeepsClaims, EachNewClaims}
 use Rattle.gm_bench.proofs.Masking.{at_hand_up, masked}
 use Rattle.gm_bench.proofs.Resting.{at_rest}
 
@@ -78,11 +76,10 @@ module _ (u w : World) (key : List ℕ) (c : Command) (ch : Changed) (t : Tables
       }
 
   -- what is new bore nothing, and claims nothing yet
-  new_claims : NewAreBare u w → NewClaims u w x
-  new_claims bare m k d o none ok bears =
-      let h : Has w.state.components k = (member w.state m.name k o.component).0 in
+  new_claims : EachNewClaims u w x
+  new_claims m k o none bare d ok bears =
       let there : IsSome (u.size k.provider) = subst (λ (z : Sizes). IsSome (z k.provider)) (sym sizes_are) (some_there (w.size k.provider) k.sectors (plan.sound.sizes m k o)) in
-      absurd (bare k h none d (subst (λ (s : List ℕ). Bears s d) (at_rest t x u l k.provider there (k.sectors - 1)) bears))
+      absurd (bare d (subst (λ (s : List ℕ). Bears s d) (at_rest t x u l k.provider there (k.sectors - 1)) bears))
 
   pub commit_claims : KeepsClaims ch.intents x u w
   commit_claims = record {
@@ -90,6 +87,7 @@ module _ (u w : World) (key : List ℕ) (c : Command) (ch : Changed) (t : Tables
     sizes = sizes_are;
     after = plan.claims;
     copies = plan.copies;
-    old = sound_claims u x l.sound (at_rest t x u l);
+    old = λ m k d o ok bears named mid active clean i below. sound_claims u x l.sound (at_rest t x u l) m k d o ok bears named mid active clean i below
+        ∙ (same_data u u m.name d.syncid i refl ∙ sym (same_data u w m.name d.syncid i (plan.step.holds m o.mirror i)));
     new = new_claims;
   }

@@ -28,7 +28,7 @@ use Rattle.gm_bench.specs.Owed.{AcceptAnswers, IsLeft}
 use Rattle.gm_bench.specs.Leading.{AreAmong, whole, Leads, KeepsClaims, AllLead}
 use Rattle.gm_bench.specs.Recovering.{Recovers, IsShelfOf, LeavesOnly}
 use Rattle.gm_bench.specs.Accepting.{LeavesStep, OrStep}
-use Rattle.gm_bench.specs.Schedule.{Phase, Event, Accept_returned, Accept_stopped, Apply_returned, Apply_stopped, Settle_returned, Settle_stopped, Open_returned, Open_stopped, Now, none, skips, keeps, Moved, IsNew, IsButMoved, IsStepTo, Reached, IsLastStep, IsMove, HasCount, IsLeftIn, IsStop, after_answer, Happens, IsStart, Runs, AtRest, OnTheWay, Stopped, Headline, Within}
+use Rattle.gm_bench.specs.Schedule.{Phase, Event, Accept_returned, Accept_stopped, Apply_returned, Apply_stopped, Settle_returned, Settle_stopped, Open_returned, Open_stopped, Now, none, skips, keeps, Moved, Without_returned, Without_stopped, Without_carrying, Entry, Handed_in, Without, IsNew, IsButMoved, IsStepTo, IsStepWithout, Reached, IsLastStep, ArePending, LeavesCommit, IsMove, HasCount, IsLeftIn, IsStop, after_answer, Happens, IsStart, Runs, AtRest, OnTheWay, Stopped, Headline, Within}
 use Rattle.gm_bench.proofs.Resting.{rest_leads, rest_claims}
 
 -- ---- the world that a schedule starts in
@@ -79,9 +79,13 @@ new_records all w new = record {
 -- ---- counts of commands
 
 -- as many answers as accepted calls
-answered_many : (all : Sizes) (acc : List Call) (w : World) → Reached all acc w → length w.answered ≡ length acc
+answered_many : (all : Sizes) (acc : List Entry) (w : World) → Reached all acc w → length w.answered ≡ length acc
 answered_many all [] w new = ap length new.answered
-answered_many all (call ∷ older) w (u, reached, s) =
+answered_many all (Without call p gone ∷ older) w (u, reached, s) =
+    let e = answered_many all older u reached in
+    let long : length w.answered ≡ suc (length u.answered) = ap length (s.answered ∙ s.step.answered) in
+    omega (arith, e, long)
+answered_many all (Handed_in call ∷ older) w (u, reached, s) =
     let e = answered_many all older u reached in
     let long : length w.answered ≡ suc (length u.answered) = ap length (s.moved.answered ∙ s.step.answered) in
     omega (arith, e, long)
@@ -122,13 +126,35 @@ one_step u w call r step = record { stepped = w; reply = r; step = step; moved =
 moved_step : (u w : World) (call : Call) (there : List ℕ → Bool) → IsStepTo u call w → IsStepTo u call (with_there w there)
 moved_step u w call there s = record { stepped = s.stepped; reply = s.reply; step = s.step; moved = moved_on s.stepped w there s.moved }
 
-moved_reached : (all : Sizes) (acc : List Call) (w : World) (there : List ℕ → Bool) → Reached all acc w → Reached all acc (with_there w there)
-moved_reached all [] w there new = record { mirrors = new.mirrors; components = new.components; answered = new.answered; sizes = new.sizes }
-moved_reached all (call ∷ older) w there (u, reached, s) = (u, reached, moved_step u w call there s)
+moved_without : (u w : World) (call : Call) (p : List ℕ) (gone : List Intent) (there : List ℕ → Bool) → IsStepWithout u call p gone w → IsStepWithout u call p gone (with_there w there)
+moved_without u w call p gone there s = record {
+  stepped = s.stepped;
+  reply = s.reply;
+  step = s.step;
+  mirror = s.mirror;
+  command = s.command;
+  state = s.state;
+  holds = s.holds;
+  answered = s.answered;
+  size = s.size;
+  shelf = s.shelf;
+}
 
-moved_last : (all : Sizes) (acc : List Call) (u w : World) (there : List ℕ → Bool) → IsLastStep all acc u w → IsLastStep all acc u (with_there w there)
+moved_reached : (all : Sizes) (acc : List Entry) (w : World) (there : List ℕ → Bool) → Reached all acc w → Reached all acc (with_there w there)
+moved_reached all [] w there new = record { mirrors = new.mirrors; components = new.components; answered = new.answered; sizes = new.sizes }
+moved_reached all (Handed_in call ∷ older) w there (u, reached, s) = (u, reached, moved_step u w call there s)
+moved_reached all (Without call p gone ∷ older) w there (u, reached, s) = (u, reached, moved_without u w call p gone there s)
+
+moved_last : (all : Sizes) (acc : List Entry) (u w : World) (there : List ℕ → Bool) → ArePending all acc u w → ArePending all acc u (with_there w there)
 moved_last all [] u w there last = absurd last
-moved_last all (call ∷ older) u w there (reached, s) = (reached, moved_step u w call there s)
+moved_last all (Handed_in call ∷ older) u w there (reached, s) = (reached, moved_step u w call there s)
+moved_last all (Without call p gone ∷ older) u w there (v, reached, s, first) = (v, reached, moved_without v w call p gone there s, first)
+
+-- a command that was handed in is the first that is pending
+last_pending : (all : Sizes) (acc : List Entry) (u w : World) → IsLastStep all acc u w → ArePending all acc u w
+last_pending all [] u w last = absurd last
+last_pending all (Handed_in call ∷ older) u w last = last
+last_pending all (Without call p gone ∷ older) u w last = absurd last
 
 moved_leads : (t : Tables) (ts : List Intent) (x : Image) (w : World) (there : List ℕ → Bool) → Leads t ts x w → Leads t ts x (with_there w there)
 moved_leads t ts x w there l = record {
@@ -144,9 +170,12 @@ moved_keeps : (ts : List Intent) (x : Image) (u w : World) (there : List ℕ →
 moved_keeps ts x u w there k = record { sound = k.sound; sizes = k.sizes; after = k.after; copies = k.copies; old = k.old; new = k.new }
 
 -- the providers have their sizes for ever
-reached_sizes : (all : Sizes) (acc : List Call) (w : World) → Reached all acc w → w.size ≡ all
+reached_sizes : (all : Sizes) (acc : List Entry) (w : World) → Reached all acc w → w.size ≡ all
 reached_sizes all [] w new = new.sizes
-reached_sizes all (call ∷ older) w (u, reached, s) =
+reached_sizes all (Without call p gone ∷ older) w (u, reached, s) =
+    let same : s.stepped.size ≡ u.size = λ i q. s.step.sizes q i in
+    s.size ∙ (same ∙ reached_sizes all older u reached)
+reached_sizes all (Handed_in call ∷ older) w (u, reached, s) =
     let same : s.stepped.size ≡ u.size = λ i q. s.step.sizes q i in
     s.moved.size ∙ (same ∙ reached_sizes all older u reached)
 
@@ -180,7 +209,7 @@ module _ {S H : Type 0} (g : Ghosts S) (view : H → View) (size : H → Sizes) 
       ])
 
   -- what a stop within a call leaves, where each pair leads to w
-  stopped : (r s : Held S) (h k : H) (db : Trees) (l : H) (away : Image) (u w : World) (acc ack : List Call) → Reached all acc w → IsButMoved u w ⊎ IsLastStep all acc u w → present w ≡ size h → Within ack acc → LeavesOnly g view size r s h k away u w → IsStop g view size r s h k db l
+  stopped : (r s : Held S) (h k : H) (db : Trees) (l : H) (away : Image) (u w : World) (acc ack : List Entry) → Reached all acc w → IsButMoved u w ⊎ ArePending all acc u w → present w ≡ size h → Within ack acc → LeavesOnly g view size r s h k away u w → IsStop g view size r s h k db l
       → Stopped g view size all db l away acc ack
   stopped r s h k db l away u w acc ack reached last is told only stop = record {
     world = w;
@@ -210,7 +239,7 @@ module _ {S H : Type 0} (g : Ghosts S) (view : H → View) (size : H → Sizes) 
       subst At (sym is) (record { world = was.world; reached = was.reached; at = (clause m.away was.world was.at).1; told = was.told })
 
   -- a commit that was stopped stands, or not
-  accept_stopped : (call : Call) (r s : Held S) (h k : H) (db : Trees) (l : H) (away : Image) (acc ack after : List Call) (was : AtRest g view size all r h away acc ack) → IsLeftIn db call acc after
+  accept_stopped : (call : Call) (r s : Held S) (h k : H) (db : Trees) (l : H) (away : Image) (acc ack after : List Entry) (was : AtRest g view size all r h away acc ack) → IsLeftIn db (Handed_in call) acc after
       → LeavesStep g view size r s h k away was.world call.key call.command → IsStop g view size r s h k db l → Stopped g view size all db l away after ack
   accept_stopped call r s h k db l away acc ack after was left clause stop =
       let u : World = was.world in
@@ -225,7 +254,7 @@ module _ {S H : Type 0} (g : Ghosts S) (view : H → View) (size : H → Sizes) 
       let resized : (w : World) → Recovers db (size h) away (view l).may_leave u w → Recovers db (size l) away (view l).may_leave u w = λ w. subst (λ (z : Sizes). Recovers db z away (view l).may_leave u w) (sym stop.0) in
       elim left [
         | inl before ↦
-            subst (λ (list : List Call). Stopped g view size all db l away list ack) (sym before.0)
+            subst (λ (list : List Entry). Stopped g view size all db l away list ack) (sym before.0)
             (elim either [
               | inl r ↦ record { world = u; before = u; reached = was.reached; last = inl (stays u); sizes = was.at.sizes ∙ sym stop.0; recovers = resized u r; told = was.told }
               | inr r ↦
@@ -234,7 +263,7 @@ module _ {S H : Type 0} (g : Ghosts S) (view : H → View) (size : H → Sizes) 
                   absurd (omega (arith, n, m, many))
             ])
         | inr stands ↦
-            subst (λ (list : List Call). Stopped g view size all db l away list ack) (sym stands.0)
+            subst (λ (list : List Entry). Stopped g view size all db l away list ack) (sym stands.0)
             (elim either [
               | inl r ↦ (let n = counts db (size h) away (view l).may_leave (view l).seen u u (length acc + 1) stop.1 r stands.1 in absurd (omega (arith, n, many)))
               | inr r ↦ record {
@@ -249,8 +278,49 @@ module _ {S H : Type 0} (g : Ghosts S) (view : H → View) (size : H → Sizes) 
             ])
       ]
 
+  -- the commit of an opening without a provider was stopped: it stands, or not
+  without_stopped : (call : Call) (p : List ℕ) (gone : List Intent) (o s : Held S) (h : H) (db : Trees) (l : H) (away : Image) (acc ack after : List Entry) (was : Stopped g view size all (stored g o) h away acc ack) → IsLeftIn db (Without call p gone) acc after
+      → LeavesCommit g view size o s h away was.before was.world call p gone → IsStop g view size o s h h db l → Stopped g view size all db l away after ack
+  without_stopped call p gone o s h db l away acc ack after was left clause stop =
+      let u : World = was.before in
+      let w : World = was.world in
+      let many : length w.answered ≡ length acc = answered_many all acc w was.reached in
+      let either : Recovers db (size h) away (view l).may_leave u w ⊎ ((v : World) × IsStepWithout w call p gone v × (present v ≡ size h) × Recovers db (size h) away (view l).may_leave u v) = elim stop.2 [
+        | inl within ↦ inl (fewer db (size h) away ((view h).left_since (view h).moment) (view l).may_leave u w (clause.within db within.0) within.1)
+        | inr end ↦ elim (clause.end db end.0) [
+          | inl r ↦ inl (fewer db (size h) away (view h).may_leave (view l).may_leave u w r end.1)
+          | inr r ↦ inr (r.0, r.1, r.2, fewer db (size h) away (view h).may_leave (view l).may_leave u r.0 r.3 end.1)
+        ]
+      ] in
+      let resized : (v : World) → Recovers db (size h) away (view l).may_leave u v → Recovers db (size l) away (view l).may_leave u v = λ v. subst (λ (z : Sizes). Recovers db z away (view l).may_leave u v) (sym stop.0) in
+      elim left [
+        | inl before ↦
+            subst (λ (list : List Entry). Stopped g view size all db l away list ack) (sym before.0)
+            (elim either [
+              | inl r ↦ record { world = w; before = u; reached = was.reached; last = was.last; sizes = was.sizes ∙ sym stop.0; recovers = resized w r; told = was.told }
+              | inr r ↦
+                  let n = counts db (size h) away (view l).may_leave (view l).seen u r.0 (length acc) stop.1 r.3 before.1 in
+                  let m : length r.0.answered ≡ suc (length w.answered) = ap length (r.1.answered ∙ r.1.step.answered) in
+                  absurd (omega (arith, n, m, many))
+            ])
+        | inr stands ↦
+            subst (λ (list : List Entry). Stopped g view size all db l away list ack) (sym stands.0)
+            (elim either [
+              | inl r ↦ (let n = counts db (size h) away (view l).may_leave (view l).seen u w (length acc + 1) stop.1 r stands.1 in absurd (omega (arith, n, many)))
+              | inr r ↦ record {
+                world = r.0;
+                before = u;
+                reached = (w, was.reached, r.1);
+                last = inr (w, was.reached, r.1, was.last);
+                sizes = r.2 ∙ sym stop.0;
+                recovers = resized r.0 r.3;
+                told = skips was.told;
+              }
+            ])
+      ]
+
   -- with the providers of the later shelf it leads on as well
-  moved : (db : Trees) (h later : H) (away beyond : Image) (acc ack : List Call) → IsMove g view size all h away later beyond → Stopped g view size all db h away acc ack → Stopped g view size all db later beyond acc ack
+  moved : (db : Trees) (h later : H) (away beyond : Image) (acc ack : List Entry) → IsMove g view size all h away later beyond → Stopped g view size all db h away acc ack → Stopped g view size all db later beyond acc ack
   moved db h later away beyond acc ack move was =
       let w : World = was.world in
       let u : World = was.before in
@@ -285,13 +355,13 @@ module _ {S H : Type 0} (g : Ghosts S) (view : H → View) (size : H → Sizes) 
       subst At (sym is) (record { world = o.world; before = o.before; reached = o.reached; last = o.last; at = it.0; told = o.told }, it.1)
   next m (Apply_stopped k db l) n was (r, h, work, phase, is, clause, stop) =
       let o : OnTheWay g view size all r h m.away work m.accepted m.acknowledged = subst (AtPhase m) phase was in
-      subst At (sym is) (stopped r r h k db l m.away o.before o.world m.accepted m.acknowledged o.reached (inr o.last) o.at.at.sizes o.told (clause m.away o.before o.world o.at) stop)
+      subst At (sym is) (stopped r r h k db l m.away o.before o.world m.accepted m.acknowledged o.reached (inr (last_pending all m.accepted o.before o.world o.last)) o.at.at.sizes o.told (clause m.away o.before o.world o.at) stop)
   next m (Settle_returned s) n was (r, h, work, phase, is, clause) =
       let o : (o : OnTheWay g view size all r h m.away work m.accepted m.acknowledged) × IsShelfOf (view h) o.world (size h) = subst (AtPhase m) phase was in
       subst At (sym is) (record { world = o.0.world; reached = o.0.reached; at = clause m.away o.0.before o.0.world o.0.at o.1; told = o.0.told })
   next m (Settle_stopped s db l) n was (r, h, work, phase, is, clause, stop) =
       let o : (o : OnTheWay g view size all r h m.away work m.accepted m.acknowledged) × IsShelfOf (view h) o.world (size h) = subst (AtPhase m) phase was in
-      subst At (sym is) (stopped r s h h db l m.away o.0.before o.0.world m.accepted m.acknowledged o.0.reached (inr o.0.last) o.0.at.at.sizes o.0.told (clause m.away o.0.before o.0.world o.0.at o.1) stop)
+      subst At (sym is) (stopped r s h h db l m.away o.0.before o.0.world m.accepted m.acknowledged o.0.reached (inr (last_pending all m.accepted o.0.before o.0.world o.0.last)) o.0.at.at.sizes o.0.told (clause m.away o.0.before o.0.world o.0.at o.1) stop)
   next m (Moved beyond later) n was (db, h, phase, is, move) =
       let o : Stopped g view size all db h m.away m.accepted m.acknowledged = subst (AtPhase m) phase was in
       subst At (sym is) (moved db h later m.away beyond m.accepted m.acknowledged move o)
@@ -302,6 +372,17 @@ module _ {S H : Type 0} (g : Ghosts S) (view : H → View) (size : H → Sizes) 
       let o : Stopped g view size all (stored g start) h m.away m.accepted m.acknowledged = subst (AtPhase m) phase was in
       let left : IsLeft g view size start h m.away o.before o.world = record { sizes = o.sizes; recovers = o.recovers } in
       subst At (sym is) (stopped start s h k db l m.away o.before o.world m.accepted m.acknowledged o.reached o.last o.sizes o.told (clause m.away o.before o.world left) stop)
+  next m (Without_returned call p gone start s k) n was (h, phase, is, clause) =
+      let o : Stopped g view size all (stored g start) h m.away m.accepted m.acknowledged = subst (AtPhase m) phase was in
+      let it = clause m.away o.before o.world (record { sizes = o.sizes; recovers = o.recovers }) in
+      subst At (sym is) (record { world = it.1; reached = (o.world, o.reached, it.2); at = it.3; told = keeps o.told })
+  next m (Without_stopped call p gone start s db l) n was (h, phase, after, is, left, clause, stop) =
+      let o : Stopped g view size all (stored g start) h m.away m.accepted m.acknowledged = subst (AtPhase m) phase was in
+      subst At (sym is) (without_stopped call p gone start s h db l m.away m.accepted m.acknowledged after o left (clause m.away o.before o.world (record { sizes = o.sizes; recovers = o.recovers })).1 stop)
+  next m (Without_carrying call p gone start mid s k db l) n was (h, phase, is, clause, stop) =
+      let o : Stopped g view size all (stored g start) h m.away m.accepted m.acknowledged = subst (AtPhase m) phase was in
+      let it = clause m.away o.before o.world (record { sizes = o.sizes; recovers = o.recovers }) in
+      subst At (sym is) (stopped mid s h k db l m.away o.before it.1 (Without call p gone ∷ m.accepted) m.acknowledged (o.world, o.reached, it.2) (inr (o.world, o.reached, it.2, o.last)) it.3 (skips o.told) it.4 stop)
 
   started : (db : Trees) (h : H) (away : Image) (w : World) → IsStart g view size all db h away w → AllLead no_tables [] (size h) away (view h).may_leave w w
   started db h away w s x l = (

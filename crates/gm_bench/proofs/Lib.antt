@@ -24,3 +24,9 @@ pub mod Induction
 pub mod Listed
 pub mod Showing
 pub mod Agreeing
+pub mod LossLists
+pub mod LossRemaining
+pub mod LossReadable
+pub mod Losses
+pub mod LossCommits
+pub mod LossSources

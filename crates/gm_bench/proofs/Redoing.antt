@@ -1,5 +1,5 @@
 -- A redo leads each image to where it led.
-use Rattle.std.proofs.Common.{◌≡◌, inl, inr, List, refl, sym, subst, arith}
+use Rattle.std.proofs.Common.{◌≡◌, ◌∙◌, ◌+◌, ◌-◌, Some, inl, inr, List, refl, sym, ap, subst, arith}
 use Rattle.gm_metadata.specs.Images.{Image, Sizes}
 use Rattle.gm_shelf.specs.Disk.{View, From, IsLawful}
 use Rattle.gm_state.specs.declared.command.Intent.{Intent}
@@ -7,15 +7,15 @@ use Rattle.gm_state.specs.Intents.{is_place, IsAtHand, IsRedo, InOrder, Agrees}
 use Rattle.gm_state.specs.Records.{Records}
 use Rattle.gm_state.specs.Rows.{Tables}
 use Rattle.gm_state.specs.Words.{Has}
-use Rattle.gm_state.specs.World.{World, present}
+use Rattle.gm_state.specs.World.{World, present, claimed}
 use Rattle.gm_apply.specs.Continues.{Continues}
 use Rattle.gm_apply.specs.Redo.{IsPartlyDone, CrashLeaves, PlacesAreNew}
-use Rattle.gm_apply.proofs.Leading.{leads_on, ends_there, claims_kept, new_claims_kept}
+use Rattle.gm_apply.proofs.Leading.{leads_on, ends_there, claims_kept, claim_kept}
 use Rattle.gm_apply.proofs.Safe.{copies_data}
 use Rattle.gm_bench.specs.Leading.{AreAmong, whole, Leads, KeepsClaims, AllLead}
 use Rattle.gm_bench.specs.Recovering.{Cover, IsShelfOf}
 use Rattle.gm_bench.proofs.Masking.{masked, are_there, have_sizes, order_of, redo_down, partly_up}
-use Rattle.gm_state.proofs.Claiming.{sound_claims}
+use Rattle.gm_state.proofs.Claiming.{sound_claims, same_data}
 
 -- what `apply` promises of moments, for these records, sizes and intents
 abbrev pub Moments : Records → Sizes → List Intent → View → View → Type 0
@@ -59,7 +59,16 @@ module _ (t : Tables) (ts : List Intent) (u w : World) where
         copies = k.copies;
         old = claims_kept u w ts d x (goes_old d l k) (subst (λ (z : Sizes). InOrder z ts) back order) (subst (λ (z : Sizes). Agrees z ts d w.shelf) back l.redo.agrees) k.old
             (subst (λ (z : Sizes). IsPartlyDone z ts w.shelf d x) back part);
-        new = λ bare. new_claims_kept u w ts d x (goes_new d l) order l.redo.agrees (k.new bare) part;
+        new = λ m c o none bare e ok bears named mid active clean.
+            let room = (l.sound.state.each m o.mirror).sizes c o.component in
+            let whole_size : c.sectors ≡ c.sectors - 1 + 1 = omega (arith, room) in
+            let goes : Continues w w ts = goes_new d l in
+            claim_kept w.size ts w.shelf d x order l.redo.agrees part c.provider (c.sectors - 1)
+            (w.holds m.name) (λ i is. (goes.copies m c o i is).0)
+            (λ touched. goes.there m c o touched ∙ ap Some whole_size) e (claimed m e)
+            (λ b. k.new m c o none bare e ok b named mid active clean)
+            (λ b i low. goes.claims m c e o ok b named mid active clean i low
+            ∙ same_data w w m.name e.syncid i refl) bears;
       }
 
   module _ (old new : View) (lawful : IsLawful old) (size : Sizes) (away : Image) (leads : AllLead t ts size away old.may_leave u w) (sizes : present w ≡ size) (hand : (r : Intent) → Has ts r → IsAtHand size r) (part : Records) (cover : Cover part w.state ts) where

@@ -41,7 +41,7 @@ rest_claims y w sound same = record {
   after = sound_claims w w.shelf sound (λ q there j. refl);
   copies = λ m k o i e. absurd (let f : ⊥ = cc in f);
   old = sound_claims w y sound same;
-  new = λ bare m k d o none ok bears named mid active i below.
+  new = λ m k o none bare d ok bears named mid active clean i below.
       not_both (same_label k.provider k.provider) (same_refl k.provider) (found_none (λ (j : Component). same_label j.provider k.provider) w.state.components none k (member w.state m.name k o.component).0);
 }
 

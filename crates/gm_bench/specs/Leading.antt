@@ -1,5 +1,5 @@
 -- What tables with pending intents and an image lead to.
-use Rattle.std.specs.Prelude.{◌≡◌, ◌⊎◌, ℕ, List, None, is_some, if◌then◌else◌}
+use Rattle.std.specs.Prelude.{◌≡◌, ◌⊎◌, ◌-◌, ℕ, false, List, None, is_some, if◌then◌else◌}
 use Rattle.std.specs.List.Sorted.{IsPermutation}
 use Rattle.gm_metadata.specs.Images.{Image, Sizes}
 use Rattle.gm_state.specs.declared.command.Intent.{Intent}
@@ -7,8 +7,13 @@ use Rattle.gm_state.specs.Intents.{IsAtHand, IsRedo}
 use Rattle.gm_state.specs.Readable.{AreReadable}
 use Rattle.gm_state.specs.Rows.{Tables, HoldRecords, intent_rows}
 use Rattle.gm_state.specs.Words.{Has}
-use Rattle.gm_state.specs.World.{World, Sound, Claims, NewClaims, CopiesData}
-use Rattle.gm_rules.specs.Step.{NewAreBare}
+use Rattle.gm_metadata.specs.Sector.{Bears, IsMetadata}
+use Rattle.gm_metadata.specs.declared.metadata.Metadata.{Metadata}
+use Rattle.gm_state.specs.declared.records.Mirror.{Mirror}
+use Rattle.gm_state.specs.declared.records.Component.{Component}
+use Rattle.gm_state.specs.Intents.{IsOf}
+use Rattle.gm_state.specs.Lookups.{component_of}
+use Rattle.gm_state.specs.World.{World, Sound, Below, Claims, CopiesData, claimed}
 
 -- all providers: those of these sizes as the shelf has them, the others as they are away from it
 abbrev pub whole : Sizes → Image → Image → Image
@@ -28,15 +33,32 @@ pub record Leads (t : Tables) (ts : List Intent) (x : Image) (w : World) : Type 
   pub at_hand : (t : Intent) → Has ts t → IsAtHand w.size t
   pub redo : IsRedo w.state w.size ts x w.shelf
 
+-- the last sector of the component's provider bore nothing
+abbrev pub WasBare : World → Component → Type 0
+WasBare u k = (d : Metadata) → Bears (u.shelf k.provider (k.sectors - 1)) d → ⊥
+
+-- what a component claims in the image, of the list that its syncid tells, is there
+abbrev pub ClaimsOf : Mirror → Component → (ℕ → ℕ → List ℕ) → Image → Type 0
+ClaimsOf m k list x =
+    (d : Metadata) → IsMetadata d → Bears (x k.provider (k.sectors - 1)) d
+    → d.name ≡ m.name → d.mid ≡ m.mid → d.dflags.inactive ≡ false → d.dflags.dirty ≡ false
+    → Below x (list d.syncid) k.provider (claimed m d)
+
+-- so is what each component claims that is new in w, and whose provider bore nothing before
+abbrev pub EachNewClaims : World → World → Image → Type 0
+EachNewClaims u w x =
+    (m : Mirror) (k : Component) → IsOf w.state m k → component_of u.state k.provider ≡ None
+    → WasBare u k → ClaimsOf m k (λ syncid. w.holds m.name) x
+
 -- No component of u claims in the image a sector that it lacks, nor does one that is new in w; and the intents keep that
 -- on the way to w.
 pub record KeepsClaims (ts : List Intent) (x : Image) (u w : World) : Type 0 where
   pub sound : Sound u
   pub sizes : u.size ≡ w.size
-  pub after : Claims u w.shelf
+  pub after : Claims u w w.shelf
   pub copies : CopiesData u w ts
-  pub old : Claims u x
-  pub new : NewAreBare u w → NewClaims u w x
+  pub old : Claims u w x
+  pub new : EachNewClaims u w x
 
 -- with each of the shelf's images the tables and their intents lead to w, and no component claims on the way a sector
 -- that it lacks

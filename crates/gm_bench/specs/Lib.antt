@@ -13,3 +13,4 @@ pub mod Owed
 pub mod Auditing
 pub mod Showing
 pub mod Agreeing
+pub mod Losing

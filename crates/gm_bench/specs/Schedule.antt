@@ -1,25 +1,35 @@
 -- Schedules: calls that returned or were stopped, providers that went away or came back, and openings. A stop between
 -- two calls is one at the end of the first, or at the start of the second.
-use Rattle.std.specs.Prelude.{◌≡◌, ◌⊎◌, ◌+◌, ℕ, List, [], ◌∷◌, length}
+use Rattle.std.specs.Prelude.{◌≡◌, ◌⊎◌, ◌+◌, ◌&&◌, ℕ, false, List, [], ◌∷◌, length}
 use Rattle.sqlite_trees.specs.declared.store.Store.{Ghosts}
 use Rattle.sqlite.specs.Tree.{Trees}
 use Rattle.sqlite.specs.Held.{Held}
-use Rattle.gm_metadata.specs.Images.{Image, Sizes, Same, SameThere}
+use Rattle.gm_metadata.specs.Images.{Image, Sizes, Same, SameThere, same_label}
 use Rattle.gm_shelf.specs.Disk.{View}
 use Rattle.gm_state.specs.declared.command.Reply.{Reply}
 use Rattle.gm_state.specs.Rows.{Tables}
 use Rattle.gm_state.specs.World.{World, present}
+use Rattle.gm_state.specs.Intents.{is_place}
+use Rattle.gm_state.specs.declared.command.Intent.{Intent}
+use Rattle.gm_state.specs.declared.command.Command.TheVariants.{Lost}
 use Rattle.gm_rules.specs.Step.{Step}
 use Rattle.gm_rules.specs.Run.{Call}
 use Rattle.gm_registry.specs.Registry.{CrashLeaves, stored}
 use Rattle.gm_registry.specs.Replies.{count_of}
 use Rattle.gm_registry.specs.Tables.{IsEmpty}
 use Rattle.gm_bench.specs.Leading.{AreAmong, whole}
+use Rattle.gm_bench.specs.Losing.{dropped}
 use Rattle.gm_bench.specs.declared.answer.Work.{Work}
 use Rattle.gm_bench.specs.declared.answer.Accepted.{Accepted}
 use Rattle.gm_bench.specs.declared.answer.Accepted.TheVariants.{Done, Repeated, Refused}
-use Rattle.gm_bench.specs.Recovering.{IsStored, Recovers, IsAt, IsAtWork, IsShelfOf}
-use Rattle.gm_bench.specs.Owed.{AcceptLeaves, AcceptAnswers, ApplyLeaves, ApplyDoes, SettleLeaves, SettleDoes, OpenLeaves, OpenDoes}
+use Rattle.gm_bench.specs.Recovering.{IsStored, Recovers, IsAt, IsAtWork, IsShelfOf, LeavesOnly}
+use Rattle.gm_bench.specs.Owed.{AcceptLeaves, AcceptAnswers, ApplyLeaves, ApplyDoes, SettleLeaves, SettleDoes, OpenLeaves, OpenDoes, IsLeft}
+
+-- How a command was accepted: handed in to a bench at rest; or by an opening without a provider, of which these intents of
+-- earlier commands were taken out.
+pub data Entry : Type 0 where
+  Handed_in : (call : Call) → Entry
+  Without : (call : Call) (provider : List ℕ) (gone : List Intent) → Entry
 
 -- where the bench is: between two calls, some with work that is pending, or stopped with one store and a shelf
 pub data Phase (R H : Type 0) : Type 0 where
@@ -40,18 +50,21 @@ pub data Event (R H : Type 0) : Type 0 where
   Moved : (away : Image) (later : H) → Event R H
   Open_returned : (store registry : R) (shelf : H) → Event R H
   Open_stopped : (store registry : R) (shelf : H) (db : Trees) (later : H) → Event R H
+  Without_returned : (call : Call) (provider : List ℕ) (gone : List Intent) (store registry : R) (shelf : H) → Event R H
+  Without_stopped : (call : Call) (provider : List ℕ) (gone : List Intent) (store registry : R) (db : Trees) (later : H) → Event R H
+  Without_carrying : (call : Call) (provider : List ℕ) (gone : List Intent) (store middle registry : R) (shelf : H) (db : Trees) (later : H) → Event R H
 
 -- the phase, what the providers hold that are away, and the accepted and the acknowledged calls, the newest first
 pub record Now (R H : Type 0) : Type 0 where
   pub phase : Phase R H
   pub away : Image
-  pub accepted : List Call
-  pub acknowledged : List Call
+  pub accepted : List Entry
+  pub acknowledged : List Entry
 
 -- a command that is done is pending, accepted and acknowledged; after another answer nothing has changed
 abbrev pub after_answer : {R H : Type 0} → Now R H → Call → Accepted → R → H → Now R H
 after_answer m call (Done n reply work) s k =
-    record m { phase = Pending s k work; accepted = call ∷ m.accepted; acknowledged = call ∷ m.acknowledged }
+    record m { phase = Pending s k work; accepted = Handed_in call ∷ m.accepted; acknowledged = Handed_in call ∷ m.acknowledged }
 after_answer m call (Repeated n reply) s k = record m { phase = Ready s k }
 after_answer m call (Refused why) s k = record m { phase = Ready s k }
 
@@ -83,24 +96,51 @@ pub record IsStepTo (u : World) (call : Call) (w : World) : Type 0 where
   pub step : Step u call.key call.command stepped reply
   pub moved : IsButMoved w stepped
 
--- the world after these calls, by steps alone
-abbrev pub Reached : Sizes → List Call → World → Type 0
-Reached all [] w = IsNew all w
-Reached all (call ∷ older) w = (u : World) × Reached all older u × IsStepTo u call w
+-- The call's step from u, by an opening without the provider: its sectors that the intents named which were taken out hold
+-- what they were left with.
+pub record IsStepWithout (u : World) (call : Call) (provider : List ℕ) (gone : List Intent) (w : World) : Type 0 where
+  pub stepped : World
+  pub reply : Reply
+  pub step : Step u call.key call.command stepped reply
+  pub mirror : List ℕ
+  pub command : call.command ≡ Lost mirror (provider ∷ [])
+  pub state : w.state ≡ stepped.state
+  pub holds : w.holds ≡ stepped.holds
+  pub answered : w.answered ≡ stepped.answered
+  pub size : w.size ≡ stepped.size
+  pub shelf : (q : List ℕ) (j : ℕ) → (same_label provider q && is_place u.size gone q j) ≡ false → w.shelf q j ≡ stepped.shelf q j
 
--- u is the world before the last of these calls, and w the one after it
-abbrev pub IsLastStep : Sizes → List Call → World → World → Type 0
+abbrev pub IsEntry : World → Entry → World → Type 0
+IsEntry u (Handed_in call) w = IsStepTo u call w
+IsEntry u (Without call provider gone) w = IsStepWithout u call provider gone w
+
+-- the world after these commands, by steps alone
+abbrev pub Reached : Sizes → List Entry → World → Type 0
+Reached all [] w = IsNew all w
+Reached all (entry ∷ older) w = (u : World) × Reached all older u × IsEntry u entry w
+
+-- u is the world before the last of these commands, which was handed in, and w the one after it
+abbrev pub IsLastStep : Sizes → List Entry → World → World → Type 0
 IsLastStep all [] u w = ⊥
-IsLastStep all (call ∷ older) u w = Reached all older u × IsStepTo u call w
+IsLastStep all (Handed_in call ∷ older) u w = Reached all older u × IsStepTo u call w
+IsLastStep all (Without call provider gone ∷ older) u w = ⊥
+
+-- u is the world before the first of those of the last commands that may be pending, and w the one after them all: openings
+-- without a provider, behind one command that was handed in or behind none
+abbrev pub ArePending : Sizes → List Entry → World → World → Type 0
+ArePending all [] u w = ⊥
+ArePending all (Handed_in call ∷ older) u w = Reached all older u × IsStepTo u call w
+ArePending all (Without call provider gone ∷ older) u w =
+    (v : World) × Reached all older v × IsStepWithout v call provider gone w × (IsButMoved u v ⊎ ArePending all older u v)
 
 -- how many commands the tables of a store hold
 abbrev pub HasCount : Trees → ℕ → Type 0
 HasCount db n = (t : Tables) → IsStored db t → count_of t ≡ n
 
 -- the commits that were left: with that of the call, or without
-abbrev pub IsLeftIn : Trees → Call → List Call → List Call → Type 0
-IsLeftIn db call before after =
-    ((after ≡ before) × HasCount db (length before)) ⊎ ((after ≡ call ∷ before) × HasCount db (length before + 1))
+abbrev pub IsLeftIn : Trees → Entry → List Entry → List Entry → Type 0
+IsLeftIn db entry before after =
+    ((after ≡ before) × HasCount db (length before)) ⊎ ((after ≡ entry ∷ before) × HasCount db (length before + 1))
 
 module _ {S H : Type 0} (g : Ghosts S) (view : H → View) (size : H → Sizes) where
   -- one store and one shelf that a stop within a call leaves: the store is of the call's start and the image of any
@@ -111,6 +151,30 @@ module _ {S H : Type 0} (g : Ghosts S) (view : H → View) (size : H → Sizes) 
       × ((view l).may_leave (view l).seen)
       × ((CrashLeaves g r db × ((x : Image) → (view l).may_leave x → (view k).left_since (view h).moment x))
       ⊎ (CrashLeaves g s db × ((x : Image) → (view l).may_leave x → (view k).may_leave x)))
+
+  -- An opening without a provider: until its commit nothing is written to the shelf, and what a stop leaves leads to w; the
+  -- commit leaves that, or what leads to the step.
+  pub record LeavesCommit (store mid : Held S) (h : H) (away : Image) (u w : World) (call : Call) (provider : List ℕ) (gone : List Intent) : Type 0 where
+    pub within : (db : Trees) → CrashLeaves g store db → Recovers db (size h) away ((view h).left_since (view h).moment) u w
+    pub end : (db : Trees) → CrashLeaves g mid db → Recovers db (size h) away (view h).may_leave u w
+        ⊎ ((v : World) × IsStepWithout w call provider gone v × (present v ≡ size h) × Recovers db (size h) away (view h).may_leave u v)
+
+  abbrev pub WithoutLeaves : Held S → Held S → H → Call → List ℕ → List Intent → Type 0
+  WithoutLeaves store mid h call provider gone =
+      (away : Image) (u w : World) → (left : IsLeft g view size store h away u w)
+      → (gone ≡ dropped provider left.recovers.intents) × LeavesCommit store mid h away u w call provider gone
+
+  -- behind the commit: what a stop leaves leads to the step
+  abbrev pub WithoutCarries : Held S → Held S → Held S → H → H → Call → List ℕ → List Intent → Type 0
+  WithoutCarries store mid s h k call provider gone =
+      (away : Image) (u w : World) → (left : IsLeft g view size store h away u w)
+      → (gone ≡ dropped provider left.recovers.intents) × (v : World) × IsStepWithout w call provider gone v × (present v ≡ size h) × LeavesOnly g view size mid s h k away u v
+
+  -- at its end the bench is at rest in the world of the step
+  abbrev pub WithoutDoes : Held S → Held S → H → H → Call → List ℕ → List Intent → Type 0
+  WithoutDoes store s h k call provider gone =
+      (away : Image) (u w : World) → (left : IsLeft g view size store h away u w)
+      → (gone ≡ dropped provider left.recovers.intents) × (v : World) × IsStepWithout w call provider gone v × IsAt g view size s k away [] v v
 
   -- Providers went away or came back unchanged: those on the later shelf have their sizes, and whatever image is left of
   -- it, all providers hold what they hold with one that may be left of this shelf.
@@ -128,7 +192,7 @@ module _ {S H : Type 0} (g : Ghosts S) (view : H → View) (size : H → Sizes) 
         × AcceptAnswers g view size r s h k call.key call.command answer
     Happens m (Accept_stopped call s k db l) n =
         (r : Held S) × (h : H) × (m.phase ≡ Ready r h)
-        × (left : List Call) × (n ≡ record m { phase = Down db l; accepted = left }) × IsLeftIn db call m.accepted left
+        × (left : List Entry) × (n ≡ record m { phase = Down db l; accepted = left }) × IsLeftIn db (Handed_in call) m.accepted left
         × AcceptLeaves g view size r s h k call.key call.command × IsStop r s h k db l
     Happens m (Apply_returned k) n =
         (r : Held S) × (h : H) × (work : Work) × (m.phase ≡ Pending r h work)
@@ -151,6 +215,18 @@ module _ {S H : Type 0} (g : Ghosts S) (view : H → View) (size : H → Sizes) 
     Happens m (Open_stopped o s k db l) n =
         (h : H) × (m.phase ≡ Down (stored g o) h) × (n ≡ record m { phase = Down db l })
         × OpenLeaves g view size o s h k × IsStop o s h k db l
+    Happens m (Without_returned call p gone o s k) n =
+        (h : H) × (m.phase ≡ Down (stored g o) h)
+        × (n ≡ record m { phase = Ready s k; accepted = Without call p gone ∷ m.accepted; acknowledged = Without call p gone ∷ m.acknowledged })
+        × WithoutDoes o s h k call p gone
+    Happens m (Without_stopped call p gone o s db l) n =
+        (h : H) × (m.phase ≡ Down (stored g o) h)
+        × (left : List Entry) × (n ≡ record m { phase = Down db l; accepted = left }) × IsLeftIn db (Without call p gone) m.accepted left
+        × WithoutLeaves o s h call p gone × IsStop o s h h db l
+    Happens m (Without_carrying call p gone o mid s k db l) n =
+        (h : H) × (m.phase ≡ Down (stored g o) h)
+        × (n ≡ record m { phase = Down db l; accepted = Without call p gone ∷ m.accepted })
+        × WithoutCarries o mid s h k call p gone × IsStop mid s h k db l
 
     -- A start: a store without tables, and a new world whose providers hold what any crash leaves of them.
     pub record IsStart (db : Trees) (h : H) (away : Image) (w : World) : Type 0 where
@@ -167,14 +243,14 @@ module _ {S H : Type 0} (g : Ghosts S) (view : H → View) (size : H → Sizes) 
     Runs (e ∷ older) n = (m : Now (Held S) H) × Runs older m × Happens m e n
 
     -- after an opening and at rest: the tables and the shelf are those of the world after the accepted calls
-    pub record AtRest (r : Held S) (h : H) (away : Image) (acc ack : List Call) : Type 0 where
+    pub record AtRest (r : Held S) (h : H) (away : Image) (acc ack : List Entry) : Type 0 where
       pub world : World
       pub reached : Reached all acc world
       pub at : IsAt g view size r h away [] world world
       pub told : Within ack acc
 
     -- the work that is pending leads to it, and no component claims on the way a sector that it lacks
-    pub record OnTheWay (r : Held S) (h : H) (away : Image) (work : Work) (acc ack : List Call) : Type 0 where
+    pub record OnTheWay (r : Held S) (h : H) (away : Image) (work : Work) (acc ack : List Entry) : Type 0 where
       pub world : World
       pub before : World
       pub reached : Reached all acc world
@@ -182,18 +258,18 @@ module _ {S H : Type 0} (g : Ghosts S) (view : H → View) (size : H → Sizes) 
       pub at : IsAtWork g view size r h away work before world
       pub told : Within ack acc
 
-    -- whatever a stop left leads to it, from itself or from the world before the last call
-    pub record Stopped (db : Trees) (h : H) (away : Image) (acc ack : List Call) : Type 0 where
+    -- whatever a stop left leads to it, from itself or from the world before the first command that is pending
+    pub record Stopped (db : Trees) (h : H) (away : Image) (acc ack : List Entry) : Type 0 where
       pub world : World
       pub before : World
       pub reached : Reached all acc world
-      pub last : IsButMoved before world ⊎ IsLastStep all acc before world
+      pub last : IsButMoved before world ⊎ ArePending all acc before world
       pub sizes : present world ≡ size h
       pub recovers : Recovers db (size h) away (view h).may_leave before world
       pub told : Within ack acc
 
     -- what holds at each phase
-    abbrev pub Headline : Phase (Held S) H → Image → List Call → List Call → Type 0
+    abbrev pub Headline : Phase (Held S) H → Image → List Entry → List Entry → Type 0
     Headline (Ready r h) away acc ack = AtRest r h away acc ack
     Headline (Pending r h work) away acc ack = OnTheWay r h away work acc ack
     Headline (Applied r h work) away acc ack =

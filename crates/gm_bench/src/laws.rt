@@ -1,9 +1,19 @@
 //! What holds of every schedule, and of an audit that lists none.
 
-ghost use Rattle.std.specs.Prelude.{List, []};
+ghost use Rattle.std.specs.Prelude.{◌≡◌, ◌∷◌, ℕ, Some, List, []};
+ghost use Rattle.std.specs.List.Sorted.{IsPermutation};
+ghost use Rattle.gm_state.specs.declared.command.Command.TheVariants.{Lost};
+ghost use Rattle.gm_state.specs.declared.command.Intent.{Intent};
+ghost use Rattle.gm_state.specs.declared.records.Mirror.{Mirror};
+ghost use Rattle.gm_state.specs.Lookups.{mirror_of};
+ghost use Rattle.gm_state.specs.Rows.{Tables, HoldRecords, intent_rows};
+ghost use Rattle.gm_state.specs.World.{World, Sound};
+ghost use Rattle.gm_rules.specs.Step.{Plan};
+ghost use Rattle.gm_bench.specs.Leading.{Leads, KeepsClaims};
+ghost use Rattle.gm_bench.specs.Losing.{pending_after, as_left, HasNext};
 ghost use Rattle.sqlite.specs.Held.{Held};
 ghost use Rattle.gm_metadata.specs.Images.{Image, Sizes};
-ghost use Rattle.gm_state.specs.Records.{IsState, Records};
+ghost use Rattle.gm_state.specs.Records.{IsState, Records, members};
 ghost use Rattle.gm_taste.specs.declared.provider.Provider.{Provider};
 ghost use Rattle.gm_taste.specs.declared.tasted.Tasted.{Tasted};
 ghost use Rattle.gm_taste.specs.Tasted.{IsTasted};
@@ -35,3 +45,18 @@ pub fn clean_audit_law()
 {
     metadata_fits();
 }
+
+/// Study: what is pending behind the loss of a component leads on, and keeps what was claimed before the first command.
+pub fn losses_lead_on()
+    ensures { (u w v : World) (key n p next : List ℕ) (ts us : List Intent) (m : Mirror)
+        (y away : Image) (before t : Tables) → Sound w → mirror_of w.state n ≡ Some m
+        → Plan w key (Lost n (p ∷ [])) us v → ((j : ℕ) → y p j ≡ away p j)
+        → Leads before ts y w → HasNext v.state p next ts → HoldRecords v t
+        → IsPermutation (intent_rows 1
+        (pending_after p next ts (members v.state.components m.name))) t.intents
+        → KeepsClaims ts y u w
+        → Leads t (pending_after p next ts (members v.state.components m.name)) y
+        (as_left v p away)
+        × KeepsClaims (pending_after p next ts (members v.state.components m.name)) y u
+        (as_left v p away) }
+{}

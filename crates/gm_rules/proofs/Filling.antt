@@ -1,5 +1,5 @@
 -- The plan of advance: the next stretch of a mirror's data is copied to a component, which then says so.
-use Rattle.std.proofs.Common.{◌≡◌, ◌≢◌, ◌∙◌, ◌⊎◌, inl, inr, ℕ, ◌<◌, ◌≤◌, ◌+◌, ◌-◌, ◌==◌, ◌&&◌, Bool, true, false, refl, sym, ap, subst, arith, List, [], ◌∷◌, Some, cond, map, nat_le, nat_lt, eqb-true, ltb-true, ltb-false}
+use Rattle.std.proofs.Common.{◌≡◌, ◌≢◌, ◌∙◌, ◌⊎◌, inl, inr, ℕ, ◌<◌, ◌≤◌, ◌+◌, ◌-◌, ◌==◌, ◌&&◌, Bool, true, false, refl, sym, ap, subst, arith, List, [], ◌∷◌, None, Some, cond, map, nat_le, nat_lt, eqb-true, ltb-true, ltb-false}
 use Rattle.std.specs.Prelude.{IsSomeAnd}
 use Rattle.std.proofs.lemmas.Bool.{cases_Bool, and_parts, leb-true, le-leb, lt-ltb, or_parts, eqb-false}
 use Rattle.gm_metadata.specs.Images.{Image, same_label}
@@ -20,6 +20,7 @@ use Rattle.gm_state.specs.Intents.{IsOf, is_last, any_copies, copies, is_place, 
 use Rattle.gm_state.specs.Readable.{IsCopyWithin, IsReadable}
 use Rattle.gm_state.specs.World.{World, Sound, Below, ReplyFits, present}
 use Rattle.gm_state.proofs.Best.{source_of_is}
+use Rattle.gm_state.proofs.Claiming.{mirror_found}
 use Rattle.gm_state.proofs.Order.{same_from, same_is, same_refl, differ}
 use Rattle.gm_state.proofs.Words.{Has-filter, one}
 use Rattle.gm_state.proofs.Finding.{Has-map, find_one, found_none, not_both}
@@ -241,14 +242,22 @@ module _ (u : World) (key : List ℕ) (m : Mirror) (k j : Component) (sound : So
   reached : (i : Component) → Has (members u.state.components m.name) i → IsSomeAnd (present u i.provider) (λ n. end ≤ n)
   reached i h = some_and (present u i.provider) i.sectors (λ n. end ≤ n) (there i h) (let size : m.data_sectors + 1 ≤ i.sectors = rules.sizes i h in let most : end ≤ m.data_sectors = within.1 in omega arith)
 
-  mirrored : (a : Mirror) (i : Component) → IsOf u.state a i → (x : ℕ) → any_copies ts i.provider x ≡ true → (is_last (u.size i.provider) x ≡ false) × (mid i.provider x ≡ u.holds a.name x)
+  mirrored : (a : Mirror) (i : Component) → IsOf u.state a i → (x : ℕ)
+      → any_copies ts i.provider x ≡ true
+      → (is_last (u.size i.provider) x ≡ false) × (mid i.provider x ≡ u.holds a.name x)
+      × (mirror_of s a.name ≢ None)
   mirrored a i o x e =
       let is : copies copy i.provider x ≡ true = elim (cases_Bool (copies copy i.provider x)) [ inl y ↦ y | inr n ↦ absurd (let z : false ≡ true = rw n at e in let w : ⊥ = cc in w) ] in
       let b = Has-filter (λ (z : Component). same_label z.mirror m.name) u.state.components k mine in
       let d = Has-filter (λ (z : Component). same_label z.mirror a.name) u.state.components i o.component in
       let same : k ≡ i = one provider u.state.components sound.state.components_in_order k i b.0 d.0 (copied i.provider x is).0 in
       let name : m.name ≡ a.name = sym (same_is k.mirror m.name b.1) ∙ ap (λ (z : Component). z.mirror) same ∙ same_is i.mirror a.name d.1 in
-      (copied_not_last i.provider x is, data_there i.provider x is ∙ ap (λ (n : List ℕ). u.holds n x) name)
+      let after = of_after (f k) (Has-map f _ k mine) in
+      let stays : mirror_of s m.name ≢ None = mirror_found s m after.mirror in (
+        copied_not_last i.provider x is,
+        data_there i.provider x is ∙ ap (λ (n : List ℕ). u.holds n x) name,
+        subst (λ (n : List ℕ). mirror_of s n ≢ None) name stays,
+      )
 
   at_name : mirror_of u.state m.name ≡ Some m
   at_name = find_one (λ (a : Mirror). a.name) u.state.mirrors sound.state.mirrors_in_order m here

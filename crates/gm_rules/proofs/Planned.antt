@@ -1,5 +1,5 @@
 -- From what a command makes of the records to its plan.
-use Rattle.std.proofs.Common.{◌≡◌, ◌∙◌, ◌⊎◌, inl, inr, ⊎_elim, ℕ, ◌+◌, ◌-◌, ◌<◌, ◌≤◌, ◌==◌, ◌&&◌, ◌||◌, Bool, true, false, IsTrue, refl, sym, ap, subst, arith, List, [], ◌∷◌, length, filter, find, Option, Some, None}
+use Rattle.std.proofs.Common.{◌≡◌, ◌≢◌, ◌∙◌, ◌⊎◌, inl, inr, ⊎_elim, ℕ, ◌+◌, ◌-◌, ◌<◌, ◌≤◌, ◌==◌, ◌&&◌, ◌||◌, Bool, true, false, IsTrue, refl, sym, ap, subst, arith, List, [], ◌∷◌, length, filter, find, Option, Some, None}
 use Rattle.std.specs.Prelude.{IsSomeAnd}
 use Rattle.gm_metadata.specs.Labels.{is_label}
 use Rattle.std.specs.List.{list_any}
@@ -18,7 +18,7 @@ use Rattle.gm_state.specs.World.{World, Sound, CopiesData, ReplyFits, present}
 use Rattle.gm_state.proofs.Order.{same_is, same_from, same_refl, same_tells, differ}
 use Rattle.gm_metadata.specs.Sector.{carries, Bears}
 use Rattle.gm_metadata.specs.declared.metadata.Metadata.{Metadata}
-use Rattle.gm_state.specs.Lookups.{component_of}
+use Rattle.gm_state.specs.Lookups.{component_of, mirror_of}
 use Rattle.gm_state.proofs.Codec.{bears_carries}
 use Rattle.gm_rules.specs.After.{after, clears, fills, intents_of, reply_to}
 use Rattle.gm_rules.specs.Bad.{applies, name_of, is_member_of}
@@ -27,7 +27,7 @@ use Rattle.gm_rules.specs.Step.{Plan, IsOwn, NewData, CanAnswer, HasPlan, WereBa
 use Rattle.gm_rules.specs.Worlds.{seen_of}
 use Rattle.gm_rules.proofs.Answering.{answers_after}
 use Rattle.gm_state.proofs.Finding.{any_from, find_none, found, found_none, not_both, option_cases}
-use Rattle.gm_rules.proofs.Turning.{Turns, Writes, Were, IsOne, shelf_after, holds_after, sound_after, says_after, agrees_after, claims_after, in_s}
+use Rattle.gm_rules.proofs.Turning.{Turns, Writes, Were, IsOne, shelf_after, holds_after, sound_after, says_after, agrees_after, claims_after, data_stay, in_s}
 
 -- an intent that copies nothing
 abbrev pub IsPlain : Intent → Type 0
@@ -103,7 +103,10 @@ pub record Brings (u : World) (c : Command) (mid : Image) (s : Records) (ts : Li
   pub one_copy : length (filter is_copy ts) ≤ 1
   pub ordered : AreOrdered ts
   pub at_hand : (a b : List ℕ) (x y : ℕ) → Has ts (Copy a b x y) → IsAtHand (present u) (Copy a b x y)
-  pub mirrored : (m : Mirror) (k : Component) → IsOf u.state m k → (i : ℕ) → any_copies ts k.provider i ≡ true → (is_last (u.size k.provider) i ≡ false) × (mid k.provider i ≡ u.holds m.name i)
+  pub mirrored : (m : Mirror) (k : Component) → IsOf u.state m k → (i : ℕ)
+      → any_copies ts k.provider i ≡ true
+      → (is_last (u.size k.provider) i ≡ false) × (mid k.provider i ≡ u.holds m.name i)
+      × (mirror_of s m.name ≢ None)
   pub kept : (q : List ℕ) (j : ℕ) → fills u.state c q j ≡ false → mid q j ≡ u.shelf q j
 
 -- intents without a copy bring nothing
@@ -206,7 +209,10 @@ module _ (u : World) (key : List ℕ) (c : Command) (mid : Image) (m : Mirror) (
 
   -- what is copied to a component of before isn't its last sector, so that it stays
   copied : CopiesData u next ts
-  copied a k o i e = let b = brings.mirrored a k o i e in rw b.0 b.1
+  copied a k o i e =
+      let b = brings.mirrored a k o i e in
+      let is : shelf_after u.size m ks gone mid k.provider i ≡ u.holds a.name i = rw b.0 b.1 in
+      (is, data_stay u mid m ks gone list s sound t were a o.mirror i, b.2)
 
   planned : s ≡ after (seen_of u) c u.state → IsGood u.state (seen_of u) c → NewData u c next → WereBare c u next → Plan u key c ts next
   planned is good new bare = record {

@@ -21,7 +21,7 @@ use Rattle.gm_state.proofs.Order.{same_tells, same_refl, same_from, same_is, dif
 use Rattle.gm_state.proofs.Words.{Has-filter, Ascends-filter, one}
 use Rattle.gm_state.proofs.Finding.{found, find_none, find_one, not_both, option_cases}
 use Rattle.gm_state.proofs.Placing.{place_from}
-use Rattle.gm_state.proofs.Claiming.{claims_of}
+use Rattle.gm_state.proofs.Claiming.{claims_of, same_data}
 use Rattle.gm_state.proofs.Codec.{bears_one, bears_not_zeros}
 
 -- ---- the image after the command
@@ -239,8 +239,9 @@ module _ (u : World) (mid : Image) (m : Mirror) (ks : List Component) (gone : Li
       let n : claimed a d ≡ held_by k.disk a.data_sectors = ap (claimed a) same ∙ claims_of a a k (sym (ap (λ (x : Metadata). x.dflags.inactive) same) ∙ inactive) in
       sound.whole a k o i (subst (λ (n : ℕ). i < n) n l)
 
-  pub claims_after : Claims u image
-  claims_after a k d o ok bears na same_mid inactive =
+  -- what is claimed of the data before
+  claims_before : (a : Mirror) (k : Component) (d : Metadata) → IsOf u.state a k → IsMetadata d → Bears (image k.provider (k.sectors - 1)) d → d.name ≡ a.name → d.mid ≡ a.mid → d.dflags.inactive ≡ false → Below image (u.holds a.name) k.provider (claimed a d)
+  claims_before a k d o ok bears na same_mid inactive =
       elim (same_tells a.name m.name) [
         | inr n ↦ (λ i l.
             let h : Has (members s.components a.name) k = subst (λ (x : List Component). Has x k) (sym (t.others a.name n.1)) o.component in
@@ -272,3 +273,10 @@ module _ (u : World) (mid : Image) (m : Mirror) (ks : List Component) (gone : Li
               ]
             ]
       ]
+
+  -- the data of the mirrors that stay
+  pub data_stay : (a : Mirror) → Has u.state.mirrors a → (i : ℕ) → holds_after m.name list u.holds a.name i ≡ u.holds a.name i
+  data_stay a h i = elim (same_tells a.name m.name) [ inl y ↦ rw y.0 (were.list_stays a h y.1 i ∙ ap (λ (n : List ℕ). u.holds n i) (sym y.1)) | inr n ↦ rw n.0 refl ]
+
+  pub claims_after : Claims u (w u mid m ks gone list s sound t) image
+  claims_after a k d o ok bears na same_mid inactive clean i l = claims_before a k d o ok bears na same_mid inactive i l ∙ sym (same_data u (w u mid m ks gone list s sound t) a.name d.syncid i (data_stay a o.mirror i))

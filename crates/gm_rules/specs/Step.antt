@@ -101,7 +101,7 @@ pub record Plan (u : World) (key : List ℕ) (c : Command) (ts : List Intent) (w
   pub sound : Sound w
   pub redo : IsRedo w.state u.size ts u.shelf w.shelf
   pub order : InOrder u.size ts
-  pub claims : Claims u w.shelf
+  pub claims : Claims u w w.shelf
   pub readable : AreReadable w.state ts
   pub at_hand : (t : Intent) → Has ts t → IsAtHand (present u) t
   pub own : (p : List ℕ) → Has ts (Meta p) → IsOwn w.state c p

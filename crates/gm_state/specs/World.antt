@@ -1,5 +1,5 @@
 -- The abstract bench.
-use Rattle.std.specs.Prelude.{◌≡◌, ◌+◌, ◌-◌, ◌/◌, ◌<◌, ◌≤◌, ℕ, Bool, true, false, ◌&&◌, nat_lt, IsTrue, List, [], ◌∷◌, length, Some, None, if◌then◌else◌}
+use Rattle.std.specs.Prelude.{◌≡◌, ◌≢◌, ◌==◌, Option, ◌+◌, ◌-◌, ◌/◌, ◌<◌, ◌≤◌, ℕ, Bool, true, false, ◌&&◌, nat_lt, IsTrue, List, [], ◌∷◌, length, Some, None, if◌then◌else◌}
 use Rattle.std.specs.List.{list_all}
 use Rattle.gm_metadata.specs.Images.{Image, Sizes}
 use Rattle.gm_metadata.specs.Labels.{is_label_byte}
@@ -14,7 +14,7 @@ use Rattle.gm_state.specs.declared.records.Mirror.{Mirror}
 use Rattle.gm_state.specs.declared.records.Component.{Component}
 use Rattle.gm_state.specs.Words.{Has}
 use Rattle.gm_state.specs.Records.{Records, IsState, held_by}
-use Rattle.gm_state.specs.Lookups.{metadata, component_of}
+use Rattle.gm_state.specs.Lookups.{metadata, component_of, mirror_of}
 use Rattle.gm_state.specs.Commands.{CommandFits}
 use Rattle.gm_state.specs.Intents.{IsOf, any_copies}
 
@@ -86,18 +86,32 @@ pub record Sound (w : World) : Type 0 where
 abbrev pub claimed : Mirror → Metadata → ℕ
 claimed m d = if d.dflags.synchronizing then d.sync_offset / 512 else m.data_sectors
 
--- No component's image claims a sector that it lacks: where its last sector bears metadata of its mirror without INACTIVE.
-abbrev pub Claims : World → Image → Type 0
-Claims u x =
+-- the mirror is there, and has this syncid
+abbrev pub has_syncid : Option Mirror → ℕ → Bool
+has_syncid None n = false
+has_syncid (Some m) n = m.syncid == n
+
+-- the data of a mirror that an image with this syncid claims on the way from u to w: those after where it has the syncid of
+-- after, else those before
+abbrev pub data_at : World → World → List ℕ → ℕ → ℕ → List ℕ
+data_at u w name syncid i = if has_syncid (mirror_of w.state name) syncid then w.holds name i else u.holds name i
+
+-- On the way from u to w no image of a component of u claims a sector that it lacks: where its last sector bears metadata of
+-- its mirror, with neither INACTIVE nor DIRTY.
+abbrev pub Claims : World → World → Image → Type 0
+Claims u w x =
     (m : Mirror) (k : Component) (d : Metadata) → IsOf u.state m k → IsMetadata d → Bears (x k.provider (k.sectors - 1)) d
-    → d.name ≡ m.name → d.mid ≡ m.mid → d.dflags.inactive ≡ false → Below x (u.holds m.name) k.provider (claimed m d)
+    → d.name ≡ m.name → d.mid ≡ m.mid → d.dflags.inactive ≡ false → d.dflags.dirty ≡ false → Below x (data_at u w m.name d.syncid) k.provider (claimed m d)
 
 -- The same of the components that w has and u hasn't: they claim of w's data.
 abbrev pub NewClaims : World → World → Image → Type 0
 NewClaims u w x =
     (m : Mirror) (k : Component) (d : Metadata) → IsOf w.state m k → component_of u.state k.provider ≡ None → IsMetadata d → Bears (x k.provider (k.sectors - 1)) d
-    → d.name ≡ m.name → d.mid ≡ m.mid → d.dflags.inactive ≡ false → Below x (w.holds m.name) k.provider (claimed m d)
+    → d.name ≡ m.name → d.mid ≡ m.mid → d.dflags.inactive ≡ false → d.dflags.dirty ≡ false → Below x (w.holds m.name) k.provider (claimed m d)
 
--- what the intents copy to a component of u is its mirror's data
+-- what is copied to a component of u is its mirror's data, and the mirror stays, with the same data
 abbrev pub CopiesData : World → World → List Intent → Type 0
-CopiesData u w ts = (m : Mirror) (k : Component) → IsOf u.state m k → (i : ℕ) → any_copies ts k.provider i ≡ true → w.shelf k.provider i ≡ u.holds m.name i
+CopiesData u w ts =
+    (m : Mirror) (k : Component) → IsOf u.state m k → (i : ℕ) → any_copies ts k.provider i ≡ true
+    → (w.shelf k.provider i ≡ u.holds m.name i) × (w.holds m.name i ≡ u.holds m.name i)
+    × (mirror_of w.state m.name ≢ None)

@@ -48,7 +48,8 @@ pub fn one_reply()
 
 /// In a sound world no component claims a sector that it lacks, in any image that is the world's on its providers.
 pub fn sound_claims()
-    ensures { (w : World) (x : Image) → Sound w → SameThere w.size x w.shelf → Claims w x }
+    ensures { (w : World) (x : Image) → Sound w → SameThere w.size x w.shelf
+        → Claims w w x }
 {}
 
 /// What soundness says of data: an ACTIVE component has all of its mirror's, and one that is being copied to has

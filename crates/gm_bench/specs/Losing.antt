@@ -1,0 +1,45 @@
+-- An opening without a provider: what becomes of the pending intents, and what the world is then.
+use Rattle.std.specs.Prelude.{◌≢◌, ℕ, Bool, List, [], ◌∷◌, ◌++◌, if◌then◌else◌}
+use Rattle.gm_metadata.specs.Images.{Image, same_label}
+use Rattle.gm_state.specs.declared.command.Intent.{Intent}
+use Rattle.gm_state.specs.declared.command.Intent.TheVariants.{Meta, Clear, Copy}
+use Rattle.gm_state.specs.declared.records.Component.{Component}
+use Rattle.gm_state.specs.Readable.{IsCopyWithin}
+use Rattle.gm_state.specs.Records.{Records}
+use Rattle.gm_state.specs.Words.{Has}
+use Rattle.gm_state.specs.World.{World}
+use Rattle.gm_rules.specs.After.{metas}
+
+-- the intent writes to the provider
+abbrev pub writes_to : List ℕ → Intent → Bool
+writes_to p (Meta q) = same_label q p
+writes_to p (Clear q) = same_label q p
+writes_to p (Copy source target first end) = same_label target p
+
+-- a copy from the provider is taken from the next source
+abbrev pub redirected : List ℕ → List ℕ → Intent → Intent
+redirected p next (Meta q) = Meta q
+redirected p next (Clear q) = Clear q
+redirected p next (Copy source target first end) = if same_label source p then Copy next target first end else Copy source target first end
+
+-- those that are taken out
+abbrev pub dropped : List ℕ → List Intent → List Intent
+dropped p [] = []
+dropped p (t ∷ ts) = if writes_to p t then t ∷ dropped p ts else dropped p ts
+
+-- those that stay, in their order
+abbrev pub remaining : List ℕ → List ℕ → List Intent → List Intent
+remaining p next [] = []
+remaining p next (t ∷ ts) = if writes_to p t then remaining p next ts else redirected p next t ∷ remaining p next ts
+
+-- all that is pending then: Meta of the mirror's other components behind what stays
+abbrev pub pending_after : List ℕ → List ℕ → List Intent → List Component → List Intent
+pending_after p next ts others = remaining p next ts ++ metas others
+
+-- the image of the provider is what it was left as, whatever pending intents were to write there
+abbrev pub as_left : World → List ℕ → Image → World
+as_left v p away = record v { shelf = λ q j. if same_label q p then away q j else v.shelf q j }
+
+-- where a pending copy takes from the provider, the next source serves
+abbrev pub HasNext : Records → List ℕ → List ℕ → List Intent → Type 0
+HasNext s p next ts = (target : List ℕ) (first end : ℕ) → Has ts (Copy p target first end) → target ≢ p → IsCopyWithin s next target first end
