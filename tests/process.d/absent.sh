@@ -1,3 +1,6 @@
+. "$helpers/lists.sh"
+. "$helpers/records.sh"
+
 # ---- a mirror of which an image is away, or has another size than is registered
 
 # The commands that wait for such an image, of which many are refused for a greater number as well.
@@ -48,3 +51,4 @@ gm0 DEGRADED 7 3 1 5 load 4096 NONE 1536
 a.img ACTIVE 1 0 5 NONE 0 2048 no
 b.img INACTIVE 2 0 4 INACTIVE 0 2048 no
 END
+finish

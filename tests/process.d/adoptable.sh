@@ -1,3 +1,5 @@
+. "$helpers/records.sh"
+
 # ---- what is registered of images that a mirror is found on, by what they tell
 
 # gm0 is found on a.img, which tells that it has three sectors of data, did 1 and syncid 1, and on b.img, which tells
@@ -115,3 +117,4 @@ expect_taken 'its name' 6 'label --mid 8 --did 1 gm0 c.img'
 expect_taken 'its mid' 7 'label --mid 7 --did 1 gm1 c.img'
 expect_taken 'one of its images' 9 'label --mid 8 --did 1 gm1 b.img'
 expect_taken 'its name and its mid' 6 'label --mid 7 --did 1 gm0 c.img'
+finish

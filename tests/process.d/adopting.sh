@@ -1,14 +1,6 @@
+. "$helpers/bench.sh"
+
 # ---- mirrors that are found on images
-
-# Begins a registry that knows nothing over the images that the bench before left.
-forget_registry() {
-    rm -f "$registry" "$registry-wal"
-}
-
-# Writes these bytes at that place of an image, in the data.
-damage() {
-    printf "$3" | dd of="$1" bs=1 seek="$2" conv=notrunc 2>/dev/null
-}
 
 adopt='k1 adopt gm0 a.img b.img\n'
 
@@ -20,7 +12,7 @@ cp "$bench/images/b.img" "$work/adopted-b"
 batch "${adopt}${adopt}k2 adopt gm0 a.img\nk2 adopt gm1 a.img\n"
 expect 'a mirror is adopted' 1 "$(lines 'k1 ok 1\nk1 repeated 1\nk2 refused 6\nk2 refused 7')" ''
 at_bench status
-expect 'a status of it' 0 "$filled" ''
+expect 'a status of it' 0 "$of_filled" ''
 expect_same 'the first image says what it said' "$bench/images/a.img" "$work/adopted-a"
 expect_same 'and so does the second' "$bench/images/b.img" "$work/adopted-b"
 at_bench audit
@@ -127,3 +119,4 @@ done
 batch "$asked"
 batch 'k1 adopt m65 a.img\nk65 adopt m65 a.img\nk66 destroy m64\nk67 adopt m65 a.img\n'
 expect 'sixty-four mirrors, and one that is adopted' 1 "$(lines 'k1 refused 3\nk65 refused 15\nk66 ok 65\nk67 ok 66')" ''
+finish

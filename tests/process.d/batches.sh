@@ -1,3 +1,6 @@
+. "$helpers/rights.sh"
+. "$helpers/under_way.sh"
+
 # ---- lines that are carried out
 
 fresh_bench session
@@ -181,16 +184,14 @@ expect 'the same batch behind that' 0 "$(lines 'k1 repeated 1\nk2 repeated 2\nk3
 
 # Here b.img can't even be opened to be looked at, so that its insertion isn't accepted.
 fresh_bench forbidden
-if [ "$(id -u)" = 0 ] && command -v setpriv >/dev/null; then
+if has_another_user; then
     chmod 755 "$work"
     printf "$label${insert}k3 destroy gm0\n" >"$work/lines"
     chmod 644 "$work/lines"
     chown -R 65534:65534 "$bench"
     chmod 444 "$bench/images/b.img"
     at_bench_as_another batch <"$work/lines"
-    if [ "$status" = 126 ] || [ "$status" = 127 ]; then
-        skip 'a batch that may not open an image' 'another user can not run the program where it lies'
-    else
+    if ! skip_without_program 'a batch that may not open an image'; then
         expect 'a batch that may not open an image' 3 "$(lines 'k1 ok 1\nk2 fault 3')" 'gmbench: F3 disk'
         chmod 644 "$bench/images/b.img"
         at_bench recover
@@ -201,3 +202,4 @@ if [ "$(id -u)" = 0 ] && command -v setpriv >/dev/null; then
 else
     skip 'a batch that may not open an image' 'there is no other user here'
 fi
+finish

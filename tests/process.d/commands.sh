@@ -1,3 +1,5 @@
+. "$helpers/bench.sh"
+
 # ---- what commands are answered, and what they leave
 
 # A mirror from beginning to end in one batch.
@@ -125,3 +127,4 @@ batch 'k3 rebuild gm0 a.img\nk3 forget gm0\nk3 rebuild gm0 b.img\n'
 expect 'a component that waits is rebuilt alone' 1 "$(lines 'k3 refused 17\nk3 refused 20\nk3 ok 3')" ''
 at_bench status
 expect 'a status while that one is filled' 0 "$of_two" ''
+finish

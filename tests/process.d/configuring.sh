@@ -1,3 +1,6 @@
+. "$helpers/lists.sh"
+. "$helpers/records.sh"
+
 # ---- what is set of a mirror of several components, and what stays
 
 # Whether the next configure with these options writes all images, and makes this balance, slice and flags of the
@@ -83,3 +86,4 @@ k2 configure --prov d.img --priority 1 gm0|k2 refused 12
 k2 configure gm0|k2 refused 25
 END
 expect_kept 'settings that are refused change no byte'
+finish

@@ -1,3 +1,5 @@
+. "$helpers/lists.sh"
+
 # ---- an input that is cut behind each of its bytes
 
 fresh_bench cut
@@ -78,3 +80,4 @@ cut_line 'a label' 'no mirrors' 'k1 label --mid 7 --did 1 gm0 a.img' 'k1 label -
 cut_line 'an insert' "$of_one" 'k2 insert --did 2 gm0 b.img' 'k2 insert --did 2 gm0 b' 8
 cut_line 'a remove' "$of_two" 'k3 remove gm0 b.img' 'k3 remove gm0 b' 8
 cut_line 'a destroy' "$of_one" 'k4 destroy gm0' 'k4 destroy g' 5
+finish

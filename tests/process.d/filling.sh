@@ -1,19 +1,12 @@
+. "$helpers/bench.sh"
+
 # ---- a component that is filled
-
-# Whether the two images have the same first sectors, so many bytes of them.
-expect_same_data() {
-    head -c "$4" "$2" >"$work/one"
-    head -c "$4" "$3" >"$work/other"
-    expect_same "$1" "$work/one" "$work/other"
-}
-
-filled="$(lines 'gm0             COMPLETE 2/2\n  a.img           ACTIVE\n  b.img           ACTIVE')"
 
 fresh_bench filled
 batch "$label${insert}k3 advance gm0 b.img\nk3 advance gm0 b.img\nk4 advance gm0 b.img\n"
 expect 'a component is filled' 1 "$(lines 'k1 ok 1\nk2 ok 2\nk3 ok 3 copied 3 of 3\nk3 repeated 3\nk4 refused 22')" ''
 at_bench status
-expect 'a status of it' 0 "$filled" ''
+expect 'a status of it' 0 "$of_filled" ''
 expect_same_data 'it has the data' "$bench/images/a.img" "$bench/images/b.img" 1536
 run dump --shelf "$bench/images" b.img
 expect 'a dump of it' 0 "$(dumped 2 2 NONE 82a62a43cbda6b9da3c8add09f6af192)" ''
@@ -42,15 +35,6 @@ batch 'k6 advance gm0 b.img\n'
 expect 'it is filled anew' 0 'k6 ok 6 copied 3 of 3' ''
 
 # ---- by two stretches
-
-# An image of 257 sectors of data, of which the last ends in this character, and a last one of zeros.
-put_long_image() {
-    {
-        head -c 131583 /dev/zero | tr '\0' d
-        printf '%s' "$2"
-        head -c 512 /dev/zero
-    } >"$1"
-}
 
 # What a dump says of the second component on such an image.
 long_dumped() {
@@ -141,3 +125,4 @@ cat >"$work/wanted-changed" <<'END'
 >   Flags: NONE
 END
 expect_same 'it changes one record' "$work/changed" "$work/wanted-changed"
+finish

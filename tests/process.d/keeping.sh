@@ -1,3 +1,6 @@
+. "$helpers/lists.sh"
+. "$helpers/records.sh"
+
 # ---- components of several that go out of use, come back, and are filled anew
 
 put_three keeping 3
@@ -81,3 +84,4 @@ gm0 COMPLETE 7 2 0 4294967295 load 4096 NONE 1536
 a.img ACTIVE 1 0 4294967295 NONE 0 2048 no
 b.img ACTIVE 2 0 4294967295 NONE 0 2048 no
 END
+finish

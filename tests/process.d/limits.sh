@@ -1,3 +1,6 @@
+. "$helpers/lists.sh"
+. "$helpers/records.sh"
+
 # ---- how many mirrors and components there may be, and how long an image
 
 fresh_bench limits
@@ -84,3 +87,4 @@ gm1 COMPLETE 8 1 0 1 load 4096 NONE 536870400
 longest.img ACTIVE 1 0 1 NONE 0 536870912 no
 END
 rm -f "$bench/images/long"*
+finish

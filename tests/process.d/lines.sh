@@ -1,3 +1,5 @@
+. "$helpers/lists.sh"
+
 # ---- what is a line, and what its pieces are
 
 fresh_bench pieces
@@ -149,3 +151,4 @@ expect 'keys of one letter and of 32 characters' 1 "$(lines \
 printf 'K destroy gm0\nk insert --did 2 gm0 b.img' >"$work/lines"
 take_lines
 expect 'a key in a capital letter is another one' 0 "$(lines 'K repeated 3\nk repeated 2')" ''
+finish

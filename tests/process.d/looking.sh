@@ -1,3 +1,6 @@
+. "$helpers/rights.sh"
+. "$helpers/under_way.sh"
+
 # ---- an audit of images that somebody else changed
 
 fresh_bench audited
@@ -175,6 +178,8 @@ ln "$images/c.img" "$images/again"
 run taste --shelf "$images"
 expect 'a taste of two names of one file' 3 '' "$broken"
 rm "$images/again"
+put_hostile_folder
+ln "$hostile/of-512" "$hostile/again"
 run taste --shelf "$hostile"
 expect 'a taste of a hostile folder' 3 '' "$broken"
 fresh_bench held-by-a-batch
@@ -193,39 +198,11 @@ tells_one='gm0             mid 7 genid 0 syncid 1
   source: a.img
 left out:
   b.img           no metadata'
-if [ "$(id -u)" = 0 ] && command -v setpriv >/dev/null; then
-    chmod 755 "$work" "$bench"
-    chmod 444 "$images/a.img" "$images/b.img"
-    chmod 555 "$images"
-    timeout 20 setpriv --reuid=65534 --regid=65534 --clear-groups "$gmbench" taste --shelf "$images" \
-        >"$work/output" 2>"$work/complaints"
-    status=$?
-    if [ "$status" = 126 ] || [ "$status" = 127 ]; then
-        skip 'a taste of images of mode 0444' 'another user can not run the program where it lies'
-    else
-        expect 'a taste of images of mode 0444' 0 "$tells_one" ''
-    fi
-    chmod 755 "$images"
-    chmod 644 "$images/a.img" "$images/b.img"
-elif [ "$(id -u)" != 0 ]; then
-    chmod 444 "$images/a.img" "$images/b.img"
-    chmod 555 "$images"
-    run taste --shelf "$images"
-    expect 'a taste of images of mode 0444' 0 "$tells_one" ''
-    chmod 755 "$images"
-    chmod 644 "$images/a.img" "$images/b.img"
-else
-    skip 'a taste of images of mode 0444' 'there is no setpriv'
-fi
-if unshare -m true 2>/dev/null; then
-    unshare -m sh -c 'mount --bind "$1" "$2" && mount -o remount,bind,ro "$2" || exit 99
-        "$3" taste --shelf "$2"' sh "$images" "$work/mount" "$gmbench" >"$work/output" 2>"$work/complaints"
-    status=$?
-    if [ "$status" = 99 ]; then
-        skip 'a taste on a read-only mount' 'it can not be mounted here'
-    else
-        expect 'a taste on a read-only mount' 0 "$tells_one" ''
-    fi
-else
-    skip 'a taste on a read-only mount' 'there are no mounts of its own here'
-fi
+chmod 755 "$work" "$bench"
+chmod 444 "$images/a.img" "$images/b.img"
+chmod 555 "$images"
+expect_as_reader 'a taste of images of mode 0444' "$tells_one" taste --shelf "$images"
+chmod 755 "$images"
+chmod 644 "$images/a.img" "$images/b.img"
+expect_on_read_only_mount 'a taste on a read-only mount' "$tells_one" "$images" taste
+finish

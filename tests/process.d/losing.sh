@@ -1,3 +1,6 @@
+. "$helpers/lists.sh"
+. "$helpers/records.sh"
+
 # ---- components of several that are lost, while their images are there
 
 put_three losing 3
@@ -47,3 +50,4 @@ gm0 DEGRADED 7 3 4294967295 1 load 4096 NONE 1536
 a.img ACTIVE 1 0 1 NONE 0 2048 no
 b.img ACTIVE 2 0 1 NONE 0 2048 no
 END
+finish

@@ -1,3 +1,5 @@
+. "$helpers/bench.sh"
+
 # ---- a mirror and its components that are set otherwise
 
 fresh_bench configured
@@ -92,3 +94,4 @@ batch 'k7 insert --did 2 gm0 b.img\nk7 clear b.img\nk8 insert --did 2 gm0 b.img\
 expect 'a lost image is cleared and comes back' 1 "$(lines 'k7 refused 10\nk7 ok 5\nk8 ok 6')" ''
 at_bench status
 expect 'a status of it as it comes back' 0 "$of_two" ''
+finish

@@ -1,3 +1,5 @@
+. "$helpers/lists.sh"
+
 # ---- words that no command has
 
 # Words behind the key of a command that was carried out: had they a meaning they would be another command, refusal 3.
@@ -123,3 +125,4 @@ dump a.img
 -- destroy gm0
 gm0 destroy
 END
+finish

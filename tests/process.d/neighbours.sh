@@ -1,3 +1,6 @@
+. "$helpers/lists.sh"
+. "$helpers/records.sh"
+
 # ---- mirrors beside each other, which stand in order of their names and keep apart
 
 fresh_bench neighbours
@@ -56,3 +59,4 @@ b.img ACTIVE 1 0 1 NONE 0 2048 no
 gm1 COMPLETE 8 1 0 1 load 4096 NONE 1536
 c.img ACTIVE 1 0 1 NONE 0 2048 no
 END
+finish

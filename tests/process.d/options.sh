@@ -1,3 +1,5 @@
+. "$helpers/lists.sh"
+
 # ---- the words of each command, spelled in other ways
 
 # A batch in which each command is carried out, by its canonical words; a second one, which spells them again.
@@ -175,3 +177,4 @@ expect 'a status of a hyphen, and of words of commands' 0 '-               COMPL
   -               ACTIVE
 label           COMPLETE 1/1
   help            ACTIVE' ''
+finish

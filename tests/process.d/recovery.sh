@@ -1,3 +1,5 @@
+. "$helpers/rights.sh"
+
 # ---- a command that was stopped
 
 # What the program makes of three commands, of which the stored registry has the last one pending. The registries are the
@@ -83,14 +85,12 @@ expect_images 'it carries out all' fresh bare
 
 # This user may read one of the two alone.
 stopped_remove unwritable
-if [ "$(id -u)" = 0 ] && command -v setpriv >/dev/null; then
+if has_another_user; then
     chmod 755 "$work"
     chown -R 65534:65534 "$bench"
     chmod 444 "$bench/images/b.img"
     at_bench_as_another recover
-    if [ "$status" = 126 ] || [ "$status" = 127 ]; then
-        skip 'a recovery that may not write an image' 'another user can not run the program where it lies'
-    else
+    if ! skip_without_program 'a recovery that may not write an image'; then
         expect 'a recovery that may not write an image' 3 '' 'gmbench: F3 disk'
         put_image "$work/wanted-b" b pending-b
         expect_same 'that image stays' "$bench/images/b.img" "$work/wanted-b"
@@ -102,3 +102,4 @@ if [ "$(id -u)" = 0 ] && command -v setpriv >/dev/null; then
 else
     skip 'a recovery that may not write an image' 'there is no other user here'
 fi
+finish

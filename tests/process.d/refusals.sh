@@ -1,3 +1,5 @@
+. "$helpers/lists.sh"
+
 # ---- refusals, each for the least number that applies
 
 # gm0 is of a.img and b.img. c.img carries nothing, and used.img what made it a component of gm9 elsewhere; one.img and
@@ -65,3 +67,4 @@ expect_inputs 'a refused line is told by the exit status' 1 <"$work/refused-alon
 expect_kept 'a refused line by itself changes no byte'
 batch 'k3 clear used.img\nk4 insert --did 3 gm0 used.img\n'
 expect 'the key of refused lines is free' 0 "$(lines 'k3 ok 3\nk4 ok 4')" ''
+finish

@@ -1,3 +1,5 @@
+. "$helpers/under_way.sh"
+
 # ---- a registry is made where there is none
 
 fresh_bench new
@@ -165,3 +167,4 @@ head -c $((512 - log_length % 512)) /dev/zero >>"$registry-wal"
 batch "${label}k2 label --mid 8 --did 1 gm1 r-wal\n"
 expect 'the log of a registry' 1 "$(lines 'k1 repeated 1\nk2 refused 8')" ''
 expect_images 'its batch is kept' fresh bare
+finish

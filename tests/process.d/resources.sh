@@ -1,3 +1,5 @@
+. "$helpers/bench.sh"
+
 # ---- many lines, and a long one
 
 # The peak of memory is what GNU time says, in KB; a shell may have a time of its own.
@@ -41,6 +43,7 @@ fi
 
 # ---- little to work with
 
+put_shelf
 mkdir "$work/empty"
 (ulimit -n 16 && timeout 20 "$gmbench" dump --shelf "$shelf" a.img) >"$work/output" 2>"$work/complaints"
 status=$?
@@ -209,3 +212,5 @@ if [ "$among" -le $((2 * alone + 1)) ]; then
 else
     fail 'a dump among 50,000 files takes no longer' "$among ms for 20, and $alone ms for one file"
 fi
+unchanged 'the image is as it was'
+finish

@@ -1,3 +1,31 @@
+. "$helpers/bench.sh"
+
+# ---- what the last sector of an image says
+
+sectors=$work/sectors
+mkdir "$sectors"
+put_image "$sectors/a.img" a fresh
+run dump --shelf "$sectors" a.img
+expect 'a dump of an only component' 0 "$said_by_one" ''
+put_image "$sectors/b.img" b pending-b
+run dump --shelf "$sectors" b.img
+expect 'a dump of a component to be filled' 0 "$(dumped 2 2 SYNCHRONIZING be5271165f1a7a14a9e895ab15f9552c)" ''
+overwrite "$sectors/b.img" 100 '\001'
+run dump --shelf "$sectors" b.img
+expect 'a flipped bit' 1 'fault 3' ''
+overwrite "$sectors/a.img" 16 '\005\000\000\000'
+run dump --shelf "$sectors" a.img
+expect 'another version comes before the hash' 1 'fault 2' ''
+rehash "$sectors/a.img"
+run dump --shelf "$sectors" a.img
+expect 'another version with its hash' 1 'fault 2' ''
+overwrite "$sectors/a.img" 16 '\004'
+run dump --shelf "$sectors" a.img
+expect 'the hash of another version' 1 'fault 3' ''
+rehash "$sectors/a.img"
+run dump --shelf "$sectors" a.img
+expect 'a hash that was mended' 0 "$said_by_one" ''
+
 # ---- the bytes of a sector
 
 # A fresh mirror's only component, field by field; the MD5 is what another program says of the bytes before it.
@@ -197,3 +225,4 @@ done
     fail 'an audit tells a wrong byte wherever it stands' "$wrong"
 at_bench audit
 expect 'an audit of the sector that was written by hand' 0 '' ''
+finish

@@ -1,3 +1,5 @@
+. "$helpers/lists.sh"
+
 # ---- words that are a command, and which are the same one
 
 fresh_bench spellings
@@ -130,3 +132,4 @@ configure --balance load --balance load gm0
 lost gm0
 lost gm0 --hardcode on
 END
+finish

@@ -1,3 +1,5 @@
+. "$helpers/records.sh"
+
 # ---- records that are those of a state, and records that break a rule of it
 
 # SQLite's own command line changes the rows of a registry. Two mirrors of one mid, or two components of a mirror with
@@ -68,3 +70,4 @@ if command -v sqlite3 >/dev/null; then
 else
     skip 'records that break a rule' 'there is no sqlite3'
 fi
+finish

@@ -1,5 +1,8 @@
+. "$helpers/under_way.sh"
+
 # ---- the standard streams
 
+put_shelf
 # Each of these prints something on its standard output.
 at_made="--registry $work/made --shelf $shelf"
 for words in '' "dump --shelf $shelf a.img" '--help' '--version' "recover $at_made" "status $at_made" "list $at_made"; do
@@ -139,3 +142,4 @@ timeout 20 "$gmbench" batch --registry "$registry" --shelf "$bench/images" <"$wo
 status=$?
 : >"$work/complaints"
 expect 'a batch without standard error' 1 "$(lines 'k1 ok 1\nk2 refused 5')" ''
+finish

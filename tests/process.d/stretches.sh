@@ -1,3 +1,5 @@
+. "$helpers/records.sh"
+
 # ---- stretches: how many sectors each has, where it begins, and what the component says behind it
 
 # Whether a component of so many sectors is filled by stretches that end there, and has the data then. The bench is
@@ -113,3 +115,4 @@ b.img ACTIVE 2 255 1 NONE 0 2048 no
 c.img INACTIVE 3 9 1 INACTIVE 0 2048 no
 d.img SYNCHRONIZING 4 9 1 SYNCHRONIZING 1024 2048 no
 END
+finish

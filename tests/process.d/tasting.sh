@@ -1,3 +1,5 @@
+. "$helpers/images.sh"
+
 # ---- how an image stands beside another
 
 # Two images of one mirror, of which a.img says genid 1 and syncid 2. A list of bytes at places of the other's sector,
@@ -196,3 +198,4 @@ done
 [ "$orders" = 24 ] || wrong="$orders orders"
 [ -z "$wrong" ] && pass 'in whatever order images come the same is told' ||
     fail 'in whatever order images come the same is told' "$wrong"
+finish

@@ -1,3 +1,5 @@
+. "$helpers/bench.sh"
+
 # ---- what status and list print of two mirrors
 
 # fifteen-letters is adopted: c.img is hardcoded, and has the first two of three sectors, which are those of b.img.
@@ -150,3 +152,4 @@ left out:
   h.img           names another image
   i.img           tells another size' ''
 set --
+finish

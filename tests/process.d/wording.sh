@@ -1,3 +1,5 @@
+. "$helpers/records.sh"
+
 # ---- by which words a command is kept: all that it says, in one order
 
 # Each command as it is handed in, and below it the words that the registry is to keep of it.
@@ -62,3 +64,4 @@ END
 else
     skip 'the words that are kept' 'there is no sqlite3'
 fi
+finish

@@ -1,5 +1,8 @@
+. "$helpers/images.sh"
+
 # ---- the program's own words
 
+put_shelf
 run
 expect 'no words' 0 'gmbench: GEOM_MIRROR version 4' ''
 run dump --shelf "$shelf" a.img
@@ -73,3 +76,5 @@ run dump --shelf "$shelf" "$byte"
 expect 'a word that is not UTF-8' 2 '' "error: a word isn't UTF-8"
 run dump --shelf "$work/$byte" a.img
 expect 'a folder that is not UTF-8' 2 '' "error: a word isn't UTF-8"
+unchanged 'the image is as it was'
+finish

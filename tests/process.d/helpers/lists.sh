@@ -1,5 +1,7 @@
 # What tests of many lines share: a list is read from standard input, and each of its lines compared with its answer.
 
+. "$helpers/bench.sh"
+
 # Hands the kept lines to a batch at that bench. Where it leaves something of them that counts as a complaint.
 take_lines() {
     {
@@ -43,22 +45,6 @@ expect_inputs() {
         fi
     done <"$work/list"
     [ -z "$wrong" ] && pass "$1" || fail "$1" "$wrong"
-}
-
-# Keeps the images and the registry of that bench.
-keep_bench() {
-    rm -rf "$work/kept-images"
-    cp -R "$bench/images" "$work/kept-images"
-    cp "$registry" "$work/kept-registry"
-}
-
-# Whether they are as they were kept, byte for byte.
-expect_kept() {
-    if other=$(diff -r "$bench/images" "$work/kept-images" 2>&1 && cmp "$registry" "$work/kept-registry" 2>&1); then
-        pass "$1"
-    else
-        fail "$1" "$other"
-    fi
 }
 
 # A list of words, each of which stands behind the key of a label that was carried out: whether each is answered so, and

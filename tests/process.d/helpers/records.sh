@@ -1,6 +1,8 @@
 # What tests of records share: images that tell something by hand, what is registered in a line for each record, and
 # steps, each a line of a batch with what it makes of the records and which images it writes.
 
+. "$helpers/bench.sh"
+
 # The bytes of a number, the least first, as printf takes them.
 number_bytes() {
     number=$1
@@ -60,13 +62,6 @@ put_three() {
     put_image "$bench/images/d.img" d bare
     batch 'k1 adopt gm0 a.img b.img c.img\n'
     keep_bench
-}
-
-# Puts the images and the registry back as they were kept.
-put_back() {
-    rm -rf "$bench/images" "$registry" "$registry-wal"
-    cp -R "$work/kept-images" "$bench/images"
-    cp "$work/kept-registry" "$registry"
 }
 
 # What a list tells of that bench, in a line for each record. Of a mirror: its name, state, mid, all, genid, syncid,
