@@ -89,42 +89,4 @@ Components: 2
   Offset: 0
   Provsize: 2048
   Hardcoded: yes' ''
-
-# ---- components that are taken out of use, and that are to be filled anew
-
-fresh_bench out-of-use
-put_image "$bench/images/c.img" c bare
-batch "$label"
-batch 'k2 deactivate gm0 a.img\n'
-expect 'an only component stays in use' 1 'k2 refused 17' ''
-batch "$insert"
-expect 'a component beside it' 0 'k2 ok 2' ''
-batch 'k3 deactivate gm0 b.img\n'
-expect 'that one goes out of use' 0 'k3 ok 3' ''
-at_bench status
-expect 'a status while it is out of use' 0 "$(lines \
-    'gm0             DEGRADED 1/2\n  a.img           ACTIVE\n  b.img           INACTIVE')" ''
-batch 'k4 deactivate gm0 b.img
-k4 deactivate gm0 a.img
-k4 rebuild gm0 b.img
-k4 activate gm0 a.img
-k4 activate gm0 c.img
-k4 activate gm0 b.img
-'
-expect 'what is refused while it is out of use, and what takes it back' 1 "$(lines \
-    'k4 refused 18\nk4 refused 17\nk4 refused 21\nk4 refused 19\nk4 refused 12\nk4 ok 4')" ''
-at_bench status
-expect 'a status once it is back' 0 "$of_two" ''
-
-# A mirror that doesn't fill its components by itself.
-fresh_bench by-hand
-batch "k1 label --mid 7 --did 1 --autosync off gm0 a.img\n$insert"
-expect 'a mirror that is filled by hand' 0 "$(lines 'k1 ok 1\nk2 ok 2')" ''
-at_bench status
-expect 'a status of a component that waits' 0 "$(lines \
-    'gm0             DEGRADED 1/2\n  a.img           ACTIVE\n  b.img           STALE 0 of 3')" ''
-batch 'k3 rebuild gm0 a.img\nk3 forget gm0\nk3 rebuild gm0 b.img\n'
-expect 'a component that waits is rebuilt alone' 1 "$(lines 'k3 refused 17\nk3 refused 20\nk3 ok 3')" ''
-at_bench status
-expect 'a status while that one is filled' 0 "$of_two" ''
 finish

@@ -1,6 +1,68 @@
 . "$helpers/lists.sh"
 . "$helpers/records.sh"
 
+# ---- a mirror and its components that are set otherwise
+
+fresh_bench configured
+batch "$label"
+batch 'k2 configure gm0
+k2 configure --prov b.img --priority 5 gm0
+k2 configure --priority 3 gm0
+k2 configure --prov a.img gm0
+k2 configure --balance none gm0
+k2 configure --slice 0 gm0
+k2 configure --balance load --balance load gm0
+k2 configure --balance load
+k2 configure --balance load gm1
+k2 configure --prov c.img --priority 5 gm0
+'
+expect 'a configure that is refused' 1 "$(lines 'k2 refused 25\nk2 refused 12\nk2 refused 1\nk2 refused 1\nk2 refused 1
+k2 refused 1\nk2 refused 1\nk2 refused 1\nk2 refused 5\nk2 refused 8')" ''
+expect_images 'it changes no image' fresh bare
+at_bench list
+expect 'nor what is listed' 0 "$list_of_one" ''
+batch 'k2 configure --hardcode on gm0\n'
+expect 'a name is hardcoded' 0 'k2 ok 2' ''
+run dump --shelf "$bench/images" a.img
+expect 'a dump of it' 0 "$(dumped 1 1 NONE 997e49e199db7cf1fe7822adbce8f89c | sed 's/^provider: .*/provider: a.img/')" ''
+batch 'k3 configure --balance prefer --slice 1 --autosync off --failsync off --hardcode off --prov a.img --priority 255 gm0\n'
+expect 'all is set at once' 0 'k3 ok 3' ''
+run dump --shelf "$bench/images" a.img
+expect 'a dump of what was set' 0 "$(dumped 1 1 NONE 197586f417798403383f72d5d9006ced | sed '
+    s/^priority: .*/priority: 255/
+    s/^slice: .*/slice: 1/
+    s/^balance: .*/balance: prefer/
+    s/^mflags: .*/mflags: NOAUTOSYNC,NOFAILSYNC/')" ''
+at_bench list
+expect 'a list of what was set' 0 "$(whole_lines "$list_of_one" | sed '
+    s/^Balance: .*/Balance: prefer/
+    s/^Slice: .*/Slice: 1/
+    s/^Flags: .*/Flags: NOAUTOSYNC,NOFAILSYNC/
+    s/^  Priority: .*/  Priority: 255/')" ''
+batch 'k3 configure gm0 --priority 255 --prov a.img --hardcode off --failsync off --autosync off --slice 1 --balance prefer
+k3 configure --balance prefer gm0
+k4 configure --autosync on gm0
+'
+expect 'the same settings in another order' 1 "$(lines 'k3 repeated 3\nk3 refused 3\nk4 ok 4')" ''
+at_bench list
+expect 'what is not given stays' 0 "$(whole_lines "$list_of_one" | sed '
+    s/^Balance: .*/Balance: prefer/
+    s/^Slice: .*/Slice: 1/
+    s/^Flags: .*/Flags: NOFAILSYNC/
+    s/^  Priority: .*/  Priority: 255/')" ''
+
+# A component that isn't filled unless it is asked for.
+fresh_bench stale
+batch "${label}k2 configure --autosync off gm0\nk3 insert --did 2 gm0 b.img\n"
+expect 'a mirror that fills nothing by itself' 0 "$(lines 'k1 ok 1\nk2 ok 2\nk3 ok 3')" ''
+at_bench status
+expect 'a status of a stale component' 0 "$(whole_lines "$of_two" | sed 's/SYNCHRONIZING/STALE/')" ''
+batch 'k5 rebuild gm0 b.img\n'
+expect 'it is rebuilt' 0 'k5 ok 4' ''
+at_bench status
+expect 'a status of it while it is filled' 0 "$of_two" ''
+
+
 # ---- what is set of a mirror of several components, and what stays
 
 # Whether the next configure with these options writes all images, and makes this balance, slice and flags of the
