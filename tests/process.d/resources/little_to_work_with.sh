@@ -4,6 +4,7 @@
 
 put_shelf
 mkdir "$work/empty"
+run recover --registry "$work/made" --shelf "$work/empty"
 (ulimit -n 16 && timeout 20 "$gmbench" dump --shelf "$shelf" a.img) >"$work/output" 2>"$work/complaints"
 status=$?
 expect 'a dump with 16 descriptors' 0 "$said" ''
