@@ -33,8 +33,7 @@ found_mid x (p ∷ ps) mid e =
 -- a mirror whose mid the command takes is called for
 called : (x : Seen) (c : Command) (m : Mirror) → takes_mid x c m ≡ true → is_called c (found_mids x (adopted_from c)) m ≡ true
 called x (Adopt n ps) m e = or_right (is_named (Adopt n ps) m || has_mid (Adopt n ps) m) _ (found_mid x ps m.mid e)
-called x (Label n p mid did balance slice flags hardcoded) m e =
-    or_left (is_named (Label n p mid did balance slice flags hardcoded) m || (m.mid == mid)) _ (or_right (is_named (Label n p mid did balance slice flags hardcoded) m) _ e)
+called x (Label new) m e = or_left (is_named (Label new) m || (m.mid == new.mid)) _ (or_right (is_named (Label new) m) _ e)
 called x _ m e = absurd (let f : ⊥ = cc in f)
 
 -- the part that was read, after the mids that were found where x is seen, serves where as much is seen of what is adopted

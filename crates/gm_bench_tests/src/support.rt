@@ -4,7 +4,9 @@
 use gm_bench::{Answer, Bench, BenchFault, OpenFault, Phase};
 use gm_metadata::{Balance, DiskFlags, Label, Metadata, MirrorFlags, encode};
 use gm_shelf::{MemShelf, Shelf};
-use gm_state::{BalanceWord, Command, Providers, Reply, Settings, Slice, State};
+use gm_state::{
+    BalanceWord, Command, NewComponent, NewMirror, Providers, Reply, Settings, Slice, State,
+};
 use sqlite::{Alter, Connection, MemStore};
 use std::alloc::Global;
 use std::test::Fail;
@@ -62,7 +64,7 @@ pub fn label(text: &str) -> Result<Label, Fail> {
 
 // Commands as the words say them that name nothing but these.
 pub fn labels(name: &str, provider: &str, mid: u32) -> Result<Command, Fail> {
-    Ok(Command::Label {
+    Ok(Command::Label(NewMirror {
         name: label(name)?,
         provider: label(provider)?,
         mid,
@@ -71,17 +73,17 @@ pub fn labels(name: &str, provider: &str, mid: u32) -> Result<Command, Fail> {
         slice: Slice::new(4096).ok_or("no slice")?,
         flags: NO_FLAGS,
         hardcoded: false,
-    })
+    }))
 }
 
 pub fn inserts(name: &str, provider: &str, did: u32) -> Result<Command, Fail> {
-    Ok(Command::Insert {
+    Ok(Command::Insert(NewComponent {
         name: label(name)?,
         provider: label(provider)?,
         did,
         priority: 0,
         hardcoded: false,
-    })
+    }))
 }
 
 pub fn removes(name: &str, provider: &str) -> Result<Command, Fail> {

@@ -10,7 +10,9 @@ mod untouched;
 use gm_metadata::{Balance, Label, MirrorFlags};
 use gm_registry::{Registry, StoreFault};
 use gm_rules::{Change, Fact, Facts, decide};
-use gm_state::{BalanceWord, Command, Component, Disk, Mirror, Reply, Slice, State};
+use gm_state::{
+    BalanceWord, Command, Component, Disk, Mirror, NewComponent, NewMirror, Reply, Slice, State,
+};
 use sqlite::{Alter, Connection, Error, MemStore};
 use std::alloc::Global;
 use std::test::Fail;
@@ -82,7 +84,7 @@ fn change(alloc: Global, state: &State, facts: &[Fact], command: &Command) -> Re
 
 // A mirror on one provider, of four sectors.
 fn labels_on(alloc: Global, name: &str, provider: &str, mid: u32) -> Result<Change, Fail> {
-    let command = Command::Label {
+    let command = Command::Label(NewMirror {
         name: label(name)?,
         provider: label(provider)?,
         mid,
@@ -91,7 +93,7 @@ fn labels_on(alloc: Global, name: &str, provider: &str, mid: u32) -> Result<Chan
         slice: Slice::new(4096).ok_or("no slice")?,
         flags: NO_FLAGS,
         hardcoded: true,
-    };
+    });
     change(
         alloc,
         &state(alloc, &[], &[])?,
@@ -107,13 +109,13 @@ fn labels(alloc: Global) -> Result<Change, Fail> {
 
 // b.img beside it.
 fn inserts(alloc: Global) -> Result<Change, Fail> {
-    let command = Command::Insert {
+    let command = Command::Insert(NewComponent {
         name: label("gm0")?,
         provider: label("b.img")?,
         did: 2,
         priority: 9,
         hardcoded: false,
-    };
+    });
     let state = state(alloc, &[mirror(1)?], &[component("a.img", 1)?])?;
     change(alloc, &state, &[bare("a.img")?, bare("b.img")?], &command)
 }

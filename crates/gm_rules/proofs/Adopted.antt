@@ -1,5 +1,5 @@
 -- What is adopted: facts of the providers that are taken, and of what is registered of them.
-use Rattle.std.proofs.Common.{◌≡◌, ◌∙◌, ◌⊎◌, inl, inr, ⊎_elim, ℕ, ◌<◌, Bool, true, not, ◌&&◌, nat_lt, sym, ap, subst, List, [], ◌∷◌, length, map, Option, Some, None, Result, Ok, Err, ltb-true, zero, suc, lit<, refl, get_or, slice_index, if◌then◌else◌, ◌+◌, ◌*◌, ◌^◌, arith, drop}
+use Rattle.std.proofs.Common.{◌≡◌, ◌∙◌, ◌⊎◌, inl, inr, ⊎_elim, ℕ, ◌<◌, Bool, true, not, ◌&&◌, nat_lt, sym, ap, subst, List, [], ◌∷◌, length, map, Option, Some, None, Result, Ok, Err, ltb-true, zero, suc, lit<, refl, get_or, slice_index, ◌+◌, ◌*◌, ◌^◌, arith, drop}
 use Rattle.std.specs.List.{list_all}
 use Rattle.std.proofs.lemmas.Bool.{cases_Bool, and_parts, and_from, lt-ltb}
 use Rattle.gm_metadata.specs.declared.metadata.Metadata.{Metadata}

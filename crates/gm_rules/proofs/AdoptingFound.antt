@@ -1,5 +1,5 @@
 -- What adoptable providers are found to be: each is taken as a member of the mirror, and one is the source of its data.
-use Rattle.std.proofs.Common.{◌≡◌, ◌∙◌, ◌⊎◌, inl, inr, ⊎_elim, ℕ, ◌<◌, ◌≤◌, ◌==◌, ◌%◌, ◌&&◌, Bool, true, false, not, nat_lt, nat_le, refl, sym, ap, subst, arith, List, [], ◌∷◌, length, Option, Some, None, eqb-true, eq-eqb, ltb-true, ltb-false}
+use Rattle.std.proofs.Common.{◌≡◌, ◌∙◌, ◌⊎◌, inl, inr, ⊎_elim, ℕ, ◌<◌, ◌≤◌, ◌==◌, ◌%◌, ◌&&◌, true, false, not, nat_lt, nat_le, refl, sym, ap, subst, arith, List, [], ◌∷◌, length, Option, Some, None, eqb-true, eq-eqb, ltb-true, ltb-false}
 use Rattle.std.specs.List.{list_all}
 use Rattle.std.proofs.lemmas.Bool.{cases_Bool, and_parts, leb-true}
 use Rattle.gm_metadata.specs.Images.{same_label}
@@ -16,8 +16,8 @@ use Rattle.gm_taste.proofs.Numbers.{bound, greatest}
 use Rattle.gm_state.specs.Words.{Has}
 use Rattle.gm_state.proofs.Order.{same_is}
 use Rattle.gm_state.proofs.Sorting.{all_has}
-use Rattle.gm_rules.specs.Seen.{Seen, is_there_and}
-use Rattle.gm_rules.specs.Adopting.{taken, all_taken, genid_of, syncid_of, found, is_beside, first_where, source_in, data_of, is_whole, is_like, has_room, has_twice, is_adoptable}
+use Rattle.gm_rules.specs.Seen.{Seen}
+use Rattle.gm_rules.specs.Adopting.{taken, all_taken, genid_of, syncid_of, found, source_in, data_of, is_whole, is_like, has_room, has_twice, is_adoptable}
 use Rattle.gm_rules.proofs.Adopted.{passes_there, where_is}
 
 -- the provider is taken, tells of the mirror n as m does, and has room for its data

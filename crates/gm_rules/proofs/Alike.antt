@@ -1,17 +1,15 @@
 -- Where providers are seen alike, they are adopted alike.
-use Rattle.std.proofs.Common.{◌≡◌, ◌∙◌, inl, inr, ℕ, ◌≤◌, ◌<◌, ◌/◌, ◌%◌, ◌||◌, ◌&&◌, ◌==◌, nat_lt, Bool, true, false, not, refl, sym, ap, ap₂, List, [], ◌∷◌, length, map, Option, Some, None, unwrap_or, is_some, ltb-true, arith, if◌then◌else◌}
+use Rattle.std.proofs.Common.{◌≡◌, ◌∙◌, inl, inr, ℕ, ◌≤◌, ◌<◌, ◌/◌, ◌%◌, ◌||◌, ◌&&◌, ◌==◌, nat_lt, Bool, false, not, refl, ap, ap₂, List, [], ◌∷◌, length, map, Option, Some, None, unwrap_or, is_some, ltb-true, arith, if◌then◌else◌}
 use Rattle.std.specs.List.{filter_map, list_all, list_any, cons_option}
 use Rattle.std.proofs.lemmas.Bool.{cases_Bool}
 use Rattle.gm_metadata.specs.Images.{same_label}
 use Rattle.gm_metadata.specs.declared.metadata.Metadata.{Metadata}
-use Rattle.gm_taste.specs.declared.groups.Taken.{Taken}
 use Rattle.gm_taste.specs.declared.tasted.Member.{Member}
 use Rattle.gm_taste.specs.declared.tasted.MemberState.{MemberState}
 use Rattle.gm_taste.specs.declared.tasted.MemberState.TheVariants as tasted
 use Rattle.gm_taste.specs.Making.{member, genid_in, syncid_in}
 use Rattle.gm_taste.specs.Sources.{first_from}
 use Rattle.gm_state.specs.declared.records.Component.{Component}
-use Rattle.gm_state.specs.declared.records.Disk.{Disk}
 use Rattle.gm_state.specs.declared.records.Disk.TheVariants.{InSync, Copying}
 use Rattle.gm_state.specs.Records.{provider}
 use Rattle.gm_state.specs.Words.{Has, put_all}

@@ -3,8 +3,8 @@ use Rattle.std.proofs.Common.{◌≡◌, ◌∙◌, inl, inr, ℕ, ◌+◌, ◌-
 use Rattle.std.specs.List.{list_any}
 use Rattle.std.proofs.lemmas.Bool.{cases_Bool}
 use Rattle.gm_metadata.specs.Images.{same_label}
-use Rattle.gm_metadata.specs.declared.flags.MirrorFlags.{MirrorFlags}
-use Rattle.gm_state.specs.declared.command.BalanceWord.{BalanceWord}
+use Rattle.gm_state.specs.declared.command.NewComponent.{NewComponent}
+use Rattle.gm_state.specs.declared.command.NewMirror.{NewMirror}
 use Rattle.gm_state.specs.declared.command.Settings.{Settings}
 use Rattle.gm_state.specs.declared.command.Command.TheVariants.{Label, Insert, Remove, Deactivate, Activate, Forget, Rebuild, Configure, Destroy, Lost, Advance, Adopt}
 use Rattle.gm_state.specs.declared.command.Command.TheVariants as commands
@@ -31,22 +31,22 @@ use Rattle.gm_rules.proofs.PuttingAll.{filter-put_all, put_ordered}
 use Rattle.gm_rules.proofs.Adopted.{adopted_on, adopted_mirror_is, Ascends-adopted}
 use Rattle.gm_rules.proofs.Kept.{keeps_configured, keeps_deactivated, members_put}
 
-pub label_makes : (s : Records) (x : Seen) (n p : List ℕ) (mid did : ℕ) (balance : BalanceWord) (slice : ℕ) (flags : MirrorFlags) (hardcoded : Bool) (sectors : ℕ) (ch : Changed)
-    → IsGood s x (Label n p mid did balance slice flags hardcoded) → x.size p ≡ Some sectors
-    → ch ≡ record { mirror = Some (new_mirror n mid balance slice flags sectors); gone_mirror = None; components = first_component n p did hardcoded sectors ∷ []; gone_components = []; intents = Meta p ∷ []; reply = Plain }
-    → Makes s x (Label n p mid did balance slice flags hardcoded) ch
-label_makes s x n p mid did balance slice flags hardcoded sectors ch good size is =
+pub label_makes : (s : Records) (x : Seen) (new : NewMirror) (sectors : ℕ) (ch : Changed)
+    → IsGood s x (Label new) → x.size new.provider ≡ Some sectors
+    → ch ≡ record { mirror = Some (new_mirror new sectors); gone_mirror = None; components = first_component new sectors ∷ []; gone_components = []; intents = Meta new.provider ∷ []; reply = Plain }
+    → Makes s x (Label new) ch
+label_makes s x new sectors ch good size is =
     record { good = good; records = rw (is, size) refl; intents = rw is refl; reply = rw is refl }
 
-pub insert_makes : (s : Records) (x : Seen) (n p : List ℕ) (did priority : ℕ) (h : Bool) (m : Mirror) (ks : List Component) (sectors : ℕ) (k : Component) (ch : Changed)
-    → IsGood s x (Insert n p did priority h) → IsState s → mirror_of s n ≡ Some m → members s.components n ≡ ks → x.size p ≡ Some sectors → component_of s p ≡ None → k ≡ spare m p did priority h sectors
+pub insert_makes : (s : Records) (x : Seen) (new : NewComponent) (m : Mirror) (ks : List Component) (sectors : ℕ) (k : Component) (ch : Changed)
+    → IsGood s x (Insert new) → IsState s → mirror_of s new.name ≡ Some m → members s.components new.name ≡ ks → x.size new.provider ≡ Some sectors → component_of s new.provider ≡ None → k ≡ spare m new sectors
     → ch ≡ record { mirror = Some (record m { all = m.all + 1 }); gone_mirror = None; components = k ∷ []; gone_components = []; intents = metas (put provider k ks); reply = Plain }
-    → Makes s x (Insert n p did priority h) ch
-insert_makes s x n p did priority h m ks sectors k ch good state found mine size none made is =
-    let z : Component = spare m p did priority h sectors in
-    let is_named : m.name ≡ n = (named s n m found).1 in
-    let others : (j : Component) → Has s.components j → j.provider ≡ z.provider → same_label j.mirror n ≡ true = λ j i e. absurd (not_both (same_label j.provider p) (same_from j.provider p e) (new_name s p none j i)) in
-    let placed : members (put provider z s.components) n ≡ put provider z (members s.components n) = filter-put provider (λ (c : Component). same_label c.mirror n) z s.components state.components_in_order (same_from m.name n is_named) others in
+    → Makes s x (Insert new) ch
+insert_makes s x new m ks sectors k ch good state found mine size none made is =
+    let z : Component = spare m new sectors in
+    let is_named : m.name ≡ new.name = (named s new.name m found).1 in
+    let others : (j : Component) → Has s.components j → j.provider ≡ z.provider → same_label j.mirror new.name ≡ true = λ j i e. absurd (not_both (same_label j.provider new.provider) (same_from j.provider new.provider e) (new_name s new.provider none j i)) in
+    let placed : members (put provider z s.components) new.name ≡ put provider z (members s.components new.name) = filter-put provider (λ (c : Component). same_label c.mirror new.name) z s.components state.components_in_order (same_from m.name new.name is_named) others in
     record { good = good; records = rw (is, made, found, size) refl; intents = rw (is, made, found, size, placed, mine) refl; reply = rw is refl }
 
 pub remove_makes : (s : Records) (x : Seen) (n p : List ℕ) (m : Mirror) (ks : List Component) (ch : Changed)

@@ -86,19 +86,19 @@ module _ (t : List ℕ → Bool) (s : Records) (state : IsState s) where
       ∙ sym (ap (filter (λ (k : Component). t k.mirror)) (put_mapped n f keeps s.components state.components_in_order)))
 
   after_names : (x : Seen) (c : Command) → TakesIn t c s → after x c (by_names t s) ≡ by_names t (after x c s)
-  after_names x (Label n p mid did balance slice flags hardcoded) takes =
-      let m : Mirror = new_mirror n mid balance slice flags (unwrap_or (x.size p) 0) in
-      let k : Component = first_component n p did hardcoded (unwrap_or (x.size p) 0) in
-      let e : t n ≡ true = takes.name n refl in
+  after_names x (Label new) takes =
+      let m : Mirror = new_mirror new (unwrap_or (x.size new.provider) 0) in
+      let k : Component = first_component new (unwrap_or (x.size new.provider) 0) in
+      let e : t new.name ≡ true = takes.name new.name refl in
       two _ _ (record { mirrors = put name m s.mirrors; components = put provider k s.components })
-      (puts_mirror m e) (puts_component (Label n p mid did balance slice flags hardcoded) takes k e (inl refl))
-  after_names x (Insert n p did priority h) takes =
-      let e : t n ≡ true = takes.name n refl in
-      on_named n e _ _ (λ m is.
-      let k : Component = spare m p did priority h (unwrap_or (x.size p) 0) in
-      let u : t m.name ≡ true = found_passes n e m is in
+      (puts_mirror m e) (puts_component (Label new) takes k e (inl refl))
+  after_names x (Insert new) takes =
+      let e : t new.name ≡ true = takes.name new.name refl in
+      on_named new.name e _ _ (λ m is.
+      let k : Component = spare m new (unwrap_or (x.size new.provider) 0) in
+      let u : t m.name ≡ true = found_passes new.name e m is in
       two _ _ (record { mirrors = put name (record m { all = m.all + 1 }) s.mirrors; components = put provider k s.components })
-      (puts_mirror (record m { all = m.all + 1 }) u) (puts_component (Insert n p did priority h) takes k u (inl refl)))
+      (puts_mirror (record m { all = m.all + 1 }) u) (puts_component (Insert new) takes k u (inl refl)))
   after_names x (Remove n p) takes =
       let e : t n ≡ true = takes.name n refl in
       on_named n e _ _ (λ m is.

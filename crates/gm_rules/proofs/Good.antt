@@ -12,8 +12,7 @@ use Rattle.gm_state.specs.declared.records.Mirror.{Mirror}
 use Rattle.gm_state.specs.declared.records.Component.{Component}
 use Rattle.gm_state.proofs.Order.{same_is}
 use Rattle.gm_metadata.specs.Images.{same_label}
-use Rattle.gm_metadata.specs.declared.flags.MirrorFlags.{MirrorFlags}
-use Rattle.gm_state.specs.declared.command.BalanceWord.{BalanceWord}
+use Rattle.gm_state.specs.declared.command.NewMirror.{NewMirror}
 use Rattle.gm_rules.specs.declared.refusals.Refusal.{Refusal}
 use Rattle.gm_rules.specs.declared.refusals.Refusal.TheVariants.{Absent, WrongSize}
 use Rattle.gm_rules.specs.Refusals.{number_of, own}
@@ -59,8 +58,8 @@ rises [] = true
 rises (r ∷ rs) = list_all (λ q. nat_lt (number_of r) (number_of q)) rs && rises rs
 
 own_rises : (c : Command) → rises (own c) ≡ true
-own_rises (Label n p mid did balance slice flags hardcoded) = refl
-own_rises (Insert n p did priority hardcoded) = refl
+own_rises (Label new) = refl
+own_rises (Insert new) = refl
 own_rises (Remove n p) = refl
 own_rises (Deactivate n p) = refl
 own_rises (Activate n p) = refl
@@ -151,10 +150,10 @@ one_more_loss s n m state e off =
     let small : m.genid < 2 ^ 32 = (rules_of s n m state e).fits.genid in omega arith
 
 -- the provider of a good label is there with a right size
-pub label_size : (s : Records) (x : Seen) (c : Command) (n p : List ℕ) (mid did : ℕ) (balance : BalanceWord) (slice : ℕ) (flags : MirrorFlags) (hardcoded : Bool)
-    → c ≡ Label n p mid did balance slice flags hardcoded → IsGoodButCount s x c → (is_none (x.size p) ≡ false) × (is_there_and (x.size p) has_wrong_size ≡ false)
-label_size s x c n p mid did balance slice flags hardcoded is good =
-    let g : IsGoodButCount s x (Label n p mid did balance slice flags hardcoded) = subst (λ (d : Command). IsGoodButCount s x d) is good in (
-      any_one (λ q. is_none (x.size q)) p (or_parts _ _ (g Absent (inr (inr (inl refl))) refl)).0,
-      any_one (λ q. is_there_and (x.size q) has_wrong_size) p (g WrongSize (inr (inr (inr (inr (inr (inr (inl refl))))))) refl),
+pub label_size : (s : Records) (x : Seen) (c : Command) (new : NewMirror)
+    → c ≡ Label new → IsGoodButCount s x c → (is_none (x.size new.provider) ≡ false) × (is_there_and (x.size new.provider) has_wrong_size ≡ false)
+label_size s x c new is good =
+    let g : IsGoodButCount s x (Label new) = subst (λ (d : Command). IsGoodButCount s x d) is good in (
+      any_one (λ q. is_none (x.size q)) new.provider (or_parts _ _ (g Absent (inr (inr (inl refl))) refl)).0,
+      any_one (λ q. is_there_and (x.size q) has_wrong_size) new.provider (g WrongSize (inr (inr (inr (inr (inr (inr (inl refl))))))) refl),
     )

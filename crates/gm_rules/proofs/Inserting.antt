@@ -1,10 +1,11 @@
 -- The plan of insert.
-use Rattle.std.proofs.Common.{◌≡◌, ◌≢◌, inl, inr, ⊎_elim, ℕ, ◌<◌, ◌≤◌, ◌+◌, ◌-◌, ◌==◌, Bool, false, nat_lt, refl, sym, ap, subst, arith, List, [], ◌∷◌, Some, length, is_none, is_some}
+use Rattle.std.proofs.Common.{◌≡◌, ◌≢◌, inl, inr, ⊎_elim, ℕ, ◌<◌, ◌≤◌, ◌+◌, ◌-◌, ◌==◌, false, nat_lt, refl, sym, ap, subst, arith, List, [], ◌∷◌, Some, length, is_none, is_some}
 use Rattle.std.specs.Prelude.{IsSomeAnd}
 use Rattle.std.specs.List.{list_any}
 use Rattle.std.proofs.lemmas.Bool.{or_parts}
 use Rattle.gm_metadata.specs.Images.{same_label}
 use Rattle.gm_metadata.specs.Sector.{carries}
+use Rattle.gm_state.specs.declared.command.NewComponent.{NewComponent}
 use Rattle.gm_state.specs.declared.command.Command.TheVariants.{Insert}
 use Rattle.gm_state.specs.declared.records.Mirror.{Mirror}
 use Rattle.gm_state.specs.declared.records.Component.{Component}
@@ -32,20 +33,20 @@ use Rattle.gm_rules.proofs.RuledOut.{each_there, carries_nothing, metas_has, met
 use Rattle.gm_rules.proofs.Turning.{Turns, Writes}
 
 -- what the refusals of insert rule out
-record CanInsert (u : World) (m : Mirror) (p : List ℕ) (did sectors : ℕ) : Type 0 where
+record CanInsert (u : World) (m : Mirror) (new : NewComponent) (sectors : ℕ) : Type 0 where
   here : Has u.state.mirrors m
-  size : present u p ≡ Some sectors
-  fresh : (k : Component) → Has u.state.components k → same_label k.provider p ≡ false
+  size : present u new.provider ≡ Some sectors
+  fresh : (k : Component) → Has u.state.components k → same_label k.provider new.provider ≡ false
   big : m.data_sectors + 1 ≤ sectors
   limit : sectors ≤ 1048576
-  dids : (k : Component) → Has (members u.state.components m.name) k → k.did ≢ did
+  dids : (k : Component) → Has (members u.state.components m.name) k → k.did ≢ new.did
   room : m.all < 16
   there : (k : Component) → Has (members u.state.components m.name) k → present u k.provider ≡ Some k.sectors
-  bare : carries (u.shelf p (sectors - 1)) ≡ false
+  bare : carries (u.shelf new.provider (sectors - 1)) ≡ false
 
-module _ (u : World) (key : List ℕ) (m : Mirror) (p : List ℕ) (did priority : ℕ) (h : Bool) (sectors : ℕ) (sound : Sound u) (can : CanInsert u m p did sectors) (fits : ComponentFits (spare m p did priority h sectors)) where
+module _ (u : World) (key : List ℕ) (m : Mirror) (new : NewComponent) (sectors : ℕ) (sound : Sound u) (can : CanInsert u m new sectors) (fits : ComponentFits (spare m new sectors)) where
   abbrev k : Component
-  k = spare m p did priority h sectors
+  k = spare m new sectors
 
   abbrev old : List Component
   old = members u.state.components m.name
@@ -65,12 +66,12 @@ module _ (u : World) (key : List ℕ) (m : Mirror) (p : List ℕ) (did priority 
   is_old : (j : Component) → Has old j → Has u.state.components j
   is_old j i = (Has-filter (λ (c : Component). same_label c.mirror m.name) u.state.components j i).0
 
-  other_name : (j : Component) → Has u.state.components j → {P : Type 0} → j.provider ≡ p → P
-  other_name j i e = not_both (same_label j.provider p) (same_from j.provider p e) (can.fresh j i)
+  other_name : (j : Component) → Has u.state.components j → {P : Type 0} → j.provider ≡ new.provider → P
+  other_name j i e = not_both (same_label j.provider new.provider) (same_from j.provider new.provider e) (can.fresh j i)
 
   -- for each of ks: the new one, or an old one
   each : (P : Component → Type 0) → P k → ((j : Component) → Has old j → P j) → (j : Component) → Has ks j → P j
-  each P new olds j i = ⊎_elim (λ (e : k ≡ j). subst P e new) (λ (o : Has old j). olds j o) (put_or provider k old j i)
+  each P one olds j i = ⊎_elim (λ (e : k ≡ j). subst P e one) (λ (o : Has old j). olds j o) (put_or provider k old j i)
 
   rules' : IsMirror m' ks
   rules' = record {
@@ -84,7 +85,7 @@ module _ (u : World) (key : List ℕ) (m : Mirror) (p : List ℕ) (did priority 
     limits = each (λ j. j.sectors ≤ 1048576) can.limit rules.limits;
     held = each (λ j. held_of j.disk < m.data_sectors) rules.some rules.held;
     dids = each (λ i. (j : Component) → Has ks j → i.did ≡ j.did → i ≡ j)
-        (each (λ j. did ≡ j.did → k ≡ j) (λ e. refl) (λ j o e. absurd (can.dids j o (sym e))))
+        (each (λ j. new.did ≡ j.did → k ≡ j) (λ e. refl) (λ j o e. absurd (can.dids j o (sym e))))
         (λ i o. each (λ j. i.did ≡ j.did → i ≡ j) (λ e. absurd (can.dids i o e)) (λ j q e. rules.dids i o j q e));
     syncids = each (λ j. j.syncid ≤ m.syncid) (omega arith) rules.syncids;
     current = each (λ j. j.disk ≢ Inactive → j.syncid ≡ m.syncid) (λ n. refl) rules.current;
@@ -106,7 +107,7 @@ module _ (u : World) (key : List ℕ) (m : Mirror) (p : List ℕ) (did priority 
 
   turns : Turns u u.shelf m' ks (λ q. false) (u.holds m.name) s
   turns = adjusts_turns u m m' comps ks (λ q. false) sound can.here adjusts
-      (each (λ j. u.size j.provider ≡ Some j.sectors) (present_size u p sectors can.size) (λ j o. present_size u j.provider j.sectors (can.there j o)))
+      (each (λ j. u.size j.provider ≡ Some j.sectors) (present_size u new.provider sectors can.size) (λ j o. present_size u j.provider j.sectors (can.there j o)))
       (λ j i. refl)
       (each (λ j. Below u.shelf (u.holds m.name) j.provider (held_by j.disk m.data_sectors)) (λ i l. absurd (omega arith)) (λ j o. sound.whole m j (record { mirror = can.here; component = o })))
 
@@ -118,29 +119,32 @@ module _ (u : World) (key : List ℕ) (m : Mirror) (p : List ℕ) (did priority 
     copied = λ q j e. refl;
   }
 
-  serves : (n : List ℕ) → m.name ≡ n → Serves u (Insert n p did priority h) m' ks
-  serves n is = record {
+  serves : m.name ≡ new.name → Serves u (Insert new) m' ks
+  serves is = record {
     named = λ j i. ap Some (sym is);
     written = each (λ j. IsSomeAnd (present u j.provider) (λ x. 0 < x))
-        (some_and (present u p) sectors (λ x. 0 < x) can.size (let b : m.data_sectors + 1 ≤ sectors = can.big in omega arith))
+        (some_and (present u new.provider) sectors (λ x. 0 < x) can.size (let b : m.data_sectors + 1 ≤ sectors = can.big in omega arith))
         (λ j o. some_and (present u j.provider) j.sectors (λ x. 0 < x) (can.there j o) (let b : m.data_sectors + 1 ≤ j.sectors = rules.sizes j o in omega arith));
     cleared = λ q e. absurd (let f : ⊥ = cc in f);
     labels = λ q e. absurd (let f : ⊥ = cc in f);
     reply = tt;
   }
 
-  insert_plan : (n : List ℕ) → mirror_of u.state n ≡ Some m → IsGood u.state (seen_of u) (Insert n p did priority h) → CanAnswer u key (Insert n p did priority h) → HasPlan u key (Insert n p did priority h)
-  insert_plan n found good answer =
-      has u key (Insert n p did priority h) m' ks (u.holds m.name) s (metas ks) sound turns writes (adjusts_were u m m' comps ks sound can.here adjusts) (metas_plain ks) (serves n (named u.state n m found).1) answer
+  insert_plan : mirror_of u.state new.name ≡ Some m → IsGood u.state (seen_of u) (Insert new) → CanAnswer u key (Insert new) → HasPlan u key (Insert new)
+  insert_plan found good answer =
+      let is : m.name ≡ new.name = (named u.state new.name m found).1 in
+      has u key (Insert new) m' ks (u.holds m.name) s (metas ks) sound turns writes (adjusts_were u m m' comps ks sound can.here adjusts) (metas_plain ks) (serves is) answer
       (rw (found, can.size) refl)
-      (let at : members comps n ≡ ks = rw (← (named u.state n m found).1) adjusts.mine in ap metas (sym at))
+      (let at : members comps new.name ≡ ks = rw (← is) adjusts.mine in ap metas (sym at))
       good tt
       (were_bare u s (λ j i. ⊎_elim (λ (e : k ≡ j). inr (subst (λ (c : Component). carries (u.shelf c.provider (c.sectors - 1)) ≡ false) e can.bare)) (λ (o : Has u.state.components j). inl o) (put_or provider k u.state.components j i)))
 
 -- what the refusals rule out
-can_insert : (u : World) (n p : List ℕ) (did priority : ℕ) (h : Bool) → Sound u → IsGood u.state (seen_of u) (Insert n p did priority h)
-    → (m : Mirror) × (mirror_of u.state n ≡ Some m) × (sectors : ℕ) × CanInsert u m p did sectors
-can_insert u n p did priority h sound good =
+can_insert : (u : World) (new : NewComponent) → Sound u → IsGood u.state (seen_of u) (Insert new)
+    → (m : Mirror) × (mirror_of u.state new.name ≡ Some m) × (sectors : ℕ) × CanInsert u m new sectors
+can_insert u new sound good =
+    let n = new.name in
+    let p = new.provider in
     let found = there_from (mirror_of u.state n) (good refusals.NoMirror (inl refl)) in
     let m : Mirror = found.0 in
     let at_n = named u.state n m found.1 in
@@ -164,14 +168,14 @@ can_insert u n p did priority h sound good =
         fresh = new_name u.state p (none_from (component_of u.state p) (any_one (λ q. is_some (component_of u.state q)) p (good refusals.ProviderTaken (inr (inr (inl refl))))));
         big = not_below sectors (m.data_sectors + 1) (fails_there (present u p) sectors (λ n. nat_lt n (m.data_sectors + 1)) size.1 small);
         limit = range.1;
-        dids = λ k o. not_at k.did did (none_any _ (members u.state.components n) (or_parts _ _ (good refusals.DidTaken (inr (inr (inr (inr (inr (inl refl)))))))).0 k (subst (λ (a : List ℕ). Has (members u.state.components a) k) at_n.1 o));
+        dids = λ k o. not_at k.did new.did (none_any _ (members u.state.components n) (or_parts _ _ (good refusals.DidTaken (inr (inr (inr (inr (inr (inl refl)))))))).0 k (subst (λ (a : List ℕ). Has (members u.state.components a) k) at_n.1 o));
         room = omega arith;
         there = λ k o. each_there u (p ∷ []) (members u.state.components n) (good refusals.Absent (inr (inl refl))) k (subst (λ (a : List ℕ). Has (members u.state.components a) k) at_n.1 o);
         bare = carries_nothing u p sectors size.1 (omega arith) (any_one (λ q. last_carries (last_of u q)) p (good refusals.CarriesMetadata (inr (inr (inr (inl refl))))));
       },
     )
 
-pub insert_has : (u : World) (key n p : List ℕ) (did priority : ℕ) (h : Bool) → Sound u → CanAnswer u key (Insert n p did priority h) → IsGood u.state (seen_of u) (Insert n p did priority h) → HasPlan u key (Insert n p did priority h)
-insert_has u key n p did priority h sound answer good =
-    let can = can_insert u n p did priority h sound good in
-    insert_plan u key can.0 p did priority h can.2 sound can.3 (record { provider = answer.fits.1; did = answer.fits.2; priority = answer.fits.3 }) n can.1 good answer
+pub insert_has : (u : World) (key : List ℕ) (new : NewComponent) → Sound u → CanAnswer u key (Insert new) → IsGood u.state (seen_of u) (Insert new) → HasPlan u key (Insert new)
+insert_has u key new sound answer good =
+    let can = can_insert u new sound good in
+    insert_plan u key can.0 new can.2 sound can.3 (record { provider = answer.fits.1; did = answer.fits.2; priority = answer.fits.3 }) can.1 good answer

@@ -1,7 +1,7 @@
 -- What is made of a part is what the command makes of the whole.
 use Rattle.std.proofs.Common.{◌≡◌, ◌∙◌, inl, ℕ, ◌+◌, ◌-◌, Bool, true, false, not, refl, inr, option_map, sym, ap, ap₂, subst, List, [], ◌∷◌, ◌++◌, Option, Some, None, Result, Ok, Err, OnErr, map, filter, find, length, if◌then◌else◌}
-use Rattle.gm_metadata.specs.declared.flags.MirrorFlags.{MirrorFlags}
-use Rattle.gm_state.specs.declared.command.BalanceWord.{BalanceWord}
+use Rattle.gm_state.specs.declared.command.NewComponent.{NewComponent}
+use Rattle.gm_state.specs.declared.command.NewMirror.{NewMirror}
 use Rattle.gm_state.specs.declared.command.Settings.{Settings}
 use Rattle.gm_state.specs.declared.command.Command.{Command}
 use Rattle.gm_state.specs.declared.command.Command.TheVariants.{Label, Insert, Remove, Deactivate, Activate, Forget, Rebuild, Configure, Destroy, Lost, Advance, Adopt}
@@ -42,19 +42,19 @@ module _ (part s : Records) (c : Command) (of : IsPartOf part c s) where
   component_in : (p : List ℕ) (o : Option Component) → Has (providers_of c) p → component_of part p ≡ o → component_of s p ≡ o
   component_in p o h found = sym (same_component s c of.mids of.state p h) ∙ (sym (ap (λ (r : Records). component_of r p) of.is) ∙ found)
 
-pub label_made : (part : Records) (x : Seen) (n p : List ℕ) (mid did : ℕ) (balance : BalanceWord) (slice : ℕ) (flags : MirrorFlags) (hardcoded : Bool) (sectors : ℕ) (ch : Changed)
-    → x.size p ≡ Some sectors
-    → ch ≡ record { mirror = Some (new_mirror n mid balance slice flags sectors); gone_mirror = None; components = first_component n p did hardcoded sectors ∷ []; gone_components = []; intents = Meta p ∷ []; reply = Plain }
-    → IsMade part x (Label n p mid did balance slice flags hardcoded) ch
-label_made part x n p mid did balance slice flags hardcoded sectors ch size is s to good = label_makes s x n p mid did balance slice flags hardcoded sectors ch good size is
+pub label_made : (part : Records) (x : Seen) (new : NewMirror) (sectors : ℕ) (ch : Changed)
+    → x.size new.provider ≡ Some sectors
+    → ch ≡ record { mirror = Some (new_mirror new sectors); gone_mirror = None; components = first_component new sectors ∷ []; gone_components = []; intents = Meta new.provider ∷ []; reply = Plain }
+    → IsMade part x (Label new) ch
+label_made part x new sectors ch size is s to good = label_makes s x new sectors ch good size is
 
-pub insert_made : (part : Records) (x : Seen) (n p : List ℕ) (did priority : ℕ) (h : Bool) (m : Mirror) (ks : List Component) (sectors : ℕ) (k : Component) (ch : Changed)
-    → mirror_of part n ≡ Some m → members part.components n ≡ ks → x.size p ≡ Some sectors → component_of part p ≡ None → k ≡ spare m p did priority h sectors
+pub insert_made : (part : Records) (x : Seen) (new : NewComponent) (m : Mirror) (ks : List Component) (sectors : ℕ) (k : Component) (ch : Changed)
+    → mirror_of part new.name ≡ Some m → members part.components new.name ≡ ks → x.size new.provider ≡ Some sectors → component_of part new.provider ≡ None → k ≡ spare m new sectors
     → ch ≡ record { mirror = Some (record m { all = m.all + 1 }); gone_mirror = None; components = k ∷ []; gone_components = []; intents = metas (put provider k ks); reply = Plain }
-    → IsMade part x (Insert n p did priority h) ch
-insert_made part x n p did priority h m ks sectors k ch found mine size none made is s to good =
-    let c : Command = Insert n p did priority h in
-    insert_makes s x n p did priority h m ks sectors k ch good to.of.state (mirror_in part s c to.of n m refl found) (members_in part s c to.of n ks refl mine) size (component_in part s c to.of p None (inl refl) none) made is
+    → IsMade part x (Insert new) ch
+insert_made part x new m ks sectors k ch found mine size none made is s to good =
+    let c : Command = Insert new in
+    insert_makes s x new m ks sectors k ch good to.of.state (mirror_in part s c to.of new.name m refl found) (members_in part s c to.of new.name ks refl mine) size (component_in part s c to.of new.provider None (inl refl) none) made is
 
 pub remove_made : (part : Records) (x : Seen) (n p : List ℕ) (m : Mirror) (ks : List Component) (ch : Changed)
     → mirror_of part n ≡ Some m → members part.components n ≡ ks

@@ -16,8 +16,8 @@ use Rattle.gm_rules.proofs.Destroying.{destroy_has}
 use Rattle.gm_rules.proofs.AdoptingPlan.{adopt_has}
 
 pub every_plan : (u : World) (key : List ℕ) (c : Command) → Sound u → CanAnswer u key c → IsGood u.state (seen_of u) c → HasPlan u key c
-every_plan u key (Label n p mid did balance slice flags hardcoded) sound answer good = label_has u key n p mid did balance slice flags hardcoded sound answer good
-every_plan u key (Insert n p did priority hardcoded) sound answer good = insert_has u key n p did priority hardcoded sound answer good
+every_plan u key (Label new) sound answer good = label_has u key new sound answer good
+every_plan u key (Insert new) sound answer good = insert_has u key new sound answer good
 every_plan u key (Remove n p) sound answer good = remove_has u key n p sound answer good
 every_plan u key (Deactivate n p) sound answer good = deactivate_has u key n p sound answer good
 every_plan u key (Activate n p) sound answer good = activate_has u key n p sound answer good

@@ -1,5 +1,5 @@
 -- What facts decide is what the world decides.
-use Rattle.std.proofs.Common.{◌≡◌, ◌∙◌, inl, inr, ℕ, ◌||◌, ◌+◌, ◌≤◌, Bool, true, not, nat_lt, refl, sym, ap, ap₂, subst, List, Option, map, Some, None, Result, Ok, Err, is_none, unwrap_or}
+use Rattle.std.proofs.Common.{◌≡◌, ◌∙◌, inl, inr, ℕ, ◌||◌, ◌+◌, ◌≤◌, Bool, not, nat_lt, refl, sym, ap, ap₂, subst, List, Option, map, Some, None, Result, Ok, Err, is_none, unwrap_or}
 use Rattle.std.specs.List.{list_any}
 use Rattle.gm_state.specs.declared.command.Command.{Command}
 use Rattle.gm_state.specs.declared.command.Command.TheVariants.{Label, Insert, Remove, Deactivate, Activate, Forget, Rebuild, Configure, Clear, Destroy, Lost, Advance, Adopt}
@@ -92,8 +92,8 @@ module _ (facts : List Fact) (u : World) (c : Command) (are : AreFacts facts u c
 
 -- the records depend on what is seen of the providers that are looked at
 same_after : (x y : Seen) (c : Command) (s : Records) → SeeAlike x y (looked_at c) → SameEqual x y c → after x c s ≡ after y c s
-same_after x y (Label n p mid did balance slice flags hardcoded) s e q = ap (λ o. let r : Records = record { mirrors = put name (new_mirror n mid balance slice flags (unwrap_or o 0)) s.mirrors; components = put provider (first_component n p did hardcoded (unwrap_or o 0)) s.components } in r) (e.size p (inl refl))
-same_after x y (Insert n p did priority hardcoded) s e q = ap (λ o. on_found (mirror_of s n) s (λ m. record { mirrors = put name (record m { all = m.all + 1 }) s.mirrors; components = put provider (spare m p did priority hardcoded (unwrap_or o 0)) s.components })) (e.size p (inl refl))
+same_after x y (Label new) s e q = ap (λ o. let r : Records = record { mirrors = put name (new_mirror new (unwrap_or o 0)) s.mirrors; components = put provider (first_component new (unwrap_or o 0)) s.components } in r) (e.size new.provider (inl refl))
+same_after x y (Insert new) s e q = ap (λ o. on_found (mirror_of s new.name) s (λ m. record { mirrors = put name (record m { all = m.all + 1 }) s.mirrors; components = put provider (spare m new (unwrap_or o 0)) s.components })) (e.size new.provider (inl refl))
 same_after x y (Remove n p) s e q = refl
 same_after x y (Deactivate n p) s e q = refl
 same_after x y (Activate n p) s e q = refl

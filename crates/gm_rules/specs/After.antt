@@ -4,7 +4,8 @@ use Rattle.std.specs.List.{list_any}
 use Rattle.std.specs.Option.{option_map_or}
 use Rattle.gm_metadata.specs.Images.{same_label}
 use Rattle.gm_metadata.specs.declared.flags.MirrorFlags.{MirrorFlags}
-use Rattle.gm_state.specs.declared.command.BalanceWord.{BalanceWord}
+use Rattle.gm_state.specs.declared.command.NewComponent.{NewComponent}
+use Rattle.gm_state.specs.declared.command.NewMirror.{NewMirror}
 use Rattle.gm_state.specs.declared.command.Preference.{Preference}
 use Rattle.gm_state.specs.declared.command.Settings.{Settings}
 use Rattle.gm_state.specs.declared.command.Command.{Command}
@@ -26,42 +27,42 @@ use Rattle.gm_rules.specs.Seen.{Seen}
 use Rattle.gm_rules.specs.Adopting.{source_in, adopted_mirror, adopted}
 
 -- the record of a labelled mirror: genid 0, syncid 1, one component, and all sectors of the provider but the last as data
-abbrev pub new_mirror : List ℕ → ℕ → BalanceWord → ℕ → MirrorFlags → ℕ → Mirror
-new_mirror n mid balance slice flags sectors = record {
-  name = n;
-  mid = mid;
+abbrev pub new_mirror : NewMirror → ℕ → Mirror
+new_mirror new sectors = record {
+  name = new.name;
+  mid = new.mid;
   all = 1;
   genid = 0;
   syncid = 1;
-  slice = slice;
-  balance = balance_of_word balance;
+  slice = new.slice;
+  balance = balance_of_word new.balance;
   data_sectors = sectors - 1;
-  flags = flags;
+  flags = new.flags;
 }
 
 -- its component: priority 0, in sync
-abbrev pub first_component : List ℕ → List ℕ → ℕ → Bool → ℕ → Component
-first_component n p did hardcoded sectors = record {
-  provider = p;
-  mirror = n;
-  did = did;
+abbrev pub first_component : NewMirror → ℕ → Component
+first_component new sectors = record {
+  provider = new.provider;
+  mirror = new.name;
+  did = new.did;
   syncid = 1;
   priority = 0;
   disk = InSync;
-  hardcoded = hardcoded;
+  hardcoded = new.hardcoded;
   sectors = sectors;
 }
 
 -- an inserted component: it holds nothing yet, and has the mirror's syncid
-abbrev pub spare : Mirror → List ℕ → ℕ → ℕ → Bool → ℕ → Component
-spare m p did priority hardcoded sectors = record {
-  provider = p;
+abbrev pub spare : Mirror → NewComponent → ℕ → Component
+spare m new sectors = record {
+  provider = new.provider;
   mirror = m.name;
-  did = did;
+  did = new.did;
   syncid = m.syncid;
-  priority = priority;
+  priority = new.priority;
   disk = Copying false 0;
-  hardcoded = hardcoded;
+  hardcoded = new.hardcoded;
   sectors = sectors;
 }
 
@@ -127,13 +128,13 @@ on_found (Some x) y f = f x
 
 -- the records after the command: those before but for what is named here
 abbrev pub after : Seen → Command → Records → Records
-after x (commands.Label n p mid did balance slice flags hardcoded) s = record {
-  mirrors = put name (new_mirror n mid balance slice flags (unwrap_or (x.size p) 0)) s.mirrors;
-  components = put provider (first_component n p did hardcoded (unwrap_or (x.size p) 0)) s.components;
+after x (commands.Label new) s = record {
+  mirrors = put name (new_mirror new (unwrap_or (x.size new.provider) 0)) s.mirrors;
+  components = put provider (first_component new (unwrap_or (x.size new.provider) 0)) s.components;
 }
-after x (commands.Insert n p did priority hardcoded) s = on_found (mirror_of s n) s (λ m. record {
+after x (commands.Insert new) s = on_found (mirror_of s new.name) s (λ m. record {
   mirrors = put name (record m { all = m.all + 1 }) s.mirrors;
-  components = put provider (spare m p did priority hardcoded (unwrap_or (x.size p) 0)) s.components;
+  components = put provider (spare m new (unwrap_or (x.size new.provider) 0)) s.components;
 })
 after x (commands.Remove n p) s = on_found (mirror_of s n) s (λ m. record {
   mirrors = put name (record m { all = m.all - 1 }) s.mirrors;
@@ -195,8 +196,8 @@ filling m k source = Copy source k.provider (held_of k.disk) (reach m k) ∷ Met
 
 -- the intents in their order, where the records before are s and those after s'
 abbrev pub intents_of : Command → Records → Records → List Intent
-intents_of (commands.Label n p mid did balance slice flags hardcoded) s s' = Meta p ∷ []
-intents_of (commands.Insert n p did priority hardcoded) s s' = metas (members s'.components n)
+intents_of (commands.Label new) s s' = Meta new.provider ∷ []
+intents_of (commands.Insert new) s s' = metas (members s'.components new.name)
 intents_of (commands.Remove n p) s s' = Clear p ∷ metas (members s'.components n)
 intents_of (commands.Deactivate n p) s s' = metas (members s'.components n)
 intents_of (commands.Activate n p) s s' = Meta p ∷ []
@@ -212,8 +213,8 @@ intents_of (commands.Adopt n ps) s s' = metas (members s'.components n)
 
 -- whether the last sector of q becomes zero, where the records before are s
 abbrev pub clears : Records → Command → List ℕ → Bool
-clears s (commands.Label n p mid did balance slice flags hardcoded) q = false
-clears s (commands.Insert n p did priority hardcoded) q = false
+clears s (commands.Label new) q = false
+clears s (commands.Insert new) q = false
 clears s (commands.Remove n p) q = same_label p q
 clears s (commands.Deactivate n p) q = false
 clears s (commands.Activate n p) q = false

@@ -20,8 +20,8 @@ use Rattle.gm_rules.specs.declared.refusals.Refusal.TheVariants.{NoMirror, NameT
 
 -- the mirror that a command names
 abbrev pub name_of : Command → Option (List ℕ)
-name_of (Label n p mid did balance slice flags hardcoded) = Some n
-name_of (Insert n p did priority hardcoded) = Some n
+name_of (Label new) = Some new.name
+name_of (Insert new) = Some new.name
 name_of (Remove n p) = Some n
 name_of (Deactivate n p) = Some n
 name_of (Activate n p) = Some n
@@ -41,8 +41,8 @@ preferred (Some preference) = preference.provider ∷ []
 
 -- the providers that it names
 abbrev pub providers_of : Command → List (List ℕ)
-providers_of (Label n p mid did balance slice flags hardcoded) = p ∷ []
-providers_of (Insert n p did priority hardcoded) = p ∷ []
+providers_of (Label new) = new.provider ∷ []
+providers_of (Insert new) = new.provider ∷ []
 providers_of (Remove n p) = p ∷ []
 providers_of (Deactivate n p) = p ∷ []
 providers_of (Activate n p) = p ∷ []
@@ -62,7 +62,7 @@ looked_at c = providers_of c
 
 -- the mirror has the mid that the command gives
 abbrev pub has_mid : Command → Mirror → Bool
-has_mid (Label n p mid did balance slice flags hardcoded) m = m.mid == mid
+has_mid (Label new) m = m.mid == new.mid
 has_mid _ m = false
 
 -- the mirror has it, or a mid that is found on images to be adopted
@@ -72,8 +72,8 @@ takes_mid x c m = has_mid c m
 
 -- the component has the did that the command gives
 abbrev pub has_did : Command → Component → Bool
-has_did (Label n p mid did balance slice flags hardcoded) k = k.did == did
-has_did (Insert n p did priority hardcoded) k = k.did == did
+has_did (Label new) k = k.did == new.did
+has_did (Insert new) k = k.did == new.did
 has_did _ k = false
 
 -- images to be adopted tell of one did twice

@@ -43,8 +43,8 @@ number_of_call (ByRules r) = number_of r
 
 -- the refusals that each command may meet
 abbrev pub own : Command → List Refusal
-own (Label n p mid did balance slice flags hardcoded) = NameTaken ∷ MidTaken ∷ Absent ∷ ProviderTaken ∷ CarriesMetadata ∷ TooManyMirrors ∷ WrongSize ∷ []
-own (Insert n p did priority hardcoded) = NoMirror ∷ Absent ∷ ProviderTaken ∷ CarriesMetadata ∷ TooSmall ∷ DidTaken ∷ Full ∷ SomeLost ∷ WrongSize ∷ []
+own (Label new) = NameTaken ∷ MidTaken ∷ Absent ∷ ProviderTaken ∷ CarriesMetadata ∷ TooManyMirrors ∷ WrongSize ∷ []
+own (Insert new) = NoMirror ∷ Absent ∷ ProviderTaken ∷ CarriesMetadata ∷ TooSmall ∷ DidTaken ∷ Full ∷ SomeLost ∷ WrongSize ∷ []
 own (Remove n p) = NoMirror ∷ Absent ∷ NotMember ∷ SomeLost ∷ LastActive ∷ []
 own (Deactivate n p) = NoMirror ∷ Absent ∷ NotMember ∷ LastActive ∷ AlreadyInactive ∷ LastSyncid ∷ []
 own (Activate n p) = NoMirror ∷ Absent ∷ NotMember ∷ NotInactive ∷ []

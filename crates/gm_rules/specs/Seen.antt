@@ -1,5 +1,5 @@
 -- What is seen of providers when a command is judged.
-use Rattle.std.specs.Prelude.{ℕ, Bool, false, ◌==◌, ◌&&◌, nat_le, List, Option, Some, None}
+use Rattle.std.specs.Prelude.{ℕ, Bool, false, ◌==◌, nat_le, List, Option, Some, None}
 use Rattle.gm_rules.specs.declared.facts.Fact.{Fact}
 use Rattle.gm_rules.specs.Facts.{size_in, last_in, last_carries, equals_in}
 

@@ -38,8 +38,8 @@ is_changed u c w q j = list_any (λ k. same_label k.provider q && k.sectors == j
 
 -- the data list of a new mirror: the first sectors of its provider, or of the source that it is adopted from
 abbrev pub NewData : World → Command → World → Type 0
-NewData u (commands.Label n p mid did balance slice flags hardcoded) w = (i : ℕ) → i + 1 < unwrap_or (u.size p) 0 → w.holds n i ≡ u.shelf p i
-NewData u (commands.Insert n p did priority hardcoded) w = Unit {0}
+NewData u (commands.Label new) w = (i : ℕ) → i + 1 < unwrap_or (u.size new.provider) 0 → w.holds new.name i ≡ u.shelf new.provider i
+NewData u (commands.Insert new) w = Unit {0}
 NewData u (commands.Remove n p) w = Unit {0}
 NewData u (commands.Deactivate n p) w = Unit {0}
 NewData u (commands.Activate n p) w = Unit {0}
@@ -84,8 +84,8 @@ NewAreBare u w = (k : Component) → Has w.state.components k → component_of u
 
 -- a provider that label or insert makes a component bore nothing before
 abbrev pub WereBare : Command → World → World → Type 0
-WereBare (commands.Label n p mid did balance slice flags hardcoded) u w = NewAreBare u w
-WereBare (commands.Insert n p did priority hardcoded) u w = NewAreBare u w
+WereBare (commands.Label new) u w = NewAreBare u w
+WereBare (commands.Insert new) u w = NewAreBare u w
 WereBare _ u w = Unit {0}
 
 -- the provider is that of a component of the mirror that the command names

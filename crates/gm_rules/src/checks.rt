@@ -18,7 +18,8 @@ use crate::facts::Facts;
 use crate::refusals::{Refusal, own};
 use gm_metadata::Label;
 use gm_state::{
-    Command, Component, ComponentState, Disk, Mirror, Preference, Settings, State, state_by,
+    Command, Component, ComponentState, Disk, Mirror, NewComponent, NewMirror, Preference,
+    Settings, State, state_by,
 };
 use std::slice;
 
@@ -34,8 +35,8 @@ pub(crate) fn name_of(command: &Command) -> Option<Label>
     ensures { result ≡ name_of command.now }
 {
     match command {
-        Command::Label { name, .. }
-        | Command::Insert { name, .. }
+        Command::Label(NewMirror { name, .. })
+        | Command::Insert(NewComponent { name, .. })
         | Command::Remove { name, .. }
         | Command::Deactivate { name, .. }
         | Command::Activate { name, .. }
@@ -65,8 +66,8 @@ pub fn providers_of(command: &Command) -> &[Label]
     ensures { result.now ≡ providers_of command.now }
 {
     match command {
-        Command::Label { provider, .. }
-        | Command::Insert { provider, .. }
+        Command::Label(NewMirror { provider, .. })
+        | Command::Insert(NewComponent { provider, .. })
         | Command::Remove { provider, .. }
         | Command::Deactivate { provider, .. }
         | Command::Activate { provider, .. }
@@ -93,7 +94,7 @@ pub(crate) fn has_mid(command: &Command, mirror: &Mirror) -> bool
     ensures { result ≡ has_mid command.now mirror.now }
 {
     match command {
-        Command::Label { mid, .. } => mirror.mid == *mid,
+        Command::Label(new) => mirror.mid == new.mid,
         _ => false,
     }
 }
@@ -102,7 +103,8 @@ fn has_did(command: &Command, component: &Component) -> bool
     ensures { result ≡ has_did command.now component.now }
 {
     match command {
-        Command::Label { did, .. } | Command::Insert { did, .. } => component.did == *did,
+        Command::Label(new) => component.did == new.did,
+        Command::Insert(new) => component.did == new.did,
         _ => false,
     }
 }

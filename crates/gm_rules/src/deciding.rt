@@ -22,7 +22,7 @@ use crate::making::{
 };
 use crate::refusals::Refusal;
 use gm_metadata::Label;
-use gm_state::{Command, Providers, Settings, State, source};
+use gm_state::{Command, NewComponent, Providers, Settings, State, source};
 use std::alloc::{AllocError, Global};
 
 /// The least refusal that applies, or what the command changes. Refusals take no memory.
@@ -90,29 +90,14 @@ fn change_of(
     ensures { IfOk result (λ ch. IsMade part.now (seen_in facts.now) command.now ch) }
 {
     match *command {
-        Command::Label {
-            name,
-            provider,
-            mid,
-            did,
-            balance,
-            slice,
-            flags,
-            hardcoded,
-        } => {
-            let sectors = sectors_of(facts, provider);
-            let mirror = new_mirror(name, mid, balance, slice, flags, sectors);
-            let first = first_component(name, provider, did, hardcoded, sectors);
+        Command::Label(ref new) => {
+            let sectors = sectors_of(facts, new.provider);
+            let mirror = new_mirror(new, sectors);
+            let first = first_component(new, sectors);
             let change = labelled(alloc, mirror, first)?;
             Ok(change)
         }
-        Command::Insert {
-            name,
-            provider,
-            did,
-            priority,
-            hardcoded,
-        } => insert(alloc, part, facts, name, provider, did, priority, hardcoded),
+        Command::Insert(ref new) => insert(alloc, part, facts, new),
         Command::Remove { name, provider } => remove(alloc, part, facts, name, provider),
         Command::Deactivate { name, provider } => deactivate(alloc, part, facts, name, provider),
         Command::Activate { name, provider } => activate(alloc, part, facts, name, provider),
@@ -149,21 +134,17 @@ fn insert(
     alloc: Global,
     part: &State,
     facts: &Facts,
-    name: Label,
-    provider: Label,
-    did: u32,
-    priority: u8,
-    hardcoded: bool,
+    new: &NewComponent,
 ) -> Result<Change, AllocError>
     requires { IsGoodButCount part.now (seen_in facts.now)
-        (commands.Insert name provider did priority hardcoded) }
+        (commands.Insert new.now) }
     ensures { IfOk result (λ ch. IsMade part.now (seen_in facts.now)
-        (commands.Insert name provider did priority hardcoded) ch) }
+        (commands.Insert new.now) ch) }
 {
-    let mirror = part.mirror(name).unwrap();
-    let sectors = sectors_of(facts, provider);
-    let spare = spare(&mirror, provider, did, priority, hardcoded, sectors);
-    let members = part.members(alloc, name)?;
+    let mirror = part.mirror(new.name).unwrap();
+    let sectors = sectors_of(facts, new.provider);
+    let spare = spare(&mirror, new, sectors);
+    let members = part.members(alloc, new.name)?;
     let change = inserted(alloc, mirror, members, spare)?;
     Ok(change)
 }

@@ -12,8 +12,8 @@ ghost use Rattle.gm_rules.specs.Bad.{is_on_any};
 
 use crate::change::{Change, push_clears, push_metas};
 use crate::checks::is_on_any;
-use gm_metadata::{Label, MirrorFlags};
-use gm_state::{BalanceWord, Component, Disk, Intent, Mirror, Reply, Slice, put};
+use gm_metadata::Label;
+use gm_state::{Component, Disk, Intent, Mirror, NewComponent, NewMirror, Reply, put};
 use std::alloc::{AllocError, Global};
 
 // The count that a mirror begins with.
@@ -26,70 +26,50 @@ pub(crate) const NOT_BEGUN: Disk = Disk::Copying {
 };
 
 /// The record of a new mirror on a provider of so many sectors.
-pub(crate) fn new_mirror(
-    name: Label,
-    mid: u32,
-    balance: BalanceWord,
-    slice: Slice,
-    flags: MirrorFlags,
-    sectors: u32,
-) -> Mirror
-    ensures { result ≡ new_mirror name mid balance slice flags sectors }
+pub(crate) fn new_mirror(new: &NewMirror, sectors: u32) -> Mirror
+    ensures { result ≡ new_mirror new.now sectors }
 {
     Mirror {
-        name,
-        mid,
+        name: new.name,
+        mid: new.mid,
         all: 1,
         genid: 0,
         syncid: FIRST_SYNCID,
-        slice: slice.bytes(),
-        balance: balance.balance(),
+        slice: new.slice.bytes(),
+        balance: new.balance.balance(),
         data_sectors: sectors.saturating_sub(1),
-        flags,
+        flags: new.flags,
     }
 }
 
 /// The record of its component.
-pub(crate) fn first_component(
-    name: Label,
-    provider: Label,
-    did: u32,
-    hardcoded: bool,
-    sectors: u32,
-) -> Component
-    ensures { result ≡ first_component name provider did hardcoded sectors }
+pub(crate) fn first_component(new: &NewMirror, sectors: u32) -> Component
+    ensures { result ≡ first_component new.now sectors }
 {
     Component {
-        provider,
-        mirror: name,
-        did,
+        provider: new.provider,
+        mirror: new.name,
+        did: new.did,
         syncid: FIRST_SYNCID,
         priority: 0,
         disk: Disk::InSync,
-        hardcoded,
+        hardcoded: new.hardcoded,
         sectors,
     }
 }
 
 /// The record of a component that is still to be filled.
-pub(crate) fn spare(
-    mirror: &Mirror,
-    provider: Label,
-    did: u32,
-    priority: u8,
-    hardcoded: bool,
-    sectors: u32,
-) -> Component
-    ensures { result ≡ spare mirror.now provider did priority hardcoded sectors }
+pub(crate) fn spare(mirror: &Mirror, new: &NewComponent, sectors: u32) -> Component
+    ensures { result ≡ spare mirror.now new.now sectors }
 {
     Component {
-        provider,
+        provider: new.provider,
         mirror: mirror.name,
-        did,
+        did: new.did,
         syncid: mirror.syncid,
-        priority,
+        priority: new.priority,
         disk: NOT_BEGUN,
-        hardcoded,
+        hardcoded: new.hardcoded,
         sectors,
     }
 }

@@ -125,7 +125,7 @@ pub(crate) fn own(command: &Command) -> &'static [Refusal]
     ensures { result.now ≡ own command.now }
 {
     match command {
-        Command::Label { .. } => &[
+        Command::Label(_) => &[
             Refusal::NameTaken,
             Refusal::MidTaken,
             Refusal::Absent,
@@ -134,7 +134,7 @@ pub(crate) fn own(command: &Command) -> &'static [Refusal]
             Refusal::TooManyMirrors,
             Refusal::WrongSize,
         ],
-        Command::Insert { .. } => &[
+        Command::Insert(_) => &[
             Refusal::NoMirror,
             Refusal::Absent,
             Refusal::ProviderTaken,

@@ -1,11 +1,10 @@
 -- Words that are joined by a byte.
-use Rattle.std.proofs.Common.{◌≡◌, ◌∙◌, ℕ, Bool, not, refl, sym, ap, List, [], ◌∷◌, ◌++◌, append_assoc, append-nil, Result, Ok, Err, IfOk, length, ◌<◌, arith}
+use Rattle.std.proofs.Common.{◌≡◌, ◌∙◌, ℕ, not, refl, sym, ap, List, [], ◌∷◌, ◌++◌, append_assoc, append-nil, Result, Ok, Err, IfOk, length, ◌<◌, arith}
 use Rattle.std.specs.Prelude.{codes}
 use Rattle.std.specs.List.{join_by, join_with_byte}
 use Rattle.std.specs.Fmt.{decimal}
 use Rattle.gm_metadata.specs.Balance.{balance_name}
-use Rattle.gm_metadata.specs.declared.flags.MirrorFlags.{MirrorFlags}
-use Rattle.gm_state.specs.declared.command.BalanceWord.{BalanceWord}
+use Rattle.gm_state.specs.declared.command.NewMirror.{NewMirror}
 use Rattle.gm_state.specs.declared.command.Command.TheVariants.{Label}
 use Rattle.gm_state.specs.Commands.{balance_of_word, on_where, number_words, switch_words, spaced, words_of}
 
@@ -21,16 +20,16 @@ join_parts c w m ms s ss n p =
     sym (join_two c w (m ∷ (ms ++ s ∷ ss)) n (p ∷ []) ∙ (ap (λ (x : List ℕ). x ++ (c ∷ join_with_byte c (n ∷ p ∷ []))) (join_two c w (m ∷ ms) s ss) ∙ simp append_assoc))
 
 -- the line of a label, whose options were joined before
-pub label_line : (n p : List ℕ) (mid did : ℕ) (word : BalanceWord) (slice : ℕ) (flags : MirrorFlags) (hardcoded : Bool)
+pub label_line : (new : NewMirror)
     → (numbers switches balance autosync failsync hardcode : List ℕ) (bytes : ℕ)
-    → numbers ≡ join_with_byte 32 (number_words mid did balance bytes) → switches ≡ join_with_byte 32 (switch_words autosync failsync hardcode)
-    → balance ≡ balance_name (balance_of_word word) → bytes ≡ slice
-    → autosync ≡ on_where (not flags.no_autosync) → failsync ≡ on_where (not flags.no_failsync) → hardcode ≡ on_where hardcoded
-    → join_with_byte 32 (codes "label" ∷ numbers ∷ switches ∷ n ∷ p ∷ []) ≡ words_of (Label n p mid did word slice flags hardcoded)
-label_line n p mid did word slice flags hardcoded numbers switches balance autosync failsync hardcode bytes e f b s x y z =
+    → numbers ≡ join_with_byte 32 (number_words new.mid new.did balance bytes) → switches ≡ join_with_byte 32 (switch_words autosync failsync hardcode)
+    → balance ≡ balance_name (balance_of_word new.balance) → bytes ≡ new.slice
+    → autosync ≡ on_where (not new.flags.no_autosync) → failsync ≡ on_where (not new.flags.no_failsync) → hardcode ≡ on_where new.hardcoded
+    → join_with_byte 32 (codes "label" ∷ numbers ∷ switches ∷ new.name ∷ new.provider ∷ []) ≡ words_of (Label new)
+label_line new numbers switches balance autosync failsync hardcode bytes e f b s x y z =
     rw (e, f, b, s, x, y, z)
-    (join_parts 32 (codes "label") (codes "--mid") (decimal mid ∷ codes "--did" ∷ decimal did ∷ codes "--balance" ∷ balance_name (balance_of_word word) ∷ codes "--slice" ∷ decimal slice ∷ [])
-    (codes "--autosync") (on_where (not flags.no_autosync) ∷ codes "--failsync" ∷ on_where (not flags.no_failsync) ∷ codes "--hardcode" ∷ on_where hardcoded ∷ []) n p)
+    (join_parts 32 (codes "label") (codes "--mid") (decimal new.mid ∷ codes "--did" ∷ decimal new.did ∷ codes "--balance" ∷ balance_name (balance_of_word new.balance) ∷ codes "--slice" ∷ decimal new.slice ∷ [])
+    (codes "--autosync") (on_where (not new.flags.no_autosync) ∷ codes "--failsync" ∷ on_where (not new.flags.no_failsync) ∷ codes "--hardcode" ∷ on_where new.hardcoded ∷ []) new.name new.provider)
 
 -- ---- what is given
 

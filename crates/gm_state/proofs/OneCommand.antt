@@ -10,11 +10,11 @@ use Rattle.gm_state.proofs.Parting.{all_spaceless, same_words, label_spaceless, 
 
 -- no word of a command has a space in it
 words_spaceless : (c : Command) → CommandFits c → all_spaceless (words c) ≡ true
-words_spaceless (Label n p mid did b slice f h) fits =
-    rw (number_spaceless mid fits.2, number_spaceless did fits.3, balance_spaceless b, number_spaceless slice fits.5, switch_spaceless (not f.no_autosync), switch_spaceless (not f.no_failsync), switch_spaceless h, label_spaceless n fits.0, label_spaceless p fits.1) refl
-words_spaceless (Insert n p did priority h) fits =
-    let small : priority < 2 ^ 8 = fits.3 in
-    rw (number_spaceless did fits.2, number_spaceless priority (omega arith), switch_spaceless h, label_spaceless n fits.0, label_spaceless p fits.1) refl
+words_spaceless (Label new) fits =
+    rw (number_spaceless new.mid fits.2, number_spaceless new.did fits.3, balance_spaceless new.balance, number_spaceless new.slice fits.5, switch_spaceless (not new.flags.no_autosync), switch_spaceless (not new.flags.no_failsync), switch_spaceless new.hardcoded, label_spaceless new.name fits.0, label_spaceless new.provider fits.1) refl
+words_spaceless (Insert new) fits =
+    let small : new.priority < 2 ^ 8 = fits.3 in
+    rw (number_spaceless new.did fits.2, number_spaceless new.priority (omega arith), switch_spaceless new.hardcoded, label_spaceless new.name fits.0, label_spaceless new.provider fits.1) refl
 words_spaceless (Remove n p) fits = rw (label_spaceless n fits.0, label_spaceless p fits.1) refl
 words_spaceless (Deactivate n p) fits = rw (label_spaceless n fits.0, label_spaceless p fits.1) refl
 words_spaceless (Activate n p) fits = rw (label_spaceless n fits.0, label_spaceless p fits.1) refl
@@ -35,8 +35,8 @@ word : ℕ → List (List ℕ) → List ℕ
 word k ws = get_or ws k []
 
 words_some : (c : Command) → words c ≢ []
-words_some (Label n p mid did b slice f h) e = cc
-words_some (Insert n p did priority h) e = cc
+words_some (Label new) e = cc
+words_some (Insert new) e = cc
 words_some (Remove n p) e = cc
 words_some (Deactivate n p) e = cc
 words_some (Activate n p) e = cc
@@ -60,25 +60,25 @@ apart m n e s = true≢false (sym (eq-eqb m n s) ∙ e)
 
 same_by_words : (a b : Command) → CommandFits a → CommandFits b → words a ≡ words b → a ≡ b
 unfolding letters word
-same_by_words (Label n p mid did b slice f h) (Label n' p' mid' did' b' slice' f' h') u v e =
-    let mids : mid ≡ mid' = same_number mid mid' u.2 v.2 (ap (word 2) e) in
-    let dids : did ≡ did' = same_number did did' u.3 v.3 (ap (word 4) e) in
-    let balances : b ≡ b' = same_balance b b' (ap (word 6) e) in
-    let slices : slice ≡ slice' = same_number slice slice' u.5 v.5 (ap (word 8) e) in
-    let flags : f ≡ f' = same_flags f f' (same_off f.no_autosync f'.no_autosync (ap (word 10) e)) (same_off f.no_failsync f'.no_failsync (ap (word 12) e)) in
-    let hard : h ≡ h' = same_switch h h' (ap (word 14) e) in
-    let names : n ≡ n' = ap (word 15) e in
-    let providers : p ≡ p' = ap (word 16) e in
-    rw (mids, dids, balances, slices, flags, hard, names, providers) refl
-same_by_words (Insert n p did priority h) (Insert n' p' did' priority' h') u v e =
-    let small : priority < 2 ^ 8 = u.3 in
-    let small' : priority' < 2 ^ 8 = v.3 in
-    let dids : did ≡ did' = same_number did did' u.2 v.2 (ap (word 2) e) in
-    let priorities : priority ≡ priority' = same_number priority priority' (omega arith) (omega arith) (ap (word 4) e) in
-    let hard : h ≡ h' = same_switch h h' (ap (word 6) e) in
-    let names : n ≡ n' = ap (word 7) e in
-    let providers : p ≡ p' = ap (word 8) e in
-    rw (dids, priorities, hard, names, providers) refl
+same_by_words (Label a) (Label b) u v e =
+    let mids : a.mid ≡ b.mid = same_number a.mid b.mid u.2 v.2 (ap (word 2) e) in
+    let dids : a.did ≡ b.did = same_number a.did b.did u.3 v.3 (ap (word 4) e) in
+    let balances : a.balance ≡ b.balance = same_balance a.balance b.balance (ap (word 6) e) in
+    let slices : a.slice ≡ b.slice = same_number a.slice b.slice u.5 v.5 (ap (word 8) e) in
+    let flags : a.flags ≡ b.flags = same_flags a.flags b.flags (same_off a.flags.no_autosync b.flags.no_autosync (ap (word 10) e)) (same_off a.flags.no_failsync b.flags.no_failsync (ap (word 12) e)) in
+    let hard : a.hardcoded ≡ b.hardcoded = same_switch a.hardcoded b.hardcoded (ap (word 14) e) in
+    let names : a.name ≡ b.name = ap (word 15) e in
+    let providers : a.provider ≡ b.provider = ap (word 16) e in
+    λ i. Label (record { name = names i; provider = providers i; mid = mids i; did = dids i; balance = balances i; slice = slices i; flags = flags i; hardcoded = hard i })
+same_by_words (Insert a) (Insert b) u v e =
+    let small : a.priority < 2 ^ 8 = u.3 in
+    let small' : b.priority < 2 ^ 8 = v.3 in
+    let dids : a.did ≡ b.did = same_number a.did b.did u.2 v.2 (ap (word 2) e) in
+    let priorities : a.priority ≡ b.priority = same_number a.priority b.priority (omega arith) (omega arith) (ap (word 4) e) in
+    let hard : a.hardcoded ≡ b.hardcoded = same_switch a.hardcoded b.hardcoded (ap (word 6) e) in
+    let names : a.name ≡ b.name = ap (word 7) e in
+    let providers : a.provider ≡ b.provider = ap (word 8) e in
+    λ i. Insert (record { name = names i; provider = providers i; did = dids i; priority = priorities i; hardcoded = hard i })
 same_by_words (Remove n p) (Remove n' p') u v e = let names : n ≡ n' = ap (word 1) e in let providers : p ≡ p' = ap (word 2) e in cc
 same_by_words (Deactivate n p) (Deactivate n' p') u v e = let names : n ≡ n' = ap (word 1) e in let providers : p ≡ p' = ap (word 2) e in cc
 same_by_words (Activate n p) (Activate n' p') u v e = let names : n ≡ n' = ap (word 1) e in let providers : p ≡ p' = ap (word 2) e in cc

@@ -30,8 +30,8 @@ PreferenceFits preference = IfSome preference (λ p. IsTrue (is_label p.provider
 
 -- names are labels, numbers fit, and a slice isn't 0, as the types of the code have it
 abbrev pub CommandFits : Command → Type 0
-CommandFits (Label n p mid did balance slice flags hardcoded) = IsTrue (is_label n) × IsTrue (is_label p) × (mid < 2 ^ 32) × (did < 2 ^ 32) × (0 < slice) × (slice < 2 ^ 32)
-CommandFits (Insert n p did priority hardcoded) = IsTrue (is_label n) × IsTrue (is_label p) × (did < 2 ^ 32) × (priority < 2 ^ 8)
+CommandFits (Label new) = IsTrue (is_label new.name) × IsTrue (is_label new.provider) × (new.mid < 2 ^ 32) × (new.did < 2 ^ 32) × (0 < new.slice) × (new.slice < 2 ^ 32)
+CommandFits (Insert new) = IsTrue (is_label new.name) × IsTrue (is_label new.provider) × (new.did < 2 ^ 32) × (new.priority < 2 ^ 8)
 CommandFits (Remove n p) = IsTrue (is_label n) × IsTrue (is_label p)
 CommandFits (Deactivate n p) = IsTrue (is_label n) × IsTrue (is_label p)
 CommandFits (Activate n p) = IsTrue (is_label n) × IsTrue (is_label p)
@@ -84,12 +84,13 @@ spaced ws = flat_map (λ w. 32 ∷ w) ws
 
 -- the words: the command, its options in their order with each default written out, and then the names
 abbrev pub words : Command → List (List ℕ)
-words (Label n p mid did balance slice flags hardcoded) =
-    codes "label" ∷ number_words mid did (balance_name (balance_of_word balance)) slice
-    ++ switch_words (on_where (not flags.no_autosync)) (on_where (not flags.no_failsync)) (on_where hardcoded) ++ n ∷ p ∷ []
-words (Insert n p did priority hardcoded) =
-    codes "insert" ∷ codes "--did" ∷ decimal did ∷ codes "--priority" ∷ decimal priority
-    ∷ codes "--hardcode" ∷ on_where hardcoded ∷ n ∷ p ∷ []
+words (Label new) =
+    codes "label" ∷ number_words new.mid new.did (balance_name (balance_of_word new.balance)) new.slice
+    ++ switch_words (on_where (not new.flags.no_autosync)) (on_where (not new.flags.no_failsync)) (on_where new.hardcoded)
+    ++ new.name ∷ new.provider ∷ []
+words (Insert new) =
+    codes "insert" ∷ codes "--did" ∷ decimal new.did ∷ codes "--priority" ∷ decimal new.priority
+    ∷ codes "--hardcode" ∷ on_where new.hardcoded ∷ new.name ∷ new.provider ∷ []
 words (Remove n p) = codes "remove" ∷ n ∷ p ∷ []
 words (Deactivate n p) = codes "deactivate" ∷ n ∷ p ∷ []
 words (Activate n p) = codes "activate" ∷ n ∷ p ∷ []

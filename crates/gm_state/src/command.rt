@@ -87,80 +87,58 @@ pub struct Settings {
     pub preference: Option<Preference>,
 }
 
+/// A new mirror on one provider. mid and did are handed in.
+#[derive(Clone, Copy, Debug, PartialEq, Eq)]
+pub struct NewMirror {
+    pub name: Label,
+    pub provider: Label,
+    pub mid: u32,
+    pub did: u32,
+    pub balance: BalanceWord,
+    pub slice: Slice,
+    pub flags: MirrorFlags,
+    /// Whether the name of its component is hardcoded.
+    pub hardcoded: bool,
+}
+
+/// One more component of a mirror, which is to be filled. did is handed in.
+#[derive(Clone, Copy, Debug, PartialEq, Eq)]
+pub struct NewComponent {
+    /// The mirror's name.
+    pub name: Label,
+    pub provider: Label,
+    pub did: u32,
+    pub priority: u8,
+    pub hardcoded: bool,
+}
+
 /// A command of gmirror(8), as its words say it; `Lost`, `Advance` and `Adopt` are this project's own.
 #[derive(Debug, PartialEq, Eq, Drop)]
 pub enum Command {
-    /// A new mirror on one provider. mid and did are handed in.
-    Label {
-        name: Label,
-        provider: Label,
-        mid: u32,
-        did: u32,
-        balance: BalanceWord,
-        slice: Slice,
-        flags: MirrorFlags,
-        hardcoded: bool,
-    },
-    /// One more component, which is to be filled.
-    Insert {
-        name: Label,
-        provider: Label,
-        did: u32,
-        priority: u8,
-        hardcoded: bool,
-    },
+    Label(NewMirror),
+    Insert(NewComponent),
     /// One component less.
-    Remove {
-        name: Label,
-        provider: Label,
-    },
+    Remove { name: Label, provider: Label },
     /// A component is taken out of use: it keeps the count of syncs that it has, the others count one more.
-    Deactivate {
-        name: Label,
-        provider: Label,
-    },
+    Deactivate { name: Label, provider: Label },
     /// A component that was taken out of use is to be filled anew.
-    Activate {
-        name: Label,
-        provider: Label,
-    },
+    Activate { name: Label, provider: Label },
     /// Components that were lost are no longer waited for.
-    Forget {
-        name: Label,
-    },
+    Forget { name: Label },
     /// A component is to be filled anew, also where the mirror doesn't fill its components by itself.
-    Rebuild {
-        name: Label,
-        provider: Label,
-    },
+    Rebuild { name: Label, provider: Label },
     /// The mirror and its components are set otherwise.
-    Configure {
-        name: Label,
-        settings: Settings,
-    },
+    Configure { name: Label, settings: Settings },
     /// The metadata of a provider that is no component are wiped out.
-    Clear {
-        provider: Label,
-    },
+    Clear { provider: Label },
     /// The mirror and its components are dropped.
-    Destroy {
-        name: Label,
-    },
+    Destroy { name: Label },
     /// Components whose images won't come back are dropped; they are waited for until they are forgotten.
-    Lost {
-        name: Label,
-        providers: Providers,
-    },
+    Lost { name: Label, providers: Providers },
     /// The next sectors of the mirror's data are copied to a component that is to be filled, at most 256.
-    Advance {
-        name: Label,
-        provider: Label,
-    },
+    Advance { name: Label, provider: Label },
     /// A mirror that is found on these providers is registered, with what their images bear out.
-    Adopt {
-        name: Label,
-        providers: Providers,
-    },
+    Adopt { name: Label, providers: Providers },
 }
 
 /// What is to be written to the shelf.

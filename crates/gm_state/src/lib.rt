@@ -19,7 +19,9 @@ mod states;
 mod wording;
 
 pub use checking::{MAX_COMPONENTS, MAX_MIRRORS, MAX_SECTORS};
-pub use command::{BalanceWord, Command, Intent, Preference, Reply, Settings, Slice};
+pub use command::{
+    BalanceWord, Command, Intent, NewComponent, NewMirror, Preference, Reply, Settings, Slice,
+};
 pub use keys::is_key;
 pub use laws::{
     metadata_fits, one_command, one_reply, one_row, one_state, sound_claims, sound_data,

@@ -4,9 +4,10 @@ ghost use Rattle.std.specs.Prelude.{◌≡◌, ◌<◌, Some, IfOk, IsTrue, leng
 ghost use Rattle.std.specs.List.{join_with_byte, list_all};
 ghost use Rattle.std.specs.String.{string_bytes};
 ghost use Rattle.gm_metadata.specs.Labels.{is_label};
+ghost use Rattle.gm_state.specs.declared.command.Command.TheVariants as commands;
 ghost use Rattle.gm_state.specs.Commands.{CommandFits, PreferenceFits, SliceFits, balance_words, given_switch, number_words, on_where, preference_words, setting_words, slice_words, spaced, switch_words, words_of};
 
-use crate::command::{BalanceWord, Command, Preference, Settings, Slice};
+use crate::command::{BalanceWord, Command, NewComponent, NewMirror, Preference, Settings, Slice};
 use gm_metadata::Label;
 use std::alloc::{AllocError, Global};
 
@@ -41,7 +42,7 @@ fn switch_words(
     format!(in alloc; "--autosync {autosync} --failsync {failsync} --hardcode {hardcode}")
 }
 
-fn label_words(
+fn label_line(
     alloc: Global,
     numbers: &str,
     switches: &str,
@@ -52,6 +53,34 @@ fn label_words(
         ≡ join_with_byte 32 (codes "label" ∷ numbers.now ∷ switches.now ∷ name ∷ provider ∷ [])) }
 {
     format!(in alloc; "label {numbers} {switches} {name} {provider}")
+}
+
+fn label_words(alloc: Global, new: &NewMirror) -> Result<String, AllocError>
+    ensures { IfOk result (λ text. string_bytes text ≡ words_of (commands.Label new.now)) }
+{
+    let balance = new.balance.balance().name();
+    let autosync = on_where(!new.flags.no_autosync);
+    let failsync = on_where(!new.flags.no_failsync);
+    let hardcode = on_where(new.hardcoded);
+    let numbers = number_words(alloc, new.mid, new.did, balance, new.slice.bytes())?;
+    let switches = switch_words(alloc, autosync, failsync, hardcode)?;
+    label_line(alloc, &numbers, &switches, new.name, new.provider)
+}
+
+fn insert_words(alloc: Global, new: &NewComponent) -> Result<String, AllocError>
+    ensures { IfOk result (λ text. string_bytes text ≡ words_of (commands.Insert new.now)) }
+{
+    let NewComponent {
+        name,
+        provider,
+        did,
+        priority,
+        hardcoded,
+    } = *new;
+    let hardcode = on_where(hardcoded);
+    format!(in alloc;
+        "insert --did {did} --priority {priority} --hardcode {hardcode} {name} {provider}"
+    )
 }
 
 // An option and its value, each behind a space.
@@ -144,7 +173,7 @@ fn row_words(
     format!(in alloc; "{word} {name} {providers}")
 }
 
-// What the types of their parts say of a slice and a preference; these do nothing.
+// What the types of their parts say of a slice, a preference, a label and an insert; these do nothing.
 fn slice_fits(slice: Option<Slice>)
     ensures { SliceFits slice }
 {
@@ -176,33 +205,43 @@ fn labels_fit(providers: &[Label])
     }
 }
 
+fn label_fits(new: &NewMirror)
+    ensures { CommandFits (commands.Label new.now) }
+{
+    let NewMirror {
+        name,
+        provider,
+        mid: _mid,
+        did: _did,
+        slice,
+        ..
+    } = *new;
+    let _ = name.as_bytes();
+    let _ = provider.as_bytes();
+    let _ = slice.bytes();
+}
+
+fn insert_fits(new: &NewComponent)
+    ensures { CommandFits (commands.Insert new.now) }
+{
+    let NewComponent {
+        name,
+        provider,
+        did: _did,
+        priority: _priority,
+        ..
+    } = *new;
+    let _ = name.as_bytes();
+    let _ = provider.as_bytes();
+}
+
 // What the types of its parts say of a command; it does nothing.
 fn command_fits(command: &Command)
     ensures { CommandFits command.now }
 {
     match *command {
-        Command::Label {
-            name,
-            provider,
-            mid: _mid,
-            did: _did,
-            slice,
-            ..
-        } => {
-            let _ = name.as_bytes();
-            let _ = provider.as_bytes();
-            let _ = slice.bytes();
-        }
-        Command::Insert {
-            name,
-            provider,
-            did: _did,
-            priority: _priority,
-            ..
-        } => {
-            let _ = name.as_bytes();
-            let _ = provider.as_bytes();
-        }
+        Command::Label(ref new) => label_fits(new),
+        Command::Insert(ref new) => insert_fits(new),
         Command::Remove { name, provider }
         | Command::Deactivate { name, provider }
         | Command::Activate { name, provider }
@@ -244,36 +283,8 @@ pub fn words_of(alloc: Global, command: &Command) -> Result<String, AllocError>
 {
     command_fits(command);
     match *command {
-        Command::Label {
-            name,
-            provider,
-            mid,
-            did,
-            balance,
-            slice,
-            flags,
-            hardcoded,
-        } => {
-            let balance = balance.balance().name();
-            let autosync = on_where(!flags.no_autosync);
-            let failsync = on_where(!flags.no_failsync);
-            let hardcode = on_where(hardcoded);
-            let numbers = number_words(alloc, mid, did, balance, slice.bytes())?;
-            let switches = switch_words(alloc, autosync, failsync, hardcode)?;
-            label_words(alloc, numbers.as_str(), switches.as_str(), name, provider)
-        }
-        Command::Insert {
-            name,
-            provider,
-            did,
-            priority,
-            hardcoded,
-        } => {
-            let hardcode = on_where(hardcoded);
-            format!(in alloc;
-                "insert --did {did} --priority {priority} --hardcode {hardcode} {name} {provider}"
-            )
-        }
+        Command::Label(ref new) => label_words(alloc, new),
+        Command::Insert(ref new) => insert_words(alloc, new),
         Command::Remove { name, provider } => format!(in alloc; "remove {name} {provider}"),
         Command::Deactivate { name, provider } => format!(in alloc; "deactivate {name} {provider}"),
         Command::Activate { name, provider } => format!(in alloc; "activate {name} {provider}"),

@@ -7,8 +7,8 @@ use Rattle.clap.specs.Walk.{Row, Text}
 use Rattle.clap.specs.Simple.{App}
 use Rattle.gm_metadata.specs.Balance.{balance_name}
 use Rattle.gm_metadata.specs.Labels.{is_label}
-use Rattle.gm_metadata.specs.declared.flags.MirrorFlags.{MirrorFlags}
-use Rattle.gm_state.specs.declared.command.BalanceWord.{BalanceWord}
+use Rattle.gm_state.specs.declared.command.NewComponent.{NewComponent}
+use Rattle.gm_state.specs.declared.command.NewMirror.{NewMirror}
 use Rattle.gm_state.specs.declared.command.Command.{Command}
 use Rattle.gm_state.specs.declared.command.Command.TheVariants.{Label, Insert, Remove, Deactivate, Activate, Forget, Rebuild, Configure, Clear, Destroy, Lost, Advance, Adopt}
 use Rattle.gm_state.specs.Commands.{CommandFits, balance_of_word, on_where, words}
@@ -140,37 +140,37 @@ label_finds mid did balance slice autosync failsync hardcode n p true =
 label_finds mid did balance slice autosync failsync hardcode n p false =
     record { passes = refl; are = (refl, (refl, (refl, (refl, (refl, (refl, (refl, (refl, (refl, tt))))))))) }
 
-module _ (n p : Text) (mid did slice : ℕ) (b : BalanceWord) (f : MirrorFlags) (h : Bool) (fits : CommandFits (Label n p mid did b slice f h)) where
+module _ (new : NewMirror) (fits : CommandFits (Label new)) where
   -- the command's own options
   abbrev label_own : List (Text × Text)
-  label_own = label_options (decimal mid) (decimal did) (balance_name (balance_of_word b)) (decimal slice) (on_where (not f.no_autosync)) (on_where (not f.no_failsync)) (on_where h)
+  label_own = label_options (decimal new.mid) (decimal new.did) (balance_name (balance_of_word new.balance)) (decimal new.slice) (on_where (not new.flags.no_autosync)) (on_where (not new.flags.no_failsync)) (on_where new.hardcoded)
 
   label_values : AreValues label_own
   label_values =
-      let mid_value = decimal_no_flag mid fits.2 in
-      let did_value = decimal_no_flag did fits.3 in
-      let slice_value = decimal_no_flag slice fits.5 in
-      let autosync = switch_no_flag (not f.no_autosync) in
-      let failsync = switch_no_flag (not f.no_failsync) in
-      (mid_value, (did_value, (balance_no_flag b, (slice_value, (autosync, (failsync, (switch_no_flag h, tt)))))))
+      let mid_value = decimal_no_flag new.mid fits.2 in
+      let did_value = decimal_no_flag new.did fits.3 in
+      let slice_value = decimal_no_flag new.slice fits.5 in
+      let autosync = switch_no_flag (not new.flags.no_autosync) in
+      let failsync = switch_no_flag (not new.flags.no_failsync) in
+      (mid_value, (did_value, (balance_no_flag new.balance, (slice_value, (autosync, (failsync, (switch_no_flag new.hardcoded, tt)))))))
 
-  label_from : (rows : List Row) → AreFound rows (component n p ++ label_own) → label_of rows ≡ Some (Label n p mid did b slice f h)
+  label_from : (rows : List Row) → AreFound rows (component new.name new.provider ++ label_own) → label_of rows ≡ Some (Label new)
   unfolding label_of
   label_from rows (name_is, (provider_is, (mid_is, (did_is, (balance_is, (slice_is, (autosync_is, (failsync_is, (hardcode_is, _))))))))) =
-      let names = component_read rows n p name_is provider_is fits.0 fits.1 in
-      let mids = number_read (codes "mid") rows mid mid_is fits.2 in
-      let dids = number_read (codes "did") rows did did_is fits.3 in
-      let balances = balance_read (codes "balance") rows b balance_is in
-      let slices = slice_read (codes "slice") rows slice slice_is fits.4 fits.5 in
-      let flags = flags_read rows f (switch_read (codes "autosync") rows (not f.no_autosync) autosync_is) (switch_read (codes "failsync") rows (not f.no_failsync) failsync_is) in
-      let hardcodes = switch_read (codes "hardcode") rows h hardcode_is in
+      let names = component_read rows new.name new.provider name_is provider_is fits.0 fits.1 in
+      let mids = number_read (codes "mid") rows new.mid mid_is fits.2 in
+      let dids = number_read (codes "did") rows new.did did_is fits.3 in
+      let balances = balance_read (codes "balance") rows new.balance balance_is in
+      let slices = slice_read (codes "slice") rows new.slice slice_is fits.4 fits.5 in
+      let flags = flags_read rows new.flags (switch_read (codes "autosync") rows (not new.flags.no_autosync) autosync_is) (switch_read (codes "failsync") rows (not new.flags.no_failsync) failsync_is) in
+      let hardcodes = switch_read (codes "hardcode") rows new.hardcoded hardcode_is in
       rw (names, mids, dids, balances, slices, flags, hardcodes) refl
 
-  label_spelled : (guarded : Bool) → let names = named guarded (n ∷ p ∷ []) in
-      ArePlain names → spelled (codes "label" ∷ map text_of (with_options label_own names)) ≡ Some (Label n p mid did b slice f h)
+  label_spelled : (guarded : Bool) → let names = named guarded (new.name ∷ new.provider ∷ []) in
+      ArePlain names → spelled (codes "label" ∷ map text_of (with_options label_own names)) ≡ Some (Label new)
   label_spelled guarded free =
-      let names = named guarded (n ∷ p ∷ []) in
-      let finds = label_finds (decimal mid) (decimal did) (balance_name (balance_of_word b)) (decimal slice) (on_where (not f.no_autosync)) (on_where (not f.no_failsync)) (on_where h) n p guarded in
+      let names = named guarded (new.name ∷ new.provider ∷ []) in
+      let finds = label_finds (decimal new.mid) (decimal new.did) (balance_name (balance_of_word new.balance)) (decimal new.slice) (on_where (not new.flags.no_autosync)) (on_where (not new.flags.no_failsync)) (on_where new.hardcoded) new.name new.provider guarded in
       spelled_as (codes "label") (leaf label) label_of has_label (with_options label_own names) (options_plain label_own names label_values free) finds.passes
       ∙ label_from (found label (with_options label_own names)) finds.are
 
@@ -185,38 +185,38 @@ unfolding clap_on_literals name optional wanted
 insert_finds did priority hardcode n p true = record { passes = refl; are = (refl, (refl, (refl, (refl, (refl, tt))))) }
 insert_finds did priority hardcode n p false = record { passes = refl; are = (refl, (refl, (refl, (refl, (refl, tt))))) }
 
-module _ (n p : Text) (did priority : ℕ) (h : Bool) (fits : CommandFits (Insert n p did priority h)) where
+module _ (new : NewComponent) (fits : CommandFits (Insert new)) where
   -- the command's own options
   abbrev insert_own : List (Text × Text)
-  insert_own = insert_options (decimal did) (decimal priority) (on_where h)
+  insert_own = insert_options (decimal new.did) (decimal new.priority) (on_where new.hardcoded)
 
   insert_values : AreValues insert_own
   insert_values =
-      let small : priority < 2 ^ 8 = fits.3 in
-      (decimal_no_flag did fits.2, (decimal_no_flag priority (omega arith), (switch_no_flag h, tt)))
+      let small : new.priority < 2 ^ 8 = fits.3 in
+      (decimal_no_flag new.did fits.2, (decimal_no_flag new.priority (omega arith), (switch_no_flag new.hardcoded, tt)))
 
-  insert_from : (rows : List Row) → AreFound rows (component n p ++ insert_own) → insert_of rows ≡ Some (Insert n p did priority h)
+  insert_from : (rows : List Row) → AreFound rows (component new.name new.provider ++ insert_own) → insert_of rows ≡ Some (Insert new)
   unfolding insert_of
   insert_from rows (name_is, (provider_is, (did_is, (priority_is, (hardcode_is, _))))) =
-      let names = component_read rows n p name_is provider_is fits.0 fits.1 in
-      let dids = number_read (codes "did") rows did did_is fits.2 in
-      let priorities = priority_read (codes "priority") rows priority priority_is fits.3 in
-      let hardcodes = switch_read (codes "hardcode") rows h hardcode_is in
+      let names = component_read rows new.name new.provider name_is provider_is fits.0 fits.1 in
+      let dids = number_read (codes "did") rows new.did did_is fits.2 in
+      let priorities = priority_read (codes "priority") rows new.priority priority_is fits.3 in
+      let hardcodes = switch_read (codes "hardcode") rows new.hardcoded hardcode_is in
       rw (names, dids, priorities, hardcodes) refl
 
-  insert_spelled : (guarded : Bool) → let names = named guarded (n ∷ p ∷ []) in
-      ArePlain names → spelled (codes "insert" ∷ map text_of (with_options insert_own names)) ≡ Some (Insert n p did priority h)
+  insert_spelled : (guarded : Bool) → let names = named guarded (new.name ∷ new.provider ∷ []) in
+      ArePlain names → spelled (codes "insert" ∷ map text_of (with_options insert_own names)) ≡ Some (Insert new)
   insert_spelled guarded free =
-      let names = named guarded (n ∷ p ∷ []) in
-      let finds = insert_finds (decimal did) (decimal priority) (on_where h) n p guarded in
+      let names = named guarded (new.name ∷ new.provider ∷ []) in
+      let finds = insert_finds (decimal new.did) (decimal new.priority) (on_where new.hardcoded) new.name new.provider guarded in
       spelled_as (codes "insert") (leaf insert) insert_of has_insert (with_options insert_own names) (options_plain insert_own names insert_values free) finds.passes
       ∙ insert_from (found insert (with_options insert_own names)) finds.are
 
 -- ---- the law
 
 pub canonical : (c : Command) → CommandFits c → HasNoFlags c → spelled (words c) ≡ Some c
-canonical (Label n p mid did b slice f h) fits free = label_spelled n p mid did slice b f h fits false (free.0, (free.1, tt))
-canonical (Insert n p did priority h) fits free = insert_spelled n p did priority h fits false (free.0, (free.1, tt))
+canonical (Label new) fits free = label_spelled new fits false (free.0, (free.1, tt))
+canonical (Insert new) fits free = insert_spelled new fits false (free.0, (free.1, tt))
 canonical (Remove n p) fits free = component_spelled Remove has_remove n p fits false (free.0, (free.1, tt))
 canonical (Deactivate n p) fits free = component_spelled Deactivate has_deactivate n p fits false (free.0, (free.1, tt))
 canonical (Activate n p) fits free = component_spelled Activate has_activate n p fits false (free.0, (free.1, tt))
@@ -230,8 +230,8 @@ canonical (Advance n p) fits free = component_spelled Advance has_advance n p fi
 canonical (Adopt n ps) fits free = adopt_canonical n ps fits free
 
 pub guarded : (c : Command) → CommandFits c → spelled (guarded_words c) ≡ Some c
-guarded (Label n p mid did b slice f h) fits = label_spelled n p mid did slice b f h fits true (tt, (tt, (tt, tt)))
-guarded (Insert n p did priority h) fits = insert_spelled n p did priority h fits true (tt, (tt, (tt, tt)))
+guarded (Label new) fits = label_spelled new fits true (tt, (tt, (tt, tt)))
+guarded (Insert new) fits = insert_spelled new fits true (tt, (tt, (tt, tt)))
 guarded (Remove n p) fits = component_spelled Remove has_remove n p fits true (tt, (tt, (tt, tt)))
 guarded (Deactivate n p) fits = component_spelled Deactivate has_deactivate n p fits true (tt, (tt, (tt, tt)))
 guarded (Activate n p) fits = component_spelled Activate has_activate n p fits true (tt, (tt, (tt, tt)))

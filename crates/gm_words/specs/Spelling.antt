@@ -117,7 +117,7 @@ label_of rows = do
   slice ← slice_at (codes "slice") rows
   flags ← flags_at rows
   hardcoded ← switch_at (codes "hardcode") rows
-  Some (Label names.name names.provider mid did balance slice flags hardcoded)
+  Some (Label (record { name = names.name; provider = names.provider; mid = mid; did = did; balance = balance; slice = slice; flags = flags; hardcoded = hardcoded }))
 
 unfoldable pub insert_of : List Row → Option Command
 insert_of rows = do
@@ -125,7 +125,7 @@ insert_of rows = do
   did ← number_at (codes "did") rows
   priority ← priority_at (codes "priority") rows
   hardcoded ← switch_at (codes "hardcode") rows
-  Some (Insert names.name names.provider did priority hardcoded)
+  Some (Insert (record { name = names.name; provider = names.provider; did = did; priority = priority; hardcoded = hardcoded }))
 
 unfoldable pub settings_at : List Row → Option Settings
 settings_at rows = do
@@ -208,8 +208,8 @@ IsNoFlag (x ∷ xs) = (x == 45) ≡ false
 
 -- no name of the command does
 abbrev pub HasNoFlags : Command → Type 0
-HasNoFlags (Label name provider mid did balance slice flags hardcoded) = IsNoFlag name × IsNoFlag provider
-HasNoFlags (Insert name provider did priority hardcoded) = IsNoFlag name × IsNoFlag provider
+HasNoFlags (Label new) = IsNoFlag new.name × IsNoFlag new.provider
+HasNoFlags (Insert new) = IsNoFlag new.name × IsNoFlag new.provider
 HasNoFlags (Remove name provider) = IsNoFlag name × IsNoFlag provider
 HasNoFlags (Deactivate name provider) = IsNoFlag name × IsNoFlag provider
 HasNoFlags (Activate name provider) = IsNoFlag name × IsNoFlag provider
@@ -232,13 +232,13 @@ guarded_settings settings = setting_words (record settings { preference = None }
 
 -- the canonical words with `--` before the names, and `=` before the provider of a preference
 abbrev pub guarded_words : Command → List Text
-guarded_words (Label name provider mid did balance slice flags hardcoded) =
-    codes "label" ∷ number_words mid did (balance_name (balance_of_word balance)) slice
-    ++ switch_words (on_where (not flags.no_autosync)) (on_where (not flags.no_failsync)) (on_where hardcoded)
-    ++ codes "--" ∷ name ∷ provider ∷ []
-guarded_words (Insert name provider did priority hardcoded) =
-    codes "insert" ∷ codes "--did" ∷ decimal did ∷ codes "--priority" ∷ decimal priority
-    ∷ codes "--hardcode" ∷ on_where hardcoded ∷ codes "--" ∷ name ∷ provider ∷ []
+guarded_words (Label new) =
+    codes "label" ∷ number_words new.mid new.did (balance_name (balance_of_word new.balance)) new.slice
+    ++ switch_words (on_where (not new.flags.no_autosync)) (on_where (not new.flags.no_failsync)) (on_where new.hardcoded)
+    ++ codes "--" ∷ new.name ∷ new.provider ∷ []
+guarded_words (Insert new) =
+    codes "insert" ∷ codes "--did" ∷ decimal new.did ∷ codes "--priority" ∷ decimal new.priority
+    ∷ codes "--hardcode" ∷ on_where new.hardcoded ∷ codes "--" ∷ new.name ∷ new.provider ∷ []
 guarded_words (Remove name provider) = codes "remove" ∷ codes "--" ∷ name ∷ provider ∷ []
 guarded_words (Deactivate name provider) = codes "deactivate" ∷ codes "--" ∷ name ∷ provider ∷ []
 guarded_words (Activate name provider) = codes "activate" ∷ codes "--" ∷ name ∷ provider ∷ []

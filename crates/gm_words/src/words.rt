@@ -10,7 +10,9 @@ use crate::table::table;
 use clap::error::ErrorKind;
 use clap::{ArgMatches, Error};
 use gm_metadata::{Label, MirrorFlags};
-use gm_state::{BalanceWord, Command, Preference, Providers, Settings, Slice};
+use gm_state::{
+    BalanceWord, Command, NewComponent, NewMirror, Preference, Providers, Settings, Slice,
+};
 use std::alloc::{AllocError, Global};
 
 /// The words aren't those of a command; every cause is refusal 1.
@@ -238,7 +240,7 @@ fn label_of(matches: &ArgMatches<'_>) -> Option<Command>
     let slice = slice_at(matches, "slice")?;
     let flags = flags_of(matches)?;
     let hardcoded = switch_at(matches, "hardcode")?;
-    Some(Command::Label {
+    Some(Command::Label(NewMirror {
         name,
         provider,
         mid,
@@ -247,7 +249,7 @@ fn label_of(matches: &ArgMatches<'_>) -> Option<Command>
         slice,
         flags,
         hardcoded,
-    })
+    }))
 }
 
 #[tactic(auto, unfolding(crate::specs::Spelling::insert_of))]
@@ -258,13 +260,13 @@ fn insert_of(matches: &ArgMatches<'_>) -> Option<Command>
     let did = number_at(matches, "did")?;
     let priority = priority_at(matches, "priority")?;
     let hardcoded = switch_at(matches, "hardcode")?;
-    Some(Command::Insert {
+    Some(Command::Insert(NewComponent {
         name,
         provider,
         did,
         priority,
         hardcoded,
-    })
+    }))
 }
 
 #[tactic(auto, unfolding(crate::specs::Spelling::configure_of))]

@@ -4,7 +4,7 @@ use super::stops::one_command;
 use super::{NO_FLAGS, accept, bare, change, label, open, settle};
 use gm_registry::Registry;
 use gm_rules::changed_by;
-use gm_state::{BalanceWord, Command, Slice, State, words_of};
+use gm_state::{BalanceWord, Command, NewComponent, NewMirror, Slice, State, words_of};
 use md5::{Digest, Md5};
 use sqlite::{Alter, Connection};
 use std::alloc::Global;
@@ -32,7 +32,7 @@ fn a_registry_of_one_command_is_the_stored_file(rt: HostRuntime) -> Result<(), F
 }
 
 fn labels_plainly() -> Result<Command, Fail> {
-    Ok(Command::Label {
+    Ok(Command::Label(NewMirror {
         name: label("gm0")?,
         provider: label("a.img")?,
         mid: 7,
@@ -41,17 +41,17 @@ fn labels_plainly() -> Result<Command, Fail> {
         slice: Slice::new(4096).ok_or("no slice")?,
         flags: NO_FLAGS,
         hardcoded: false,
-    })
+    }))
 }
 
 fn inserts_plainly() -> Result<Command, Fail> {
-    Ok(Command::Insert {
+    Ok(Command::Insert(NewComponent {
         name: label("gm0")?,
         provider: label("b.img")?,
         did: 2,
         priority: 0,
         hardcoded: false,
-    })
+    }))
 }
 
 fn removes() -> Result<Command, Fail> {
