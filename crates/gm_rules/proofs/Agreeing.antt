@@ -231,10 +231,6 @@ module _ (s : Records) (c : Command) (mids : List ℕ) (state : IsState s) where
   pub chosen_name : (n : List ℕ) → name_of c ≡ Some n → chosen n ≡ true
   chosen_name n e = let named : option_map_or (λ a. same_label n a) (name_of c) false ≡ true = rw e (same_refl n) in or_left _ _ named
 
-  -- the same of lists that are known to be its own
-  pub lists_are : (ms : List Mirror) (ks : List Component) → ms ≡ kept → ks ≡ (with_components ms s.components).components → IsState (record { mirrors = ms; components = ks })
-  lists_are ms ks e f = rw (f, e) is_state
-
 -- ---- the whole is a part
 
 pub whole_is_part : (s : Records) (c : Command) → IsState s → IsPartOf s c s

@@ -30,5 +30,5 @@ pub use deciding::{decide, decide_part};
 pub use facts::{Fact, Facts};
 pub use laws::every_command_has_a_plan;
 pub use needs::needed;
-pub use parts::{a_part_is_a_state, is_called, part};
+pub use parts::{a_part_is_a_state, is_called};
 pub use refusals::{CallRefusal, Refusal};

@@ -1,5 +1,5 @@
 -- The named states of components and mirrors.
-use Rattle.std.specs.Prelude.{ℕ, not, ◌&&◌, ◌==◌, List, codes, count_by, Option, option_map, if◌then◌else◌}
+use Rattle.std.specs.Prelude.{ℕ, not, ◌&&◌, ◌==◌, List, codes, count_by, Option, if◌then◌else◌}
 use Rattle.gm_metadata.specs.declared.flags.MirrorFlags.{MirrorFlags}
 use Rattle.gm_state.specs.declared.records.Mirror.{Mirror}
 use Rattle.gm_state.specs.declared.records.Component.{Component}
@@ -9,8 +9,8 @@ use Rattle.gm_state.specs.declared.states.ComponentState.{ComponentState}
 use Rattle.gm_state.specs.declared.states.ComponentState.TheVariants.{Active, Stale, Synchronizing, Inactive}
 use Rattle.gm_state.specs.declared.states.MirrorState.{MirrorState}
 use Rattle.gm_state.specs.declared.states.MirrorState.TheVariants.{Complete, Degraded}
-use Rattle.gm_state.specs.Records.{Records, members}
-use Rattle.gm_state.specs.Lookups.{mirror_of, at_component, is_active}
+use Rattle.gm_state.specs.Records.{Records}
+use Rattle.gm_state.specs.Lookups.{at_component, is_active}
 
 -- INACTIVE; else ACTIVE where SYNCHRONIZING is clear; else STALE under NOAUTOSYNC without FORCE_SYNC; else SYNCHRONIZING
 abbrev pub state_by : MirrorFlags → Disk → ComponentState
@@ -29,10 +29,6 @@ active_count ks = count_by (λ k. is_active k.disk) ks
 -- COMPLETE where as many are ACTIVE as the mirror has in all, else DEGRADED
 abbrev pub state_among : Mirror → List Component → MirrorState
 state_among m ks = if active_count ks == m.all then Complete else Degraded
-
--- the state of the mirror of this name
-abbrev pub mirror_state : Records → List ℕ → Option MirrorState
-mirror_state s name = option_map (λ m. state_among m (members s.components m.name)) (mirror_of s name)
 
 -- the names of the states in texts
 abbrev pub component_state_name : ComponentState → List ℕ

@@ -26,7 +26,7 @@ pub use keys::is_key;
 pub use laws::{
     metadata_fits, one_command, one_reply, one_row, one_state, sound_claims, sound_data,
 };
-pub use lookups::{active_count, component_state, metadata, metadata_of, mirror_state, state_by};
+pub use lookups::{component_state, metadata, metadata_of, state_by};
 pub use named::Providers;
 pub use records::{Component, Disk, Mirror};
 pub use sizes::{bytes_of, sectors_of};

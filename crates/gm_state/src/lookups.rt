@@ -1,15 +1,14 @@
-//! What can be said of a component or a mirror from the records alone. Nothing here takes memory.
+//! What can be said of a component from the records alone. Nothing here takes memory.
 
-ghost use Rattle.std.specs.Prelude.{◌≡◌, ◌*◌, Some, None, length, count_by};
-ghost use Rattle.gm_state.specs.Records.{members};
+ghost use Rattle.std.specs.Prelude.{◌≡◌};
 ghost use Rattle.gm_state.specs.Records.{IsState};
-ghost use Rattle.gm_state.specs.Lookups.{metadata, metadata_of, is_active};
-ghost use Rattle.gm_state.specs.States.{state_by, component_state, mirror_state, active_count, state_among};
+ghost use Rattle.gm_state.specs.Lookups.{metadata, metadata_of};
+ghost use Rattle.gm_state.specs.States.{state_by, component_state};
 
 use crate::records::{Component, Disk, Mirror};
 use crate::sizes::bytes_of;
 use crate::state::State;
-use crate::states::{ComponentState, MirrorState};
+use crate::states::ComponentState;
 use gm_metadata::{Label, Metadata, MirrorFlags};
 
 /// What the last sector of a component of the mirror says.
@@ -69,28 +68,4 @@ pub fn component_state(state: &State, provider: Label) -> Option<ComponentState>
     let component = state.component(provider)?;
     let mirror = state.mirror(component.mirror)?;
     Some(state_by(mirror.flags, component.disk))
-}
-
-/// How many components of the mirror of this name are ACTIVE.
-pub fn active_count(state: &State, name: Label) -> usize
-    ensures { result ≡ active_count (members state.now.components name) }
-{
-    state
-        .components()
-        .iter()
-        .filter(|k| k.mirror == name)
-        .filter(|k| k.disk.is_active())
-        .count()
-}
-
-/// The state of the mirror of this name; `None` where there is none.
-pub fn mirror_state(state: &State, name: Label) -> Option<MirrorState>
-    ensures { result ≡ mirror_state state.now name }
-{
-    let mirror = state.mirror(name)?;
-    if active_count(state, mirror.name) == usize::from(mirror.all) {
-        Some(MirrorState::Complete)
-    } else {
-        Some(MirrorState::Degraded)
-    }
 }

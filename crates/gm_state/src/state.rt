@@ -115,18 +115,6 @@ impl State {
         State::from_ordered(Vec::new(alloc), Vec::new(alloc))
     }
 
-    /// All mirrors and all components, each in byte order of names.
-    pub fn into_records(self) -> (Vec<Mirror>, Vec<Component>)
-        ensures mirrors { result.0.items ≡ self.mirrors }
-        ensures components { result.1.items ≡ self.components }
-    {
-        let State {
-            mirrors,
-            components,
-        } = self;
-        (mirrors, components)
-    }
-
     /// The mirror of this name.
     pub fn mirror(&self, name: Label) -> Option<Mirror>
         ensures value { result ≡ mirror_of self.now name }
