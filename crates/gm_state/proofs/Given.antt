@@ -121,19 +121,10 @@ same_preference (Some p) (Some q) u v e f =
     let providers : p.provider ≡ q.provider = cc in
     let texts : decimal p.priority ≡ decimal q.priority = cc in
     let priorities : p.priority ≡ q.priority = same_number p.priority q.priority (omega arith) (omega arith) texts in
-    ap (λ (x : List ℕ). let r : Preference = record { provider = x; priority = p.priority } in Some r) providers
-    ∙ ap (λ (y : ℕ). let r : Preference = record { provider = q.provider; priority = y } in Some r) priorities
-
--- equal settings have equal fields
-made : Option BalanceWord → Option ℕ → Option Bool → Option Bool → Option Bool → Option Preference → Settings
-made b s a f h p = record { balance = b; slice = s; autosync = a; failsync = f; hardcode = h; preference = p }
-
-made_same : {b b' : Option BalanceWord} {s s' : Option ℕ} {a a' f f' h h' : Option Bool} {p p' : Option Preference}
-    → b ≡ b' → s ≡ s' → a ≡ a' → f ≡ f' → h ≡ h' → p ≡ p' → made b s a f h p ≡ made b' s' a' f' h' p'
-made_same e1 e2 e3 e4 e5 e6 = rw (e1, e2, e3, e4, e5, e6) refl
+    λ i. Some (record { provider = providers i; priority = priorities i })
 
 pub same_settings : (s t : Settings) (n m : List ℕ) → SliceFits s.slice × PreferenceFits s.preference → SliceFits t.slice × PreferenceFits t.preference → setting_words s ++ n ∷ [] ≡ setting_words t ++ m ∷ [] → s ≡ t
-unfolding choices preferred choice lookup made
+unfolding choices preferred choice lookup
 same_settings s t n m u v e =
     let both : all_given (choices s) ++ n ∷ [] ≡ all_given (choices t) ++ m ∷ [] = ap (λ (x : List (List ℕ)). x ++ n ∷ []) (sym (chosen_words s)) ∙ (e ∙ ap (λ (x : List (List ℕ)). x ++ m ∷ []) (chosen_words t)) in
     let looked : (o : List ℕ) → lookup o (choices s) ≡ lookup o (choices t) = λ o. sym (found o (choices s) n) ∙ (ap (back o) both ∙ found o (choices t) m) in
@@ -144,7 +135,7 @@ same_settings s t n m u v e =
     let failsyncs : s.failsync ≡ t.failsync = same_any on_where same_switch s.failsync t.failsync (value _ _ (looked (codes "--failsync"))) in
     let hardcodes : s.hardcode ≡ t.hardcode = same_any on_where same_switch s.hardcode t.hardcode (value _ _ (looked (codes "--hardcode"))) in
     let preferences : s.preference ≡ t.preference = same_preference s.preference t.preference u.1 v.1 (value _ _ (looked (codes "--prov"))) (value _ _ (looked (codes "--priority"))) in
-    made_same balances slices autosyncs failsyncs hardcodes preferences
+    λ i. record { balance = balances i; slice = slices i; autosync = autosyncs i; failsync = failsyncs i; hardcode = hardcodes i; preference = preferences i }
 
 -- ---- no spaces
 

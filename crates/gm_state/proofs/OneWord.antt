@@ -41,9 +41,7 @@ pub same_off : (a b : Bool) → on_where (not a) ≡ on_where (not b) → a ≡ 
 same_off a b e = sym (not_again a) ∙ (ap not (same_switch (not a) (not b) e) ∙ not_again b)
 
 pub same_flags : (f g : MirrorFlags) → f.no_autosync ≡ g.no_autosync → f.no_failsync ≡ g.no_failsync → f ≡ g
-same_flags f g p q =
-    ap (λ (x : Bool). let r : MirrorFlags = record { no_autosync = x; no_failsync = f.no_failsync } in r) p
-    ∙ ap (λ (y : Bool). let r : MirrorFlags = record { no_autosync = g.no_autosync; no_failsync = y } in r) q
+same_flags f g p q = λ i. record { no_autosync = p i; no_failsync = q i }
 
 pub same_number : (m n : ℕ) → m < 2 ^ 32 → n < 2 ^ 32 → decimal m ≡ decimal n → m ≡ n
 same_number m n h k e = decimal_injective m n (omega arith) (omega arith) e

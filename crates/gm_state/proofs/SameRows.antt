@@ -1,6 +1,5 @@
 -- Answered keys with one row are one.
-use Rattle.std.proofs.Common.{rules, ◌≡◌, ◌∙◌, ℕ, ◌<◌, refl, ap, arith, List}
-use Rattle.gm_state.specs.declared.command.Command.{Command}
+use Rattle.std.proofs.Common.{rules, ◌≡◌, ◌<◌, refl, ap, arith}
 use Rattle.gm_state.specs.declared.command.Reply.{Reply}
 use Rattle.gm_state.specs.declared.command.Reply.TheVariants.{Plain, Copied}
 use Rattle.gm_state.specs.World.{Answered, AnswerFits, ReplyFits}
@@ -22,10 +21,7 @@ same_answer a b f g e =
     let numbers : a.number ≡ b.number = ap (λ r. r.seq) e in
     let commands : a.command ≡ b.command = same_command a.command b.command f.command g.command (ap (λ r. r.words) e) in
     let replies : a.reply ≡ b.reply = same_reply a.reply b.reply f.reply g.reply (ap (λ r. r.copied) e) (ap (λ r. r.of_total) e) in
-    ap (λ (x : List ℕ). let r : Answered = record { key = x; command = a.command; number = a.number; reply = a.reply } in r) keys
-    ∙ (ap (λ (x : Command). let r : Answered = record { key = b.key; command = x; number = a.number; reply = a.reply } in r) commands
-    ∙ (ap (λ (x : ℕ). let r : Answered = record { key = b.key; command = b.command; number = x; reply = a.reply } in r) numbers
-    ∙ ap (λ (x : Reply). let r : Answered = record { key = b.key; command = b.command; number = b.number; reply = x } in r) replies))
+    λ i. record { key = keys i; command = commands i; number = numbers i; reply = replies i }
 
 -- a row says its mirror, and its component
 pub same_mirror : (a b : Mirror) → mirror_row a ≡ mirror_row b → a ≡ b

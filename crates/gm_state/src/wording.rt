@@ -94,10 +94,7 @@ fn given_balance(alloc: Global, balance: Option<BalanceWord>) -> Result<String, 
     ensures { IfOk result (λ text. string_bytes text ≡ spaced (balance_words balance)) }
 {
     match balance {
-        Some(balance) => {
-            let words = pair(alloc, "--balance", balance.balance().name())?;
-            Ok(words)
-        }
+        Some(balance) => Ok(pair(alloc, "--balance", balance.balance().name())?),
         None => Ok(String::new(alloc)),
     }
 }
@@ -118,10 +115,7 @@ fn given_switch(alloc: Global, option: &str, switch: Option<bool>) -> Result<Str
     ensures { IfOk result (λ text. string_bytes text ≡ spaced (given_switch option.now switch)) }
 {
     match switch {
-        Some(set) => {
-            let words = pair(alloc, option, on_where(set))?;
-            Ok(words)
-        }
+        Some(set) => Ok(pair(alloc, option, on_where(set))?),
         None => Ok(String::new(alloc)),
     }
 }
@@ -130,10 +124,7 @@ fn given_preference(alloc: Global, preference: Option<Preference>) -> Result<Str
     ensures { IfOk result (λ text. string_bytes text ≡ spaced (preference_words preference)) }
 {
     match preference {
-        Some(preference) => {
-            let words = preferred(alloc, preference.provider, preference.priority)?;
-            Ok(words)
-        }
+        Some(preference) => Ok(preferred(alloc, preference.provider, preference.priority)?),
         None => Ok(String::new(alloc)),
     }
 }
@@ -173,7 +164,7 @@ fn row_words(
     format!(in alloc; "{word} {name} {providers}")
 }
 
-// What the types of their parts say of a slice, a preference, a label and an insert; these do nothing.
+// What the types of their parts say of a slice and a preference; these do nothing.
 fn slice_fits(slice: Option<Slice>)
     ensures { SliceFits slice }
 {
@@ -205,6 +196,7 @@ fn labels_fit(providers: &[Label])
     }
 }
 
+// What they say of a label and an insert; these do nothing.
 fn label_fits(new: &NewMirror)
     ensures { CommandFits (commands.Label new.now) }
 {
