@@ -149,7 +149,6 @@ pub(crate) fn genid_of(facts: &Facts, providers: &[Label]) -> u32
     genid
 }
 
-/// Its syncid.
 pub(crate) fn syncid_of(facts: &Facts, providers: &[Label], genid: u32) -> u32
     requires { genid ≡ genid_of (seen_in facts.now) providers.now }
     ensures { result ≡ syncid_of (seen_in facts.now) providers.now }

@@ -47,10 +47,7 @@ fn mirrors_left(
     ensures { IfOk result (λ v. v.items ≡ without_some gone mirrors.now) }
 {
     match gone {
-        None => {
-            let all = mirrors.to_vec(alloc)?;
-            Ok(all)
-        }
+        None => Ok(mirrors.to_vec(alloc)?),
         Some(name) => other_mirrors(alloc, mirrors, name),
     }
 }

@@ -42,8 +42,7 @@ pub fn decide(
     ensures memory { OnErr result (IsGood state.now (seen_in facts.now) command.now) }
 {
     let count = state.mirrors().len() as u64;
-    let decided = decide_part(alloc, state, count, facts, command)?;
-    Ok(decided)
+    Ok(decide_part(alloc, state, count, facts, command)?)
 }
 
 /// What `decide` answers on a whole state, from the command's part of it and the number of its
@@ -94,8 +93,7 @@ fn change_of(
             let sectors = sectors_of(facts, new.provider);
             let mirror = new_mirror(new, sectors);
             let first = first_component(new, sectors);
-            let change = labelled(alloc, mirror, first)?;
-            Ok(change)
+            Ok(labelled(alloc, mirror, first)?)
         }
         Command::Insert(ref new) => insert(alloc, part, facts, new),
         Command::Remove { name, provider } => remove(alloc, part, facts, name, provider),
@@ -104,10 +102,7 @@ fn change_of(
         Command::Forget { name } => forget(alloc, part, facts, name),
         Command::Rebuild { name, provider } => rebuild(alloc, part, facts, name, provider),
         Command::Configure { name, settings } => configure(alloc, part, facts, name, &settings),
-        Command::Clear { provider } => {
-            let change = cleared(alloc, provider)?;
-            Ok(change)
-        }
+        Command::Clear { provider } => Ok(cleared(alloc, provider)?),
         Command::Destroy { name } => destroy(alloc, part, facts, name),
         Command::Lost {
             name,
@@ -145,8 +140,7 @@ fn insert(
     let sectors = sectors_of(facts, new.provider);
     let spare = spare(&mirror, new, sectors);
     let members = part.members(alloc, new.name)?;
-    let change = inserted(alloc, mirror, members, spare)?;
-    Ok(change)
+    Ok(inserted(alloc, mirror, members, spare)?)
 }
 
 fn remove(
@@ -163,8 +157,7 @@ fn remove(
 {
     let mirror = part.mirror(name).unwrap();
     let members = part.members(alloc, name)?;
-    let change = removed(alloc, mirror, &members, provider)?;
-    Ok(change)
+    Ok(removed(alloc, mirror, &members, provider)?)
 }
 
 fn deactivate(
@@ -181,8 +174,7 @@ fn deactivate(
 {
     let mirror = part.mirror(name).unwrap();
     let members = part.members(alloc, name)?;
-    let change = deactivated(alloc, mirror, &members, provider)?;
-    Ok(change)
+    Ok(deactivated(alloc, mirror, &members, provider)?)
 }
 
 fn activate(
@@ -199,8 +191,7 @@ fn activate(
 {
     let mirror = part.mirror(name).unwrap();
     let component = part.component(provider).unwrap();
-    let change = replaced(alloc, activated(&mirror, component))?;
-    Ok(change)
+    Ok(replaced(alloc, activated(&mirror, component))?)
 }
 
 fn forget(alloc: Global, part: &State, facts: &Facts, name: Label) -> Result<Change, AllocError>
@@ -211,8 +202,7 @@ fn forget(alloc: Global, part: &State, facts: &Facts, name: Label) -> Result<Cha
 {
     let mirror = part.mirror(name).unwrap();
     let members = part.members(alloc, name)?;
-    let change = forgotten(alloc, mirror, &members)?;
-    Ok(change)
+    Ok(forgotten(alloc, mirror, &members)?)
 }
 
 fn rebuild(
@@ -228,8 +218,7 @@ fn rebuild(
         (commands.Rebuild name provider) ch) }
 {
     let component = part.component(provider).unwrap();
-    let change = replaced(alloc, rebuilt(component))?;
-    Ok(change)
+    Ok(replaced(alloc, rebuilt(component))?)
 }
 
 fn configure(
@@ -246,8 +235,7 @@ fn configure(
 {
     let mirror = part.mirror(name).unwrap();
     let members = part.members(alloc, name)?;
-    let change = configured(alloc, settings, mirror, &members)?;
-    Ok(change)
+    Ok(configured(alloc, settings, mirror, &members)?)
 }
 
 fn destroy(alloc: Global, part: &State, facts: &Facts, name: Label) -> Result<Change, AllocError>
@@ -257,8 +245,7 @@ fn destroy(alloc: Global, part: &State, facts: &Facts, name: Label) -> Result<Ch
         (commands.Destroy name) ch) }
 {
     let members = part.members(alloc, name)?;
-    let change = destroyed(alloc, name, &members)?;
-    Ok(change)
+    Ok(destroyed(alloc, name, &members)?)
 }
 
 fn lose(
@@ -275,8 +262,7 @@ fn lose(
 {
     let mirror = part.mirror(name).unwrap();
     let members = part.members(alloc, name)?;
-    let change = lost(alloc, mirror, &members, providers.as_slice())?;
-    Ok(change)
+    Ok(lost(alloc, mirror, &members, providers.as_slice())?)
 }
 
 fn advance(
@@ -294,8 +280,7 @@ fn advance(
     let mirror = part.mirror(name).unwrap();
     let component = part.component(provider).unwrap();
     let source = source(part, provider).unwrap();
-    let change = advanced(alloc, &mirror, component, source)?;
-    Ok(change)
+    Ok(advanced(alloc, &mirror, component, source)?)
 }
 
 fn adopt(
@@ -310,6 +295,5 @@ fn adopt(
     ensures { IfOk result (λ ch. IsMade part.now (seen_in facts.now)
         (commands.Adopt name providers.now) ch) }
 {
-    let change = adopted_on(alloc, facts, name, providers.as_slice())?;
-    Ok(change)
+    Ok(adopted_on(alloc, facts, name, providers.as_slice())?)
 }

@@ -42,7 +42,6 @@ pub(crate) fn new_mirror(new: &NewMirror, sectors: u32) -> Mirror
     }
 }
 
-/// The record of its component.
 pub(crate) fn first_component(new: &NewMirror, sectors: u32) -> Component
     ensures { result ≡ first_component new.now sectors }
 {

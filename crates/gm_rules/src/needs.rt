@@ -51,6 +51,5 @@ pub fn needed(alloc: Global, state: &State, command: &Command) -> Result<Vec<Lab
     ensures whole { IfOk result (λ v. (s : Records) → IsPartOf state.now command.now s
         → v.items ≡ needed_by s command.now) }
 {
-    let names = all_needed(alloc, state, command)?;
-    Ok(names)
+    Ok(all_needed(alloc, state, command)?)
 }

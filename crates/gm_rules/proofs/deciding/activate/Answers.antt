@@ -16,4 +16,4 @@ unwrap-component-requires c =
 pub returns : goal.returns
 returns c =
     activate_made c.args.part.now (seen_in c.args.facts.now) c.args.name c.args.provider _ _ _ (sym c.mirror.ensures.value ∙ c.unwrap-mirror.ensures)
-    (sym c.component.ensures.value ∙ c.unwrap-component.ensures) (rw c.activated.ensures at c.in_ok-change.ensures)
+    (sym c.component.ensures.value ∙ c.unwrap-component.ensures) (rw c.activated.ensures at c.in_ok-replaced.ensures)

@@ -24,4 +24,4 @@ pub returns : goal.returns
 returns c =
     let fit : is_adoptable (seen_in c.args.facts.now) c.args.name c.args.providers.now ≡ true
     = not-false _ (c.requires refusals.NotAdoptable (inr (inr (inr (inr (inr (inr (inr (inl refl)))))))) refl) in
-    adopt_made c.args.part.now (seen_in c.args.facts.now) c.args.name c.args.providers.now _ fit (rw c.as_slice.ensures.value at c.in_ok-change.ensures)
+    adopt_made c.args.part.now (seen_in c.args.facts.now) c.args.name c.args.providers.now _ fit (rw c.as_slice.ensures.value at c.in_ok-adopted_on.ensures)

@@ -36,4 +36,4 @@ advanced-requires c =
 pub returns : goal.returns
 returns c =
     advance_made c.args.part.now (seen_in c.args.facts.now) c.args.name c.args.provider _ _ _ _ (sym c.mirror.ensures.value ∙ c.unwrap-mirror.ensures)
-    (sym c.component.ensures.value ∙ c.unwrap-component.ensures) (sym c.source.ensures.value ∙ c.unwrap-source.ensures) c.in_ok-change.ensures
+    (sym c.component.ensures.value ∙ c.unwrap-component.ensures) (sym c.source.ensures.value ∙ c.unwrap-source.ensures) c.in_ok-advanced.ensures

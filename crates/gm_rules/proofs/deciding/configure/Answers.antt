@@ -11,4 +11,4 @@ unwrap-mirror-requires c = rw c.mirror.ensures.value (some_from _ (c.requires re
 pub returns : goal.returns
 returns c =
     configure_made c.args.part.now (seen_in c.args.facts.now) c.args.name c.args.settings.now _ _ _ (sym c.mirror.ensures.value ∙ c.unwrap-mirror.ensures)
-    (sym (c.deref.ensures.value ∙ c.in_ok-members.ensures.value)) c.in_ok-change.ensures
+    (sym (c.deref.ensures.value ∙ c.in_ok-members.ensures.value)) c.in_ok-configured.ensures

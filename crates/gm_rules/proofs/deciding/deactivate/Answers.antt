@@ -16,4 +16,4 @@ deactivated-requires c =
 pub returns : goal.returns
 returns c =
     deactivate_made c.args.part.now (seen_in c.args.facts.now) c.args.name c.args.provider _ _ _ (sym c.mirror.ensures.value ∙ c.unwrap-mirror.ensures)
-    (sym (c.deref.ensures.value ∙ c.in_ok-members.ensures.value)) c.in_ok-change.ensures
+    (sym (c.deref.ensures.value ∙ c.in_ok-members.ensures.value)) c.in_ok-deactivated.ensures

@@ -39,4 +39,4 @@ returns c =
     insert_made c.args.part.now (seen_in c.args.facts.now) c.args.new.now _ _ _ _ _
     (sym c.mirror.ensures.value ∙ c.unwrap-mirror.ensures) (sym c.in_ok-members.ensures.value) c.sectors_of-sectors.ensures
     (none_from _ (any_one (λ p. is_some (component_of c.args.part.now p)) c.args.new.now.provider (c.requires refusals.ProviderTaken (inr (inr (inl refl))) refl)))
-    c.spare-spare.ensures c.in_ok-change.ensures
+    c.spare-spare.ensures c.in_ok-inserted.ensures

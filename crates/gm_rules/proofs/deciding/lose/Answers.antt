@@ -16,4 +16,4 @@ lost-requires c =
 pub returns : goal.returns
 returns c =
     lost_made c.args.part.now (seen_in c.args.facts.now) c.args.name c.args.providers.now _ _ _ (sym c.mirror.ensures.value ∙ c.unwrap-mirror.ensures)
-    (sym (c.deref.ensures.value ∙ c.in_ok-members.ensures.value)) (rw c.as_slice.ensures.value at c.in_ok-change.ensures)
+    (sym (c.deref.ensures.value ∙ c.in_ok-members.ensures.value)) (rw c.as_slice.ensures.value at c.in_ok-lost.ensures)

@@ -12,4 +12,4 @@ unwrap-component-requires c =
 pub returns : goal.returns
 returns c =
     rebuild_made c.args.part.now (seen_in c.args.facts.now) c.args.name c.args.provider _ _
-    (sym c.component.ensures.value ∙ c.unwrap-component.ensures) (rw c.rebuilt.ensures at c.in_ok-change.ensures)
+    (sym c.component.ensures.value ∙ c.unwrap-component.ensures) (rw c.rebuilt.ensures at c.in_ok-replaced.ensures)

@@ -14,4 +14,4 @@ removed-requires c = some_all _ _ _ c.mirror.ensures.state (sym c.mirror.ensures
 pub returns : goal.returns
 returns c =
     remove_made c.args.part.now (seen_in c.args.facts.now) c.args.name c.args.provider _ _ _ (sym c.mirror.ensures.value ∙ c.unwrap-mirror.ensures)
-    (sym (c.deref.ensures.value ∙ c.in_ok-members.ensures.value)) c.in_ok-change.ensures
+    (sym (c.deref.ensures.value ∙ c.in_ok-members.ensures.value)) c.in_ok-removed.ensures
