@@ -4,10 +4,8 @@ use Rattle.std.specs.List.{list_any}
 use Rattle.std.proofs.lemmas.Bool.{cases_Bool}
 use Rattle.gm_metadata.specs.Images.{same_label}
 use Rattle.gm_state.specs.declared.command.NewComponent.{NewComponent}
-use Rattle.gm_state.specs.declared.command.NewMirror.{NewMirror}
 use Rattle.gm_state.specs.declared.command.Settings.{Settings}
-use Rattle.gm_state.specs.declared.command.Command.TheVariants.{Label, Insert, Remove, Deactivate, Activate, Forget, Rebuild, Configure, Destroy, Lost, Advance, Adopt}
-use Rattle.gm_state.specs.declared.command.Command.TheVariants as commands
+use Rattle.gm_state.specs.declared.command.Command.TheVariants.{Insert, Remove, Deactivate, Activate, Forget, Rebuild, Configure, Destroy, Lost, Advance, Adopt}
 use Rattle.gm_state.specs.declared.command.Intent.TheVariants.{Meta, Clear}
 use Rattle.gm_state.specs.declared.command.Reply.TheVariants.{Plain, Copied}
 use Rattle.gm_taste.specs.declared.tasted.Member.{Member}
@@ -21,7 +19,7 @@ use Rattle.gm_state.proofs.Order.{same_from, same_is}
 use Rattle.gm_state.proofs.Words.{Has-filter, filter-Has, filter-put, filter_swap, filter_id, one}
 use Rattle.gm_rules.specs.Seen.{Seen}
 use Rattle.gm_rules.specs.Bad.{is_on_any}
-use Rattle.gm_rules.specs.After.{metas, clears_of, advanced, filling, reach, new_mirror, first_component, spare, deactivated, activated, rebuilt, configured_mirror, configured}
+use Rattle.gm_rules.specs.After.{metas, clears_of, advanced, filling, reach, spare, deactivated, activated, rebuilt, configured_mirror, configured}
 use Rattle.gm_rules.specs.Decides.{Changed, Makes, IsGood, adopting}
 use Rattle.gm_state.proofs.Finding.{filter_agree, any-map, any_from, some_any, none_any, found_none, no_members, not_both}
 use Rattle.gm_rules.specs.declared.refusals.Refusal.TheVariants as refusals
@@ -30,13 +28,6 @@ use Rattle.gm_rules.proofs.Good.{named, new_name, none_from, provider_at}
 use Rattle.gm_rules.proofs.PuttingAll.{filter-put_all, put_ordered}
 use Rattle.gm_rules.proofs.Adopted.{adopted_on, adopted_mirror_is, Ascends-adopted}
 use Rattle.gm_rules.proofs.Kept.{keeps_configured, keeps_deactivated, members_put}
-
-pub label_makes : (s : Records) (x : Seen) (new : NewMirror) (sectors : ℕ) (ch : Changed)
-    → IsGood s x (Label new) → x.size new.provider ≡ Some sectors
-    → ch ≡ record { mirror = Some (new_mirror new sectors); gone_mirror = None; components = first_component new sectors ∷ []; gone_components = []; intents = Meta new.provider ∷ []; reply = Plain }
-    → Makes s x (Label new) ch
-label_makes s x new sectors ch good size is =
-    record { good = good; records = rw (is, size) refl; intents = rw is refl; reply = rw is refl }
 
 pub insert_makes : (s : Records) (x : Seen) (new : NewComponent) (m : Mirror) (ks : List Component) (sectors : ℕ) (k : Component) (ch : Changed)
     → IsGood s x (Insert new) → IsState s → mirror_of s new.name ≡ Some m → members s.components new.name ≡ ks → x.size new.provider ≡ Some sectors → component_of s new.provider ≡ None → k ≡ spare m new sectors
@@ -92,12 +83,6 @@ pub advance_makes : (s : Records) (x : Seen) (n p : List ℕ) (m : Mirror) (k : 
     → Makes s x (Advance n p) ch
 advance_makes s x n p m k source ch good found at lent is =
     record { good = good; records = rw (is, found, at) refl; intents = rw (is, found, at, lent) refl; reply = rw (is, found, at) refl }
-
-pub clear_makes : (s : Records) (x : Seen) (p : List ℕ) (ch : Changed)
-    → IsGood s x (commands.Clear p)
-    → ch ≡ record { mirror = None; gone_mirror = None; components = []; gone_components = []; intents = Clear p ∷ []; reply = Plain }
-    → Makes s x (commands.Clear p) ch
-clear_makes s x p ch good is = record { good = good; records = rw is refl; intents = rw is refl; reply = rw is refl }
 
 pub configure_makes : (s : Records) (x : Seen) (n : List ℕ) (settings : Settings) (m : Mirror) (ks : List Component) (ch : Changed)
     → IsGood s x (Configure n settings) → IsState s → mirror_of s n ≡ Some m → members s.components n ≡ ks

@@ -1,11 +1,9 @@
 -- What is made of a part is what the command makes of the whole.
 use Rattle.std.proofs.Common.{◌≡◌, ◌∙◌, inl, ℕ, ◌+◌, ◌-◌, Bool, true, false, not, refl, inr, option_map, sym, ap, ap₂, subst, List, [], ◌∷◌, ◌++◌, Option, Some, None, Result, Ok, Err, OnErr, map, filter, find, length, if◌then◌else◌}
 use Rattle.gm_state.specs.declared.command.NewComponent.{NewComponent}
-use Rattle.gm_state.specs.declared.command.NewMirror.{NewMirror}
 use Rattle.gm_state.specs.declared.command.Settings.{Settings}
 use Rattle.gm_state.specs.declared.command.Command.{Command}
-use Rattle.gm_state.specs.declared.command.Command.TheVariants.{Label, Insert, Remove, Deactivate, Activate, Forget, Rebuild, Configure, Destroy, Lost, Advance, Adopt}
-use Rattle.gm_state.specs.declared.command.Command.TheVariants as commands
+use Rattle.gm_state.specs.declared.command.Command.TheVariants.{Insert, Remove, Deactivate, Activate, Forget, Rebuild, Configure, Destroy, Lost, Advance, Adopt}
 use Rattle.gm_state.specs.declared.command.Intent.TheVariants.{Meta, Clear}
 use Rattle.gm_state.specs.declared.command.Reply.TheVariants.{Plain, Copied}
 use Rattle.gm_taste.specs.declared.tasted.Member.{Member}
@@ -15,7 +13,7 @@ use Rattle.gm_state.specs.Words.{Has, put, without}
 use Rattle.gm_state.specs.Records.{Records, members, provider}
 use Rattle.gm_state.specs.Lookups.{mirror_of, component_of}
 use Rattle.gm_state.specs.Sources.{source_among, source_of}
-use Rattle.gm_rules.specs.After.{metas, clears_of, advanced, filling, reach, new_mirror, first_component, spare, deactivated, activated, rebuilt, configured_mirror, configured}
+use Rattle.gm_rules.specs.After.{metas, clears_of, advanced, filling, reach, spare, deactivated, activated, rebuilt, configured_mirror, configured}
 use Rattle.gm_rules.specs.Seen.{Seen}
 use Rattle.gm_rules.specs.Bad.{applies, name_of, providers_of, looked_at, takes_mid, is_awaited, is_on_any, members_named}
 use Rattle.gm_rules.specs.Worlds.{needed_by}
@@ -29,7 +27,7 @@ use Rattle.gm_state.proofs.Finding.{found_none}
 use Rattle.gm_rules.proofs.Good.{is_good}
 use Rattle.gm_rules.proofs.RuledOut.{home_of}
 use Rattle.gm_rules.specs.declared.refusals.Refusal.TheVariants as refusals
-use Rattle.gm_rules.proofs.Changes.{label_makes, insert_makes, remove_makes, deactivate_makes, activate_makes, forget_makes, rebuild_makes, advance_makes, configure_makes, clear_makes, destroy_makes, lost_makes, adopt_makes}
+use Rattle.gm_rules.proofs.Changes.{insert_makes, remove_makes, deactivate_makes, activate_makes, forget_makes, rebuild_makes, advance_makes, configure_makes, destroy_makes, lost_makes, adopt_makes}
 
 module _ (part s : Records) (c : Command) (of : IsPartOf part c s) where
   -- what is found in the part is found in the whole
@@ -41,12 +39,6 @@ module _ (part s : Records) (c : Command) (of : IsPartOf part c s) where
 
   component_in : (p : List ℕ) (o : Option Component) → Has (providers_of c) p → component_of part p ≡ o → component_of s p ≡ o
   component_in p o h found = sym (same_component s c of.mids of.state p h) ∙ (sym (ap (λ (r : Records). component_of r p) of.is) ∙ found)
-
-pub label_made : (part : Records) (x : Seen) (new : NewMirror) (sectors : ℕ) (ch : Changed)
-    → x.size new.provider ≡ Some sectors
-    → ch ≡ record { mirror = Some (new_mirror new sectors); gone_mirror = None; components = first_component new sectors ∷ []; gone_components = []; intents = Meta new.provider ∷ []; reply = Plain }
-    → IsMade part x (Label new) ch
-label_made part x new sectors ch size is s to good = label_makes s x new sectors ch good size is
 
 pub insert_made : (part : Records) (x : Seen) (new : NewComponent) (m : Mirror) (ks : List Component) (sectors : ℕ) (k : Component) (ch : Changed)
     → mirror_of part new.name ≡ Some m → members part.components new.name ≡ ks → x.size new.provider ≡ Some sectors → component_of part new.provider ≡ None → k ≡ spare m new sectors
@@ -113,11 +105,6 @@ pub configure_made : (part : Records) (x : Seen) (n : List ℕ) (settings : Sett
 configure_made part x n settings m ks ch found mine is s to good =
     let c : Command = Configure n settings in
     configure_makes s x n settings m ks ch good to.of.state (mirror_in part s c to.of n m refl found) (members_in part s c to.of n ks refl mine) is
-
-pub clear_made : (part : Records) (x : Seen) (p : List ℕ) (ch : Changed)
-    → ch ≡ record { mirror = None; gone_mirror = None; components = []; gone_components = []; intents = Clear p ∷ []; reply = Plain }
-    → IsMade part x (commands.Clear p) ch
-clear_made part x p ch is s to good = clear_makes s x p ch good is
 
 pub destroy_made : (part : Records) (x : Seen) (n : List ℕ) (ks : List Component) (ch : Changed)
     → members part.components n ≡ ks
