@@ -1,6 +1,7 @@
 mod Canonical
 mod Configuring
 mod Finding
+mod Folding
 mod Growing
 mod Naming
 mod Options

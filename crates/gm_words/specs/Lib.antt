@@ -1,4 +1,5 @@
 pub mod Dump
+pub mod Kinds
 pub mod Lines
 pub mod Listing
 pub mod Spelling

@@ -1,12 +1,97 @@
-//! The table of the commands' words, for clap.
+//! The table of the commands' words, for clap. `COMMANDS` has the commands, each with its kind, and beside each kind stand
+//! the words that its commands take, in the order in which clap has them.
 
 ghost use Rattle.std.specs.Prelude.{◌≡◌, IfOk, false};
-ghost use Rattle.clap.specs.Words.{app_of, rule_of, with_rule, with_subcommand};
-ghost use Rattle.clap.specs.declared.Command.TheViews.{out-Command};
-ghost use Rattle.gm_words.specs.Table.{commands, configure, insert, label, name, names, on_component, on_mirror, on_provider, on_several, optional, possible, table, wanted, with_mirror, with_provider};
+ghost use Rattle.clap.specs.Words.{app_of, new_app, rule_of, with_rule, with_subcommand};
+ghost use Rattle.clap.specs.declared.builder.command.Command.TheViews.{out-Command};
+ghost use Rattle.gm_words.specs.Table.{commands, name, names, optional, possible, table, wanted};
+ghost use Rattle.gm_words.specs.Kinds.{command_of_kind, with_rows, with_words};
 
 use clap::{Arg, ArgAction, Command};
 use std::alloc::{AllocError, Global};
+
+// What a command takes beside its own word.
+#[derive(Clone, Copy)]
+enum Word {
+    // a name, by its place
+    Name(&'static str),
+    // one name or more, by their places: the last words
+    Names(&'static str),
+    // an option that must be given
+    Wanted(&'static str),
+    // an option that has this value where it isn't given
+    Optional(&'static str, &'static str),
+    // an option that may be left out, and has no value then
+    Possible(&'static str),
+}
+
+// What commands are alike in: three have words of their own, the others the names of a mirror, of a provider, of a
+// component, or of a mirror and one or more providers.
+#[derive(Clone, Copy)]
+enum Kind {
+    Label,
+    Insert,
+    Configure,
+    Mirror,
+    Provider,
+    Component,
+    Several,
+}
+
+const LABEL: [Word; 9] = [
+    Word::Wanted("mid"),
+    Word::Wanted("did"),
+    Word::Optional("balance", "load"),
+    Word::Optional("slice", "4096"),
+    Word::Optional("autosync", "on"),
+    Word::Optional("failsync", "on"),
+    Word::Optional("hardcode", "off"),
+    Word::Name("name"),
+    Word::Name("prov"),
+];
+
+const INSERT: [Word; 5] = [
+    Word::Wanted("did"),
+    Word::Optional("priority", "0"),
+    Word::Optional("hardcode", "off"),
+    Word::Name("name"),
+    Word::Name("prov"),
+];
+
+const CONFIGURE: [Word; 8] = [
+    Word::Possible("balance"),
+    Word::Possible("slice"),
+    Word::Possible("autosync"),
+    Word::Possible("failsync"),
+    Word::Possible("hardcode"),
+    Word::Possible("prov"),
+    Word::Possible("priority"),
+    Word::Name("name"),
+];
+
+const MIRROR: [Word; 1] = [Word::Name("name")];
+
+const PROVIDER: [Word; 1] = [Word::Name("prov")];
+
+const COMPONENT: [Word; 2] = [Word::Name("name"), Word::Name("prov")];
+
+const SEVERAL: [Word; 2] = [Word::Name("name"), Word::Names("prov")];
+
+const COMMANDS: [(&str, Kind); 13] = [
+    ("label", Kind::Label),
+    ("insert", Kind::Insert),
+    ("remove", Kind::Component),
+    ("deactivate", Kind::Component),
+    ("activate", Kind::Component),
+    ("forget", Kind::Mirror),
+    ("rebuild", Kind::Component),
+    ("configure", Kind::Configure),
+    ("clear", Kind::Provider),
+    ("destroy", Kind::Mirror),
+    ("lost", Kind::Several),
+    ("advance", Kind::Component),
+    ("adopt", Kind::Several),
+];
 
 // A name, by its place.
 #[tactic(auto, unfolding(crate::specs::Table::name))]
@@ -59,6 +144,23 @@ fn possible<'a>(alloc: Global, id: &'a str) -> Arg<'a>
     Arg::new(alloc, id).long(id).action(ArgAction::Set)
 }
 
+impl Word {
+    ghost use Rattle.gm_words.specs.Kinds.{rule_of_word};
+
+    fn arg<'a>(self, alloc: Global) -> Arg<'a>
+        ensures rule { rule_of result ≡ rule_of_word self }
+        ensures local { result.global ≡ false }
+    {
+        match self {
+            Word::Name(id) => name(alloc, id),
+            Word::Names(id) => names(alloc, id),
+            Word::Wanted(id) => wanted(alloc, id),
+            Word::Optional(id, other) => optional(alloc, id, other),
+            Word::Possible(id) => possible(alloc, id),
+        }
+    }
+}
+
 // The command with one more argument.
 fn with<'a>(command: Command<'a>, arg: Arg<'a>) -> Result<Command<'a>, AllocError>
     requires { arg.global ≡ false }
@@ -70,95 +172,40 @@ fn with<'a>(command: Command<'a>, arg: Arg<'a>) -> Result<Command<'a>, AllocErro
     command.arg(arg)
 }
 
-// The command with the name of a mirror.
-fn with_mirror<'a>(alloc: Global, command: Command<'a>) -> Result<Command<'a>, AllocError>
-    ensures app { IfOk result (λ c. app_of c ≡ with_mirror (app_of command.entry)) }
-    ensures local { IfOk result (λ c.
-        (out-Command c).has_globals ≡ (out-Command command.entry).has_globals) }
-{
-    with(command, name(alloc, "name"))
-}
-
-// The command with a provider.
-fn with_provider<'a>(alloc: Global, command: Command<'a>) -> Result<Command<'a>, AllocError>
-    ensures app { IfOk result (λ c. app_of c ≡ with_provider (app_of command.entry)) }
-    ensures local { IfOk result (λ c.
-        (out-Command c).has_globals ≡ (out-Command command.entry).has_globals) }
-{
-    with(command, name(alloc, "prov"))
-}
-
-// A command of this word that takes the name of a mirror alone.
-fn on_mirror<'a>(alloc: Global, word: &'a str) -> Result<Command<'a>, AllocError>
-    ensures app { IfOk result (λ c. app_of c ≡ on_mirror word.entry.now) }
+// The command of this word that takes these.
+fn command_with<'a>(
+    alloc: Global,
+    word: &'static str,
+    words: &[Word],
+) -> Result<Command<'a>, AllocError>
+    ensures app { IfOk result (λ c. app_of c ≡ with_words (new_app word.now) words.now) }
     ensures local { IfOk result (λ c. (out-Command c).has_globals ≡ false) }
 {
-    with_mirror(alloc, Command::new(alloc, word))
+    let mut command = Command::new(alloc, word);
+    for more in words {
+        command = with(command, more.arg(alloc))?;
+    }
+    Ok(command)
 }
 
-// A command of this word that takes a provider alone.
-fn on_provider<'a>(alloc: Global, word: &'a str) -> Result<Command<'a>, AllocError>
-    ensures app { IfOk result (λ c. app_of c ≡ on_provider word.entry.now) }
+// The command of this word that takes what its kind does.
+fn command_of_kind<'a>(
+    alloc: Global,
+    word: &'static str,
+    kind: Kind,
+) -> Result<Command<'a>, AllocError>
+    ensures app { IfOk result (λ c. app_of c ≡ command_of_kind word.now kind) }
     ensures local { IfOk result (λ c. (out-Command c).has_globals ≡ false) }
 {
-    with_provider(alloc, Command::new(alloc, word))
-}
-
-// A command of this word that takes a component: the name of its mirror and its provider.
-fn on_component<'a>(alloc: Global, word: &'a str) -> Result<Command<'a>, AllocError>
-    ensures app { IfOk result (λ c. app_of c ≡ on_component word.entry.now) }
-    ensures local { IfOk result (λ c. (out-Command c).has_globals ≡ false) }
-{
-    with_provider(alloc, on_mirror(alloc, word)?)
-}
-
-fn label<'a>(alloc: Global) -> Result<Command<'a>, AllocError>
-    ensures app { IfOk result (λ c. app_of c ≡ label) }
-    ensures local { IfOk result (λ c. (out-Command c).has_globals ≡ false) }
-{
-    let command = Command::new(alloc, "label");
-    let command = with(command, wanted(alloc, "mid"))?;
-    let command = with(command, wanted(alloc, "did"))?;
-    let command = with(command, optional(alloc, "balance", "load"))?;
-    let command = with(command, optional(alloc, "slice", "4096"))?;
-    let command = with(command, optional(alloc, "autosync", "on"))?;
-    let command = with(command, optional(alloc, "failsync", "on"))?;
-    let command = with(command, optional(alloc, "hardcode", "off"))?;
-    with_provider(alloc, with_mirror(alloc, command)?)
-}
-
-fn insert<'a>(alloc: Global) -> Result<Command<'a>, AllocError>
-    ensures app { IfOk result (λ c. app_of c ≡ insert) }
-    ensures local { IfOk result (λ c. (out-Command c).has_globals ≡ false) }
-{
-    let command = Command::new(alloc, "insert");
-    let command = with(command, wanted(alloc, "did"))?;
-    let command = with(command, optional(alloc, "priority", "0"))?;
-    let command = with(command, optional(alloc, "hardcode", "off"))?;
-    with_provider(alloc, with_mirror(alloc, command)?)
-}
-
-fn configure<'a>(alloc: Global) -> Result<Command<'a>, AllocError>
-    ensures app { IfOk result (λ c. app_of c ≡ configure) }
-    ensures local { IfOk result (λ c. (out-Command c).has_globals ≡ false) }
-{
-    let command = Command::new(alloc, "configure");
-    let command = with(command, possible(alloc, "balance"))?;
-    let command = with(command, possible(alloc, "slice"))?;
-    let command = with(command, possible(alloc, "autosync"))?;
-    let command = with(command, possible(alloc, "failsync"))?;
-    let command = with(command, possible(alloc, "hardcode"))?;
-    let command = with(command, possible(alloc, "prov"))?;
-    let command = with(command, possible(alloc, "priority"))?;
-    with_mirror(alloc, command)
-}
-
-// A command on a mirror and one or more providers.
-fn on_several<'a>(alloc: Global, word: &'static str) -> Result<Command<'a>, AllocError>
-    ensures app { IfOk result (λ c. app_of c ≡ on_several word.now) }
-    ensures local { IfOk result (λ c. (out-Command c).has_globals ≡ false) }
-{
-    with(on_mirror(alloc, word)?, names(alloc, "prov"))
+    match kind {
+        Kind::Label => command_with(alloc, word, &LABEL),
+        Kind::Insert => command_with(alloc, word, &INSERT),
+        Kind::Configure => command_with(alloc, word, &CONFIGURE),
+        Kind::Mirror => command_with(alloc, word, &MIRROR),
+        Kind::Provider => command_with(alloc, word, &PROVIDER),
+        Kind::Component => command_with(alloc, word, &COMPONENT),
+        Kind::Several => command_with(alloc, word, &SEVERAL),
+    }
 }
 
 fn commands<'a>(alloc: Global) -> Command<'a>
@@ -175,29 +222,31 @@ fn commands<'a>(alloc: Global) -> Command<'a>
 // The command with one more subcommand.
 fn with_command<'a>(command: Command<'a>, more: Command<'a>) -> Result<Command<'a>, AllocError>
     requires { (out-Command more).has_globals ≡ false }
-    ensures app { IfOk result (λ c.
+    ensures { IfOk result (λ c.
         app_of c ≡ with_subcommand (app_of command.entry) (app_of more.entry).top) }
-    ensures local { IfOk result (λ c.
-        (out-Command c).has_globals ≡ (out-Command command.entry).has_globals) }
 {
     command.subcommand(more)
+}
+
+// The command with these as its subcommands too.
+fn with_rows<'a>(
+    alloc: Global,
+    command: Command<'a>,
+    rows: &[(&'static str, Kind)],
+) -> Result<Command<'a>, AllocError>
+    ensures { IfOk result (λ c. app_of c ≡ with_rows (app_of command.entry) rows.now) }
+{
+    let mut command = command;
+    for (word, kind) in rows {
+        let more = command_of_kind(alloc, word, *kind)?;
+        command = with_command(command, more)?;
+    }
+    Ok(command)
 }
 
 /// The whole table.
 pub(crate) fn table<'a>(alloc: Global) -> Result<Command<'a>, AllocError>
     ensures { IfOk result (λ c. app_of c ≡ table) }
 {
-    let command = with_command(commands(alloc), label(alloc)?)?;
-    let command = with_command(command, insert(alloc)?)?;
-    let command = with_command(command, on_component(alloc, "remove")?)?;
-    let command = with_command(command, on_component(alloc, "deactivate")?)?;
-    let command = with_command(command, on_component(alloc, "activate")?)?;
-    let command = with_command(command, on_mirror(alloc, "forget")?)?;
-    let command = with_command(command, on_component(alloc, "rebuild")?)?;
-    let command = with_command(command, configure(alloc)?)?;
-    let command = with_command(command, on_provider(alloc, "clear")?)?;
-    let command = with_command(command, on_mirror(alloc, "destroy")?)?;
-    let command = with_command(command, on_several(alloc, "lost")?)?;
-    let command = with_command(command, on_component(alloc, "advance")?)?;
-    with_command(command, on_several(alloc, "adopt")?)
+    with_rows(alloc, commands(alloc), &COMMANDS)
 }
