@@ -2,6 +2,7 @@
 use Rattle.std.specs.Prelude.{◌≡◌, ℕ, List}
 use Rattle.std.specs.String.{string_bytes}
 use Rattle.gm_shelf.specs.declared.files.FileShelf.{FileShelf}
+use Rattle.gm_shelf.specs.declared.images.ImageFile.{ImageFile}
 
 -- how many failures of the device it has counted
 abbrev pub failures_of : {R D : Type 0} → FileShelf R D → ℕ
@@ -10,6 +11,10 @@ failures_of shelf = shelf.failures
 -- the path of its folder
 abbrev pub folder_of : {R D : Type 0} → FileShelf R D → List ℕ
 folder_of shelf = string_bytes shelf.files.folder
+
+-- its images by their names
+abbrev pub images_of : {R D : Type 0} → FileShelf R D → List (List ℕ × ImageFile)
+images_of shelf = shelf.images.entries
 
 -- the same images of the same folder
 pub record IsSameFolder {R D : Type 0} (old new : FileShelf R D) : Type 0 where

@@ -9,7 +9,7 @@ ghost use Rattle.gm_shelf.specs.Folder.{unknown, sectors_of};
 
 use crate::fault::{ShelfFault, check_run, device_failed};
 use crate::file_id::FileId;
-use crate::images::{ImageFile, Images, images_in, images_named};
+use crate::images::{ImageFile, Images, images_in, images_named, leave_out};
 use crate::law::Shelf;
 use crate::names::names_in;
 use crate::open_files::{Access, OpenFiles};
@@ -31,7 +31,8 @@ pub struct FileShelf<R: Files<File = File> + AllocGlobal + Clone + Drop> {
 }
 
 impl<R: Files<File = File> + AllocGlobal + Clone + Drop> FileShelf<R> {
-    ghost use Rattle.gm_shelf.specs.FileShelves.{failures_of, folder_of};
+    ghost use Rattle.gm_shelf.specs.FileShelves.{failures_of, folder_of, images_of};
+    ghost use Rattle.gm_shelf.specs.Folder.{images_but};
 
     /// Opens a folder: its regular files whose names are labels and whose lengths are multiples of
     /// 512, as they are now. Every other entry is skipped. Fails where the folder can't be listed.
@@ -39,20 +40,20 @@ impl<R: Files<File = File> + AllocGlobal + Clone + Drop> FileShelf<R> {
         ensures folder { IfOk result (λ shelf. folder_of shelf ≡ folder.now) }
         ensures no_failures { IfOk result (λ shelf. failures_of shelf ≡ 0) }
     {
-        FileShelf::open_without(rt, folder, &[])
-    }
-
-    /// Opens a folder as `open` does, but for files that are no images, whatever their names are
-    /// there.
-    pub fn open_without(rt: &R, folder: &str, left_out: &[FileId]) -> io::Result<FileShelf<R>>
-        ensures folder { IfOk result (λ shelf. folder_of shelf ≡ folder.now) }
-        ensures no_failures { IfOk result (λ shelf. failures_of shelf ≡ 0) }
-    {
         Ok(FileShelf {
             files: OpenFiles::new(rt, folder, Access::Writing)?,
-            images: images_in(rt, folder, left_out)?,
+            images: images_in(rt, folder)?,
             failures: 0,
         })
+    }
+
+    /// Leaves out files that are no images, whatever their names are.
+    pub fn leave_out(&mut self, files: &[FileId])
+        ensures folder { folder_of self.new ≡ folder_of self.old }
+        ensures failures { failures_of self.new ≡ failures_of self.old }
+        ensures images { images_of self.new ≡ images_but files.now (images_of self.old) }
+    {
+        leave_out(&mut self.images, files);
     }
 
     /// Opens those images of a folder that have these names, to be read alone: every write fails. No other entry

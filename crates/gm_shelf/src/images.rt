@@ -1,7 +1,7 @@
 //! The images of a folder, as they are found.
 
-ghost use Rattle.std.specs.Prelude.{IfOk, IfSome};
-ghost use Rattle.std.specs.List.{Contains};
+ghost use Rattle.std.specs.Prelude.{◌≡◌};
+ghost use Rattle.gm_shelf.specs.Folder.{images_but};
 
 use crate::file_id::FileId;
 use gm_metadata::Label;
@@ -40,14 +40,8 @@ struct Found {
     image: ImageFile,
 }
 
-// The image that an entry of a folder is, where it isn't one of the files that are left out.
-fn image_of<R: Files + Drop>(
-    entry: io::Result<DirEntry<R>>,
-    left_out: &[FileId],
-) -> io::Result<Option<Found>>
-    ensures left_out { IfOk result (λ found. IfSome found (λ it.
-        Contains left_out.now it.image.file → ⊥)) }
-{
+// The image that an entry of a folder is, where it is one.
+fn image_of<R: Files + Drop>(entry: io::Result<DirEntry<R>>) -> io::Result<Option<Found>> {
     let entry = match entry {
         Ok(entry) => entry,
         Err(e) if e.kind() == ErrorKind::InvalidFilename => return Ok(None),
@@ -57,19 +51,9 @@ fn image_of<R: Files + Drop>(
         return Ok(None);
     };
     match entry.metadata() {
-        Ok(found) => Ok(image_but(name, &found, left_out)),
+        Ok(found) => Ok(image_with(&found).map(|image| Found { name, image })),
         Err(e) if e.kind() == ErrorKind::NotFound => Ok(None),
         Err(e) => Err(e),
-    }
-}
-
-// The image that a file of this name is, where it isn't left out.
-fn image_but(name: Label, found: &Metadata, left_out: &[FileId]) -> Option<Found>
-    ensures left_out { IfSome result (λ it. Contains left_out.now it.image.file → ⊥) }
-{
-    match image_with(found) {
-        Some(image) if !left_out.contains(&image.file) => Some(Found { name, image }),
-        _ => None,
     }
 }
 
@@ -84,21 +68,27 @@ fn check_apart(alloc: Global, images: &Images) -> io::Result<()> {
     Ok(())
 }
 
-/// The images of a folder, but for the files that are left out. Fails where the folder can't be listed, where an entry
-/// can't be looked at, and where two names are one file.
+/// The images of a folder. Fails where the folder can't be listed, where an entry can't be looked at, and where two names
+/// are one file.
 pub(crate) fn images_in<R: Files + AllocGlobal + Clone + Drop>(
     rt: &R,
     folder: &str,
-    left_out: &[FileId],
 ) -> io::Result<Images> {
     let mut images = BTreeMap::new(rt.alloc());
     for entry in fs::read_dir(rt, folder)? {
-        if let Some(found) = image_of(entry, left_out)? {
+        if let Some(found) = image_of(entry)? {
             images.insert(found.name, found.image)?;
         }
     }
     check_apart(rt.alloc(), &images)?;
     Ok(images)
+}
+
+/// Takes out the images that are one of these files.
+pub(crate) fn leave_out(images: &mut Images, files: &[FileId])
+    ensures { images.new.entries ≡ images_but files.now images.old.entries }
+{
+    images.retain(|_, image| !files.contains(&image.file));
 }
 
 // The image of this name in a folder, where there is one.

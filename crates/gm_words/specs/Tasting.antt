@@ -1,5 +1,5 @@
 -- The text of what the last sectors of images tell.
-use Rattle.std.specs.Prelude.{ℕ, ◌/◌, List, [], ◌∷◌, ◌++◌, codes, flat_map, Option, Some, None, if◌then◌else◌}
+use Rattle.std.specs.Prelude.{ℕ, ◌/◌, List, [], ◌∷◌, ◌++◌, codes, flat_map, if◌then◌else◌}
 use Rattle.std.specs.Fmt.{decimal}
 use Rattle.gm_metadata.specs.Faults.{fault_number}
 use Rattle.gm_taste.specs.declared.tasted.MemberState.{MemberState}
