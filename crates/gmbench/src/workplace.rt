@@ -69,14 +69,20 @@ fn registry_files(rt: &HostRuntime, registry: &str) -> io::Result<Vec<FileId>> {
     Ok(files)
 }
 
-// The images of a folder in which an open registry may lie.
-fn images(rt: &HostRuntime, place: Place<'_>) -> Result<FileShelf<HostRuntime>, Fault> {
-    let files = match registry_files(rt, place.registry) {
-        Ok(files) => files,
-        Err(e) if e.kind() == ErrorKind::OutOfMemory => return Err(Fault::MEMORY),
-        Err(_) => return Err(Fault::Bench(BenchFault::Store)),
-    };
-    Ok(FileShelf::open_without(rt, place.folder, &files)?)
+// Leaves the files of a registry that is open out of the images among which they may lie. To open it took none of them away.
+fn leave_out_registry(
+    rt: &HostRuntime,
+    registry: &str,
+    shelf: &mut FileShelf<HostRuntime>,
+) -> Result<(), BenchFault> {
+    match registry_files(rt, registry) {
+        Ok(files) => {
+            shelf.leave_out(&files);
+            Ok(())
+        }
+        Err(e) if e.kind() == ErrorKind::OutOfMemory => Err(BenchFault::Memory),
+        Err(_) => Err(BenchFault::Store),
+    }
 }
 
 // Opens a bench, which carries out what is pending, has the work done at it, and gives its store back with the report.
@@ -106,15 +112,16 @@ fn at_bench<S: Alter + Drop, H: Shelf + Drop, I: Read, O: Write>(
 // Alone in naming a registry over files. Of two faults the first is told.
 fn report_of<I: Read, O: Write>(
     rt: &HostRuntime,
-    place: Place<'_>,
+    registry: &str,
+    mut shelf: FileShelf<HostRuntime>,
     work: Work,
     input: &mut I,
     output: &mut O,
 ) -> Result<Report, Fault>
     ensures { IfOk result (λ report. MayEnd work report.status) }
 {
-    let store = Connection::open(rt, place.registry).map_err(store_fault)?;
-    let shelf = images(rt, place)?;
+    let store = Connection::open(rt, registry).map_err(store_fault)?;
+    leave_out_registry(rt, registry, &mut shelf)?;
     let (report, store) = at_bench(rt.alloc(), store, shelf, work, input, output)?;
     let closed = store.close().map_err(store_fault);
     let report = report?;
@@ -135,8 +142,8 @@ pub fn work_at<I: Read, O: Write>(
 {
     let _held = HeldFolder::hold(rt, place.folder)?;
     // A folder that can't be listed is told before the registry is looked for.
-    FileShelf::open(rt, place.folder)?;
-    let report = report_of(rt, place, work, input, output)?;
+    let shelf = FileShelf::open(rt, place.folder)?;
+    let report = report_of(rt, place.registry, shelf, work, input, output)?;
     output.write_all(report.text.as_bytes())?;
     Ok(report.status)
 }
