@@ -91,92 +91,106 @@ fn registry_option<'a>(alloc: Global) -> Arg<'a> {
         .action(ArgAction::Set)
 }
 
-fn dump_command<'a>(alloc: Global) -> Result<Command<'a>, AllocError> {
-    let provider = Arg::new(alloc, "provider")
+fn provider_name<'a>(alloc: Global) -> Arg<'a> {
+    Arg::new(alloc, "provider")
         .value_name("PROV")
         .help("The name of an image")
         .required(true)
-        .action(ArgAction::Set);
-    Command::new(alloc, "dump")
-        .about("Prints what the last sector of an image says")
-        .arg(shelf_option(alloc))?
-        .arg(provider)
+        .action(ArgAction::Set)
 }
 
-fn taste_command<'a>(alloc: Global) -> Result<Command<'a>, AllocError> {
-    Command::new(alloc, "taste")
-        .about("Prints which mirrors the images of a folder tell of by themselves")
-        .arg(shelf_option(alloc))
+// What a subcommand takes.
+#[derive(Clone, Copy)]
+enum Takes {
+    Image,
+    Folder,
+    Bench,
+    BenchAndLines,
 }
 
-// A subcommand for work at a bench.
-fn bench_command<'a>(
-    alloc: Global,
-    name: &'a str,
-    about: &'a str,
-) -> Result<Command<'a>, AllocError> {
-    Command::new(alloc, name)
-        .about(about)
+// A subcommand, and what the help says of it.
+#[derive(Clone, Copy)]
+struct Subcommand {
+    name: &'static str,
+    about: &'static str,
+    takes: Takes,
+}
+
+const DUMP: Subcommand = Subcommand {
+    name: "dump",
+    about: "Prints what the last sector of an image says",
+    takes: Takes::Image,
+};
+
+const SUBCOMMANDS: [Subcommand; 7] = [
+    DUMP,
+    Subcommand {
+        name: "taste",
+        about: "Prints which mirrors the images of a folder tell of by themselves",
+        takes: Takes::Folder,
+    },
+    Subcommand {
+        name: "recover",
+        about: "Carries out what a run that stopped left pending",
+        takes: Takes::Bench,
+    },
+    Subcommand {
+        name: "status",
+        about: "Shows in a few lines how the mirrors stand",
+        takes: Takes::Bench,
+    },
+    Subcommand {
+        name: "list",
+        about: "Shows all that is known of the mirrors and their components",
+        takes: Takes::Bench,
+    },
+    Subcommand {
+        name: "audit",
+        about: "Lists the components whose images aren't as they are registered",
+        takes: Takes::Bench,
+    },
+    Subcommand {
+        name: "batch",
+        about: "Carries out the commands of standard input, a line each",
+        takes: Takes::BenchAndLines,
+    },
+];
+
+fn with_bench<'a>(alloc: Global, command: Command<'a>) -> Result<Command<'a>, AllocError> {
+    command
         .arg(registry_option(alloc))?
         .arg(shelf_option(alloc))
 }
 
-fn recover_command<'a>(alloc: Global) -> Result<Command<'a>, AllocError> {
-    bench_command(
-        alloc,
-        "recover",
-        "Carries out what a run that stopped left pending",
-    )
+impl Subcommand {
+    fn command<'a>(self, alloc: Global) -> Result<Command<'a>, AllocError> {
+        let command = Command::new(alloc, self.name).about(self.about);
+        match self.takes {
+            Takes::Image => command.arg(shelf_option(alloc))?.arg(provider_name(alloc)),
+            Takes::Folder => command.arg(shelf_option(alloc)),
+            Takes::Bench => with_bench(alloc, command),
+            Takes::BenchAndLines => with_bench(alloc, command.after_help(LINES)),
+        }
+    }
 }
 
-fn status_command<'a>(alloc: Global) -> Result<Command<'a>, AllocError> {
-    bench_command(
-        alloc,
-        "status",
-        "Shows in a few lines how the mirrors stand",
-    )
-}
-
-fn list_command<'a>(alloc: Global) -> Result<Command<'a>, AllocError> {
-    bench_command(
-        alloc,
-        "list",
-        "Shows all that is known of the mirrors and their components",
-    )
-}
-
-fn audit_command<'a>(alloc: Global) -> Result<Command<'a>, AllocError> {
-    bench_command(
-        alloc,
-        "audit",
-        "Lists the components whose images aren't as they are registered",
-    )
-}
-
-fn batch_command<'a>(alloc: Global) -> Result<Command<'a>, AllocError> {
-    let command = bench_command(
-        alloc,
-        "batch",
-        "Carries out the commands of standard input, a line each",
-    )?;
-    Ok(command.after_help(LINES))
+fn with_subcommands<'a>(alloc: Global, command: Command<'a>) -> Result<Command<'a>, AllocError> {
+    let mut command = command;
+    for more in &SUBCOMMANDS {
+        command = command.subcommand(more.command(alloc)?)?;
+    }
+    Ok(command)
 }
 
 fn program_command<'a>(alloc: Global) -> Result<Command<'a>, AllocError> {
-    Command::new(alloc, "gmbench")
+    let command = Command::new(alloc, "gmbench")
         .about("A workshop for disk images that are mirrors of gmirror(8)")
         .version("0.1.0")
         .bin_name("gmbench")?
         .no_binary_name(true)
         .subcommand_required(true)
-        .after_help(MORE)
-        .subcommand(dump_command(alloc)?)?
-        .subcommand(taste_command(alloc)?)?
-        .subcommand(recover_command(alloc)?)?
-        .subcommand(status_command(alloc)?)?
-        .subcommand(list_command(alloc)?)?
-        .subcommand(audit_command(alloc)?)?
-        .subcommand(batch_command(alloc)?)
+        .after_help(MORE);
+    with_subcommands(alloc, command)
 }
 
 // The label that a value is, or clap's complaint.
@@ -187,7 +201,7 @@ fn label_of(alloc: Global, value: &str) -> Result<Label, Error> {
             let message = format!(in alloc;
                 "invalid value '{value}' for '<PROV>': a name has 1 to 15 of A-Z, a-z, 0-9, '.', '_' and '-'"
             )?;
-            let mut dump = dump_command(alloc)?.bin_name("gmbench dump")?;
+            let mut dump = DUMP.command(alloc)?.bin_name("gmbench dump")?;
             Err(dump.error(ErrorKind::ValueValidation, message.as_str())?)
         }
     }
