@@ -1,10 +1,10 @@
-pub mod UnderWay
+pub mod EqualSectors
+pub mod LeadsOn
+pub mod Lists
+pub mod Others
+pub mod Safe
 pub mod Sectors
 pub mod Stretches
-pub mod Written
-pub mod Others
-pub mod Lists
-pub mod Leading
-pub mod Safe
+pub mod UnderWay
 pub mod Values
-pub mod Agreeing
+pub mod Written

@@ -6,12 +6,12 @@ use Rattle.std.proofs.lemmas.Bool.Decides.{nat_tests}
 use Rattle.std.proofs.lemmas.List.{take_more, drop_more}
 use Rattle.gm_metadata.specs.Images.{Image, Sizes, Same, label_tells}
 use Rattle.gm_shelf.specs.Disk.{View, From}
-use Rattle.gm_state.specs.declared.command.Intent.{Intent}
-use Rattle.gm_state.specs.declared.command.Intent.TheVariants.{Meta, Clear, Copy}
-use Rattle.gm_state.specs.Words.{Has}
+use Rattle.gm_state.specs.declared.intents.Intent.{Intent}
+use Rattle.gm_state.specs.declared.intents.Intent.TheVariants.{Meta, Clear, Copy}
+use Rattle.gm_lists.specs.Ordered.{Has}
 use Rattle.gm_state.specs.Records.{Records}
 use Rattle.gm_state.specs.Intents.{is_last, copies, names, any_copies, is_place, Says, Lends, InOrder, IsRedo}
-use Rattle.gm_state.proofs.Finding.{not_both}
+use Rattle.gm_lists.proofs.Finding.{not_both}
 use Rattle.gm_apply.specs.Redo.{with_places, SomePlacesNew, DataBeforeClaim, IsPartlyDone, CrashLeaves, PlacesAreNew, Moments}
 use Rattle.gm_apply.proofs.UnderWay.{leaves_trans, laid_in, laid_out}
 

@@ -4,10 +4,10 @@ use Rattle.std.proofs.lemmas.Bool.{cases_Bool}
 use Rattle.gm_metadata.specs.Images.{Image, Sizes}
 use Rattle.gm_shelf.specs.Disk.{View, IsPut, Torn, From}
 use Rattle.gm_shelf.specs.LastSector.{OldOrNew}
-use Rattle.gm_state.specs.declared.command.Intent.{Intent}
+use Rattle.gm_state.specs.declared.intents.Intent.{Intent}
 use Rattle.gm_state.specs.Records.{Records}
-use Rattle.gm_state.specs.Words.{Has}
-use Rattle.gm_state.proofs.Finding.{any_from, not_both}
+use Rattle.gm_lists.specs.Ordered.{Has}
+use Rattle.gm_lists.proofs.Finding.{any_from, not_both}
 use Rattle.gm_apply.specs.Redo.{Places, AgreeBut, KeepsOthers, writes, is_written}
 use Rattle.gm_apply.proofs.UnderWay.{at_start, leaves_trans}
 use Rattle.gm_apply.proofs.Written.{last_of, by_size, here}

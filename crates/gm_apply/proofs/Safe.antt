@@ -4,22 +4,22 @@ use Rattle.std.specs.List.{list_any}
 use Rattle.std.proofs.lemmas.Bool.{or_parts, or_left, or_right}
 use Rattle.std.proofs.lemmas.Bool.Decides.{eqb_tells}
 use Rattle.gm_metadata.specs.Images.{Sizes, same_label, label_tells}
-use Rattle.gm_state.specs.declared.command.Intent.{Intent}
-use Rattle.gm_state.specs.declared.command.Intent.TheVariants.{Meta, Clear, Copy}
+use Rattle.gm_state.specs.declared.intents.Intent.{Intent}
+use Rattle.gm_state.specs.declared.intents.Intent.TheVariants.{Meta, Clear, Copy}
 use Rattle.gm_state.specs.declared.records.Mirror.{Mirror}
 use Rattle.gm_state.specs.declared.records.Component.{Component}
-use Rattle.gm_state.specs.Words.{Has}
+use Rattle.gm_lists.specs.Ordered.{Has}
 use Rattle.gm_state.specs.Records.{Records, IsState, provider}
 use Rattle.gm_state.specs.Lookups.{component_of}
 use Rattle.gm_state.specs.Disks.{held_by}
 use Rattle.gm_state.specs.Intents.{IsOf, AreThere, touches, is_last, copies, is_place, any_copies, AllSay, Lends, InOrder}
 use Rattle.gm_state.specs.Readable.{is_copy, is_copy_to, IsCopyWithin, IsReadable, AreOrdered, AreReadable}
 use Rattle.gm_state.specs.World.{World, Sound, CopiesData}
-use Rattle.gm_state.proofs.Finding.{any_from, found_none, not_both}
-use Rattle.gm_state.proofs.Order.{same_from}
-use Rattle.gm_state.proofs.Claiming.{some_there, mirror_found}
-use Rattle.gm_state.proofs.Testing.{member}
-use Rattle.gm_state.proofs.Words.{one}
+use Rattle.gm_lists.proofs.Finding.{any_from, found_none, not_both}
+use Rattle.gm_lists.proofs.Order.{same_from}
+use Rattle.gm_state.proofs.SoundClaims.{some_there, mirror_found}
+use Rattle.gm_state.proofs.TestsTellRules.{member}
+use Rattle.gm_lists.proofs.Putting.{one}
 use Rattle.gm_apply.proofs.Lists.{or_true, copy_range}
 use Rattle.gm_apply.proofs.Sectors.{copies_on}
 

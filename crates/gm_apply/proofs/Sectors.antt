@@ -4,7 +4,7 @@ use Rattle.std.proofs.lemmas.Bool.{cases_Bool, and_parts}
 use Rattle.std.proofs.lemmas.Bool.Decides.{nat_tests}
 use Rattle.gm_metadata.specs.Images.{Image, Same, same_label, label_tells, label_refl}
 use Rattle.gm_shelf.specs.Disk.{View, sector_of, IsRun, put_run, IsRunWrite}
-use Rattle.gm_state.specs.declared.command.Intent.TheVariants.{Copy}
+use Rattle.gm_state.specs.declared.intents.Intent.TheVariants.{Copy}
 use Rattle.gm_state.specs.Intents.{copies}
 use Rattle.gm_apply.specs.Redo.{with_places, IsUnderWay}
 use Rattle.gm_apply.proofs.UnderWay.{going_run, going_trans, laid_out}

@@ -4,19 +4,19 @@ use Rattle.std.proofs.lemmas.Bool.{cases_Bool, and_parts, or_parts}
 use Rattle.gm_metadata.specs.Images.{Image, Sizes, same_label, zeros}
 use Rattle.gm_metadata.specs.Reading.{encoded}
 use Rattle.gm_metadata.specs.declared.metadata.Metadata.{Metadata}
-use Rattle.gm_state.specs.declared.command.Intent.{Intent}
-use Rattle.gm_state.specs.declared.command.Intent.TheVariants.{Meta, Clear, Copy}
+use Rattle.gm_state.specs.declared.intents.Intent.{Intent}
+use Rattle.gm_state.specs.declared.intents.Intent.TheVariants.{Meta, Clear, Copy}
 use Rattle.gm_state.specs.declared.records.Mirror.{Mirror}
 use Rattle.gm_state.specs.declared.records.Component.{Component}
-use Rattle.gm_state.specs.Words.{Has}
+use Rattle.gm_lists.specs.Ordered.{Has}
 use Rattle.gm_state.specs.Records.{Records, IsState}
 use Rattle.gm_state.specs.Lookups.{metadata, metadata_of, component_of}
 use Rattle.gm_state.specs.Intents.{IsOf, AreThere, is_last, copies, names, is_place, Says, LeadSomewhere}
 use Rattle.gm_state.specs.Readable.{is_copy, AreReadable}
-use Rattle.gm_state.proofs.Finding.{found, not_both, option_cases}
-use Rattle.gm_state.proofs.Placing.{place_from}
-use Rattle.gm_state.proofs.Order.{same_is, same_from}
-use Rattle.gm_state.proofs.Words.{filter-Has}
+use Rattle.gm_lists.proofs.Finding.{found, not_both, option_cases}
+use Rattle.gm_state.proofs.Places.{place_from}
+use Rattle.gm_lists.proofs.Order.{same_is, same_from}
+use Rattle.gm_lists.proofs.Lists.{filter-Has}
 use Rattle.gm_apply.proofs.Lists.{copy_range, or_true}
 use Rattle.gm_apply.proofs.Safe.{copies_kept, lent, no_last, one_of}
 use Rattle.gm_apply.proofs.Written.{metadata_found}

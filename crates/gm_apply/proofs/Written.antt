@@ -12,8 +12,8 @@ use Rattle.gm_state.specs.declared.records.Component.{Component}
 use Rattle.gm_state.specs.Records.{Records, IsState, name, provider}
 use Rattle.gm_state.specs.Lookups.{metadata, metadata_of, mirror_of, component_of}
 use Rattle.gm_state.specs.Intents.{IsOf, is_last}
-use Rattle.gm_state.proofs.Finding.{find_one, not_both}
-use Rattle.gm_state.proofs.Testing.{member}
+use Rattle.gm_lists.proofs.Finding.{find_one, not_both}
+use Rattle.gm_state.proofs.TestsTellRules.{member}
 use Rattle.gm_apply.specs.Redo.{Places, with_places, SomePlacesNew, PlacesAreNew, Moments}
 use Rattle.gm_apply.proofs.UnderWay.{laid_in, laid_out}
 

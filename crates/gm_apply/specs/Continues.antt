@@ -1,6 +1,6 @@
 -- From a world to the one that intents lead to, as far as claims go.
 use Rattle.std.specs.Prelude.{List}
-use Rattle.gm_state.specs.declared.command.Intent.{Intent}
+use Rattle.gm_state.specs.declared.intents.Intent.{Intent}
 use Rattle.gm_state.specs.Records.{IsState}
 use Rattle.gm_state.specs.Intents.{AreThere}
 use Rattle.gm_state.specs.World.{World, Claims, CopiesData}

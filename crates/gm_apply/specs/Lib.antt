@@ -1,3 +1,3 @@
-pub mod Redo
 pub mod Continues
-pub mod Comparing
+pub mod EqualData
+pub mod Redo

@@ -3,8 +3,8 @@ use Rattle.std.specs.Prelude.{◌≡◌, ◌≤◌, ◌<◌, ◌⊎◌, ℕ, Lis
 use Rattle.std.specs.List.{list_any}
 use Rattle.gm_metadata.specs.Images.{Image, Sizes, Same}
 use Rattle.gm_shelf.specs.Disk.{View, From}
-use Rattle.gm_state.specs.declared.command.Intent.{Intent}
-use Rattle.gm_state.specs.declared.command.Intent.TheVariants.{Meta, Clear, Copy}
+use Rattle.gm_state.specs.declared.intents.Intent.{Intent}
+use Rattle.gm_state.specs.declared.intents.Intent.TheVariants.{Meta, Clear, Copy}
 use Rattle.gm_state.specs.Intents.{is_last, names, is_place, any_copies, Says, InOrder}
 use Rattle.gm_state.specs.Lookups.{metadata_of}
 use Rattle.gm_state.specs.Records.{Records}

@@ -2,8 +2,8 @@
 
 ghost use Rattle.std.specs.Prelude.{◌≡◌, ℕ, List, true};
 ghost use Rattle.gm_metadata.specs.Images.{Image, Sizes, Same, SameThere};
-ghost use Rattle.gm_state.specs.declared.command.Intent.{Intent};
-ghost use Rattle.gm_state.specs.Words.{Has};
+ghost use Rattle.gm_state.specs.declared.intents.Intent.{Intent};
+ghost use Rattle.gm_lists.specs.Ordered.{Has};
 ghost use Rattle.gm_state.specs.Records.{Records, IsState};
 ghost use Rattle.gm_state.specs.Intents.{names, is_place, Says, AllSay, Lends, Agrees, IsRedo, InOrder, AreThere, LeadSomewhere};
 ghost use Rattle.gm_state.specs.Readable.{AreReadable};

@@ -1,20 +1,20 @@
 //! Carries out pending intents on a shelf, from whatever a crash left of them, so that data come before claims.
 //!
-//! `applying.rt` has `apply`; `copying.rt` copies sectors. `specs/Redo.antt` says what is left of an image at the end
-//! and at every moment on the way, `laws.rt` what follows of it. `comparing.rt` tells how many first sectors of two
+//! `redo.rt` has `apply`; `copy.rt` copies sectors. `specs/Redo.antt` says what is left of an image at the end
+//! and at every moment on the way, `laws.rt` what follows of it. `equal_data.rt` tells how many first sectors of two
 //! providers are equal.
 #![tactic(auto)]
 
-mod applying;
-mod comparing;
-mod copying;
+mod copy;
+mod equal_data;
 mod laws;
+mod redo;
 #[cfg(test)]
 mod tests;
 
-pub use applying::apply;
-pub use comparing::equal_sectors;
+pub use equal_data::equal_sectors;
 pub use laws::{
     every_image_leads_on, one_sector_one_value, readable_intents_are_safe,
     readable_intents_lead_somewhere, true_claims_stay_true,
 };
+pub use redo::apply;

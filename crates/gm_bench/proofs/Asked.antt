@@ -3,19 +3,19 @@ use Rattle.std.proofs.Common.{◌≡◌, ◌∙◌, ◌⊎◌, inl, inr, ⊎_eli
 use Rattle.std.specs.List.{filter_map, cons_option, list_any}
 use Rattle.std.proofs.lemmas.Bool.{or_cases, or_left, or_right}
 use Rattle.gm_metadata.specs.declared.metadata.Metadata.{Metadata}
-use Rattle.gm_state.specs.declared.command.Command.{Command}
-use Rattle.gm_state.specs.declared.command.Command.TheVariants.{Label, Adopt}
+use Rattle.gm_commands.specs.declared.command.Command.{Command}
+use Rattle.gm_commands.specs.declared.command.Command.TheVariants.{Label, Adopt}
 use Rattle.gm_state.specs.declared.records.Mirror.{Mirror}
 use Rattle.gm_state.specs.Records.{Records, IsState}
-use Rattle.gm_state.specs.Words.{Has}
-use Rattle.gm_state.proofs.Words.{filter-Has}
-use Rattle.gm_rules.specs.Adopting.{found_mids, mid_of, tells_mid, told}
-use Rattle.gm_rules.specs.Bad.{has_mid, takes_mid}
-use Rattle.gm_rules.specs.Parts.{IsPartToDecide, any_named, is_asked, is_called, is_named, part_of}
-use Rattle.gm_rules.specs.Seen.{Seen, is_there_and}
+use Rattle.gm_lists.specs.Ordered.{Has}
+use Rattle.gm_lists.proofs.Lists.{filter-Has}
+use Rattle.gm_refusals.specs.Adoptable.{found_mids, mid_of, tells_mid, told}
+use Rattle.gm_refusals.specs.Applies.{has_mid, takes_mid}
+use Rattle.gm_refusals.specs.PartOf.{IsPartToDecide, any_named, is_asked, is_called, is_named, part_of}
+use Rattle.gm_refusals.specs.Seen.{Seen, is_there_and}
 use Rattle.gm_state.specs.Records.{members}
-use Rattle.gm_rules.proofs.Alike.{same_mid}
-use Rattle.gm_bench.specs.Finding.{adopted_from}
+use Rattle.gm_refusals.proofs.SeenAlike.{same_mid}
+use Rattle.gm_bench.specs.AdoptScope.{adopted_from}
 
 -- a mid that a last sector tells of is one of those found
 one_more : (mid : ℕ) (o : Option Metadata) (others : List ℕ) → (is_there_and o (λ m. m.mid == mid) ≡ true) ⊎ (list_any (λ m. mid == m) others ≡ true) → list_any (λ m. mid == m) (cons_option (mid_of o) others) ≡ true

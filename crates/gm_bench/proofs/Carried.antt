@@ -4,19 +4,19 @@ use Rattle.sqlite_trees.specs.declared.store.Store.{Ghosts}
 use Rattle.sqlite.specs.Held.{Held}
 use Rattle.gm_metadata.specs.Images.{Image, Sizes}
 use Rattle.gm_shelf.specs.Disk.{View}
-use Rattle.gm_state.specs.declared.command.Command.{Command}
-use Rattle.gm_state.specs.declared.command.Reply.{Reply}
+use Rattle.gm_commands.specs.declared.command.Command.{Command}
+use Rattle.gm_state.specs.declared.intents.Reply.{Reply}
 use Rattle.gm_state.specs.World.{World}
 use Rattle.gm_bench.specs.declared.answer.Accepted.{Accepted}
 use Rattle.gm_bench.specs.declared.answer.Accepted.TheVariants as accepted
 use Rattle.gm_bench.specs.declared.answer.Answer.{Answer}
 use Rattle.gm_bench.specs.declared.answer.Work.{Work}
-use Rattle.gm_bench.specs.declared.progress.Progress.{Progress}
-use Rattle.gm_bench.specs.declared.progress.Progress.TheVariants.{Ready, Pending}
-use Rattle.gm_bench.specs.declared.progress.Phase.TheVariants as phase
+use Rattle.gm_bench.specs.declared.phase.Progress.{Progress}
+use Rattle.gm_bench.specs.declared.phase.Progress.TheVariants.{Ready, Pending}
+use Rattle.gm_bench.specs.declared.phase.Phase.TheVariants as phase
 use Rattle.gm_bench.specs.Accepting.{LeavesStep, IsAnswered, IsDone}
 use Rattle.gm_bench.specs.Owed.{AcceptAnswers, RunAnswers, RunLeaves}
-use Rattle.gm_bench.specs.Progressing.{answer_of, phase_of, progress_after}
+use Rattle.gm_bench.specs.Phases.{answer_of, phase_of, progress_after}
 use Rattle.gm_bench.specs.Recovering.{IsAt, IsAtWork, LeavesOnly}
 use Rattle.gm_bench.specs.Running.{IsRun}
 use Rattle.gm_bench.proofs.Phases.{was_done}

@@ -2,12 +2,12 @@
 use Rattle.std.proofs.Common.{◌≡◌, inl, inr, ℕ, ◌≤◌, ◌<◌, List, Option, Some, None, refl, subst, arith}
 use Rattle.std.specs.Prelude.{IsSomeAnd}
 use Rattle.gm_metadata.specs.Images.{Sizes}
-use Rattle.gm_state.specs.declared.command.Intent.{Intent}
-use Rattle.gm_state.specs.declared.command.Intent.TheVariants.{Meta, Clear, Copy}
+use Rattle.gm_state.specs.declared.intents.Intent.{Intent}
+use Rattle.gm_state.specs.declared.intents.Intent.TheVariants.{Meta, Clear, Copy}
 use Rattle.gm_state.specs.Intents.{IsAtHand}
 use Rattle.gm_apply.specs.Redo.{LacksProvider, LacksSector}
-use Rattle.gm_registry.specs.declared.fault.StoreFault.{StoreFault}
-use Rattle.gm_registry.specs.declared.fault.StoreFault.TheVariants as store
+use Rattle.gm_rows.specs.declared.fault.StoreFault.{StoreFault}
+use Rattle.gm_rows.specs.declared.fault.StoreFault.TheVariants as store
 use Rattle.gm_shelf.specs.declared.fault.ShelfFault.{ShelfFault}
 use Rattle.gm_shelf.specs.declared.fault.ShelfFault.TheVariants as shelf
 use Rattle.gm_bench.specs.declared.fault.BenchFault.TheVariants.{Disk, Absent, Unreadable}

@@ -4,31 +4,31 @@ use Rattle.sqlite_trees.specs.declared.store.Store.{Ghosts}
 use Rattle.sqlite.specs.Held.{Held}
 use Rattle.gm_metadata.specs.Images.{Image, Sizes}
 use Rattle.gm_shelf.specs.Disk.{View, IsLawful}
-use Rattle.gm_state.specs.declared.command.Command.{Command}
-use Rattle.gm_state.specs.declared.command.Intent.{Intent}
-use Rattle.gm_state.specs.declared.command.Reply.{Reply}
-use Rattle.gm_state.specs.Commands.{words_of}
+use Rattle.gm_commands.specs.declared.command.Command.{Command}
+use Rattle.gm_state.specs.declared.intents.Intent.{Intent}
+use Rattle.gm_state.specs.declared.intents.Reply.{Reply}
+use Rattle.gm_commands.specs.Commands.{words_of}
 use Rattle.gm_state.specs.Intents.{IsAtHand}
 use Rattle.gm_state.specs.Records.{Records}
 use Rattle.gm_state.specs.Rows.{Tables}
 use Rattle.gm_state.specs.World.{World, present}
-use Rattle.gm_rules.specs.After.{intents_of, reply_to}
-use Rattle.gm_rules.specs.Decides.{Changed}
+use Rattle.gm_changes.specs.After.{intents_of, reply_to}
+use Rattle.gm_changes.specs.Decides.{Changed}
 use Rattle.gm_rules.specs.Step.{Plan, CanAnswer, HasPlan}
-use Rattle.gm_rules.specs.Run as run
-use Rattle.gm_rules.proofs.Plans.{every_plan}
+use Rattle.gm_rules.specs.AbstractCalls as run
+use Rattle.gm_rules.proofs.EveryPlan.{every_plan}
 use Rattle.gm_registry.specs.Changes.{with_accepted}
 use Rattle.gm_registry.specs.Registry.{CrashLeavesOnly, DiskKept, HasTables, MayLeave}
 use Rattle.gm_registry.specs.Replies.{count_of}
-use Rattle.gm_bench.specs.declared.asking.Planned.{Planned}
+use Rattle.gm_bench.specs.declared.plan.Planned.{Planned}
 use Rattle.gm_bench.specs.Accepting.{LeavesStep, IsDone}
 use Rattle.gm_bench.specs.Leading.{whole, Leads, AllLead}
 use Rattle.gm_bench.specs.Planning.{IsPlanned}
 use Rattle.gm_bench.specs.Recovering.{Cover, IsAt}
-use Rattle.gm_bench.proofs.Answering.{stepped}
-use Rattle.gm_bench.proofs.Committing.{commit_leads, commit_claims}
-use Rattle.gm_bench.proofs.Covering.{covers_after}
-use Rattle.gm_bench.proofs.Storing.{leads_in}
+use Rattle.gm_bench.proofs.CallAnswers.{stepped}
+use Rattle.gm_bench.proofs.CommitLeadsOn.{commit_leads, commit_claims}
+use Rattle.gm_bench.proofs.PartCovers.{covers_after}
+use Rattle.gm_bench.proofs.RegistryLeaves.{leads_in}
 
 module _ {S H : Type 0} (g : Ghosts S) (view : H → View) (size : H → Sizes) (r s : Held S) (h : H) (away : Image) (u : World) (key : List ℕ) (c : Command) (p : Planned) (words : List ℕ) (words_is : words ≡ words_of c) (lawful : IsLawful (view h)) (at : IsAt g view size r h away [] u u) (planned : IsPlanned u c p) (can : CanAnswer u key c) where
   abbrev ch : Changed

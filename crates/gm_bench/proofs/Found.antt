@@ -4,19 +4,19 @@ use Rattle.sqlite_trees.specs.declared.store.Store.{Ghosts}
 use Rattle.sqlite.specs.Held.{Held}
 use Rattle.gm_metadata.specs.Images.{Image, Sizes}
 use Rattle.gm_shelf.specs.Disk.{View, IsLawful}
-use Rattle.gm_state.specs.declared.command.Intent.{Intent}
+use Rattle.gm_state.specs.declared.intents.Intent.{Intent}
 use Rattle.gm_state.specs.Intents.{IsOf, IsAtHand}
 use Rattle.gm_state.specs.Records.{Records, IsState}
-use Rattle.gm_state.specs.Words.{Has}
+use Rattle.gm_lists.specs.Ordered.{Has}
 use Rattle.gm_state.specs.World.{World}
 use Rattle.gm_state.proofs.SameRows.{same_mirror, same_component}
-use Rattle.gm_registry.specs.Reading.{AreTablesOf}
+use Rattle.gm_rows.specs.ReadableTables.{AreTablesOf}
 use Rattle.gm_registry.proofs.OneReading.{one_reading}
 use Rattle.gm_bench.specs.Leading.{whole, Leads}
 use Rattle.gm_bench.specs.Recovering.{Cover, IsFound, IsAt}
 use Rattle.gm_bench.specs.Presence.{first_absent}
 use Rattle.gm_bench.proofs.Present.{at_hand}
-use Rattle.gm_bench.proofs.Reading.{tables_of}
+use Rattle.gm_bench.proofs.ReadTables.{tables_of}
 
 module _ {S H : Type 0} (g : Ghosts S) (view : H → View) (size : H → Sizes) (r : Held S) (h : H) (away : Image) (ts : List Intent) (u w : World) (at : IsFound g view size r h away ts u w) (lawful : IsLawful (view h)) where
   pub lead : Leads at.tables ts (whole (size h) away (view h).seen) w

@@ -9,19 +9,19 @@ use Rattle.sqlite.specs.Tree.{Trees}
 use Rattle.sqlite.specs.Held.{Held}
 use Rattle.gm_metadata.specs.Images.{Image, Sizes}
 use Rattle.gm_shelf.specs.Disk.{View}
-use Rattle.gm_state.specs.declared.command.Command.{Command}
-use Rattle.gm_state.specs.declared.command.Intent.{Intent}
-use Rattle.gm_state.specs.declared.command.Reply.{Reply}
+use Rattle.gm_commands.specs.declared.command.Command.{Command}
+use Rattle.gm_state.specs.declared.intents.Intent.{Intent}
+use Rattle.gm_state.specs.declared.intents.Reply.{Reply}
 use Rattle.gm_state.specs.declared.records.Mirror.{Mirror}
 use Rattle.gm_state.specs.declared.records.Component.{Component}
 use Rattle.gm_state.specs.Records.{IsState, name, provider}
 use Rattle.gm_state.specs.Rows.{Tables, HoldRecords, mirror_row, component_row, answer_row}
-use Rattle.gm_state.specs.Words.{Has, Ascends}
+use Rattle.gm_lists.specs.Ordered.{Has, Ascends}
 use Rattle.gm_state.specs.World.{World, Answered, Sound, AreAnswers, AreNumbered, present}
 use Rattle.gm_rules.specs.Step.{Step}
-use Rattle.gm_rules.specs.Run.{Call}
+use Rattle.gm_rules.specs.AbstractCalls.{Call}
 use Rattle.gm_registry.specs.Registry.{stored}
-use Rattle.gm_registry.specs.Tables.{no_tables}
+use Rattle.gm_rows.specs.Tables.{no_tables}
 use Rattle.gm_bench.specs.declared.answer.Accepted.{Accepted}
 use Rattle.gm_bench.specs.declared.answer.Accepted.TheVariants.{Done, Repeated, Refused}
 use Rattle.gm_bench.specs.Owed.{AcceptAnswers, IsLeft}
@@ -29,7 +29,7 @@ use Rattle.gm_bench.specs.Leading.{AreAmong, whole, Leads, KeepsClaims, AllLead}
 use Rattle.gm_bench.specs.Recovering.{Recovers, IsShelfOf, LeavesOnly}
 use Rattle.gm_bench.specs.Accepting.{LeavesStep, OrStep}
 use Rattle.gm_bench.specs.Schedule.{Phase, Event, Accept_returned, Accept_stopped, Apply_returned, Apply_stopped, Settle_returned, Settle_stopped, Open_returned, Open_stopped, Now, none, skips, keeps, Moved, Without_returned, Without_stopped, Without_carrying, Entry, Handed_in, Without, IsNew, IsButMoved, IsStepTo, IsStepWithout, Reached, IsLastStep, ArePending, LeavesCommit, IsMove, HasCount, IsLeftIn, IsStop, after_answer, Happens, IsStart, Runs, AtRest, OnTheWay, Stopped, Headline, Within}
-use Rattle.gm_bench.proofs.Resting.{rest_leads, rest_claims}
+use Rattle.gm_bench.proofs.WorldAtRest.{rest_leads, rest_claims}
 
 -- ---- the world that a schedule starts in
 

@@ -11,15 +11,15 @@ use Rattle.gm_state.specs.declared.records.Component.{Component}
 use Rattle.gm_state.specs.Intents.{IsOf}
 use Rattle.gm_state.specs.Lookups.{metadata, metadata_of, mirror_of}
 use Rattle.gm_state.specs.Records.{IsState, Records, name, provider}
-use Rattle.gm_state.specs.Words.{Has, Ascends, label_lt}
-use Rattle.gm_state.proofs.Finding.{find_one}
-use Rattle.gm_state.proofs.Order.{same_from}
-use Rattle.gm_state.proofs.Testing.{member}
-use Rattle.gm_state.proofs.Words.{filter-Has}
+use Rattle.gm_lists.specs.Ordered.{Has, Ascends, label_lt}
+use Rattle.gm_lists.proofs.Finding.{find_one}
+use Rattle.gm_lists.proofs.Order.{same_from}
+use Rattle.gm_state.proofs.TestsTellRules.{member}
+use Rattle.gm_lists.proofs.Lists.{filter-Has}
 use Rattle.gm_apply.proofs.Written.{metadata_found}
-use Rattle.gm_bench.specs.Auditing.{IsAsRegistered, IsAudit}
-use Rattle.gm_bench.specs.Seeing.{last_of}
-use Rattle.gm_bench.proofs.Telling.{has_either, has_left, has_last}
+use Rattle.gm_bench.specs.Audits.{IsAsRegistered, IsAudit}
+use Rattle.gm_bench.specs.ShelfFacts.{last_of}
+use Rattle.gm_bench.proofs.FactsAreWorlds.{has_either, has_left, has_last}
 
 -- ---- one component
 

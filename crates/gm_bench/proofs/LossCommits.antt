@@ -10,31 +10,31 @@ use Rattle.sqlite.specs.Tree.{Trees}
 use Rattle.sqlite.specs.Held.{Held}
 use Rattle.gm_metadata.specs.Images.{Image, Sizes, same_label}
 use Rattle.gm_shelf.specs.Disk.{View, IsLawful}
-use Rattle.gm_state.specs.declared.command.Command.{Command}
-use Rattle.gm_state.specs.declared.command.Command.TheVariants.{Lost}
-use Rattle.gm_state.specs.declared.command.Intent.{Intent}
-use Rattle.gm_state.specs.declared.command.Reply.{Reply}
+use Rattle.gm_commands.specs.declared.command.Command.{Command}
+use Rattle.gm_commands.specs.declared.command.Command.TheVariants.{Lost}
+use Rattle.gm_state.specs.declared.intents.Intent.{Intent}
+use Rattle.gm_state.specs.declared.intents.Reply.{Reply}
 use Rattle.gm_state.specs.declared.records.Mirror.{Mirror}
 use Rattle.gm_state.specs.declared.records.Component.{Component}
-use Rattle.gm_state.specs.Commands.{words_of}
+use Rattle.gm_commands.specs.Commands.{words_of}
 use Rattle.gm_state.specs.Intents.{IsOf, names, is_place}
 use Rattle.gm_state.specs.Lookups.{mirror_of}
 use Rattle.gm_state.specs.Records.{Records, members}
 use Rattle.gm_state.specs.Rows.{Tables, CommandRow, HoldRecords, answer_row, intent_rows}
-use Rattle.gm_state.specs.Words.{Has}
+use Rattle.gm_lists.specs.Ordered.{Has}
 use Rattle.gm_state.specs.World.{World, Answered, present}
-use Rattle.gm_state.proofs.Claiming.{some_there}
-use Rattle.gm_state.proofs.Finding.{not_both}
-use Rattle.gm_state.proofs.Order.{same_from, same_is}
-use Rattle.gm_state.proofs.Placing.{place_from}
-use Rattle.gm_state.proofs.Testing.{member}
-use Rattle.gm_rules.specs.After.{reply_to, intents_of}
-use Rattle.gm_rules.specs.Decides.{Changed, Makes, changed_by}
+use Rattle.gm_state.proofs.SoundClaims.{some_there}
+use Rattle.gm_lists.proofs.Finding.{not_both}
+use Rattle.gm_lists.proofs.Order.{same_from, same_is}
+use Rattle.gm_state.proofs.Places.{place_from}
+use Rattle.gm_state.proofs.TestsTellRules.{member}
+use Rattle.gm_changes.specs.After.{reply_to, intents_of}
+use Rattle.gm_changes.specs.Decides.{Changed, Makes, changed_by}
 use Rattle.gm_rules.specs.Step.{Plan, CanAnswer, HasPlan, answer}
-use Rattle.gm_rules.specs.Worlds.{seen_of}
-use Rattle.gm_rules.proofs.Plans.{every_plan}
+use Rattle.gm_refusals.specs.WorldFacts.{seen_of}
+use Rattle.gm_rules.proofs.EveryPlan.{every_plan}
 use Rattle.gm_registry.specs.Changes.{with_accepted, command_row, settled}
-use Rattle.gm_registry.specs.Reading.{HoldState}
+use Rattle.gm_rows.specs.ReadableTables.{HoldState}
 use Rattle.gm_registry.specs.Registry.{CrashLeaves, CrashLeavesOnly, DiskKept, MayLeave, stored}
 use Rattle.gm_registry.proofs.Written.{change_held, change_intents, change_commands}
 use Rattle.gm_bench.specs.Leading.{whole, Leads, KeepsClaims, AllLead}
@@ -45,7 +45,7 @@ use Rattle.gm_bench.proofs.LossLists.{placed_by}
 use Rattle.gm_bench.proofs.LossReadable.{IsLoss, loss_of}
 use Rattle.gm_bench.proofs.LossRemaining.{names_none}
 use Rattle.gm_bench.proofs.Losses.{leads_to_loss, keeps_in_loss}
-use Rattle.gm_bench.proofs.Storing.{leads_in}
+use Rattle.gm_bench.proofs.RegistryLeaves.{leads_in}
 
 -- what writes to p is taken out
 taken_out : (p : List ℕ) (ts : List Intent) (t : Intent) → Has ts t → writes_to p t ≡ true → Has (dropped p ts) t

@@ -3,22 +3,23 @@ use Rattle.std.proofs.Common.{◌≡◌, ◌≢◌, ◌∙◌, ◌⊎◌, inl, i
 use Rattle.std.specs.List.{list_any}
 use Rattle.std.proofs.lemmas.Bool.{cases_Bool, and_parts}
 use Rattle.gm_metadata.specs.Images.{same_label}
-use Rattle.gm_state.specs.declared.command.Command.TheVariants.{Lost}
-use Rattle.gm_state.specs.declared.command.Intent.{Intent}
-use Rattle.gm_state.specs.declared.command.Intent.TheVariants.{Meta, Clear, Copy}
+use Rattle.gm_commands.specs.declared.command.Command.TheVariants.{Lost}
+use Rattle.gm_state.specs.declared.intents.Intent.{Intent}
+use Rattle.gm_state.specs.declared.intents.Intent.TheVariants.{Meta, Clear, Copy}
 use Rattle.gm_state.specs.declared.records.Mirror.{Mirror}
 use Rattle.gm_state.specs.declared.records.Component.{Component}
-use Rattle.gm_state.specs.Words.{Has, put}
+use Rattle.gm_lists.specs.Ordered.{Has, put}
 use Rattle.gm_state.specs.Records.{Records, IsState, members, name}
 use Rattle.gm_state.specs.Lookups.{component_of, mirror_of}
 use Rattle.gm_state.specs.Intents.{IsOf}
 use Rattle.gm_state.specs.Readable.{IsCopyWithin, IsReadable, AreReadable}
 use Rattle.gm_state.specs.World.{World, Sound}
-use Rattle.gm_state.proofs.Finding.{not_both, option_cases, found, found_none, find_none, some_any}
-use Rattle.gm_state.proofs.Order.{same_from, same_is, differ, same_tells}
-use Rattle.gm_state.proofs.Testing.{member}
-use Rattle.gm_state.proofs.Words.{Has-filter, filter-Has, one, put_there, put_or, put_stays}
-use Rattle.gm_rules.specs.After.{metas}
+use Rattle.gm_lists.proofs.Finding.{not_both, option_cases, found, found_none, find_none, some_any}
+use Rattle.gm_lists.proofs.Order.{same_from, same_is, differ, same_tells}
+use Rattle.gm_state.proofs.TestsTellRules.{member}
+use Rattle.gm_lists.proofs.Putting.{one, put_there, put_or, put_stays}
+use Rattle.gm_lists.proofs.Lists.{Has-filter, filter-Has}
+use Rattle.gm_changes.specs.After.{metas}
 use Rattle.gm_rules.specs.Step.{Plan}
 use Rattle.gm_bench.specs.Losing.{writes_to, redirected, remaining, pending_after, HasNext}
 use Rattle.gm_bench.proofs.LossLists.{Has-append}

@@ -3,16 +3,16 @@ use Rattle.std.proofs.Common.{◌≡◌, ◌≢◌, ◌∙◌, ◌⊎◌, inl, i
 use Rattle.std.specs.List.{list_any}
 use Rattle.std.proofs.lemmas.Bool.{cases_Bool, and_parts, or_parts}
 use Rattle.gm_metadata.specs.Images.{Sizes, same_label}
-use Rattle.gm_state.specs.declared.command.Intent.{Intent}
-use Rattle.gm_state.specs.declared.command.Intent.TheVariants.{Meta, Clear, Copy}
+use Rattle.gm_state.specs.declared.intents.Intent.{Intent}
+use Rattle.gm_state.specs.declared.intents.Intent.TheVariants.{Meta, Clear, Copy}
 use Rattle.gm_state.specs.declared.records.Component.{Component}
-use Rattle.gm_state.specs.Words.{Has}
+use Rattle.gm_lists.specs.Ordered.{Has}
 use Rattle.gm_state.specs.Intents.{is_last, copies, names, any_copies, is_place}
 use Rattle.gm_state.specs.Readable.{is_copy, is_copy_to, is_meta_of, AreOrdered}
-use Rattle.gm_state.proofs.Finding.{not_both}
-use Rattle.gm_state.proofs.Order.{same_from, same_is, differ}
-use Rattle.gm_state.proofs.Placing.{place_from}
-use Rattle.gm_rules.specs.After.{metas}
+use Rattle.gm_lists.proofs.Finding.{not_both}
+use Rattle.gm_lists.proofs.Order.{same_from, same_is, differ}
+use Rattle.gm_state.proofs.Places.{place_from}
+use Rattle.gm_changes.specs.After.{metas}
 use Rattle.gm_bench.specs.Losing.{writes_to, redirected, remaining}
 use Rattle.gm_bench.proofs.LossLists.{or_true, or_left, or_right, or_none, placed_by, copied_by}
 

@@ -4,8 +4,8 @@ use Rattle.std.specs.List.{list_any}
 use Rattle.std.specs.Prelude.{option_map}
 use Rattle.std.proofs.lemmas.Bool.{and_parts}
 use Rattle.gm_metadata.specs.Images.{same_label}
-use Rattle.gm_state.specs.declared.command.Intent.{Intent}
-use Rattle.gm_state.specs.declared.command.Intent.TheVariants.{Copy}
+use Rattle.gm_state.specs.declared.intents.Intent.{Intent}
+use Rattle.gm_state.specs.declared.intents.Intent.TheVariants.{Copy}
 use Rattle.gm_state.specs.declared.records.Disk.{Disk}
 use Rattle.gm_state.specs.declared.records.Disk.TheVariants.{InSync, Inactive, Copying}
 use Rattle.gm_state.specs.declared.records.Mirror.{Mirror}
@@ -15,12 +15,13 @@ use Rattle.gm_state.specs.Lookups.{component_of}
 use Rattle.gm_state.specs.Readable.{IsCopyWithin, AreReadable}
 use Rattle.gm_state.specs.Records.{Records, members, name, provider}
 use Rattle.gm_state.specs.Sources.{lends_to, goes_first, source_among, source_of}
-use Rattle.gm_state.specs.Words.{Has}
+use Rattle.gm_lists.specs.Ordered.{Has}
 use Rattle.gm_state.specs.World.{World, Sound}
-use Rattle.gm_state.proofs.Finding.{not_both, option_cases, found, find_one}
-use Rattle.gm_state.proofs.Order.{same_from}
-use Rattle.gm_state.proofs.Testing.{member}
-use Rattle.gm_state.proofs.Words.{filter-Has, one}
+use Rattle.gm_lists.proofs.Finding.{not_both, option_cases, found, find_one}
+use Rattle.gm_lists.proofs.Order.{same_from}
+use Rattle.gm_state.proofs.TestsTellRules.{member}
+use Rattle.gm_lists.proofs.Putting.{one}
+use Rattle.gm_lists.proofs.Lists.{filter-Has}
 use Rattle.gm_bench.specs.Losing.{HasNext}
 use Rattle.gm_bench.proofs.LossReadable.{IsLoss, home}
 

@@ -10,33 +10,34 @@ use Rattle.gm_metadata.specs.Labels.{is_label}
 use Rattle.gm_metadata.specs.Reading.{encoded}
 use Rattle.gm_metadata.specs.Sector.{IsMetadata, Bears}
 use Rattle.gm_metadata.specs.declared.metadata.Metadata.{Metadata}
-use Rattle.gm_state.specs.declared.command.Intent.{Intent}
-use Rattle.gm_state.specs.declared.command.Intent.TheVariants.{Meta, Clear, Copy}
+use Rattle.gm_state.specs.declared.intents.Intent.{Intent}
+use Rattle.gm_state.specs.declared.intents.Intent.TheVariants.{Meta, Clear, Copy}
 use Rattle.gm_state.specs.declared.records.Disk.{Disk}
 use Rattle.gm_state.specs.declared.records.Disk.TheVariants.{InSync, Inactive, Copying}
 use Rattle.gm_state.specs.declared.records.Mirror.{Mirror}
 use Rattle.gm_state.specs.declared.records.Component.{Component}
-use Rattle.gm_state.specs.Words.{Has}
+use Rattle.gm_lists.specs.Ordered.{Has}
 use Rattle.gm_state.specs.Records.{Records, IsState, IsMirror, members, held_by, held_of, name, provider}
 use Rattle.gm_state.specs.Rows.{Tables, HoldRecords, intent_rows}
 use Rattle.gm_state.specs.Lookups.{component_of, mirror_of, metadata}
 use Rattle.gm_state.specs.Intents.{IsOf, AreThere, IsAtHand, is_last, copies, names, is_place, Says, AllSay, Agrees}
 use Rattle.gm_state.specs.Readable.{IsCopyWithin, IsReadable, AreReadable}
 use Rattle.gm_state.specs.World.{World, Sound, Below, Claims, CopiesData, claimed, has_syncid, data_at}
-use Rattle.gm_state.proofs.Codec.{bears_one}
-use Rattle.gm_state.proofs.Finding.{not_both, option_cases, found, found_none, find_none, find_one}
-use Rattle.gm_state.proofs.Order.{same_from, same_is, same_tells, differ}
-use Rattle.gm_state.proofs.Placing.{place_from}
-use Rattle.gm_state.proofs.Testing.{member}
-use Rattle.gm_state.proofs.Words.{filter-Has, one}
-use Rattle.gm_rules.specs.After.{metas}
+use Rattle.gm_state.proofs.EncodedSectors.{bears_one}
+use Rattle.gm_lists.proofs.Finding.{not_both, option_cases, found, found_none, find_none, find_one}
+use Rattle.gm_lists.proofs.Order.{same_from, same_is, same_tells, differ}
+use Rattle.gm_state.proofs.Places.{place_from}
+use Rattle.gm_state.proofs.TestsTellRules.{member}
+use Rattle.gm_lists.proofs.Putting.{one}
+use Rattle.gm_lists.proofs.Lists.{filter-Has}
+use Rattle.gm_changes.specs.After.{metas}
 use Rattle.gm_apply.proofs.Safe.{lent as lends_on}
 use Rattle.gm_bench.specs.Leading.{Leads, KeepsClaims, ClaimsOf, EachNewClaims}
 use Rattle.gm_bench.specs.Losing.{writes_to, redirected, remaining, pending_after, as_left, HasNext}
 use Rattle.gm_bench.proofs.LossLists.{Has-append, append-left, append-right, last_is, last_at, last_named, placed_by, copies_from, copy_range}
 use Rattle.gm_bench.proofs.LossReadable.{IsLoss, apart_from, home, are_readable}
 use Rattle.gm_bench.proofs.LossRemaining.{has_remaining, same_names, place_stays, copied_before, has_meta, meta_has, any_copies_metas, remaining_has}
-use Rattle.gm_bench.proofs.Masking.{have_sizes}
+use Rattle.gm_bench.proofs.ShelfProviders.{have_sizes}
 
 provider_fits : (h : Bool) (p : List ℕ) → IsTrue (is_label p) → IfSome (if h then Some p else None) (λ n. IsTrue (is_label n))
 provider_fits true p e = e

@@ -1,15 +1,15 @@
 -- Which phase a bench is in that may be asked something, and isn't in the phase for it.
 use Rattle.std.proofs.Common.{◌≡◌, ◌∙◌, inl, inr, ℕ, refl, sym, ap}
-use Rattle.gm_state.specs.declared.command.Reply.{Reply}
+use Rattle.gm_state.specs.declared.intents.Reply.{Reply}
 use Rattle.gm_bench.specs.declared.answer.Work.{Work}
-use Rattle.gm_bench.specs.declared.progress.Progress.{Progress}
-use Rattle.gm_bench.specs.declared.progress.Progress.TheVariants.{Ready, Pending, Applied, Failed}
+use Rattle.gm_bench.specs.declared.phase.Progress.{Progress}
+use Rattle.gm_bench.specs.declared.phase.Progress.TheVariants.{Ready, Pending, Applied, Failed}
 use Rattle.gm_bench.specs.declared.answer.Accepted.{Accepted}
 use Rattle.gm_bench.specs.declared.answer.Accepted.TheVariants as accepted
 use Rattle.gm_bench.specs.declared.answer.Answer.{Answer}
 use Rattle.gm_bench.specs.declared.answer.Answer.TheVariants.{Done, Repeated, Refused}
-use Rattle.gm_bench.specs.declared.progress.Phase.TheVariants as phase
-use Rattle.gm_bench.specs.Progressing.{TakesCommands, HasWork, HasDone, answer_of, phase_after, phase_of, progress_after}
+use Rattle.gm_bench.specs.declared.phase.Phase.TheVariants as phase
+use Rattle.gm_bench.specs.Phases.{TakesCommands, HasWork, HasDone, answer_of, phase_after, phase_of, progress_after}
 
 pub takes_failed : (p : Progress) → TakesCommands p → (p ≡ Ready → ⊥) → p ≡ Failed
 takes_failed Ready t other = absurd (other refl)

@@ -6,19 +6,19 @@ use Rattle.std.specs.Option.{option_or}
 use Rattle.std.proofs.lemmas.Bool.{not-false}
 use Rattle.std.proofs.lemmas.List.Folds.{find-append}
 use Rattle.gm_metadata.specs.Images.{Sizes, same_label}
-use Rattle.gm_state.specs.declared.command.Intent.{Intent}
-use Rattle.gm_state.specs.declared.command.Intent.TheVariants.{Meta, Clear, Copy}
+use Rattle.gm_state.specs.declared.intents.Intent.{Intent}
+use Rattle.gm_state.specs.declared.intents.Intent.TheVariants.{Meta, Clear, Copy}
 use Rattle.gm_state.specs.declared.records.Mirror.{Mirror}
 use Rattle.gm_state.specs.declared.records.Component.{Component}
 use Rattle.gm_state.specs.Intents.{IsOf, IsAtHand}
 use Rattle.gm_state.specs.Lookups.{component_of}
 use Rattle.gm_state.specs.Readable.{IsCopyWithin, IsReadable}
 use Rattle.gm_state.specs.Records.{Records, IsState, members, provider}
-use Rattle.gm_state.specs.Words.{Has}
-use Rattle.gm_state.proofs.Finding.{find_one, found, found_none, Has-append_left, Has-append_right}
-use Rattle.gm_state.proofs.Order.{same_from}
-use Rattle.gm_state.proofs.Words.{filter-Has}
-use Rattle.gm_state.proofs.Testing.{member}
+use Rattle.gm_lists.specs.Ordered.{Has}
+use Rattle.gm_lists.proofs.Finding.{find_one, found, found_none, Has-append_left, Has-append_right}
+use Rattle.gm_lists.proofs.Order.{same_from}
+use Rattle.gm_lists.proofs.Lists.{filter-Has}
+use Rattle.gm_state.proofs.TestsTellRules.{member}
 use Rattle.gm_bench.specs.Presence.{serves, is_present, absent_among, providers_in, first_absent}
 
 found_in : (s : Records) (p : List ℕ) (j : Component) → component_of s p ≡ Some j → Has s.components j

@@ -5,11 +5,11 @@ use Rattle.sqlite.specs.Tree.{Trees}
 use Rattle.sqlite.specs.Held.{Held}
 use Rattle.gm_metadata.specs.Images.{Image, Sizes}
 use Rattle.gm_shelf.specs.Disk.{View}
-use Rattle.gm_state.specs.declared.command.Command.{Command}
-use Rattle.gm_state.specs.declared.command.Reply.{Reply}
+use Rattle.gm_commands.specs.declared.command.Command.{Command}
+use Rattle.gm_state.specs.declared.intents.Reply.{Reply}
 use Rattle.gm_state.specs.World.{World}
 use Rattle.gm_rules.specs.Step.{Step}
-use Rattle.gm_rules.specs.Run as run
+use Rattle.gm_rules.specs.AbstractCalls as run
 use Rattle.gm_registry.specs.Registry.{CrashLeaves}
 use Rattle.gm_bench.specs.Recovering.{Recovers, IsAt, IsAtWork}
 use Rattle.gm_bench.specs.declared.answer.Work.{Work}

@@ -15,8 +15,8 @@ use Rattle.gm_taste.specs.declared.tasted.Member.{Member}
 use Rattle.gm_taste.specs.declared.tasted.MemberState.{MemberState}
 use Rattle.gm_taste.specs.declared.tasted.MemberState.TheVariants.{Inactive, Broken, Stale, Synchronizing, Active}
 use Rattle.gm_taste.specs.declared.tasted.Tasted.{Tasted}
-use Rattle.gm_taste.specs.Words.{Has}
-use Rattle.gm_bench.specs.Showing.{IsShown}
+use Rattle.gm_lists.specs.Ordered.{Has}
+use Rattle.gm_bench.specs.Shown.{IsShown}
 
 -- the provider is that of a registered component, as the shelf shows it
 pub record IsRegistered (s : Records) (size : Sizes) (seen : Image) (p : Provider) : Type 0 where

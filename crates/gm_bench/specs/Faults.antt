@@ -1,7 +1,7 @@
 -- The faults of a bench, by those of what it stands on.
 use Rattle.std.specs.Prelude.{ℕ}
-use Rattle.gm_registry.specs.declared.fault.StoreFault.{StoreFault}
-use Rattle.gm_registry.specs.declared.fault.StoreFault.TheVariants as store
+use Rattle.gm_rows.specs.declared.fault.StoreFault.{StoreFault}
+use Rattle.gm_rows.specs.declared.fault.StoreFault.TheVariants as store
 use Rattle.gm_shelf.specs.declared.fault.ShelfFault.{ShelfFault}
 use Rattle.gm_shelf.specs.declared.fault.ShelfFault.TheVariants as shelf
 use Rattle.gm_bench.specs.declared.fault.BenchFault.{BenchFault}

@@ -1,14 +1,14 @@
 -- An opening without a provider: what becomes of the pending intents, and what the world is then.
 use Rattle.std.specs.Prelude.{◌≢◌, ℕ, Bool, List, [], ◌∷◌, ◌++◌, if◌then◌else◌}
 use Rattle.gm_metadata.specs.Images.{Image, same_label}
-use Rattle.gm_state.specs.declared.command.Intent.{Intent}
-use Rattle.gm_state.specs.declared.command.Intent.TheVariants.{Meta, Clear, Copy}
+use Rattle.gm_state.specs.declared.intents.Intent.{Intent}
+use Rattle.gm_state.specs.declared.intents.Intent.TheVariants.{Meta, Clear, Copy}
 use Rattle.gm_state.specs.declared.records.Component.{Component}
 use Rattle.gm_state.specs.Readable.{IsCopyWithin}
 use Rattle.gm_state.specs.Records.{Records}
-use Rattle.gm_state.specs.Words.{Has}
+use Rattle.gm_lists.specs.Ordered.{Has}
 use Rattle.gm_state.specs.World.{World}
-use Rattle.gm_rules.specs.After.{metas}
+use Rattle.gm_changes.specs.After.{metas}
 
 -- the intent writes to the provider
 abbrev pub writes_to : List ℕ → Intent → Bool

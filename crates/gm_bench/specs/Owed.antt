@@ -5,8 +5,8 @@ use Rattle.sqlite_trees.specs.declared.store.Store.{Ghosts}
 use Rattle.sqlite.specs.Held.{Held}
 use Rattle.gm_metadata.specs.Images.{Image, Sizes}
 use Rattle.gm_shelf.specs.Disk.{View}
-use Rattle.gm_state.specs.declared.command.Command.{Command}
-use Rattle.gm_state.specs.declared.command.Reply.{Reply}
+use Rattle.gm_commands.specs.declared.command.Command.{Command}
+use Rattle.gm_state.specs.declared.intents.Reply.{Reply}
 use Rattle.gm_state.specs.World.{World, present}
 use Rattle.gm_rules.specs.Step.{Step}
 use Rattle.gm_registry.specs.Registry.{stored}

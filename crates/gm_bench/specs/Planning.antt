@@ -1,15 +1,17 @@
 -- What is decided on a command, and what is carried out once that is accepted.
 use Rattle.std.specs.Prelude.{◌≡◌, length, Result, Ok, Err}
-use Rattle.gm_state.specs.declared.command.Command.{Command}
+use Rattle.gm_commands.specs.declared.command.Command.{Command}
 use Rattle.gm_state.specs.Records.{Records}
 use Rattle.gm_state.specs.World.{World}
-use Rattle.gm_rules.specs.declared.refusals.Refusal.{Refusal}
-use Rattle.gm_rules.specs.Decides.{Makes, IsLeast, changed_by}
-use Rattle.gm_rules.specs.Parts.{LeavesPart, IsPartToDecide}
-use Rattle.gm_rules.specs.Seen.{seen_in}
-use Rattle.gm_rules.specs.Worlds.{AreFacts, seen_of}
-use Rattle.gm_bench.specs.declared.asking.Planned.{Planned}
-use Rattle.gm_bench.specs.declared.asking.Gathered.{Gathered}
+use Rattle.gm_refusals.specs.declared.refusals.Refusal.{Refusal}
+use Rattle.gm_changes.specs.Decides.{Makes, changed_by}
+use Rattle.gm_refusals.specs.Applies.{IsLeast}
+use Rattle.gm_refusals.specs.PartOf.{IsPartToDecide}
+use Rattle.gm_changes.specs.PartChange.{LeavesPart}
+use Rattle.gm_refusals.specs.Seen.{seen_in}
+use Rattle.gm_refusals.specs.WorldFacts.{AreFacts, seen_of}
+use Rattle.gm_bench.specs.declared.plan.Planned.{Planned}
+use Rattle.gm_bench.specs.declared.plan.Gathered.{Gathered}
 
 -- the change is the command's, the intents are the change's, and the part is what the change leaves of one
 pub record IsPlanned (u : World) (c : Command) (p : Planned) : Type 0 where

@@ -2,8 +2,8 @@
 use Rattle.std.specs.Prelude.{ℕ, Bool, false, not, ◌==◌, nat_lt, List, [], ◌∷◌, Option, Some, None}
 use Rattle.std.specs.List.{find, flat_map}
 use Rattle.gm_metadata.specs.Images.{Sizes}
-use Rattle.gm_state.specs.declared.command.Intent.{Intent}
-use Rattle.gm_state.specs.declared.command.Intent.TheVariants.{Meta, Clear, Copy}
+use Rattle.gm_state.specs.declared.intents.Intent.{Intent}
+use Rattle.gm_state.specs.declared.intents.Intent.TheVariants.{Meta, Clear, Copy}
 use Rattle.gm_state.specs.declared.records.Component.{Component}
 use Rattle.gm_state.specs.Lookups.{component_of}
 use Rattle.gm_state.specs.Records.{Records}

@@ -5,17 +5,17 @@ use Rattle.sqlite.specs.Tree.{Trees}
 use Rattle.sqlite.specs.Held.{Held}
 use Rattle.gm_metadata.specs.Images.{Image, Sizes, SameThere}
 use Rattle.gm_shelf.specs.Disk.{View}
-use Rattle.gm_state.specs.declared.command.Intent.{Intent}
-use Rattle.gm_state.specs.declared.command.Intent.TheVariants.{Meta}
+use Rattle.gm_state.specs.declared.intents.Intent.{Intent}
+use Rattle.gm_state.specs.declared.intents.Intent.TheVariants.{Meta}
 use Rattle.gm_state.specs.declared.records.Mirror.{Mirror}
 use Rattle.gm_state.specs.declared.records.Component.{Component}
 use Rattle.gm_state.specs.Intents.{IsOf, IsAtHand}
 use Rattle.gm_state.specs.Records.{Records, IsState}
 use Rattle.gm_state.specs.Rows.{Tables}
-use Rattle.gm_state.specs.Words.{Has}
+use Rattle.gm_lists.specs.Ordered.{Has}
 use Rattle.gm_state.specs.World.{World, present}
 use Rattle.gm_registry.specs.Registry.{CrashLeaves, HasTables}
-use Rattle.gm_registry.specs.Tables.{Holds, IsEmpty, no_tables}
+use Rattle.gm_rows.specs.Tables.{Holds, IsEmpty, no_tables}
 use Rattle.gm_bench.specs.declared.answer.Work.{Work}
 use Rattle.gm_bench.specs.Leading.{AllLead}
 

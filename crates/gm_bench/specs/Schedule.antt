@@ -6,17 +6,17 @@ use Rattle.sqlite.specs.Tree.{Trees}
 use Rattle.sqlite.specs.Held.{Held}
 use Rattle.gm_metadata.specs.Images.{Image, Sizes, Same, SameThere, same_label}
 use Rattle.gm_shelf.specs.Disk.{View}
-use Rattle.gm_state.specs.declared.command.Reply.{Reply}
+use Rattle.gm_state.specs.declared.intents.Reply.{Reply}
 use Rattle.gm_state.specs.Rows.{Tables}
 use Rattle.gm_state.specs.World.{World, present}
 use Rattle.gm_state.specs.Intents.{is_place}
-use Rattle.gm_state.specs.declared.command.Intent.{Intent}
-use Rattle.gm_state.specs.declared.command.Command.TheVariants.{Lost}
+use Rattle.gm_state.specs.declared.intents.Intent.{Intent}
+use Rattle.gm_commands.specs.declared.command.Command.TheVariants.{Lost}
 use Rattle.gm_rules.specs.Step.{Step}
-use Rattle.gm_rules.specs.Run.{Call}
+use Rattle.gm_rules.specs.AbstractCalls.{Call}
 use Rattle.gm_registry.specs.Registry.{CrashLeaves, stored}
 use Rattle.gm_registry.specs.Replies.{count_of}
-use Rattle.gm_registry.specs.Tables.{IsEmpty}
+use Rattle.gm_rows.specs.Tables.{IsEmpty}
 use Rattle.gm_bench.specs.Leading.{AreAmong, whole}
 use Rattle.gm_bench.specs.Losing.{dropped}
 use Rattle.gm_bench.specs.declared.answer.Work.{Work}

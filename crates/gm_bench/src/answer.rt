@@ -1,6 +1,6 @@
 //! What a command is answered.
 
-use gm_rules::CallRefusal;
+use gm_refusals::CallRefusal;
 use gm_state::{Intent, Reply, State};
 
 /// The number of an accepted command and its reply, now or when its key came first; or why it is refused.

@@ -4,7 +4,7 @@ ghost use Rattle.std.specs.Prelude.{◌≡◌};
 ghost use Rattle.gm_bench.specs.Faults.{fault_number, of_store, of_shelf, IsOfMedia, IsOfRegistry, IsOfCall};
 
 use gm_metadata::Label;
-use gm_registry::StoreFault;
+use gm_rows::StoreFault;
 use gm_shelf::ShelfFault;
 
 /// Why the bench didn't do a call. After any of these but `Closed` and `Absent` the bench is closed: every call is

@@ -2,8 +2,8 @@
 
 ghost use Rattle.std.specs.Prelude.{◌≡◌, ◌∷◌, ℕ, Some, List, []};
 ghost use Rattle.std.specs.List.Sorted.{IsPermutation};
-ghost use Rattle.gm_state.specs.declared.command.Command.TheVariants.{Lost};
-ghost use Rattle.gm_state.specs.declared.command.Intent.{Intent};
+ghost use Rattle.gm_commands.specs.declared.command.Command.TheVariants.{Lost};
+ghost use Rattle.gm_state.specs.declared.intents.Intent.{Intent};
 ghost use Rattle.gm_state.specs.declared.records.Mirror.{Mirror};
 ghost use Rattle.gm_state.specs.Lookups.{mirror_of};
 ghost use Rattle.gm_state.specs.Rows.{Tables, HoldRecords, intent_rows};
@@ -18,7 +18,7 @@ ghost use Rattle.gm_taste.specs.declared.provider.Provider.{Provider};
 ghost use Rattle.gm_taste.specs.declared.tasted.Tasted.{Tasted};
 ghost use Rattle.gm_taste.specs.Tasted.{IsTasted};
 ghost use Rattle.gm_bench.specs.Agreeing.{Agree, AreRegistered};
-ghost use Rattle.gm_bench.specs.Auditing.{IsAudit};
+ghost use Rattle.gm_bench.specs.Audits.{IsAudit};
 ghost use Rattle.gm_bench.specs.Schedule.{Event, Now, Runs, Headline};
 
 use gm_shelf::Shelf;
@@ -46,7 +46,7 @@ pub fn clean_audit_law()
     metadata_fits();
 }
 
-/// Study: what is pending behind the loss of a component leads on, and keeps what was claimed before the first command.
+/// What is pending behind the loss of a component leads on, and keeps what was claimed before the first command.
 pub fn losses_lead_on()
     ensures { (u w v : World) (key n p next : List ℕ) (ts us : List Intent) (m : Mirror)
         (y away : Image) (before t : Tables) → Sound w → mirror_of w.state n ≡ Some m

@@ -4,31 +4,31 @@
 //!
 //! Read `specs/Leading.antt` first, what tables and an image lead to, then `specs/Recovering.antt` and
 //! `specs/Accepting.antt`, what a call may leave, `specs/Owed.antt`, what each call owes, and `specs/Schedule.antt`, what a
-//! whole run is; then `bench` and `running`, whose calls are those of `media` in turn. `laws` says what holds of every run.
-//! `looking` has the calls that only look, of which `auditing` holds the images against the registry
-//! (`specs/Auditing.antt`); `tasting` looks at a shelf that has no bench.
+//! whole run is, with `specs/Losing.antt`, an opening without a provider; then `bench` and `calls`, whose calls are those of `media` in turn. `laws` says what holds of every run.
+//! `views` has the calls that only look, of which `audit` holds the images against the registry
+//! (`specs/Audits.antt`); `bare_shelf` looks at a shelf that has no bench.
 #![tactic(auto)]
 
-mod accepting;
+mod accept;
+mod adopt_scope;
 mod answer;
-mod asking;
-mod auditing;
+mod audit;
+mod bare_shelf;
 mod bench;
-mod checking;
+mod calls;
+mod facts;
 mod fault;
-mod finding;
 mod laws;
-mod looking;
 mod media;
-mod opening;
-mod progress;
-mod running;
-mod seeing;
-mod tasting;
+mod phase;
+mod plan;
+mod presence;
+mod take_up;
+mod views;
 
 pub use answer::Answer;
+pub use bare_shelf::taste_shelf;
 pub use bench::{Bench, OpenFault};
 pub use fault::BenchFault;
-pub use laws::{clean_audit_law, whole_run_law};
-pub use progress::Phase;
-pub use tasting::taste_shelf;
+pub use laws::{clean_audit_law, losses_lead_on, whole_run_law};
+pub use phase::Phase;

@@ -2,7 +2,7 @@
 
 ghost use Rattle.std.specs.Prelude.{◌≡◌, ◌<◌, List, [], OnOk, IfErr, IsErrOf};
 ghost use Rattle.gm_metadata.specs.Images.{Image};
-ghost use Rattle.gm_state.specs.declared.command.Intent.{Intent};
+ghost use Rattle.gm_state.specs.declared.intents.Intent.{Intent};
 ghost use Rattle.gm_state.specs.World.{World};
 ghost use Rattle.gm_registry.specs.Changes.{settled};
 ghost use Rattle.gm_registry.specs.Registry.{DiskKept, WasClean};

@@ -2,12 +2,12 @@
 //! values are worked out by hand.
 
 use gm_bench::{Answer, Bench, BenchFault, OpenFault, Phase};
+use gm_commands::{BalanceWord, Command, NewComponent, NewMirror, Providers, Settings, Slice};
 use gm_metadata::{Balance, DiskFlags, Label, Metadata, MirrorFlags, encode};
-use gm_shelf::{MemShelf, Shelf};
-use gm_state::{
-    BalanceWord, Command, NewComponent, NewMirror, Providers, Reply, Settings, Slice, State,
-};
-use sqlite::{Alter, Connection, MemStore};
+use gm_shelf::Shelf;
+use gm_state::{Reply, State};
+use gm_test_media::{label, must, sector};
+use sqlite::{Alter, Connection};
 use std::alloc::Global;
 use std::test::Fail;
 
@@ -53,14 +53,6 @@ pub const INACTIVE: DiskFlags = DiskFlags {
     force_sync: false,
     inactive: true,
 };
-
-pub fn must(holds: bool, what: &'static str) -> Result<(), Fail> {
-    if holds { Ok(()) } else { Err(what)? }
-}
-
-pub fn label(text: &str) -> Result<Label, Fail> {
-    Ok(Label::new(text).ok_or("no label")?)
-}
 
 // Commands as the words say them that name nothing but these.
 pub fn labels(name: &str, provider: &str, mid: u32) -> Result<Command, Fail> {
@@ -183,38 +175,6 @@ pub fn metadata(did: u32, all: u8, dflags: DiskFlags) -> Result<Metadata, Fail> 
     })
 }
 
-// So many sectors of data, each with its number from 1 on in each byte, and a last one that carries nothing.
-pub fn image(alloc: Global, data_sectors: u8) -> Result<Vec<[u8; 512]>, Fail> {
-    let mut sectors = Vec::new(alloc);
-    for place in 0..data_sectors {
-        sectors.push([place + 1; 512])?;
-    }
-    sectors.push([0; 512])?;
-    Ok(sectors)
-}
-
-pub fn add(shelf: &mut MemShelf, name: &str, sectors: Vec<[u8; 512]>) -> Result<(), Fail> {
-    let provider = label(name)?;
-    if shelf.sectors(provider).is_some() {
-        return Err("the image is there")?;
-    }
-    shelf.add(provider, sectors)?;
-    Ok(())
-}
-
-// a.img, b.img and c.img, of four sectors each.
-pub fn shelf(alloc: Global) -> Result<MemShelf, Fail> {
-    let mut shelf = MemShelf::new(alloc);
-    for name in ["a.img", "b.img", "c.img"] {
-        add(&mut shelf, name, image(alloc, 3)?)?;
-    }
-    Ok(shelf)
-}
-
-pub fn memory(alloc: Global) -> Result<Connection<MemStore>, Fail> {
-    Ok(Connection::open_in_memory(alloc)?)
-}
-
 // The tests go over any store and shelf, and these have no clause, so that a proof carries neither what those in memory
 // are made of nor the state of each call.
 pub fn try_open<S: Alter + Drop, H: Shelf + Drop>(
@@ -318,13 +278,6 @@ pub fn try_last<S: Alter, H: Shelf>(
     provider: Label,
 ) -> Result<Option<[u8; 512]>, BenchFault> {
     bench.last_sector(provider)
-}
-
-// One sector of a shelf that no bench holds.
-pub fn sector<H: Shelf>(shelf: &mut H, name: &str, place: u64) -> Result<[u8; 512], Fail> {
-    let mut sector = [0; 512];
-    shelf.read(label(name)?, place, &mut sector)?;
-    Ok(sector)
 }
 
 // Whether an image of four sectors has the data that it was made with.

@@ -1,4 +1,4 @@
 pub mod Requests
-pub mod Taking
+pub mod TakenLines
 pub mod Turns
-pub mod Writing
+pub mod WrittenBytes

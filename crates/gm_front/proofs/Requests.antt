@@ -4,7 +4,7 @@ use Rattle.std.proofs.lemmas.Bool.Decides.{nat_tests}
 use Rattle.std.proofs.lemmas.List.{length-take}
 use Rattle.std.proofs.lemmas.Str.{IsUtf8-from_is_utf8, is_utf8-from_IsUtf8}
 use Rattle.std.specs.Str.{IsUtf8, is_utf8}
-use Rattle.gm_front.specs.Asking.{Wrong, asked, asked_by, pieces}
+use Rattle.gm_front.specs.Request.{Wrong, asked, asked_by, pieces}
 
 abbrev pub IsShort : List ℕ → Type 0
 IsShort text = length text ≤ 1024

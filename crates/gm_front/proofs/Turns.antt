@@ -13,20 +13,20 @@ use Rattle.gm_shelf.specs.Disk.{View}
 use Rattle.gm_state.specs.World.{World}
 use Rattle.gm_registry.specs.Registry.{DiskKept, WasClean}
 use Rattle.gm_bench.specs.declared.fault.BenchFault.{BenchFault}
-use Rattle.gm_bench.specs.declared.progress.Progress.{Progress}
+use Rattle.gm_bench.specs.declared.phase.Progress.{Progress}
 use Rattle.gm_bench.specs.Recovering.{IsAt}
-use Rattle.gm_front.specs.declared.batching.FrontFault.{FrontFault}
-use Rattle.gm_front.specs.declared.batching.FrontFault.TheVariants.{Memory, Read, Write}
-use Rattle.gm_front.specs.declared.input.Line.{Line}
-use Rattle.gm_front.specs.declared.input.Line.TheVariants.{End, Whole, Long}
+use Rattle.gm_front.specs.declared.answer_lines.FrontFault.{FrontFault}
+use Rattle.gm_front.specs.declared.answer_lines.FrontFault.TheVariants.{Memory, Read, Write}
+use Rattle.gm_front.specs.declared.lines.Line.{Line}
+use Rattle.gm_front.specs.declared.lines.Line.TheVariants.{End, Whole, Long}
 use Rattle.gm_front.specs.declared.outcome.Outcome.{Outcome}
 use Rattle.gm_front.specs.declared.outcome.Outcome.TheVariants.{Nothing, Wrong, Answered, Failed}
-use Rattle.gm_front.specs.Asking as asking
-use Rattle.gm_front.specs.Asking.{Asked, asked}
+use Rattle.gm_front.specs.Request as asking
+use Rattle.gm_front.specs.Request.{Asked, asked}
 use Rattle.gm_front.specs.Input.{IsLine, line_at, lines_of}
 use Rattle.gm_front.specs.Batch.{Replies, Answers, AppendsFront, AreLines, AreFirst, Tells, AreAnswered, Ends, Breaks, Stops}
 use Rattle.gm_front.specs.Outcomes.{ComesTo, asked_at, is_refused, progress_after, text_of}
-use Rattle.gm_front.proofs.Taking.{lines_first}
+use Rattle.gm_front.proofs.TakenLines.{lines_first}
 
 or_false : (b : Bool) → (b || false) ≡ b
 or_false true = refl

@@ -5,22 +5,22 @@ use Rattle.sqlite_trees.specs.declared.store.Store.{Ghosts}
 use Rattle.sqlite.specs.Held.{Held}
 use Rattle.gm_metadata.specs.Images.{Image, Sizes}
 use Rattle.gm_shelf.specs.Disk.{View}
-use Rattle.gm_state.specs.declared.command.Command.{Command}
+use Rattle.gm_commands.specs.declared.command.Command.{Command}
 use Rattle.gm_state.specs.World.{World}
-use Rattle.gm_rules.specs.Run as run
+use Rattle.gm_rules.specs.AbstractCalls as run
 use Rattle.gm_registry.specs.Replies.{AreWrittenUnder}
 use Rattle.gm_bench.specs.declared.fault.BenchFault.{BenchFault}
 use Rattle.gm_bench.specs.declared.fault.BenchFault.TheVariants.{Disk, Unreadable}
-use Rattle.gm_bench.specs.declared.progress.Progress.{Progress}
-use Rattle.gm_bench.specs.declared.progress.Progress.TheVariants.{Failed}
+use Rattle.gm_bench.specs.declared.phase.Progress.{Progress}
+use Rattle.gm_bench.specs.declared.phase.Progress.TheVariants.{Failed}
 use Rattle.gm_bench.specs.Recovering.{IsAt}
 use Rattle.gm_bench.specs.Owed.{LeavesRun}
-use Rattle.gm_front.specs.declared.batching.BatchEnd.{BatchEnd}
-use Rattle.gm_front.specs.declared.batching.BatchEnd.TheVariants.{Ended, Stopped}
-use Rattle.gm_front.specs.declared.batching.FrontFault.{FrontFault}
-use Rattle.gm_front.specs.declared.batching.FrontFault.TheVariants.{Memory, Read, Write}
+use Rattle.gm_front.specs.declared.answer_lines.BatchEnd.{BatchEnd}
+use Rattle.gm_front.specs.declared.answer_lines.BatchEnd.TheVariants.{Ended, Stopped}
+use Rattle.gm_front.specs.declared.answer_lines.FrontFault.{FrontFault}
+use Rattle.gm_front.specs.declared.answer_lines.FrontFault.TheVariants.{Memory, Read, Write}
 use Rattle.gm_front.specs.Input.{lines_of}
-use Rattle.gm_front.specs.Asking.{Asked, Nothing, Wrong, Call, asked, answer_line, fault_line, is_refusal, refusal_line}
+use Rattle.gm_front.specs.Request.{Asked, Nothing, Wrong, Call, asked, answer_line, fault_line, is_refusal, refusal_line}
 
 -- One line takes u to w: what it is told, and whether it is refused.
 abbrev pub Replies : World → Asked → World → List ℕ → Bool → Type 0

@@ -3,8 +3,8 @@ use Rattle.std.specs.Prelude.{◌≡◌, ◌<◌, ◌≤◌, ◌==◌, not, ℕ,
 use Rattle.std.specs.List.{list_all}
 use Rattle.std.specs.Io.BufRead.{drop_through}
 use Rattle.std.specs.Io.KnownBytes.{Consumes}
-use Rattle.gm_front.specs.declared.input.Line.{Line}
-use Rattle.gm_front.specs.declared.input.Line.TheVariants.{End, Whole, Long}
+use Rattle.gm_front.specs.declared.lines.Line.{Line}
+use Rattle.gm_front.specs.declared.lines.Line.TheVariants.{End, Whole, Long}
 
 -- the bytes before the first line feed
 abbrev pub line_at : List ℕ → List ℕ

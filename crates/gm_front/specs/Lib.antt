@@ -1,4 +1,4 @@
-pub mod Asking
 pub mod Batch
 pub mod Input
 pub mod Outcomes
+pub mod Request

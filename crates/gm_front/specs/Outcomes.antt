@@ -4,23 +4,23 @@ use Rattle.sqlite_trees.specs.declared.store.Store.{Ghosts}
 use Rattle.sqlite.specs.Held.{Held}
 use Rattle.gm_metadata.specs.Images.{Image, Sizes}
 use Rattle.gm_shelf.specs.Disk.{View}
-use Rattle.gm_state.specs.declared.command.Command.{Command}
+use Rattle.gm_commands.specs.declared.command.Command.{Command}
 use Rattle.gm_state.specs.World.{World}
 use Rattle.gm_registry.specs.Replies.{AreWrittenUnder}
 use Rattle.gm_bench.specs.declared.fault.BenchFault.{BenchFault}
 use Rattle.gm_bench.specs.declared.fault.BenchFault.TheVariants.{Disk, Unreadable}
-use Rattle.gm_bench.specs.declared.progress.Progress.{Progress}
-use Rattle.gm_bench.specs.declared.progress.Progress.TheVariants.{Failed}
+use Rattle.gm_bench.specs.declared.phase.Progress.{Progress}
+use Rattle.gm_bench.specs.declared.phase.Progress.TheVariants.{Failed}
 use Rattle.gm_bench.specs.Recovering.{IsAt}
 use Rattle.gm_bench.specs.Owed.{LeavesRun}
 use Rattle.gm_bench.specs.Running.{IsRun, answer_of}
-use Rattle.gm_front.specs.declared.asking.Request.{Request}
-use Rattle.gm_front.specs.declared.asking.Request.TheVariants as request
-use Rattle.gm_front.specs.declared.input.Line.{Line}
-use Rattle.gm_front.specs.declared.input.Line.TheVariants.{End, Whole, Long}
+use Rattle.gm_front.specs.declared.request.Request.{Request}
+use Rattle.gm_front.specs.declared.request.Request.TheVariants as request
+use Rattle.gm_front.specs.declared.lines.Line.{Line}
+use Rattle.gm_front.specs.declared.lines.Line.TheVariants.{End, Whole, Long}
 use Rattle.gm_front.specs.declared.outcome.Outcome.{Outcome}
 use Rattle.gm_front.specs.declared.outcome.Outcome.TheVariants as outcome
-use Rattle.gm_front.specs.Asking.{Asked, Nothing, Wrong, Call, asked, answer_line, fault_line, is_refusal, refusal_line}
+use Rattle.gm_front.specs.Request.{Asked, Nothing, Wrong, Call, asked, answer_line, fault_line, is_refusal, refusal_line}
 
 -- what a request asks
 abbrev pub asked_of : Request → Asked

@@ -1,14 +1,15 @@
 //! The batch: the lines of an input, each asked of a bench and answered before the next is read.
 //!
-//! `input.rt` takes the lines, `asking.rt` says what each asks, `outcome.rt` what it comes to and how that is told, and
-//! `batching.rt` answers them in turn; `specs/Batch.antt` says what all of it comes to. The words of commands are those of
-//! `gm_words`.
+//! `lines.rt` takes the lines, `request.rt` says what each asks, `outcome.rt` what it comes to and how that is told, and
+//! `answer_lines.rt` answers them in turn; `specs/Batch.antt` says what all of it comes to. The words of commands and
+//! the texts of mirrors are those of `gm_words`, and can be taken from here.
 #![tactic(auto)]
 
-mod asking;
-mod batching;
-mod input;
+mod answer_lines;
+mod lines;
 mod outcome;
+mod request;
 
-pub use batching::{BatchEnd, FrontFault, batch};
-pub use input::{Line, next_line};
+pub use answer_lines::{BatchEnd, FrontFault, batch};
+pub use gm_words::{WordsFault, dump_text, list_text, read_words, status_text};
+pub use lines::{Line, next_line};

@@ -5,14 +5,14 @@ ghost use Rattle.std.specs.String.{string_bytes};
 ghost use Rattle.gm_metadata.specs.Images.{Image};
 ghost use Rattle.gm_state.specs.World.{World};
 ghost use Rattle.gm_registry.specs.Registry.{DiskKept, WasClean};
-ghost use Rattle.gm_bench.specs.declared.progress.Progress.TheVariants.{Failed};
-ghost use Rattle.gm_bench.specs.Progressing.{TakesCommands};
+ghost use Rattle.gm_bench.specs.declared.phase.Progress.TheVariants.{Failed};
+ghost use Rattle.gm_bench.specs.Phases.{TakesCommands};
 ghost use Rattle.gm_bench.specs.Recovering.{IsAt};
 ghost use Rattle.gm_bench.specs.Running.{answer_of};
-ghost use Rattle.gm_front.specs.Asking.{done_line, numbered, shown_answer};
+ghost use Rattle.gm_front.specs.Request.{done_line, numbered, shown_answer};
 ghost use Rattle.gm_front.specs.Outcomes.{ComesTo, asked_of, is_refused, progress_after, text_of};
 
-use crate::asking::{Request, shown};
+use crate::request::{Request, shown};
 use gm_bench::{Answer, Bench, BenchFault};
 use gm_shelf::Shelf;
 use gm_state::Reply;

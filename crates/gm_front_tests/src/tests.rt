@@ -9,10 +9,10 @@ mod writers;
 
 use gm_bench::{Bench, BenchFault, OpenFault, Phase};
 use gm_front::{BatchEnd, FrontFault, batch};
-use gm_metadata::Label;
-use gm_shelf::{MemShelf, Shelf};
+use gm_shelf::Shelf;
+use gm_test_media::must;
 use gm_words::status_text;
-use sqlite::{Alter, Connection, MemStore};
+use sqlite::{Alter, Connection};
 use std::alloc::Global;
 use std::io::{Read, Write};
 use std::test::Fail;
@@ -33,46 +33,6 @@ const OF_ONE: &str = "gm0             COMPLETE 1/1\n  a.img           ACTIVE\n";
 const DONE: BatchEnd = BatchEnd::Ended { refused: false };
 
 const REFUSED: BatchEnd = BatchEnd::Ended { refused: true };
-
-fn must(holds: bool, what: &'static str) -> Result<(), Fail> {
-    if holds { Ok(()) } else { Err(what)? }
-}
-
-fn label(text: &str) -> Result<Label, Fail> {
-    Ok(Label::new(text).ok_or("no label")?)
-}
-
-// So many sectors of data, each with its number from 1 on in each byte, and a last one, which says this.
-fn image(alloc: Global, data_sectors: u8, last: [u8; 512]) -> Result<Vec<[u8; 512]>, Fail> {
-    let mut sectors = Vec::new(alloc);
-    for place in 0..data_sectors {
-        sectors.push([place + 1; 512])?;
-    }
-    sectors.push(last)?;
-    Ok(sectors)
-}
-
-fn add(shelf: &mut MemShelf, name: &str, sectors: Vec<[u8; 512]>) -> Result<(), Fail> {
-    let provider = label(name)?;
-    if shelf.sectors(provider).is_some() {
-        return Err("the image is there")?;
-    }
-    shelf.add(provider, sectors)?;
-    Ok(())
-}
-
-// a.img, b.img and c.img, of four sectors each, which carry nothing.
-fn shelf(alloc: Global) -> Result<MemShelf, Fail> {
-    let mut shelf = MemShelf::new(alloc);
-    for name in ["a.img", "b.img", "c.img"] {
-        add(&mut shelf, name, image(alloc, 3, [0; 512])?)?;
-    }
-    Ok(shelf)
-}
-
-fn memory(alloc: Global) -> Result<Connection<MemStore>, Fail> {
-    Ok(Connection::open_in_memory(alloc)?)
-}
 
 // The tests go over any store and shelf, and these have no clause, so that a proof carries neither what those in memory
 // are made of nor the state of each call.
@@ -161,22 +121,4 @@ fn shows<S: Alter, H: Shelf>(
 ) -> Result<(), Fail> {
     let text = try_status(alloc, bench)??;
     must(text.as_str() == status, status)
-}
-
-// One sector of a shelf that no bench holds.
-fn sector<H: Shelf>(shelf: &mut H, name: &str, place: u64) -> Result<[u8; 512], Fail> {
-    let mut sector = [0; 512];
-    shelf.read(label(name)?, place, &mut sector)?;
-    Ok(sector)
-}
-
-// Whether two shelves of a.img, b.img and c.img hold the same.
-fn must_be_alike<H: Shelf>(first: &mut H, second: &mut H) -> Result<(), Fail> {
-    for name in ["a.img", "b.img", "c.img"] {
-        for place in 0u64..4 {
-            let held = sector(first, name, place)?;
-            must(held == sector(second, name, place)?, "another sector")?;
-        }
-    }
-    Ok(())
 }

@@ -14,7 +14,8 @@ pub(crate) const MAGIC: [u8; 16] = *b"GEOM::MIRROR\0\0\0\0";
 
 pub(crate) const VERSION: u32 = 4;
 
-pub(crate) const SECTOR_SIZE: u32 = 512;
+/// The bytes of a sector.
+pub const SECTOR_SIZE: u32 = 512;
 
 // A sector that is being written, from its beginning. What isn't written yet is zero.
 #[derive(Drop)]

@@ -1,12 +1,13 @@
 //! The metadata sector of a mirror's component, as `g_mirror.h` lays it out: what it says, and how it is written.
 //!
 //! Begin with `metadata.rt`, the record; then `encoding.rt` and `decoding.rt`, which write and read it exactly.
-//! `label.rt` has the names of mirrors and providers. Nothing here takes memory.
+//! `label.rt` has the names of mirrors and providers, and `equality.rt` compares two sectors. Nothing here takes memory.
 #![tactic(auto)]
 
 mod balance;
 mod decoding;
 mod encoding;
+mod equality;
 mod fault;
 mod flags;
 mod label;
@@ -15,7 +16,8 @@ mod metadata;
 
 pub use balance::Balance;
 pub use decoding::{carries_metadata, decode};
-pub use encoding::encode;
+pub use encoding::{SECTOR_SIZE, encode};
+pub use equality::same;
 pub use fault::DecodeFault;
 pub use flags::{DiskFlags, MirrorFlags};
 pub use label::{Label, is_label_byte};

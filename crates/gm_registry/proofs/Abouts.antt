@@ -12,14 +12,14 @@ use Rattle.sqlite_rules.proofs.RuleLemmas.{keeps_at}
 use Rattle.sqlite.specs.Tree.{Trees}
 use Rattle.sqlite.proofs.Callers.{one_permutation}
 use Rattle.sqlite_rules.specs.Lists.{Has as Stands}
-use Rattle.gm_registry.specs.Schema.{about, registry_schema}
-use Rattle.gm_registry.specs.Rows.{about_values}
-use Rattle.gm_registry.specs.Values.{columns_at, two}
-use Rattle.gm_registry.specs.Queries.{IsShown}
-use Rattle.gm_registry.specs.Says.{IsAbout}
-use Rattle.gm_registry.specs.declared.fetching.Table.TheVariants.{About}
+use Rattle.gm_rows.specs.Schema.{about, registry_schema}
+use Rattle.gm_rows.specs.Rows.{about_values}
+use Rattle.gm_rows.specs.Values.{columns_at, two}
+use Rattle.gm_rows.specs.Queries.{IsShown}
+use Rattle.gm_rows.specs.Says.{IsAbout}
+use Rattle.gm_rows.specs.declared.fetched.Table.TheVariants.{About}
 use Rattle.gm_registry.specs.Opening.{about_numbers, one_one, IsOfSchema1}
-use Rattle.gm_registry.proofs.Telling.{again_shown}
+use Rattle.gm_rows.proofs.RowsSayTables.{again_shown}
 
 -- the rows that its query shows are the one record exactly where it is
 pub about_told : (db : Trees) (rows : List Row) → IsShown db About rows → IsAbout rows → IsOfSchema1 db

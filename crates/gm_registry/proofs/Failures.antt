@@ -12,17 +12,17 @@ use Rattle.sqlite_sql.specs.Program.{QueryOverflows}
 use Rattle.sqlite_tied.specs.Compute.{everything}
 use Rattle.sqlite_typing.specs.Types.{accepts_program}
 use Rattle.sqlite_rows.proofs.Failing.{is_all_of, IsReadFault, read_fault}
-use Rattle.gm_registry.specs.Faults.{fault_of}
-use Rattle.gm_registry.specs.Queries.{query_text, tree_of}
-use Rattle.gm_registry.specs.Schema.{registry_schema}
-use Rattle.gm_registry.specs.Statements.{find_command_text, last_command_text}
-use Rattle.gm_registry.specs.declared.fault.StoreFault.TheVariants.{Memory, Store}
-use Rattle.gm_registry.specs.declared.fetching.Table.{Table}
-use Rattle.gm_registry.specs.declared.fetching.Table.TheVariants.{About, Mirrors, Components, Intents, Commands}
+use Rattle.gm_rows.specs.Faults.{fault_of}
+use Rattle.gm_rows.specs.Queries.{query_text, tree_of}
+use Rattle.gm_rows.specs.Schema.{registry_schema}
+use Rattle.gm_rows.specs.Statements.{find_command_text, last_command_text}
+use Rattle.gm_rows.specs.declared.fault.StoreFault.TheVariants.{Memory, Store}
+use Rattle.gm_rows.specs.declared.fetched.Table.{Table}
+use Rattle.gm_rows.specs.declared.fetched.Table.TheVariants.{About, Mirrors, Components, Intents, Commands}
 use Rattle.gm_registry.specs.Reads.{IsOurs, HasRead}
-use Rattle.gm_registry.proofs.Asking.{query_of, asked}
-use Rattle.gm_registry.proofs.Passing.{ours_still}
-use Rattle.gm_registry.proofs.Meaning.{find_query, find_is, last_query, last_is}
+use Rattle.gm_registry.proofs.WholeQueries.{query_of, asked}
+use Rattle.gm_registry.proofs.ReadsInTurn.{ours_still}
+use Rattle.gm_registry.proofs.TextMeanings.{find_query, find_is, last_query, last_is}
 
 find_whole : is_all_of find_command_text 1 (understood registry_schema find_command_text) ≡ true
 unfolding understood everything

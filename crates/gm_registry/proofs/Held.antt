@@ -19,21 +19,21 @@ use Rattle.sqlite_trees.specs.declared.store.Store.{Ghosts}
 use Rattle.sqlite_value.specs.declared.value.Value.{Value}
 use Rattle.gm_state.specs.Records.{Records}
 use Rattle.gm_state.specs.Rows.{Tables, CommandRow, mirror_row, component_row, intent_rows}
-use Rattle.gm_state.specs.Words.{Has}
-use Rattle.gm_state.specs.declared.command.Intent.{Intent}
-use Rattle.gm_registry.specs.Queries.{shown_places}
-use Rattle.gm_registry.specs.Reading.{AreTablesOf, IsInRange}
+use Rattle.gm_lists.specs.Ordered.{Has}
+use Rattle.gm_state.specs.declared.intents.Intent.{Intent}
+use Rattle.gm_rows.specs.Queries.{shown_places}
+use Rattle.gm_rows.specs.ReadableTables.{AreTablesOf, IsInRange}
 use Rattle.gm_registry.specs.Registry as of
-use Rattle.gm_registry.specs.Rows.{about_values, mirror_values, component_values, intent_values, command_values}
-use Rattle.gm_registry.specs.Says.{mirror_shown, component_shown, number_value, TablesSay}
-use Rattle.gm_registry.specs.Schema.{registry_schema, mirrors, components, intents, commands}
-use Rattle.gm_registry.specs.Tables.{HasRows, AreNumbered, HasRisingRowids, numbers_of}
-use Rattle.gm_registry.specs.Values.{columns_at, shown_intent}
-use Rattle.gm_registry.specs.declared.fetching.Table.TheVariants.{Mirrors, Components, Intents}
-use Rattle.gm_registry.proofs.Counted.{count_from}
-use Rattle.gm_registry.proofs.Listed.{has_from, stands_from, stands_permuted}
-use Rattle.gm_registry.proofs.Telling.{text_in, number_in, rows_numbered}
-use Rattle.gm_registry.proofs.Whole.{its_columns}
+use Rattle.gm_rows.specs.Rows.{about_values, mirror_values, component_values, intent_values, command_values}
+use Rattle.gm_rows.specs.Says.{mirror_shown, component_shown, number_value, TablesSay}
+use Rattle.gm_rows.specs.Schema.{registry_schema, mirrors, components, intents, commands}
+use Rattle.gm_rows.specs.Tables.{HasRows, AreNumbered, HasRisingRowids, numbers_of}
+use Rattle.gm_rows.specs.Values.{columns_at, shown_intent}
+use Rattle.gm_rows.specs.declared.fetched.Table.TheVariants.{Mirrors, Components, Intents}
+use Rattle.gm_rows.proofs.CountedCommands.{count_from}
+use Rattle.gm_rows.proofs.ListMembers.{has_from, stands_from, stands_permuted}
+use Rattle.gm_rows.proofs.RowsSayTables.{text_in, number_in, rows_numbered}
+use Rattle.gm_rows.proofs.WholeRows.{its_columns}
 use Rattle.gm_registry.proofs.Stored.{with_null, intent_whole, command_in, text_is, number_is, at_most, five_picked, typed, present, whole_row, nine_whole}
 
 map_agree : {A B : Type 0} (f g : A → B) (xs : List A) → ((x : A) → Stands xs x → f x ≡ g x) → map f xs ≡ map g xs

@@ -16,13 +16,13 @@ use Rattle.sqlite_rows.proofs.Bags.{has_key, key_place}
 use Rattle.sqlite_rows.proofs.Keyed.{mapped_from, has_mapped}
 use Rattle.sqlite_rows.proofs.Unique.{one_of_a_key}
 use Rattle.sqlite_rows.proofs.ValueLemmas.{texts_equal}
-use Rattle.gm_state.proofs.Order.{same_from}
+use Rattle.gm_lists.proofs.Order.{same_from}
 use Rattle.gm_state.specs.Rows.{Tables, CommandRow}
-use Rattle.gm_registry.specs.Schema.{registry_schema, commands, commands_by_key}
-use Rattle.gm_registry.specs.Rows.{command_values}
-use Rattle.gm_registry.specs.Tables.{Holds}
+use Rattle.gm_rows.specs.Schema.{registry_schema, commands, commands_by_key}
+use Rattle.gm_rows.specs.Rows.{command_values}
+use Rattle.gm_rows.specs.Tables.{Holds}
 use Rattle.gm_registry.specs.Replies.{is_under}
-use Rattle.gm_registry.proofs.Listed.{stands_permuted}
+use Rattle.gm_rows.proofs.ListMembers.{stands_permuted}
 
 none_left : {A : Type 0} (xs : List A) → length xs ≤ 0 → xs ≡ []
 none_left [] few = refl

@@ -3,19 +3,19 @@ use Rattle.std.proofs.Common.{◌≡◌, ◌∙◌, inl, inr, ℕ, ◌+◌, ◌<
 use Rattle.std.specs.List.Sorted.{IsPermutation}
 use Rattle.std.proofs.lemmas.Bool.{cases_Bool, ltb-false}
 use Rattle.std.proofs.lemmas.List.Sorted.{IsPermutation-trans, IsPermutation-sym}
-use Rattle.gm_state.specs.declared.command.Intent.{Intent}
-use Rattle.gm_state.specs.declared.command.Intent.TheVariants.{Meta, Clear, Copy}
+use Rattle.gm_state.specs.declared.intents.Intent.{Intent}
+use Rattle.gm_state.specs.declared.intents.Intent.TheVariants.{Meta, Clear, Copy}
 use Rattle.gm_state.specs.declared.records.Mirror.{Mirror}
 use Rattle.gm_state.specs.declared.records.Component.{Component}
-use Rattle.gm_state.specs.Words.{Has, Ascends, label_lt}
+use Rattle.gm_lists.specs.Ordered.{Has, Ascends, label_lt}
 use Rattle.gm_state.specs.Records.{Records, IsState, name, provider}
 use Rattle.gm_state.specs.Rows.{Tables, IntentRow, intent_row, intent_rows, mirror_row, component_row}
-use Rattle.gm_state.proofs.Sorting.{permuted_is}
-use Rattle.gm_registry.specs.Reading.{AreTablesOf}
-use Rattle.gm_registry.specs.Values.{shown_intent}
-use Rattle.gm_registry.proofs.Reordering.{same_records}
-use Rattle.gm_registry.proofs.Saying.{one_list as one_said}
-use Rattle.gm_registry.proofs.Telling.{rows_numbered}
+use Rattle.gm_lists.proofs.Sorting.{permuted_is}
+use Rattle.gm_rows.specs.ReadableTables.{AreTablesOf}
+use Rattle.gm_rows.specs.Values.{shown_intent}
+use Rattle.gm_rows.proofs.ReorderedValues.{same_records}
+use Rattle.gm_rows.proofs.RowsSayRecords.{one_list as one_said}
+use Rattle.gm_rows.proofs.RowsSayTables.{rows_numbered}
 
 -- ---- intents
 

@@ -6,19 +6,19 @@ use Rattle.std.proofs.lemmas.List.Folds.{list_any-append, flat_map-map}
 use Rattle.std.proofs.lemmas.List.Sorted.{IsPermutation-refl, IsPermutation-trans, IsPermutation-sym, IsPermutation-cons, IsPermutation-middle, IsPermutation-append_right, list_any-IsPermutation}
 use Rattle.sqlite_trees.proofs.ListLemmas.{IsPermutation-filter, IsPermutation-flat_map}
 use Rattle.gm_metadata.specs.Images.{same_label}
-use Rattle.gm_state.specs.declared.command.Command.{Command}
+use Rattle.gm_commands.specs.declared.command.Command.{Command}
 use Rattle.gm_state.specs.declared.records.Component.{Component}
 use Rattle.gm_state.specs.declared.records.Mirror.{Mirror}
 use Rattle.gm_state.specs.Records.{Records, IsState, IsStateOf, name}
-use Rattle.gm_state.specs.Words.{Has, Ascends, label_lt}
-use Rattle.gm_state.proofs.Finding.{filter_agree, some_any}
-use Rattle.gm_state.proofs.Order.{same_is, lt_irrefl}
-use Rattle.gm_state.proofs.Words.{Ascends-filter}
-use Rattle.gm_rules.specs.Bad.{providers_of}
-use Rattle.gm_rules.specs.Parts.{is_called, is_asked, part_of}
+use Rattle.gm_lists.specs.Ordered.{Has, Ascends, label_lt}
+use Rattle.gm_lists.proofs.Finding.{filter_agree, some_any}
+use Rattle.gm_lists.proofs.Order.{same_is, lt_irrefl}
+use Rattle.gm_lists.proofs.Lists.{Ascends-filter}
+use Rattle.gm_refusals.specs.Applies.{providers_of}
+use Rattle.gm_refusals.specs.PartOf.{is_called, is_asked, part_of}
 use Rattle.gm_registry.specs.Keys.{under}
 use Rattle.gm_registry.specs.Parts.{is_asked_by}
-use Rattle.gm_registry.specs.declared.keyed.Key.TheVariants.{Provider, Mirror as OfMirror}
+use Rattle.gm_registry.specs.declared.components_by_key.Key.TheVariants.{Provider, Mirror as OfMirror}
 
 -- ---- tests of lists
 

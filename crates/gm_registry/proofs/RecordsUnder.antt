@@ -17,20 +17,20 @@ use Rattle.gm_state.specs.declared.records.Component.{Component}
 use Rattle.gm_state.specs.Records.{Records}
 use Rattle.gm_state.specs.Rows.{Tables, ComponentRow, mirror_row, component_row}
 use Rattle.gm_state.proofs.SameRows.{same_mirror, same_component}
-use Rattle.gm_state.proofs.Words.{Has-filter}
+use Rattle.gm_lists.proofs.Lists.{Has-filter}
 use Rattle.gm_registry.specs.Keys.{row_is_under, AreUnder, is_under, under}
-use Rattle.gm_registry.specs.Queries.{IsShown}
-use Rattle.gm_registry.specs.Reading.{AreRecordsOf}
-use Rattle.gm_registry.specs.Rows.{mirror_values, component_values}
-use Rattle.gm_registry.specs.Says.{mirror_shown, component_shown}
-use Rattle.gm_registry.specs.Tables.{HasRows}
-use Rattle.gm_registry.specs.Values.{columns_at, numbered, nine, IsMirrorValue, IsComponentValue}
-use Rattle.gm_registry.specs.declared.fetching.Table.TheVariants.{Mirrors}
-use Rattle.gm_registry.specs.declared.keyed.Key.{Key}
-use Rattle.gm_registry.specs.declared.keyed.Key.TheVariants.{Provider, Mirror as OfMirror}
-use Rattle.gm_registry.proofs.Saying.{one_mirror, one_component, none_said, read_said}
-use Rattle.gm_registry.proofs.Telling.{mirrors_shown, components_shown, said}
-use Rattle.gm_registry.proofs.Typed.{mirror_value, component_value}
+use Rattle.gm_rows.specs.Queries.{IsShown}
+use Rattle.gm_rows.specs.ReadableTables.{AreRecordsOf}
+use Rattle.gm_rows.specs.Rows.{mirror_values, component_values}
+use Rattle.gm_rows.specs.Says.{mirror_shown, component_shown}
+use Rattle.gm_rows.specs.Tables.{HasRows}
+use Rattle.gm_rows.specs.Values.{columns_at, numbered, nine, IsMirrorValue, IsComponentValue}
+use Rattle.gm_rows.specs.declared.fetched.Table.TheVariants.{Mirrors}
+use Rattle.gm_registry.specs.declared.components_by_key.Key.{Key}
+use Rattle.gm_registry.specs.declared.components_by_key.Key.TheVariants.{Provider, Mirror as OfMirror}
+use Rattle.gm_rows.proofs.RowsSayRecords.{one_mirror, one_component, none_said, read_said}
+use Rattle.gm_rows.proofs.RowsSayTables.{mirrors_shown, components_shown, said}
+use Rattle.gm_rows.proofs.TypedRecords.{mirror_value, component_value}
 
 -- ---- the tests of a key
 

@@ -7,7 +7,7 @@ use Rattle.gm_state.specs.Rows.{Tables}
 use Rattle.gm_registry.specs.Reads as reads
 use Rattle.gm_registry.specs.Registry.{DiskKept, IsOpen, HasTables, IsOurs, HasRead, HaveRead, HasFailed, StoreFailed}
 use Rattle.gm_registry.proofs.Failures.{failed_later}
-use Rattle.gm_registry.proofs.Passing.{read_then, failed_then, clean_before, tables_stay}
+use Rattle.gm_registry.proofs.ReadsInTurn.{read_then, failed_then, clean_before, tables_stay}
 
 pub failed_clean : (a b : State) → reads.HasFailed a b → HasCleanDisk b → HasCleanDisk a
 failed_clean a b failed clean = omega (arith, failed.left.clean)

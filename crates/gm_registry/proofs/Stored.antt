@@ -16,14 +16,14 @@ use Rattle.sqlite_schema.specs.declared.schema.Constraint.TheVariants.{Datatype,
 use Rattle.sqlite_sql.specs.Ops.{is_null}
 use Rattle.sqlite_value.specs.declared.value.Value.{Value}
 use Rattle.gm_state.specs.Rows.{CommandRow}
-use Rattle.gm_registry.specs.Queries.{shown_places}
-use Rattle.gm_registry.specs.Says.{IsBetween}
-use Rattle.gm_registry.specs.Schema.{registry_schema, intents}
-use Rattle.gm_registry.specs.Values.{columns_at}
-use Rattle.gm_registry.specs.declared.fetching.Table.TheVariants.{Mirrors, Intents}
-use Rattle.gm_registry.proofs.Counted.{count_from}
-use Rattle.gm_registry.proofs.Telling.{text_in, number_in, nine_picked}
-use Rattle.gm_registry.proofs.Whole.{are_required, as_many, its_columns}
+use Rattle.gm_rows.specs.Queries.{shown_places}
+use Rattle.gm_rows.specs.Says.{IsBetween}
+use Rattle.gm_rows.specs.Schema.{registry_schema, intents}
+use Rattle.gm_rows.specs.Values.{columns_at}
+use Rattle.gm_rows.specs.declared.fetched.Table.TheVariants.{Mirrors, Intents}
+use Rattle.gm_rows.proofs.CountedCommands.{count_from}
+use Rattle.gm_rows.proofs.RowsSayTables.{text_in, number_in, nine_picked}
+use Rattle.gm_rows.proofs.WholeRows.{are_required, as_many, its_columns}
 use Rattle.gm_registry.proofs.Abouts.{only_null}
 
 -- ---- rows of intents

@@ -28,12 +28,12 @@ use Rattle.sqlite.proofs.StateLemmas.{survives_weaker}
 use Rattle.sqlite.proofs.Callers.{command_of}
 use Rattle.sqlite_tied.specs.Compute.{everything}
 use Rattle.sqlite_rows.proofs.Finding.{scan, found, overlaid}
-use Rattle.gm_state.specs.Words.{Has}
-use Rattle.gm_state.proofs.Sorting.{Has-permutation}
-use Rattle.gm_registry.specs.Statements.{load_texts_text}
-use Rattle.gm_registry.specs.Texts.{about_text, mirrors_text, components_text, intents_text, commands_text}
-use Rattle.gm_registry.specs.Schema.{registry_schema}
-use Rattle.gm_registry.specs.Values.{columns_at, two}
+use Rattle.gm_lists.specs.Ordered.{Has}
+use Rattle.gm_lists.proofs.Sorting.{Has-permutation}
+use Rattle.gm_rows.specs.Statements.{load_texts_text}
+use Rattle.gm_rows.specs.Texts.{about_text, mirrors_text, components_text, intents_text, commands_text}
+use Rattle.gm_rows.specs.Schema.{registry_schema}
+use Rattle.gm_rows.specs.Values.{columns_at, two}
 use Rattle.sqlite_rows.specs.Reads.{HasFailedOver}
 use Rattle.gm_registry.specs.Reads.{IsOurSchema, HasFailed}
 use Rattle.gm_registry.specs.Listing.{listed, under_number, our_tables, AllStand, ListsOurs, ShowsList}

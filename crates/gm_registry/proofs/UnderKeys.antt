@@ -20,17 +20,17 @@ use Rattle.sqlite_typing.specs.Types.{accepts_program}
 use Rattle.sqlite_rows.proofs.Failing.{is_all_of, read_fault}
 use Rattle.sqlite_rows.proofs.Finding.{scan, found, overlaid}
 use Rattle.sqlite_rows.proofs.Reading.{read_by, failed_by}
-use Rattle.gm_registry.specs.Faults.{fault_of}
+use Rattle.gm_rows.specs.Faults.{fault_of}
 use Rattle.gm_registry.specs.Keys.{key_text, key_column, AreUnder}
-use Rattle.gm_registry.specs.Queries.{shown_places}
+use Rattle.gm_rows.specs.Queries.{shown_places}
 use Rattle.gm_registry.specs.Reads.{IsOurSchema, IsOurs, HasRead, HasFailed}
-use Rattle.gm_registry.specs.Schema.{registry_schema}
-use Rattle.gm_registry.specs.declared.fault.StoreFault.TheVariants.{Store}
-use Rattle.gm_registry.specs.declared.fetching.Table.TheVariants.{Components}
-use Rattle.gm_registry.specs.declared.keyed.Key.{Key}
-use Rattle.gm_registry.specs.declared.keyed.Key.TheVariants.{Provider, Mirror}
+use Rattle.gm_rows.specs.Schema.{registry_schema}
+use Rattle.gm_rows.specs.declared.fault.StoreFault.TheVariants.{Store}
+use Rattle.gm_rows.specs.declared.fetched.Table.TheVariants.{Components}
+use Rattle.gm_registry.specs.declared.components_by_key.Key.{Key}
+use Rattle.gm_registry.specs.declared.components_by_key.Key.TheVariants.{Provider, Mirror}
 use Rattle.gm_registry.proofs.Failures.{never, told}
-use Rattle.gm_registry.proofs.Meaning.{Asks}
+use Rattle.gm_registry.proofs.TextMeanings.{Asks}
 
 -- the column of the key is the parameter
 abbrev key_term : Key → Term

@@ -7,13 +7,14 @@ use Rattle.std.proofs.lemmas.List.Sorted.{IsPermutation-refl, IsPermutation-tran
 use Rattle.sqlite_trees.proofs.ListLemmas.{filter-map, IsPermutation-filter}
 use Rattle.gm_state.specs.declared.records.Mirror.{Mirror}
 use Rattle.gm_state.specs.declared.records.Component.{Component}
-use Rattle.gm_state.specs.Words.{Has, Ascends, label_lt, put, put_all, without, without_all}
+use Rattle.gm_lists.specs.Ordered.{Has, Ascends, label_lt, put, put_all, without, without_all}
 use Rattle.gm_state.specs.Records.{Records, IsState, name, provider}
 use Rattle.gm_state.specs.Rows.{Tables, MirrorRow, ComponentRow, mirror_row, component_row, intent_rows}
-use Rattle.gm_state.proofs.Order.{same_is, same_from, differ, lt_differ, lt_trans}
-use Rattle.gm_state.proofs.Words.{Ascends-put, Ascends-filter, filter_id}
-use Rattle.gm_rules.specs.Decides.{Changed, put_some, without_some, changed_by}
-use Rattle.gm_registry.specs.Reading.{HoldState}
+use Rattle.gm_lists.proofs.Order.{same_is, same_from, differ, lt_differ, lt_trans}
+use Rattle.gm_lists.proofs.Putting.{Ascends-put, filter_id}
+use Rattle.gm_lists.proofs.Lists.{Ascends-filter}
+use Rattle.gm_changes.specs.Decides.{Changed, put_some, without_some, changed_by}
+use Rattle.gm_rows.specs.ReadableTables.{HoldState}
 use Rattle.gm_registry.specs.Changes.{mirror_key, component_key, without_component, with_component, without_some_mirror, with_some_mirror, without_components, with_components, with_intents, with_records, with_command, command_row, with_change, with_accepted}
 
 -- ---- lists of records and of their rows

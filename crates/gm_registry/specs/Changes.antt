@@ -2,10 +2,10 @@
 use Rattle.std.specs.Prelude.{ℕ, ◌+◌, length, List, [], ◌∷◌, ◌++◌, Option, Some, None}
 use Rattle.gm_state.specs.declared.records.Mirror.{Mirror}
 use Rattle.gm_state.specs.declared.records.Component.{Component}
-use Rattle.gm_state.specs.declared.command.Reply.{Reply}
-use Rattle.gm_state.specs.Words.{without}
+use Rattle.gm_state.specs.declared.intents.Reply.{Reply}
+use Rattle.gm_lists.specs.Ordered.{without}
 use Rattle.gm_state.specs.Rows.{Tables, MirrorRow, ComponentRow, CommandRow, IntentRow, mirror_row, component_row, intent_rows, copied_of, total_of}
-use Rattle.gm_rules.specs.Decides.{Changed}
+use Rattle.gm_changes.specs.Decides.{Changed}
 
 abbrev pub mirror_key : MirrorRow → List ℕ
 mirror_key m = m.name

@@ -8,11 +8,11 @@ use Rattle.sqlite.specs.Tree.{Trees}
 use Rattle.sqlite.specs.declared.types.Value.TheVariants.{Text}
 use Rattle.sqlite_schema.specs.Rules.{equal}
 use Rattle.gm_state.specs.declared.records.Component.{Component}
-use Rattle.gm_registry.specs.Queries.{shown_places}
-use Rattle.gm_registry.specs.Values.{columns_at}
-use Rattle.gm_registry.specs.declared.fetching.Table.TheVariants.{Components}
-use Rattle.gm_registry.specs.declared.keyed.Key.{Key}
-use Rattle.gm_registry.specs.declared.keyed.Key.TheVariants.{Provider, Mirror}
+use Rattle.gm_rows.specs.Queries.{shown_places}
+use Rattle.gm_rows.specs.Values.{columns_at}
+use Rattle.gm_rows.specs.declared.fetched.Table.TheVariants.{Components}
+use Rattle.gm_registry.specs.declared.components_by_key.Key.{Key}
+use Rattle.gm_registry.specs.declared.components_by_key.Key.TheVariants.{Provider, Mirror}
 
 -- what each key asks by
 abbrev pub key_text : Key → List ℕ

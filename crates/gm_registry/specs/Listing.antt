@@ -9,9 +9,9 @@ use Rattle.sqlite.specs.declared.types.Value.TheVariants.{Int, Text}
 use Rattle.sqlite_sql.specs.Ops.{is_null}
 use Rattle.sqlite_rules.specs.Edit.{put_all}
 use Rattle.sqlite_trees.specs.Objects.{catalog_tree}
-use Rattle.gm_state.specs.Words.{Has}
-use Rattle.gm_registry.specs.Statements.{load_texts_text}
-use Rattle.gm_registry.specs.Texts.{about_text, mirrors_text, components_text, intents_text, commands_text}
+use Rattle.gm_lists.specs.Ordered.{Has}
+use Rattle.gm_rows.specs.Statements.{load_texts_text}
+use Rattle.gm_rows.specs.Texts.{about_text, mirrors_text, components_text, intents_text, commands_text}
 
 -- the objects that have a text, as sqlite_schema shows them: each by its number and its text
 abbrev pub listed : Trees → List Row

@@ -7,8 +7,8 @@ use Rattle.sqlite.specs.Effect.{Database}
 use Rattle.sqlite.specs.State.{State}
 use Rattle.sqlite.specs.Schema.{Schema}
 use Rattle.sqlite_catalog.specs.Listing.{IsSound}
-use Rattle.gm_registry.specs.Schema.{no_schema, registry_schema}
-use Rattle.gm_registry.specs.Tables.{IsEmpty}
+use Rattle.gm_rows.specs.Schema.{no_schema, registry_schema}
+use Rattle.gm_rows.specs.Tables.{IsEmpty}
 use Rattle.gm_registry.specs.Listing.{ListsOurs, ShowsList}
 
 -- an open connection outside a transaction, over a store without tables

@@ -3,13 +3,13 @@ use Rattle.std.specs.Prelude.{◌≡◌, ◌||◌, ℕ, Bool, List, length}
 use Rattle.std.specs.List.{list_any}
 use Rattle.std.specs.List.Sorted.{IsPermutation}
 use Rattle.gm_metadata.specs.Images.{same_label}
-use Rattle.gm_state.specs.declared.command.Command.{Command}
+use Rattle.gm_commands.specs.declared.command.Command.{Command}
 use Rattle.gm_state.specs.declared.records.Component.{Component}
 use Rattle.gm_state.specs.declared.records.Mirror.{Mirror}
 use Rattle.gm_state.specs.Records.{Records}
-use Rattle.gm_rules.specs.Parts.{is_called, part_of}
-use Rattle.gm_registry.specs.declared.parts.Asked.{Asked}
-use Rattle.gm_registry.specs.declared.parts.Part.{Part}
+use Rattle.gm_refusals.specs.PartOf.{is_called, part_of}
+use Rattle.gm_registry.specs.declared.part.Asked.{Asked}
+use Rattle.gm_registry.specs.declared.part.Part.{Part}
 
 -- it is the part of the command, after some further mids, of this state, and tells how many mirrors
 -- the state has

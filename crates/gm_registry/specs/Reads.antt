@@ -3,7 +3,7 @@ use Rattle.std.specs.Prelude.{◌≡◌}
 use Rattle.sqlite.specs.Schema.{Schema}
 use Rattle.sqlite.specs.State.{State}
 use Rattle.sqlite_rows.specs.Reads.{HasReadOver, HasFailedOver}
-use Rattle.gm_registry.specs.Schema.{registry_schema}
+use Rattle.gm_rows.specs.Schema.{registry_schema}
 
 abbrev pub IsOurSchema : Schema → Type 0
 IsOurSchema schema = schema ≡ registry_schema

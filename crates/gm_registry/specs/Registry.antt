@@ -9,11 +9,11 @@ use Rattle.sqlite.specs.Held.{Held, state}
 use Rattle.sqlite.specs.State.{HasCleanDisk, Survives}
 use Rattle.sqlite.specs.State as sql
 use Rattle.sqlite_rows.specs.Reads as rows
-use Rattle.gm_state.specs.declared.command.Intent.{Intent}
+use Rattle.gm_state.specs.declared.intents.Intent.{Intent}
 use Rattle.gm_state.specs.Records.{Records}
 use Rattle.gm_state.specs.Rows.{Tables}
-use Rattle.gm_registry.specs.Tables.{Holds, SeesTables, SeesRegistry, IsInside}
-use Rattle.gm_registry.specs.Reading.{AreTablesOf}
+use Rattle.gm_rows.specs.Tables.{Holds, SeesTables, SeesRegistry, IsInside}
+use Rattle.gm_rows.specs.ReadableTables.{AreTablesOf}
 use Rattle.gm_registry.specs.Reads as reads
 
 module _ {S : Type 0} (g : Ghosts S) where

@@ -3,9 +3,9 @@ use Rattle.std.specs.Prelude.{◌≡◌, ◌⊎◌, ◌≤◌, ◌<◌, ◌^◌,
 use Rattle.std.specs.Str.{bytes_eq}
 use Rattle.sqlite.specs.declared.types.Value.TheVariants.{Int, Text}
 use Rattle.sqlite.specs.Order.{Row}
-use Rattle.gm_state.specs.declared.command.Reply.{Reply}
-use Rattle.gm_state.specs.declared.command.Reply.TheVariants.{Plain, Copied}
-use Rattle.gm_state.specs.Words.{Has}
+use Rattle.gm_state.specs.declared.intents.Reply.{Reply}
+use Rattle.gm_state.specs.declared.intents.Reply.TheVariants.{Plain, Copied}
+use Rattle.gm_lists.specs.Ordered.{Has}
 use Rattle.gm_state.specs.Rows.{Tables, CommandRow}
 
 -- the reply that the two numbers of a row say

@@ -7,9 +7,6 @@ ghost use Rattle.gm_registry.specs.Registry.{LeavesNothingNew, KeepsCommit, Make
 use gm_state::Reply;
 use sqlite::{Alter, Error, Transaction, params};
 
-/// As many commands may be accepted.
-pub(crate) const MAX_COMMANDS: u32 = 100_000;
-
 /// Adds the row of a command under its key.
 fn put_row<S: Alter>(
     tx: &mut Transaction<'_, S>,

@@ -5,8 +5,8 @@ ghost use Rattle.gm_state.specs.Rows.{component_row};
 ghost use Rattle.gm_registry.specs.Changes.{with_component, without_component, with_components, without_components};
 ghost use Rattle.gm_registry.specs.Registry.{LeavesNothingNew, KeepsCommit, MakesInside};
 
-use crate::columns::{bytes_in, disk_number, truth_number};
 use gm_metadata::Label;
+use gm_rows::{bytes_in, disk_number, truth_number};
 use gm_state::Component;
 use sqlite::{Alter, Error, Transaction, params};
 

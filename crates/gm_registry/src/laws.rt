@@ -2,15 +2,15 @@
 
 ghost use Rattle.std.specs.Prelude.{◌≡◌, ◌∷◌, ◌++◌, ◌+◌, ℕ, List, length};
 ghost use Rattle.sqlite.specs.Held.{Held};
-ghost use Rattle.gm_state.specs.declared.command.Intent.{Intent};
+ghost use Rattle.gm_state.specs.declared.intents.Intent.{Intent};
 ghost use Rattle.gm_state.specs.Records.{Records, IsState};
 ghost use Rattle.gm_state.specs.Rows.{Tables, intent_rows};
-ghost use Rattle.gm_rules.specs.Decides.{Changed, changed_by};
+ghost use Rattle.gm_changes.specs.Decides.{Changed, changed_by};
 ghost use Rattle.gm_registry.specs.Changes.{command_row, with_accepted};
-ghost use Rattle.gm_registry.specs.Reading.{AreTablesOf, HoldState};
+ghost use Rattle.gm_rows.specs.ReadableTables.{AreTablesOf, HoldState};
 ghost use Rattle.gm_registry.specs.Registry.{HasTables, HasTablesOf, HasSaved, IsRegistry, IsUnbroken, seen};
-ghost use Rattle.gm_registry.specs.Says.{TablesSay};
-ghost use Rattle.gm_registry.specs.Tables.{HasRisingRowids};
+ghost use Rattle.gm_rows.specs.Says.{TablesSay};
+ghost use Rattle.gm_rows.specs.Tables.{HasRisingRowids};
 
 use gm_state::one_row;
 use sqlite::Alter;

@@ -2,34 +2,25 @@
 //! that were accepted.
 //!
 //! Begin with `registry.rt`, the calls, and `specs/Registry.antt`, the words that their contracts say; then
-//! `specs/Tables.antt`, what a store holds; `specs/Changes.antt`, what a command makes of it; and
-//! `specs/Reading.antt`, which tables are readable.
+//! `specs/Changes.antt`, what a command makes of the tables. What the rows of a table say stands in `gm_rows`.
 #![tactic(auto)]
 
-mod accepting;
-mod cells;
-mod columns;
+mod accept;
 mod commands;
 mod components;
-mod creating;
-mod fault;
-mod fetching;
+mod components_by_key;
+mod create;
 mod intents;
-mod judging;
-mod keyed;
 mod laws;
-mod loading;
+mod load;
 mod mirrors;
-mod opening;
-mod parts;
-mod readable;
-mod reading;
+mod open_store;
+mod part;
 mod registry;
 mod replies;
-mod rows;
-mod schema;
+mod whole_tables;
 
-pub use fault::StoreFault;
+pub use gm_rows::StoreFault;
 pub use laws::{change_holds, one_reading, tables_are_saved};
-pub use parts::Part;
+pub use part::Part;
 pub use registry::{OpenFault, Registry};

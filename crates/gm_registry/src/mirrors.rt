@@ -5,8 +5,8 @@ ghost use Rattle.gm_state.specs.Rows.{mirror_row};
 ghost use Rattle.gm_registry.specs.Changes.{with_mirror, without_mirror};
 ghost use Rattle.gm_registry.specs.Registry.{LeavesNothingNew, KeepsCommit, MakesInside};
 
-use crate::columns::{balance_number, bytes_in, mirror_number};
 use gm_metadata::Label;
+use gm_rows::{balance_number, bytes_in, mirror_number};
 use gm_state::Mirror;
 use sqlite::{Alter, Error, Transaction, params};
 

@@ -3,21 +3,21 @@
 ghost use Rattle.std.specs.Prelude.{OnOk, ◌≡◌, ◌≢◌, ◌≤◌, ◌+◌, false, IfOk, IfErr, MatchOption, MatchResult, string_bytes};
 ghost use Rattle.gm_state.specs.Rows.{Tables};
 ghost use Rattle.gm_state.specs.World.{ReplyFits};
-ghost use Rattle.gm_registry.specs.Tables.{Holds, IsEmpty, no_tables};
+ghost use Rattle.gm_rows.specs.Tables.{Holds, IsEmpty, no_tables};
 ghost use Rattle.sqlite_catalog.specs.Listing.{IsSound};
-ghost use Rattle.gm_registry.specs.Schema.{registry_schema};
+ghost use Rattle.gm_rows.specs.Schema.{registry_schema};
 ghost use Rattle.gm_registry.specs.Opening.{IsOpenable, IsForeign};
 ghost use Rattle.gm_registry.specs.Changes.{with_accepted, settled};
 ghost use Rattle.gm_registry.specs.Replies.{IsKept, IsFree, AreWrittenUnder, count_of};
 ghost use Rattle.gm_registry.specs.Registry.{DiskKept, IsOpen, stored, HasTables, IsRegistry, WasClean, MayLeave, LeavesNothingNew, LeavesAlone, StoreFailed, HasSaved, Reads, Writes};
-ghost use Rattle.gm_registry.specs.Faults.{OnUnreadable, OnStore};
+ghost use Rattle.gm_rows.specs.Faults.{OnUnreadable, OnStore};
 
-use crate::accepting::accept_on;
-use crate::fault::StoreFault;
+use crate::accept::accept_on;
 use crate::intents::settle_on;
-use crate::opening::prepare;
+use crate::open_store::prepare;
 use crate::replies::{accepted_on, reply_on};
-use gm_rules::Change;
+use gm_changes::Change;
+use gm_rows::StoreFault;
 use gm_state::Reply;
 use sqlite::{Alter, Connection};
 use std::marker::Model;

@@ -6,10 +6,9 @@ ghost use Rattle.sqlite.specs.declared.types.Value.TheVariants.{Int, Text};
 ghost use Rattle.gm_state.specs.Rows.{Tables, CommandRow};
 ghost use Rattle.gm_registry.specs.Replies.{Fits, AreWrittenUnder, reply_in, is_under, reply_values, IsKept, IsFree, IsLastOf, count_of};
 ghost use Rattle.gm_registry.specs.Registry.{DiskKept, HasTables, StoreFailed, HasSaved, Reads};
-ghost use Rattle.gm_registry.specs.Faults.{OnUnreadable, OnStore, OnOther};
+ghost use Rattle.gm_rows.specs.Faults.{OnUnreadable, OnStore, OnOther};
 
-use crate::cells::{text_at, u32_at};
-use crate::fault::StoreFault;
+use gm_rows::{StoreFault, text_at, u32_at};
 use gm_state::Reply;
 use sqlite::{Alter, Connection, Error, Row, params};
 

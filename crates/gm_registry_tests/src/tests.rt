@@ -7,13 +7,15 @@ mod stops;
 mod stored;
 mod untouched;
 
-use gm_metadata::{Balance, Label, MirrorFlags};
-use gm_registry::{Registry, StoreFault};
-use gm_rules::{Change, Fact, Facts, decide};
-use gm_state::{
-    BalanceWord, Command, Component, Disk, Mirror, NewComponent, NewMirror, Reply, Slice, State,
-};
-use sqlite::{Alter, Connection, Error, MemStore};
+use gm_changes::{Change, decide};
+use gm_commands::{BalanceWord, Command, NewComponent, NewMirror, Slice};
+use gm_metadata::{Balance, MirrorFlags};
+use gm_refusals::{Fact, Facts};
+use gm_registry::Registry;
+use gm_rows::StoreFault;
+use gm_state::{Component, Disk, Mirror, Reply, State};
+use gm_test_media::{label, memory, must};
+use sqlite::{Alter, Connection, Error};
 use std::alloc::Global;
 use std::test::Fail;
 
@@ -27,10 +29,6 @@ const MIRRORS: &str =
     "CREATE TABLE mirrors(name TEXT PRIMARY KEY NOT NULL, mid INTEGER NOT NULL UNIQUE,
   total INTEGER NOT NULL, genid INTEGER NOT NULL, syncid INTEGER NOT NULL, slice INTEGER NOT NULL,
   balance INTEGER NOT NULL, mediasize INTEGER NOT NULL, mflags INTEGER NOT NULL) STRICT";
-
-fn label(text: &str) -> Result<Label, Fail> {
-    Ok(Label::new(text).ok_or("no label")?)
-}
 
 fn mirror(all: u8) -> Result<Mirror, Fail> {
     Ok(Mirror {
@@ -177,16 +175,6 @@ fn run<S: Alter>(store: &mut Connection<S>, sql: &str) -> Result<usize, Error> {
     store.execute(sql, &[])
 }
 
-fn memory(alloc: Global) -> Result<Connection<MemStore>, Fail> {
-    Ok(Connection::open_in_memory(alloc)?)
-}
-
-// The tests below go over any store, so that their proofs don't carry what one in memory is made of.
-fn must(holds: bool, what: &'static str) -> Result<(), Fail> {
-    if holds { Ok(()) } else { Err(what)? }
-}
-
-// Whether so many rows are counted.
 fn must_count<S: Alter>(
     store: &mut Connection<S>,
     rows: i64,

@@ -4,27 +4,31 @@ use Rattle.std.specs.List.{list_any, list_all}
 use Rattle.std.proofs.lemmas.Bool.{ne_eqb, not-false, or_parts}
 use Rattle.gm_metadata.specs.Images.{same_label}
 use Rattle.gm_metadata.specs.Sector.{carries}
-use Rattle.gm_state.specs.declared.command.Intent.{Intent}
-use Rattle.gm_state.specs.declared.command.Intent.TheVariants.{Meta, Clear}
+use Rattle.gm_state.specs.declared.intents.Intent.{Intent}
+use Rattle.gm_state.specs.declared.intents.Intent.TheVariants.{Meta, Clear}
 use Rattle.gm_state.specs.declared.records.Mirror.{Mirror}
 use Rattle.gm_state.specs.declared.records.Component.{Component}
 use Rattle.gm_state.specs.declared.records.Disk.{Disk}
 use Rattle.gm_state.specs.declared.records.Disk.TheVariants.{InSync, Inactive, Copying}
 use Rattle.gm_state.specs.Records.{Records, IsState, members, provider}
 use Rattle.gm_state.specs.Lookups.{mirror_of, component_of, is_active, is_inactive}
-use Rattle.gm_state.specs.Words.{Has}
+use Rattle.gm_lists.specs.Ordered.{Has}
 use Rattle.gm_state.specs.World.{World, present}
-use Rattle.gm_rules.specs.Seen.{has_size}
-use Rattle.gm_rules.specs.Bad.{is_on_any}
-use Rattle.gm_rules.specs.After.{metas, clears_of}
-use Rattle.gm_rules.specs.Facts.{last_carries}
-use Rattle.gm_rules.specs.Worlds.{last_of}
-use Rattle.gm_state.proofs.Order.{same_is, same_from}
-use Rattle.gm_state.proofs.Words.{Has-filter, filter-Has, one}
-use Rattle.gm_state.proofs.Finding.{none_any, any_one, some_any, some_other, find_one, found, found_none, not_both, option_cases}
-use Rattle.gm_rules.proofs.Good.{there_from, named}
-use Rattle.gm_rules.proofs.Turning.{IsOne}
-use Rattle.gm_rules.proofs.Planned.{IsPlain, ArePlain}
+use Rattle.gm_refusals.specs.Seen.{has_size}
+use Rattle.gm_refusals.specs.Applies.{is_on_any}
+use Rattle.gm_changes.specs.After.{metas, clears_of}
+use Rattle.gm_refusals.specs.Facts.{last_carries}
+use Rattle.gm_refusals.specs.WorldFacts.{last_of}
+use Rattle.gm_lists.proofs.Order.{same_is, same_from}
+use Rattle.gm_lists.proofs.Putting.{one}
+use Rattle.gm_lists.proofs.Lists.{Has-filter, filter-Has}
+use Rattle.gm_lists.proofs.Finding.{none_any, any_one, some_any, some_other, find_one, found, found_none, not_both, option_cases}
+use Rattle.gm_refusals.proofs.NothingApplies.{there_from}
+use Rattle.gm_state.proofs.FoundRecords.{named}
+use Rattle.gm_rules.proofs.StepOfMirror.{IsOne}
+use Rattle.gm_rules.proofs.PlanOfStep.{IsPlain, ArePlain}
+use Rattle.gm_state.proofs.FoundRecords.{active_is}
+use Rattle.gm_refusals.proofs.NothingApplies.{on_one}
 
 has_size_is : (o : Option ℕ) (n : ℕ) → not (has_size o n) ≡ false → o ≡ Some n
 has_size_is None n e = absurd (let h : ⊥ = cc in h)
@@ -74,39 +78,6 @@ pub record CanTouch (u : World) (m : Mirror) (p : List ℕ) : Type 0 where
   pub there : (k : Component) → Has (members u.state.components m.name) k → present u k.provider ≡ Some k.sectors
   pub member : (k : Component) × Has (members u.state.components m.name) k × (k.provider ≡ p)
   pub active : (k : Component) × Has (members u.state.components m.name) k × (k.disk ≡ InSync) × (k.provider ≢ p)
-
--- one of these components is on p
-pub is_member : (ks : List Component) (p : List ℕ) → list_any (λ q. not (list_any (λ k. same_label k.provider q) ks)) (p ∷ []) ≡ false → (k : Component) × Has ks k × (k.provider ≡ p)
-is_member ks p e =
-    let k = some_any (λ (k : Component). same_label k.provider p) ks (not-false _ (any_one (λ q. not (list_any (λ k. same_label k.provider q) ks)) p e)) in
-    (k.0, k.1, same_is k.0.provider p k.2)
-
--- so it is registered
-pub member_found : (s : Records) (n p : List ℕ) → list_any (λ q. not (list_any (λ k. same_label k.provider q) (members s.components n))) (p ∷ []) ≡ false → IsSome (component_of s p)
-member_found s n p e =
-    let k = is_member (members s.components n) p e in
-    elim (option_cases (component_of s p)) [
-      | inr some ↦ rw some.1 refl
-      | inl none ↦ not_both (same_label k.0.provider p) (same_from k.0.provider p k.2)
-          (found_none (λ (j : Component). same_label j.provider p) s.components none k.0 (Has-filter (λ (j : Component). same_label j.mirror n) s.components k.0 k.1).0)
-    ]
-
--- and is one of that mirror
-pub home_of : (s : Records) (n p : List ℕ) → IsState s → (k : Component) → component_of s p ≡ Some k → list_any (λ q. not (list_any (λ k. same_label k.provider q) (members s.components n))) (p ∷ []) ≡ false → k.mirror ≡ n
-home_of s n p state k at off =
-    let j = is_member (members s.components n) p off in
-    let mine = Has-filter (λ (c : Component). same_label c.mirror n) s.components j.0 j.1 in
-    let f = found (λ (c : Component). same_label c.provider p) s.components k at in
-    let same : k ≡ j.0 = one provider s.components state.components_in_order k j.0 f.0 mine.0 (same_is k.provider p f.1 ∙ sym j.2) in
-    ap (λ (c : Component). c.mirror) same ∙ same_is j.0.mirror n mine.1
-
-pub active_is : (d : Disk) → is_active d ≡ true → d ≡ InSync
-active_is InSync e = refl
-active_is Inactive e = cc
-active_is (Copying f h) e = cc
-
-pub on_one : (k : Component) (p : List ℕ) → k.provider ≡ p → is_on_any (p ∷ []) k ≡ true
-on_one k p e = rw (same_from k.provider p e) refl
 
 -- an ACTIVE one is left
 pub active_left : (ks : List Component) (ps : List (List ℕ)) → list_all (is_on_any ps) (filter (λ k. is_active k.disk) ks) ≡ false

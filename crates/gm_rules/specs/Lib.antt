@@ -1,11 +1,2 @@
-pub mod Refusals
-pub mod Facts
-pub mod Seen
-pub mod Adopting
-pub mod Bad
-pub mod After
-pub mod Decides
-pub mod Parts
-pub mod Worlds
+pub mod AbstractCalls
 pub mod Step
-pub mod Run

@@ -6,26 +6,27 @@ use Rattle.gm_metadata.specs.Reading.{encoded}
 use Rattle.gm_metadata.specs.Sector.{Bears}
 use Rattle.gm_metadata.specs.declared.metadata.Metadata.{Metadata}
 use Rattle.gm_taste.specs.declared.tasted.Member.{Member}
-use Rattle.gm_state.specs.declared.command.Command.{Command}
-use Rattle.gm_state.specs.declared.command.Command.TheVariants as commands
-use Rattle.gm_state.specs.declared.command.Intent.{Intent}
-use Rattle.gm_state.specs.declared.command.Intent.TheVariants.{Meta}
-use Rattle.gm_state.specs.declared.command.Reply.{Reply}
+use Rattle.gm_commands.specs.declared.command.Command.{Command}
+use Rattle.gm_commands.specs.declared.command.Command.TheVariants as commands
+use Rattle.gm_state.specs.declared.intents.Intent.{Intent}
+use Rattle.gm_state.specs.declared.intents.Intent.TheVariants.{Meta}
+use Rattle.gm_state.specs.declared.intents.Reply.{Reply}
 use Rattle.gm_state.specs.declared.records.Mirror.{Mirror}
 use Rattle.gm_state.specs.declared.records.Component.{Component}
-use Rattle.gm_state.specs.Commands.{CommandFits}
-use Rattle.gm_state.specs.Words.{Has}
+use Rattle.gm_commands.specs.Commands.{CommandFits}
+use Rattle.gm_lists.specs.Ordered.{Has}
 use Rattle.gm_state.specs.Lookups.{metadata, component_of}
 use Rattle.gm_state.specs.Intents.{IsOf, is_last, IsRedo, InOrder, IsAtHand}
 use Rattle.gm_state.specs.Readable.{AreReadable}
-use Rattle.gm_state.specs.World.{World, Answered, Sound, Claims, Below, CopiesData, is_key, present}
-use Rattle.gm_rules.specs.declared.refusals.Refusal.{Refusal}
-use Rattle.gm_rules.specs.Refusals.{own}
+use Rattle.gm_state.specs.World.{World, Answered, Sound, Claims, Below, CopiesData, present}
+use Rattle.gm_commands.specs.Commands.{is_key}
+use Rattle.gm_refusals.specs.declared.refusals.Refusal.{Refusal}
+use Rattle.gm_refusals.specs.Refusals.{own}
 use Rattle.gm_state.specs.Records.{Records, held_by}
-use Rattle.gm_rules.specs.Bad.{applies, members_named}
-use Rattle.gm_rules.specs.Worlds.{seen_of}
-use Rattle.gm_rules.specs.Adopting.{source_in, data_of}
-use Rattle.gm_rules.specs.After.{after, intents_of, reply_to, clears, fills}
+use Rattle.gm_refusals.specs.Applies.{applies, members_named}
+use Rattle.gm_refusals.specs.WorldFacts.{seen_of}
+use Rattle.gm_refusals.specs.Adoptable.{source_in, data_of}
+use Rattle.gm_changes.specs.After.{after, intents_of, reply_to, clears, fills}
 
 -- the refusal applies to the command in the world
 pub record Bad (u : World) (c : Command) (r : Refusal) : Type 0 where

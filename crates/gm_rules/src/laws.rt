@@ -2,10 +2,10 @@
 
 ghost use Rattle.std.specs.Prelude.{ℕ, List};
 ghost use Rattle.gm_state.specs.World.{World, Sound};
-ghost use Rattle.gm_state.specs.declared.command.Command.{Command};
-ghost use Rattle.gm_rules.specs.Decides.{IsGood};
+ghost use Rattle.gm_commands.specs.declared.command.Command.{Command};
+ghost use Rattle.gm_refusals.specs.Applies.{IsGood};
 ghost use Rattle.gm_rules.specs.Step.{CanAnswer, HasPlan};
-ghost use Rattle.gm_rules.specs.Worlds.{seen_of};
+ghost use Rattle.gm_refusals.specs.WorldFacts.{seen_of};
 
 /// Each command that nothing refuses has a step, and its intents carry it out.
 pub fn every_command_has_a_plan()

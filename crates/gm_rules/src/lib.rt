@@ -1,34 +1,16 @@
-//! What a command does, or why it is refused: pure decisions over the records and what the shelf says.
+//! The rules of the commands: each that nothing refuses has a plan, whose intents lead every image to the step of the
+//! abstract bench.
 //!
-//! Begin with `refusals.rt` and `change.rt`, the answers; `deciding.rt` makes them. `checks.rt` has a test for each
-//! refusal, `making.rt`, `keeping.rt` and `advancing.rt` the change of each command. `parts.rt` says which
-//! records it takes to decide, and `needs.rt` which providers; `changing.rt` makes the change.
-//! `adopting.rt` says what images tell that a mirror is found on, and whether it can be adopted;
-//! `adoption.rt` makes the change.
+//! `specs/Step.antt` says what the step of a world is, and what a plan is; `specs/AbstractCalls.antt` what the abstract bench
+//! answers to calls. `laws.rt` says that every command has a plan. When a command is refused stands in `gm_refusals`, and
+//! what it changes in `gm_changes`; both can be taken from here.
 #![tactic(auto)]
 
-mod adopting;
-mod adoption;
-mod advancing;
-mod change;
-mod changing;
-mod checks;
-mod deciding;
-mod facts;
-mod keeping;
 mod laws;
-mod making;
-mod needs;
-mod parts;
-mod refusals;
 
-pub use adopting::{adopt_source, data_of, found_mids};
-pub use change::Change;
-pub use changing::changed_by;
-pub use checks::providers_of;
-pub use deciding::{decide, decide_part};
-pub use facts::{Fact, Facts};
+pub use gm_changes::{Change, changed_by, decide, decide_part};
+pub use gm_refusals::{
+    CallRefusal, Fact, Facts, Refusal, a_part_is_a_state, adopt_source, data_of, found_mids,
+    is_called, needed, providers_of,
+};
 pub use laws::every_command_has_a_plan;
-pub use needs::needed;
-pub use parts::{a_part_is_a_state, is_called};
-pub use refusals::{CallRefusal, Refusal};

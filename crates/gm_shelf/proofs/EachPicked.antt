@@ -14,9 +14,9 @@ use Rattle.gm_shelf.specs.Disk.{AreNames}
 use Rattle.gm_shelf.specs.Cache.{Disks, IsCache}
 use Rattle.gm_shelf.specs.History.{size_after, synced_after, written_after, may_leave_after}
 use Rattle.gm_shelf.specs.Picks.{picked_value, pick_at, is_unsynced, unsynced_below, unsynced_of, picked_after, IsPicked}
-use Rattle.gm_shelf.specs.declared.event.Event.{Event}
+use Rattle.gm_shelf.specs.declared.history.Event.{Event}
 use Rattle.gm_shelf.proofs.SoFar.{name_at}
-use Rattle.gm_shelf.proofs.Walking.{picked_none}
+use Rattle.gm_shelf.proofs.NothingWritten.{picked_none}
 
 -- the pick that names a value which a crash may leave
 choose : (s : List ℕ) (ws : List (List ℕ)) (v : List ℕ) → (v ≡ s) ⊎ Contains ws v → (m : ℕ) × (m ≤ length ws) × (picked_value s ws m ≡ v)

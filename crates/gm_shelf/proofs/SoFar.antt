@@ -16,8 +16,8 @@ use Rattle.gm_shelf.specs.Disk.{AreNames, IsAscending}
 use Rattle.gm_shelf.specs.Cache.{Disks, IsCache, IsOutside}
 use Rattle.gm_shelf.specs.History.{sector_at, size_after, seen_after, synced_after, written_after, may_leave_after}
 use Rattle.gm_shelf.specs.Picks.{unsynced_below, unsynced_of, picked_after, IsPicked}
-use Rattle.gm_shelf.specs.declared.event.Event.{Event}
-use Rattle.gm_shelf.specs.declared.event.Event.TheVariants.{Added}
+use Rattle.gm_shelf.specs.declared.history.Event.{Event}
+use Rattle.gm_shelf.specs.declared.history.Event.TheVariants.{Added}
 use Rattle.gm_shelf.proofs.Fresh.{IsFresh}
 use Rattle.gm_shelf.proofs.KeyNames.{same_key}
 

@@ -9,9 +9,9 @@ use Rattle.gm_metadata.specs.Images.{Image, label_tells, label_refl}
 use Rattle.gm_shelf.specs.Disk.{IsPut, Elapses, IsQuiet, IsWrite, IsFixed}
 use Rattle.gm_shelf.specs.History.{seen_after, synced_after, written_after, may_leave_after, view_after}
 use Rattle.gm_shelf.specs.Lawful.{MayHold, put_tells, holds_seen}
-use Rattle.gm_shelf.specs.declared.event.Event.{Event}
+use Rattle.gm_shelf.specs.declared.history.Event.{Event}
 use Rattle.gm_shelf.proofs.InTurn.{elapses_itself}
-use Rattle.gm_shelf.specs.declared.event.Event.TheVariants.{Wrote, Synced}
+use Rattle.gm_shelf.specs.declared.history.Event.TheVariants.{Wrote, Synced}
 
 elapses : (event : Event) (older : List Event) → Elapses (view_after older) (view_after (event ∷ older))
 elapses event older = record {

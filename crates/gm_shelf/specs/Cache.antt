@@ -8,7 +8,7 @@ use Rattle.std.specs.BTreeMap.{BTreeMap, get}
 use Rattle.gm_metadata.specs.declared.label.Label.{Label}
 use Rattle.gm_metadata.specs.Images.{Image, Sizes}
 use Rattle.gm_shelf.specs.History.{sector_at, size_after, seen_after, synced_after, written_after}
-use Rattle.gm_shelf.specs.declared.event.Event.{Event}
+use Rattle.gm_shelf.specs.declared.history.Event.{Event}
 
 -- the sectors of each provider
 abbrev pub Disks : Type 0

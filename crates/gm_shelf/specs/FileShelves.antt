@@ -1,8 +1,8 @@
 -- What contracts see of a folder of image files.
 use Rattle.std.specs.Prelude.{◌≡◌, ℕ, List}
 use Rattle.std.specs.String.{string_bytes}
-use Rattle.gm_shelf.specs.declared.files.FileShelf.{FileShelf}
-use Rattle.gm_shelf.specs.declared.images.ImageFile.{ImageFile}
+use Rattle.gm_shelf.specs.declared.file_shelf.FileShelf.{FileShelf}
+use Rattle.gm_shelf.specs.declared.folder_images.ImageFile.{ImageFile}
 
 -- how many failures of the device it has counted
 abbrev pub failures_of : {R D : Type 0} → FileShelf R D → ℕ

@@ -8,7 +8,7 @@ use Rattle.std.specs.BTreeMap.{BTreeMap, get}
 use Rattle.gm_metadata.specs.Images.{Sizes}
 use Rattle.gm_shelf.specs.Disk.{View}
 use Rattle.gm_shelf.specs.declared.file_id.FileId.{FileId}
-use Rattle.gm_shelf.specs.declared.images.ImageFile.{ImageFile}
+use Rattle.gm_shelf.specs.declared.folder_images.ImageFile.{ImageFile}
 
 -- a file has a sector for each 512 of its bytes
 abbrev pub sectors_of : BTreeMap (List ℕ) ImageFile → Sizes

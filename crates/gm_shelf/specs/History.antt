@@ -3,8 +3,8 @@ use Rattle.std.specs.Prelude.{◌≡◌, ◌≤◌, ◌⊎◌, ℕ, List, [], �
 use Rattle.gm_metadata.specs.declared.label.Label.{Label}
 use Rattle.gm_metadata.specs.Images.{Image, Sizes, put, same_label}
 use Rattle.gm_shelf.specs.Disk.{View, Answer}
-use Rattle.gm_shelf.specs.declared.event.Event.{Event}
-use Rattle.gm_shelf.specs.declared.event.Event.TheVariants.{Added, Wrote, Synced}
+use Rattle.gm_shelf.specs.declared.history.Event.{Event}
+use Rattle.gm_shelf.specs.declared.history.Event.TheVariants.{Added, Wrote, Synced}
 use Rattle.gm_shelf.specs.declared.fault.ShelfFault.TheVariants.{Memory}
 
 -- one of these sectors

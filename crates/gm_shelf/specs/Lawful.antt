@@ -7,8 +7,8 @@ use Rattle.gm_metadata.specs.declared.label.Label.{Label}
 use Rattle.gm_metadata.specs.Images.{Image, put, label_tells}
 use Rattle.gm_shelf.specs.Disk.{IsPut, IsLawful}
 use Rattle.gm_shelf.specs.History.{seen_after, synced_after, written_after, may_leave_after, left_since_after, view_after}
-use Rattle.gm_shelf.specs.declared.event.Event.{Event}
-use Rattle.gm_shelf.specs.declared.event.Event.TheVariants.{Added, Wrote, Synced}
+use Rattle.gm_shelf.specs.declared.history.Event.{Event}
+use Rattle.gm_shelf.specs.declared.history.Event.TheVariants.{Added, Wrote, Synced}
 
 -- the value that a crash may leave in one sector
 abbrev pub MayHold : List Event → Label → ℕ → List ℕ → Type 0

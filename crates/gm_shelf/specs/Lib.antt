@@ -1,8 +1,8 @@
 pub mod Cache
 pub mod Disk
 pub mod FaultShelves
-pub mod FileShelves
 pub mod Faults
+pub mod FileShelves
 pub mod Folder
 pub mod History
 pub mod LastSector

@@ -5,7 +5,7 @@ use Rattle.gm_metadata.specs.Images.{Image}
 use Rattle.gm_shelf.specs.Disk.{AreNames}
 use Rattle.gm_shelf.specs.Cache.{IsOutside}
 use Rattle.gm_shelf.specs.History.{size_after, synced_after, written_after}
-use Rattle.gm_shelf.specs.declared.event.Event.{Event}
+use Rattle.gm_shelf.specs.declared.history.Event.{Event}
 
 -- the value that a pick names: 0 the synced one, k the k-th that was written since, or the last where there are fewer
 abbrev pub picked_value : List ℕ → List (List ℕ) → ℕ → List ℕ

@@ -4,7 +4,7 @@ ghost use Rattle.std.specs.Prelude.{◌≡◌, ◌<◌, ◌-◌, ◌↔◌, IsSo
 ghost use Rattle.gm_shelf.specs.Stopping.{with_failures, lawful_with};
 
 use crate::fault::{ShelfFault, check_place, check_provider, device_failed};
-use crate::law::Shelf;
+use crate::shelf::Shelf;
 use gm_metadata::Label;
 use std::alloc::AllocError;
 

@@ -4,7 +4,7 @@ ghost use Rattle.std.specs.Prelude.{◌≡◌, ◌↔◌, IfOk, IsTrue};
 ghost use Rattle.std.specs.String.{string_bytes};
 
 use crate::file_id::FileId;
-use crate::images::ImageFile;
+use crate::folder_images::ImageFile;
 use gm_metadata::Label;
 use std::collections::BTreeMap;
 use std::fs::{self, File, Metadata, OpenOptions};

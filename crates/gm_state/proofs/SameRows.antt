@@ -1,12 +1,12 @@
 -- Answered keys with one row are one.
 use Rattle.std.proofs.Common.{rules, ◌≡◌, ◌<◌, refl, ap, arith}
-use Rattle.gm_state.specs.declared.command.Reply.{Reply}
-use Rattle.gm_state.specs.declared.command.Reply.TheVariants.{Plain, Copied}
+use Rattle.gm_state.specs.declared.intents.Reply.{Reply}
+use Rattle.gm_state.specs.declared.intents.Reply.TheVariants.{Plain, Copied}
 use Rattle.gm_state.specs.World.{Answered, AnswerFits, ReplyFits}
 use Rattle.gm_state.specs.declared.records.Mirror.{Mirror}
 use Rattle.gm_state.specs.declared.records.Component.{Component}
 use Rattle.gm_state.specs.Rows.{mirror_row, component_row, answer_row, copied_of, total_of}
-use Rattle.gm_state.proofs.OneCommand.{same_command}
+use Rattle.gm_commands.proofs.OneCommand.{same_command}
 
 -- a copy that was answered holds some sectors
 pub same_reply : (a b : Reply) → ReplyFits a → ReplyFits b → copied_of a ≡ copied_of b → total_of a ≡ total_of b → a ≡ b

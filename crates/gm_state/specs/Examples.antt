@@ -3,8 +3,8 @@ use Rattle.std.specs.Prelude.{◌==◌, ℕ, Bool, true, false, not, List, [], �
 use Rattle.gm_metadata.specs.Images.{Image, same_label}
 use Rattle.gm_metadata.specs.Reading.{encoded}
 use Rattle.gm_metadata.specs.declared.balance.Balance.TheVariants as balances
-use Rattle.gm_state.specs.declared.command.Command.TheVariants.{Clear}
-use Rattle.gm_state.specs.declared.command.Reply.TheVariants.{Plain}
+use Rattle.gm_commands.specs.declared.command.Command.TheVariants.{Clear}
+use Rattle.gm_state.specs.declared.intents.Reply.TheVariants.{Plain}
 use Rattle.gm_state.specs.declared.records.Mirror.{Mirror}
 use Rattle.gm_state.specs.declared.records.Component.{Component}
 use Rattle.gm_state.specs.declared.records.Disk.TheVariants.{InSync, Copying}

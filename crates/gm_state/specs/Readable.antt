@@ -3,12 +3,12 @@ use Rattle.std.specs.Prelude.{◌≡◌, ◌≢◌, ◌≤◌, ℕ, Bool, true, 
 use Rattle.std.specs.List.{list_any}
 use Rattle.gm_metadata.specs.Images.{same_label}
 use Rattle.gm_metadata.specs.Labels.{is_label}
-use Rattle.gm_state.specs.declared.command.Intent.{Intent}
-use Rattle.gm_state.specs.declared.command.Intent.TheVariants.{Meta, Clear, Copy}
+use Rattle.gm_state.specs.declared.intents.Intent.{Intent}
+use Rattle.gm_state.specs.declared.intents.Intent.TheVariants.{Meta, Clear, Copy}
 use Rattle.gm_state.specs.declared.records.Mirror.{Mirror}
 use Rattle.gm_state.specs.declared.records.Component.{Component}
 use Rattle.gm_state.specs.declared.records.Disk.TheVariants.{InSync}
-use Rattle.gm_state.specs.Words.{Has}
+use Rattle.gm_lists.specs.Ordered.{Has}
 use Rattle.gm_state.specs.Records.{Records}
 use Rattle.gm_state.specs.Lookups.{component_of}
 use Rattle.gm_state.specs.Intents.{IsOf}
@@ -60,3 +60,9 @@ pub record AreReadable (s : Records) (ts : List Intent) : Type 0 where
   pub each : (t : Intent) → Has ts t → IsReadable s t
   pub one_copy : length (filter is_copy ts) ≤ 1
   pub ordered : AreOrdered ts
+
+-- a Meta stands before no copy to its provider, and a copy before some Meta of its target
+abbrev pub IsBefore : Intent → List Intent → Type 0
+IsBefore (Meta p) later = list_any (is_copy_to p) later ≡ false
+IsBefore (Clear p) later = Unit {0}
+IsBefore (Copy source target first end) later = list_any (is_meta_of target) later ≡ true

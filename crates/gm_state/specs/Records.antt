@@ -6,7 +6,7 @@ use Rattle.gm_metadata.specs.Labels.{is_label}
 use Rattle.gm_state.specs.declared.records.Mirror.{Mirror}
 use Rattle.gm_state.specs.declared.records.Component.{Component}
 use Rattle.gm_state.specs.declared.records.Disk.TheVariants.{InSync, Inactive}
-use Rattle.gm_state.specs.Words.{Has, Ascends}
+use Rattle.gm_lists.specs.Ordered.{Has, Ascends}
 pub use Rattle.gm_state.specs.Disks.{held_by, held_of}
 
 -- the records of the bench, each list in byte order of names

@@ -3,14 +3,14 @@ use Rattle.std.specs.Prelude.{◌≡◌, ◌*◌, ◌+◌, ℕ, List, [], ◌∷
 use Rattle.std.specs.List.Sorted.{IsPermutation}
 use Rattle.gm_metadata.specs.Balance.{balance_code}
 use Rattle.gm_metadata.specs.Flags.{mirror_bits, disk_bits}
-use Rattle.gm_state.specs.declared.command.Intent.{Intent}
-use Rattle.gm_state.specs.declared.command.Intent.TheVariants.{Meta, Clear, Copy}
-use Rattle.gm_state.specs.declared.command.Reply.{Reply}
-use Rattle.gm_state.specs.declared.command.Reply.TheVariants.{Plain, Copied}
+use Rattle.gm_state.specs.declared.intents.Intent.{Intent}
+use Rattle.gm_state.specs.declared.intents.Intent.TheVariants.{Meta, Clear, Copy}
+use Rattle.gm_state.specs.declared.intents.Reply.{Reply}
+use Rattle.gm_state.specs.declared.intents.Reply.TheVariants.{Plain, Copied}
 use Rattle.gm_state.specs.declared.records.Mirror.{Mirror}
 use Rattle.gm_state.specs.declared.records.Component.{Component}
 use Rattle.gm_state.specs.Lookups.{disk_flags, held_of}
-use Rattle.gm_state.specs.Commands.{words_of}
+use Rattle.gm_commands.specs.Commands.{words_of}
 use Rattle.gm_state.specs.World.{World, Answered}
 
 pub record MirrorRow : Type 0 where

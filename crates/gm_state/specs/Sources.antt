@@ -3,7 +3,7 @@ use Rattle.std.specs.Prelude.{◌≡◌, ◌⊎◌, ◌<◌, ◌==◌, ℕ, Bool
 use Rattle.std.specs.List.{list_any}
 use Rattle.gm_metadata.specs.Images.{same_label}
 use Rattle.gm_state.specs.declared.records.Component.{Component}
-use Rattle.gm_state.specs.Words.{Has, label_lt}
+use Rattle.gm_lists.specs.Ordered.{Has, label_lt}
 use Rattle.gm_state.specs.Records.{Records, members, provider}
 use Rattle.gm_state.specs.Lookups.{is_active, component_of}
 

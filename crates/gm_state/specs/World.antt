@@ -6,17 +6,18 @@ use Rattle.gm_metadata.specs.Labels.{is_label_byte}
 use Rattle.gm_metadata.specs.Reading.{encoded}
 use Rattle.gm_metadata.specs.Sector.{Bears, IsMetadata}
 use Rattle.gm_metadata.specs.declared.metadata.Metadata.{Metadata}
-use Rattle.gm_state.specs.declared.command.Command.{Command}
-use Rattle.gm_state.specs.declared.command.Intent.{Intent}
-use Rattle.gm_state.specs.declared.command.Reply.{Reply}
-use Rattle.gm_state.specs.declared.command.Reply.TheVariants.{Plain, Copied}
+use Rattle.gm_commands.specs.declared.command.Command.{Command}
+use Rattle.gm_state.specs.declared.intents.Intent.{Intent}
+use Rattle.gm_state.specs.declared.intents.Reply.{Reply}
+use Rattle.gm_state.specs.declared.intents.Reply.TheVariants.{Plain, Copied}
 use Rattle.gm_state.specs.declared.records.Mirror.{Mirror}
 use Rattle.gm_state.specs.declared.records.Component.{Component}
-use Rattle.gm_state.specs.Words.{Has}
+use Rattle.gm_lists.specs.Ordered.{Has}
 use Rattle.gm_state.specs.Records.{Records, IsState, held_by}
 use Rattle.gm_state.specs.Lookups.{metadata, component_of, mirror_of}
-use Rattle.gm_state.specs.Commands.{CommandFits}
+use Rattle.gm_commands.specs.Commands.{CommandFits}
 use Rattle.gm_state.specs.Intents.{IsOf, any_copies}
+use Rattle.gm_commands.specs.Commands.{is_key}
 
 -- an answered key: its command, the command's number and the reply
 pub record Answered : Type 0 where
@@ -46,10 +47,6 @@ Below shelf list p k = (i : ℕ) → i < k → shelf p i ≡ list i
 -- all n data sectors of the mirror on p are its list
 abbrev pub Whole : World → Mirror → List ℕ → Type 0
 Whole w m p = Below w.shelf (w.holds m.name) p m.data_sectors
-
--- 1 to 32 of the characters of labels
-abbrev pub is_key : List ℕ → Bool
-is_key key = (nat_lt 0 (length key) && nat_lt (length key) 33) && list_all is_label_byte key
 
 -- a copy holds some of its sectors, at most all, and no more than an image has
 abbrev pub ReplyFits : Reply → Type 0

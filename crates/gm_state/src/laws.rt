@@ -1,24 +1,17 @@
-//! What holds of all records and commands: laws, each the contract of a function that does nothing.
+//! What holds of all records and worlds: laws, each the contract of a function that does nothing.
 
 ghost use Rattle.std.specs.Prelude.{◌≡◌, ℕ, Bool, List};
 ghost use Rattle.gm_metadata.specs.Images.{Image, SameThere};
 ghost use Rattle.gm_metadata.specs.Sector.{IsMetadata};
-ghost use Rattle.gm_state.specs.declared.command.Command.{Command};
-ghost use Rattle.gm_state.specs.declared.command.Reply.{Reply};
+ghost use Rattle.gm_state.specs.declared.intents.Reply.{Reply};
 ghost use Rattle.gm_state.specs.declared.records.Component.{Component};
 ghost use Rattle.gm_state.specs.declared.records.Disk.TheVariants.{InSync, Copying};
 ghost use Rattle.gm_state.specs.declared.records.Mirror.{Mirror};
-ghost use Rattle.gm_state.specs.Commands.{CommandFits, words_of};
 ghost use Rattle.gm_state.specs.Intents.{IsOf};
 ghost use Rattle.gm_state.specs.Lookups.{metadata};
 ghost use Rattle.gm_state.specs.Records.{Records, IsState, IsStateOf};
 ghost use Rattle.gm_state.specs.Rows.{mirror_row, component_row, answer_row, copied_of, total_of};
 ghost use Rattle.gm_state.specs.World.{Answered, AnswerFits, ReplyFits, World, Sound, Whole, Below, Claims};
-
-/// Two commands have equal words only where they are one command.
-pub fn one_command()
-    ensures { (a b : Command) → CommandFits a → CommandFits b → words_of a ≡ words_of b → a ≡ b }
-{}
 
 /// What the rules let a component's metadata be fits the fields of a sector.
 pub fn metadata_fits()

@@ -1,36 +1,34 @@
-//! What the bench keeps of mirrors and components, what commands are, and what can be said of the records.
+//! What the bench keeps of mirrors and components, and what can be said of the records.
 //!
-//! Begin with `records.rt` and `command.rt`, the data, and `specs/Records.antt`, the rules of a state. Then `state.rt`,
-//! which holds records by these rules; `lookups.rt` and `sources.rt`, what can be said of a component; `wording.rt`,
-//! the words by which commands are compared. `specs/World.antt` is the abstract bench, and `laws.rt` what holds of it all.
+//! Begin with `records.rt`, the data, and `specs/Records.antt`, the rules of a state. Then `state.rt`, which holds records
+//! by these rules; `component_metadata.rt`, what their metadata say, `states.rt`, their named states, and
+//! `copy_source.rt`, which component a copy is taken from. `intents.rt` has what a command has written and answers, and
+//! `readable_intents.rt` which intents may be pending. `specs/World.antt` is the abstract bench, and `laws.rt` what holds
+//! of it all.
 #![tactic(auto)]
 
-mod checking;
-mod command;
-mod keys;
+mod component_metadata;
+mod copy_source;
+mod intents;
 mod laws;
-mod lookups;
-mod named;
+mod readable_intents;
 mod records;
+mod rules;
 mod sizes;
-mod sources;
 mod state;
 mod states;
-mod wording;
 
-pub use checking::{MAX_COMPONENTS, MAX_MIRRORS, MAX_SECTORS};
-pub use command::{
-    BalanceWord, Command, Intent, NewComponent, NewMirror, Preference, Reply, Settings, Slice,
+pub use component_metadata::{metadata, metadata_of};
+pub use copy_source::source;
+pub use gm_commands::{
+    BalanceWord, Command, NewComponent, NewMirror, Preference, Providers, Settings, Slice, is_key,
+    words_of,
 };
-pub use keys::is_key;
-pub use laws::{
-    metadata_fits, one_command, one_reply, one_row, one_state, sound_claims, sound_data,
-};
-pub use lookups::{component_state, metadata, metadata_of, state_by};
-pub use named::Providers;
+pub use intents::{Intent, Reply};
+pub use laws::{metadata_fits, one_reply, one_row, one_state, sound_claims, sound_data};
+pub use readable_intents::are_readable;
 pub use records::{Component, Disk, Mirror};
+pub use rules::{MAX_COMPONENTS, MAX_MIRRORS, MAX_SECTORS};
 pub use sizes::{bytes_of, sectors_of};
-pub use sources::source;
 pub use state::{State, put};
-pub use states::{ComponentState, MirrorState};
-pub use wording::words_of;
+pub use states::{ComponentState, MirrorState, component_state, state_by};

@@ -4,12 +4,12 @@ ghost use Rattle.std.specs.Prelude.{◌≡◌, ◌≤◌, [], List, Option, Some
 ghost use Rattle.std.specs.List.{prefix_len};
 ghost use Rattle.gm_metadata.specs.Images.{same_label};
 ghost use Rattle.gm_state.specs.declared.records.Component.{Component};
-ghost use Rattle.gm_state.specs.Words.{Has, label_lt, put};
+ghost use Rattle.gm_lists.specs.Ordered.{Has, label_lt, put};
 ghost use Rattle.gm_state.specs.Records.{Records, IsState, IsStateOf, members, provider};
 ghost use Rattle.gm_state.specs.Lookups.{mirror_of, component_of};
 
-use crate::checking::keeps_rules;
 use crate::records::{Component, Mirror};
+use crate::rules::keeps_rules;
 use gm_metadata::Label;
 use std::alloc::{AllocError, Global};
 use std::marker::Model;

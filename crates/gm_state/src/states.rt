@@ -1,7 +1,11 @@
 //! The named states of components and mirrors, as `gmirror status` shows them.
 
 ghost use Rattle.std.specs.Prelude.{◌≡◌};
-ghost use Rattle.gm_state.specs.States.{component_state_name, mirror_state_name};
+ghost use Rattle.gm_state.specs.States.{component_state, component_state_name, mirror_state_name, state_by};
+
+use crate::records::Disk;
+use crate::state::State;
+use gm_metadata::{Label, MirrorFlags};
 
 /// The state of a component.
 #[derive(Clone, Copy, Debug, PartialEq, Eq)]
@@ -48,4 +52,30 @@ impl MirrorState {
             MirrorState::Degraded => "DEGRADED",
         }
     }
+}
+
+/// The state of a component that is so, of a mirror with these flags.
+pub fn state_by(flags: MirrorFlags, disk: Disk) -> ComponentState
+    ensures { result ≡ state_by flags disk }
+{
+    match disk {
+        Disk::Inactive => ComponentState::Inactive,
+        Disk::InSync => ComponentState::Active,
+        Disk::Copying { forced, held: _ } => {
+            if flags.no_autosync && !forced {
+                ComponentState::Stale
+            } else {
+                ComponentState::Synchronizing
+            }
+        }
+    }
+}
+
+/// The state of a component; `None` where the provider is no component.
+pub fn component_state(state: &State, provider: Label) -> Option<ComponentState>
+    ensures { result ≡ component_state state.now provider }
+{
+    let component = state.component(provider)?;
+    let mirror = state.mirror(component.mirror)?;
+    Some(state_by(mirror.flags, component.disk))
 }

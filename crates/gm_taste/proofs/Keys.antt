@@ -6,9 +6,9 @@ use Rattle.std.proofs.lemmas.Bool.{cases_Bool, and_parts, or_parts}
 use Rattle.std.proofs.lemmas.Bool.Decides.{nat_tests}
 use Rattle.gm_taste.specs.declared.groups.Key.{Key}
 use Rattle.gm_taste.specs.declared.groups.Taken.{Taken}
-use Rattle.gm_taste.specs.Words.{label_lt, Has, Ascends}
-use Rattle.gm_taste.specs.Making.{key_lt, same_key, put_key, key_in, keys_from, is_of}
-use Rattle.gm_taste.proofs.Order.{same_is, same_from, lt_trans, lt_other, lt_irrefl}
+use Rattle.gm_lists.specs.Ordered.{label_lt, Has, AscendsBy}
+use Rattle.gm_taste.specs.Tasting.{key_lt, same_key, put_key, key_in, keys_from, is_of}
+use Rattle.gm_lists.proofs.Order.{same_is, same_from, lt_trans, lt_other, lt_irrefl}
 
 one_more : (n : ℕ) → 1 + n ≡ suc n
 one_more n = omega arith
@@ -119,7 +119,7 @@ put_or x (y ∷ ys) z h =
       ]
     ]
 
-pub put_ascends : (x : Key) (ys : List Key) → Ascends key_lt ys → Ascends key_lt (put_key x ys)
+pub put_ascends : (x : Key) (ys : List Key) → AscendsBy key_lt ys → AscendsBy key_lt (put_key x ys)
 put_ascends x [] a = (λ z h. absurd h, tt)
 put_ascends x (y ∷ ys) a =
     elim (cases_Bool (key_lt y x)) [
@@ -191,7 +191,7 @@ new_at x ys n e h = ap (λ (k : ℕ). insert ys k x) e ∙ sym (put_new x ys (su
 
 -- ---- the keys of the taken
 
-pub keys_ascend : (keys : List Key) (ts : List Taken) → Ascends key_lt keys → Ascends key_lt (keys_from keys ts)
+pub keys_ascend : (keys : List Key) (ts : List Taken) → AscendsBy key_lt keys → AscendsBy key_lt (keys_from keys ts)
 keys_ascend keys [] a = a
 keys_ascend keys (t ∷ ts) a = keys_ascend (put_key (key_in t) keys) ts (put_ascends (key_in t) keys a)
 

@@ -6,12 +6,12 @@ use Rattle.gm_taste.specs.declared.tasted.LeftOut.{LeftOut}
 use Rattle.gm_taste.specs.declared.tasted.Member.{Member}
 use Rattle.gm_taste.specs.declared.tasted.Group.{Group}
 use Rattle.gm_taste.specs.declared.tasted.Tasted.{Tasted}
-use Rattle.gm_taste.specs.Words.{label_lt, Has, Ascends}
+use Rattle.gm_lists.specs.Ordered.{label_lt, Has, AscendsBy}
 use Rattle.gm_taste.specs.States.{state_of}
 use Rattle.gm_taste.specs.Tasted.{IsMember, IsGroup, IsTasted, SaysOf, SameProviders, Seen, seen}
-use Rattle.gm_taste.specs.Making.{key_lt}
-use Rattle.gm_taste.proofs.Order.{lt_trans, lt_irrefl}
-use Rattle.gm_taste.proofs.Lists.{Has-map, map-Has, Ascends-map}
+use Rattle.gm_taste.specs.Tasting.{key_lt}
+use Rattle.gm_lists.proofs.Order.{lt_trans, lt_irrefl}
+use Rattle.gm_lists.proofs.Lists.{Has-map, map-Has, AscendsBy-map}
 use Rattle.gm_taste.proofs.Keys.{key_lt_trans, key_lt_irrefl}
 use Rattle.gm_taste.proofs.Outcome.{group_from}
 
@@ -21,7 +21,7 @@ module _ {X : Type 0} (lt : X → X → Bool) (irrefl : (x : X) → lt x x ≡ t
   differs : (x z : X) → lt x z ≡ true → x ≡ z → ⊥
   differs x z l e = irrefl z (subst (λ (w : X). lt w z ≡ true) e l)
 
-  same_lists : (xs ys : List X) → Ascends lt xs → Ascends lt ys → ((x : X) → Has xs x → Has ys x) → ((x : X) → Has ys x → Has xs x) → xs ≡ ys
+  same_lists : (xs ys : List X) → AscendsBy lt xs → AscendsBy lt ys → ((x : X) → Has xs x → Has ys x) → ((x : X) → Has ys x → Has xs x) → xs ≡ ys
   same_lists [] [] a b f g = refl
   same_lists [] (y ∷ ys) a b f g = absurd (g y (inl refl))
   same_lists (x ∷ xs) [] a b f g = absurd (f x (inl refl))
@@ -120,7 +120,7 @@ pub same_groups : (ps qs : List Provider) (t u : Tasted) → SameProviders ps qs
 same_groups ps qs t u same a b =
     same_lists seen_lt (λ s. key_lt_irrefl (record { name = s.name; mid = s.mid }))
     (λ s r q. key_lt_trans (record { name = s.name; mid = s.mid }) (record { name = r.name; mid = r.mid }) (record { name = q.name; mid = q.mid }))
-    (map seen t.groups.items) (map seen u.groups.items) (Ascends-map seen seen_lt t.groups.items a.groups_ascend) (Ascends-map seen seen_lt u.groups.items b.groups_ascend)
+    (map seen t.groups.items) (map seen u.groups.items) (AscendsBy-map seen seen_lt t.groups.items a.groups_ascend) (AscendsBy-map seen seen_lt u.groups.items b.groups_ascend)
     (there ps qs t u same a b) (there qs ps u t (turned ps qs same) b a)
 
 left_there : (ps qs : List Provider) (t u : Tasted) → SameProviders ps qs → IsTasted ps t → IsTasted qs u → (x : LeftOut) → Has t.left.items x → Has u.left.items x

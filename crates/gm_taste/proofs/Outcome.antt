@@ -15,15 +15,15 @@ use Rattle.gm_taste.specs.declared.tasted.Group.{Group}
 use Rattle.gm_taste.specs.declared.tasted.Tasted.{Tasted}
 use Rattle.gm_taste.specs.declared.groups.Key.{Key}
 use Rattle.gm_taste.specs.declared.groups.Taken.{Taken}
-use Rattle.gm_taste.specs.Words.{label_lt, Has, Ascends}
+use Rattle.gm_lists.specs.Ordered.{label_lt, Has, AscendsBy, Ascends}
 use Rattle.gm_taste.specs.Verdicts.{verdict}
 use Rattle.gm_taste.specs.States.{state_of}
 use Rattle.gm_taste.specs.Tasted.{DistinctNames, SaysOf, IsLeftOut, IsMember, IsGreatest, IsGroup, IsTasted, group_lt}
-use Rattle.gm_taste.specs.Making.{taken_as, taken_by, left_as, left_by, key_lt, key_in, key_of, keys_from, is_of, member, Made}
-use Rattle.gm_taste.proofs.Lists.{Has-filter, filter-Has, Ascends-filter, Has-map, map-Has, Ascends-map, Ascends-unmap, Has-filter_map, filter_map-Has, Ascends-filter_map}
-use Rattle.gm_taste.proofs.Sorting.{Has-permutation, sorted_ascends, InOrder}
+use Rattle.gm_taste.specs.Tasting.{taken_as, taken_by, left_as, left_by, key_lt, key_in, key_of, keys_from, is_of, member, Made}
+use Rattle.gm_lists.proofs.Lists.{Has-filter, filter-Has, AscendsBy-filter, Has-map, map-Has, AscendsBy-map, AscendsBy-unmap, Has-filter_map, filter_map-Has, AscendsBy-filter_map}
+use Rattle.gm_lists.proofs.Sorting.{Has-permutation, sorted_ascends}
 use Rattle.gm_taste.proofs.Keys.{keys_ascend, keys_have, keys_are, is_of_tells, is_of_from}
-use Rattle.gm_taste.proofs.Numbers.{bound, greatest}
+use Rattle.gm_taste.proofs.GroupNumbers.{bound, greatest}
 
 -- ---- one provider
 
@@ -64,11 +64,11 @@ module _ (ps : List Provider) where
     λ s. (let e : left_by s.0 ≡ left_as x.provider (Err x.reason) = ap₂ left_as s.2 s.3 in filter_map-Has left_by ps s.0 x s.1 e),
   )
 
-  pub taken_ascend : InOrder (λ (p : Provider). p.name) ps → Ascends (λ (a b : Taken). label_lt a.provider b.provider) taken
-  taken_ascend a = Ascends-filter_map taken_by (λ p. p.name) (λ t. t.provider) (λ p t e. (taken_as_is p.name (verdict p) t e).0) ps a
+  pub taken_ascend : Ascends (λ (p : Provider). p.name) ps → AscendsBy (λ (a b : Taken). label_lt a.provider b.provider) taken
+  taken_ascend a = AscendsBy-filter_map taken_by (λ p. p.name) (λ t. t.provider) (λ p t e. (taken_as_is p.name (verdict p) t e).0) ps a
 
-  pub left_ascend : InOrder (λ (p : Provider). p.name) ps → Ascends (λ (a b : LeftOut). label_lt a.provider b.provider) (filter_map left_by ps)
-  left_ascend a = Ascends-filter_map left_by (λ p. p.name) (λ x. x.provider) (λ p x e. (left_as_is p.name (verdict p) x e).0) ps a
+  pub left_ascend : Ascends (λ (p : Provider). p.name) ps → AscendsBy (λ (a b : LeftOut). label_lt a.provider b.provider) (filter_map left_by ps)
+  left_ascend a = AscendsBy-filter_map left_by (λ p. p.name) (λ x. x.provider) (λ p x e. (left_as_is p.name (verdict p) x e).0) ps a
 
 -- ---- one group
 
@@ -119,11 +119,11 @@ module _ (ps : List Provider) (g : Group) (made : Made (taken ps) (key_of g) g) 
       let e : as_member t ≡ x = ap (λ (s : _). let y : Member = record { provider = x.provider; metadata = x.metadata; state = s } in y) (sym i.state_is) in
       to_members x (subst (λ (y : Member). Has (map as_member own) y) e (map-Has as_member own t h))
 
-  members_ascend : InOrder (λ (p : Provider). p.name) ps → Ascends (λ x y. label_lt x.provider y.provider) g.members.items
+  members_ascend : Ascends (λ (p : Provider). p.name) ps → AscendsBy (λ x y. label_lt x.provider y.provider) g.members.items
   members_ascend a =
-      subst (λ (xs : List Member). Ascends (λ x y. label_lt x.provider y.provider) xs) (sym made.members_are)
-      (Ascends-map as_member (λ x y. label_lt x.provider y.provider) own
-      (Ascends-filter (is_of (key_of g)) (λ a b. label_lt a.provider b.provider) (taken ps) (taken_ascend ps a)))
+      subst (λ (xs : List Member). AscendsBy (λ x y. label_lt x.provider y.provider) xs) (sym made.members_are)
+      (AscendsBy-map as_member (λ x y. label_lt x.provider y.provider) own
+      (AscendsBy-filter (is_of (key_of g)) (λ a b. label_lt a.provider b.provider) (taken ps) (taken_ascend ps a)))
 
   genid_greatest : (t : Taken) → Has own t → IsGreatest g.members.items (λ x. Unit {0}) (λ x. x.metadata.genid) g.genid
   genid_greatest t h =
@@ -149,7 +149,7 @@ module _ (ps : List Provider) (g : Group) (made : Made (taken ps) (key_of g) g) 
       }
 
   -- a group that has one is a group
-  pub is_group : InOrder (λ (p : Provider). p.name) ps → (t : Taken) → Has own t → IsGroup ps g
+  pub is_group : Ascends (λ (p : Provider). p.name) ps → (t : Taken) → Has own t → IsGroup ps g
   is_group a t h =
       let r = greatest (λ u. true) (λ u. u.metadata.genid) own t h refl in
       record {
@@ -190,7 +190,7 @@ module _ (ps os : List Provider) (to : (p : Provider) → Has ps p → Has os p)
 
 -- ---- all of them
 
-module _ (ps os : List Provider) (t : Tasted) (ordered : InOrder (λ (p : Provider). p.name) os)
+module _ (ps os : List Provider) (t : Tasted) (ordered : Ascends (λ (p : Provider). p.name) os)
     (to : (p : Provider) → Has ps p → Has os p) (from : (p : Provider) → Has os p → Has ps p)
     (keys : map key_of t.groups.items ≡ keys_from [] (taken os)) (made : (g : Group) → Has t.groups.items g → Made (taken os) (key_of g) g) where
   has_one : (g : Group) → Has t.groups.items g → (u : Taken) × Has (filter (is_of (key_of g)) (taken os)) u
@@ -211,8 +211,8 @@ module _ (ps os : List Provider) (t : Tasted) (ordered : InOrder (λ (p : Provid
       let r = Has-map key_of t.groups.items (key_in u) k in
       (r.0, r.1, ap (λ (j : Key). j.name) r.2, ap (λ (j : Key). j.mid) r.2)
 
-  groups_ascend : Ascends group_lt t.groups.items
-  groups_ascend = Ascends-unmap key_of key_lt t.groups.items (subst (λ (ks : List Key). Ascends key_lt ks) (sym keys) (keys_ascend [] (taken os) tt))
+  groups_ascend : AscendsBy group_lt t.groups.items
+  groups_ascend = AscendsBy-unmap key_of key_lt t.groups.items (subst (λ (ks : List Key). AscendsBy key_lt ks) (sym keys) (keys_ascend [] (taken os) tt))
 
   pub is_tasted : t.left.items ≡ filter_map left_by os → IsTasted ps t
   is_tasted e = record {
@@ -220,7 +220,7 @@ module _ (ps os : List Provider) (t : Tasted) (ordered : InOrder (λ (p : Provid
     all_in_groups = all_in_groups;
     groups_ascend = groups_ascend;
     left_are = λ x. (let l = left_from ps os to from x in (λ h. l.0 (subst (λ (xs : List LeftOut). Has xs x) e h), λ s. subst (λ (xs : List LeftOut). Has xs x) (sym e) (l.1 s)));
-    left_ascend = subst (λ (xs : List LeftOut). Ascends (λ x y. label_lt x.provider y.provider) xs) (sym e) (left_ascend os ordered);
+    left_ascend = subst (λ (xs : List LeftOut). AscendsBy (λ x y. label_lt x.provider y.provider) xs) (sym e) (left_ascend os ordered);
   }
 
 -- what is made of the providers that were sorted by name

@@ -1,6 +1,5 @@
-pub mod Words
-pub mod Verdicts
+pub mod Sources
 pub mod States
 pub mod Tasted
-pub mod Sources
-pub mod Making
+pub mod Tasting
+pub mod Verdicts

@@ -2,7 +2,7 @@
 use Rattle.std.specs.Prelude.{◌≡◌, ◌⊎◌, ◌<◌, ℕ, Bool, true, false, ◌||◌, ◌&&◌, ◌==◌, nat_lt, List, [], ◌∷◌, Option, Some, None, option_map, if◌then◌else◌}
 use Rattle.gm_taste.specs.declared.tasted.Member.{Member}
 use Rattle.gm_taste.specs.declared.tasted.Group.{Group}
-use Rattle.gm_taste.specs.Words.{label_lt, Has}
+use Rattle.gm_lists.specs.Ordered.{label_lt, Has}
 use Rattle.gm_taste.specs.States.{is_active}
 
 -- a has the greater priority, or as great a one and no greater name

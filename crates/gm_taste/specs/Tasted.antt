@@ -7,7 +7,7 @@ use Rattle.gm_taste.specs.declared.tasted.LeftOut.{LeftOut}
 use Rattle.gm_taste.specs.declared.tasted.Member.{Member}
 use Rattle.gm_taste.specs.declared.tasted.Group.{Group}
 use Rattle.gm_taste.specs.declared.tasted.Tasted.{Tasted}
-use Rattle.gm_taste.specs.Words.{label_lt, Has, Ascends, Distinct}
+use Rattle.gm_lists.specs.Ordered.{label_lt, Has, AscendsBy, Distinct}
 use Rattle.gm_taste.specs.Verdicts.{verdict}
 use Rattle.gm_taste.specs.States.{state_of}
 
@@ -39,7 +39,7 @@ pub record IsGreatest (members : List Member) (meant : Member → Type 0) (numbe
 -- greatest of those that have this genid
 pub record IsGroup (ps : List Provider) (g : Group) : Type 0 where
   pub members_are : (x : Member) → Has g.members.items x ↔ IsMember ps g x
-  pub members_ascend : Ascends (λ x y. label_lt x.provider y.provider) g.members.items
+  pub members_ascend : AscendsBy (λ x y. label_lt x.provider y.provider) g.members.items
   pub genid_is : IsGreatest g.members.items (λ x. Unit {0}) (λ x. x.metadata.genid) g.genid
   pub syncid_is : IsGreatest g.members.items (λ x. x.metadata.genid ≡ g.genid) (λ x. x.metadata.syncid) g.syncid
 
@@ -51,9 +51,9 @@ group_lt g h = label_lt g.name h.name || (same_label g.name h.name && nat_lt g.m
 pub record IsTasted (ps : List Provider) (t : Tasted) : Type 0 where
   pub groups_are : (g : Group) → Has t.groups.items g → IsGroup ps g
   pub all_in_groups : (name : List ℕ) (m : Metadata) → SaysOf ps name m → (g : Group) × Has t.groups.items g × (g.name ≡ m.name) × (g.mid ≡ m.mid)
-  pub groups_ascend : Ascends group_lt t.groups.items
+  pub groups_ascend : AscendsBy group_lt t.groups.items
   pub left_are : (x : LeftOut) → Has t.left.items x ↔ IsLeftOut ps x
-  pub left_ascend : Ascends (λ x y. label_lt x.provider y.provider) t.left.items
+  pub left_ascend : AscendsBy (λ x y. label_lt x.provider y.provider) t.left.items
 
 -- two lists hold the same providers
 abbrev pub SameProviders : List Provider → List Provider → Type 0

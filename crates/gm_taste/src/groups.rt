@@ -2,11 +2,11 @@
 
 ghost use Rattle.std.specs.Prelude.{◌≡◌, [], ◌≤◌, true, length, filter, map, IfOk, OnOk};
 ghost use Rattle.std.specs.List.{prefix_len};
-ghost use Rattle.gm_taste.specs.Making.{is_of, key_lt, same_key, put_key, keys_from, raised, genid_in, syncid_in, member, Made, key_of};
-ghost use Rattle.gm_taste.specs.Words.{Has};
+ghost use Rattle.gm_taste.specs.Tasting.{is_of, key_lt, same_key, put_key, keys_from, raised, genid_in, syncid_in, member, Made, key_of};
+ghost use Rattle.gm_lists.specs.Ordered.{Has};
 
+use crate::member_states::state_of;
 use crate::tasted::{Group, Member};
-use crate::verdicts::state_of;
 use gm_metadata::{Label, Metadata};
 use std::alloc::{AllocError, Global};
 

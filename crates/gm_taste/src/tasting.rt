@@ -2,13 +2,13 @@
 
 ghost use Rattle.std.specs.Prelude.{◌≡◌, IfOk};
 ghost use Rattle.std.specs.List.{filter_map};
-ghost use Rattle.gm_taste.specs.Making.{taken_by, left_by};
+ghost use Rattle.gm_taste.specs.Tasting.{taken_by, left_by};
 ghost use Rattle.gm_taste.specs.Tasted.{IsTasted, DistinctNames};
 
 use crate::groups::{Taken, groups_of};
+use crate::member_states::verdict;
 use crate::provider::Provider;
 use crate::tasted::{LeftOut, Tasted};
-use crate::verdicts::verdict;
 use std::alloc::{AllocError, Global};
 
 /// The provider where it is taken: its last sector decodes, and names this provider or none, and its size or none.

@@ -7,18 +7,18 @@ use Rattle.clap.specs.Walk.{Row, Text}
 use Rattle.clap.specs.Simple.{App}
 use Rattle.gm_metadata.specs.Balance.{balance_name}
 use Rattle.gm_metadata.specs.Labels.{is_label}
-use Rattle.gm_state.specs.declared.command.NewComponent.{NewComponent}
-use Rattle.gm_state.specs.declared.command.NewMirror.{NewMirror}
-use Rattle.gm_state.specs.declared.command.Command.{Command}
-use Rattle.gm_state.specs.declared.command.Command.TheVariants.{Label, Insert, Remove, Deactivate, Activate, Forget, Rebuild, Configure, Clear, Destroy, Lost, Advance, Adopt}
-use Rattle.gm_state.specs.Commands.{CommandFits, balance_of_word, on_where, words}
+use Rattle.gm_commands.specs.declared.command.NewComponent.{NewComponent}
+use Rattle.gm_commands.specs.declared.command.NewMirror.{NewMirror}
+use Rattle.gm_commands.specs.declared.command.Command.{Command}
+use Rattle.gm_commands.specs.declared.command.Command.TheVariants.{Label, Insert, Remove, Deactivate, Activate, Forget, Rebuild, Configure, Clear, Destroy, Lost, Advance, Adopt}
+use Rattle.gm_commands.specs.Commands.{CommandFits, balance_of_word, on_where, words}
 use Rattle.gm_words.specs.Spelling.{HasNoFlags, IsNoFlag, command_of, guarded_words, insert_of, label_at, label_of, named_of, of_component, of_mirror, of_provider, spelled}
 use Rattle.gm_words.specs.Table.{insert, label, name, names, on_component, on_mirror, on_provider, optional, possible, wanted}
-use Rattle.gm_words.proofs.Configuring.{configure_canonical, configure_guarded}
-use Rattle.gm_words.proofs.Finding.{AreFound, Finds, component, found, leaf, named}
+use Rattle.gm_words.proofs.ConfigureWords.{configure_canonical, configure_guarded}
+use Rattle.gm_words.proofs.FoundCommand.{AreFound, Finds, component, found, leaf, named}
 use Rattle.gm_words.proofs.Several.{adopt_canonical, adopt_guarded, lost_canonical, lost_guarded}
-use Rattle.gm_words.proofs.Reading.{balance_no_flag, balance_read, component_read, decimal_no_flag, flags_read, label_read, number_read, priority_read, slice_read, switch_no_flag, switch_read}
-use Rattle.gm_words.proofs.Walking.{ArePlain, Has, Said, exact, plain, spelled_as, text_of}
+use Rattle.gm_words.proofs.ReadValues.{balance_no_flag, balance_read, component_read, decimal_no_flag, flags_read, label_read, number_read, priority_read, slice_read, switch_no_flag, switch_read}
+use Rattle.gm_words.proofs.ClapWalk.{ArePlain, Has, Said, exact, plain, spelled_as, text_of}
 
 -- ---- the table has each command
 

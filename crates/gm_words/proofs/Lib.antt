@@ -1,12 +1,12 @@
-mod Canonical
-mod Configuring
-mod Finding
-mod Folding
-mod Growing
-mod Naming
-mod Options
-mod Parsing
-mod Reading
-mod Rows
-mod Several
-mod Walking
+pub mod Canonical
+pub mod Options
+pub mod Rows
+pub mod Several
+pub mod ClapWalk
+pub mod ConfigureWords
+pub mod FoundCommand
+pub mod GrownText
+pub mod JoinedNames
+pub mod ParsedTable
+pub mod ReadValues
+pub mod Folding

@@ -13,7 +13,7 @@ use Rattle.clap.specs.Simple.{Shape}
 use Rattle.clap.proofs.WalkLemmas.{both}
 use Rattle.gm_words.proofs.Rows.{added, added_new, no_defaults, no_defaults_fault, row}
 use Rattle.gm_words.specs.Spelling.{IsNoFlag}
-use Rattle.gm_words.proofs.Walking.{ArePlain, Said, exact, leaf_fault, plain, said_fault, said_walked, text_of}
+use Rattle.gm_words.proofs.ClapWalk.{ArePlain, Said, exact, leaf_fault, plain, said_fault, said_walked, text_of}
 
 -- ---- options and their words
 

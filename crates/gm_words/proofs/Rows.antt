@@ -11,7 +11,7 @@ use Rattle.clap.specs.Takes.{is_given}
 use Rattle.clap.specs.declared.parser.matches.ValueSource.TheVariants.{CommandLine}
 use Rattle.clap.specs.declared.builder.value_parser.Reading.TheVariants.{AsWritten}
 use Rattle.clap.proofs.WalkLemmas.{both}
-use Rattle.gm_words.proofs.Reading.{nonzero}
+use Rattle.gm_words.proofs.ReadValues.{nonzero}
 
 -- what is found of an option with this value
 abbrev pub row : Text → Text → Row

@@ -14,16 +14,16 @@ use Rattle.clap.specs.Walk.{Row, Text, Walk, finished, positional, texts}
 use Rattle.clap.specs.declared.parser.matches.ValueSource.TheVariants.{CommandLine}
 use Rattle.clap.specs.declared.builder.value_parser.Reading.TheVariants.{AsWritten}
 use Rattle.gm_metadata.specs.Labels.{is_label}
-use Rattle.gm_state.specs.declared.command.Command.{Command}
-use Rattle.gm_state.specs.declared.command.Command.TheVariants.{Adopt, Lost}
-use Rattle.gm_state.specs.Commands.{CommandFits, words}
+use Rattle.gm_commands.specs.declared.command.Command.{Command}
+use Rattle.gm_commands.specs.declared.command.Command.TheVariants.{Adopt, Lost}
+use Rattle.gm_commands.specs.Commands.{CommandFits, words}
 use Rattle.gm_words.specs.Spelling.{HasNoFlags, IsNoFlag, command_of, guarded_words, providers_at, providers_in, several_at, several_of, spelled}
 use Rattle.gm_words.specs.Table.{name, names, on_several, optional, possible, wanted}
-use Rattle.gm_words.proofs.Finding.{leaf, named}
+use Rattle.gm_words.proofs.FoundCommand.{leaf, named}
 use Rattle.gm_words.proofs.Options.{Ends}
 use Rattle.gm_words.proofs.Rows.{row}
-use Rattle.gm_words.proofs.Reading.{label_read, nonzero}
-use Rattle.gm_words.proofs.Walking.{ArePlain, Has, Said, begun, exact, leaf_fault, plain, said_fault, said_turn_fault, said_walked, spelled_as, text_of}
+use Rattle.gm_words.proofs.ReadValues.{label_read, nonzero}
+use Rattle.gm_words.proofs.ClapWalk.{ArePlain, Has, Said, begun, exact, leaf_fault, plain, said_fault, said_turn_fault, said_walked, spelled_as, text_of}
 
 -- ---- texts that are read as providers
 

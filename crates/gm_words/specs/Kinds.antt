@@ -4,10 +4,10 @@ use Rattle.std.specs.Borrow.{Bor}
 use Rattle.clap.specs.Walk.{Rule, Text}
 use Rattle.clap.specs.Simple.{App, on_top, with_rule, with_subcommand}
 use Rattle.gm_words.specs.Table.{configure, insert, label, name, names, on_component, on_mirror, on_provider, on_several, optional, possible, wanted}
-use Rattle.gm_words.specs.declared.table.Kind.{Kind}
-use Rattle.gm_words.specs.declared.table.Kind.TheVariants.{Label, Insert, Configure, Mirror, Provider, Component, Several}
-use Rattle.gm_words.specs.declared.table.Word.{Word}
-use Rattle.gm_words.specs.declared.table.Word.TheVariants.{Name, Names, Wanted, Optional, Possible}
+use Rattle.gm_words.specs.declared.clap_table.Kind.{Kind}
+use Rattle.gm_words.specs.declared.clap_table.Kind.TheVariants.{Label, Insert, Configure, Mirror, Provider, Component, Several}
+use Rattle.gm_words.specs.declared.clap_table.Word.{Word}
+use Rattle.gm_words.specs.declared.clap_table.Word.TheVariants.{Name, Names, Wanted, Optional, Possible}
 
 abbrev pub rule_of_word : Word → Rule
 rule_of_word (Name id) = name id.now

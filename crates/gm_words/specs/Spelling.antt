@@ -12,16 +12,16 @@ use Rattle.clap.specs.Kinds.{Kinds}
 use Rattle.gm_metadata.specs.Balance.{balance_name}
 use Rattle.gm_metadata.specs.Labels.{is_label}
 use Rattle.gm_metadata.specs.declared.flags.MirrorFlags.{MirrorFlags}
-use Rattle.gm_state.specs.declared.command.BalanceWord.{BalanceWord}
-use Rattle.gm_state.specs.declared.command.BalanceWord.TheVariants.{Load, Prefer, RoundRobin, Split}
-use Rattle.gm_state.specs.declared.command.Preference.{Preference}
-use Rattle.gm_state.specs.declared.command.Settings.{Settings}
-use Rattle.gm_state.specs.declared.command.Command.{Command}
-use Rattle.gm_state.specs.declared.command.Command.TheVariants.{Label, Insert, Remove, Deactivate, Activate, Forget, Rebuild, Configure, Clear, Destroy, Lost, Advance, Adopt}
-use Rattle.gm_state.specs.Commands.{balance_of_word, number_words, on_where, setting_words, switch_words}
+use Rattle.gm_commands.specs.declared.command.BalanceWord.{BalanceWord}
+use Rattle.gm_commands.specs.declared.command.BalanceWord.TheVariants.{Load, Prefer, RoundRobin, Split}
+use Rattle.gm_commands.specs.declared.command.Preference.{Preference}
+use Rattle.gm_commands.specs.declared.command.Settings.{Settings}
+use Rattle.gm_commands.specs.declared.command.Command.{Command}
+use Rattle.gm_commands.specs.declared.command.Command.TheVariants.{Label, Insert, Remove, Deactivate, Activate, Forget, Rebuild, Configure, Clear, Destroy, Lost, Advance, Adopt}
+use Rattle.gm_commands.specs.Commands.{balance_of_word, number_words, on_where, setting_words, switch_words}
 use Rattle.gm_words.specs.Table.{table}
-use Rattle.gm_words.specs.declared.words.ComponentNames.{ComponentNames}
-use Rattle.gm_words.specs.declared.words.SeveralNames.{SeveralNames}
+use Rattle.gm_words.specs.declared.command_words.ComponentNames.{ComponentNames}
+use Rattle.gm_words.specs.declared.command_words.SeveralNames.{SeveralNames}
 
 infixl 10 ◌>>=◌
 abbrev pub ◌>>=◌ : {A B : Type 0} → Option A → (A → Option B) → Option B

@@ -1,8 +1,8 @@
 //! What holds of the words of every command: a law, the contract of a function that does nothing.
 
 ghost use Rattle.std.specs.Prelude.{◌≡◌, Some};
-ghost use Rattle.gm_state.specs.declared.command.Command.{Command};
-ghost use Rattle.gm_state.specs.Commands.{CommandFits, words};
+ghost use Rattle.gm_commands.specs.declared.command.Command.{Command};
+ghost use Rattle.gm_commands.specs.Commands.{CommandFits, words};
 ghost use Rattle.gm_words.specs.Spelling.{HasNoFlags, guarded_words, spelled};
 
 /// The canonical words of a command spell it, where no name of it begins with a hyphen. Whatever its names are, so do the

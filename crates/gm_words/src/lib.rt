@@ -1,24 +1,25 @@
-//! What gmbench says, and the words that it is told: the texts that tell of mirrors and of sectors, and the words of commands.
+//! What gmbench says, and the words that it is told: the texts that tell of mirrors and of sectors, and the words of
+//! commands.
 //!
-//! `status.rt` tells in a few lines how the mirrors stand, `listing.rt` all that is known of them, `tasting.rt` what images
+//! `status.rt` tells in a few lines how the mirrors stand, `listing.rt` all that is known of them, `tasted.rt` what images
 //! tell by themselves, and `dump.rt` what a sector says. `lines.rt` has what the lines are made of. What each text says
-//! stands in `specs/` as it is read, line by line. `table.rt` says which words there are, `words.rt` reads a command from
-//! them, and `specs/Spelling.antt` says which words spell which; `laws.rt` says that the words of every command spell it.
+//! stands in `specs/` as it is read, line by line. `clap_table.rt` says which words there are, `command_words.rt` reads a
+//! command from them, and `specs/Spelling.antt` says which words spell which; `laws.rt` says that the words of every command spell it.
 //! Nothing here knows of a registry, a shelf or a bench.
 #![tactic(auto)]
 
+mod clap_table;
+mod command_words;
 mod dump;
 mod laws;
 mod lines;
 mod listing;
 mod status;
-mod table;
-mod tasting;
-mod words;
+mod tasted;
 
+pub use command_words::{WordsFault, read_words};
 pub use dump::dump_text;
 pub use laws::canonical_words;
 pub use listing::list_text;
 pub use status::status_text;
-pub use tasting::tasting_text;
-pub use words::{WordsFault, read_words};
+pub use tasted::tasting_text;

@@ -1,16 +1,16 @@
 -- The numbers by which the program ends.
 use Rattle.std.specs.Prelude.{ℕ, Result, Ok, Err, if◌then◌else◌}
 use Rattle.gm_bench.specs.declared.fault.BenchFault.TheVariants as bench
-use Rattle.gm_front.specs.declared.batching.BatchEnd.{BatchEnd}
-use Rattle.gm_front.specs.declared.batching.BatchEnd.TheVariants.{Ended, Stopped}
-use Rattle.gm_front.specs.declared.batching.FrontFault.{FrontFault}
-use Rattle.gm_front.specs.declared.batching.FrontFault.TheVariants as front
-use Rattle.gmbench.specs.declared.status.Status.{Status}
-use Rattle.gmbench.specs.declared.status.Status.TheVariants as status
-use Rattle.gmbench.specs.declared.status.Fault.{Fault}
-use Rattle.gmbench.specs.declared.status.Fault.TheVariants.{Bench, InputOrOutput}
-use Rattle.gmbench.specs.declared.status.DumpRefusal.{DumpRefusal}
-use Rattle.gmbench.specs.declared.status.DumpRefusal.TheVariants.{Absent, WrongSize}
+use Rattle.gm_front.specs.declared.answer_lines.BatchEnd.{BatchEnd}
+use Rattle.gm_front.specs.declared.answer_lines.BatchEnd.TheVariants.{Ended, Stopped}
+use Rattle.gm_front.specs.declared.answer_lines.FrontFault.{FrontFault}
+use Rattle.gm_front.specs.declared.answer_lines.FrontFault.TheVariants as front
+use Rattle.gmbench.specs.declared.exit.Status.{Status}
+use Rattle.gmbench.specs.declared.exit.Status.TheVariants as status
+use Rattle.gmbench.specs.declared.exit.Fault.{Fault}
+use Rattle.gmbench.specs.declared.exit.Fault.TheVariants.{Bench, InputOrOutput}
+use Rattle.gmbench.specs.declared.exit.DumpRefusal.{DumpRefusal}
+use Rattle.gmbench.specs.declared.exit.DumpRefusal.TheVariants.{Absent, WrongSize}
 
 -- 0 done, 1 refused or damaged, 2 wrong words, 3 a fault
 abbrev pub status_code : Status → ℕ

@@ -1,12 +1,12 @@
 //! The command `batch`, which hands the commands of an input in to a bench.
 
 ghost use Rattle.std.specs.Prelude.{◌≡◌, IfOk};
-ghost use Rattle.gm_bench.specs.Progressing.{TakesCommands};
+ghost use Rattle.gm_bench.specs.Phases.{TakesCommands};
 ghost use Rattle.gmbench.specs.Reports.{MayEnd};
 ghost use Rattle.gmbench.specs.Statuses.{status_of_end};
 
-use crate::status::{Fault, Status};
-use crate::work::Work;
+use crate::bench_command::Work;
+use crate::exit::{Fault, Status};
 use gm_bench::Bench;
 use gm_front::{BatchEnd, FrontFault, batch};
 use gm_shelf::Shelf;

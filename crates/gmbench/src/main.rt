@@ -1,27 +1,27 @@
 //! The program: words in, lines and an exit status out. `program.rt` is all of it; `main` hands it the real streams, once
 //! `stack.rt` has seen to it that there is stack enough, and `streams.rt` that there are three streams.
 //!
-//! `words.rt` has the program's own words. What is done at a bench, by `work.rt`, is done in the folder and with the
-//! registry that `workplace.rt` opens and closes; `recover.rt`, `showing.rt`, `auditing.rt` and `batch.rt` have
-//! the commands. `tasting.rt` has the one that looks at a folder without a registry.
+//! `command_line.rt` has the program's own words. What is done at a bench, by `bench_command.rt`, is done in the folder and
+//! with the registry that `place.rt` opens and closes; `recover.rt`, `show.rt`, `audit.rt` and `batch.rt` have the commands.
+//! `taste.rt` has the one that looks at a folder without a registry.
 #![tactic(auto)]
 
-mod auditing;
+mod audit;
 mod batch;
+mod bench_command;
+mod command_line;
+mod exit;
+mod place;
 mod program;
 mod recover;
-mod showing;
+mod show;
 mod stack;
-mod status;
 mod streams;
-mod tasting;
-mod words;
-mod work;
-mod workplace;
+mod taste;
 
+use exit::{Fault, Status};
 use program::program;
 use stack::take_stack;
-use status::{Fault, Status};
 use std::env;
 use std::io::{BufReader, BufWriter, ErrorKind, Write};
 use std::process::ExitCode;

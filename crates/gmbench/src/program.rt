@@ -1,9 +1,9 @@
 //! All that the program does, over any streams.
 
-use crate::status::{DumpRefusal, Fault, Status};
-use crate::tasting::taste_folder;
-use crate::words::{Job, job_of};
-use crate::workplace::{Place, work_at};
+use crate::command_line::{Job, job_of};
+use crate::exit::{DumpRefusal, Fault, Status};
+use crate::place::{Place, work_at};
+use crate::taste::taste_folder;
 use clap::Error;
 use clap::error::ErrorKind;
 use gm_metadata::{Label, decode};

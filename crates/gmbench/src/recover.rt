@@ -3,8 +3,8 @@
 ghost use Rattle.std.specs.Prelude.{IfOk};
 ghost use Rattle.gmbench.specs.Reports.{IsDone, recovered_text};
 
-use crate::status::{Fault, Status};
-use crate::work::Report;
+use crate::bench_command::Report;
+use crate::exit::{Fault, Status};
 use std::alloc::Global;
 
 /// Says how many pending intents were carried out.

@@ -1,3 +1,3 @@
-pub mod Keeps
 pub mod Calls
+pub mod Keeps
 pub mod Reads

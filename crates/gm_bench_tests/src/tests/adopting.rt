@@ -1,13 +1,11 @@
 //! An adoption whose shelf stops at each of its calls in turn, and what is found behind it.
 
-use crate::support::{
-    IN_SYNC, SYNCHRONIZING, adopts, label, memory, metadata, must, must_say, open, run, sector,
-    shelf, try_run,
-};
+use crate::support::{IN_SYNC, SYNCHRONIZING, adopts, metadata, must_say, open, run, try_run};
 use gm_bench::{Answer, BenchFault};
 use gm_metadata::{Metadata, encode};
 use gm_shelf::{FaultShelf, MemShelf, Shelf};
 use gm_state::Reply;
+use gm_test_media::{label, memory, must, sector, shelf};
 use sqlite::{Alter, Connection};
 use std::alloc::Global;
 use std::test::Fail;

@@ -1,13 +1,13 @@
 //! An advance whose shelf stops at each of its calls in turn, and what its target then claims.
 
 use crate::support::{
-    IN_SYNC, SYNCHRONIZING, add, advances, image, label, memory, metadata, must, must_hold, of_two,
-    open, run, sector, try_run,
+    IN_SYNC, SYNCHRONIZING, advances, metadata, must_hold, of_two, open, run, try_run,
 };
 use gm_bench::{Answer, Bench, BenchFault};
 use gm_metadata::encode;
 use gm_shelf::{FaultShelf, MemShelf, Shelf};
 use gm_state::Reply;
+use gm_test_media::{add, image, label, memory, must, sector};
 use sqlite::{Alter, Connection};
 use std::alloc::Global;
 use std::test::Fail;
@@ -20,7 +20,7 @@ const ALL_THREE: Reply = Reply::Copied { held: 3, total: 3 };
 // a.img and b.img of four sectors, whose data differ in each sector.
 fn unlike(alloc: Global) -> Result<MemShelf, Fail> {
     let mut shelf = MemShelf::new(alloc);
-    add(&mut shelf, "a.img", image(alloc, 3)?)?;
+    add(&mut shelf, "a.img", image(alloc, 3, [0; 512])?)?;
     let mut sectors = Vec::new(alloc);
     for place in 0u8..3 {
         sectors.push([place + 101; 512])?;

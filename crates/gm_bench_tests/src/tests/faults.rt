@@ -3,11 +3,12 @@
 
 use super::stops::{Played, check, play};
 use crate::support::{
-    label, labels, memory, must, open, sector, shelf, try_accept, try_apply, try_audit, try_last,
-    try_open, try_run, try_settle, try_view,
+    labels, open, try_accept, try_apply, try_audit, try_last, try_open, try_run, try_settle,
+    try_view,
 };
 use gm_bench::{Bench, BenchFault, Phase};
 use gm_shelf::{FaultShelf, MemShelf, Shelf};
+use gm_test_media::{label, memory, must, sector, shelf};
 use sqlite::{Alter, Connection};
 use std::alloc::Global;
 use std::test::Fail;

@@ -1,10 +1,11 @@
 //! An audit and a tasting whose shelf stops at each of their looks. Neither changes anything.
 
-use crate::support::{add, inserts, label, labels, memory, must, open, run, shelf, try_audit};
+use crate::support::{inserts, labels, open, run, try_audit};
 use gm_bench::{Bench, BenchFault, Phase, taste_shelf};
 use gm_metadata::DecodeFault;
 use gm_shelf::{FaultShelf, MemShelf, Shelf};
 use gm_taste::{MemberState, Reason, Tasted};
+use gm_test_media::{add, label, memory, must, shelf};
 use sqlite::{Alter, Connection};
 use std::alloc::Global;
 use std::test::Fail;

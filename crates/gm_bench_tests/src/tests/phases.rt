@@ -1,13 +1,13 @@
 //! A command whose calls are made one by one, and what the bench shows between them.
 
 use crate::support::{
-    IN_SYNC, accept, add, image, label, labels, memory, metadata, must, must_be, open, try_apply,
-    try_last, try_settle, try_view,
+    IN_SYNC, accept, labels, metadata, must_be, open, try_apply, try_last, try_settle, try_view,
 };
 use gm_bench::{Answer, Bench, Phase};
 use gm_metadata::Metadata;
 use gm_shelf::{MemShelf, Shelf};
 use gm_state::Reply;
+use gm_test_media::{add, image, label, memory, must};
 use sqlite::{Alter, Connection};
 use std::alloc::Global;
 use std::test::Fail;
@@ -15,7 +15,7 @@ use std::test::Fail;
 // a.img, and one without sectors.
 fn with_an_empty_one(alloc: Global) -> Result<MemShelf, Fail> {
     let mut shelf = MemShelf::new(alloc);
-    add(&mut shelf, "a.img", image(alloc, 3)?)?;
+    add(&mut shelf, "a.img", image(alloc, 3, [0; 512])?)?;
     add(&mut shelf, "empty.img", Vec::new(alloc))?;
     Ok(shelf)
 }

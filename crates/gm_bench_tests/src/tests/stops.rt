@@ -3,15 +3,17 @@
 
 use crate::support::{
     FORCED, IN_SYNC, INACTIVE, NO_FLAGS, SPLIT, SYNCHRONIZING, activates, advances, clears,
-    configures, deactivates, destroys, forgets, inserts, label, labels, loses, memory, metadata,
-    must, must_be, must_keep_data, open, rebuilds, removes, run, shelf, try_accept, try_apply,
-    try_last, try_settle, try_view,
+    configures, deactivates, destroys, forgets, inserts, labels, loses, metadata, must_be,
+    must_keep_data, open, rebuilds, removes, run, try_accept, try_apply, try_last, try_settle,
+    try_view,
 };
 use gm_bench::{Answer, Bench, BenchFault, Phase};
+use gm_commands::Command;
 use gm_metadata::{Balance, DiskFlags, Metadata};
-use gm_rules::{CallRefusal, Refusal};
+use gm_refusals::{CallRefusal, Refusal};
 use gm_shelf::{FaultShelf, Shelf};
-use gm_state::{Command, Component, Disk, Mirror, Reply};
+use gm_state::{Component, Disk, Mirror, Reply};
+use gm_test_media::{label, memory, must, shelf};
 use sqlite::{Alter, Connection};
 use std::alloc::Global;
 use std::test::Fail;

@@ -3,61 +3,23 @@
 
 use super::faults::must_be_closed;
 use super::stops::{Played, must_go_on, play};
-use crate::support::{must, must_keep_data, shelf, try_open};
+use crate::support::{must_keep_data, try_open};
 use gm_bench::{Bench, BenchFault};
 use gm_shelf::{MemShelf, Shelf};
+use gm_test_media::{ALL, Calls, StoreBytes, must, shelf};
 use sqlite::{Alter, Connection, Files, Options};
-use sqlite_disk::{Crash, Disk, Fuse, Memory};
+use sqlite_disk::{Crash, Disk};
 use std::alloc::Global;
 use std::test::Fail;
 
 // A run is over long before it makes so many calls of one file.
 const MANY: u64 = 400;
 
-// What the two files of a store hold, and the images.
+// A store of two files, and the images.
 #[derive(Drop)]
 struct Media {
-    log: Vec<u8>,
-    db: Vec<u8>,
+    store: StoreBytes,
     shelf: MemShelf,
-}
-
-// How many calls each file serves.
-#[derive(Clone, Copy)]
-struct Calls {
-    log: u64,
-    db: u64,
-}
-
-const ALL: Calls = Calls {
-    log: u64::MAX,
-    db: u64::MAX,
-};
-
-// A disk with these bytes that serves so many calls.
-fn disk(alloc: Global, bytes: &[u8], calls: u64) -> Result<Fuse<Memory>, Fail> {
-    let mut disk = Memory::new(alloc);
-    disk.write_at(0, bytes)?;
-    if !disk.may_be_used() {
-        return Err("a sync failed")?;
-    }
-    disk.sync()?;
-    Ok(Fuse::new(disk, calls))
-}
-
-fn files(alloc: Global, from: &Media, calls: Calls) -> Result<Files<Fuse<Memory>>, Fail> {
-    Ok(Files {
-        log: disk(alloc, from.log.as_slice(), calls.log)?,
-        db: disk(alloc, from.db.as_slice(), calls.db)?,
-    })
-}
-
-fn media_of(alloc: Global, files: &Files<Fuse<Memory>>, shelf: MemShelf) -> Result<Media, Fail> {
-    Ok(Media {
-        log: files.log.inner().bytes().to_vec(alloc)?,
-        db: files.db.inner().bytes().to_vec(alloc)?,
-        shelf,
-    })
 }
 
 // What is asked of a bench that is opened over both media.
@@ -183,7 +145,7 @@ struct Outcome {
 // A crash loses of both media what isn't synced.
 fn run_for(alloc: Global, from: &Media, calls: Calls, job: Job) -> Result<Outcome, Fail> {
     let shelf = from.shelf.crash_image(&[])?;
-    let left = perform_on_files(alloc, files(alloc, from, calls)?, shelf, job)?;
+    let left = perform_on_files(alloc, from.store.files(alloc, calls)?, shelf, job)?;
     let Left {
         told,
         stopped,
@@ -191,10 +153,16 @@ fn run_for(alloc: Global, from: &Media, calls: Calls, job: Job) -> Result<Outcom
         shelf,
     } = left;
     let crashed_shelf = shelf.crash_image(&[])?;
-    let read = media_of(alloc, &files, shelf)?;
+    let read = Media {
+        store: StoreBytes::of(alloc, &files)?,
+        shelf,
+    };
     files.log.crash();
     files.db.crash();
-    let crashed = media_of(alloc, &files, crashed_shelf)?;
+    let crashed = Media {
+        store: StoreBytes::of(alloc, &files)?,
+        shelf: crashed_shelf,
+    };
     Ok(Outcome {
         told,
         stopped,
@@ -214,8 +182,7 @@ fn run(alloc: Global, from: &Media, job: Job) -> Result<Media, Fail> {
 // Both media after so many commands of the script.
 fn media_after(alloc: Global, commands: u64) -> Result<Media, Fail> {
     let mut media = Media {
-        log: Vec::new(alloc),
-        db: Vec::new(alloc),
+        store: StoreBytes::new(alloc),
         shelf: shelf(alloc)?,
     };
     for before in 0..commands {
@@ -229,7 +196,7 @@ const AS_IT_STANDS: [u32; 12] = [u32::MAX; 12];
 
 // Opens both media again and holds them to the model; how much the opening carried out.
 fn look(alloc: Global, left: &Media, done: u64) -> Result<u64, Fail> {
-    let files = files(alloc, left, ALL)?;
+    let files = left.store.files(alloc, ALL)?;
     let shelf = left.shelf.crash_image(&AS_IT_STANDS)?;
     let looked = perform_on_files(alloc, files, shelf, Job::Look { done })?;
     let told = looked.told.ok_or("not opened again")?;

@@ -1,12 +1,13 @@
 //! A bench that fails at a line, since its shelf stopped, and a bench that has failed.
 
 use super::{
-    DESTROY, DONE, INSERT, LABEL, NO_MIRRORS, REFUSED, REMOVE, Told, answers, memory, must, open,
-    shelf, shows, tell, try_batch, try_status,
+    DESTROY, DONE, INSERT, LABEL, NO_MIRRORS, REFUSED, REMOVE, Told, answers, open, shows, tell,
+    try_batch, try_status,
 };
 use gm_bench::{Bench, BenchFault};
 use gm_front::{BatchEnd, FrontFault};
 use gm_shelf::{FaultShelf, MemShelf, Shelf};
+use gm_test_media::{memory, must, shelf};
 use sqlite::{Alter, Connection};
 use std::alloc::Global;
 use std::io::{self, ErrorKind, Write};

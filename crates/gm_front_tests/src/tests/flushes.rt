@@ -1,7 +1,8 @@
 //! Each answer is flushed before the next line is read.
 
-use super::{LABEL, REFUSED, memory, must, open, shelf, try_batch};
+use super::{LABEL, REFUSED, open, try_batch};
 use gm_shelf::Shelf;
+use gm_test_media::{memory, must, shelf};
 use sqlite::{Alter, Connection};
 use std::alloc::Global;
 use std::cell::Cell;

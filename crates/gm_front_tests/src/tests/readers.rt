@@ -1,9 +1,10 @@
 //! Inputs that come slowly, and inputs that fail.
 
-use super::{DONE, INSERT, LABEL, REMOVE, answers, memory, must, open, shelf, try_batch};
+use super::{DONE, INSERT, LABEL, REMOVE, answers, open, try_batch};
 use gm_bench::Bench;
 use gm_front::{BatchEnd, FrontFault};
 use gm_shelf::Shelf;
+use gm_test_media::{memory, must, shelf};
 use sqlite::{Alter, Connection};
 use std::alloc::Global;
 use std::io::{self, ErrorKind, Read};

@@ -1,7 +1,8 @@
 //! A command that is handed in again, to a bench whose shelf serves no call.
 
-use super::{DONE, LABEL, OF_ONE, REFUSED, answers, memory, must_be_alike, open, shelf, shows};
+use super::{DONE, LABEL, OF_ONE, REFUSED, answers, open, shows};
 use gm_shelf::{FaultShelf, Shelf};
+use gm_test_media::{memory, must_be_alike, shelf};
 use sqlite::{Alter, Connection};
 use std::alloc::Global;
 use std::test::Fail;

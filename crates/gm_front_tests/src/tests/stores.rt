@@ -2,61 +2,23 @@
 //! calls in turn.
 
 use super::faults::{done_of, goes_on, is_closed, script};
-use super::{DONE, LABEL, REFUSED, Told, answers, must, must_be_alike, shelf, tell, try_open};
+use super::{DONE, LABEL, REFUSED, Told, answers, tell, try_open};
 use gm_bench::{Bench, BenchFault};
 use gm_shelf::{MemShelf, Shelf};
+use gm_test_media::{ALL, Calls, StoreBytes, must, must_be_alike, shelf};
 use sqlite::{Alter, Connection, Files, Options};
-use sqlite_disk::{Disk, Fuse, Memory};
+use sqlite_disk::Disk;
 use std::alloc::Global;
 use std::test::Fail;
 
 // A run is over long before it makes ten times as many calls of one file.
 const MANY: u64 = 100;
 
-// What the two files of a store hold, and the images.
+// A store of two files, and the images.
 #[derive(Drop)]
 struct Media {
-    log: Vec<u8>,
-    db: Vec<u8>,
+    store: StoreBytes,
     shelf: MemShelf,
-}
-
-// How many calls each file serves.
-#[derive(Clone, Copy)]
-struct Calls {
-    log: u64,
-    db: u64,
-}
-
-const ALL: Calls = Calls {
-    log: u64::MAX,
-    db: u64::MAX,
-};
-
-// A disk with these bytes that serves so many calls.
-fn disk(alloc: Global, bytes: &[u8], calls: u64) -> Result<Fuse<Memory>, Fail> {
-    let mut disk = Memory::new(alloc);
-    disk.write_at(0, bytes)?;
-    if !disk.may_be_used() {
-        return Err("a sync failed")?;
-    }
-    disk.sync()?;
-    Ok(Fuse::new(disk, calls))
-}
-
-fn files(alloc: Global, from: &Media, calls: Calls) -> Result<Files<Fuse<Memory>>, Fail> {
-    Ok(Files {
-        log: disk(alloc, from.log.as_slice(), calls.log)?,
-        db: disk(alloc, from.db.as_slice(), calls.db)?,
-    })
-}
-
-fn media_of(alloc: Global, files: &Files<Fuse<Memory>>, shelf: MemShelf) -> Result<Media, Fail> {
-    Ok(Media {
-        log: files.log.inner().bytes().to_vec(alloc)?,
-        db: files.db.inner().bytes().to_vec(alloc)?,
-        shelf,
-    })
 }
 
 // What is asked of a bench.
@@ -182,24 +144,24 @@ fn run(alloc: Global, from: &Media, calls: Calls, job: Job) -> Result<(u64, Medi
     let shelf = from.shelf.crash_image(&AS_IT_STANDS)?;
     let Left { done, files, shelf } = perform_on_files(
         alloc,
-        files(alloc, from, calls)?,
+        from.store.files(alloc, calls)?,
         shelf,
         job,
     )?;
-    Ok((done, media_of(alloc, &files, shelf)?))
+    let store = StoreBytes::of(alloc, &files)?;
+    Ok((done, Media { store, shelf }))
 }
 
 fn fresh(alloc: Global) -> Result<Media, Fail> {
     Ok(Media {
-        log: Vec::new(alloc),
-        db: Vec::new(alloc),
+        store: StoreBytes::new(alloc),
         shelf: shelf(alloc)?,
     })
 }
 
 fn must_be_the_same(first: &mut Media, second: &mut Media) -> Result<(), Fail> {
-    must(first.log == second.log, "another log")?;
-    must(first.db == second.db, "another database")?;
+    must(first.store.log == second.store.log, "another log")?;
+    must(first.store.db == second.store.db, "another database")?;
     must_be_alike(&mut first.shelf, &mut second.shelf)
 }
 
@@ -209,7 +171,7 @@ fn what_is_repeated_or_refused_changes_no_byte(rt: HostRuntime) -> Result<(), Fa
     let (_, labelled) = run(alloc, &fresh(alloc)?, ALL, Job::Label)?;
     let (_, mut once) = run(alloc, &labelled, ALL, Job::Idle)?;
     let (_, mut twice) = run(alloc, &once, ALL, Job::Idle)?;
-    must(once.db == labelled.db, "another database")?;
+    must(once.store.db == labelled.store.db, "another database")?;
     must_be_the_same(&mut once, &mut twice)
 }
 

@@ -1,9 +1,10 @@
 //! Outputs that take little at a time, and outputs that fail.
 
-use super::{DONE, INSERT, LABEL, answers, memory, must, open, shelf, try_batch};
+use super::{DONE, INSERT, LABEL, answers, open, try_batch};
 use gm_bench::Bench;
 use gm_front::{BatchEnd, FrontFault};
 use gm_shelf::Shelf;
+use gm_test_media::{memory, must, shelf};
 use sqlite::{Alter, Connection};
 use std::alloc::Global;
 use std::io::{self, ErrorKind, Write};

@@ -1,7 +1,7 @@
 //! How many rows of tables one accepted command writes, counted below the connection.
 
 use super::{accept, destroys, inserts, labels, labels_on, open, settle};
-use gm_rules::Change;
+use gm_changes::Change;
 use sqlite::{Connection, MemStore};
 use sqlite_trees::error::StoreError;
 use sqlite_trees::schema::Object;

@@ -1,9 +1,11 @@
 //! Tables that say a state, and tables that say none.
 
-use super::{NO_FLAGS, label, memory, must, open};
+use super::{NO_FLAGS, open};
 use gm_metadata::{Balance, MirrorFlags};
-use gm_registry::{Registry, StoreFault};
+use gm_registry::Registry;
+use gm_rows::StoreFault;
 use gm_state::{Component, Disk, Intent, Mirror, State};
+use gm_test_media::{label, memory, must};
 use sqlite::{Alter, Connection};
 use std::alloc::Global;
 use std::test::Fail;

@@ -1,8 +1,10 @@
 //! The part of the records that a command asks for is read by keys.
 
-use super::{accept, label, labels, memory, must, must_count, open, settle};
-use gm_registry::{Part, Registry, StoreFault};
-use gm_state::Command;
+use super::{accept, labels, must_count, open, settle};
+use gm_commands::Command;
+use gm_registry::{Part, Registry};
+use gm_rows::StoreFault;
+use gm_test_media::{label, memory, must};
 use sqlite::{Alter, Connection};
 use std::alloc::Global;
 use std::test::Fail;

@@ -1,10 +1,11 @@
 //! A store of two files, of which one stops at each of its calls in turn, and what is found when it is opened again.
 
 use super::{accept, accepted, inserts, labels, loads, number, settle};
+use gm_changes::Change;
 use gm_registry::Registry;
-use gm_rules::Change;
+use gm_test_media::{ALL, Calls, StoreBytes};
 use sqlite::{Alter, Connection, Files, Options};
-use sqlite_disk::{Crash, Disk, Fuse, Memory};
+use sqlite_disk::{Crash, Disk};
 use std::alloc::Global;
 use std::test::Fail;
 
@@ -24,50 +25,6 @@ const NOTHING: Reached = Reached {
     accepted: false,
     settled: false,
 };
-
-// What the two files of a store hold.
-#[derive(Drop)]
-pub(super) struct Media {
-    log: Vec<u8>,
-    pub(super) db: Vec<u8>,
-}
-
-// How many calls each file serves.
-#[derive(Clone, Copy)]
-struct Calls {
-    log: u64,
-    db: u64,
-}
-
-const ALL: Calls = Calls {
-    log: u64::MAX,
-    db: u64::MAX,
-};
-
-// A disk with these bytes that serves so many calls.
-fn disk(alloc: Global, bytes: &[u8], calls: u64) -> Result<Fuse<Memory>, Fail> {
-    let mut disk = Memory::new(alloc);
-    disk.write_at(0, bytes)?;
-    if !disk.may_be_used() {
-        return Err("a sync failed")?;
-    }
-    disk.sync()?;
-    Ok(Fuse::new(disk, calls))
-}
-
-fn files(alloc: Global, from: &Media, calls: Calls) -> Result<Files<Fuse<Memory>>, Fail> {
-    Ok(Files {
-        log: disk(alloc, from.log.as_slice(), calls.log)?,
-        db: disk(alloc, from.db.as_slice(), calls.db)?,
-    })
-}
-
-fn media_of(alloc: Global, files: &Files<Fuse<Memory>>) -> Result<Media, Fail> {
-    Ok(Media {
-        log: files.log.inner().bytes().to_vec(alloc)?,
-        db: files.db.inner().bytes().to_vec(alloc)?,
-    })
-}
 
 // What is asked of a store that is opened over files.
 #[derive(Clone, Copy)]
@@ -203,23 +160,23 @@ fn perform_on_files<D: Disk + Drop>(
 pub(super) struct Outcome {
     pub(super) reached: Reached,
     pub(super) stopped: bool,
-    pub(super) read: Media,
-    crashed: Media,
+    pub(super) read: StoreBytes,
+    crashed: StoreBytes,
 }
 
 fn run_for(
     alloc: Global,
-    from: &Media,
+    from: &StoreBytes,
     calls: Calls,
     change: &Change,
     key: &str,
 ) -> Result<Outcome, Fail> {
     let job = Job::Run(change, key);
-    let (told, stopped, mut left) = perform_on_files(alloc, files(alloc, from, calls)?, &job);
-    let read = media_of(alloc, &left)?;
+    let (told, stopped, mut left) = perform_on_files(alloc, from.files(alloc, calls)?, &job);
+    let read = StoreBytes::of(alloc, &left)?;
     left.log.crash();
     left.db.crash();
-    let crashed = media_of(alloc, &left)?;
+    let crashed = StoreBytes::of(alloc, &left)?;
     Ok(Outcome {
         reached: told.reached,
         stopped,
@@ -231,7 +188,7 @@ fn run_for(
 // A run over files that don't stop.
 pub(super) fn run(
     alloc: Global,
-    from: &Media,
+    from: &StoreBytes,
     change: &Change,
     key: &str,
 ) -> Result<Outcome, Fail> {
@@ -239,13 +196,17 @@ pub(super) fn run(
 }
 
 // The files after these statements of somebody else's.
-pub(super) fn edited(alloc: Global, from: &Media, statements: &str) -> Result<Media, Fail> {
+pub(super) fn edited(
+    alloc: Global,
+    from: &StoreBytes,
+    statements: &str,
+) -> Result<StoreBytes, Fail> {
     let job = Job::Edit(statements);
-    let (told, stopped, left) = perform_on_files(alloc, files(alloc, from, ALL)?, &job);
+    let (told, stopped, left) = perform_on_files(alloc, from.files(alloc, ALL)?, &job);
     if stopped || !told.edited {
         return Err("not edited")?;
     }
-    media_of(alloc, &left)
+    StoreBytes::of(alloc, &left)
 }
 
 // Each command puts a component more, and asks for the metadata of all.
@@ -269,14 +230,14 @@ fn is_between(found: Found, before: u64, reached: Reached) -> Result<(), Fail> {
     Ok(())
 }
 
-fn check(alloc: Global, left: &Media, before: u64, reached: Reached) -> Result<(), Fail> {
-    let (told, _, _) = perform_on_files(alloc, files(alloc, left, ALL)?, &Job::Look);
+fn check(alloc: Global, left: &StoreBytes, before: u64, reached: Reached) -> Result<(), Fail> {
+    let (told, _, _) = perform_on_files(alloc, left.files(alloc, ALL)?, &Job::Look);
     let found = told.found.ok_or("not opened again")?;
     is_between(found, before, reached)
 }
 
 // One run with a stop, and whether it came; the files are checked as they read and as a crash leaves them.
-fn stop_at(alloc: Global, from: &Media, before: u64, calls: Calls) -> Result<bool, Fail> {
+fn stop_at(alloc: Global, from: &StoreBytes, before: u64, calls: Calls) -> Result<bool, Fail> {
     let (change, key) = if before == 0 {
         (labels(alloc)?, "k1")
     } else {
@@ -289,7 +250,7 @@ fn stop_at(alloc: Global, from: &Media, before: u64, calls: Calls) -> Result<boo
 }
 
 // Stops at each call of the first file, then of the second, until a run ends without a stop.
-fn stop_at_each(alloc: Global, from: &Media, before: u64) -> Result<(), Fail> {
+fn stop_at_each(alloc: Global, from: &StoreBytes, before: u64) -> Result<(), Fail> {
     let mut log_ended = false;
     let mut db_ended = false;
     for calls in 0..MANY {
@@ -306,16 +267,9 @@ fn stop_at_each(alloc: Global, from: &Media, before: u64) -> Result<(), Fail> {
     Ok(())
 }
 
-fn nothing(alloc: Global) -> Media {
-    Media {
-        log: Vec::new(alloc),
-        db: Vec::new(alloc),
-    }
-}
-
 // A registry with one component, settled.
-pub(super) fn one_command(alloc: Global) -> Result<Media, Fail> {
-    let run = run(alloc, &nothing(alloc), &labels(alloc)?, "k1")?;
+pub(super) fn one_command(alloc: Global) -> Result<StoreBytes, Fail> {
+    let run = run(alloc, &StoreBytes::new(alloc), &labels(alloc)?, "k1")?;
     if run.stopped || !run.reached.settled {
         return Err("it stopped")?;
     }
@@ -324,7 +278,7 @@ pub(super) fn one_command(alloc: Global) -> Result<Media, Fail> {
 
 #[test]
 fn a_stop_while_a_registry_is_made(rt: HostRuntime) -> Result<(), Fail> {
-    stop_at_each(rt.alloc(), &nothing(rt.alloc()), 0)
+    stop_at_each(rt.alloc(), &StoreBytes::new(rt.alloc()), 0)
 }
 
 #[test]

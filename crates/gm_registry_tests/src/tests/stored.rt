@@ -1,10 +1,12 @@
 //! The files that registries are, byte for byte.
 
 use super::stops::one_command;
-use super::{NO_FLAGS, accept, bare, change, label, open, settle};
+use super::{NO_FLAGS, accept, bare, change, open, settle};
+use gm_changes::changed_by;
+use gm_commands::{BalanceWord, Command, NewComponent, NewMirror, Slice, words_of};
 use gm_registry::Registry;
-use gm_rules::changed_by;
-use gm_state::{BalanceWord, Command, NewComponent, NewMirror, Slice, State, words_of};
+use gm_state::State;
+use gm_test_media::label;
 use md5::{Digest, Md5};
 use sqlite::{Alter, Connection};
 use std::alloc::Global;

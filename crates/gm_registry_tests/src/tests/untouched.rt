@@ -2,7 +2,8 @@
 
 use super::inserts;
 use super::loading::{EDITS, ROWS};
-use super::stops::{Media, edited, one_command, run};
+use super::stops::{edited, one_command, run};
+use gm_test_media::StoreBytes;
 use std::alloc::Global;
 use std::test::Fail;
 
@@ -17,12 +18,12 @@ const OTHERS: [&str; 3] = [
 const EMPTY: &str = "DELETE FROM commands; DELETE FROM components; DELETE FROM mirrors";
 
 // Whether it says no state, and each byte of the database is as it was.
-fn is_left_alone(alloc: Global, from: &Media) -> Result<bool, Fail> {
+fn is_left_alone(alloc: Global, from: &StoreBytes) -> Result<bool, Fail> {
     let run = run(alloc, from, &inserts(alloc)?, "k9")?;
     Ok(!run.reached.loaded && !run.stopped && run.read.db == from.db)
 }
 
-fn are_left_alone(alloc: Global, from: &Media, edits: &[&str]) -> Result<bool, Fail> {
+fn are_left_alone(alloc: Global, from: &StoreBytes, edits: &[&str]) -> Result<bool, Fail> {
     for edit in edits {
         if !is_left_alone(alloc, &edited(alloc, from, edit)?)? {
             return Ok(false);

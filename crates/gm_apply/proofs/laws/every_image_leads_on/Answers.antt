@@ -1,4 +1,4 @@
-use Rattle.gm_apply.proofs.Leading.{leads_on, ends_there}
+use Rattle.gm_apply.proofs.LeadsOn.{leads_on, ends_there}
 use Rattle.gm_apply.proofs.laws.every_image_leads_on.Goals as goal
 
 pub returns-clause-part : goal.returns-clause-part

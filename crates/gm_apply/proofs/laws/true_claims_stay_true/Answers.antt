@@ -1,4 +1,4 @@
-use Rattle.gm_apply.proofs.Leading.{claims_kept, new_claims_kept}
+use Rattle.gm_apply.proofs.LeadsOn.{claims_kept, new_claims_kept}
 use Rattle.gm_apply.proofs.laws.true_claims_stay_true.Goals as goal
 
 pub returns-clause-old : goal.returns-clause-old

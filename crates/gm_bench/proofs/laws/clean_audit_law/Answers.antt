@@ -1,4 +1,4 @@
-use Rattle.gm_bench.proofs.Agreeing.{agree}
+use Rattle.gm_bench.proofs.AuditAgrees.{agree}
 use Rattle.gm_bench.proofs.laws.clean_audit_law.Goals as goal
 
 pub returns : goal.returns

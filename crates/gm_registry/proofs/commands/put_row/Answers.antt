@@ -1,13 +1,13 @@
 use Rattle.sqlite.specs.Held.{state}
 use Rattle.sqlite_rows.proofs.Statements.{at_inside, keeps_held}
 use Rattle.gm_state.specs.Rows.{CommandRow}
-use Rattle.gm_registry.specs.Schema.{registry_schema}
-use Rattle.gm_registry.specs.Statements.{put_command_text}
-use Rattle.gm_registry.specs.Rows.{command_values}
-use Rattle.gm_registry.specs.Tables.{HasRows}
+use Rattle.gm_rows.specs.Schema.{registry_schema}
+use Rattle.gm_rows.specs.Statements.{put_command_text}
+use Rattle.gm_rows.specs.Rows.{command_values}
+use Rattle.gm_rows.specs.Tables.{HasRows}
 use Rattle.gm_registry.specs.Changes.{with_command}
-use Rattle.gm_registry.proofs.Meaning.{put_command_is}
-use Rattle.gm_registry.proofs.Changing.{puts_command}
+use Rattle.gm_registry.proofs.TextMeanings.{put_command_is}
+use Rattle.gm_registry.proofs.ChangedTables.{puts_command}
 use Rattle.gm_registry.proofs.commands.put_row.Goals as goal
 
 pub returns-clause-put : goal.returns-clause-put

@@ -2,12 +2,12 @@ use Rattle.std.proofs.Common.{[], ◌∷◌}
 use Rattle.sqlite.specs.declared.types.Value.TheVariants.{Text}
 use Rattle.sqlite.specs.Held.{state}
 use Rattle.sqlite_rows.proofs.Statements.{at_inside, keeps_held}
-use Rattle.gm_registry.specs.Schema.{registry_schema}
-use Rattle.gm_registry.specs.Statements.{drop_component_text}
-use Rattle.gm_registry.specs.Tables.{HasRows}
+use Rattle.gm_rows.specs.Schema.{registry_schema}
+use Rattle.gm_rows.specs.Statements.{drop_component_text}
+use Rattle.gm_rows.specs.Tables.{HasRows}
 use Rattle.gm_registry.specs.Changes.{without_component}
-use Rattle.gm_registry.proofs.Meaning.{drop_component_is}
-use Rattle.gm_registry.proofs.Changing.{drops_component}
+use Rattle.gm_registry.proofs.TextMeanings.{drop_component_is}
+use Rattle.gm_registry.proofs.ChangedTables.{drops_component}
 use Rattle.gm_registry.proofs.components.drop_component.Goals as goal
 
 pub returns-clause-put : goal.returns-clause-put

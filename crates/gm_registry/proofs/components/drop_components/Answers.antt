@@ -2,8 +2,8 @@ use Rattle.std.proofs.Common.{take, refl, subst, ◌∙◌}
 use Rattle.std.proofs.lemmas.List.{take_all}
 use Rattle.sqlite.specs.Held.{state}
 use Rattle.sqlite_rows.proofs.Looping.{one_more, goes_on}
-use Rattle.gm_registry.specs.Schema.{registry_schema}
-use Rattle.gm_registry.specs.Tables.{HasRows, IsInside}
+use Rattle.gm_rows.specs.Schema.{registry_schema}
+use Rattle.gm_rows.specs.Tables.{HasRows, IsInside}
 use Rattle.gm_registry.specs.Changes.{without_component, without_components}
 use Rattle.gm_registry.proofs.components.drop_components.Goals as goal
 

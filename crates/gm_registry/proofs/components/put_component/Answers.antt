@@ -4,13 +4,13 @@ use Rattle.sqlite.specs.Held.{state}
 use Rattle.sqlite_rows.proofs.Statements.{at_inside, keeps_held}
 use Rattle.gm_state.specs.Disks.{held_of}
 use Rattle.gm_state.specs.Rows.{component_row}
-use Rattle.gm_registry.specs.Schema.{registry_schema}
-use Rattle.gm_registry.specs.Statements.{upsert_component_text}
-use Rattle.gm_registry.specs.Rows.{component_values}
-use Rattle.gm_registry.specs.Tables.{HasRows}
+use Rattle.gm_rows.specs.Schema.{registry_schema}
+use Rattle.gm_rows.specs.Statements.{upsert_component_text}
+use Rattle.gm_rows.specs.Rows.{component_values}
+use Rattle.gm_rows.specs.Tables.{HasRows}
 use Rattle.gm_registry.specs.Changes.{with_component}
-use Rattle.gm_registry.proofs.Meaning.{upsert_component_is}
-use Rattle.gm_registry.proofs.Changing.{upserts_component}
+use Rattle.gm_registry.proofs.TextMeanings.{upsert_component_is}
+use Rattle.gm_registry.proofs.ChangedTables.{upserts_component}
 use Rattle.gm_registry.proofs.components.put_component.Goals as goal
 
 pub returns-clause-put : goal.returns-clause-put

@@ -3,10 +3,10 @@ use Rattle.std.proofs.lemmas.List.{take_all}
 use Rattle.sqlite.specs.Held.{state}
 use Rattle.sqlite_rows.proofs.Looping.{goes_as}
 use Rattle.gm_state.specs.Rows.{intent_row, intent_rows}
-use Rattle.gm_registry.specs.Schema.{registry_schema}
-use Rattle.gm_registry.specs.Tables.{HasRows, IsInside}
+use Rattle.gm_rows.specs.Schema.{registry_schema}
+use Rattle.gm_rows.specs.Tables.{HasRows, IsInside}
 use Rattle.gm_registry.specs.Changes.{with_intents}
-use Rattle.gm_registry.proofs.Pending.{behind}
+use Rattle.gm_registry.proofs.PendingRows.{behind}
 use Rattle.gm_registry.proofs.intents.put_intents.Goals as goal
 
 pub puts-preserved : goal.puts-preserved

@@ -2,12 +2,12 @@ use Rattle.std.proofs.Common.{[], ◌∷◌}
 use Rattle.sqlite.specs.Held.{state}
 use Rattle.sqlite_rows.proofs.Statements.{at_inside, keeps_held}
 use Rattle.gm_state.specs.Rows.{IntentRow}
-use Rattle.gm_registry.specs.Schema.{registry_schema}
-use Rattle.gm_registry.specs.Statements.{put_intent_text}
-use Rattle.gm_registry.specs.Tables.{HasRows}
+use Rattle.gm_rows.specs.Schema.{registry_schema}
+use Rattle.gm_rows.specs.Statements.{put_intent_text}
+use Rattle.gm_rows.specs.Tables.{HasRows}
 use Rattle.gm_registry.specs.Changes.{with_intents}
-use Rattle.gm_registry.proofs.Meaning.{put_intent_is}
-use Rattle.gm_registry.proofs.Changing.{intent_params, puts_intent}
+use Rattle.gm_registry.proofs.TextMeanings.{put_intent_is}
+use Rattle.gm_registry.proofs.ChangedTables.{intent_params, puts_intent}
 use Rattle.gm_registry.proofs.intents.put_row.Goals as goal
 
 pub returns-clause-put : goal.returns-clause-put

@@ -3,13 +3,13 @@ use Rattle.sqlite.specs.Held.{state}
 use Rattle.sqlite.proofs.StateLemmas.{survives_weaker}
 use Rattle.sqlite_rows.proofs.Statements.{at_alone, alone_crash}
 use Rattle.sqlite_rows.proofs.Refusing.{refused_has}
-use Rattle.gm_registry.specs.Statements.{settle_text}
-use Rattle.gm_registry.specs.Schema.{registry_schema}
-use Rattle.gm_registry.specs.Tables.{HasCounted}
+use Rattle.gm_rows.specs.Statements.{settle_text}
+use Rattle.gm_rows.specs.Schema.{registry_schema}
+use Rattle.gm_rows.specs.Tables.{HasCounted}
 use Rattle.gm_registry.specs.Changes.{settled}
-use Rattle.gm_registry.proofs.Meaning.{settle_is}
-use Rattle.gm_registry.proofs.Counting.{settles_counted}
-use Rattle.gm_registry.proofs.Saving.{writes}
+use Rattle.gm_registry.proofs.TextMeanings.{settle_is}
+use Rattle.gm_registry.proofs.CountedThrough.{settles_counted}
+use Rattle.gm_registry.proofs.CallsLeave.{writes}
 use Rattle.gm_registry.proofs.intents.settle_on.Goals as goal
 
 pub returns : goal.returns

@@ -1,4 +1,4 @@
-use Rattle.gm_registry.proofs.Saving.{saved}
+use Rattle.gm_registry.proofs.CallsLeave.{saved}
 use Rattle.gm_registry.proofs.laws.tables_are_saved.Goals as goal
 
 pub returns : goal.returns

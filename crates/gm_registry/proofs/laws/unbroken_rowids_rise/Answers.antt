@@ -1,4 +1,4 @@
-use Rattle.gm_registry.proofs.Rising.{rising}
+use Rattle.gm_registry.proofs.RisingRowids.{rising}
 use Rattle.gm_registry.proofs.laws.unbroken_rowids_rise.Goals as goal
 
 pub returns : goal.returns

@@ -2,12 +2,12 @@ use Rattle.std.proofs.Common.{[], ◌∷◌}
 use Rattle.sqlite.specs.declared.types.Value.TheVariants.{Text}
 use Rattle.sqlite.specs.Held.{state}
 use Rattle.sqlite_rows.proofs.Statements.{at_inside, keeps_held}
-use Rattle.gm_registry.specs.Schema.{registry_schema}
-use Rattle.gm_registry.specs.Statements.{drop_mirror_text}
-use Rattle.gm_registry.specs.Tables.{HasRows}
+use Rattle.gm_rows.specs.Schema.{registry_schema}
+use Rattle.gm_rows.specs.Statements.{drop_mirror_text}
+use Rattle.gm_rows.specs.Tables.{HasRows}
 use Rattle.gm_registry.specs.Changes.{without_mirror}
-use Rattle.gm_registry.proofs.Meaning.{drop_mirror_is}
-use Rattle.gm_registry.proofs.Changing.{drops_mirror}
+use Rattle.gm_registry.proofs.TextMeanings.{drop_mirror_is}
+use Rattle.gm_registry.proofs.ChangedTables.{drops_mirror}
 use Rattle.gm_registry.proofs.mirrors.drop_mirror.Goals as goal
 
 pub returns-clause-put : goal.returns-clause-put

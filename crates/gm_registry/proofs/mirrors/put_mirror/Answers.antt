@@ -3,13 +3,13 @@ use Rattle.std.proofs.lemmas.Int.{to_z_pos}
 use Rattle.sqlite.specs.Held.{state}
 use Rattle.sqlite_rows.proofs.Statements.{at_inside, keeps_held}
 use Rattle.gm_state.specs.Rows.{mirror_row}
-use Rattle.gm_registry.specs.Schema.{registry_schema}
-use Rattle.gm_registry.specs.Statements.{upsert_mirror_text}
-use Rattle.gm_registry.specs.Rows.{mirror_values}
-use Rattle.gm_registry.specs.Tables.{HasRows}
+use Rattle.gm_rows.specs.Schema.{registry_schema}
+use Rattle.gm_rows.specs.Statements.{upsert_mirror_text}
+use Rattle.gm_rows.specs.Rows.{mirror_values}
+use Rattle.gm_rows.specs.Tables.{HasRows}
 use Rattle.gm_registry.specs.Changes.{with_mirror}
-use Rattle.gm_registry.proofs.Meaning.{upsert_mirror_is}
-use Rattle.gm_registry.proofs.Changing.{upserts_mirror}
+use Rattle.gm_registry.proofs.TextMeanings.{upsert_mirror_is}
+use Rattle.gm_registry.proofs.ChangedTables.{upserts_mirror}
 use Rattle.gm_registry.proofs.mirrors.put_mirror.Goals as goal
 
 pub returns-clause-put : goal.returns-clause-put

@@ -1,7 +1,7 @@
 use Rattle.std.proofs.Common.{arith, sym, ap, ◌∙◌, length, slice_get}
-use Rattle.gm_registry.proofs.Lasting.{no_command, last_number, last_in_range}
-use Rattle.gm_registry.proofs.Saying.{passed_on}
-use Rattle.gm_registry.proofs.Saving.{saved}
+use Rattle.gm_registry.proofs.LastCommand.{no_command, last_number, last_in_range}
+use Rattle.gm_rows.proofs.RowsSayRecords.{passed_on}
+use Rattle.gm_registry.proofs.CallsLeave.{saved}
 use Rattle.gm_registry.proofs.replies.accepted_on.Goals as goal
 
 pub returns-in-None-clause-count : goal.returns-in-None-clause-count

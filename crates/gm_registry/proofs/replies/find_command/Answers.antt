@@ -2,14 +2,14 @@ use Rattle.std.proofs.Common.{[], ◌∷◌}
 use Rattle.sqlite.specs.declared.types.Value.TheVariants.{Text}
 use Rattle.sqlite.specs.Held.{state}
 use Rattle.sqlite_rows.proofs.Refusing.{if_ok, if_err, shown_has, shown_ok, asked_has, asks_only}
-use Rattle.gm_registry.specs.Statements.{find_command_text}
-use Rattle.gm_registry.specs.Schema.{registry_schema}
-use Rattle.gm_registry.specs.Tables.{HasCounted}
-use Rattle.gm_registry.proofs.Meaning.{find_is}
-use Rattle.gm_registry.proofs.Replying.{finds}
-use Rattle.gm_registry.proofs.Saving.{reads}
+use Rattle.gm_rows.specs.Statements.{find_command_text}
+use Rattle.gm_rows.specs.Schema.{registry_schema}
+use Rattle.gm_rows.specs.Tables.{HasCounted}
+use Rattle.gm_registry.proofs.TextMeanings.{find_is}
+use Rattle.gm_registry.proofs.FoundReply.{finds}
+use Rattle.gm_registry.proofs.CallsLeave.{reads}
 use Rattle.gm_registry.proofs.Failures.{find_failed}
-use Rattle.gm_registry.proofs.Passing.{ours}
+use Rattle.gm_registry.proofs.ReadsInTurn.{ours}
 use Rattle.gm_registry.proofs.replies.find_command.Goals as goal
 
 pub returns-clause-rows : goal.returns-clause-rows

@@ -1,4 +1,4 @@
-use Rattle.gm_state.proofs.Creating.{same_state}
+use Rattle.gm_state.proofs.MadeState.{same_state}
 use Rattle.gm_state.proofs.laws.one_state.Goals as goal
 
 pub returns : goal.returns

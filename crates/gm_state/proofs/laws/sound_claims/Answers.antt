@@ -1,4 +1,4 @@
-use Rattle.gm_state.proofs.Claiming.{sound_claims}
+use Rattle.gm_state.proofs.SoundClaims.{sound_claims}
 use Rattle.gm_state.proofs.laws.sound_claims.Goals as goal
 
 pub returns : goal.returns

@@ -1,11 +1,11 @@
 use Rattle.std.proofs.Common.{arith, ◌≡◌, ⊎_elim, subst, List, [], ◌∷◌, ◌++◌}
 use Rattle.std.proofs.lemmas.Grind.{common_steps}
 use Rattle.gm_taste.specs.declared.tasted.Group.{Group}
-use Rattle.gm_taste.specs.Words.{Has}
-use Rattle.gm_taste.specs.Making.{Made, key_of}
+use Rattle.gm_lists.specs.Ordered.{Has}
+use Rattle.gm_taste.specs.Tasting.{Made, key_of}
 use Rattle.gm_taste.proofs.Keys.{key_is}
-use Rattle.gm_taste.proofs.Lists.{Has-push}
-use Rattle.gm_taste.proofs.Numbers.{made_own}
+use Rattle.gm_lists.proofs.Lists.{Has-push}
+use Rattle.gm_taste.proofs.GroupNumbers.{made_own}
 use Rattle.gm_taste.proofs.groups.groups_of.Goals as goal
 
 pub loop-key-preserved : goal.loop-key-preserved

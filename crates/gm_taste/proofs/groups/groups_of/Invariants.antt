@@ -1,7 +1,7 @@
 use Rattle.std.proofs.Common.{◌≡◌, take, map}
 use Rattle.gm_taste.specs.declared.tasted.Group.{Group}
-use Rattle.gm_taste.specs.Words.{Has}
-use Rattle.gm_taste.specs.Making.{Made, key_of}
+use Rattle.gm_lists.specs.Ordered.{Has}
+use Rattle.gm_taste.specs.Tasting.{Made, key_of}
 use Rattle.gm_taste.proofs.groups.groups_of.Given as goal
 
 abbrev pub invariant-loop-key : goal.invariant-loop-key

@@ -1,5 +1,5 @@
 use Rattle.std.proofs.Common.{◌≡◌, drop, []}
-use Rattle.gm_taste.specs.Making.{keys_from}
+use Rattle.gm_taste.specs.Tasting.{keys_from}
 use Rattle.gm_taste.proofs.groups.keys_of.Given as goal
 
 abbrev pub invariant-loop-t : goal.invariant-loop-t

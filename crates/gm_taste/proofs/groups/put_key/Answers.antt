@@ -1,5 +1,5 @@
 use Rattle.std.proofs.Common.{rules, arith, ◌≡◌, ◌∙◌, sym, ap, true, ◌<◌, length}
-use Rattle.gm_taste.specs.Making.{same_key}
+use Rattle.gm_taste.specs.Tasting.{same_key}
 use Rattle.gm_taste.proofs.Keys.{place, found_at, new_at}
 use Rattle.gm_taste.proofs.groups.put_key.Goals as goal
 use Rattle.gm_taste.proofs.groups.put_key.Goals.{else-at-len-via-then-at-len+else-same_key, else-at-len-via-else-at-len}

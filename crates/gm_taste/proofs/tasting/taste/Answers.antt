@@ -5,8 +5,8 @@ use Rattle.std.specs.List.Sorted.{IsPermutation}
 use Rattle.gm_taste.specs.declared.provider.Provider.{Provider}
 use Rattle.gm_taste.specs.declared.tasted.Group.{Group}
 use Rattle.gm_taste.specs.declared.groups.Taken.{Taken}
-use Rattle.gm_taste.specs.Words.{Has}
-use Rattle.gm_taste.specs.Making.{taken_by, left_by, key_of, keys_from, Made}
+use Rattle.gm_lists.specs.Ordered.{Has}
+use Rattle.gm_taste.specs.Tasting.{taken_by, left_by, key_of, keys_from, Made}
 use Rattle.gm_taste.proofs.Outcome.{tasted}
 use Rattle.gm_taste.proofs.tasting.taste.Goals as goal
 

@@ -1,5 +1,5 @@
 use Rattle.std.proofs.Common.{◌≡◌, length, rules}
-use Rattle.gm_words.proofs.Naming.{joined_some}
+use Rattle.gm_words.proofs.JoinedNames.{joined_some}
 use Rattle.gm_words.proofs.lines.joined.Goals as goal
 
 pub returns : goal.returns

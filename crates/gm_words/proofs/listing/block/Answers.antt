@@ -1,7 +1,7 @@
 use Rattle.std.proofs.Common.{◌≡◌, ◌++◌, arith, rules}
 use Rattle.std.specs.String.{string_bytes}
 use Rattle.gm_words.specs.Listing.{component_lines, mirror_lines}
-use Rattle.gm_words.proofs.Growing.{grown}
+use Rattle.gm_words.proofs.GrownText.{grown}
 use Rattle.gm_words.proofs.listing.block.Goals as goal
 
 pub loop-component-preserved : goal.loop-component-preserved

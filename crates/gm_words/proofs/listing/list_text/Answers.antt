@@ -5,8 +5,8 @@ use Rattle.gm_state.specs.declared.records.Mirror.{Mirror}
 use Rattle.gm_state.specs.Records.{members}
 use Rattle.gm_words.specs.Lines.{line}
 use Rattle.gm_words.specs.Listing.{block}
-use Rattle.gm_words.proofs.Growing.{joined_as, mapped_next}
-use Rattle.gm_words.proofs.Naming.{blocks_some}
+use Rattle.gm_words.proofs.GrownText.{joined_as, mapped_next}
+use Rattle.gm_words.proofs.JoinedNames.{blocks_some}
 use Rattle.gm_words.proofs.listing.list_text.Goals as goal
 
 pub loop-mirror-preserved : goal.loop-mirror-preserved

@@ -1,7 +1,7 @@
 use Rattle.std.proofs.Common.{◌≡◌, Err, ap}
 use Rattle.gm_bench.specs.declared.fault.BenchFault.TheVariants.{Unreadable}
-use Rattle.gm_registry.proofs.Saving.{saved}
-use Rattle.gm_bench.proofs.Deciding.{unstepped_same}
+use Rattle.gm_registry.proofs.CallsLeave.{saved}
+use Rattle.gm_bench.proofs.DecidesOnly.{unstepped_same}
 use Rattle.gm_bench.proofs.Phases.{takes_failed}
 use Rattle.gm_bench.proofs.bench.Bench.accept.Goals as goal
 

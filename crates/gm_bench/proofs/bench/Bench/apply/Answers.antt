@@ -1,9 +1,9 @@
 use Rattle.std.proofs.Common.{◌≡◌, ◌∙◌, Err, List, refl, sym, ap, subst}
 use Rattle.sqlite.specs.Held.{Held}
-use Rattle.gm_state.specs.declared.command.Intent.{Intent}
+use Rattle.gm_state.specs.declared.intents.Intent.{Intent}
 use Rattle.gm_bench.specs.declared.answer.Work.{Work}
 use Rattle.gm_bench.specs.declared.fault.BenchFault.TheVariants.{Disk}
-use Rattle.gm_bench.specs.declared.progress.Progress.TheVariants.{Applied}
+use Rattle.gm_bench.specs.declared.phase.Progress.TheVariants.{Applied}
 use Rattle.gm_bench.specs.Owed.{ApplyDoes}
 use Rattle.gm_bench.specs.Recovering.{Cover, IsAt, IsAtWork}
 use Rattle.gm_bench.proofs.Phases.{pending_work}

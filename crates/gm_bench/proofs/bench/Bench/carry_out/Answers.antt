@@ -2,7 +2,7 @@ use Rattle.std.proofs.Common.{◌≡◌, [], Err, refl, sym, ap, subst}
 use Rattle.sqlite.specs.Held.{Held}
 use Rattle.gm_bench.specs.declared.fault.BenchFault.TheVariants.{Disk}
 use Rattle.gm_bench.specs.Recovering.{IsAt, IsAtWork, LeavesOnly}
-use Rattle.gm_bench.proofs.Storing.{then_only}
+use Rattle.gm_bench.proofs.RegistryLeaves.{then_only}
 use Rattle.gm_bench.proofs.bench.Bench.carry_out.Goals as goal
 
 pub returns-in-Ok-settle-clause-does : goal.returns-in-Ok-settle-clause-does

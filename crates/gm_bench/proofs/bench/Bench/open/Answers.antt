@@ -4,8 +4,8 @@ use Rattle.sqlite.specs.Tree.{Trees}
 use Rattle.gm_registry.specs.Registry.{CrashLeaves, DiskKept, LeavesAlone, stored}
 use Rattle.gm_bench.specs.Recovering.{LeavesOnly}
 use Rattle.gm_bench.proofs.Causes.{of_unreadable}
-use Rattle.gm_bench.proofs.Deciding.{alone_then}
-use Rattle.gm_bench.proofs.Reopening.{opened_tables, reopened, unopened, recovered}
+use Rattle.gm_bench.proofs.DecidesOnly.{alone_then}
+use Rattle.gm_bench.proofs.ReopenedStore.{opened_tables, reopened, unopened, recovered}
 use Rattle.gm_bench.proofs.bench.Bench.open.Goals as goal
 
 pub returns-in-Err-clause-leaves : goal.returns-in-Err-clause-leaves

@@ -1,6 +1,6 @@
 use Rattle.std.proofs.Common.{◌≡◌, Err, ap}
 use Rattle.gm_bench.specs.declared.fault.BenchFault.TheVariants.{Unreadable}
-use Rattle.gm_bench.proofs.Deciding.{found_of, at_next}
+use Rattle.gm_bench.proofs.DecidesOnly.{found_of, at_next}
 use Rattle.gm_bench.proofs.bench.Bench.view.Goals as goal
 
 pub returns-in-Ok-clause-says : goal.returns-in-Ok-clause-says

@@ -1,7 +1,7 @@
 use Rattle.std.proofs.Common.{◌≡◌, true, rules}
-use Rattle.gm_state.specs.World.{is_key}
-use Rattle.gm_registry.proofs.Saving.{saved}
-use Rattle.gm_bench.proofs.Deciding.{unstepped_same}
+use Rattle.gm_commands.specs.Commands.{is_key}
+use Rattle.gm_registry.proofs.CallsLeave.{saved}
+use Rattle.gm_bench.proofs.DecidesOnly.{unstepped_same}
 use Rattle.gm_bench.proofs.media.Media.accept.Goals as goal
 
 pub returns-then-not-is_key-clause-leaves : goal.returns-then-not-is_key-clause-leaves

@@ -1,13 +1,13 @@
 use Rattle.std.proofs.Common.{◌≡◌, ◌≢◌, ◌∙◌, ℕ, refl, sym, subst, subst₂, arith, string_bytes, true≢false}
 use Rattle.std.specs.Prelude.{MatchOption}
-use Rattle.gm_state.proofs.Order.{same_is, same_from}
-use Rattle.gm_rules.specs.Run as run
+use Rattle.gm_lists.proofs.Order.{same_is, same_from}
+use Rattle.gm_rules.specs.AbstractCalls as run
 use Rattle.gm_registry.specs.Registry.{DiskKept}
 use Rattle.gm_registry.specs.Replies.{IsFree, IsKept}
-use Rattle.gm_registry.proofs.Saving.{saved}
+use Rattle.gm_registry.proofs.CallsLeave.{saved}
 use Rattle.gm_shelf.proofs.InTurn.{quiet_itself}
-use Rattle.gm_bench.proofs.Answering.{kept_answer, same_again, other_command}
-use Rattle.gm_bench.proofs.Deciding.{nothing_then, still, unstepped, then_step, ok_then}
+use Rattle.gm_bench.proofs.CallAnswers.{kept_answer, same_again, other_command}
+use Rattle.gm_bench.proofs.DecidesOnly.{nothing_then, still, unstepped, then_step, ok_then}
 use Rattle.gm_bench.proofs.media.Media.answer.Goals as goal
 
 pub returns-then-eq-clause-leaves : goal.returns-then-eq-clause-leaves

@@ -1,8 +1,8 @@
 use Rattle.std.proofs.Common.{◌≡◌, ◌∙◌, Err, sym, ap}
 use Rattle.gm_bench.specs.declared.fault.BenchFault.TheVariants.{Disk}
 use Rattle.gm_bench.proofs.Causes.{of_disk, not_lacking_provider, not_lacking_sector}
-use Rattle.gm_registry.proofs.Saving.{saved}
-use Rattle.gm_bench.proofs.Carrying.{moments, leaves, carried, ended}
+use Rattle.gm_registry.proofs.CallsLeave.{saved}
+use Rattle.gm_bench.proofs.CarriedIntents.{moments, leaves, carried, ended}
 use Rattle.gm_bench.proofs.media.Media.apply.Goals as goal
 
 pub returns-in-Ok-clause-moments : goal.returns-in-Ok-clause-moments

@@ -4,8 +4,8 @@ use Rattle.gm_state.specs.Records.{Records}
 use Rattle.gm_state.proofs.SameRows.{same_mirror, same_component}
 use Rattle.gm_registry.proofs.OneReading.{one_reading}
 use Rattle.gm_bench.specs.declared.fault.BenchFault.TheVariants.{Unreadable}
-use Rattle.gm_bench.specs.Auditing.{IsAudit}
-use Rattle.gm_bench.proofs.Deciding.{at_read, found_of}
+use Rattle.gm_bench.specs.Audits.{IsAudit}
+use Rattle.gm_bench.proofs.DecidesOnly.{at_read, found_of}
 use Rattle.gm_bench.proofs.Found.{readable}
 use Rattle.gm_bench.proofs.media.Media.audit.Goals as goal
 

@@ -1,7 +1,7 @@
 use Rattle.std.proofs.Common.{◌∙◌, sym}
-use Rattle.gm_registry.proofs.Saving.{saved}
+use Rattle.gm_registry.proofs.CallsLeave.{saved}
 use Rattle.gm_bench.proofs.Found.{ready, covered}
-use Rattle.gm_bench.proofs.Storing.{still_only}
+use Rattle.gm_bench.proofs.RegistryLeaves.{still_only}
 use Rattle.gm_bench.proofs.media.Media.check_and_finish.Goals as goal
 
 pub returns-in-Some-clause-leaves : goal.returns-in-Some-clause-leaves

@@ -1,13 +1,13 @@
 use Rattle.std.proofs.Common.{◌≡◌, Err, sym, ap, subst, arith}
 use Rattle.gm_registry.specs.Registry.{DiskKept}
-use Rattle.gm_registry.proofs.Saving.{saved}
-use Rattle.gm_rules.specs.Decides.{IsLeast}
-use Rattle.gm_rules.specs.Worlds.{seen_of}
+use Rattle.gm_registry.proofs.CallsLeave.{saved}
+use Rattle.gm_refusals.specs.Applies.{IsLeast}
+use Rattle.gm_refusals.specs.WorldFacts.{seen_of}
 use Rattle.gm_bench.specs.Accepting.{LeavesStep, IsAnswered}
 use Rattle.gm_bench.specs.declared.fault.BenchFault.TheVariants.{Unreadable}
 use Rattle.gm_bench.specs.Planning.{IsPlanned, IsDecided}
-use Rattle.gm_bench.proofs.Answering.{as_many, least}
-use Rattle.gm_bench.proofs.Deciding.{still, unstepped, then_step, ok_then}
+use Rattle.gm_bench.proofs.CallAnswers.{as_many, least}
+use Rattle.gm_bench.proofs.DecidesOnly.{still, unstepped, then_step, ok_then}
 use Rattle.gm_bench.proofs.media.Media.choose.Goals as goal
 
 pub returns-in-Ok-Ok-clause-leaves : goal.returns-in-Ok-Ok-clause-leaves

@@ -1,4 +1,4 @@
-use Rattle.gm_registry.proofs.Saving.{saved}
+use Rattle.gm_registry.proofs.CallsLeave.{saved}
 use Rattle.gm_bench.proofs.Commits.{commit_leaves, commit_done}
 use Rattle.gm_bench.proofs.media.Media.commit.Goals as goal
 

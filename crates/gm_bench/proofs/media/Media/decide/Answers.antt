@@ -3,10 +3,10 @@ use Rattle.gm_bench.specs.declared.fault.BenchFault.TheVariants.{Unreadable}
 use Rattle.gm_rules.specs.Step.{CanAnswer}
 use Rattle.gm_registry.specs.Registry.{DiskKept}
 use Rattle.gm_registry.specs.Replies.{count_of}
-use Rattle.gm_registry.proofs.Saving.{saved}
+use Rattle.gm_registry.proofs.CallsLeave.{saved}
 use Rattle.gm_shelf.specs.Disk.{IsQuiet}
-use Rattle.gm_bench.proofs.Answering.{as_many, free_key, too_many}
-use Rattle.gm_bench.proofs.Deciding.{nothing_then, quiet_same, still, unstepped, then_step, ok_then, many_of, room_of}
+use Rattle.gm_bench.proofs.CallAnswers.{as_many, free_key, too_many}
+use Rattle.gm_bench.proofs.DecidesOnly.{nothing_then, quiet_same, still, unstepped, then_step, ok_then, many_of, room_of}
 use Rattle.gm_bench.proofs.media.Media.decide.Goals as goal
 
 pub returns-in-Ok-true-clause-leaves : goal.returns-in-Ok-true-clause-leaves

@@ -1,6 +1,6 @@
 use Rattle.std.proofs.Common.{sym, subst}
 use Rattle.gm_bench.specs.Leading.{AllLead}
-use Rattle.gm_bench.proofs.Storing.{then_only}
+use Rattle.gm_bench.proofs.RegistryLeaves.{then_only}
 use Rattle.gm_bench.proofs.media.Media.finish.Goals as goal
 
 pub returns-in-Err-settle-clause-leaves : goal.returns-in-Err-settle-clause-leaves

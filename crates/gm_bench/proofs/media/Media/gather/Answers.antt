@@ -1,18 +1,18 @@
 use Rattle.std.proofs.Common.{◌≡◌, ◌∙◌, Err, List, ℕ, [], None, option_map, sym, ap, subst}
 use Rattle.sqlite.specs.Held.{Held}
 use Rattle.gm_state.specs.Records.{Records}
-use Rattle.gm_state.specs.Words.{Has}
-use Rattle.gm_rules.specs.Adopting.{found_mids, source_in}
-use Rattle.gm_rules.specs.Parts.{IsPartOf, part_of}
-use Rattle.gm_rules.specs.Seen.{seen_in}
-use Rattle.gm_rules.specs.Worlds.{needed_by}
+use Rattle.gm_lists.specs.Ordered.{Has}
+use Rattle.gm_refusals.specs.Adoptable.{found_mids, source_in}
+use Rattle.gm_refusals.specs.PartOf.{IsPartOf, part_of}
+use Rattle.gm_refusals.specs.Seen.{seen_in}
+use Rattle.gm_refusals.specs.WorldFacts.{needed_by}
 use Rattle.gm_registry.specs.Registry.{DiskKept, HasTables}
 use Rattle.gm_bench.specs.declared.fault.BenchFault.TheVariants.{Unreadable}
-use Rattle.gm_bench.specs.Finding.{adopted_from, compared_with}
-use Rattle.gm_bench.specs.Seeing.{Tell}
-use Rattle.gm_bench.proofs.Deciding.{at_read}
-use Rattle.gm_bench.proofs.Gathering.{are_records, gathered}
-use Rattle.gm_bench.proofs.Telling.{tell_moved}
+use Rattle.gm_bench.specs.AdoptScope.{adopted_from, compared_with}
+use Rattle.gm_bench.specs.ShelfFacts.{Tell}
+use Rattle.gm_bench.proofs.DecidesOnly.{at_read}
+use Rattle.gm_bench.proofs.GatheredFacts.{are_records, gathered}
+use Rattle.gm_bench.proofs.FactsAreWorlds.{tell_moved}
 use Rattle.gm_bench.proofs.media.Media.gather.Goals as goal
 
 pub returns-in-Err-part-clause-readable : goal.returns-in-Err-part-clause-readable

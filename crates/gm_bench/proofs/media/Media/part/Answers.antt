@@ -1,9 +1,9 @@
 use Rattle.std.proofs.Common.{◌≡◌, ◌∙◌, sym}
-use Rattle.gm_registry.specs.Reading.{AreRecordsOf}
+use Rattle.gm_rows.specs.ReadableTables.{AreRecordsOf}
 use Rattle.gm_bench.specs.declared.fault.BenchFault.TheVariants.{Disk}
 use Rattle.gm_bench.proofs.Causes.{no_disk}
 use Rattle.gm_bench.proofs.Found.{lead}
-use Rattle.gm_bench.proofs.Deciding.{found_of}
+use Rattle.gm_bench.proofs.DecidesOnly.{found_of}
 use Rattle.gm_bench.proofs.media.Media.part.Goals as goal
 
 pub returns-in-Ok-clause-part : goal.returns-in-Ok-clause-part

@@ -1,8 +1,8 @@
 use Rattle.std.proofs.Common.{◌≡◌, ◌∙◌, sym}
 use Rattle.gm_bench.specs.declared.fault.BenchFault.TheVariants.{Disk}
 use Rattle.gm_bench.proofs.Causes.{no_disk}
-use Rattle.gm_registry.proofs.Saving.{saved}
-use Rattle.gm_bench.proofs.Storing.{settle_leaves, settle_rests}
+use Rattle.gm_registry.proofs.CallsLeave.{saved}
+use Rattle.gm_bench.proofs.RegistryLeaves.{settle_leaves, settle_rests}
 use Rattle.gm_bench.proofs.media.Media.settle.Goals as goal
 
 pub returns-in-Ok-clause-leaves : goal.returns-in-Ok-clause-leaves

@@ -1,10 +1,10 @@
 use Rattle.std.proofs.Common.{◌<◌, Err, rules, ◌≡◌, ◌∙◌, length, sym, ap, subst, arith}
 use Rattle.gm_bench.specs.declared.fault.BenchFault.TheVariants.{Disk, Absent, Unreadable}
 use Rattle.gm_registry.specs.Registry.{DiskKept}
-use Rattle.gm_registry.proofs.Saving.{saved}
+use Rattle.gm_registry.proofs.CallsLeave.{saved}
 use Rattle.gm_bench.specs.Recovering.{LeavesOnly}
-use Rattle.gm_bench.proofs.Storing.{read_only}
-use Rattle.gm_bench.proofs.TakingUp.{absent_back, moved, moments_back, leaves_back}
+use Rattle.gm_bench.proofs.RegistryLeaves.{read_only}
+use Rattle.gm_bench.proofs.TakenUp.{absent_back, moved, moments_back, leaves_back}
 use Rattle.gm_bench.proofs.media.Media.take_up.Goals as goal
 
 pub returns-in-Ok-check_and_finish-clause-leaves : goal.returns-in-Ok-check_and_finish-clause-leaves

@@ -1,7 +1,7 @@
 use Rattle.std.proofs.Common.{rules, sym, ◌∙◌, false}
 use Rattle.std.proofs.lemmas.List.Sorted.{answers_always}
 use Rattle.gm_state.specs.Records.{name, provider}
-use Rattle.gm_state.proofs.Creating.{passed, refused, tested}
+use Rattle.gm_state.proofs.MadeState.{passed, refused, tested}
 use Rattle.gm_state.proofs.state.State.new.Goals as goal
 
 pub from_ordered-requires : goal.from_ordered-requires

@@ -1,6 +1,0 @@
-use Rattle.std.proofs.Common.{◌≡◌, ◌<◌, ℕ}
-use Rattle.gm_shelf.specs.Disk.{sector_of}
-use Rattle.gm_apply.proofs.comparing.equal_first.Given as goal
-
-abbrev pub invariant-loop-index : goal.invariant-loop-index
-invariant-loop-index l = (k : ℕ) → k < l.index → sector_of l.a k ≡ sector_of l.b k

@@ -1,0 +1,42 @@
+use Rattle.std.proofs.Common.{◌∙◌, ◌≤◌, ◌+◌, inl, arith, rules}
+use Rattle.gm_state.specs.Intents.{copies}
+use Rattle.gm_state.specs.declared.intents.Intent.TheVariants.{Copy}
+use Rattle.gm_apply.proofs.UnderWay.{going_trans}
+use Rattle.gm_apply.proofs.Sectors.{run_told, run_seen}
+use Rattle.gm_apply.proofs.copy.copy_runs.Goals as goal
+
+pub returns-in_err-copy_run-clause-under_way : goal.returns-in_err-copy_run-clause-under_way
+returns-in_err-copy_run-clause-under_way g c h =
+    let view = g.H.Shelf.view in
+    let inv = c.loop-place.invariant in
+    let old = view c.args.shelf.now in
+    let mid = view c.loop-place.shelf in
+    let place = c.loop-place.place in
+    let n = c.min-sectors.result in
+    let fits : place + n ≤ c.args.end = search rules in
+    going_trans (copies (Copy c.args.source c.args.target c.args.first c.args.end)) (λ q j. old.seen c.args.source j) (copies (Copy c.args.source c.args.target place (place + n))) (λ q j. mid.seen c.args.source j)
+    (run_told c.args.source c.args.target c.args.first c.args.end place n inv.low old mid (inv.seen h) fits)
+    old mid (view c.copy_run.new.shelf) (inv.going h) (c.copy_run.ensures.under_way (inv.honest h))
+
+pub loop-place-preserved : goal.loop-place-preserved
+loop-place-preserved g c =
+    let view = g.H.Shelf.view in
+    let inv = c.loop-place.invariant in
+    let old = view c.args.shelf.now in
+    let mid = view c.loop-place.shelf in
+    let place = c.loop-place.place in
+    let n = c.min-sectors.result in
+    let fits : place + n ≤ c.args.end = search rules in
+    record {
+      low = omega (arith, inv.low);
+      reach = inl fits;
+      count = omega (arith, inv.count, c.copy_run.ensures.count);
+      honest = λ h. c.copy_run.ensures.honest (inv.honest h);
+      size = c.copy_run.ensures.size ∙ inv.size;
+      going = λ h.
+          going_trans (copies (Copy c.args.source c.args.target c.args.first c.args.end)) (λ q j. old.seen c.args.source j) (copies (Copy c.args.source c.args.target place (place + n))) (λ q j. mid.seen c.args.source j)
+          (run_told c.args.source c.args.target c.args.first c.args.end place n inv.low old mid (inv.seen h) fits)
+          old mid (view c.copy_run.new.shelf) (inv.going h) (c.copy_run.ensures.under_way (inv.honest h));
+      seen = λ h.
+          run_seen c.args.source c.args.target c.args.first c.args.end place n inv.low old mid (inv.seen h) (view c.copy_run.new.shelf).seen (c.in_ok-copy_run.ensures.done (inv.honest h));
+    }

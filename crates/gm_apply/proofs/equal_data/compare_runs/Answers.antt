@@ -1,0 +1,47 @@
+use Rattle.std.proofs.Common.{◌∙◌, ◌≡◌, ◌+◌, ℕ, arith, subst}
+use Rattle.gm_shelf.proofs.InTurn.{reads_then}
+use Rattle.gm_apply.proofs.EqualSectors.{AreEqualBelow, counted, equal_part, part_counted, same_part}
+use Rattle.gm_apply.proofs.equal_data.compare_runs.Goals as goal
+
+pub returns-then-equal-sectors-clause-equal : goal.returns-then-equal-sectors-clause-equal
+returns-then-equal-sectors-clause-equal g c h =
+    let inv = c.loop-place.invariant in
+    let old = (g.H.Shelf.view c.args.shelf.now).seen in
+    let mid = (g.H.Shelf.view c.loop-place.shelf).seen in
+    let source = c.args.source in
+    let provider = c.args.provider in
+    let place = c.loop-place.place in
+    let sectors = c.min-sectors.result in
+    let equal = c.in_ok-equal.equal in
+    part_counted old source provider place sectors equal (inv.equal h)
+    (same_part old mid source provider place sectors equal (inv.reads h).quiet.seen (c.in_ok-equal.ensures.equal (inv.honest h)))
+    c.args.reach c.if-equal-sectors.true
+
+pub loop-place-preserved : goal.loop-place-preserved
+loop-place-preserved g c =
+    let inv = c.loop-place.invariant in
+    let old = (g.H.Shelf.view c.args.shelf.now).seen in
+    let mid = (g.H.Shelf.view c.loop-place.shelf).seen in
+    let source = c.args.source in
+    let provider = c.args.provider in
+    let place = c.loop-place.place in
+    let sectors = c.min-sectors.result in
+    let equal = c.in_ok-equal.equal in
+    let whole : equal ≡ sectors = omega (arith, c.in_ok-equal.ensures.within, c.if-equal-sectors.false) in
+    record {
+      within = omega arith;
+      count = omega (arith, inv.count, c.compare_run.ensures.count);
+      honest = λ h. c.compare_run.ensures.honest (inv.honest h);
+      size = c.compare_run.ensures.size ∙ inv.size;
+      reads = λ h. reads_then _ _ _ (inv.reads h) (c.compare_run.ensures.reads (inv.honest h));
+      equal = λ h.
+          subst (λ (n : ℕ). AreEqualBelow old source provider (place + n)) whole
+          (equal_part old source provider place sectors equal (inv.equal h)
+          (same_part old mid source provider place sectors equal (inv.reads h).quiet.seen (c.in_ok-equal.ensures.equal (inv.honest h))));
+    }
+
+pub returns-clause-equal : goal.returns-clause-equal
+returns-clause-equal g c h =
+    let inv = c.loop-place.invariant in
+    counted (g.H.Shelf.view c.args.shelf.now).seen c.args.source c.args.provider c.args.reach c.loop-place.place (inv.equal h)
+    (λ few. absurd (omega (arith, few, c.loop-place-test.false)))

@@ -1,0 +1,20 @@
+use Rattle.std.proofs.Common.{◌≡◌, ◌≤◌, take}
+use Rattle.gm_metadata.specs.Images.{Image}
+use Rattle.gm_shelf.specs.Disk.{From}
+use Rattle.gm_state.specs.Intents.{is_place, IsRedo}
+use Rattle.gm_apply.specs.Redo.{IsPartlyDone, CrashLeaves, PlacesAreNew, KeepsOthers, is_written}
+use Rattle.gm_apply.proofs.redo.apply.Given as goal
+
+abbrev pub invariant-loop-intent : goal.invariant-loop-intent
+invariant-loop-intent g l =
+    let H = g.H.Shelf in
+    let old = H.view l.fn.shelf in
+    let size = H.size l.fn.shelf in
+    record {
+      count : old.faults ≤ (H.view l.shelf).faults;
+      honest : H.honest l.fn.shelf → H.honest l.shelf;
+      sizes : H.size l.shelf ≡ H.size l.fn.shelf;
+      redone : H.honest l.fn.shelf → (w : Image) → IsRedo l.fn.state size l.intents old.seen w → PlacesAreNew (is_place size (take l.intent-index l.intents)) w old (H.view l.shelf);
+      moments : H.honest l.fn.shelf → (w : Image) → IsRedo l.fn.state size l.intents old.seen w → CrashLeaves old (H.view l.shelf) (λ x. From old.may_leave (λ d. IsPartlyDone size l.intents w d x));
+      others : H.honest l.fn.shelf → KeepsOthers (is_written l.fn.state size l.intents) old (H.view l.shelf);
+    }

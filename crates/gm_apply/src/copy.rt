@@ -1,0 +1,188 @@
+//! Copies sectors of one provider to another, by runs.
+
+ghost use Rattle.std.specs.Prelude.{◌≡◌, ◌≤◌, ◌<◌, ◌+◌, ◌^◌, ◌⊎◌, ℕ, Some, None, length, OnOk, IsErrOf, IsSomeAnd};
+ghost use Rattle.gm_metadata.specs.Images.{Same};
+ghost use Rattle.gm_shelf.specs.Disk.{IsRun, put_run, IsRunWrite};
+ghost use Rattle.gm_state.specs.declared.intents.Intent.TheVariants.{Copy};
+ghost use Rattle.gm_state.specs.Intents.{copies};
+ghost use Rattle.gm_apply.specs.Redo.{PlacesAreNew, Moments, KeepsOthers, with_places, IsUnderWay};
+
+use gm_metadata::{Label, same};
+use gm_shelf::{Shelf, ShelfFault};
+
+/// How many sectors a run has, but for the last one, which may have fewer.
+pub(crate) const RUN: usize = 128;
+
+// Writes a stretch of sectors, where there are any.
+fn write_stretch<H: Shelf>(
+    shelf: &mut H,
+    target: Label,
+    first: u64,
+    sectors: &[[u8; 512]],
+) -> Result<(), ShelfFault>
+    ensures written { H.honest shelf.old → OnOk result (Same (H.view shelf.new).seen
+        (put_run target first sectors.now (H.view shelf.old).seen)) }
+    ensures law { H.honest shelf.old →
+        IsRunWrite target first sectors.now (H.view shelf.old) (H.view shelf.new) }
+
+    ensures absent { IsErrOf result ShelfFault.Absent → H.size shelf.old target ≡ None }
+    ensures range { IsErrOf result ShelfFault.Range →
+        IsSomeAnd (H.size shelf.old target) (λ n. n < first + length sectors.now) }
+    ensures device { IsErrOf result ShelfFault.Device →
+        (H.view shelf.old).faults < (H.view shelf.new).faults }
+
+    ensures honest { H.honest shelf.old → H.honest shelf.new }
+    ensures size { H.size shelf.new ≡ H.size shelf.old }
+    ensures count { (H.view shelf.old).faults ≤ (H.view shelf.new).faults }
+{
+    if !sectors.is_empty() {
+        shelf.write_run(target, first, sectors)?;
+    }
+    Ok(())
+}
+
+// Writes a run of sectors over those that the target holds: only the stretches that differ.
+fn write_changes<H: Shelf>(
+    shelf: &mut H,
+    target: Label,
+    first: u64,
+    held: &[[u8; 512]],
+    run: &[[u8; 512]],
+) -> Result<(), ShelfFault>
+    requires lengths { length held.now ≡ length run.now }
+    requires fits { first + length run.now < 2 ^ 64 }
+    ensures written { H.honest shelf.old → IsRun target first (H.view shelf.old).seen held.now →
+        OnOk result (Same (H.view shelf.new).seen
+        (put_run target first run.now (H.view shelf.old).seen)) }
+    ensures law { H.honest shelf.old →
+        IsRunWrite target first run.now (H.view shelf.old) (H.view shelf.new) }
+
+    ensures absent { IsErrOf result ShelfFault.Absent → H.size shelf.old target ≡ None }
+    ensures range { IsErrOf result ShelfFault.Range →
+        IsSomeAnd (H.size shelf.old target) (λ n. n < first + length run.now) }
+    ensures device { IsErrOf result ShelfFault.Device →
+        (H.view shelf.old).faults < (H.view shelf.new).faults }
+
+    ensures honest { H.honest shelf.old → H.honest shelf.new }
+    ensures size { H.size shelf.new ≡ H.size shelf.old }
+    ensures count { (H.view shelf.old).faults ≤ (H.view shelf.new).faults }
+{
+    let mut from = 0;
+    for index in 0..run.len() {
+        if same(&held[index], &run[index]) {
+            write_stretch(shelf, target, first + from as u64, &run[from..index])?;
+            from = index + 1;
+        }
+    }
+    write_stretch(shelf, target, first + from as u64, &run[from..])?;
+    Ok(())
+}
+
+// Copies a run of so many sectors. Its two buffers are 128 KiB of the stack: those are taken while it copies, and by no
+// other function that this one might be made a part of.
+#[inline(never)]
+fn copy_run<H: Shelf>(
+    shelf: &mut H,
+    source: Label,
+    target: Label,
+    first: u64,
+    sectors: usize,
+) -> Result<(), ShelfFault>
+    requires one_run { sectors ≤ 128 }
+    requires fits { first + sectors < 2 ^ 64 }
+    ensures done { H.honest shelf.old → OnOk result (Same (H.view shelf.new).seen
+        (with_places (copies (Copy source target first (first + sectors)))
+        (λ q j. (H.view shelf.old).seen source j) (H.view shelf.old).seen)) }
+    ensures under_way { H.honest shelf.old →
+        IsUnderWay (copies (Copy source target first (first + sectors)))
+        (λ q j. (H.view shelf.old).seen source j) (H.view shelf.old) (H.view shelf.new) }
+
+    ensures absent { IsErrOf result ShelfFault.Absent →
+        (H.size shelf.old source ≡ None) ⊎ (H.size shelf.old target ≡ None) }
+    ensures range { IsErrOf result ShelfFault.Range →
+        IsSomeAnd (H.size shelf.old source) (λ n. n < first + sectors)
+        ⊎ IsSomeAnd (H.size shelf.old target) (λ n. n < first + sectors) }
+    ensures device { IsErrOf result ShelfFault.Device →
+        (H.view shelf.old).faults < (H.view shelf.new).faults }
+
+    ensures honest { H.honest shelf.old → H.honest shelf.new }
+    ensures size { H.size shelf.new ≡ H.size shelf.old }
+    ensures count { (H.view shelf.old).faults ≤ (H.view shelf.new).faults }
+{
+    let mut held = [[0; 512]; RUN];
+    let mut run = [[0; 512]; RUN];
+    let held = &mut held[..sectors];
+    let run = &mut run[..sectors];
+    shelf.read_run(target, first, held)?;
+    shelf.read_run(source, first, run)?;
+    write_changes(shelf, target, first, held, run)?;
+    Ok(())
+}
+
+// Copies the sectors first to end - 1 run by run, and leaves them to be synced.
+fn copy_runs<H: Shelf>(
+    shelf: &mut H,
+    source: Label,
+    target: Label,
+    first: u64,
+    end: u64,
+) -> Result<(), ShelfFault>
+    ensures done { H.honest shelf.old → OnOk result (Same (H.view shelf.new).seen
+        (with_places (copies (Copy source target first end))
+        (λ q j. (H.view shelf.old).seen source j) (H.view shelf.old).seen)) }
+    ensures under_way { H.honest shelf.old → IsUnderWay (copies (Copy source target first end))
+        (λ q j. (H.view shelf.old).seen source j) (H.view shelf.old) (H.view shelf.new) }
+
+    ensures absent { IsErrOf result ShelfFault.Absent →
+        (H.size shelf.old source ≡ None) ⊎ (H.size shelf.old target ≡ None) }
+    ensures range { IsErrOf result ShelfFault.Range →
+        IsSomeAnd (H.size shelf.old source) (λ n. n < end)
+        ⊎ IsSomeAnd (H.size shelf.old target) (λ n. n < end) }
+    ensures device { IsErrOf result ShelfFault.Device →
+        (H.view shelf.old).faults < (H.view shelf.new).faults }
+
+    ensures honest { H.honest shelf.old → H.honest shelf.new }
+    ensures size { H.size shelf.new ≡ H.size shelf.old }
+    ensures count { (H.view shelf.old).faults ≤ (H.view shelf.new).faults }
+{
+    let mut place = first;
+    while place < end {
+        let sectors = (end - place).min(RUN as u64);
+        copy_run(shelf, source, target, place, sectors as usize)?;
+        place += sectors;
+    }
+    Ok(())
+}
+
+/// Copies the sectors first to end - 1 of the source to the same places of the target, then syncs the target.
+pub(crate) fn copy_sectors<H: Shelf>(
+    shelf: &mut H,
+    source: Label,
+    target: Label,
+    first: u64,
+    end: u64,
+) -> Result<(), ShelfFault>
+    ensures done { H.honest shelf.old → OnOk result
+        (PlacesAreNew (copies (Copy source target first end))
+        (λ q j. (H.view shelf.old).seen source j) (H.view shelf.old) (H.view shelf.new)) }
+    ensures moments { H.honest shelf.old → Moments (copies (Copy source target first end))
+        (λ q j. (H.view shelf.old).seen source j) (H.view shelf.old) (H.view shelf.new) }
+    ensures others { H.honest shelf.old →
+        KeepsOthers (copies (Copy source target first end)) (H.view shelf.old) (H.view shelf.new) }
+
+    ensures absent { IsErrOf result ShelfFault.Absent →
+        (H.size shelf.old source ≡ None) ⊎ (H.size shelf.old target ≡ None) }
+    ensures range { IsErrOf result ShelfFault.Range →
+        IsSomeAnd (H.size shelf.old source) (λ n. n < end)
+        ⊎ IsSomeAnd (H.size shelf.old target) (λ n. n < end) }
+    ensures device { IsErrOf result ShelfFault.Device →
+        (H.view shelf.old).faults < (H.view shelf.new).faults }
+
+    ensures honest { H.honest shelf.old → H.honest shelf.new }
+    ensures size { H.size shelf.new ≡ H.size shelf.old }
+    ensures count { (H.view shelf.old).faults ≤ (H.view shelf.new).faults }
+{
+    copy_runs(shelf, source, target, first, end)?;
+    shelf.sync(target)?;
+    Ok(())
+}

@@ -1,0 +1,135 @@
+//! Compares the first sectors of two providers, by runs.
+
+ghost use Rattle.std.specs.Prelude.{◌≡◌, ◌≢◌, ◌≤◌, ◌<◌, ◌+◌, ◌^◌, ◌⊎◌, ℕ, None, length, IfOk, IsErrOf, IsSomeAnd};
+ghost use Rattle.gm_shelf.specs.Disk.{AreReads, sector_of};
+ghost use Rattle.gm_apply.specs.EqualData.{CountsEqual, EndsBefore, IsEqualPart, reach_of};
+
+use crate::copy::RUN;
+use gm_metadata::{Label, same};
+use gm_shelf::{Shelf, ShelfFault};
+
+// How many first sectors of two runs are equal.
+fn equal_first(a: &[[u8; 512]], b: &[[u8; 512]]) -> usize
+    requires lengths { length a.now ≡ length b.now }
+    ensures within { result ≤ length a.now }
+    ensures equal { (k : ℕ) → k < result → sector_of a.now k ≡ sector_of b.now k }
+    ensures differs { result < length a.now → sector_of a.now result ≢ sector_of b.now result }
+{
+    for index in 0..a.len() {
+        if !same(&a[index], &b[index]) {
+            return index;
+        }
+    }
+    a.len()
+}
+
+// How many first sectors of a run are equal. Its two buffers are 128 KiB of the stack: those are taken while it
+// compares, and by no other function that this one might be made a part of.
+#[inline(never)]
+fn compare_run<H: Shelf>(
+    shelf: &mut H,
+    source: Label,
+    provider: Label,
+    first: u64,
+    sectors: usize,
+) -> Result<usize, ShelfFault>
+    requires one_run { sectors ≤ 128 }
+    requires fits { first + sectors < 2 ^ 64 }
+    ensures equal { H.honest shelf.old → IfOk result
+        (IsEqualPart (H.view shelf.old).seen source provider first sectors) }
+    ensures within { IfOk result (λ n. n ≤ sectors) }
+
+    ensures absent { IsErrOf result ShelfFault.Absent →
+        (H.size shelf.old source ≡ None) ⊎ (H.size shelf.old provider ≡ None) }
+    ensures range { IsErrOf result ShelfFault.Range →
+        IsSomeAnd (H.size shelf.old source) (λ n. n < first + sectors)
+        ⊎ IsSomeAnd (H.size shelf.old provider) (λ n. n < first + sectors) }
+    ensures device { IsErrOf result ShelfFault.Device →
+        (H.view shelf.old).faults < (H.view shelf.new).faults }
+
+    ensures reads { H.honest shelf.old → AreReads (H.view shelf.old) (H.view shelf.new) }
+    ensures honest { H.honest shelf.old → H.honest shelf.new }
+    ensures size { H.size shelf.new ≡ H.size shelf.old }
+    ensures count { (H.view shelf.old).faults ≤ (H.view shelf.new).faults }
+{
+    let mut wanted = [[0; 512]; RUN];
+    let mut held = [[0; 512]; RUN];
+    let wanted = &mut wanted[..sectors];
+    let held = &mut held[..sectors];
+    shelf.read_run(source, first, wanted)?;
+    shelf.read_run(provider, first, held)?;
+    Ok(equal_first(wanted, held))
+}
+
+// How many of so many first sectors are equal, run by run up to the first one that differs.
+fn compare_runs<H: Shelf>(
+    shelf: &mut H,
+    source: Label,
+    provider: Label,
+    reach: u64,
+) -> Result<u64, ShelfFault>
+    ensures equal { H.honest shelf.old → IfOk result
+        (CountsEqual (H.view shelf.old).seen source provider reach) }
+    ensures within { IfOk result (λ n. n ≤ reach) }
+
+    ensures absent { IsErrOf result ShelfFault.Absent →
+        EndsBefore (H.size shelf.old) source provider reach }
+    ensures range { IsErrOf result ShelfFault.Range →
+        EndsBefore (H.size shelf.old) source provider reach }
+    ensures device { IsErrOf result ShelfFault.Device →
+        (H.view shelf.old).faults < (H.view shelf.new).faults }
+
+    ensures reads { H.honest shelf.old → AreReads (H.view shelf.old) (H.view shelf.new) }
+    ensures honest { H.honest shelf.old → H.honest shelf.new }
+    ensures size { H.size shelf.new ≡ H.size shelf.old }
+    ensures count { (H.view shelf.old).faults ≤ (H.view shelf.new).faults }
+{
+    let mut place = 0;
+    while place < reach {
+        let sectors = (reach - place).min(RUN as u64);
+        let equal = compare_run(shelf, source, provider, place, sectors as usize)? as u64;
+        if equal < sectors {
+            return Ok(place + equal);
+        }
+        place += sectors;
+    }
+    Ok(place)
+}
+
+// How far two providers are compared.
+fn reach_of<H: Shelf>(shelf: &H, source: Label, provider: Label, limit: u64) -> u64
+    ensures { result ≡ reach_of (H.size shelf.now) source provider limit }
+{
+    let source = shelf.sectors(source).unwrap_or(0);
+    let provider = shelf.sectors(provider).unwrap_or(0);
+    limit.min(source.min(provider))
+}
+
+/// How many first sectors of two providers are equal, counted up to a limit and to the ends of both.
+/// A provider that isn't there has none. One that is compared with itself isn't read.
+pub fn equal_sectors<H: Shelf>(
+    shelf: &mut H,
+    source: Label,
+    provider: Label,
+    limit: u64,
+) -> Result<u64, ShelfFault>
+    ensures equal { H.honest shelf.old → IfOk result (CountsEqual (H.view shelf.old).seen
+        source provider (reach_of (H.size shelf.old) source provider limit)) }
+    ensures within { IfOk result (λ n. n ≤ reach_of (H.size shelf.old) source provider limit) }
+
+    ensures not_absent { IsErrOf result ShelfFault.Absent → ⊥ }
+    ensures not_range { IsErrOf result ShelfFault.Range → ⊥ }
+    ensures device { IsErrOf result ShelfFault.Device →
+        (H.view shelf.old).faults < (H.view shelf.new).faults }
+
+    ensures reads { H.honest shelf.old → AreReads (H.view shelf.old) (H.view shelf.new) }
+    ensures honest { H.honest shelf.old → H.honest shelf.new }
+    ensures size { H.size shelf.new ≡ H.size shelf.old }
+    ensures count { (H.view shelf.old).faults ≤ (H.view shelf.new).faults }
+{
+    let reach = reach_of(shelf, source, provider, limit);
+    if provider == source {
+        return Ok(reach);
+    }
+    compare_runs(shelf, source, provider, reach)
+}

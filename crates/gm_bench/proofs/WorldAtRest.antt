@@ -1,0 +1,69 @@
+-- A world at rest: no intent is pending, and the shelf is the world's.
+use Rattle.std.proofs.Common.{◌≡◌, ◌∙◌, inl, inr, List, [], refl, sym, subst, arith}
+use Rattle.std.specs.List.Sorted.{IsPermutation}
+use Rattle.std.specs.Prelude.{is_some}
+use Rattle.std.proofs.lemmas.List.Sorted.{IsPermutation-refl}
+use Rattle.std.proofs.lemmas.Bool.{cases_Bool}
+use Rattle.gm_metadata.specs.Images.{Image, Sizes, SameThere, same_label}
+use Rattle.gm_state.specs.declared.intents.Intent.{Intent}
+use Rattle.gm_state.specs.declared.records.Component.{Component}
+use Rattle.gm_state.specs.Intents.{IsAtHand}
+use Rattle.gm_state.specs.Readable.{AreReadable}
+use Rattle.gm_state.specs.Rows.{Tables, HoldRecords}
+use Rattle.gm_lists.specs.Ordered.{Has}
+use Rattle.gm_state.specs.World.{World, Sound}
+use Rattle.gm_state.proofs.SoundClaims.{sound_claims}
+use Rattle.gm_lists.proofs.Finding.{found_none, not_both}
+use Rattle.gm_lists.proofs.Order.{same_refl}
+use Rattle.gm_state.proofs.TestsTellRules.{member}
+use Rattle.gm_bench.specs.Leading.{AreAmong, whole, Leads, KeepsClaims}
+use Rattle.gm_bench.proofs.ShelfProviders.{whole_there, whole_away, away_no_place}
+
+none_readable : (w : World) → AreReadable w.state []
+none_readable w = record { each = λ t h. absurd h; one_copy = omega arith; ordered = tt }
+
+-- tables with the world's rows and no intents lead to it from its shelf
+pub rest_leads : (s : Tables) (y : Image) (w : World) → Sound w → HoldRecords w s → s.intents ≡ [] → SameThere w.size y w.shelf → Leads s [] y w
+rest_leads s y w sound records none same = record {
+  sound = sound;
+  records = records;
+  intents = subst (λ rows. IsPermutation [] rows) (sym none) (IsPermutation-refl []);
+  readable = none_readable w;
+  at_hand = λ t h. absurd h;
+  redo = record { says = λ t h. absurd h; lends = λ t h. absurd h; agrees = λ q there j e. same q there j };
+}
+
+-- in a world at rest each component is one of before
+pub rest_claims : (y : Image) (w : World) → Sound w → SameThere w.size y w.shelf → KeepsClaims [] y w w
+rest_claims y w sound same = record {
+  sound = sound;
+  sizes = refl;
+  after = sound_claims w w.shelf sound (λ q there j. refl);
+  copies = λ m k o i e. absurd (let f : ⊥ = cc in f);
+  old = sound_claims w y sound same;
+  new = λ m k o none bare d ok bears named mid active clean i below.
+      not_both (same_label k.provider k.provider) (same_refl k.provider) (found_none (λ (j : Component). same_label j.provider k.provider) w.state.components none k (member w.state m.name k o.component).0);
+}
+
+-- an image that leads to the world with no intent is the world's
+pub at_rest : (t : Tables) (x : Image) (w : World) → Leads t [] x w → SameThere w.size x w.shelf
+at_rest t x w l q there j = l.redo.agrees q there j refl
+
+-- nothing is pending any more, and claims stay as they are
+pub settled_claims : (ts : List Intent) (x : Image) (u w : World) → KeepsClaims ts x u w → KeepsClaims [] x u w
+settled_claims ts x u w k = record {
+  sound = k.sound;
+  sizes = k.sizes;
+  after = k.after;
+  copies = λ m c o i e. absurd (let f : ⊥ = cc in f);
+  old = k.old;
+  new = k.new;
+}
+
+-- the shelf is the world's, and what is away wasn't named by any intent
+pub whole_rest : (t : Tables) (ts : List Intent) (size : Sizes) (away x y : Image) (w : World) → AreAmong size w.size → ((r : Intent) → Has ts r → IsAtHand size r) → Leads t ts (whole size away x) w → SameThere size y w.shelf
+    → SameThere w.size (whole size away y) w.shelf
+whole_rest t ts size away x y w mask hand l same q there j = elim (cases_Bool (is_some (size q))) [
+  | inl here ↦ whole_there size away y q here j ∙ same q here j
+  | inr gone ↦ whole_away size away y q gone j ∙ (sym (whole_away size away x q gone j) ∙ l.redo.agrees q there j (away_no_place size w.size ts hand q gone j))
+]

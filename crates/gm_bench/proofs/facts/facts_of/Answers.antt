@@ -1,0 +1,62 @@
+use Rattle.std.proofs.Common.{◌≡◌, ◌∙◌, inl, inr, ◌++◌, ◌∷◌, [], List, ℕ, sym, ap, subst, arith, take, None}
+use Rattle.std.proofs.lemmas.List.{take_all}
+use Rattle.gm_metadata.specs.Images.{Sizes}
+use Rattle.gm_lists.specs.Ordered.{Has}
+use Rattle.gm_refusals.specs.declared.facts.Fact.{Fact}
+use Rattle.gm_bench.specs.ShelfFacts.{IsFact, Tell}
+use Rattle.gm_shelf.proofs.InTurn.{reads_then}
+use Rattle.gm_bench.proofs.FactsAreWorlds.{tell, moved, fact_found, absent_found, covered_more, has_either, has_left, has_last}
+use Rattle.gm_bench.proofs.facts.facts_of.Goals as goal
+use Rattle.gm_bench.proofs.facts.facts_of.Goals.{in-Some+in-Ok, in-None}
+
+pub loop-name-preserved : goal.loop-name-preserved
+loop-name-preserved g c =
+    let inv = c.loop-name.invariant in
+    let size = g.H.Shelf.size c.args.shelf.now in
+    let against = c.args.against.now in
+    let mid = g.H.Shelf.size c.loop-name.shelf in
+    let seen = (g.H.Shelf.view c.args.shelf.now).seen in
+    let was = (g.H.Shelf.view c.loop-name.shelf).seen in
+    let name = c.name-item.result in
+    elim c.match-branch-2.branch [
+      | in-Some+in-Ok w ↦
+          let more : c.match-branch-2.entries.items ≡ c.loop-name.entries.items ++ w.in-Some.fact ∷ [] = ap (λ v. v.items) w.entries-is ∙ w.in-Ok.ensures.items in
+          let fact : g.H.Shelf.honest c.args.shelf.now → IsFact size seen against w.in-Some.fact × (w.in-Some.fact.provider ≡ name) = λ h. (
+          let it = fact_found c.in_ok-fact_of.field-0 w.in-Some.fact mid was against name w.in-Some.is (c.in_ok-fact_of.ensures.fact (inv.honest h)) in
+          (moved size mid seen was against w.in-Some.fact inv.sizes (inv.reads h).quiet.seen it.0, it.1)) in
+          record {
+            honest = λ h. c.fact_of.ensures.honest (inv.honest h);
+            sizes = c.fact_of.ensures.size ∙ inv.sizes;
+            count = omega (arith, inv.count, c.fact_of.ensures.count);
+            reads = λ h. reads_then _ _ _ (inv.reads h) (c.fact_of.ensures.reads (inv.honest h));
+            facts = λ h f has. (elim (has_either c.loop-name.entries.items w.in-Some.fact f (subst (λ (l : List Fact). Has l f) more has)) [
+              | inl old ↦ inv.facts h f old
+              | inr new ↦ subst (IsFact size seen against) new (fact h).0
+            ]);
+            covered = λ h q has. covered_more c.loop-name.entries.items c.match-branch-2.entries.items size c.args.names.now c.loop-name.name-index name (omega arith) c.name-item.is
+                (λ f k. subst (λ (l : List Fact). Has l f) (sym more) (has_left c.loop-name.entries.items w.in-Some.fact f k))
+                (inr (w.in-Some.fact, subst (λ (l : List Fact). Has l w.in-Some.fact) (sym more) (has_last c.loop-name.entries.items w.in-Some.fact), (fact h).1)) (inv.covered h) q has;
+          }
+      | in-None w ↦
+          let more : c.match-branch-2.entries.items ≡ c.loop-name.entries.items = ap (λ v. v.items) w.entries-is in
+          record {
+            honest = λ h. c.fact_of.ensures.honest (inv.honest h);
+            sizes = c.fact_of.ensures.size ∙ inv.sizes;
+            count = omega (arith, inv.count, c.fact_of.ensures.count);
+            reads = λ h. reads_then _ _ _ (inv.reads h) (c.fact_of.ensures.reads (inv.honest h));
+            facts = λ h f has. inv.facts h f (subst (λ (l : List Fact). Has l f) more has);
+            covered = λ h q has. covered_more c.loop-name.entries.items c.match-branch-2.entries.items size c.args.names.now c.loop-name.name-index name (omega arith) c.name-item.is
+                (λ f k. subst (λ (l : List Fact). Has l f) (sym more) k)
+                (inl (subst (λ (z : Sizes). z name ≡ None) inv.sizes (absent_found c.in_ok-fact_of.field-0 mid was against name w.in-None.is (c.in_ok-fact_of.ensures.fact (inv.honest h))))) (inv.covered h) q has;
+          }
+    ]
+
+pub returns-clause-tell : goal.returns-clause-tell
+returns-clause-tell g c h q has =
+    let inv = c.loop-name.invariant in
+    let size = g.H.Shelf.size c.args.shelf.now in
+    let against = c.args.against.now in
+    let seen = (g.H.Shelf.view c.args.shelf.now).seen in
+    let all : take c.loop-name.name-index c.args.names.now ≡ c.args.names.now = take_all c.loop-name.name-index c.args.names.now (omega arith) in
+    let covered = inv.covered h q (subst (λ (l : List (List ℕ)). Has l q) (sym all) has) in
+    subst (λ (l : List Fact). Tell l size seen against q) (sym c.new.ensures) (tell c.loop-name.entries.items size seen against q (inv.facts h) covered)

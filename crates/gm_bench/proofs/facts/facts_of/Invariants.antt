@@ -1,0 +1,20 @@
+use Rattle.std.proofs.Common.{◌≡◌, ◌≤◌, List, ℕ, take}
+use Rattle.gm_shelf.specs.Disk.{AreReads}
+use Rattle.gm_lists.specs.Ordered.{Has}
+use Rattle.gm_refusals.specs.declared.facts.Fact.{Fact}
+use Rattle.gm_bench.specs.ShelfFacts.{IsFact}
+use Rattle.gm_bench.proofs.FactsAreWorlds.{IsCovered}
+use Rattle.gm_bench.proofs.facts.facts_of.Given as goal
+
+abbrev pub invariant-loop-name : goal.invariant-loop-name
+invariant-loop-name g l =
+    let H = g.H.Shelf in
+    let old = H.view l.fn.shelf in
+    record {
+      honest : H.honest l.fn.shelf → H.honest l.shelf;
+      sizes : H.size l.shelf ≡ H.size l.fn.shelf;
+      count : old.faults ≤ (H.view l.shelf).faults;
+      reads : H.honest l.fn.shelf → AreReads old (H.view l.shelf);
+      facts : H.honest l.fn.shelf → (f : Fact) → Has l.entries.items f → IsFact (H.size l.fn.shelf) old.seen l.against f;
+      covered : H.honest l.fn.shelf → (q : List ℕ) → Has (take l.name-index l.names) q → IsCovered l.entries.items (H.size l.fn.shelf) q;
+    }

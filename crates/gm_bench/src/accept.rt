@@ -1,0 +1,250 @@
+//! Commands that are handed in.
+
+ghost use Rattle.std.specs.Prelude.{◌≡◌, ◌<◌, ◌≤◌, true, List, [], IfOk, IfErr, IsErrOf};
+ghost use Rattle.gm_metadata.specs.Images.{Image};
+ghost use Rattle.gm_shelf.specs.Disk.{AreReads};
+ghost use Rattle.gm_commands.specs.declared.command.Command.{Command};
+ghost use Rattle.gm_commands.specs.Commands.{CommandFits, words_of};
+ghost use Rattle.gm_state.specs.World.{World};
+ghost use Rattle.gm_commands.specs.Commands.{is_key};
+ghost use Rattle.gm_rules.specs.Step.{CanAnswer};
+ghost use Rattle.gm_state.specs.Rows.{Tables};
+ghost use Rattle.gm_registry.specs.Registry.{DiskKept, HasTables, LeavesNothingNew, WasClean};
+ghost use Rattle.gm_registry.specs.Replies.{AreWrittenUnder, IsFree, count_of};
+ghost use Rattle.gm_bench.specs.Accepting.{LeavesStep, IsAnswered};
+ghost use Rattle.gm_bench.specs.Faults.{IsOfCall};
+ghost use Rattle.gm_bench.specs.Planning.{IsPlanned};
+ghost use Rattle.gm_bench.specs.Recovering.{IsAt};
+
+use crate::answer::Accepted;
+use crate::fault::BenchFault;
+use crate::media::Media;
+use crate::plan::Planned;
+use gm_commands::{Command, is_key, words_of};
+use gm_refusals::CallRefusal;
+use gm_shelf::Shelf;
+use sqlite::Alter;
+use std::alloc::Global;
+
+impl<S: Alter, H: Shelf> Media<S, H> {
+    // Writes what a command makes.
+    fn commit(&mut self, planned: Planned, key: &str, words: &str) -> Result<Accepted, BenchFault>
+        ensures leaves { H.honest self.old.shelf → DiskKept S.Store self.new.registry
+            → (away : Image) (c : Command) (u : World) → words.now ≡ words_of c
+            → IsAt S.Store H.view H.size self.old.registry self.old.shelf away [] u u
+            → IsPlanned u c planned → CanAnswer u key.now c
+            → LeavesStep S.Store H.view H.size self.old.registry self.new.registry
+            self.old.shelf self.old.shelf away u key.now c }
+        ensures done { H.honest self.old.shelf → DiskKept S.Store self.new.registry
+            → IfOk result (λ a. (away : Image) (c : Command) (u : World) → words.now ≡ words_of c
+            → IsAt S.Store H.view H.size self.old.registry self.old.shelf away [] u u
+            → IsPlanned u c planned → CanAnswer u key.now c
+            → IsAnswered S.Store H.view H.size self.new.registry self.old.shelf away
+            u key.now c a) }
+        ensures disk { IsErrOf result BenchFault.Disk → ⊥ }
+        ensures fault { IfErr result IsOfCall }
+        ensures readable { DiskKept S.Store self.new.registry
+            → IsErrOf result BenchFault.Unreadable → (t : Tables)
+            → HasTables S.Store self.old.registry t → count_of t ≤ 100000 → ⊥ }
+        ensures shelf { self.new.shelf ≡ self.old.shelf }
+        ensures clean { WasClean S.Store self.old.registry self.new.registry }
+    {
+        match self.registry.accept(&planned.change, key, words) {
+            Ok(number) => Ok(Accepted::Done {
+                number,
+                reply: planned.change.reply(),
+                work: planned.work,
+            }),
+            Err(fault) => Err(BenchFault::of_store(fault)),
+        }
+    }
+
+    // Asks the rules, and writes what they make.
+    fn choose(
+        &mut self,
+        alloc: Global,
+        key: &str,
+        words: &str,
+        command: &Command,
+    ) -> Result<Accepted, BenchFault>
+        ensures leaves { H.honest self.old.shelf → DiskKept S.Store self.new.registry
+            → (away : Image) (u : World) → words.now ≡ words_of command.now
+            → IsAt S.Store H.view H.size self.old.registry self.old.shelf away [] u u
+            → CanAnswer u key.now command.now
+            → LeavesStep S.Store H.view H.size self.old.registry self.new.registry
+            self.old.shelf self.new.shelf away u key.now command.now }
+        ensures done { H.honest self.old.shelf → DiskKept S.Store self.new.registry
+            → IfOk result (λ a. (away : Image) (u : World) → words.now ≡ words_of command.now
+            → IsAt S.Store H.view H.size self.old.registry self.old.shelf away [] u u
+            → CanAnswer u key.now command.now
+            → IsAnswered S.Store H.view H.size self.new.registry self.new.shelf away
+            u key.now command.now a) }
+        ensures disk { IsErrOf result BenchFault.Disk
+            → (H.view self.old.shelf).faults < (H.view self.new.shelf).faults }
+        // It comes before anything is written.
+        ensures kept { DiskKept S.Store self.new.registry → IsErrOf result BenchFault.Disk
+            → (t : Tables) → HasTables S.Store self.old.registry t
+            → LeavesNothingNew S.Store self.old.registry self.new.registry }
+        ensures fault { IfErr result IsOfCall }
+        ensures readable { H.honest self.old.shelf → DiskKept S.Store self.new.registry
+            → IsErrOf result BenchFault.Unreadable → (away : Image) (u : World)
+            → IsAt S.Store H.view H.size self.old.registry self.old.shelf away [] u u
+            → CanAnswer u key.now command.now → ⊥ }
+        ensures reads { H.honest self.old.shelf
+            → AreReads (H.view self.old.shelf) (H.view self.new.shelf) }
+        ensures honest { H.honest self.old.shelf → H.honest self.new.shelf }
+        ensures size { H.size self.new.shelf ≡ H.size self.old.shelf }
+        ensures count { (H.view self.old.shelf).faults ≤ (H.view self.new.shelf).faults }
+        ensures clean { WasClean S.Store self.old.registry self.new.registry }
+    {
+        match self.ask(alloc, command) {
+            Ok(Ok(planned)) => self.commit(planned, key, words),
+            Ok(Err(refusal)) => Ok(Accepted::Refused(CallRefusal::ByRules(refusal))),
+            Err(fault) => Err(fault),
+        }
+    }
+
+    // Decides a command whose key is free.
+    fn decide(
+        &mut self,
+        alloc: Global,
+        key: &str,
+        words: &str,
+        command: &Command,
+    ) -> Result<Accepted, BenchFault>
+        ensures leaves { H.honest self.old.shelf → DiskKept S.Store self.new.registry
+            → (away : Image) (u : World) → words.now ≡ words_of command.now
+            → is_key key.now ≡ true → CommandFits command.now
+            → (at : IsAt S.Store H.view H.size self.old.registry self.old.shelf away [] u u)
+            → IsFree at.tables key.now
+            → LeavesStep S.Store H.view H.size self.old.registry self.new.registry
+            self.old.shelf self.new.shelf away u key.now command.now }
+        ensures done { H.honest self.old.shelf → DiskKept S.Store self.new.registry
+            → IfOk result (λ a. (away : Image) (u : World) → words.now ≡ words_of command.now
+            → is_key key.now ≡ true → CommandFits command.now
+            → (at : IsAt S.Store H.view H.size self.old.registry self.old.shelf away [] u u)
+            → IsFree at.tables key.now
+            → IsAnswered S.Store H.view H.size self.new.registry self.new.shelf away
+            u key.now command.now a) }
+        ensures disk { IsErrOf result BenchFault.Disk
+            → (H.view self.old.shelf).faults < (H.view self.new.shelf).faults }
+        // It comes before anything is written.
+        ensures kept { DiskKept S.Store self.new.registry → IsErrOf result BenchFault.Disk
+            → (t : Tables) → HasTables S.Store self.old.registry t
+            → LeavesNothingNew S.Store self.old.registry self.new.registry }
+        ensures fault { IfErr result IsOfCall }
+        ensures readable { H.honest self.old.shelf → DiskKept S.Store self.new.registry
+            → IsErrOf result BenchFault.Unreadable → (away : Image) (u : World)
+            → is_key key.now ≡ true → CommandFits command.now
+            → (at : IsAt S.Store H.view H.size self.old.registry self.old.shelf away [] u u)
+            → IsFree at.tables key.now → ⊥ }
+        ensures reads { H.honest self.old.shelf
+            → AreReads (H.view self.old.shelf) (H.view self.new.shelf) }
+        ensures honest { H.honest self.old.shelf → H.honest self.new.shelf }
+        ensures size { H.size self.new.shelf ≡ H.size self.old.shelf }
+        ensures count { (H.view self.old.shelf).faults ≤ (H.view self.new.shelf).faults }
+        ensures clean { WasClean S.Store self.old.registry self.new.registry }
+    {
+        match self.is_full() {
+            Ok(true) => Ok(Accepted::Refused(CallRefusal::NoRoom)),
+            Ok(false) => self.choose(alloc, key, words, command),
+            Err(fault) => Err(fault),
+        }
+    }
+
+    // Answers a command whose key has the form of one.
+    fn answer(
+        &mut self,
+        alloc: Global,
+        key: &str,
+        words: &str,
+        command: &Command,
+    ) -> Result<Accepted, BenchFault>
+        ensures leaves { H.honest self.old.shelf → DiskKept S.Store self.new.registry
+            → (away : Image) (u : World) → words.now ≡ words_of command.now
+            → is_key key.now ≡ true → CommandFits command.now
+            → IsAt S.Store H.view H.size self.old.registry self.old.shelf away [] u u
+            → LeavesStep S.Store H.view H.size self.old.registry self.new.registry
+            self.old.shelf self.new.shelf away u key.now command.now }
+        ensures done { H.honest self.old.shelf → DiskKept S.Store self.new.registry
+            → IfOk result (λ a. (away : Image) (u : World) → words.now ≡ words_of command.now
+            → is_key key.now ≡ true → CommandFits command.now
+            → IsAt S.Store H.view H.size self.old.registry self.old.shelf away [] u u
+            → IsAnswered S.Store H.view H.size self.new.registry self.new.shelf away
+            u key.now command.now a) }
+        ensures disk { IsErrOf result BenchFault.Disk
+            → (H.view self.old.shelf).faults < (H.view self.new.shelf).faults }
+        // It comes before anything is written.
+        ensures kept { DiskKept S.Store self.new.registry → IsErrOf result BenchFault.Disk
+            → (t : Tables) → HasTables S.Store self.old.registry t
+            → LeavesNothingNew S.Store self.old.registry self.new.registry }
+        ensures fault { IfErr result IsOfCall }
+        ensures readable { H.honest self.old.shelf → DiskKept S.Store self.new.registry
+            → IsErrOf result BenchFault.Unreadable → (away : Image) (u : World)
+            → is_key key.now ≡ true → CommandFits command.now
+            → (at : IsAt S.Store H.view H.size self.old.registry self.old.shelf away [] u u)
+            → AreWrittenUnder key.now at.tables → ⊥ }
+        ensures reads { H.honest self.old.shelf
+            → AreReads (H.view self.old.shelf) (H.view self.new.shelf) }
+        ensures honest { H.honest self.old.shelf → H.honest self.new.shelf }
+        ensures size { H.size self.new.shelf ≡ H.size self.old.shelf }
+        ensures count { (H.view self.old.shelf).faults ≤ (H.view self.new.shelf).faults }
+        ensures clean { WasClean S.Store self.old.registry self.new.registry }
+    {
+        match self.registry.reply_of(key) {
+            Ok(None) => self.decide(alloc, key, words, command),
+            Ok(Some((number, kept, reply))) => {
+                if kept.as_str() == words {
+                    Ok(Accepted::Repeated(number, reply))
+                } else {
+                    Ok(Accepted::Refused(CallRefusal::KeyTaken))
+                }
+            }
+            Err(fault) => Err(BenchFault::of_store(fault)),
+        }
+    }
+
+    /// Hands in a command under a key. It reads the shelf, and writes the registry alone.
+    pub(crate) fn accept(
+        &mut self,
+        alloc: Global,
+        key: &str,
+        command: &Command,
+    ) -> Result<Accepted, BenchFault>
+        ensures leaves { H.honest self.old.shelf → DiskKept S.Store self.new.registry
+            → (away : Image) (u : World)
+            → IsAt S.Store H.view H.size self.old.registry self.old.shelf away [] u u
+            → LeavesStep S.Store H.view H.size self.old.registry self.new.registry
+            self.old.shelf self.new.shelf away u key.now command.now }
+        ensures done { H.honest self.old.shelf → DiskKept S.Store self.new.registry
+            → IfOk result (λ a. (away : Image) (u : World)
+            → IsAt S.Store H.view H.size self.old.registry self.old.shelf away [] u u
+            → IsAnswered S.Store H.view H.size self.new.registry self.new.shelf away
+            u key.now command.now a) }
+        ensures disk { IsErrOf result BenchFault.Disk
+            → (H.view self.old.shelf).faults < (H.view self.new.shelf).faults }
+        // It comes before anything is written.
+        ensures kept { DiskKept S.Store self.new.registry → IsErrOf result BenchFault.Disk
+            → (t : Tables) → HasTables S.Store self.old.registry t
+            → LeavesNothingNew S.Store self.old.registry self.new.registry }
+        ensures fault { IfErr result IsOfCall }
+        ensures readable { H.honest self.old.shelf → DiskKept S.Store self.new.registry
+            → IsErrOf result BenchFault.Unreadable → (away : Image) (u : World)
+            → (at : IsAt S.Store H.view H.size self.old.registry self.old.shelf away [] u u)
+            → AreWrittenUnder key.now at.tables → ⊥ }
+        ensures reads { H.honest self.old.shelf
+            → AreReads (H.view self.old.shelf) (H.view self.new.shelf) }
+        ensures honest { H.honest self.old.shelf → H.honest self.new.shelf }
+        ensures size { H.size self.new.shelf ≡ H.size self.old.shelf }
+        ensures count { (H.view self.old.shelf).faults ≤ (H.view self.new.shelf).faults }
+        ensures clean { WasClean S.Store self.old.registry self.new.registry }
+    {
+        if !is_key(key) {
+            return Ok(Accepted::Refused(CallRefusal::NoKey));
+        }
+        match words_of(alloc, command) {
+            Ok(words) => self.answer(alloc, key, &words, command),
+            Err(_) => Err(BenchFault::Memory),
+        }
+    }
+}

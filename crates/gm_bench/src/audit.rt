@@ -1,0 +1,129 @@
+//! Which components the shelf shows otherwise than they are registered. Nothing is written.
+
+ghost use Rattle.std.specs.Prelude.{◌≡◌, ◌≤◌, ◌<◌, ◌↔◌, List, Some, IsTrue, IfOk, IfErr, IsErrOf};
+ghost use Rattle.gm_metadata.specs.Images.{Image};
+ghost use Rattle.gm_shelf.specs.Disk.{AreReads};
+ghost use Rattle.gm_state.specs.declared.intents.Intent.{Intent};
+ghost use Rattle.gm_state.specs.declared.records.Mirror.{Mirror};
+ghost use Rattle.gm_state.specs.Intents.{IsOf};
+ghost use Rattle.gm_state.specs.Records.{IsState, Records};
+ghost use Rattle.gm_state.specs.Rows.{Tables};
+ghost use Rattle.gm_state.specs.World.{World};
+ghost use Rattle.gm_rows.specs.ReadableTables.{AreTablesOf};
+ghost use Rattle.gm_registry.specs.Registry.{DiskKept, HasTables, Reads};
+ghost use Rattle.gm_bench.specs.Audits.{IsAsRegistered, IsAudit};
+ghost use Rattle.gm_bench.specs.Faults.{IsOfCall, IsOfMedia};
+ghost use Rattle.gm_bench.specs.Recovering.{IsAt};
+
+use crate::facts::last_of;
+use crate::fault::BenchFault;
+use crate::media::Media;
+use gm_metadata::{Label, encode, same};
+use gm_shelf::Shelf;
+use gm_state::{Component, State, metadata_of};
+use sqlite::Alter;
+use std::alloc::Global;
+
+// Whether the provider is there with the size that is registered of the component.
+fn has_its_size<H: Shelf>(shelf: &H, component: &Component) -> bool
+    ensures { IsTrue result
+        ↔ (H.size shelf.now component.now.provider ≡ Some component.now.sectors) }
+{
+    match shelf.sectors(component.provider) {
+        Some(sectors) => sectors == u64::from(component.sectors),
+        None => false,
+    }
+}
+
+// Whether the shelf shows a component of the state as it is registered.
+fn is_as_registered<H: Shelf>(
+    shelf: &mut H,
+    state: &State,
+    component: &Component,
+) -> Result<bool, BenchFault>
+    ensures told { H.honest shelf.old → IfOk result (λ is. IsState state.now → (m : Mirror)
+        → IsOf state.now m component.now → IsTrue is
+        ↔ IsAsRegistered (H.size shelf.old) (H.view shelf.old).seen m component.now) }
+    ensures disk { IsErrOf result BenchFault.Disk
+        → (H.view shelf.old).faults < (H.view shelf.new).faults }
+    ensures fault { IfErr result IsOfMedia }
+    ensures reads { H.honest shelf.old → AreReads (H.view shelf.old) (H.view shelf.new) }
+    ensures honest { H.honest shelf.old → H.honest shelf.new }
+    ensures size { H.size shelf.new ≡ H.size shelf.old }
+    ensures count { (H.view shelf.old).faults ≤ (H.view shelf.new).faults }
+{
+    if !has_its_size(shelf, component) {
+        return Ok(false);
+    }
+    let Some(metadata) = metadata_of(state, component.provider) else {
+        return Ok(false);
+    };
+    match last_of(shelf, component.provider, u64::from(component.sectors)) {
+        Ok(last) => Ok(same(&last, &encode(&metadata))),
+        Err(fault) => Err(fault),
+    }
+}
+
+/// The names of the components that the shelf shows otherwise than they are registered, in byte order.
+pub(crate) fn amiss_on<H: Shelf>(
+    alloc: Global,
+    shelf: &mut H,
+    state: &State,
+) -> Result<Vec<Label>, BenchFault>
+    ensures audit { H.honest shelf.old → IfOk result (λ names.
+        IsAudit state.now (H.size shelf.old) (H.view shelf.old).seen names.items) }
+    ensures disk { IsErrOf result BenchFault.Disk
+        → (H.view shelf.old).faults < (H.view shelf.new).faults }
+    ensures fault { IfErr result IsOfMedia }
+    ensures reads { H.honest shelf.old → AreReads (H.view shelf.old) (H.view shelf.new) }
+    ensures honest { H.honest shelf.old → H.honest shelf.new }
+    ensures size { H.size shelf.new ≡ H.size shelf.old }
+    ensures count { (H.view shelf.old).faults ≤ (H.view shelf.new).faults }
+{
+    let mut names = Vec::new(alloc);
+    for component in state.components() {
+        if is_as_registered(shelf, state, component)? {
+            continue;
+        }
+        match names.push(component.provider) {
+            Ok(()) => {}
+            Err(_) => return Err(BenchFault::Memory),
+        }
+    }
+    Ok(names)
+}
+
+impl<S: Alter, H: Shelf> Media<S, H> {
+    /// The components that the shelf shows otherwise than they are registered. It writes nothing.
+    pub(crate) fn audit(&mut self, alloc: Global) -> Result<Vec<Label>, BenchFault>
+        ensures audits { H.honest self.old.shelf → DiskKept S.Store self.new.registry
+            → IfOk result (λ names. (t : Tables) (s : Records) (ts : List Intent)
+            → HasTables S.Store self.old.registry t → AreTablesOf t s ts
+            → IsAudit s (H.size self.old.shelf) (H.view self.old.shelf).seen names.items) }
+        ensures stays { H.honest self.old.shelf → DiskKept S.Store self.new.registry
+            → IfOk result (λ names. (away : Image) (ts : List Intent) (u w : World)
+            → IsAt S.Store H.view H.size self.old.registry self.old.shelf away ts u w
+            → IsAudit w.state (H.size self.old.shelf) (H.view self.old.shelf).seen names.items
+            × IsAt S.Store H.view H.size self.new.registry self.new.shelf away ts u w) }
+        ensures unreadable { DiskKept S.Store self.new.registry
+            → IsErrOf result BenchFault.Unreadable → (t : Tables) (s : Records) (ts : List Intent)
+            → HasTables S.Store self.old.registry t → AreTablesOf t s ts → ⊥ }
+        ensures disk { IsErrOf result BenchFault.Disk
+            → (H.view self.old.shelf).faults < (H.view self.new.shelf).faults }
+        ensures fault { IfErr result IsOfCall }
+        ensures store { Reads S.Store self.old.registry self.new.registry }
+        ensures reads { H.honest self.old.shelf
+            → AreReads (H.view self.old.shelf) (H.view self.new.shelf) }
+        ensures honest { H.honest self.old.shelf → H.honest self.new.shelf }
+        ensures size { H.size self.new.shelf ≡ H.size self.old.shelf }
+    {
+        let (state, _) = match self.load(alloc) {
+            Ok(loaded) => loaded,
+            Err(fault) => return Err(fault),
+        };
+        match amiss_on(alloc, &mut self.shelf, &state) {
+            Ok(names) => Ok(names),
+            Err(fault) => Err(fault),
+        }
+    }
+}

@@ -1,0 +1,152 @@
+//! What a command has to know of the shelf.
+
+ghost use Rattle.std.specs.Prelude.{◌≡◌, ◌≤◌, ◌<◌, ℕ, List, Some, None, IfOk, IfErr, MatchOption, IsErrOf};
+ghost use Rattle.gm_shelf.specs.Disk.{AreReads};
+ghost use Rattle.gm_lists.specs.Ordered.{Has};
+ghost use Rattle.gm_bench.specs.Faults.{IsOfMedia};
+ghost use Rattle.gm_bench.specs.ShelfFacts.{AreEqual, Tell, IsFact, last_of};
+
+use crate::adopt_scope::Compared;
+use crate::fault::BenchFault;
+use gm_apply::equal_sectors;
+use gm_metadata::Label;
+use gm_refusals::{Fact, Facts};
+use gm_shelf::Shelf;
+use std::alloc::Global;
+
+/// The last sector of a provider that has so many.
+pub(crate) fn last_of<H: Shelf>(
+    shelf: &mut H,
+    provider: Label,
+    sectors: u64,
+) -> Result<[u8; 512], BenchFault>
+    ensures bytes { H.honest shelf.old
+        → IfOk result (λ last. last ≡ last_of sectors ((H.view shelf.old).seen provider)) }
+    ensures disk { H.size shelf.old provider ≡ Some sectors → IsErrOf result BenchFault.Disk
+        → (H.view shelf.old).faults < (H.view shelf.new).faults }
+    ensures fault { IfErr result IsOfMedia }
+    ensures reads { H.honest shelf.old → AreReads (H.view shelf.old) (H.view shelf.new) }
+    ensures honest { H.honest shelf.old → H.honest shelf.new }
+    ensures size { H.size shelf.new ≡ H.size shelf.old }
+    ensures count { (H.view shelf.old).faults ≤ (H.view shelf.new).faults }
+{
+    let mut last = [0; 512];
+    if sectors == 0 {
+        return Ok(last);
+    }
+    match shelf.read(provider, sectors - 1, &mut last) {
+        Ok(()) => Ok(last),
+        Err(fault) => Err(BenchFault::of_shelf(fault)),
+    }
+}
+
+// How many first sectors of the provider are equal to those that it is compared with.
+fn equal_of<H: Shelf>(
+    shelf: &mut H,
+    against: Option<Compared>,
+    provider: Label,
+) -> Result<u64, BenchFault>
+    ensures equal { H.honest shelf.old → IfOk result
+        (AreEqual (H.size shelf.old) (H.view shelf.old).seen against provider) }
+    ensures disk { IsErrOf result BenchFault.Disk
+        → (H.view shelf.old).faults < (H.view shelf.new).faults }
+    ensures fault { IfErr result IsOfMedia }
+    ensures reads { H.honest shelf.old → AreReads (H.view shelf.old) (H.view shelf.new) }
+    ensures honest { H.honest shelf.old → H.honest shelf.new }
+    ensures size { H.size shelf.new ≡ H.size shelf.old }
+    ensures count { (H.view shelf.old).faults ≤ (H.view shelf.new).faults }
+{
+    match against {
+        None => Ok(0),
+        Some(with) => match equal_sectors(shelf, with.source, provider, with.limit) {
+            Ok(sectors) => Ok(sectors),
+            Err(fault) => Err(BenchFault::of_shelf(fault)),
+        },
+    }
+}
+
+// What the shelf says of a provider that has so many sectors.
+fn fact_there<H: Shelf>(
+    shelf: &mut H,
+    against: Option<Compared>,
+    provider: Label,
+    sectors: u64,
+) -> Result<Fact, BenchFault>
+    ensures fact { H.honest shelf.old → H.size shelf.old provider ≡ Some sectors
+        → IfOk result (λ f. IsFact (H.size shelf.old) (H.view shelf.old).seen against f
+        × (f.provider ≡ provider)) }
+    ensures disk { H.size shelf.old provider ≡ Some sectors → IsErrOf result BenchFault.Disk
+        → (H.view shelf.old).faults < (H.view shelf.new).faults }
+    ensures fault { IfErr result IsOfMedia }
+    ensures reads { H.honest shelf.old → AreReads (H.view shelf.old) (H.view shelf.new) }
+    ensures honest { H.honest shelf.old → H.honest shelf.new }
+    ensures size { H.size shelf.new ≡ H.size shelf.old }
+    ensures count { (H.view shelf.old).faults ≤ (H.view shelf.new).faults }
+{
+    let last = last_of(shelf, provider, sectors)?;
+    let equal = equal_of(shelf, against, provider)?;
+    Ok(Fact {
+        provider,
+        sectors,
+        last,
+        equal,
+    })
+}
+
+/// What the shelf says of a provider, and how far it is equal to what it is compared with; None where
+/// it is absent.
+pub(crate) fn fact_of<H: Shelf>(
+    shelf: &mut H,
+    against: Option<Compared>,
+    provider: Label,
+) -> Result<Option<Fact>, BenchFault>
+    ensures fact { H.honest shelf.old → IfOk result (λ found. MatchOption found
+        (H.size shelf.old provider ≡ None)
+        (λ f. IsFact (H.size shelf.old) (H.view shelf.old).seen against f
+        × (f.provider ≡ provider))) }
+    ensures disk { IsErrOf result BenchFault.Disk
+        → (H.view shelf.old).faults < (H.view shelf.new).faults }
+    ensures fault { IfErr result IsOfMedia }
+    ensures reads { H.honest shelf.old → AreReads (H.view shelf.old) (H.view shelf.new) }
+    ensures honest { H.honest shelf.old → H.honest shelf.new }
+    ensures size { H.size shelf.new ≡ H.size shelf.old }
+    ensures count { (H.view shelf.old).faults ≤ (H.view shelf.new).faults }
+{
+    match shelf.sectors(provider) {
+        None => Ok(None),
+        Some(sectors) => match fact_there(shelf, against, provider, sectors) {
+            Ok(fact) => Ok(Some(fact)),
+            Err(fault) => Err(fault),
+        },
+    }
+}
+
+/// What the shelf says of these providers.
+pub(crate) fn facts_of<H: Shelf>(
+    alloc: Global,
+    shelf: &mut H,
+    against: &Option<Compared>,
+    names: &[Label],
+) -> Result<Facts, BenchFault>
+    ensures tell { H.honest shelf.old → IfOk result (λ facts. (q : List ℕ) → Has names.now q
+        → Tell facts (H.size shelf.old) (H.view shelf.old).seen against.now q) }
+    ensures disk { IsErrOf result BenchFault.Disk
+        → (H.view shelf.old).faults < (H.view shelf.new).faults }
+    ensures fault { IfErr result IsOfMedia }
+    ensures reads { H.honest shelf.old → AreReads (H.view shelf.old) (H.view shelf.new) }
+    ensures honest { H.honest shelf.old → H.honest shelf.new }
+    ensures size { H.size shelf.new ≡ H.size shelf.old }
+    ensures count { (H.view shelf.old).faults ≤ (H.view shelf.new).faults }
+{
+    let mut entries = Vec::new(alloc);
+    for name in names {
+        match fact_of(shelf, *against, *name)? {
+            None => {}
+            Some(fact) => match entries.push(fact) {
+                Ok(()) => {}
+                Err(_) => return Err(BenchFault::Memory),
+            },
+        }
+    }
+    Ok(Facts::new(entries))
+}

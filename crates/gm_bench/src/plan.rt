@@ -1,0 +1,287 @@
+//! What the rules answer to a command.
+
+ghost use Rattle.std.specs.Prelude.{◌≡◌, ◌<◌, ◌≤◌, ℕ, List, [], length, IfOk, IfErr, IsErrOf, nat_le};
+ghost use Rattle.gm_metadata.specs.Images.{Image};
+ghost use Rattle.gm_shelf.specs.Disk.{AreReads};
+ghost use Rattle.gm_state.specs.declared.intents.Intent.{Intent};
+ghost use Rattle.gm_state.specs.Rows.{Tables};
+ghost use Rattle.gm_state.specs.Records.{Records, IsState};
+ghost use Rattle.gm_state.specs.World.{World, Sound};
+ghost use Rattle.gm_changes.specs.Decides.{changed_by};
+ghost use Rattle.gm_refusals.specs.PartOf.{IsPartOf, IsPartToDecide, part_of};
+ghost use Rattle.gm_refusals.specs.Seen.{seen_in};
+ghost use Rattle.gm_rules.specs.Step.{CanAnswer};
+ghost use Rattle.gm_refusals.specs.WorldFacts.{AreFacts, needed_by};
+ghost use Rattle.gm_rows.specs.ReadableTables.{AreRecordsOf};
+ghost use Rattle.gm_registry.specs.Registry.{DiskKept, HasTables, Reads};
+ghost use Rattle.gm_registry.specs.Replies.{count_of};
+ghost use Rattle.gm_bench.specs.Faults.{IsOfCall, IsOfMedia};
+ghost use Rattle.gm_bench.specs.Recovering.{IsAt};
+ghost use Rattle.gm_bench.specs.Planning.{IsDecided, IsKnown};
+ghost use Rattle.gm_bench.specs.ShelfFacts.{Tell};
+ghost use Rattle.gm_lists.specs.Ordered.{Has};
+
+use crate::adopt_scope::{Compared, adopted_from, compared_with};
+use crate::answer::Work;
+use crate::facts::facts_of;
+use crate::fault::BenchFault;
+use crate::media::Media;
+use gm_changes::{Change, changed_by, decide_part};
+use gm_commands::{Command, MAX_COMMANDS};
+use gm_metadata::Label;
+use gm_refusals::{Facts, Refusal, adopt_source, found_mids, needed};
+use gm_registry::Part;
+use gm_shelf::Shelf;
+use gm_state::{Intent, State};
+use sqlite::Alter;
+use std::alloc::Global;
+
+/// What is to be done for a command that nothing refuses: the change, and what is then to be carried out.
+#[derive(Drop)]
+pub(crate) struct Planned {
+    pub(crate) change: Change,
+    pub(crate) work: Work,
+}
+
+// What is known to decide on a command: its part of the records, and what the shelf says.
+#[derive(Drop)]
+pub(crate) struct Gathered {
+    pub(crate) part: Part,
+    pub(crate) facts: Facts,
+}
+
+// What a change leaves to be done.
+fn plan(alloc: Global, part: &State, change: Change) -> Result<Planned, BenchFault>
+    ensures planned { IfOk result (λ p. (p.change ≡ change)
+        × (p.work.part ≡ changed_by change part.now)
+        × (p.work.intents.items ≡ change.intents)) }
+    ensures disk { IsErrOf result BenchFault.Disk → ⊥ }
+    ensures fault { IfErr result IsOfCall }
+    ensures readable { IsErrOf result BenchFault.Unreadable → IsState (changed_by change part.now)
+        → ⊥ }
+{
+    let left = match changed_by(alloc, part, &change) {
+        Ok(Some(left)) => left,
+        Ok(None) => return Err(BenchFault::Unreadable),
+        Err(_) => return Err(BenchFault::Memory),
+    };
+    match change.intents().to_vec(alloc) {
+        Ok(intents) => Ok(Planned {
+            change,
+            work: Work {
+                part: left,
+                intents,
+            },
+        }),
+        Err(_) => Err(BenchFault::Memory),
+    }
+}
+
+// What the rules answer, of a part of the records.
+fn decide_on(
+    alloc: Global,
+    part: &State,
+    count: u64,
+    facts: &Facts,
+    command: &Command,
+) -> Result<Result<Planned, Refusal>, BenchFault>
+    ensures decides { IfOk result (λ r. (u : World)
+        → IsPartToDecide part.now (seen_in facts.now) command.now u.state
+        → count ≡ length u.state.mirrors → AreFacts facts.now u command.now
+        → IsDecided u command.now r) }
+    ensures disk { IsErrOf result BenchFault.Disk → ⊥ }
+    ensures fault { IfErr result IsOfCall }
+    ensures readable { IsErrOf result BenchFault.Unreadable → (u : World) (key : List ℕ) → Sound u
+        → CanAnswer u key command.now
+        → IsPartToDecide part.now (seen_in facts.now) command.now u.state
+        → count ≡ length u.state.mirrors → AreFacts facts.now u command.now → ⊥ }
+{
+    match decide_part(alloc, part, count, facts, command) {
+        Ok(Ok(change)) => match plan(alloc, part, change) {
+            Ok(planned) => Ok(Ok(planned)),
+            Err(fault) => Err(fault),
+        },
+        Ok(Err(refusal)) => Ok(Err(refusal)),
+        Err(_) => Err(BenchFault::Memory),
+    }
+}
+
+impl<S: Alter, H: Shelf> Media<S, H> {
+    /// Whether as many commands were accepted as there may be. It writes nothing.
+    pub(crate) fn is_full(&mut self) -> Result<bool, BenchFault>
+        ensures told { DiskKept S.Store self.new.registry → IfOk result (λ full. (t : Tables)
+            → HasTables S.Store self.old.registry t
+            → (full ≡ nat_le 100000 (count_of t)) × HasTables S.Store self.new.registry t) }
+        ensures disk { IsErrOf result BenchFault.Disk → ⊥ }
+        ensures fault { IfErr result IsOfCall }
+        ensures readable { DiskKept S.Store self.new.registry
+            → IsErrOf result BenchFault.Unreadable → (t : Tables)
+            → HasTables S.Store self.old.registry t → count_of t ≤ 100000 → ⊥ }
+        ensures reads { Reads S.Store self.old.registry self.new.registry }
+        ensures shelf { self.new.shelf ≡ self.old.shelf }
+    {
+        match self.registry.accepted() {
+            Ok(count) => Ok(u64::from(MAX_COMMANDS) <= count),
+            Err(fault) => Err(BenchFault::of_store(fault)),
+        }
+    }
+
+    /// The part of the records that the command asks for, and that has each of these mids, and how many
+    /// mirrors there are. It writes nothing.
+    pub(crate) fn part(
+        &mut self,
+        alloc: Global,
+        command: &Command,
+        mids: &[u32],
+    ) -> Result<Part, BenchFault>
+        ensures part { H.honest self.old.shelf → DiskKept S.Store self.new.registry
+            → IfOk result (λ r. (away : Image) (ts : List Intent) (u w : World)
+            → (at : IsAt S.Store H.view H.size self.old.registry self.old.shelf away ts u w)
+            → (r.state ≡ part_of w.state command.now mids.now) × IsState w.state
+            × (r.mirrors ≡ length w.state.mirrors)
+            × HasTables S.Store self.new.registry at.tables) }
+        ensures disk { IsErrOf result BenchFault.Disk → ⊥ }
+        ensures fault { IfErr result IsOfCall }
+        ensures readable { DiskKept S.Store self.new.registry
+            → IsErrOf result BenchFault.Unreadable → (t : Tables) (s : Records)
+            → HasTables S.Store self.old.registry t → AreRecordsOf t s → ⊥ }
+        ensures reads { Reads S.Store self.old.registry self.new.registry }
+        ensures shelf { self.new.shelf ≡ self.old.shelf }
+    {
+        match self.registry.part(alloc, command, mids) {
+            Ok(part) => Ok(part),
+            Err(fault) => Err(BenchFault::of_store(fault)),
+        }
+    }
+
+    // What the images of these providers say; with the others, those are compared with this.
+    fn look_at(
+        &mut self,
+        alloc: Global,
+        against: &Option<Compared>,
+        names: &[Label],
+    ) -> Result<Facts, BenchFault>
+        ensures tell { H.honest self.old.shelf → IfOk result (λ facts. (q : List ℕ)
+            → Has names.now q → Tell facts (H.size self.old.shelf)
+            (H.view self.old.shelf).seen against.now q) }
+        ensures disk { IsErrOf result BenchFault.Disk
+            → (H.view self.old.shelf).faults < (H.view self.new.shelf).faults }
+        ensures fault { IfErr result IsOfMedia }
+        ensures reads { H.honest self.old.shelf
+            → AreReads (H.view self.old.shelf) (H.view self.new.shelf) }
+        ensures registry { self.new.registry ≡ self.old.registry }
+        ensures honest { H.honest self.old.shelf → H.honest self.new.shelf }
+        ensures size { H.size self.new.shelf ≡ H.size self.old.shelf }
+        ensures count { (H.view self.old.shelf).faults ≤ (H.view self.new.shelf).faults }
+    {
+        match facts_of(alloc, &mut self.shelf, against, names) {
+            Ok(facts) => Ok(facts),
+            Err(fault) => Err(fault),
+        }
+    }
+
+    // What the shelf says of the providers that a command needs, of which the part is known.
+    fn look(
+        &mut self,
+        alloc: Global,
+        part: &State,
+        command: &Command,
+        against: &Option<Compared>,
+    ) -> Result<Facts, BenchFault>
+        ensures tell { H.honest self.old.shelf → IfOk result (λ facts. (s : Records)
+            → IsPartOf part.now command.now s → (q : List ℕ) → Has (needed_by s command.now) q
+            → Tell facts (H.size self.old.shelf) (H.view self.old.shelf).seen against.now q) }
+        ensures disk { IsErrOf result BenchFault.Disk
+            → (H.view self.old.shelf).faults < (H.view self.new.shelf).faults }
+        ensures fault { IfErr result IsOfMedia }
+        ensures reads { H.honest self.old.shelf
+            → AreReads (H.view self.old.shelf) (H.view self.new.shelf) }
+        ensures registry { self.new.registry ≡ self.old.registry }
+        ensures honest { H.honest self.old.shelf → H.honest self.new.shelf }
+        ensures size { H.size self.new.shelf ≡ H.size self.old.shelf }
+        ensures count { (H.view self.old.shelf).faults ≤ (H.view self.new.shelf).faults }
+    {
+        match needed(alloc, part, command) {
+            Ok(names) => match self.look_at(alloc, against, &names) {
+                Ok(facts) => Ok(facts),
+                Err(fault) => Err(fault),
+            },
+            Err(_) => Err(BenchFault::Memory),
+        }
+    }
+
+    // What is to be known to decide on the command: the images that it adopts from say which mids its
+    // part has, and which data are to be compared.
+    fn gather(&mut self, alloc: Global, command: &Command) -> Result<Gathered, BenchFault>
+        ensures known { H.honest self.old.shelf → DiskKept S.Store self.new.registry
+            → IfOk result (λ r. (away : Image) (u : World)
+            → (at : IsAt S.Store H.view H.size self.old.registry self.old.shelf away [] u u)
+            → IsKnown u command.now r × HasTables S.Store self.new.registry at.tables) }
+        ensures disk { IsErrOf result BenchFault.Disk
+            → (H.view self.old.shelf).faults < (H.view self.new.shelf).faults }
+        ensures fault { IfErr result IsOfCall }
+        ensures readable { H.honest self.old.shelf → DiskKept S.Store self.new.registry
+            → IsErrOf result BenchFault.Unreadable → (away : Image) (u : World) (key : List ℕ)
+            → IsAt S.Store H.view H.size self.old.registry self.old.shelf away [] u u → ⊥ }
+        ensures store { Reads S.Store self.old.registry self.new.registry }
+        ensures reads { H.honest self.old.shelf
+            → AreReads (H.view self.old.shelf) (H.view self.new.shelf) }
+        ensures honest { H.honest self.old.shelf → H.honest self.new.shelf }
+        ensures size { H.size self.new.shelf ≡ H.size self.old.shelf }
+        ensures count { (H.view self.old.shelf).faults ≤ (H.view self.new.shelf).faults }
+    {
+        let providers = adopted_from(command);
+        let first = match self.look_at(alloc, &None, providers) {
+            Ok(first) => first,
+            Err(fault) => return Err(fault),
+        };
+        let mids = match found_mids(alloc, &first, providers) {
+            Ok(mids) => mids,
+            Err(_) => return Err(BenchFault::Memory),
+        };
+        let part = match self.part(alloc, command, &mids) {
+            Ok(part) => part,
+            Err(fault) => return Err(fault),
+        };
+        let against = compared_with(adopt_source(&first, providers));
+        match self.look(alloc, &part.state, command, &against) {
+            Ok(facts) => Ok(Gathered { part, facts }),
+            Err(fault) => Err(fault),
+        }
+    }
+
+    /// What the rules answer, with what is carried out once that is accepted. It writes nothing.
+    pub(crate) fn ask(
+        &mut self,
+        alloc: Global,
+        command: &Command,
+    ) -> Result<Result<Planned, Refusal>, BenchFault>
+        ensures decides { H.honest self.old.shelf → DiskKept S.Store self.new.registry
+            → IfOk result (λ r. (away : Image) (u : World)
+            → (at : IsAt S.Store H.view H.size self.old.registry self.old.shelf away [] u u)
+            → IsDecided u command.now r × HasTables S.Store self.new.registry at.tables) }
+        ensures disk { IsErrOf result BenchFault.Disk
+            → (H.view self.old.shelf).faults < (H.view self.new.shelf).faults }
+        ensures fault { IfErr result IsOfCall }
+        ensures readable { H.honest self.old.shelf → DiskKept S.Store self.new.registry
+            → IsErrOf result BenchFault.Unreadable → (away : Image) (u : World) (key : List ℕ)
+            → IsAt S.Store H.view H.size self.old.registry self.old.shelf away [] u u
+            → CanAnswer u key command.now → ⊥ }
+        ensures store { Reads S.Store self.old.registry self.new.registry }
+        ensures reads { H.honest self.old.shelf
+            → AreReads (H.view self.old.shelf) (H.view self.new.shelf) }
+        ensures honest { H.honest self.old.shelf → H.honest self.new.shelf }
+        ensures size { H.size self.new.shelf ≡ H.size self.old.shelf }
+        ensures count { (H.view self.old.shelf).faults ≤ (H.view self.new.shelf).faults }
+    {
+        let known = match self.gather(alloc, command) {
+            Ok(known) => known,
+            Err(fault) => return Err(fault),
+        };
+        let part = &known.part;
+        match decide_on(alloc, &part.state, part.mirrors, &known.facts, command) {
+            Ok(decided) => Ok(decided),
+            Err(fault) => Err(fault),
+        }
+    }
+}

@@ -1,0 +1,182 @@
+//! The opening of a bench.
+
+ghost use Rattle.std.specs.Prelude.{◌≡◌, ◌≢◌, ◌<◌, ℕ, List, [], Some, None, length, IfOk, IfErr, OnOk, IsErrOf};
+ghost use Rattle.gm_metadata.specs.Images.{Image};
+ghost use Rattle.gm_shelf.specs.Disk.{IsLawful};
+ghost use Rattle.gm_state.specs.declared.intents.Intent.{Intent};
+ghost use Rattle.gm_state.specs.Records.{Records};
+ghost use Rattle.gm_state.specs.Rows.{Tables};
+ghost use Rattle.gm_state.specs.World.{World};
+ghost use Rattle.gm_rows.specs.ReadableTables.{AreTablesOf};
+ghost use Rattle.gm_registry.specs.Registry.{DiskKept, HasTables, IsRegistry, LeavesAlone, Reads, WasClean};
+ghost use Rattle.gm_bench.specs.Faults.{IsOfMedia, IsOfOpening, IsOfRegistry, IsBeforeWrites};
+ghost use Rattle.gm_bench.specs.Leading.{AllLead};
+ghost use Rattle.gm_bench.specs.Presence.{first_absent};
+ghost use Rattle.gm_bench.specs.Recovering.{Cover, IsAt, IsFound, LeavesOnly};
+
+use crate::fault::BenchFault;
+use crate::media::Media;
+use crate::presence::first_absent;
+use gm_shelf::Shelf;
+use gm_state::{Intent, State};
+use sqlite::Alter;
+use std::alloc::Global;
+
+impl<S: Alter, H: Shelf> Media<S, H> {
+    /// Carries out what is pending, and settles it.
+    pub(crate) fn finish(&mut self, part: &State, intents: &[Intent]) -> Result<(), BenchFault>
+        ensures moments { H.honest self.old.shelf → (away : Image) (u w : World)
+            → (at : IsAt S.Store H.view H.size self.old.registry self.old.shelf away
+            intents.now u w)
+            → Cover part.now w.state intents.now
+            → AllLead at.tables intents.now (H.size self.old.shelf) away
+            ((H.view self.new.shelf).left_since (H.view self.old.shelf).moment) u w }
+        ensures leaves { H.honest self.old.shelf → DiskKept S.Store self.new.registry
+            → (away : Image) (u w : World)
+            → IsAt S.Store H.view H.size self.old.registry self.old.shelf away intents.now u w
+            → Cover part.now w.state intents.now
+            → LeavesOnly S.Store H.view H.size self.old.registry self.new.registry
+            self.old.shelf self.new.shelf away u w }
+        ensures done { H.honest self.old.shelf → DiskKept S.Store self.new.registry
+            → OnOk result ((away : Image) (u w : World)
+            → IsAt S.Store H.view H.size self.old.registry self.old.shelf away intents.now u w
+            → Cover part.now w.state intents.now
+            → IsAt S.Store H.view H.size self.new.registry self.new.shelf away [] w w) }
+        ensures disk { (away : Image) (u w : World)
+            → IsAt S.Store H.view H.size self.old.registry self.old.shelf away intents.now u w
+            → IsErrOf result BenchFault.Disk
+            → (H.view self.old.shelf).faults < (H.view self.new.shelf).faults }
+        ensures fault { IfErr result IsOfMedia }
+        ensures honest { H.honest self.old.shelf → H.honest self.new.shelf }
+        ensures size { H.size self.new.shelf ≡ H.size self.old.shelf }
+        ensures clean { WasClean S.Store self.old.registry self.new.registry }
+    {
+        match self.apply(part, intents) {
+            Ok(()) => match self.settle() {
+                Ok(()) => Ok(()),
+                Err(fault) => Err(fault),
+            },
+            Err(fault) => Err(fault),
+        }
+    }
+
+    /// The whole state and the pending intents. It writes nothing.
+    pub(crate) fn load(&mut self, alloc: Global) -> Result<(State, Vec<Intent>), BenchFault>
+        ensures says { H.honest self.old.shelf → DiskKept S.Store self.new.registry
+            → IfOk result (λ r. (away : Image) (ts : List Intent) (u w : World)
+            → (at : IsFound S.Store H.view H.size self.old.registry self.old.shelf away ts u w)
+            → (r.0 ≡ w.state) × (r.1.items ≡ ts) × HasTables S.Store self.new.registry at.tables) }
+        ensures loaded { DiskKept S.Store self.new.registry
+            → IfOk result (λ r. (t : Tables) → HasTables S.Store self.old.registry t
+            → AreTablesOf t r.0 r.1.items × HasTables S.Store self.new.registry t) }
+        ensures unreadable { DiskKept S.Store self.new.registry
+            → IsErrOf result BenchFault.Unreadable → (t : Tables) (s : Records) (ts : List Intent)
+            → HasTables S.Store self.old.registry t → AreTablesOf t s ts → ⊥ }
+        ensures untouched { IsRegistry S.Store self.old.registry
+            → LeavesAlone S.Store self.old.registry self.new.registry }
+        ensures fault { IfErr result IsOfRegistry }
+        ensures reads { Reads S.Store self.old.registry self.new.registry }
+        ensures shelf { self.new.shelf ≡ self.old.shelf }
+    {
+        match self.registry.load(alloc) {
+            Ok(loaded) => Ok(loaded),
+            Err(fault) => Err(BenchFault::of_store(fault)),
+        }
+    }
+
+    /// Carries out what was loaded, where each image that it needs is there.
+    fn check_and_finish(&mut self, state: &State, intents: &[Intent]) -> Result<(), BenchFault>
+        ensures moments { H.honest self.old.shelf → (away : Image) (u w : World)
+            → (at : IsFound S.Store H.view H.size self.old.registry self.old.shelf away
+            intents.now u w)
+            → state.now ≡ w.state
+            → AllLead at.tables intents.now (H.size self.old.shelf) away
+            ((H.view self.new.shelf).left_since (H.view self.old.shelf).moment) u w }
+        ensures leaves { H.honest self.old.shelf → DiskKept S.Store self.new.registry
+            → (away : Image) (u w : World)
+            → IsFound S.Store H.view H.size self.old.registry self.old.shelf away intents.now u w
+            → state.now ≡ w.state
+            → LeavesOnly S.Store H.view H.size self.old.registry self.new.registry
+            self.old.shelf self.new.shelf away u w }
+        ensures done { H.honest self.old.shelf → DiskKept S.Store self.new.registry
+            → OnOk result ((away : Image) (u w : World)
+            → IsFound S.Store H.view H.size self.old.registry self.old.shelf away intents.now u w
+            → state.now ≡ w.state
+            → IsAt S.Store H.view H.size self.new.registry self.new.shelf away [] w w) }
+        ensures disk { H.honest self.old.shelf → (away : Image) (u w : World)
+            → IsFound S.Store H.view H.size self.old.registry self.old.shelf away intents.now u w
+            → state.now ≡ w.state → IsErrOf result BenchFault.Disk
+            → (H.view self.old.shelf).faults < (H.view self.new.shelf).faults }
+        // F5 comes before anything is written, exactly where an image isn't there.
+        ensures absent { (p : List ℕ) → IsErrOf result (BenchFault.Absent p)
+            → (first_absent state.now (H.size self.old.shelf) intents.now ≡ Some p)
+            × (self.new ≡ self.old) }
+        ensures there { OnOk result
+            (first_absent state.now (H.size self.old.shelf) intents.now ≡ None) }
+        ensures fault { IfErr result IsOfOpening }
+        ensures honest { H.honest self.old.shelf → H.honest self.new.shelf }
+        ensures size { H.size self.new.shelf ≡ H.size self.old.shelf }
+        ensures clean { WasClean S.Store self.old.registry self.new.registry }
+    {
+        match first_absent(&self.shelf, state, intents) {
+            Some(provider) => Err(BenchFault::Absent(provider)),
+            None => match self.finish(state, intents) {
+                Ok(()) => Ok(()),
+                Err(fault) => Err(fault),
+            },
+        }
+    }
+
+    /// Carries out what an earlier run left pending, and answers how many intents it found.
+    pub(crate) fn take_up(&mut self, alloc: Global) -> Result<u64, BenchFault>
+        ensures leaves { H.honest self.old.shelf → DiskKept S.Store self.new.registry
+            → (away : Image) (ts : List Intent) (u w : World)
+            → IsFound S.Store H.view H.size self.old.registry self.old.shelf away ts u w
+            → LeavesOnly S.Store H.view H.size self.old.registry self.new.registry
+            self.old.shelf self.new.shelf away u w }
+        ensures moments { H.honest self.old.shelf → DiskKept S.Store self.new.registry
+            → (away : Image) (ts : List Intent) (u w : World)
+            → (at : IsFound S.Store H.view H.size self.old.registry self.old.shelf away ts u w)
+            → AllLead at.tables ts (H.size self.old.shelf) away
+            ((H.view self.new.shelf).left_since (H.view self.old.shelf).moment) u w }
+        ensures done { H.honest self.old.shelf → DiskKept S.Store self.new.registry
+            → IfOk result (λ n. (away : Image) (ts : List Intent) (u w : World)
+            → IsFound S.Store H.view H.size self.old.registry self.old.shelf away ts u w
+            → (n ≡ length ts)
+            × IsAt S.Store H.view H.size self.new.registry self.new.shelf away [] w w) }
+        ensures disk { H.honest self.old.shelf → DiskKept S.Store self.new.registry
+            → IsErrOf result BenchFault.Disk
+            → (away : Image) (ts : List Intent) (u w : World)
+            → IsFound S.Store H.view H.size self.old.registry self.old.shelf away ts u w
+            → (H.view self.old.shelf).faults < (H.view self.new.shelf).faults }
+        ensures absent { H.honest self.old.shelf → DiskKept S.Store self.new.registry
+            → (p : List ℕ) → IsErrOf result (BenchFault.Absent p)
+            → (away : Image) (ts : List Intent) (u w : World)
+            → IsFound S.Store H.view H.size self.old.registry self.old.shelf away ts u w
+            → first_absent w.state (H.size self.old.shelf) ts ≡ Some p }
+        ensures there { H.honest self.old.shelf → DiskKept S.Store self.new.registry
+            → OnOk result ((away : Image) (ts : List Intent) (u w : World)
+            → IsFound S.Store H.view H.size self.old.registry self.old.shelf away ts u w
+            → first_absent w.state (H.size self.old.shelf) ts ≡ None) }
+        ensures unreadable { DiskKept S.Store self.new.registry
+            → IsErrOf result BenchFault.Unreadable → (t : Tables) (s : Records) (ts : List Intent)
+            → HasTables S.Store self.old.registry t → AreTablesOf t s ts → ⊥ }
+        ensures untouched { IfErr result (λ f. IsBeforeWrites f
+            → self.new.shelf ≡ self.old.shelf) }
+        // Whatever rows the registry holds.
+        ensures alone { IfErr result (λ f. IsBeforeWrites f → IsRegistry S.Store self.old.registry
+            → LeavesAlone S.Store self.old.registry self.new.registry) }
+        ensures fault { IsErrOf result BenchFault.Closed → ⊥ }
+        ensures honest { H.honest self.old.shelf → H.honest self.new.shelf }
+        ensures size { H.size self.new.shelf ≡ H.size self.old.shelf }
+        ensures clean { WasClean S.Store self.old.registry self.new.registry }
+    {
+        match self.load(alloc) {
+            Ok((state, intents)) => match self.check_and_finish(&state, &intents) {
+                Ok(()) => Ok(intents.len() as u64),
+                Err(fault) => Err(fault),
+            },
+            Err(fault) => Err(fault),
+        }
+    }
+}

@@ -1,0 +1,7 @@
+pub mod DecidedInWorld
+pub mod KeptComponents
+pub mod LeavesPart
+pub mod LendingComponent
+pub mod MadeOfPart
+pub mod MakesChange
+pub mod ReplacedRecords

@@ -1,0 +1,19 @@
+use Rattle.std.proofs.Common.{◌∙◌, sym, inl, inr, refl}
+use Rattle.gm_refusals.specs.declared.refusals.Refusal.TheVariants as refusals
+use Rattle.gm_refusals.specs.Seen.{seen_in}
+use Rattle.gm_refusals.proofs.NothingApplies.{some_from}
+use Rattle.gm_changes.proofs.MadeOfPart.{activate_made}
+use Rattle.gm_state.proofs.FoundRecords.{member_found}
+use Rattle.gm_changes.proofs.activate.activate.Goals as goal
+
+pub unwrap-mirror-requires : goal.unwrap-mirror-requires
+unwrap-mirror-requires c = rw c.mirror.ensures.value (some_from _ (c.requires refusals.NoMirror (inl refl) refl))
+
+pub unwrap-component-requires : goal.unwrap-component-requires
+unwrap-component-requires c =
+    rw c.component.ensures.value (member_found c.args.part.now c.args.name c.args.provider (c.requires refusals.NotMember (inr (inr (inl refl))) refl))
+
+pub returns : goal.returns
+returns c =
+    activate_made c.args.part.now (seen_in c.args.facts.now) c.args.name c.args.provider _ _ _ (sym c.mirror.ensures.value ∙ c.unwrap-mirror.ensures)
+    (sym c.component.ensures.value ∙ c.unwrap-component.ensures) (rw c.activated.ensures at c.in_ok-replaced.ensures)

@@ -1,0 +1,27 @@
+use Rattle.std.proofs.Common.{◌≡◌, inl, inr, refl, subst, true, ℕ, List}
+use Rattle.std.proofs.lemmas.Bool.{not-false}
+use Rattle.gm_lists.specs.Ordered.{Has}
+use Rattle.gm_lists.proofs.Finding.{none_any}
+use Rattle.gm_refusals.specs.declared.refusals.Refusal.TheVariants as refusals
+use Rattle.gm_refusals.specs.Seen.{seen_in, is_there_and}
+use Rattle.gm_refusals.specs.Facts.{size_in}
+use Rattle.gm_refusals.specs.Adoptable.{is_adoptable}
+use Rattle.gm_refusals.specs.Applies.{has_wrong_size}
+use Rattle.gm_refusals.proofs.NothingApplies.{fits_32}
+use Rattle.gm_changes.proofs.MadeOfPart.{adopt_made}
+use Rattle.gm_changes.proofs.adopt.adopt.Goals as goal
+
+pub adopted_on-requires-clause-adoptable : goal.adopted_on-requires-clause-adoptable
+adopted_on-requires-clause-adoptable c =
+    rw c.as_slice.ensures.value (not-false _ (c.requires refusals.NotAdoptable (inr (inr (inr (inr (inr (inr (inr (inl refl)))))))) refl))
+
+pub adopted_on-requires-clause-sizes : goal.adopted_on-requires-clause-sizes
+adopted_on-requires-clause-sizes c p h =
+    fits_32 (size_in c.args.facts.now p) (none_any (λ q. is_there_and (size_in c.args.facts.now q) has_wrong_size) c.args.providers.now
+    (c.requires refusals.WrongSize (inr (inr (inr (inr (inr (inr (inr (inr (inl refl))))))))) refl) p (subst (λ (l : List (List ℕ)). Has l p) c.as_slice.ensures.value h))
+
+pub returns : goal.returns
+returns c =
+    let fit : is_adoptable (seen_in c.args.facts.now) c.args.name c.args.providers.now ≡ true
+    = not-false _ (c.requires refusals.NotAdoptable (inr (inr (inr (inr (inr (inr (inr (inl refl)))))))) refl) in
+    adopt_made c.args.part.now (seen_in c.args.facts.now) c.args.name c.args.providers.now _ fit (rw c.as_slice.ensures.value at c.in_ok-adopted_on.ensures)

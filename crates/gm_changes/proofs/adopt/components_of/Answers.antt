@@ -1,0 +1,16 @@
+use Rattle.std.proofs.Common.{◌≡◌, ◌∙◌, sym, ap}
+use Rattle.gm_taste.specs.declared.tasted.Member.{Member}
+use Rattle.gm_lists.specs.Ordered.{Has}
+use Rattle.gm_lists.proofs.Sorting.{Contains-Has}
+use Rattle.gm_refusals.specs.Seen.{seen_in}
+use Rattle.gm_refusals.proofs.TakenProviders.{taken_name}
+use Rattle.gm_changes.proofs.adopt.components_of.Goals as goal
+
+pub adopted_component-requires-clause-size : goal.adopted_component-requires-clause-size
+adopted_component-requires-clause-size c =
+    let name : c.member-member.result.provider ≡ c.provider-item.result =
+    ap (λ (k : Member). k.provider) c.member-member.ensures
+    ∙ taken_name (seen_in c.args.facts.now) c.provider-item.result c.in-Some.taken (sym c.taken.ensures ∙ c.in-Some.is) in
+    let has : Has c.args.providers.now c.provider-item.result =
+    Contains-Has c.args.providers.now c.provider-item.result c.loop-provider.provider-index c.loop-provider-test.true (sym c.provider-item.is) in
+    rw name (c.requires.sizes c.provider-item.result has)

@@ -1,0 +1,65 @@
+-- What `decide` answers.
+use Rattle.std.specs.Prelude.{◌≡◌, ◌≤◌, ℕ, true, false, List, [], Option, Some, None, Result, Ok, Err}
+use Rattle.gm_taste.specs.declared.tasted.Member.{Member}
+use Rattle.gm_commands.specs.declared.command.Command.{Command}
+use Rattle.gm_state.specs.declared.intents.Intent.{Intent}
+use Rattle.gm_state.specs.declared.intents.Reply.{Reply}
+use Rattle.gm_state.specs.declared.intents.Reply.TheVariants.{Plain}
+use Rattle.gm_state.specs.declared.records.Mirror.{Mirror}
+use Rattle.gm_state.specs.declared.records.Component.{Component}
+use Rattle.gm_lists.specs.Ordered.{Has, put, put_all, without, without_all}
+use Rattle.gm_state.specs.Records.{Records, name, provider}
+use Rattle.gm_refusals.specs.declared.refusals.Refusal.{Refusal}
+use Rattle.gm_refusals.specs.Refusals.{number_of, own}
+use Rattle.gm_refusals.specs.Seen.{Seen}
+use Rattle.gm_refusals.specs.Adoptable.{adopted_mirror, adopted}
+use Rattle.gm_refusals.specs.Applies.{applies}
+use Rattle.gm_changes.specs.After.{after, intents_of, metas, reply_to}
+use Rattle.gm_refusals.specs.Applies.{IsLeast, IsGood}
+
+-- records to put, names of records to delete, intents, reply
+pub record Changed : Type 0 where
+  pub mirror : Option Mirror
+  pub gone_mirror : Option (List ℕ)
+  pub components : List Component
+  pub gone_components : List (List ℕ)
+  pub intents : List Intent
+  pub reply : Reply
+
+-- the change of an adoption whose source is b
+abbrev pub adopting : Seen → List ℕ → List (List ℕ) → Member → Changed
+adopting x n ps b = record {
+  mirror = Some (adopted_mirror n b.metadata);
+  gone_mirror = None;
+  components = adopted x n ps b;
+  gone_components = [];
+  intents = metas (adopted x n ps b);
+  reply = Plain;
+}
+
+abbrev pub put_some : Option Mirror → List Mirror → List Mirror
+put_some None ms = ms
+put_some (Some m) ms = put name m ms
+
+abbrev pub without_some : Option (List ℕ) → List Mirror → List Mirror
+without_some None ms = ms
+without_some (Some n) ms = without name n ms
+
+-- the records with the change made: what is gone goes first
+abbrev pub changed_by : Changed → Records → Records
+changed_by ch s = record {
+  mirrors = put_some ch.mirror (without_some ch.gone_mirror s.mirrors);
+  components = put_all provider ch.components (without_all provider ch.gone_components s.components);
+}
+
+-- no refusal applies, and the change is what the command makes of the records, with its intents and its reply
+pub record Makes (s : Records) (x : Seen) (c : Command) (ch : Changed) : Type 0 where
+  pub good : IsGood s x c
+  pub records : changed_by ch s ≡ after x c s
+  pub intents : ch.intents ≡ intents_of c s (after x c s)
+  pub reply : ch.reply ≡ reply_to c s
+
+-- the least refusal, or the change
+abbrev pub Decides : Records → Seen → Command → Result Changed Refusal → Type 0
+Decides s x c (Ok ch) = Makes s x c ch
+Decides s x c (Err r) = IsLeast s x c r

@@ -1,0 +1,110 @@
+//! What a command changes.
+
+ghost use Rattle.std.specs.Prelude.{◌≡◌, ◌++◌, OnOk, OnErr};
+ghost use Rattle.gm_changes.specs.After.{metas, clears_of};
+
+use gm_metadata::Label;
+use gm_state::{Component, Intent, Mirror, Reply};
+use std::alloc::AllocError;
+use std::marker::Model;
+
+/// Records to put, names of records to delete, what is to be written, and what is answered. Deletions come before what
+/// is put.
+#[derive(Debug, Drop)]
+pub struct Change {
+    pub(crate) mirror: Option<Mirror>,
+    pub(crate) gone_mirror: Option<Label>,
+    pub(crate) components: Vec<Component>,
+    pub(crate) gone_components: Vec<Label>,
+    pub(crate) intents: Vec<Intent>,
+    pub(crate) reply: Reply,
+}
+
+impl Model for Change {
+    ghost use Rattle.gm_changes.specs.Decides.{Changed};
+
+    ghost Value = { Changed };
+
+    ghost view = { λ a. record {
+      mirror = a.mirror;
+      gone_mirror = a.gone_mirror;
+      components = a.components.items;
+      gone_components = a.gone_components.items;
+      intents = a.intents.items;
+      reply = a.reply;
+    } };
+}
+
+impl Change {
+    /// The mirror to put, in place of the one of its name.
+    pub fn mirror(&self) -> Option<Mirror>
+        ensures { result ≡ self.now.mirror }
+    {
+        self.mirror
+    }
+
+    /// The name of the mirror to delete.
+    pub fn gone_mirror(&self) -> Option<Label>
+        ensures { result ≡ self.now.gone_mirror }
+    {
+        self.gone_mirror
+    }
+
+    /// The components to put, each in place of the one on its provider.
+    pub fn components(&self) -> &[Component]
+        ensures { result.now ≡ self.now.components }
+    {
+        &self.components
+    }
+
+    /// The providers of the components to delete.
+    pub fn gone_components(&self) -> &[Label]
+        ensures { result.now ≡ self.now.gone_components }
+    {
+        &self.gone_components
+    }
+
+    /// What is to be written, in order.
+    pub fn intents(&self) -> &[Intent]
+        ensures { result.now ≡ self.now.intents }
+    {
+        &self.intents
+    }
+
+    /// What is answered.
+    pub fn reply(&self) -> Reply
+        ensures { result ≡ self.now.reply }
+    {
+        self.reply
+    }
+}
+
+// Adds Meta of each of the components.
+pub(crate) fn push_metas(
+    intents: &mut Vec<Intent>,
+    components: &[Component],
+) -> Result<(), AllocError>
+    ensures { OnOk result (intents.new.items ≡ intents.old.items ++ metas components.now) }
+{
+    for k in components {
+        intents.push(Intent::Meta {
+            provider: k.provider,
+        })?;
+    }
+    Ok(())
+}
+
+// Adds Clear of each of the components.
+pub(crate) fn push_clears(
+    intents: &mut Vec<Intent>,
+    components: &[Component],
+) -> Result<(), AllocError>
+    ensures { OnOk result (intents.new.items ≡ intents.old.items ++ clears_of components.now) }
+{
+    for k in components {
+        intents.push(Intent::Clear {
+            provider: k.provider,
+        })?;
+    }
+    Ok(())
+}

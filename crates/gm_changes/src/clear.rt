@@ -1,0 +1,31 @@
+//! The change of clear: metadata of a provider that is no component are wiped out.
+
+ghost use Rattle.std.specs.Prelude.{◌≡◌, ◌-◌, ◌<◌, [], ◌∷◌, None, IfOk};
+ghost use Rattle.gm_state.specs.declared.intents.Intent.TheVariants as intents;
+ghost use Rattle.gm_state.specs.declared.intents.Reply.TheVariants as replies;
+
+use crate::change::Change;
+use gm_metadata::Label;
+use gm_state::{Intent, Reply};
+use std::alloc::{AllocError, Global};
+
+/// A provider whose metadata are wiped out.
+pub(crate) fn cleared(alloc: Global, provider: Label) -> Result<Change, AllocError>
+    ensures { IfOk result (λ ch. ch ≡ record {
+      mirror = None;
+      gone_mirror = None;
+      components = [];
+      gone_components = [];
+      intents = intents.Clear provider ∷ [];
+      reply = replies.Plain;
+    }) }
+{
+    Ok(Change {
+        mirror: None,
+        gone_mirror: None,
+        components: Vec::new(alloc),
+        gone_components: Vec::new(alloc),
+        intents: vec![in alloc; Intent::Clear { provider }]?,
+        reply: Reply::Plain,
+    })
+}

@@ -1,0 +1,160 @@
+//! Batches: the lines of an input, each answered before the next is read.
+
+ghost use Rattle.std.specs.Prelude.{◌≡◌, ◌<◌, ◌≤◌, ℕ, List, [], IfSome, IfNone, IfOk, IfErr, OnOk, OnErr, length, take};
+ghost use Rattle.std.specs.Io.KnownBytes.{Appends, Keeps};
+ghost use Rattle.gm_metadata.specs.Images.{Image};
+ghost use Rattle.gm_state.specs.World.{World};
+ghost use Rattle.gm_registry.specs.Registry.{DiskKept, WasClean};
+ghost use Rattle.gm_bench.specs.declared.phase.Progress.TheVariants.{Failed};
+ghost use Rattle.gm_bench.specs.Phases.{TakesCommands};
+ghost use Rattle.gm_bench.specs.Recovering.{IsAt};
+ghost use Rattle.gm_front.specs.Batch.{AppendsFront, Batches, front_fault_number, progress_at};
+ghost use Rattle.gm_front.specs.Outcomes.{text_of};
+
+use crate::lines::{Line, next_line};
+use crate::outcome::{Outcome, ask};
+use crate::request::request_at;
+use gm_bench::{Bench, BenchFault};
+use gm_shelf::Shelf;
+use sqlite::Alter;
+use std::alloc::Global;
+use std::io::{ErrorKind, Read, Write};
+
+/// How a batch ended whose answers were all told.
+#[derive(Clone, Copy, Debug, PartialEq, Eq)]
+pub enum BatchEnd {
+    /// The input ended.
+    Ended { refused: bool },
+    /// The bench failed at a line, and what follows that was not read.
+    Stopped(BenchFault),
+}
+
+/// Why the answers weren't all told.
+#[derive(Clone, Copy, Debug, PartialEq, Eq)]
+pub enum FrontFault {
+    /// Want of memory.
+    Memory,
+    /// The input failed.
+    Read,
+    /// The output failed.
+    Write,
+}
+
+impl FrontFault {
+    /// Its number, 1 to 3 (this project's own).
+    pub fn number(self) -> u8
+        ensures { result ≡ front_fault_number self }
+    {
+        match self {
+            FrontFault::Memory => 1,
+            FrontFault::Read => 2,
+            FrontFault::Write => 3,
+        }
+    }
+}
+
+// Writes some of the bytes, unless there are none.
+fn write_some<W: Write>(writer: &mut W, bytes: &[u8]) -> Option<usize>
+    ensures some { IfSome result (λ n. (0 < n) × (n ≤ length bytes.now)
+        × Appends (W.contents writer.old) (W.contents writer.new) (take n bytes.now)) }
+    ensures none { IfNone result (Keeps (W.contents writer.old) (W.contents writer.new)) }
+{
+    for _ in 0..u64::MAX {
+        match writer.write(bytes) {
+            Ok(0) => return None,
+            Ok(n) => return Some(n),
+            Err(e) if e.kind() == ErrorKind::Interrupted => {}
+            Err(_) => return None,
+        }
+    }
+    None
+}
+
+// Writes all of the bytes, or a beginning of them.
+#[tactic(auto, using(crate::proofs::WrittenBytes::front_appended, crate::proofs::WrittenBytes::more_appended, crate::proofs::WrittenBytes::all_appended))]
+fn write_whole<W: Write>(writer: &mut W, bytes: &[u8]) -> Result<(), FrontFault>
+    ensures ok { OnOk result (Appends (W.contents writer.old) (W.contents writer.new) bytes.now) }
+    ensures front { OnErr result
+        (AppendsFront (W.contents writer.old) (W.contents writer.new) bytes.now) }
+    ensures fault { IfErr result (λ e. e ≡ FrontFault.Write) }
+{
+    let mut at = 0usize;
+    while at < bytes.len() {
+        let Some(n) = write_some(writer, &bytes[at..]) else {
+            return Err(FrontFault::Write);
+        };
+        at += n;
+    }
+    Ok(())
+}
+
+// Tells what a line came to, so that the writer's other side has it.
+fn tell<W: Write>(alloc: Global, writer: &mut W, outcome: &Outcome<'_>) -> Result<(), FrontFault>
+    ensures ok { OnOk result
+        (Appends (W.contents writer.old) (W.contents writer.new) (text_of outcome.now)) }
+    ensures front { OnErr result
+        (AppendsFront (W.contents writer.old) (W.contents writer.new) (text_of outcome.now)) }
+    ensures fault { IfErr result (λ e. e ≡ FrontFault.Read → ⊥) }
+{
+    let Ok(text) = outcome.text(alloc) else {
+        return Err(FrontFault::Memory);
+    };
+    write_whole(writer, text.as_bytes())?;
+    match writer.flush() {
+        Ok(()) => Ok(()),
+        Err(_) => Err(FrontFault::Write),
+    }
+}
+
+/// Answers the lines of an input in turn, each asked of the bench before it is told, and told before the next is read. A
+/// line that names no command is refused without the bench; one without words isn't answered. Asks for a bench in phase
+/// Ready or Failed. `Stopped` where the bench failed at a command, whose line is told. Fails where an answer couldn't be
+/// told or the input be read: what the bench accepted stays accepted.
+pub fn batch<R: Read, W: Write, S: Alter, H: Shelf>(
+    alloc: Global,
+    reader: &mut R,
+    writer: &mut W,
+    bench: &mut Bench<S, H>,
+) -> Result<BatchEnd, FrontFault>
+    requires { TakesCommands bench.old.progress }
+    ensures does { H.honest bench.old.media.shelf → DiskKept S.Store bench.new.media.registry
+        → (away : Image) (u : World)
+        → IsAt S.Store H.view H.size bench.old.media.registry bench.old.media.shelf away [] u u
+        → Batches S.Store H.view H.size (R.remaining reader.old)
+        (W.contents writer.old) (W.contents writer.new)
+        bench.new.media.registry bench.new.media.shelf away u result }
+    ensures progress { IfOk result (λ end.
+        bench.new.progress ≡ progress_at bench.old.progress end) }
+    ensures phase { TakesCommands bench.new.progress }
+    ensures closed { bench.old.progress ≡ Failed → bench.new ≡ bench.old }
+    ensures reopen { result ≡ Ok (BatchEnd.Stopped BenchFault.Closed)
+        → bench.old.progress ≡ Failed }
+    ensures absent { (p : List ℕ) → result ≡ Ok (BatchEnd.Stopped (BenchFault.Absent p)) → ⊥ }
+    ensures honest { H.honest bench.old.media.shelf → H.honest bench.new.media.shelf }
+    ensures size { H.size bench.new.media.shelf ≡ H.size bench.old.media.shelf }
+    ensures redone { bench.new.redone ≡ bench.old.redone }
+    ensures clean { WasClean S.Store bench.old.media.registry bench.new.media.registry }
+{
+    let mut line = [0u8; 1024];
+    let mut refused = false;
+    for _ in 0..u64::MAX {
+        let Ok(found) = next_line(reader, &mut line) else {
+            return Err(FrontFault::Read);
+        };
+        if found == Line::End {
+            return Ok(BatchEnd::Ended { refused });
+        }
+        let Ok(request) = request_at(alloc, &line, found) else {
+            return Err(FrontFault::Memory);
+        };
+        let outcome = ask(alloc, bench, &request);
+        if let Err(fault) = tell(alloc, writer, &outcome) {
+            return Err(fault);
+        }
+        if let Outcome::Failed(_, fault) = outcome {
+            return Ok(BatchEnd::Stopped(fault));
+        }
+        refused = outcome.is_refused_after(refused);
+    }
+    Err(FrontFault::Read)
+}

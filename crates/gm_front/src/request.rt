@@ -1,0 +1,72 @@
+//! What a line of a batch asks.
+
+ghost use Rattle.std.specs.Prelude.{◌≡◌, IfOk};
+ghost use Rattle.gm_front.specs.Request.{asked_by, pieces, shown};
+ghost use Rattle.gm_front.specs.Input.{Fits};
+ghost use Rattle.gm_words.specs.Lines.{texts};
+ghost use Rattle.gm_front.specs.Outcomes.{asked_at, asked_of};
+
+use crate::lines::Line;
+use gm_commands::{Command, is_key};
+use gm_words::read_words;
+use std::alloc::{AllocError, Global};
+use std::str;
+
+/// What a line asks of the bench.
+#[derive(Drop)]
+pub(crate) enum Request<'a> {
+    /// Nothing: it has no pieces.
+    Nothing,
+    /// No command, under its key as answers show it.
+    Wrong(&'a str),
+    /// A command under a key.
+    Call(&'a str, Command),
+}
+
+/// A key as answers show it: `?` where it isn't one.
+pub(crate) fn shown(key: &str) -> &str
+    ensures { result.now ≡ shown key.now }
+{
+    if is_key(key) { key } else { "?" }
+}
+
+// What stands between spaces, without what is empty.
+fn pieces<'a>(alloc: Global, text: &'a str) -> Result<Vec<&'a str>, AllocError>
+    ensures { IfOk result (λ found. texts found.items ≡ pieces text.now) }
+{
+    text.split(' ')
+        .filter(|piece| !piece.is_empty())
+        .collect(alloc)
+}
+
+// What the pieces of a line ask: the first is the key, the others are the words.
+fn request_of<'a>(alloc: Global, pieces: &[&'a str]) -> Result<Request<'a>, AllocError>
+    ensures { IfOk result (λ request. asked_of request ≡ asked_by (texts pieces.now)) }
+{
+    let Some((key, words)) = pieces.split_first() else {
+        return Ok(Request::Nothing);
+    };
+    match read_words(alloc, words)? {
+        Ok(command) => Ok(Request::Call(key, command)),
+        Err(_) => Ok(Request::Wrong(shown(key))),
+    }
+}
+
+/// What the line asks that was found at the front of an input.
+pub(crate) fn request_at<'a>(
+    alloc: Global,
+    line: &'a [u8; 1024],
+    found: Line,
+) -> Result<Request<'a>, AllocError>
+    requires { Fits found }
+    ensures { IfOk result (λ request. asked_of request ≡ asked_at line.now found) }
+{
+    match found {
+        Line::End => Ok(Request::Nothing),
+        Line::Long => Ok(Request::Wrong("?")),
+        Line::Whole(count) => match str::from_utf8(&line[..count]) {
+            Ok(text) => request_of(alloc, &pieces(alloc, text)?),
+            Err(_) => Ok(Request::Wrong("?")),
+        },
+    }
+}

@@ -1,0 +1,4 @@
+pub mod NothingApplies
+pub mod PartAgrees
+pub mod SeenAlike
+pub mod TakenProviders

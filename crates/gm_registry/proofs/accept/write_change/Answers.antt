@@ -1,0 +1,90 @@
+use Rattle.std.proofs.Common.{◌≡◌, ◌+◌, OnOk, OnErr, IsTrue, sym, subst, arith, rules}
+use Rattle.sqlite.specs.State.{HasCleanDisk, Survives}
+use Rattle.sqlite.specs.Held.{Held, state}
+use Rattle.sqlite.specs.Tree.{Trees}
+use Rattle.sqlite.proofs.StateLemmas.{survives_then}
+use Rattle.sqlite.proofs.Callers.{survives_begin}
+use Rattle.sqlite_rows.proofs.Statements.{rolled, not_committed, committed}
+use Rattle.sqlite_rows.proofs.Refusing.{on_err, under_ok, under_err, over_ok, over_err}
+use Rattle.gm_state.specs.Rows.{Tables}
+use Rattle.gm_rows.specs.Schema.{registry_schema}
+use Rattle.gm_rows.specs.Tables.{SeesTables, HasCounted, IsInside, Holds}
+use Rattle.gm_registry.specs.Changes.{with_change}
+use Rattle.gm_registry.specs.Replies.{count_of}
+use Rattle.gm_registry.proofs.CountedThrough.{begun_rows, change_numbered, counted_inside}
+use Rattle.gm_registry.proofs.accept.write_change.Goals as goal
+
+pub returns-in_err-put_change-clause-refused : goal.returns-in_err-put_change-clause-refused
+returns-in_err-put_change-clause-refused g c clean =
+    let old = state g.S.Store c.args.conn.now in
+    let start = state g.S.Store c.transaction-tx.result.conn.now in
+    let mid = state g.S.Store c.put_change.new.tx.conn.now in
+    let end : Held _ = c.drop-tx.new.self.0 in
+    let same : end ≡ c.conn-1.given.0 = search rules in
+    let late : HasCleanDisk (state g.S.Store end) = rw (sym same) at clean in
+    let early : HasCleanDisk mid = omega (arith, c.drop-tx.ensures.survives.clean) in
+    on_err c.from_residual.result _ (λ t was next is_open.
+    rw same at (rolled registry_schema HasCounted old start mid (state g.S.Store end) t was (rw c.transaction-tx.ensures.begun) (c.put_change.ensures.kept early) (c.drop-tx.ensures.undone late) (rw (sym same) at is_open)))
+
+pub returns-clause-done : goal.returns-clause-done
+returns-clause-done g c clean =
+    let old = c.args.conn.now in
+    let mid = c.put_change.new.tx.conn.now in
+    let first = (state g.S.Store old).committed in
+    let change = with_change c.args.change.now c.args.key.now c.args.number c.args.words.now in
+    let end : Held _ = c.commit.new.self.0 in
+    let same : end ≡ c.conn-2-1.given.0 = search rules in
+    let late : HasCleanDisk (state g.S.Store end) = rw (sym same) at clean in
+    let early : HasCleanDisk (state g.S.Store mid) = omega (arith, c.commit.ensures.survives.clean) in
+    over_ok c.commit.result Tables _ (λ t. under_ok c.commit.result (SeesTables (state g.S.Store old) t) _ (λ was. under_ok c.commit.result (c.args.number ≡ count_of t + 1) _ (λ next.
+    let inside = c.in_ok-put_change.ensures.put early first t (subst (λ h. IsInside first (state g.S.Store h) t) (sym c.transaction-tx.ensures.begun) (begun_rows g.S.Store old t was)) in
+    let numbered = change_numbered c.args.change.now c.args.key.now c.args.number c.args.words.now t next was.tables.rows.numbered in
+    subst (λ h. OnOk c.commit.result (SeesTables (state g.S.Store h) (change t))) same
+    (committed registry_schema HasCounted first (state g.S.Store mid) (state g.S.Store end) _ c.commit.result (counted_inside first (state g.S.Store mid) (change t) numbered inside) (c.commit.ensures.ok late)))))
+
+pub returns-clause-left : goal.returns-clause-left
+returns-clause-left g c t was next =
+    let old = c.args.conn.now in
+    let mid = c.put_change.new.tx.conn.now in
+    let first = (state g.S.Store old).committed in
+    let begin = c.transaction-tx.ensures.begun in
+    let change = with_change c.args.change.now c.args.key.now c.args.number c.args.words.now in
+    let P = λ (trees : Trees). Holds trees (change t) in
+    let end : Held _ = c.commit.new.self.0 in
+    let same : end ≡ c.conn-2-1.given.0 = search rules in
+    let numbered = change_numbered c.args.change.now c.args.key.now c.args.number c.args.words.now t next was.tables.rows.numbered in
+    let inside = λ (clean : HasCleanDisk (state g.S.Store mid)). counted_inside first (state g.S.Store mid) (change t) numbered
+    (c.in_ok-put_change.ensures.put clean first t (subst (λ h. IsInside first (state g.S.Store h) t) (sym begin) (begun_rows g.S.Store old t was))) in
+    subst (λ h. Survives (state g.S.Store old) (state g.S.Store h) P) same
+    (survives_then (state g.S.Store old) (state g.S.Store mid) (state g.S.Store end) (λ _. ⊥) _ P (λ _ db none. absurd none)
+    (λ clean db is. subst P (sym is) (inside (omega (arith, c.commit.ensures.survives.clean))).tables)
+    (survives_begin g.S.Store old (state g.S.Store mid) _ (rw begin at c.put_change.ensures.survives)) c.commit.ensures.survives)
+
+pub returns-clause-survives : goal.returns-clause-survives
+returns-clause-survives g c =
+    let old = c.args.conn.now in
+    let mid = c.put_change.new.tx.conn.now in
+    let end : Held _ = c.commit.new.self.0 in
+    let same : end ≡ c.conn-2-1.given.0 = search rules in
+    subst (λ h. Survives (state g.S.Store old) (state g.S.Store h) (λ _. Unit {0})) same
+    (survives_then (state g.S.Store old) (state g.S.Store mid) (state g.S.Store end) (λ _. ⊥) _ (λ _. Unit {0}) (λ _ db none. absurd none) (λ clean db is. tt)
+    (survives_begin g.S.Store old (state g.S.Store mid) _ (rw c.transaction-tx.ensures.begun at c.put_change.ensures.survives)) c.commit.ensures.survives)
+
+pub returns-clause-refused : goal.returns-clause-refused
+returns-clause-refused g c clean =
+    let old = c.args.conn.now in
+    let start = state g.S.Store c.transaction-tx.result.conn.now in
+    let mid = c.put_change.new.tx.conn.now in
+    let first = (state g.S.Store old).committed in
+    let begin = c.transaction-tx.ensures.begun in
+    let change = with_change c.args.change.now c.args.key.now c.args.number c.args.words.now in
+    let end : Held _ = c.commit.new.self.0 in
+    let same : end ≡ c.conn-2-1.given.0 = search rules in
+    let late : HasCleanDisk (state g.S.Store end) = rw (sym same) at clean in
+    let early : HasCleanDisk (state g.S.Store mid) = omega (arith, c.commit.ensures.survives.clean) in
+    over_err c.commit.result Tables _ (λ t. under_err c.commit.result (SeesTables (state g.S.Store old) t) _ (λ was. under_err c.commit.result (c.args.number ≡ count_of t + 1) _ (λ next.
+    let numbered = change_numbered c.args.change.now c.args.key.now c.args.number c.args.words.now t next was.tables.rows.numbered in
+    let inside = counted_inside first (state g.S.Store mid) (change t) numbered
+    (c.in_ok-put_change.ensures.put early first t (subst (λ h. IsInside first (state g.S.Store h) t) (sym begin) (begun_rows g.S.Store old t was))) in
+    subst (λ h. OnErr c.commit.result (IsTrue (state g.S.Store h).is_open → SeesTables (state g.S.Store h) t)) same
+    (not_committed registry_schema HasCounted first (state g.S.Store old) start (state g.S.Store mid) (state g.S.Store end) t _ c.commit.result was (rw begin) (c.in_ok-put_change.ensures.kept early) inside (c.commit.ensures.err late)))))

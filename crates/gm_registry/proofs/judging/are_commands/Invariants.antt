@@ -1,7 +1,0 @@
-use Rattle.std.proofs.Common.{◌+◌, drop}
-use Rattle.gm_registry.specs.Says.{AreCommandsFrom}
-use Rattle.gm_registry.proofs.judging.are_commands.Given as goal
-
--- it is left to see the rows behind
-abbrev pub invariant-rows : goal.invariant-rows
-invariant-rows l = record { enough : AreCommandsFrom (l.index + 1) (drop l.index l.rows) → AreCommandsFrom 1 l.rows; needed : AreCommandsFrom 1 l.rows → AreCommandsFrom (l.index + 1) (drop l.index l.rows) }

@@ -1,0 +1,18 @@
+use Rattle.std.proofs.Common.{[]}
+use Rattle.sqlite.specs.Held.{state}
+use Rattle.gm_rows.specs.Statements.{load_texts_text}
+use Rattle.gm_registry.specs.Listing.{ShowsList}
+use Rattle.sqlite_rows.proofs.Reading.{read_by, failed_by}
+use Rattle.gm_registry.proofs.Texts.{plain_list, lists}
+use Rattle.gm_registry.proofs.open_store.load_texts.Goals as goal
+
+pub returns-in-Ok-clause-rows : goal.returns-in-Ok-clause-rows
+returns-in-Ok-clause-rows g c clean shows = lists (state g.S.Store c.args.conn.now) (state g.S.Store c.query_all.new.self) c.in-Ok.rows.items shows (c.in-Ok.ensures.ok clean)
+
+pub returns-in-Ok-clause-read : goal.returns-in-Ok-clause-read
+returns-in-Ok-clause-read g c =
+    read_by ShowsList load_texts_text [] plain_list (state g.S.Store c.args.conn.now) (state g.S.Store c.query_all.new.self) c.in-Ok.rows.items c.in-Ok.ensures.ok c.query_all.ensures.survives
+
+pub returns-in-Err-clause-failed : goal.returns-in-Err-clause-failed
+returns-in-Err-clause-failed g c =
+    failed_by ShowsList load_texts_text [] plain_list (state g.S.Store c.args.conn.now) (state g.S.Store c.query_all.new.self) c.in-Err.error c.in-Err.ensures.err c.query_all.ensures.survives

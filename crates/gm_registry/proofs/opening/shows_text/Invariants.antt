@@ -1,9 +1,0 @@
-use Rattle.std.proofs.Common.{drop, map}
-use Rattle.gm_registry.specs.Values.{columns_at, two}
-use Rattle.gm_registry.specs.Listing.{under_number}
-use Rattle.gm_registry.proofs.Suffixes.{IsLeft}
-use Rattle.gm_registry.proofs.opening.shows_text.Given as goal
-
--- it is left to see the rows behind
-abbrev pub invariant-rows : goal.invariant-rows
-invariant-rows l = IsLeft (under_number l.number l.text) (map (columns_at two) l.rows) (map (columns_at two) (drop l.row-index l.rows))

@@ -1,0 +1,29 @@
+use Rattle.sqlite.specs.Held.{state}
+use Rattle.gm_state.proofs.MadeState.{same_state}
+use Rattle.gm_refusals.specs.PartOf.{part_of}
+use Rattle.gm_registry.proofs.PartOf.{is_part}
+use Rattle.gm_registry.proofs.ReadsInTurn.{tables_stay}
+use Rattle.gm_registry.proofs.CallsLeave.{saved}
+use Rattle.gm_registry.proofs.part.part_on.Goals as goal
+
+pub returns-in-Some-clause-part : goal.returns-in-Some-clause-part
+returns-in-Some-clause-part g c clean t s was of =
+    let command = c.args.command.now in
+    let mids = c.args.mids.now in
+    let asked = c.in_ok-asked.asked in
+    let are = c.in_ok-asked.ensures.asked clean t s was of in
+    let mine = is_part s command mids of.state asked.mirrors.items asked.components.items (c.a_part_is_a_state.ensures s command mids of.state) are.mirrors are.components in (
+      record {
+        state = same_state asked.mirrors.items asked.components.items c.in-Some.state (part_of s command mids) c.in-Some.ensures.some mine;
+        mirrors = are.count;
+      },
+      saved g.S.Store g.met.S.Store.settled c.read_asked.new.conn t (tables_stay (state g.S.Store c.args.conn.now) (state g.S.Store c.read_asked.new.conn) t c.in_ok-asked.ensures.read clean was),
+    )
+
+pub returns-in-None-clause-unreadable : goal.returns-in-None-clause-unreadable
+returns-in-None-clause-unreadable g c clean is t s was of =
+    let command = c.args.command.now in
+    let mids = c.args.mids.now in
+    let asked = c.in_ok-asked.asked in
+    let are = c.in_ok-asked.ensures.asked clean t s was of in
+    c.in-None.ensures.none (part_of s command mids) (is_part s command mids of.state asked.mirrors.items asked.components.items (c.a_part_is_a_state.ensures s command mids of.state) are.mirrors are.components)

@@ -1,0 +1,152 @@
+//! A command's change, with its intents and its key, in one transaction.
+
+ghost use Rattle.std.specs.Prelude.{◌≡◌, ◌≤◌, ◌+◌, ◌↔◌, IfOk, OnOk, OnErr, IsTrue};
+ghost use Rattle.sqlite.specs.State.{Survives};
+ghost use Rattle.sqlite.specs.Held.{state};
+ghost use Rattle.gm_state.specs.Rows.{Tables};
+ghost use Rattle.gm_state.specs.World.{ReplyFits};
+ghost use Rattle.gm_registry.specs.Replies.{count_of, IsFree};
+ghost use Rattle.gm_registry.specs.Changes.{with_accepted, with_records, with_change, without_some_mirror, with_some_mirror};
+ghost use Rattle.gm_registry.specs.Registry.{DiskKept, IsOpen, HasTables, MayLeave, LeavesNothingNew, KeepsCommit, MakesInside, Writes};
+ghost use Rattle.gm_rows.specs.Faults.{OnUnreadable};
+
+use crate::commands::put_command;
+use crate::components::{drop_components, put_components};
+use crate::intents::put_intents;
+use crate::mirrors::{drop_mirror, put_mirror};
+use crate::replies::accepted_on;
+use gm_changes::Change;
+use gm_commands::MAX_COMMANDS;
+use gm_metadata::Label;
+use gm_rows::StoreFault;
+use gm_state::{MAX_SECTORS, Mirror, Reply};
+use sqlite::{Alter, Connection, Error, ErrorCode, Transaction};
+
+/// Deletes a mirror where there is a name.
+fn drop_some_mirror<S: Alter>(tx: &mut Transaction<'_, S>, name: Option<Label>) -> Result<(), Error>
+    ensures same_reference { tx.new.conn.ghost_name ≡ tx.old.conn.ghost_name }
+    ensures put { MakesInside S.Store tx.old.conn.now tx.new.conn.now result
+        (without_some_mirror name) }
+    ensures kept { KeepsCommit S.Store tx.old.conn.now tx.new.conn.now }
+    ensures survives { LeavesNothingNew S.Store tx.old.conn.now tx.new.conn.now }
+{
+    if let Some(name) = name {
+        drop_mirror(tx, name)?;
+    }
+    Ok(())
+}
+
+/// Puts a mirror where there is one.
+fn put_some_mirror<S: Alter>(
+    tx: &mut Transaction<'_, S>,
+    mirror: Option<Mirror>,
+) -> Result<(), Error>
+    ensures same_reference { tx.new.conn.ghost_name ≡ tx.old.conn.ghost_name }
+    ensures put { MakesInside S.Store tx.old.conn.now tx.new.conn.now result
+        (with_some_mirror mirror) }
+    ensures kept { KeepsCommit S.Store tx.old.conn.now tx.new.conn.now }
+    ensures survives { LeavesNothingNew S.Store tx.old.conn.now tx.new.conn.now }
+{
+    if let Some(mirror) = mirror {
+        put_mirror(tx, mirror)?;
+    }
+    Ok(())
+}
+
+/// Writes the records of a change. A component refers to its mirror: it goes before it, and comes after it.
+fn put_records<S: Alter>(tx: &mut Transaction<'_, S>, change: &Change) -> Result<(), Error>
+    ensures same_reference { tx.new.conn.ghost_name ≡ tx.old.conn.ghost_name }
+    ensures put { MakesInside S.Store tx.old.conn.now tx.new.conn.now result
+        (with_records change.now) }
+    ensures kept { KeepsCommit S.Store tx.old.conn.now tx.new.conn.now }
+    ensures survives { LeavesNothingNew S.Store tx.old.conn.now tx.new.conn.now }
+{
+    drop_components(tx, change.gone_components())?;
+    drop_some_mirror(tx, change.gone_mirror())?;
+    put_some_mirror(tx, change.mirror())?;
+    put_components(tx, change.components())
+}
+
+/// Writes a change, its intents and its key.
+fn put_change<S: Alter>(
+    tx: &mut Transaction<'_, S>,
+    change: &Change,
+    key: &str,
+    number: u32,
+    words: &str,
+) -> Result<(), Error>
+    ensures same_reference { tx.new.conn.ghost_name ≡ tx.old.conn.ghost_name }
+    ensures put { MakesInside S.Store tx.old.conn.now tx.new.conn.now result
+        (with_change change.now key.now number words.now) }
+    ensures kept { KeepsCommit S.Store tx.old.conn.now tx.new.conn.now }
+    ensures survives { LeavesNothingNew S.Store tx.old.conn.now tx.new.conn.now }
+{
+    put_records(tx, change)?;
+    put_intents(tx, change.intents())?;
+    put_command(tx, key, number, words, change.reply())?;
+    Ok(())
+}
+
+/// Writes a change, its intents and its key in one transaction.
+fn write_change<S: Alter>(
+    conn: &mut Connection<S>,
+    change: &Change,
+    key: &str,
+    number: u32,
+    words: &str,
+) -> Result<(), Error>
+    ensures done { DiskKept S.Store conn.new → OnOk result ((t : Tables)
+        → HasTables S.Store conn.old t → number ≡ count_of t + 1
+        → HasTables S.Store conn.new (with_change change.now key.now number words.now t)) }
+    ensures refused { DiskKept S.Store conn.new
+        → OnErr result ((t : Tables) → HasTables S.Store conn.old t → number ≡ count_of t + 1
+        → IsOpen S.Store conn.new → HasTables S.Store conn.new t) }
+    ensures left { (t : Tables) → HasTables S.Store conn.old t → number ≡ count_of t + 1
+        → MayLeave S.Store conn.old conn.new (with_change change.now key.now number words.now t) }
+    ensures survives { Survives (state S.Store conn.old) (state S.Store conn.new) (λ _. Unit {0}) }
+{
+    if !conn.is_autocommit() {
+        return Err(Error::SqliteFailure(ErrorCode::TransactionState));
+    }
+    let mut tx = conn.transaction();
+    put_change(&mut tx, change, key, number, words)?;
+    tx.commit()
+}
+
+/// Whether a copy holds some of its sectors, at most all, and no more than an image has.
+fn is_in_range(reply: Reply) -> bool
+    ensures { IsTrue result ↔ ReplyFits reply }
+{
+    match reply {
+        Reply::Plain => true,
+        Reply::Copied { held, total } => 0 < held && held <= total && total <= MAX_SECTORS,
+    }
+}
+
+/// Accepts a change under the next number. `Store` where as many commands as may be were accepted already, or where
+/// the numbers of the reply are out of range: nothing is written then.
+pub(crate) fn accept_on<S: Alter>(
+    conn: &mut Connection<S>,
+    change: &Change,
+    key: &str,
+    words: &str,
+) -> Result<u64, StoreFault>
+    ensures number { DiskKept S.Store conn.new
+        → IfOk result (λ n. (t : Tables) → HasTables S.Store conn.old t → n ≡ count_of t + 1) }
+    ensures limits { IfOk result (λ n. (n ≤ 100000) × ReplyFits change.now.reply) }
+    ensures key { DiskKept S.Store conn.new
+        → OnOk result ((t : Tables) → HasTables S.Store conn.old t → IsFree t key.now) }
+    ensures unreadable { DiskKept S.Store conn.new
+        → OnUnreadable result ((t : Tables) → HasTables S.Store conn.old t → count_of t ≤ 100000
+        → ⊥) }
+    ensures writes { Writes S.Store conn.old conn.new result
+        (with_accepted change.now key.now words.now) }
+{
+    let count = accepted_on(conn)?;
+    if count >= MAX_COMMANDS || !is_in_range(change.reply()) {
+        return Err(StoreFault::Store);
+    }
+    let number = count + 1;
+    write_change(conn, change, key, number, words)?;
+    Ok(u64::from(number))
+}

@@ -1,0 +1,52 @@
+//! The five tables and the one record of `about`, made in one transaction.
+
+ghost use Rattle.std.specs.Prelude.{◌≡◌, false, OnOk};
+ghost use Rattle.sqlite.specs.Held.{state};
+ghost use Rattle.sqlite.specs.Effect.{Database};
+ghost use Rattle.gm_rows.specs.Tables.{IsInside, no_tables};
+ghost use Rattle.gm_registry.specs.Opening.{IsBlank, IsBlankInside, IsBareInside};
+ghost use Rattle.gm_registry.specs.Registry.{DiskKept, HasTables, WasClean, MayLeave, LeavesNothingNew};
+
+use gm_rows::{ABOUT, COMMANDS, COMPONENTS, INTENTS, MIRRORS};
+use sqlite::{Alter, Connection, Error, Transaction};
+
+/// Makes the tables, over a store without any.
+fn create_tables<S: Alter>(tx: &mut Transaction<'_, S>) -> Result<(), Error>
+    ensures same_reference { tx.new.conn.ghost_name ≡ tx.old.conn.ghost_name }
+    ensures made { DiskKept S.Store tx.new.conn.now
+        → OnOk result ((first : Database) → IsBlankInside first (state S.Store tx.old.conn.now)
+        → IsBareInside first (state S.Store tx.new.conn.now)) }
+    ensures survives { LeavesNothingNew S.Store tx.old.conn.now tx.new.conn.now }
+{
+    tx.execute(ABOUT, &[])?;
+    tx.execute(MIRRORS, &[])?;
+    tx.execute(COMPONENTS, &[])?;
+    tx.execute(INTENTS, &[])?;
+    tx.execute(COMMANDS, &[])?;
+    Ok(())
+}
+
+/// Adds the record of `about`, over empty tables.
+fn put_about<S: Alter>(tx: &mut Transaction<'_, S>) -> Result<usize, Error>
+    ensures same_reference { tx.new.conn.ghost_name ≡ tx.old.conn.ghost_name }
+    ensures made { DiskKept S.Store tx.new.conn.now
+        → OnOk result ((first : Database) → IsBareInside first (state S.Store tx.old.conn.now)
+        → IsInside first (state S.Store tx.new.conn.now) no_tables) }
+    ensures survives { LeavesNothingNew S.Store tx.old.conn.now tx.new.conn.now }
+{
+    tx.execute("INSERT INTO about (one, schema_no) VALUES (1, 1)", &[])
+}
+
+/// Makes a registry in a store without tables, in one transaction.
+pub(crate) fn create_all<S: Alter>(conn: &mut Connection<S>) -> Result<(), Error>
+    requires { conn.old.in_transaction ≡ false }
+    ensures made { DiskKept S.Store conn.new → OnOk result (IsBlank (state S.Store conn.old)
+        → HasTables S.Store conn.new no_tables) }
+    ensures left { IsBlank (state S.Store conn.old) → MayLeave S.Store conn.old conn.new no_tables }
+    ensures clean { WasClean S.Store conn.old conn.new }
+{
+    let mut tx = conn.transaction();
+    create_tables(&mut tx)?;
+    put_about(&mut tx)?;
+    tx.commit()
+}

@@ -1,0 +1,70 @@
+//! The state and the pending intents that a registry holds.
+
+ghost use Rattle.std.specs.Prelude.{List, IfOk};
+ghost use Rattle.sqlite.specs.Held.{state};
+ghost use Rattle.gm_state.specs.declared.intents.Intent.{Intent};
+ghost use Rattle.gm_state.specs.Records.{Records};
+ghost use Rattle.gm_state.specs.Rows.{Tables};
+ghost use Rattle.gm_rows.specs.ReadableTables.{AreTablesOf};
+ghost use Rattle.gm_rows.specs.Says.{TablesSay};
+ghost use Rattle.gm_registry.specs.Registry.{DiskKept, seen, HasTables, IsRegistry, LeavesAlone, StoreFailed, HasSaved, Reads};
+ghost use Rattle.gm_rows.specs.Faults.{OnUnreadable, OnStore};
+
+use crate::registry::Registry;
+use crate::whole_tables::fetch;
+use gm_rows::{StoreFault, judge};
+use gm_state::{Intent, State};
+use sqlite::{Alter, Connection};
+use std::alloc::Global;
+
+/// Reads all tables, and tells the state and the pending intents that they hold.
+pub(crate) fn load_on<S: Alter>(
+    alloc: Global,
+    conn: &mut Connection<S>,
+) -> Result<(State, Vec<Intent>), StoreFault>
+    ensures says { DiskKept S.Store conn.new → IfOk result (λ r. IsRegistry S.Store conn.old
+        → TablesSay (seen S.Store conn.old) r.0 r.1.items) }
+    ensures silent { DiskKept S.Store conn.new
+        → OnUnreadable result ((s : Records) (ts : List Intent) → IsRegistry S.Store conn.old
+        → TablesSay (seen S.Store conn.old) s ts → ⊥) }
+    ensures loaded { DiskKept S.Store conn.new
+        → IfOk result (λ r. (t : Tables) → HasTables S.Store conn.old t
+        → AreTablesOf t r.0 r.1.items × HasSaved S.Store conn.new t) }
+    ensures unreadable { DiskKept S.Store conn.new
+        → OnUnreadable result ((t : Tables) (s : Records) (ts : List Intent)
+        → HasTables S.Store conn.old t → AreTablesOf t s ts → ⊥) }
+    ensures store { DiskKept S.Store conn.new
+        → OnStore result (IsRegistry S.Store conn.old → StoreFailed S.Store conn.old conn.new) }
+    ensures reads { Reads S.Store conn.old conn.new }
+    ensures untouched { IsRegistry S.Store conn.old → LeavesAlone S.Store conn.old conn.new }
+{
+    let fetched = fetch(conn)?;
+    judge(alloc, &fetched)
+}
+
+impl<S: Alter> Registry<S> {
+    /// The state and the pending intents, in their order. `Unreadable` exactly where the tables aren't those of a state
+    /// with intents that are readable for it; `Memory`, `Store` as of any call.
+    pub fn load(&mut self, alloc: Global) -> Result<(State, Vec<Intent>), StoreFault>
+        ensures says { DiskKept S.Store self.new
+            → IfOk result (λ r. IsRegistry S.Store self.old
+            → TablesSay (seen S.Store self.old) r.0 r.1.items) }
+        ensures silent { DiskKept S.Store self.new
+            → OnUnreadable result ((s : Records) (ts : List Intent) → IsRegistry S.Store self.old
+            → TablesSay (seen S.Store self.old) s ts → ⊥) }
+        ensures loaded { DiskKept S.Store self.new
+            → IfOk result (λ r. (t : Tables) → HasTables S.Store self.old t
+            → AreTablesOf t r.0 r.1.items × HasSaved S.Store self.new t) }
+        ensures unreadable { DiskKept S.Store self.new
+            → OnUnreadable result ((t : Tables) (s : Records) (ts : List Intent)
+            → HasTables S.Store self.old t → AreTablesOf t s ts → ⊥) }
+        // On a disk that didn't fail, without a limit on steps, it is never `Store`.
+        ensures store { DiskKept S.Store self.new
+            → OnStore result (IsRegistry S.Store self.old
+            → StoreFailed S.Store self.old self.new) }
+        ensures reads { Reads S.Store self.old self.new }
+        ensures untouched { IsRegistry S.Store self.old → LeavesAlone S.Store self.old self.new }
+    {
+        load_on(alloc, &mut self.conn)
+    }
+}

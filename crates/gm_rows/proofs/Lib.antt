@@ -1,0 +1,11 @@
+pub mod CountedCommands
+pub mod FlagNumbers
+pub mod FoundLabels
+pub mod ListMembers
+pub mod NumberedRows
+pub mod ReorderedValues
+pub mod RowsSayRecords
+pub mod RowsSayTables
+pub mod ShownInOrder
+pub mod TypedRecords
+pub mod WholeRows

@@ -1,0 +1,10 @@
+pub mod Faults
+pub mod Queries
+pub mod ReadableTables
+pub mod Rows
+pub mod Says
+pub mod Schema
+pub mod Statements
+pub mod Tables
+pub mod Texts
+pub mod Values

@@ -1,0 +1,83 @@
+-- The form that code goes by: what the rows that are shown of the tables say. `ReadableTables` defines readable tables.
+use Rattle.std.specs.Prelude.{◌≡◌, ◌≤◌, ◌+◌, ℕ, List, [], ◌∷◌, length, map, pos}
+use Rattle.std.specs.List.Sorted.{IsPermutation}
+use Rattle.sqlite.specs.Order.{Row, column}
+use Rattle.sqlite_value.specs.declared.value.Value.{Value}
+use Rattle.sqlite.specs.declared.types.Value.TheVariants.{Int}
+use Rattle.gm_state.specs.declared.intents.Intent.{Intent}
+use Rattle.gm_state.specs.declared.records.Mirror.{Mirror}
+use Rattle.gm_state.specs.declared.records.Component.{Component}
+use Rattle.gm_lists.specs.Ordered.{Has}
+use Rattle.gm_state.specs.Records.{Records, IsState}
+use Rattle.gm_state.specs.Rows.{mirror_row, component_row, intent_row}
+use Rattle.gm_rows.specs.Rows.{mirror_values, component_values}
+use Rattle.gm_state.specs.Readable.{AreReadable}
+use Rattle.gm_rows.specs.Tables.{numbers_of}
+use Rattle.gm_rows.specs.Values.{columns_at, numbered, two, six, nine, shown_intent}
+use Rattle.sqlite.specs.Tree.{Trees}
+use Rattle.gm_rows.specs.Queries.{shown_places}
+use Rattle.gm_rows.specs.declared.fetched.Table.TheVariants.{About, Mirrors, Components, Intents}
+use Rattle.gm_rows.specs.declared.fetched.Fetched.{Fetched}
+
+abbrev pub mirror_shown : Mirror → Row
+mirror_shown m = mirror_values (mirror_row m)
+
+abbrev pub component_shown : Component → Row
+component_shown k = component_values (component_row k)
+
+abbrev pub intent_shown : ℕ → Intent → Row
+intent_shown n t = shown_intent (intent_row n t)
+
+abbrev pub number_value : ℕ → Value
+number_value n = Int (pos n)
+
+-- a number from low to high
+abbrev pub IsBetween : ℕ → ℕ → Value → Type 0
+IsBetween low high value = (n : ℕ) × (value ≡ Int (pos n)) × (low ≤ n) × (n ≤ high)
+
+-- the number of a command, and the two numbers of its reply
+pub record IsCommand (number : ℕ) (row : Row) : Type 0 where
+  pub number_is : column row 0 ≡ Int (pos number)
+  pub copied : IsBetween 0 1048576 (column row 1)
+  pub total : IsBetween 0 1048576 (column row 2)
+
+-- each row bears the number after that of the row before
+abbrev pub AreCommandsFrom : ℕ → List Row → Type 0
+AreCommandsFrom n [] = Unit {0}
+AreCommandsFrom n (row ∷ more) = IsCommand n row × AreCommandsFrom (n + 1) more
+
+-- the rows of `about` are the one record (1, 1)
+abbrev pub IsAbout : List Row → Type 0
+IsAbout rows = map (columns_at two) rows ≡ (Int (pos 1) ∷ Int (pos 1) ∷ []) ∷ []
+
+-- the rows are those of commands, numbered from 1, of which there may be so many
+pub record AreCommands (rows : List Row) : Type 0 where
+  pub count : length rows ≤ 100000
+  pub each : AreCommandsFrom 1 rows
+
+-- the rows are those of the records of a state, in some order
+pub record SayState (mirrors components : List Row) (s : Records) : Type 0 where
+  pub state : IsState s
+  pub mirrors_are : IsPermutation (map mirror_shown s.mirrors) (map (columns_at nine) mirrors)
+  pub components_are : IsPermutation (map component_shown s.components) (map (columns_at nine) components)
+
+-- all rows say a state, and intents that are readable for it, in their order
+pub record Say (f : Fetched) (s : Records) (ts : List Intent) : Type 0 where
+  pub about : IsAbout f.about.items
+  pub records : SayState f.mirrors.items f.components.items s
+  pub intents : map (columns_at six) f.intents.items ≡ numbered intent_shown 1 ts
+  pub readable : AreReadable s ts
+  pub commands : AreCommands f.commands.items
+
+-- The tables, whatever they were to hold, are those of a state and of intents that are readable for it: their columns say
+-- just these records, the commands count from 1 without gaps, and the numbers of replies are in range.
+pub record TablesSay (db : Trees) (s : Records) (ts : List Intent) : Type 0 where
+  pub state : IsState s
+  pub about : map (columns_at (shown_places About)) (db 0) ≡ (Int (pos 1) ∷ Int (pos 1) ∷ []) ∷ []
+  pub mirrors : IsPermutation (map mirror_shown s.mirrors) (map (columns_at (shown_places Mirrors)) (db 1))
+  pub components : IsPermutation (map component_shown s.components) (map (columns_at (shown_places Components)) (db 4))
+  pub intents : IsPermutation (numbered intent_shown 1 ts) (map (columns_at (shown_places Intents)) (db 7))
+  pub readable : AreReadable s ts
+  pub count : length (db 8) ≤ 100000
+  pub numbers : IsPermutation (map number_value (numbers_of (length (db 8)))) (map (λ row. column row 2) (db 8))
+  pub replies : (row : Row) → Has (db 8) row → IsBetween 0 1048576 (column row 4) × IsBetween 0 1048576 (column row 5)

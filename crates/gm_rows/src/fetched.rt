@@ -1,0 +1,47 @@
+//! The rows of the tables, as the queries of them whole show them.
+
+ghost use Rattle.std.specs.Prelude.{◌≡◌};
+ghost use Rattle.gm_rows.specs.Queries.{query_text};
+
+use sqlite::Row;
+
+/// The tables of a registry.
+#[derive(Clone, Copy, Debug, PartialEq, Eq)]
+pub enum Table {
+    About,
+    Mirrors,
+    Components,
+    Intents,
+    Commands,
+}
+
+impl Table {
+    /// The query that shows all its rows: of intents and commands by their numbers, else in any order.
+    pub fn query(self) -> &'static str
+        ensures { result.now ≡ query_text self }
+    {
+        match self {
+            Table::About => "SELECT one, schema_no FROM about",
+            Table::Mirrors => {
+                "SELECT name, mid, total, genid, syncid, slice, balance, mediasize, mflags FROM mirrors"
+            }
+            Table::Components => {
+                "SELECT prov, mirror, did, syncid, priority, sync_offset, dflags, hard, provsize FROM components"
+            }
+            Table::Intents => {
+                "SELECT ord, kind, prov, source, first_sector, end_sector FROM intents ORDER BY ord"
+            }
+            Table::Commands => "SELECT seq, copied, of_total FROM commands ORDER BY seq",
+        }
+    }
+}
+
+/// The rows of all tables, as their queries show them.
+#[derive(Debug, Drop)]
+pub struct Fetched {
+    pub about: Vec<Row>,
+    pub mirrors: Vec<Row>,
+    pub components: Vec<Row>,
+    pub intents: Vec<Row>,
+    pub commands: Vec<Row>,
+}

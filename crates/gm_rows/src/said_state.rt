@@ -1,0 +1,93 @@
+//! What the rows of all tables say, where they say a state.
+
+ghost use Rattle.std.specs.Prelude.{IfErr, ◌≡◌, ◌≢◌, ◌↔◌, IsTrue, List, IfOk};
+ghost use Rattle.sqlite.specs.Order.{column};
+ghost use Rattle.gm_state.specs.declared.intents.Intent.{Intent};
+ghost use Rattle.gm_state.specs.Records.{Records};
+ghost use Rattle.gm_rows.specs.Says.{IsBetween, IsCommand, IsAbout, AreCommands, SayState, Say};
+ghost use Rattle.gm_rows.specs.Faults.{OnUnreadable};
+
+use crate::fault::StoreFault;
+use crate::fetched::Fetched;
+use crate::read_column::{is_number_at, u64_at};
+use crate::shown::read_all;
+use gm_commands::MAX_COMMANDS;
+use gm_state::{Component, Intent, MAX_SECTORS, Mirror, State, are_readable, one_row};
+use sqlite::Row;
+use std::alloc::Global;
+
+fn is_between(row: &Row, at: usize, low: u64, high: u64) -> bool
+    ensures { IsTrue result ↔ IsBetween low high (column row.now at) }
+{
+    match u64_at(row, at) {
+        Some(number) => low <= number && number <= high,
+        None => false,
+    }
+}
+
+/// Whether a row of `commands` bears this number.
+fn is_command(row: &Row, number: u64) -> bool
+    ensures { IsTrue result ↔ IsCommand number row.now }
+{
+    is_number_at(row, 0, number)
+        && is_between(row, 1, 0, u64::from(MAX_SECTORS))
+        && is_between(row, 2, 0, u64::from(MAX_SECTORS))
+}
+
+/// Whether the nth row bears the number n, and there aren't too many.
+fn are_commands(rows: &[Row]) -> bool
+    ensures { IsTrue result ↔ AreCommands rows.now }
+{
+    if rows.len() > MAX_COMMANDS as usize {
+        return false;
+    }
+    'rows: for (index, row) in rows.iter().enumerate() {
+        if !is_command(row, index as u64 + 1) {
+            return false;
+        }
+    }
+    true
+}
+
+/// Whether the rows of `about` are the one record of this schema, (1, 1).
+pub fn is_about(rows: &[Row]) -> bool
+    ensures { IsTrue result ↔ IsAbout rows.now }
+{
+    rows.len() == 1 && is_number_at(&rows[0], 0, 1) && is_number_at(&rows[0], 1, 1)
+}
+
+/// The state that the rows of mirrors and components say; `Unreadable` where they say none.
+fn read_state(alloc: Global, mirrors: &[Row], components: &[Row]) -> Result<State, StoreFault>
+    ensures says { IfOk result (λ s. SayState mirrors.now components.now s) }
+    ensures only { IfOk result (λ s. (other : Records) → SayState mirrors.now components.now other
+        → other ≡ s) }
+    ensures fault { IfErr result (λ e. e ≢ StoreFault.Store) }
+    ensures unreadable { OnUnreadable result ((s : Records) → SayState mirrors.now components.now s
+        → ⊥) }
+{
+    one_row();
+    let mirrors: Vec<Mirror> = read_all(alloc, mirrors)?;
+    let components: Vec<Component> = read_all(alloc, components)?;
+    match State::new(mirrors, components) {
+        Some(state) => Ok(state),
+        None => Err(StoreFault::Unreadable),
+    }
+}
+
+/// The state and the intents that all rows say; `Unreadable` where they say none.
+pub fn judge(alloc: Global, fetched: &Fetched) -> Result<(State, Vec<Intent>), StoreFault>
+    ensures says { IfOk result (λ r. Say fetched.now r.0 r.1.items) }
+    ensures fault { IfErr result (λ e. e ≢ StoreFault.Store) }
+    ensures unreadable { OnUnreadable result ((s : Records) (ts : List Intent)
+        → Say fetched.now s ts → ⊥) }
+{
+    if !is_about(&fetched.about) || !are_commands(&fetched.commands) {
+        return Err(StoreFault::Unreadable);
+    }
+    let state = read_state(alloc, &fetched.mirrors, &fetched.components)?;
+    let intents: Vec<Intent> = read_all(alloc, &fetched.intents)?;
+    if !are_readable(&state, &intents) {
+        return Err(StoreFault::Unreadable);
+    }
+    Ok((state, intents))
+}

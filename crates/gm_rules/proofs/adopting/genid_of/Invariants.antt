@@ -1,8 +1,0 @@
-use Rattle.std.proofs.Common.{◌≡◌, drop, true}
-use Rattle.gm_taste.specs.Making.{raised}
-use Rattle.gm_rules.specs.Seen.{seen_in}
-use Rattle.gm_rules.specs.Adopting.{all_taken, genid_of}
-use Rattle.gm_rules.proofs.adopting.genid_of.Given as goal
-
-abbrev pub invariant-loop-provider : goal.invariant-loop-provider
-invariant-loop-provider l = raised (λ t. true) (λ t. t.metadata.genid) l.genid (all_taken (seen_in l.facts) (drop l.provider-index l.providers)) ≡ genid_of (seen_in l.facts) l.providers

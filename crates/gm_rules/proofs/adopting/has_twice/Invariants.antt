@@ -1,6 +1,0 @@
-use Rattle.std.proofs.Common.{◌≡◌, drop}
-use Rattle.gm_rules.specs.Adopting.{has_twice}
-use Rattle.gm_rules.proofs.adopting.has_twice.Given as goal
-
-abbrev pub invariant-loop-i : goal.invariant-loop-i
-invariant-loop-i l = has_twice l.providers ≡ has_twice (drop l.i l.providers)

@@ -1,7 +1,0 @@
-use Rattle.std.proofs.Common.{◌≡◌, true}
-use Rattle.gm_rules.specs.Adopting.{is_bytes}
-use Rattle.gm_rules.proofs.Adopted.{are_bytes}
-use Rattle.gm_rules.proofs.adopting.taken_with.Goals as goal
-
-pub returns : goal.returns
-returns c = let bytes : is_bytes c.args.last.now ≡ true = are_bytes c.args.last.now c.fits-last in rw bytes c.taken_by.ensures

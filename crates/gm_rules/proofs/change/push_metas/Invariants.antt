@@ -1,6 +1,0 @@
-use Rattle.std.proofs.Common.{◌≡◌, ◌++◌, take}
-use Rattle.gm_rules.specs.After.{metas}
-use Rattle.gm_rules.proofs.change.push_metas.Given as goal
-
-abbrev pub invariant-loop-k : goal.invariant-loop-k
-invariant-loop-k l = l.intents.items ≡ l.fn.intents.items ++ metas (take l.k-index l.components)

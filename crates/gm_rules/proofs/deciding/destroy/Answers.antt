@@ -1,8 +1,0 @@
-use Rattle.std.proofs.Common.{◌∙◌, sym}
-use Rattle.gm_rules.specs.Seen.{seen_in}
-use Rattle.gm_rules.proofs.Partly.{destroy_made}
-use Rattle.gm_rules.proofs.deciding.destroy.Goals as goal
-
-pub returns : goal.returns
-returns c =
-    destroy_made c.args.part.now (seen_in c.args.facts.now) c.args.name _ _ (sym (c.deref.ensures.value ∙ c.in_ok-members.ensures.value)) c.in_ok-destroyed.ensures

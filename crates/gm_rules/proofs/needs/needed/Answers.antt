@@ -1,6 +1,0 @@
-use Rattle.std.proofs.Common.{◌∙◌}
-use Rattle.gm_rules.proofs.Partly.{needed_on}
-use Rattle.gm_rules.proofs.needs.needed.Goals as goal
-
-pub returns-clause-whole : goal.returns-clause-whole
-returns-clause-whole c s of = c.in_ok-all_needed.ensures ∙ needed_on c.args.state.now s c.args.command.now of

@@ -1,0 +1,12 @@
+use Rattle.std.proofs.lemmas.List.Sorted.{answers_always}
+use Rattle.std.proofs.Common.{rules}
+use Rattle.gm_state.specs.declared.records.Component.{Component}
+use Rattle.gm_lists.specs.Ordered.{label_lt}
+use Rattle.gm_state.specs.Records.{provider}
+use Rattle.gm_lists.proofs.Sorting.{neighbours_answer}
+use Rattle.gm_state.proofs.rules.components_ascend.Goals as goal
+
+pub returns : goal.returns
+returns c =
+    neighbours_answer provider c.args.components.now c.is_sorted_by.result
+    (c.is_sorted_by.ensures.cases (λ (a b : Component). label_lt (provider a) (provider b)) (answers_always _ _ _ (λ f a r g h. search rules)))

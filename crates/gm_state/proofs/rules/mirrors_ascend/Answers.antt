@@ -1,0 +1,12 @@
+use Rattle.std.proofs.lemmas.List.Sorted.{answers_always}
+use Rattle.std.proofs.Common.{rules}
+use Rattle.gm_state.specs.declared.records.Mirror.{Mirror}
+use Rattle.gm_lists.specs.Ordered.{label_lt}
+use Rattle.gm_state.specs.Records.{name}
+use Rattle.gm_lists.proofs.Sorting.{neighbours_answer}
+use Rattle.gm_state.proofs.rules.mirrors_ascend.Goals as goal
+
+pub returns : goal.returns
+returns c =
+    neighbours_answer name c.args.mirrors.now c.is_sorted_by.result
+    (c.is_sorted_by.ensures.cases (λ (a b : Mirror). label_lt (name a) (name b)) (answers_always _ _ _ (λ f a r g h. search rules)))

@@ -1,8 +1,0 @@
-use Rattle.std.specs.Prelude.{codes}
-use Rattle.std.specs.Fmt.{decimal}
-use Rattle.std.specs.String.{string_bytes}
-use Rattle.gm_state.proofs.Joining.{ok_is, spaced_pair}
-use Rattle.gm_state.proofs.wording.given_slice.Goals as goal
-
-pub returns-in-Some : goal.returns-in-Some
-returns-in-Some c = rw (c.in-Some.is, ← c.bytes-bytes.ensures.value) (ok_is c.format.result string_bytes _ _ (spaced_pair (codes "--slice") (decimal c.bytes-bytes.result)) c.format.ensures.ok)

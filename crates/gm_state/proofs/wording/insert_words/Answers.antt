@@ -1,4 +1,0 @@
-use Rattle.gm_state.proofs.wording.insert_words.Goals as goal
-
-pub returns : goal.returns
-returns c = rw c.on_where-hardcode.ensures at c.format.ensures.ok

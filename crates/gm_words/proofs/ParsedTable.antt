@@ -1,0 +1,60 @@
+-- What is computed of the table, and what clap's clauses say there.
+use Rattle.std.proofs.Common.{◌≡◌, ◌≢◌, Bool, true, refl, sym, ap, ap₂, arith, subst, length, List, [], ◌∷◌, Option, Some, None, Result, Ok, Err, IfOk, IfErr, MatchResult, inl, inr, ℕ}
+use Rattle.std.specs.Prelude.{MatchOption, if◌then◌else◌, option_and_then, option_map}
+use Rattle.std.specs.Borrow.{Bor}
+use Rattle.std.specs.Result.{result_ok}
+use Rattle.clap.specs.Walk.{Text}
+use Rattle.clap.specs.Words.{FailsBy, HasKind, IsAmong, Kinds, Row, fault_of, is_simple, is_simple_and_free, kind_of, subcommand_of, subcommand_rows_of}
+use Rattle.clap.specs.declared.ArgMatches.{ArgMatches}
+use Rattle.clap.specs.declared.Error.{Error}
+use Rattle.clap.specs.declared.error.ErrorKind.TheVariants.{OutOfMemory}
+use Rattle.clap.proofs.OnLiterals.{clap_on_literals}
+use Rattle.gm_commands.specs.declared.command.Command.{Command}
+use Rattle.gm_words.specs.Spelling.{command_of, spelled, taken}
+use Rattle.gm_words.specs.Table.{name, names, optional, possible, table, wanted}
+use Rattle.gm_words.proofs.ReadValues.{nonzero}
+
+pub table_is_simple : is_simple table ≡ true
+unfolding clap_on_literals name names optional possible wanted
+table_is_simple = refl
+
+pub table_is_free : is_simple_and_free table ≡ true
+unfolding clap_on_literals name names optional possible wanted
+table_is_free = refl
+
+pub none_at_ok : {X : Type 0} (kinds : Kinds) (r : Result X Error) → FailsBy kinds r → IfOk r (λ m. kinds ≡ [])
+none_at_ok kinds (Ok x) h = h
+none_at_ok kinds (Err e) h = tt
+
+some_at : (kinds : Kinds) (e : Error) → HasKind kinds e → kind_of e ≢ OutOfMemory → kinds ≢ []
+some_at kinds e (inl memory) other = absurd (other memory)
+some_at kinds e (inr among) other = λ none. subst (IsAmong (kind_of e)) none among
+
+pub some_at_err : {X : Type 0} (kinds : Kinds) (r : Result X Error) → FailsBy kinds r → IfErr r (λ e. kind_of e ≢ OutOfMemory → kinds ≢ [])
+some_at_err kinds (Ok x) h = tt
+some_at_err kinds (Err e) h = some_at kinds e h
+
+-- what was found, as an option of a text behind a reference
+pub found_as : (o : Option (Bor (List ℕ))) (f : Option (List ℕ)) → option_map (λ s. s.now) o ≡ f → MatchOption o (f ≡ None) (λ s. f ≡ Some s.now)
+found_as None f e = sym e
+found_as (Some s) f e = sym e
+
+-- ---- the command that words spell, by what clap makes of them
+
+pub spelled_by : (words : List Text) (m : ArgMatches) → fault_of table words ≡ [] → subcommand_rows_of m ≡ subcommand_of table words
+    → spelled words ≡ option_and_then (λ p. command_of p.0 p.1) (subcommand_rows_of m)
+unfolding spelled
+spelled_by words m none rows = ap₂ taken none (sym rows)
+
+none_taken : (faults : Kinds) (found : Option (Text × List Row)) → faults ≢ [] → taken faults found ≡ None
+none_taken [] found some = absurd (some refl)
+none_taken (k ∷ ks) found some =
+    ap (λ (b : Bool). if b then option_and_then (λ p. command_of p.0 p.1) found else None) (nonzero (length (k ∷ ks)) (omega arith))
+
+pub spelled_none : (words : List Text) → fault_of table words ≢ [] → spelled words ≡ None
+unfolding spelled
+spelled_none words some = none_taken (fault_of table words) (subcommand_of table words) some
+
+pub answered : {E : Type 0} (s : Option Command) (r : Result Command E) → s ≡ result_ok r → MatchResult r (λ c. s ≡ Some c) (λ _. s ≡ None)
+answered s (Ok c) e = e
+answered s (Err w) e = e

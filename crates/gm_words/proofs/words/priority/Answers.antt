@@ -1,6 +1,0 @@
-use Rattle.std.proofs.Common.{◌∙◌}
-use Rattle.gm_words.proofs.Reading.{parsed_below}
-use Rattle.gm_words.proofs.words.priority.Goals as goal
-
-pub returns : goal.returns
-returns c = c.ok.ensures.value ∙ parsed_below 8 _ _ c.parse.ensures.value.0

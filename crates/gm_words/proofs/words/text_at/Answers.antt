@@ -1,8 +1,0 @@
-use Rattle.std.proofs.Common.{◌∙◌}
-use Rattle.clap.specs.Words.{found_of}
-use Rattle.clap.proofs.WalkLemmas.{first_value-rows}
-use Rattle.gm_words.proofs.Parsing.{found_as}
-use Rattle.gm_words.proofs.words.text_at.Goals as goal
-
-pub returns : goal.returns
-returns c = found_as _ _ (c.get_str.ensures ∙ first_value-rows (found_of c.args.matches.now) c.args.id.now)

@@ -1,0 +1,257 @@
+//! The program's own words.
+
+use crate::bench_command::Work;
+use clap::error::ErrorKind;
+use clap::{Arg, ArgAction, ArgMatches, Command, Error};
+use gm_metadata::Label;
+use std::alloc::{AllocError, Global};
+
+// What the help of the program says below its commands.
+const MORE: &str =
+    "recover, status, list, audit and batch take --registry FILE --shelf DIR: the registry, which is made
+where there is none, and the folder with the images. Each first carries out what a run that stopped
+left pending. dump and taste look at images alone, and write nothing.
+
+Exit statuses:
+  0  done
+  1  refused, or damage was found; the printed line says which
+  2  the words above weren't kept to; nothing was opened
+  3  a fault; one line on standard error says which
+
+Example:
+  mkdir images && truncate -s 1M images/a.img
+  echo 'k1 label --mid 7 --did 1 gm0 a.img' | gmbench batch --registry registry --shelf images
+  gmbench status --registry registry --shelf images";
+
+// What the help of `batch` says below its options.
+const LINES: &str =
+    "Each line has a key, under which the command is carried out once, and a command:
+  KEY label --mid N --did N [--balance B] [--slice N] [--autosync S] [--failsync S] [--hardcode S]
+      NAME PROV
+  KEY insert --did N [--priority P] [--hardcode S] NAME PROV
+  KEY remove NAME PROV
+  KEY deactivate NAME PROV
+  KEY activate NAME PROV
+  KEY forget NAME
+  KEY rebuild NAME PROV
+  KEY configure [--balance B] [--slice N] [--autosync S] [--failsync S] [--hardcode S]
+      [--prov PROV --priority P] NAME
+  KEY clear PROV
+  KEY destroy NAME
+  KEY lost NAME PROV..
+  KEY advance NAME PROV
+  KEY adopt NAME PROV..
+B is load, prefer, round-robin or split, and S is on or off. Where label and insert aren't given
+them: --balance load, --slice 4096, --autosync on, --failsync on, --hardcode off, --priority 0.
+
+Each line is answered before the next is read:
+  KEY ok SEQ        done, and kept under this number; behind it an advance says
+                    `copied K of N`, so many sectors by now of all
+  KEY repeated SEQ  it was done before
+  KEY refused N     nothing was written
+  KEY fault N       a fault, which ends the batch";
+
+/// What the program is asked to do.
+#[derive(Clone, Copy)]
+pub enum Job<'a> {
+    /// Say what the program is.
+    Introduce,
+    /// Print what the last sector of a provider of a folder says.
+    Dump {
+        folder: &'a str,
+        provider: Label,
+    },
+    /// Print what the images of a folder tell by themselves.
+    Taste {
+        folder: &'a str,
+    },
+    /// Do work at the bench of a registry and a folder.
+    AtBench {
+        work: Work,
+        registry: &'a str,
+        folder: &'a str,
+    },
+}
+
+fn shelf_option<'a>(alloc: Global) -> Arg<'a> {
+    Arg::new(alloc, "shelf")
+        .long("shelf")
+        .value_name("DIR")
+        .help("The folder with the images")
+        .required(true)
+        .action(ArgAction::Set)
+}
+
+fn registry_option<'a>(alloc: Global) -> Arg<'a> {
+    Arg::new(alloc, "registry")
+        .long("registry")
+        .value_name("FILE")
+        .help("The registry, which is made where there is none")
+        .required(true)
+        .action(ArgAction::Set)
+}
+
+fn provider_name<'a>(alloc: Global) -> Arg<'a> {
+    Arg::new(alloc, "provider")
+        .value_name("PROV")
+        .help("The name of an image")
+        .required(true)
+        .action(ArgAction::Set)
+}
+
+// What a subcommand takes.
+#[derive(Clone, Copy)]
+enum Takes {
+    Image,
+    Folder,
+    Bench,
+    BenchAndLines,
+}
+
+// A subcommand, and what the help says of it.
+#[derive(Clone, Copy)]
+struct Subcommand {
+    name: &'static str,
+    about: &'static str,
+    takes: Takes,
+}
+
+const DUMP: Subcommand = Subcommand {
+    name: "dump",
+    about: "Prints what the last sector of an image says",
+    takes: Takes::Image,
+};
+
+const SUBCOMMANDS: [Subcommand; 7] = [
+    DUMP,
+    Subcommand {
+        name: "taste",
+        about: "Prints which mirrors the images of a folder tell of by themselves",
+        takes: Takes::Folder,
+    },
+    Subcommand {
+        name: "recover",
+        about: "Carries out what a run that stopped left pending",
+        takes: Takes::Bench,
+    },
+    Subcommand {
+        name: "status",
+        about: "Shows in a few lines how the mirrors stand",
+        takes: Takes::Bench,
+    },
+    Subcommand {
+        name: "list",
+        about: "Shows all that is known of the mirrors and their components",
+        takes: Takes::Bench,
+    },
+    Subcommand {
+        name: "audit",
+        about: "Lists the components whose images aren't as they are registered",
+        takes: Takes::Bench,
+    },
+    Subcommand {
+        name: "batch",
+        about: "Carries out the commands of standard input, a line each",
+        takes: Takes::BenchAndLines,
+    },
+];
+
+fn with_bench<'a>(alloc: Global, command: Command<'a>) -> Result<Command<'a>, AllocError> {
+    command
+        .arg(registry_option(alloc))?
+        .arg(shelf_option(alloc))
+}
+
+impl Subcommand {
+    fn command<'a>(self, alloc: Global) -> Result<Command<'a>, AllocError> {
+        let command = Command::new(alloc, self.name).about(self.about);
+        match self.takes {
+            Takes::Image => command.arg(shelf_option(alloc))?.arg(provider_name(alloc)),
+            Takes::Folder => command.arg(shelf_option(alloc)),
+            Takes::Bench => with_bench(alloc, command),
+            Takes::BenchAndLines => with_bench(alloc, command.after_help(LINES)),
+        }
+    }
+}
+
+fn with_subcommands<'a>(alloc: Global, command: Command<'a>) -> Result<Command<'a>, AllocError> {
+    let mut command = command;
+    for more in &SUBCOMMANDS {
+        command = command.subcommand(more.command(alloc)?)?;
+    }
+    Ok(command)
+}
+
+fn program_command<'a>(alloc: Global) -> Result<Command<'a>, AllocError> {
+    let command = Command::new(alloc, "gmbench")
+        .about("A workshop for disk images that are mirrors of gmirror(8)")
+        .version("0.1.0")
+        .bin_name("gmbench")?
+        .no_binary_name(true)
+        .subcommand_required(true)
+        .after_help(MORE);
+    with_subcommands(alloc, command)
+}
+
+// The label that a value is, or clap's complaint.
+fn label_of(alloc: Global, value: &str) -> Result<Label, Error> {
+    match Label::new(value) {
+        Some(label) => Ok(label),
+        None => {
+            let message = format!(in alloc;
+                "invalid value '{value}' for '<PROV>': a name has 1 to 15 of A-Z, a-z, 0-9, '.', '_' and '-'"
+            )?;
+            let mut dump = DUMP.command(alloc)?.bin_name("gmbench dump")?;
+            Err(dump.error(ErrorKind::ValueValidation, message.as_str())?)
+        }
+    }
+}
+
+fn dump_of<'a>(alloc: Global, matches: &ArgMatches<'a>) -> Result<Job<'a>, Error> {
+    let folder = matches.get_str("shelf").unwrap_or("");
+    let provider = label_of(alloc, matches.get_str("provider").unwrap_or(""))?;
+    Ok(Job::Dump { folder, provider })
+}
+
+fn taste_of<'a>(matches: &ArgMatches<'a>) -> Job<'a> {
+    Job::Taste {
+        folder: matches.get_str("shelf").unwrap_or(""),
+    }
+}
+
+// The work at a bench that a subcommand is for; none where it is for no bench.
+fn work_of(name: &str) -> Option<Work> {
+    match name {
+        "recover" => Some(Work::Recover),
+        "status" => Some(Work::Status),
+        "list" => Some(Work::List),
+        "audit" => Some(Work::Audit),
+        "batch" => Some(Work::Batch),
+        _ => None,
+    }
+}
+
+fn at_bench_of<'a>(work: Work, matches: &ArgMatches<'a>) -> Job<'a> {
+    Job::AtBench {
+        work,
+        registry: matches.get_str("registry").unwrap_or(""),
+        folder: matches.get_str("shelf").unwrap_or(""),
+    }
+}
+
+/// The job that the words ask for, without the program's own name. An `Err` is clap's: the text to print, or of the
+/// kind `OutOfMemory`.
+pub fn job_of<'a>(alloc: Global, words: &'a [&'a str]) -> Result<Job<'a>, Error> {
+    if words.is_empty() {
+        return Ok(Job::Introduce);
+    }
+    let matches = program_command(alloc)?.try_get_matches_from(words)?;
+    match matches.subcommand() {
+        Some((name, given)) => match work_of(name) {
+            Some(work) => Ok(at_bench_of(work, given)),
+            None if name == "taste" => Ok(taste_of(given)),
+            None => dump_of(alloc, given),
+        },
+        None => Ok(Job::Introduce),
+    }
+}

@@ -1,0 +1,164 @@
+//! Where work at a bench is done: a folder of images, which is held meanwhile, and a registry, which is opened and closed
+//! again.
+
+ghost use Rattle.std.specs.Prelude.{◌≡◌, IfOk};
+ghost use Rattle.gm_rows.specs.Faults.{fault_of};
+ghost use Rattle.gm_bench.specs.Faults.{of_store};
+ghost use Rattle.gmbench.specs.Reports.{MayEnd};
+
+use crate::bench_command::{Report, Work};
+use crate::exit::{Fault, Status};
+use gm_bench::{Bench, BenchFault};
+use gm_shelf::{FileId, FileShelf, Shelf};
+use sqlite::{Alter, Connection, Error, ErrorCode, FileStore};
+use sqlite_disk::Disk;
+use std::alloc::Global;
+use std::fs::{self, File};
+use std::io::{self, ErrorKind, Read, Write};
+
+// What SQLite appends to a database's name for the files that it puts beside it.
+const BESIDE: [&str; 3] = ["-wal", "-shm", "-journal"];
+
+/// The paths of a registry, and of the folder with the images that it keeps record of.
+#[derive(Clone, Copy)]
+pub struct Place<'a> {
+    pub registry: &'a str,
+    pub folder: &'a str,
+}
+
+/// A folder of images, held so that no other gmbench changes them until this is let go.
+#[derive(Drop)]
+struct HeldFolder {
+    _file: File,
+}
+
+impl HeldFolder {
+    // The lock is on the folder itself. A folder that can't be locked isn't held, for whatever reason.
+    fn hold(rt: &HostRuntime, folder: &str) -> io::Result<HeldFolder> {
+        if !fs::metadata(rt, folder)?.is_dir() {
+            return Err(io::Error::from(ErrorKind::NotADirectory));
+        }
+        let file = File::open(rt, folder)?;
+        file.try_lock()?;
+        Ok(HeldFolder { _file: file })
+    }
+}
+
+// A registry's file that can't be opened, read or closed.
+fn store_fault(error: Error) -> BenchFault
+    ensures { result ≡ of_store (fault_of error) }
+{
+    match error {
+        Error::SqliteFailure(ErrorCode::OutOfMemory) => BenchFault::Memory,
+        _ => BenchFault::Store,
+    }
+}
+
+// The files of a registry that is there: its own, by whatever path it is named, and those that SQLite puts beside it.
+fn registry_files(rt: &HostRuntime, registry: &str) -> io::Result<Vec<FileId>> {
+    let real = fs::canonicalize(rt, registry)?;
+    let mut files = Vec::new(rt.alloc());
+    files.push(FileId::of(&fs::metadata(rt, real.as_str())?))?;
+    for suffix in BESIDE {
+        let path = format!(in rt.alloc(); "{}{suffix}", real.as_str())?;
+        match fs::symlink_metadata(rt, path.as_str()) {
+            Ok(found) => files.push(FileId::of(&found))?,
+            Err(e) if e.kind() == ErrorKind::NotFound => {}
+            Err(e) => return Err(e),
+        }
+    }
+    Ok(files)
+}
+
+// Leaves the files of a registry that is open out of the images among which they may lie. To open it took none of them away.
+fn leave_out_registry(
+    rt: &HostRuntime,
+    registry: &str,
+    shelf: &mut FileShelf<HostRuntime>,
+) -> Result<(), BenchFault> {
+    match registry_files(rt, registry) {
+        Ok(files) => {
+            shelf.leave_out(&files);
+            Ok(())
+        }
+        Err(e) if e.kind() == ErrorKind::OutOfMemory => Err(BenchFault::Memory),
+        Err(_) => Err(BenchFault::Store),
+    }
+}
+
+// Opens a bench, which carries out what is pending, has the work done at it, and gives its store back with the report.
+fn at_bench<S: Alter + Drop, H: Shelf + Drop, I: Read, O: Write>(
+    alloc: Global,
+    store: Connection<S>,
+    shelf: H,
+    work: Work,
+    input: &mut I,
+    output: &mut O,
+) -> Result<(Result<Report, Fault>, Connection<S>), BenchFault>
+    ensures { IfOk result (λ it. IfOk it.0 (λ report. MayEnd work report.status)) }
+{
+    if !store.is_autocommit() {
+        return Err(BenchFault::Store);
+    }
+    match Bench::open(alloc, store, shelf) {
+        Ok(mut bench) => {
+            let report = work.perform(alloc, &mut bench, input, output);
+            let (store, _) = bench.close();
+            Ok((report, store))
+        }
+        Err(e) => Err(e.fault),
+    }
+}
+
+// Has the work done at a store of two files, and closes it. Of two faults the first is told.
+fn at_files<D: Disk + Drop, H: Shelf + Drop, I: Read, O: Write>(
+    alloc: Global,
+    store: Connection<FileStore<D>>,
+    shelf: H,
+    work: Work,
+    input: &mut I,
+    output: &mut O,
+) -> Result<Report, Fault>
+    ensures { IfOk result (λ report. MayEnd work report.status) }
+{
+    let (report, store) = at_bench(alloc, store, shelf, work, input, output)?;
+    let closed = store.close().map_err(store_fault);
+    let report = report?;
+    closed?;
+    Ok(report)
+}
+
+// Alone in naming a registry over files.
+fn report_of<I: Read, O: Write>(
+    rt: &HostRuntime,
+    registry: &str,
+    mut shelf: FileShelf<HostRuntime>,
+    work: Work,
+    input: &mut I,
+    output: &mut O,
+) -> Result<Report, Fault>
+    ensures { IfOk result (λ report. MayEnd work report.status) }
+{
+    let store = Connection::open(rt, registry).map_err(store_fault)?;
+    leave_out_registry(rt, registry, &mut shelf)?;
+    at_files(rt.alloc(), store, shelf, work, input, output)
+}
+
+/// Opens the bench of a place, which carries out what is pending, has the work done at it, and closes its store, so that
+/// the registry's file alone holds everything. Then it prints the text of the report.
+pub fn work_at<I: Read, O: Write>(
+    rt: &HostRuntime,
+    place: Place<'_>,
+    work: Work,
+    input: &mut I,
+    output: &mut O,
+) -> Result<Status, Fault>
+    ensures { IfOk result (MayEnd work) }
+{
+    let _held = HeldFolder::hold(rt, place.folder)?;
+    // A folder that can't be listed is told before the registry is looked for.
+    let shelf = FileShelf::open(rt, place.folder)?;
+    let report = report_of(rt, place.registry, shelf, work, input, output)?;
+    output.write_all(report.text.as_bytes())?;
+    Ok(report.status)
+}
