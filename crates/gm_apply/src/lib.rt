@@ -9,8 +9,6 @@ mod copy;
 mod equal_data;
 mod laws;
 mod redo;
-#[cfg(test)]
-mod tests;
 
 pub use equal_data::equal_sectors;
 pub use laws::{

@@ -114,6 +114,3 @@ pub(crate) fn check_run(sectors: Option<u64>, first: u64, length: u64) -> Result
         Some(_) => Ok(()),
     }
 }
-
-#[cfg(test)]
-mod tests;

@@ -213,6 +213,3 @@ impl<R: Files<File = File> + AllocGlobal + Clone + Drop> Shelf for FileShelf<R> 
         Ok(())
     }
 }
-
-#[cfg(test)]
-mod tests;

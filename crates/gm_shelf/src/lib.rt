@@ -29,4 +29,5 @@ pub use file_id::FileId;
 pub use file_shelf::FileShelf;
 pub use last_sector::{write_last, write_meta};
 pub use mem_shelf::MemShelf;
+pub use open_files::OPEN_FILES;
 pub use shelf::Shelf;

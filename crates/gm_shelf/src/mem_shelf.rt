@@ -139,6 +139,3 @@ impl Shelf for MemShelf {
         Ok(())
     }
 }
-
-#[cfg(test)]
-mod tests;

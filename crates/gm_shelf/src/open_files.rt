@@ -12,8 +12,8 @@ use std::io::{self, ErrorKind};
 use std::os::unix::fs::MetadataExt;
 use std::rt::Files;
 
-/// How many files are kept open at once.
-pub(crate) const OPEN_FILES: usize = 256;
+/// How many files of its folder a `FileShelf` keeps open at once.
+pub const OPEN_FILES: usize = 256;
 
 /// What images are opened for.
 #[derive(Clone, Copy, Debug, PartialEq, Eq)]

@@ -1,11 +1,11 @@
-//! A copy and the metadata that claim it, stopped before each call, with every image that a crash may then leave.
-//! `copies.rt` tries copies alone, `comparing.rt` the count of equal sectors.
+//! A copy and the metadata that claim it, stopped before each call, with every image that a crash
+//! may then leave. `copies.rt` tries copies alone, `comparing.rt` the count of equal sectors.
 
 mod comparing;
 mod copies;
 mod counting;
 
-use crate::apply;
+use gm_apply::apply;
 use gm_metadata::{Balance, Label, MirrorFlags, decode, encode};
 use gm_shelf::{FaultShelf, MemShelf, Shelf, ShelfFault};
 use gm_state::{Component, Disk, Intent, Mirror, State, metadata};
@@ -16,8 +16,8 @@ use std::test::Fail;
 // The mirror's data: what the first byte of each sector is.
 const DATA: [u8; 2] = [7, 8];
 
-// How many reads, writes and syncs the whole run makes: two reads and a write for each copied sector and a sync, a write
-// and a sync.
+// How many reads, writes and syncs the whole run makes: two reads and a write for each copied
+// sector and a sync, a write and a sync.
 const CALLS: u64 = 9;
 
 fn label(text: &str) -> Result<Label, Fail> {

@@ -1,13 +1,14 @@
 //! How many first sectors are equal. A run is 128 sectors.
 
 use super::{add, label};
-use crate::equal_sectors;
+use gm_apply::equal_sectors;
 use gm_shelf::{FaultShelf, MemShelf, ShelfFault};
 use std::alloc::Global;
 use std::process::Abort;
 use std::test::Fail;
 
-// So many sectors, each of one byte by its place, but for these places, which hold 0xff as no other does.
+// So many sectors, each of one byte by its place, but for these places, which hold 0xff as no other
+// does.
 fn image(alloc: Global, sectors: u16, differing: &[u16]) -> Result<Vec<[u8; 512]>, Fail> {
     let mut image = Vec::new(alloc);
     for place in 0..sectors {
@@ -74,8 +75,8 @@ fn the_end_of_either_ends_the_count(rt: HostRuntime) -> Result<(), Fail> {
     Ok(())
 }
 
-// What a shelf gives whose reads fail from this one on. It reads each sector by itself, so that a whole run takes 256
-// reads.
+// What a shelf gives whose reads fail from this one on. It reads each sector by itself, so that a
+// whole run takes 256 reads.
 fn counted_until(
     rt: &impl Abort,
     alloc: Global,

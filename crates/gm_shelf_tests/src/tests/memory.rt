@@ -1,12 +1,8 @@
-use crate::{FaultShelf, MemShelf, Shelf, ShelfFault};
-use gm_metadata::Label;
+use super::label;
+use gm_shelf::{FaultShelf, MemShelf, Shelf, ShelfFault};
 use std::alloc::{AllocError, Global};
 use std::process::Abort;
 use std::test::Fail;
-
-fn label(text: &str) -> Result<Label, Fail> {
-    Ok(Label::new(text).ok_or("no label")?)
-}
 
 // Two providers of three sectors, whose bytes are 1 and 2.
 fn two_disks(rt: &(impl Abort + AllocGlobal)) -> Result<MemShelf, Fail> {

@@ -1,4 +1,4 @@
-use crate::ShelfFault;
+use gm_shelf::ShelfFault;
 use std::test::Fail;
 
 #[test]

@@ -6,7 +6,8 @@ use gm_metadata::Label;
 use gm_shelf::{Shelf, ShelfFault};
 use std::alloc::AllocError;
 
-/// How many calls were made and succeeded, a run as one, and how many sectors the writes had. An empty run is none.
+/// How many calls were made and succeeded, a run as one, and how many sectors the writes had. An
+/// empty run is none.
 #[derive(Clone, Copy, Debug, PartialEq, Eq)]
 pub struct Calls {
     pub reads: u64,

@@ -2,15 +2,15 @@
 
 use super::counting::{Calls, CountingShelf};
 use super::{add, filled, label, sector_of};
-use crate::apply;
+use gm_apply::apply;
 use gm_shelf::{FaultShelf, MemShelf, Shelf};
 use gm_state::Intent;
 use std::alloc::Global;
 use std::process::Abort;
 use std::test::Fail;
 
-// The sectors of a, each of one byte of its own, and those of b: as a's but for these places, which hold 0xff. Behind
-// them b has a sector more.
+// The sectors of a, each of one byte of its own, and those of b: as a's but for these places, which
+// hold 0xff. Behind them b has a sector more.
 fn two_images(
     rt: &impl Abort,
     alloc: Global,
@@ -44,7 +44,8 @@ fn copy(first: u32, end: u32) -> Result<[Intent; 1], Fail> {
     }])
 }
 
-// What a copy of all sectors of a asks of the shelf. Then b holds them, and the sector behind them is as it was.
+// What a copy of all sectors of a asks of the shelf. Then b holds them, and the sector behind them
+// is as it was.
 fn asked(rt: &impl Abort, alloc: Global, sectors: u8, differing: &[u8]) -> Result<Calls, Fail> {
     let mut shelf = CountingShelf::new(two_images(rt, alloc, sectors, differing)?);
     apply(&mut shelf, &filled(alloc)?, &copy(0, u32::from(sectors))?)?;
@@ -96,7 +97,8 @@ fn an_equal_sector_parts_two_stretches(rt: HostRuntime) -> Result<(), Fail> {
     Ok(())
 }
 
-// A stretch ends with its run: 131 sectors are a run of 128 and one of 3, and 250 are one of 128 and one of 122.
+// A stretch ends with its run: 131 sectors are a run of 128 and one of 3, and 250 are one of 128
+// and one of 122.
 #[test]
 fn runs_follow_one_another(rt: HostRuntime) -> Result<(), Fail> {
     let alloc = rt.alloc();
@@ -137,7 +139,8 @@ fn an_empty_copy_syncs(rt: HostRuntime) -> Result<(), Fail> {
     Ok(())
 }
 
-// A sector that is equal, but was never synced, is fixed though it isn't written: no crash takes it back.
+// A sector that is equal, but was never synced, is fixed though it isn't written: no crash takes it
+// back.
 #[test]
 fn equal_sectors_are_synced(rt: HostRuntime) -> Result<(), Fail> {
     let alloc = rt.alloc();
@@ -160,8 +163,8 @@ fn assert_bytes(rt: &impl Abort, shelf: &mut MemShelf, bytes: &[u8; 5]) -> Resul
     Ok(())
 }
 
-// What a crash leaves by these picks of a copy of four sectors, two of which differ, that was stopped at this call. The
-// copy made anew then ends as it would have.
+// What a crash leaves by these picks of a copy of four sectors, two of which differ, that was
+// stopped at this call. The copy made anew then ends as it would have.
 fn assert_left(rt: &impl Abort, alloc: Global, nth: u64, picks: [u32; 2]) -> Result<(), Fail> {
     let mut stops = FaultShelf::stop_from(two_images(rt, alloc, 4, &[0, 2])?, nth);
     let done = apply(&mut stops, &filled(alloc)?, &copy(0, 4)?);
@@ -181,8 +184,8 @@ fn assert_left(rt: &impl Abort, alloc: Global, nth: u64, picks: [u32; 2]) -> Res
     assert_bytes(rt, &mut image, &[0, 1, 2, 3, 0xee])
 }
 
-// It makes eleven calls: the reads 1 to 4 of b and 5 to 8 of a, a write of sector 0 and one of sector 2, and a sync, so
-// that the twelfth is never made.
+// It makes eleven calls: the reads 1 to 4 of b and 5 to 8 of a, a write of sector 0 and one of
+// sector 2, and a sync, so that the twelfth is never made.
 #[test]
 fn a_copy_that_stops_leads_on(rt: HostRuntime) -> Result<(), Fail> {
     let alloc = rt.alloc();

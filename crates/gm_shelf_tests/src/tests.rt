@@ -1,0 +1,13 @@
+//! `files.rt` tries the shelf over files, `memory.rt` the one in memory and the one that stops,
+//! `faults.rt` the texts.
+
+mod faults;
+mod files;
+mod memory;
+
+use gm_metadata::Label;
+use std::test::Fail;
+
+fn label(text: &str) -> Result<Label, Fail> {
+    Ok(Label::new(text).ok_or("no label")?)
+}
