@@ -1,5 +1,5 @@
 -- What a call leaves that asks the rules, and writes nothing.
-use Rattle.std.proofs.Common.{◌≡◌, ◌∙◌, inl, inr, ℕ, ◌≤◌, ◌<◌, Bool, true, false, List, [], subst, sym, nat_le, arith}
+use Rattle.std.proofs.Common.{◌≡◌, ◌∙◌, inl, inr, ℕ, ◌≤◌, ◌<◌, Bool, true, false, List, [], subst, sym, nat_le, arith, refl}
 use Rattle.std.specs.Prelude.{Result, Ok, Err, IfOk}
 use Rattle.std.proofs.lemmas.Bool.Decides.{nat_tests}
 use Rattle.sqlite_trees.specs.declared.store.Store.{Ghosts}
@@ -13,13 +13,15 @@ use Rattle.gm_state.specs.declared.intents.Intent.{Intent}
 use Rattle.gm_state.specs.Intents.{IsAtHand}
 use Rattle.gm_lists.specs.Ordered.{Has}
 use Rattle.gm_state.specs.World.{World}
-use Rattle.gm_registry.specs.Registry.{CrashLeaves, CrashLeavesOnly, DiskKept, HasTables, IsRegistry, LeavesAlone, LeavesNothingNew, WasClean}
+use Rattle.gm_registry.specs.Registry.{CrashLeaves, CrashLeavesOnly, DiskKept, HasTables, IsRegistry, LeavesAlone, LeavesNothingNew, WasClean, Reads}
 use Rattle.sqlite.specs.Held.{state}
 use Rattle.sqlite.proofs.StateLemmas.{survives_then}
 use Rattle.gm_bench.specs.Accepting.{OrStep, LeavesStep}
 use Rattle.gm_bench.specs.Leading.{AllLead}
 use Rattle.gm_bench.specs.Recovering.{IsFound, IsAt, Recovers}
 use Rattle.gm_bench.proofs.RegistryLeaves.{leads_in}
+use Rattle.gm_registry.proofs.CallsLeave.{IsSettling, saved}
+use Rattle.gm_state.specs.Rows.{Tables}
 
 module _ {S H : Type 0} (g : Ghosts S) (view : H → View) (size : H → Sizes) (r : Held S) (h : H) (away : Image) (ts : List Intent) (u w : World) (at : IsAt g view size r h away ts u w) where
   abbrev pub found_of : IsFound g view size r h away ts u w
@@ -110,4 +112,28 @@ pub alone_then : {S : Type 0} (g : Ghosts S) (r mid s : Held S) → IsRegistry g
 alone_then g r mid s is clean first second = record {
   tables = λ kept is_open. second.tables kept is_open ∙ first.tables (omega (arith, clean, kept)) is.is_open;
   crash = nothing_then g r mid s first.crash second.crash;
+}
+
+-- a read, and then another, of a registry that keeps its tables in between
+pub reads_then : {S : Type 0} (g : Ghosts S) (r mid s : Held S) → ((t : Tables) → HasTables g r t → HasTables g mid t) → Reads g r mid → Reads g mid s → Reads g r s
+reads_then g r mid s has first second = record {
+  kept = λ clean t h is_open. second.kept clean t (has t h) is_open;
+  left = λ t h. nothing_then g r mid s (first.left t h) (second.left t (has t h));
+  clean = let one = first.clean in
+      let two = second.clean in omega (arith, one, two);
+}
+
+-- a registry that wasn't asked for anything
+pub reads_none : {S : Type 0} (g : Ghosts S) → IsSettling g → (r : Held S) → Reads g r r
+reads_none g settling r = record {
+  kept = λ clean t h is_open. saved g settling r t h;
+  left = λ t h. record {
+    clean = omega arith;
+    shield = λ is. is;
+    counts = omega arith;
+    limit = refl;
+    closes = λ _ is. inl is;
+    crash = λ _ db left. inl left;
+  };
+  clean = omega arith;
 }

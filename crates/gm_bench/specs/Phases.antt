@@ -34,6 +34,10 @@ phase_after (Done n reply) = phase.Pending
 phase_after (Repeated n reply) = phase.Ready
 phase_after (Refused why) = phase.Ready
 
+-- Nothing was done: the command was repeated or refused.
+abbrev pub IsUndone : Answer → Type 0
+IsUndone a = phase_after a ≡ phase.Ready
+
 -- a command may be handed in
 abbrev pub TakesCommands : Progress → Type 0
 TakesCommands p = (phase_of p ≡ phase.Ready) ⊎ (phase_of p ≡ phase.Failed)

@@ -7,6 +7,8 @@ use Rattle.gm_state.specs.declared.intents.Intent.TheVariants.{Meta, Clear, Copy
 use Rattle.gm_state.specs.declared.records.Component.{Component}
 use Rattle.gm_state.specs.Lookups.{component_of}
 use Rattle.gm_state.specs.Records.{Records}
+use Rattle.gm_state.specs.Intents.{IsAtHand}
+use Rattle.gm_lists.specs.Ordered.{Has}
 
 -- a provider of so many sectors serves: a component with its registered size, another one with a sector
 abbrev pub serves : Option Component → Option ℕ → Bool
@@ -23,6 +25,10 @@ abbrev pub providers_in : Intent → List (List ℕ)
 providers_in (Meta p) = p ∷ []
 providers_in (Clear p) = p ∷ []
 providers_in (Copy source target first end) = target ∷ source ∷ []
+
+-- the providers of these intents are on a shelf of these sizes, with each sector that they name
+abbrev pub AreAtHand : Sizes → List Intent → Type 0
+AreAtHand size ts = (t : Intent) → Has ts t → IsAtHand size t
 
 -- the first of these providers that isn't there as the intents need it
 abbrev pub absent_among : Records → Sizes → List (List ℕ) → Option (List ℕ)

@@ -9,12 +9,13 @@ ghost use Rattle.gm_state.specs.World.{World};
 ghost use Rattle.gm_commands.specs.Commands.{is_key};
 ghost use Rattle.gm_rules.specs.Step.{CanAnswer};
 ghost use Rattle.gm_state.specs.Rows.{Tables};
-ghost use Rattle.gm_registry.specs.Registry.{DiskKept, HasTables, LeavesNothingNew, WasClean};
+ghost use Rattle.gm_registry.specs.Registry.{DiskKept, HasTables, LeavesNothingNew, WasClean, Reads};
 ghost use Rattle.gm_registry.specs.Replies.{AreWrittenUnder, IsFree, count_of};
 ghost use Rattle.gm_bench.specs.Accepting.{LeavesStep, IsAnswered};
 ghost use Rattle.gm_bench.specs.Faults.{IsOfCall};
 ghost use Rattle.gm_bench.specs.Planning.{IsPlanned};
 ghost use Rattle.gm_bench.specs.Recovering.{IsAt};
+ghost use Rattle.gm_bench.specs.Phases.{IsUndone, answer_of};
 
 use crate::answer::Accepted;
 use crate::fault::BenchFault;
@@ -42,6 +43,7 @@ impl<S: Alter, H: Shelf> Media<S, H> {
             → IsAnswered S.Store H.view H.size self.new.registry self.old.shelf away
             u key.now c a) }
         ensures disk { IsErrOf result BenchFault.Disk → ⊥ }
+        ensures work { IfOk result (λ a. IsUndone (answer_of a) → ⊥) }
         ensures fault { IfErr result IsOfCall }
         ensures readable { DiskKept S.Store self.new.registry
             → IsErrOf result BenchFault.Unreadable → (t : Tables)
@@ -85,6 +87,8 @@ impl<S: Alter, H: Shelf> Media<S, H> {
         ensures kept { DiskKept S.Store self.new.registry → IsErrOf result BenchFault.Disk
             → (t : Tables) → HasTables S.Store self.old.registry t
             → LeavesNothingNew S.Store self.old.registry self.new.registry }
+        ensures undone { DiskKept S.Store self.new.registry → IfOk result (λ a.
+            IsUndone (answer_of a) → Reads S.Store self.old.registry self.new.registry) }
         ensures fault { IfErr result IsOfCall }
         ensures readable { H.honest self.old.shelf → DiskKept S.Store self.new.registry
             → IsErrOf result BenchFault.Unreadable → (away : Image) (u : World)
@@ -132,6 +136,8 @@ impl<S: Alter, H: Shelf> Media<S, H> {
         ensures kept { DiskKept S.Store self.new.registry → IsErrOf result BenchFault.Disk
             → (t : Tables) → HasTables S.Store self.old.registry t
             → LeavesNothingNew S.Store self.old.registry self.new.registry }
+        ensures undone { DiskKept S.Store self.new.registry → IfOk result (λ a.
+            IsUndone (answer_of a) → Reads S.Store self.old.registry self.new.registry) }
         ensures fault { IfErr result IsOfCall }
         ensures readable { H.honest self.old.shelf → DiskKept S.Store self.new.registry
             → IsErrOf result BenchFault.Unreadable → (away : Image) (u : World)
@@ -178,6 +184,8 @@ impl<S: Alter, H: Shelf> Media<S, H> {
         ensures kept { DiskKept S.Store self.new.registry → IsErrOf result BenchFault.Disk
             → (t : Tables) → HasTables S.Store self.old.registry t
             → LeavesNothingNew S.Store self.old.registry self.new.registry }
+        ensures undone { DiskKept S.Store self.new.registry → IfOk result (λ a.
+            IsUndone (answer_of a) → Reads S.Store self.old.registry self.new.registry) }
         ensures fault { IfErr result IsOfCall }
         ensures readable { H.honest self.old.shelf → DiskKept S.Store self.new.registry
             → IsErrOf result BenchFault.Unreadable → (away : Image) (u : World)
@@ -227,6 +235,8 @@ impl<S: Alter, H: Shelf> Media<S, H> {
         ensures kept { DiskKept S.Store self.new.registry → IsErrOf result BenchFault.Disk
             → (t : Tables) → HasTables S.Store self.old.registry t
             → LeavesNothingNew S.Store self.old.registry self.new.registry }
+        ensures undone { DiskKept S.Store self.new.registry → IfOk result (λ a.
+            IsUndone (answer_of a) → Reads S.Store self.old.registry self.new.registry) }
         ensures fault { IfErr result IsOfCall }
         ensures readable { H.honest self.old.shelf → DiskKept S.Store self.new.registry
             → IsErrOf result BenchFault.Unreadable → (away : Image) (u : World)

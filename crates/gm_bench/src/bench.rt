@@ -64,19 +64,23 @@ impl<S: Alter, H: Shelf> Bench<S, H> {
             → IfOk result (λ b. DiskKept S.Store b.media.registry → (away : Image) (u w : World)
             → (left : IsLeft S.Store H.view H.size store shelf away u w)
             → b.redone ≡ length left.recovers.intents) }
-        // Each image that the pending intents need is there at Ok; the first that isn't is told.
-        ensures there { H.honest shelf → IsOpen S.Store store
-            → IfOk result (λ b. DiskKept S.Store b.media.registry → (away : Image) (u w : World)
-            → (left : IsLeft S.Store H.view H.size store shelf away u w)
-            → first_absent w.state (H.size shelf) left.recovers.intents ≡ None) }
-        ensures absent { H.honest shelf → IsOpen S.Store store
-            → IfErr result (λ e. DiskKept S.Store e.store → (p : List ℕ)
-            → e.fault ≡ BenchFault.Absent p → (away : Image) (u w : World)
-            → (left : IsLeft S.Store H.view H.size store shelf away u w)
-            → first_absent w.state (H.size shelf) left.recovers.intents ≡ Some p) }
-        ensures disk { H.honest shelf → IsOpen S.Store store
+        // Each image that the pending intents need is there at Ok; the first that isn't is told, by
+        // the tables and the sizes alone.
+        ensures there { IsOpen S.Store store
+            → IfOk result (λ b. DiskKept S.Store b.media.registry
+            → (t : Tables) (s : Records) (ts : List Intent)
+            → IsStored (stored S.Store store) t → AreTablesOf t s ts
+            → first_absent s (H.size shelf) ts ≡ None) }
+        ensures absent { IsOpen S.Store store
+            → IfErr result (λ e. DiskKept S.Store e.store
+            → (p : List ℕ) → e.fault ≡ BenchFault.Absent p
+            → (t : Tables) (s : Records) (ts : List Intent)
+            → IsStored (stored S.Store store) t → AreTablesOf t s ts
+            → first_absent s (H.size shelf) ts ≡ Some p) }
+        // Whatever the images hold, and whether the shelf is honest or not.
+        ensures disk { IsOpen S.Store store
             → IfErr result (λ e. DiskKept S.Store e.store → e.fault ≡ BenchFault.Disk
-            → (away : Image) (u w : World) → IsLeft S.Store H.view H.size store shelf away u w
+            → (t : Tables) → IsStored (stored S.Store store) t
             → (H.view shelf).faults < (H.view e.shelf).faults) }
         ensures unreadable { IsOpen S.Store store
             → IfErr result (λ e. DiskKept S.Store e.store → e.fault ≡ BenchFault.Unreadable

@@ -5,13 +5,14 @@ ghost use Rattle.gm_metadata.specs.Images.{Image};
 ghost use Rattle.gm_shelf.specs.Disk.{AreReads};
 ghost use Rattle.gm_state.specs.Rows.{Tables};
 ghost use Rattle.gm_state.specs.World.{World};
-ghost use Rattle.gm_registry.specs.Registry.{DiskKept, HasTables, LeavesNothingNew, WasClean};
+ghost use Rattle.gm_registry.specs.Registry.{DiskKept, HasTables, LeavesNothingNew, WasClean, Reads};
 ghost use Rattle.gm_registry.specs.Replies.{AreWrittenUnder};
 ghost use Rattle.gm_bench.specs.declared.answer.Accepted.{Accepted};
 ghost use Rattle.gm_bench.specs.declared.answer.Work.{Work};
 ghost use Rattle.gm_bench.specs.Owed.{AcceptAnswers, AcceptLeaves, ApplyDoes, ApplyLeaves, SettleDoes, SettleLeaves, RunAnswers, RunLeaves};
-ghost use Rattle.gm_bench.specs.Phases.{TakesCommands, HasWork, HasDone, answer_of, phase_after, phase_of, progress_after};
+ghost use Rattle.gm_bench.specs.Phases.{TakesCommands, HasWork, HasDone, answer_of, phase_after, phase_of, progress_after, IsUndone};
 ghost use Rattle.gm_bench.specs.Recovering.{IsAt, IsAtWork, LeavesOnly};
+ghost use Rattle.gm_bench.specs.Presence.{AreAtHand};
 
 use crate::answer::Answer;
 use crate::bench::Bench;
@@ -43,6 +44,9 @@ impl<S: Alter, H: Shelf> Bench<S, H> {
         ensures leaves { H.honest self.old.media.shelf → DiskKept S.Store self.new.media.registry
             → AcceptLeaves S.Store H.view H.size self.old.media.registry self.new.media.registry
             self.old.media.shelf self.new.media.shelf key.now command.now }
+        // Refused and Repeated leave the registry as it was, whatever the images hold.
+        ensures undone { DiskKept S.Store self.new.media.registry → IfOk result (λ a. IsUndone a
+            → Reads S.Store self.old.media.registry self.new.media.registry) }
         ensures closed { self.old.progress ≡ Progress.Failed
             → IsErrOf result BenchFault.Closed × (self.new ≡ self.old) }
         ensures ready { OnOk result (self.old.progress ≡ Progress.Ready) }
@@ -107,9 +111,9 @@ impl<S: Alter, H: Shelf> Bench<S, H> {
         ensures absent { (p : List ℕ) → IsErrOf result (BenchFault.Absent p) → ⊥ }
         ensures unreadable { IsErrOf result BenchFault.Unreadable → ⊥ }
         ensures disk { IsErrOf result BenchFault.Disk → (work : Work)
-            → self.old.progress ≡ Progress.Pending work → (away : Image) (u w : World)
-            → IsAtWork S.Store H.view H.size self.old.media.registry self.old.media.shelf away
-            work u w → (H.view self.old.media.shelf).faults < (H.view self.new.media.shelf).faults }
+            → self.old.progress ≡ Progress.Pending work
+            → AreAtHand (H.size self.old.media.shelf) work.intents.items
+            → (H.view self.old.media.shelf).faults < (H.view self.new.media.shelf).faults }
         ensures registry { self.new.media.registry ≡ self.old.media.registry }
         ensures honest { H.honest self.old.media.shelf → H.honest self.new.media.shelf }
         ensures size { H.size self.new.media.shelf ≡ H.size self.old.media.shelf }
@@ -187,9 +191,9 @@ impl<S: Alter, H: Shelf> Bench<S, H> {
         ensures absent { (p : List ℕ) → IsErrOf result (BenchFault.Absent p) → ⊥ }
         ensures unreadable { IsErrOf result BenchFault.Unreadable → ⊥ }
         ensures disk { IsErrOf result BenchFault.Disk → (work : Work)
-            → self.old.progress ≡ Progress.Pending work → (away : Image) (u w : World)
-            → IsAtWork S.Store H.view H.size self.old.media.registry self.old.media.shelf away
-            work u w → (H.view self.old.media.shelf).faults < (H.view self.new.media.shelf).faults }
+            → self.old.progress ≡ Progress.Pending work
+            → AreAtHand (H.size self.old.media.shelf) work.intents.items
+            → (H.view self.old.media.shelf).faults < (H.view self.new.media.shelf).faults }
         ensures honest { H.honest self.old.media.shelf → H.honest self.new.media.shelf }
         ensures size { H.size self.new.media.shelf ≡ H.size self.old.media.shelf }
         ensures redone { self.new.redone ≡ self.old.redone }
@@ -214,6 +218,9 @@ impl<S: Alter, H: Shelf> Bench<S, H> {
         ensures leaves { H.honest self.old.media.shelf → DiskKept S.Store self.new.media.registry
             → RunLeaves S.Store H.view H.size self.old.media.registry self.new.media.registry
             self.old.media.shelf self.new.media.shelf key.now command.now }
+        // Refused and Repeated leave the registry as it was, whatever the images hold.
+        ensures undone { DiskKept S.Store self.new.media.registry → IfOk result (λ a. IsUndone a
+            → Reads S.Store self.old.media.registry self.new.media.registry) }
         ensures closed { self.old.progress ≡ Progress.Failed
             → IsErrOf result BenchFault.Closed × (self.new ≡ self.old) }
         ensures ready { OnOk result

@@ -9,6 +9,7 @@ ghost use Rattle.gm_registry.specs.Registry.{DiskKept, WasClean};
 ghost use Rattle.gm_bench.specs.Faults.{IsOfMedia};
 ghost use Rattle.gm_bench.specs.Leading.{AllLead};
 ghost use Rattle.gm_bench.specs.Recovering.{Cover, IsAt, IsShelfOf, LeavesOnly};
+ghost use Rattle.gm_bench.specs.Presence.{AreAtHand};
 
 use crate::fault::BenchFault;
 use gm_apply::apply;
@@ -43,8 +44,7 @@ impl<S: Alter, H: Shelf> Media<S, H> {
             → Cover part.now w.state intents.now
             → LeavesOnly S.Store H.view H.size self.old.registry self.new.registry
             self.old.shelf self.new.shelf away u w }
-        ensures disk { (away : Image) (u w : World)
-            → IsAt S.Store H.view H.size self.old.registry self.old.shelf away intents.now u w
+        ensures disk { AreAtHand (H.size self.old.shelf) intents.now
             → IsErrOf result BenchFault.Disk
             → (H.view self.old.shelf).faults < (H.view self.new.shelf).faults }
         ensures fault { IfErr result IsOfMedia }

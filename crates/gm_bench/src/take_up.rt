@@ -11,7 +11,7 @@ ghost use Rattle.gm_rows.specs.ReadableTables.{AreTablesOf};
 ghost use Rattle.gm_registry.specs.Registry.{DiskKept, HasTables, IsRegistry, LeavesAlone, Reads, WasClean};
 ghost use Rattle.gm_bench.specs.Faults.{IsOfMedia, IsOfOpening, IsOfRegistry, IsBeforeWrites};
 ghost use Rattle.gm_bench.specs.Leading.{AllLead};
-ghost use Rattle.gm_bench.specs.Presence.{first_absent};
+ghost use Rattle.gm_bench.specs.Presence.{first_absent, AreAtHand};
 ghost use Rattle.gm_bench.specs.Recovering.{Cover, IsAt, IsFound, LeavesOnly};
 
 use crate::fault::BenchFault;
@@ -42,8 +42,7 @@ impl<S: Alter, H: Shelf> Media<S, H> {
             → IsAt S.Store H.view H.size self.old.registry self.old.shelf away intents.now u w
             → Cover part.now w.state intents.now
             → IsAt S.Store H.view H.size self.new.registry self.new.shelf away [] w w) }
-        ensures disk { (away : Image) (u w : World)
-            → IsAt S.Store H.view H.size self.old.registry self.old.shelf away intents.now u w
+        ensures disk { AreAtHand (H.size self.old.shelf) intents.now
             → IsErrOf result BenchFault.Disk
             → (H.view self.old.shelf).faults < (H.view self.new.shelf).faults }
         ensures fault { IfErr result IsOfMedia }
@@ -103,9 +102,8 @@ impl<S: Alter, H: Shelf> Media<S, H> {
             → IsFound S.Store H.view H.size self.old.registry self.old.shelf away intents.now u w
             → state.now ≡ w.state
             → IsAt S.Store H.view H.size self.new.registry self.new.shelf away [] w w) }
-        ensures disk { H.honest self.old.shelf → (away : Image) (u w : World)
-            → IsFound S.Store H.view H.size self.old.registry self.old.shelf away intents.now u w
-            → state.now ≡ w.state → IsErrOf result BenchFault.Disk
+        ensures disk { (t : Tables) → AreTablesOf t state.now intents.now
+            → IsErrOf result BenchFault.Disk
             → (H.view self.old.shelf).faults < (H.view self.new.shelf).faults }
         // F5 comes before anything is written, exactly where an image isn't there.
         ensures absent { (p : List ℕ) → IsErrOf result (BenchFault.Absent p)
@@ -144,20 +142,18 @@ impl<S: Alter, H: Shelf> Media<S, H> {
             → IsFound S.Store H.view H.size self.old.registry self.old.shelf away ts u w
             → (n ≡ length ts)
             × IsAt S.Store H.view H.size self.new.registry self.new.shelf away [] w w) }
-        ensures disk { H.honest self.old.shelf → DiskKept S.Store self.new.registry
-            → IsErrOf result BenchFault.Disk
-            → (away : Image) (ts : List Intent) (u w : World)
-            → IsFound S.Store H.view H.size self.old.registry self.old.shelf away ts u w
+        ensures disk { DiskKept S.Store self.new.registry
+            → IsErrOf result BenchFault.Disk → (t : Tables) → HasTables S.Store self.old.registry t
             → (H.view self.old.shelf).faults < (H.view self.new.shelf).faults }
-        ensures absent { H.honest self.old.shelf → DiskKept S.Store self.new.registry
+        ensures absent { DiskKept S.Store self.new.registry
             → (p : List ℕ) → IsErrOf result (BenchFault.Absent p)
-            → (away : Image) (ts : List Intent) (u w : World)
-            → IsFound S.Store H.view H.size self.old.registry self.old.shelf away ts u w
-            → first_absent w.state (H.size self.old.shelf) ts ≡ Some p }
-        ensures there { H.honest self.old.shelf → DiskKept S.Store self.new.registry
-            → OnOk result ((away : Image) (ts : List Intent) (u w : World)
-            → IsFound S.Store H.view H.size self.old.registry self.old.shelf away ts u w
-            → first_absent w.state (H.size self.old.shelf) ts ≡ None) }
+            → (t : Tables) (s : Records) (ts : List Intent)
+            → HasTables S.Store self.old.registry t → AreTablesOf t s ts
+            → first_absent s (H.size self.old.shelf) ts ≡ Some p }
+        ensures there { DiskKept S.Store self.new.registry
+            → OnOk result ((t : Tables) (s : Records) (ts : List Intent)
+            → HasTables S.Store self.old.registry t → AreTablesOf t s ts
+            → first_absent s (H.size self.old.shelf) ts ≡ None) }
         ensures unreadable { DiskKept S.Store self.new.registry
             → IsErrOf result BenchFault.Unreadable → (t : Tables) (s : Records) (ts : List Intent)
             → HasTables S.Store self.old.registry t → AreTablesOf t s ts → ⊥ }

@@ -32,6 +32,11 @@ impl<S: Alter, H: Shelf> Bench<S, H> {
             → IsAt S.Store H.view H.size self.old.media.registry self.old.media.shelf away ts u w
             → (s ≡ w.state) × IsAt S.Store H.view H.size self.new.media.registry
             self.new.media.shelf away ts u w) }
+        // The records that the registry holds, whatever the images hold.
+        ensures shows { DiskKept S.Store self.new.media.registry
+            → IfOk result (λ state. (t : Tables) (s : Records) (ts : List Intent)
+            → HasTables S.Store self.old.media.registry t → AreTablesOf t s ts
+            → (state ≡ s) × HasTables S.Store self.new.media.registry t) }
         ensures unreadable { DiskKept S.Store self.new.media.registry
             → IsErrOf result BenchFault.Unreadable → (t : Tables) (s : Records) (ts : List Intent)
             → HasTables S.Store self.old.media.registry t → AreTablesOf t s ts → ⊥ }

@@ -1,9 +1,10 @@
-use Rattle.std.proofs.Common.{◌≡◌, Err, ap}
+use Rattle.std.proofs.Common.{◌≡◌, Err, ap, subst}
 use Rattle.gm_bench.specs.declared.fault.BenchFault.TheVariants.{Unreadable}
 use Rattle.gm_registry.proofs.CallsLeave.{saved}
 use Rattle.gm_bench.proofs.DecidesOnly.{unstepped_same}
 use Rattle.gm_bench.proofs.Phases.{takes_failed}
 use Rattle.gm_bench.proofs.bench.Bench.accept.Goals as goal
+use Rattle.gm_bench.specs.Phases.{IsUndone}
 
 pub returns-in_default-clause-leaves : goal.returns-in_default-clause-leaves
 returns-in_default-clause-leaves g c h clean away u at =
@@ -25,3 +26,6 @@ pub returns-in-Err-clause-readable : goal.returns-in-Err-clause-readable
 returns-in-Err-clause-readable g c h clean is away u at written =
     let fault : c.in-Err.fault ≡ Unreadable = cc in
     c.in-Err.ensures.readable h clean (ap Err fault) away u at written
+
+pub returns-in-Ok-clause-undone : goal.returns-in-Ok-clause-undone
+returns-in-Ok-clause-undone g c clean undone = c.in-Ok.ensures.undone clean (subst IsUndone c.tell-answer.ensures.0 undone)

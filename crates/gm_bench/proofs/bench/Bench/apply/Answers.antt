@@ -8,6 +8,7 @@ use Rattle.gm_bench.specs.Owed.{ApplyDoes}
 use Rattle.gm_bench.specs.Recovering.{Cover, IsAt, IsAtWork}
 use Rattle.gm_bench.proofs.Phases.{pending_work}
 use Rattle.gm_bench.proofs.bench.Bench.apply.Goals as goal
+use Rattle.gm_bench.specs.Presence.{AreAtHand}
 
 pub returns-in-Ok-clause-does : goal.returns-in-Ok-clause-does
 returns-in-Ok-clause-does g c h work is =
@@ -26,13 +27,10 @@ returns-in-Ok-clause-does g c h work is =
     subst (λ (x : Work). (Applied c.in-Pending.work ≡ Applied x) × ApplyDoes g.S.Store view size r shelf after x) same (refl, does)
 
 pub returns-in-Pending-clause-disk : goal.returns-in-Pending-clause-disk
-returns-in-Pending-clause-disk g c told work is away u w at =
-    let view = g.H.Shelf.view in
-    let size = g.H.Shelf.size in
-    let r = c.args.self.now.media.registry in
-    let shelf = c.args.self.now.media.shelf in
+returns-in-Pending-clause-disk g c told work is hand =
+    let size = g.H.Shelf.size c.args.self.now.media.shelf in
     let hands : c.deref.result.now ≡ c.in-Pending.work.intents.items = c.deref.ensures.value in
     let same : c.in-Pending.work ≡ work = pending_work c.in-Pending.work work (sym c.in-Pending.is ∙ c.replace.ensures.value ∙ is) in
-    let here : IsAtWork g.S.Store view size r shelf away c.in-Pending.work u w = subst (λ (x : Work). IsAtWork g.S.Store view size r shelf away x u w) (sym same) at in
+    let here : AreAtHand size c.in-Pending.work.intents.items = subst (λ (x : Work). AreAtHand size x.intents.items) (sym same) hand in
     let fault : c.in-Err.fault ≡ Disk = cc in
-    c.in-Err.ensures.disk away u w (subst (λ (ts : List Intent). IsAt g.S.Store view size r shelf away ts u w) (sym hands) here.at) (ap Err fault)
+    c.in-Err.ensures.disk (subst (AreAtHand size) (sym hands) here) (ap Err fault)

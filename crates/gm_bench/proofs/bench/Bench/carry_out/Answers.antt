@@ -58,6 +58,6 @@ returns-in-Err-settle-clause-disk g c told =
     absurd (c.in-Err-settle.ensures.disk (ap Err fault))
 
 pub returns-in-Err-clause-disk : goal.returns-in-Err-clause-disk
-returns-in-Err-clause-disk g c told work is away u w at =
+returns-in-Err-clause-disk g c told work is hand =
     let fault : c.in-Err.fault ≡ Disk = cc in
-    c.in-Err.ensures.disk (ap Err fault) work is away u w at
+    c.in-Err.ensures.disk (ap Err fault) work is hand

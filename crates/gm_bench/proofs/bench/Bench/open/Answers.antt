@@ -38,14 +38,10 @@ returns-in-Ok-take_up-clause-redone g c h is_open clean away u w was =
     (c.in-Ok-take_up.ensures.done h clean away was.recovers.intents u w at).0
 
 pub returns-in-Ok-take_up-clause-there : goal.returns-in-Ok-take_up-clause-there
-returns-in-Ok-take_up-clause-there g c h is_open clean away u w was =
+returns-in-Ok-take_up-clause-there g c is_open clean t s ts stands of =
     let mid : DiskKept g.S.Store c.in-Ok.registry = omega (arith, clean, c.take_up.ensures.clean) in
-    let view = g.H.Shelf.view in
-    let sizes = g.H.Shelf.size in
-    let only : (db : Trees) → CrashLeaves g.S.Store c.args.store db → db ≡ stored g.S.Store c.args.store = λ db left. g.met.S.Store.settled c.args.store.store db is_open left in
-    let lawful = g.met.H.Shelf.lawful c.args.shelf h in
-    let at = reopened g.S.Store view sizes c.args.store c.args.shelf away u w lawful only was.recovers c.in-Ok.registry was.sizes (λ empty. c.in-Ok.ensures.made is_open empty mid) (λ t holds. c.in-Ok.ensures.found t is_open holds mid) in
-    c.in-Ok-take_up.ensures.there h clean away was.recovers.intents u w at
+    let has = opened_tables g.S.Store c.args.store c.in-Ok.registry (λ empty. c.in-Ok.ensures.made is_open empty mid) (λ t holds. c.in-Ok.ensures.found t is_open holds mid) t stands in
+    c.in-Ok-take_up.ensures.there clean t s ts has of
 
 pub returns-in-Ok-take_up-clause-leaves : goal.returns-in-Ok-take_up-clause-leaves
 returns-in-Ok-take_up-clause-leaves g c h is_open clean away u w was =
@@ -72,26 +68,18 @@ returns-in-Err-take_up-clause-leaves g c h is_open closed away u w was =
     (c.take_up.ensures.moments h clean away was.recovers.intents u w at) (c.take_up.ensures.leaves h clean away was.recovers.intents u w at))
 
 pub returns-in-Err-take_up-clause-absent : goal.returns-in-Err-take_up-clause-absent
-returns-in-Err-take_up-clause-absent g c h is_open closed p is away u w was =
+returns-in-Err-take_up-clause-absent g c is_open closed p is t s ts stands of =
     let clean : DiskKept g.S.Store c.take_up.new.self.registry = subst (λ (k : Held g.row.S.Denot). DiskKept g.S.Store k) c.close.ensures closed in
     let mid : DiskKept g.S.Store c.in-Ok.registry = omega (arith, clean, c.take_up.ensures.clean) in
-    let view = g.H.Shelf.view in
-    let sizes = g.H.Shelf.size in
-    let only : (db : Trees) → CrashLeaves g.S.Store c.args.store db → db ≡ stored g.S.Store c.args.store = λ db left. g.met.S.Store.settled c.args.store.store db is_open left in
-    let lawful = g.met.H.Shelf.lawful c.args.shelf h in
-    let at = reopened g.S.Store view sizes c.args.store c.args.shelf away u w lawful only was.recovers c.in-Ok.registry was.sizes (λ empty. c.in-Ok.ensures.made is_open empty mid) (λ t holds. c.in-Ok.ensures.found t is_open holds mid) in
-    c.in-Err-take_up.ensures.absent h clean p (ap Err is) away was.recovers.intents u w at
+    let has = opened_tables g.S.Store c.args.store c.in-Ok.registry (λ empty. c.in-Ok.ensures.made is_open empty mid) (λ t holds. c.in-Ok.ensures.found t is_open holds mid) t stands in
+    c.in-Err-take_up.ensures.absent clean p (ap Err is) t s ts has of
 
 pub returns-in-Err-take_up-clause-disk : goal.returns-in-Err-take_up-clause-disk
-returns-in-Err-take_up-clause-disk g c h is_open closed is away u w was =
+returns-in-Err-take_up-clause-disk g c is_open closed is t stands =
     let clean : DiskKept g.S.Store c.take_up.new.self.registry = subst (λ (k : Held g.row.S.Denot). DiskKept g.S.Store k) c.close.ensures closed in
     let mid : DiskKept g.S.Store c.in-Ok.registry = omega (arith, clean, c.take_up.ensures.clean) in
-    let view = g.H.Shelf.view in
-    let sizes = g.H.Shelf.size in
-    let only : (db : Trees) → CrashLeaves g.S.Store c.args.store db → db ≡ stored g.S.Store c.args.store = λ db left. g.met.S.Store.settled c.args.store.store db is_open left in
-    let lawful = g.met.H.Shelf.lawful c.args.shelf h in
-    let at = reopened g.S.Store view sizes c.args.store c.args.shelf away u w lawful only was.recovers c.in-Ok.registry was.sizes (λ empty. c.in-Ok.ensures.made is_open empty mid) (λ t holds. c.in-Ok.ensures.found t is_open holds mid) in
-    c.in-Err-take_up.ensures.disk h clean (ap Err is) away was.recovers.intents u w at
+    let has = opened_tables g.S.Store c.args.store c.in-Ok.registry (λ empty. c.in-Ok.ensures.made is_open empty mid) (λ t holds. c.in-Ok.ensures.found t is_open holds mid) t stands in
+    c.in-Err-take_up.ensures.disk clean (ap Err is) t has
 
 pub returns-in-Err-take_up-clause-unreadable : goal.returns-in-Err-take_up-clause-unreadable
 returns-in-Err-take_up-clause-unreadable g c is_open closed is openable t s ts stands of =

@@ -4,6 +4,8 @@ use Rattle.gm_bench.specs.declared.fault.BenchFault.TheVariants.{Disk}
 use Rattle.gm_bench.proofs.Phases.{not_pending}
 use Rattle.gm_bench.proofs.Carried.{rest_answers, work, is_work, done, carried_answers, carried_leaves}
 use Rattle.gm_bench.proofs.bench.Bench.run.Goals as goal
+use Rattle.gm_bench.specs.declared.phase.Phase.TheVariants as phase
+use Rattle.gm_bench.specs.Phases.{phase_after}
 
 pub returns-in-Ok-carry_out-clause-answers : goal.returns-in-Ok-carry_out-clause-answers
 returns-in-Ok-carry_out-clause-answers g c h clean =
@@ -57,10 +59,16 @@ returns-in-Err-carry_out-clause-disk g c h clean told away u at =
     let more : (view c.accept.new.self.media.shelf).faults < (view c.carry_out.new.self.media.shelf).faults = c.in-Err-carry_out.ensures.disk (ap Err fault)
     (work g.S.Store view g.H.Shelf.size c.args.self.now.media.registry c.accept.new.self.media.registry c.args.self.now.media.shelf c.accept.new.self.media.shelf c.args.key.now c.args.command.now c.in-Ok.answer c.accept.new.self.progress answers pending)
     (is_work g.S.Store view g.H.Shelf.size c.args.self.now.media.registry c.accept.new.self.media.registry c.args.self.now.media.shelf c.accept.new.self.media.shelf c.args.key.now c.args.command.now c.in-Ok.answer c.accept.new.self.progress answers pending)
-    away u left.world left.at in
+    left.at.at.at_hand in
     omega (arith, c.accept.ensures.count, more)
 
 pub returns-in-Err-clause-disk : goal.returns-in-Err-clause-disk
 returns-in-Err-clause-disk g c h clean told away u at =
     let fault : c.in-Err.fault ≡ Disk = cc in
     c.in-Err.ensures.disk (ap Err fault)
+
+pub returns-in-Ok-carry_out-clause-undone : goal.returns-in-Ok-carry_out-clause-undone
+returns-in-Ok-carry_out-clause-undone g c clean undone =
+    let pending : phase_after c.in-Ok.answer ≡ phase.Pending = sym c.in-Ok.ensures.phase ∙ (sym c.phase.ensures ∙ c.in-Pending.is) in
+    let none : ⊥ = cc in
+    absurd none

@@ -2,6 +2,8 @@ use Rattle.std.proofs.Common.{◌≡◌, Err, ap}
 use Rattle.gm_bench.specs.declared.fault.BenchFault.TheVariants.{Unreadable}
 use Rattle.gm_bench.proofs.DecidesOnly.{found_of, at_next}
 use Rattle.gm_bench.proofs.bench.Bench.view.Goals as goal
+use Rattle.gm_state.proofs.SameRows.{same_mirror, same_component}
+use Rattle.gm_registry.proofs.OneReading.{one_reading}
 
 pub returns-in-Ok-clause-says : goal.returns-in-Ok-clause-says
 returns-in-Ok-clause-says g c h clean away ts u w at =
@@ -22,3 +24,8 @@ returns-clause-unreadable g c clean is =
 
 pub returns-clause-closed : goal.returns-clause-closed
 returns-clause-closed g c failed = absurd (c.in_default.not-Failed failed)
+
+pub returns-in-Ok-clause-shows : goal.returns-in-Ok-clause-shows
+returns-in-Ok-clause-shows g c clean t s ts has of =
+    let loaded = c.in-Ok.ensures.loaded clean t has in
+    ((one_reading same_mirror same_component t _ s _ ts loaded.0 of).0, loaded.1)

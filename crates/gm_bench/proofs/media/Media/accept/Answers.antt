@@ -1,7 +1,7 @@
 use Rattle.std.proofs.Common.{◌≡◌, true, rules}
 use Rattle.gm_commands.specs.Commands.{is_key}
 use Rattle.gm_registry.proofs.CallsLeave.{saved}
-use Rattle.gm_bench.proofs.DecidesOnly.{unstepped_same}
+use Rattle.gm_bench.proofs.DecidesOnly.{unstepped_same, reads_none}
 use Rattle.gm_bench.proofs.media.Media.accept.Goals as goal
 
 pub returns-then-not-is_key-clause-leaves : goal.returns-then-not-is_key-clause-leaves
@@ -18,3 +18,6 @@ pub returns-in-Ok-clause-readable : goal.returns-in-Ok-clause-readable
 returns-in-Ok-clause-readable g c h clean is away u at written =
     let key_ok : is_key c.args.key.now ≡ true = search rules in
     c.answer.ensures.readable h clean is away u key_ok c.in-Ok.ensures.fits at written
+
+pub returns-then-not-is_key-clause-undone : goal.returns-then-not-is_key-clause-undone
+returns-then-not-is_key-clause-undone g c clean undone = reads_none g.S.Store g.met.S.Store.settled c.args.self.now.registry

@@ -7,7 +7,7 @@ use Rattle.gm_registry.specs.Replies.{IsFree, IsKept}
 use Rattle.gm_registry.proofs.CallsLeave.{saved}
 use Rattle.gm_shelf.proofs.InTurn.{quiet_itself}
 use Rattle.gm_bench.proofs.CallAnswers.{kept_answer, same_again, other_command}
-use Rattle.gm_bench.proofs.DecidesOnly.{nothing_then, still, unstepped, then_step, ok_then}
+use Rattle.gm_bench.proofs.DecidesOnly.{nothing_then, still, unstepped, then_step, ok_then, reads_then}
 use Rattle.gm_bench.proofs.media.Media.answer.Goals as goal
 
 pub returns-then-eq-clause-leaves : goal.returns-then-eq-clause-leaves
@@ -84,3 +84,8 @@ returns-in-Ok-None-clause-kept g c clean is t has =
     let asked : DiskKept g.S.Store c.reply_of.new.self = omega (arith, clean, c.decide.ensures.clean) in
     let found = c.in-Ok-None.ensures.found asked t has in
     nothing_then g.S.Store c.args.self.now.registry c.reply_of.new.self c.decide.new.self.registry (c.reply_of.ensures.reads.left t has) (c.decide.ensures.kept clean is t found.1.tables)
+
+pub returns-in-Ok-None-clause-undone : goal.returns-in-Ok-None-clause-undone
+returns-in-Ok-None-clause-undone g c clean =
+    let asked : DiskKept g.S.Store c.reply_of.new.self = omega (arith, clean, c.decide.ensures.clean) in
+    ok_then _ _ (λ a reads undone. reads_then g.S.Store c.args.self.now.registry c.reply_of.new.self c.decide.new.self.registry (λ t has. (c.in-Ok-None.ensures.found asked t has).1.tables) c.reply_of.ensures.reads (reads undone)) c.decide.result (c.decide.ensures.undone clean)

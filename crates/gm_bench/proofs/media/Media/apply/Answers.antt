@@ -32,10 +32,10 @@ returns-in-Ok-clause-done g c h away u w at cover =
     )
 
 pub returns-in-Err-clause-disk : goal.returns-in-Err-clause-disk
-returns-in-Err-clause-disk g c away u w at is =
+returns-in-Err-clause-disk g c hand is =
     let fault : c.of_shelf.result ≡ Disk = cc in
     let size = g.H.Shelf.size c.args.self.now.shelf in
     of_disk c.in-Err.fault _ (sym c.of_shelf.ensures.value ∙ fault)
-    (λ e. let it = c.in-Err.ensures.absent (ap Err e) in not_lacking_provider size it.0 (at.at_hand it.0 it.1) it.2)
-    (λ e. let it = c.in-Err.ensures.range (ap Err e) in not_lacking_sector size it.0 (at.at_hand it.0 it.1) it.2)
+    (λ e. let it = c.in-Err.ensures.absent (ap Err e) in not_lacking_provider size it.0 (hand it.0 it.1) it.2)
+    (λ e. let it = c.in-Err.ensures.range (ap Err e) in not_lacking_sector size it.0 (hand it.0 it.1) it.2)
     (λ e. c.in-Err.ensures.device (ap Err e))

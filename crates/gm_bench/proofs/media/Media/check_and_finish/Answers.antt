@@ -3,6 +3,7 @@ use Rattle.gm_registry.proofs.CallsLeave.{saved}
 use Rattle.gm_bench.proofs.Found.{ready, covered}
 use Rattle.gm_bench.proofs.RegistryLeaves.{still_only}
 use Rattle.gm_bench.proofs.media.Media.check_and_finish.Goals as goal
+use Rattle.gm_bench.proofs.Present.{at_hand}
 
 pub returns-in-Some-clause-leaves : goal.returns-in-Some-clause-leaves
 returns-in-Some-clause-leaves g c h clean away u w at same =
@@ -18,10 +19,9 @@ returns-in-Err-clause-leaves g c h clean away u w at same =
     c.finish.ensures.leaves h clean away u w here (covered g.S.Store g.H.Shelf.view g.H.Shelf.size c.args.self.now.registry c.args.self.now.shelf away c.args.intents.now u w at lawful c.args.state.now same)
 
 pub returns-in-Err-clause-disk : goal.returns-in-Err-clause-disk
-returns-in-Err-clause-disk g c h away u w at same is =
-    let lawful = g.met.H.Shelf.lawful c.args.self.now.shelf h in
-    let here = ready g.S.Store g.H.Shelf.view g.H.Shelf.size c.args.self.now.registry c.args.self.now.shelf away c.args.intents.now u w at lawful c.args.state.now same (sym c.first_absent.ensures ∙ c.in-None.is) in
-    c.in-Err.ensures.disk away u w here is
+returns-in-Err-clause-disk g c t of is =
+    let size = g.H.Shelf.size c.args.self.now.shelf in
+    c.in-Err.ensures.disk (at_hand c.args.state.now size of.state c.args.intents.now of.readable.each (sym c.first_absent.ensures ∙ c.in-None.is)) is
 
 pub returns-in-Err-clause-moments : goal.returns-in-Err-clause-moments
 returns-in-Err-clause-moments g c h away u w at same =

@@ -72,3 +72,6 @@ pub returns-in-Err-clause-readable : goal.returns-in-Err-clause-readable
 returns-in-Err-clause-readable g c h clean is away u at can =
     let fault : c.in-Err.fault ≡ Unreadable = cc in
     c.in-Err.ensures.readable h clean (ap Err fault) away u c.args.key.now at can
+
+pub returns-in-Ok-Ok-clause-undone : goal.returns-in-Ok-Ok-clause-undone
+returns-in-Ok-Ok-clause-undone g c clean = ok_then _ _ (λ a done undone. absurd (done undone)) c.commit.result c.commit.ensures.work

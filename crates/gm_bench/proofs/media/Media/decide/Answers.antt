@@ -6,7 +6,7 @@ use Rattle.gm_registry.specs.Replies.{count_of}
 use Rattle.gm_registry.proofs.CallsLeave.{saved}
 use Rattle.gm_shelf.specs.Disk.{IsQuiet}
 use Rattle.gm_bench.proofs.CallAnswers.{as_many, free_key, too_many}
-use Rattle.gm_bench.proofs.DecidesOnly.{nothing_then, quiet_same, still, unstepped, then_step, ok_then, many_of, room_of}
+use Rattle.gm_bench.proofs.DecidesOnly.{nothing_then, quiet_same, still, unstepped, then_step, ok_then, many_of, room_of, reads_then}
 use Rattle.gm_bench.proofs.media.Media.decide.Goals as goal
 
 pub returns-in-Ok-true-clause-leaves : goal.returns-in-Ok-true-clause-leaves
@@ -111,3 +111,8 @@ returns-in-Ok-false-clause-kept g c clean is t has =
     let counted : DiskKept g.S.Store c.is_full.new.self.registry = omega (arith, clean, c.choose.ensures.clean) in
     let told = c.in-Ok-false.ensures.told counted t has in
     nothing_then g.S.Store c.args.self.now.registry c.is_full.new.self.registry c.choose.new.self.registry (c.is_full.ensures.reads.left t has) (c.choose.ensures.kept clean is t told.1)
+
+pub returns-in-Ok-false-clause-undone : goal.returns-in-Ok-false-clause-undone
+returns-in-Ok-false-clause-undone g c clean =
+    let counted : DiskKept g.S.Store c.is_full.new.self.registry = omega (arith, clean, c.choose.ensures.clean) in
+    ok_then _ _ (λ a reads undone. reads_then g.S.Store c.args.self.now.registry c.is_full.new.self.registry c.choose.new.self.registry (λ t has. (c.in-Ok-false.ensures.told counted t has).1) c.is_full.ensures.reads (reads undone)) c.choose.result (c.choose.ensures.undone clean)

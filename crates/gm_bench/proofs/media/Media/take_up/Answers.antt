@@ -1,4 +1,4 @@
-use Rattle.std.proofs.Common.{◌<◌, Err, rules, ◌≡◌, ◌∙◌, length, sym, ap, subst, arith}
+use Rattle.std.proofs.Common.{◌<◌, Err, rules, ◌≡◌, ◌∙◌, length, sym, ap, subst, arith, List}
 use Rattle.gm_bench.specs.declared.fault.BenchFault.TheVariants.{Disk, Absent, Unreadable}
 use Rattle.gm_registry.specs.Registry.{DiskKept}
 use Rattle.gm_registry.proofs.CallsLeave.{saved}
@@ -6,6 +6,10 @@ use Rattle.gm_bench.specs.Recovering.{LeavesOnly}
 use Rattle.gm_bench.proofs.RegistryLeaves.{read_only}
 use Rattle.gm_bench.proofs.TakenUp.{absent_back, moved, moments_back, leaves_back}
 use Rattle.gm_bench.proofs.media.Media.take_up.Goals as goal
+use Rattle.gm_state.specs.declared.intents.Intent.{Intent}
+use Rattle.gm_state.proofs.SameRows.{same_mirror, same_component}
+use Rattle.gm_rows.specs.ReadableTables.{AreTablesOf}
+use Rattle.gm_registry.proofs.OneReading.{one_reading}
 
 pub returns-in-Ok-check_and_finish-clause-leaves : goal.returns-in-Ok-check_and_finish-clause-leaves
 returns-in-Ok-check_and_finish-clause-leaves g c h clean away ts u w at =
@@ -82,31 +86,28 @@ returns-clause-leaves g c h clean away ts u w at =
     (λ x l. at.leads x (lawful.only_now x l)) at.leads)
 
 pub returns-in-Ok-check_and_finish-clause-there : goal.returns-in-Ok-check_and_finish-clause-there
-returns-in-Ok-check_and_finish-clause-there g c h clean away ts u w at =
+returns-in-Ok-check_and_finish-clause-there g c clean t s ts has of =
     let clean1 : DiskKept g.S.Store c.load.new.self.registry = omega (arith, clean, c.check_and_finish.ensures.clean) in
-    let said = c.in-Ok.ensures.says h clean1 away ts u w at in
-    let are : c.deref.result.now ≡ ts = c.deref.ensures.value ∙ said.1 in
-    absent_back _ _ _ _ _ _ _ said.0 (ap g.H.Shelf.size c.load.ensures.shelf) are c.in-Ok-check_and_finish.ensures.there
+    let said = c.in-Ok.ensures.loaded clean1 t has in
+    let same = one_reading same_mirror same_component t c.in-Ok.state s c.in-Ok.intents.items ts said.0 of in
+    absent_back _ _ _ _ _ _ _ same.0 (ap g.H.Shelf.size c.load.ensures.shelf) (c.deref.ensures.value ∙ same.1) c.in-Ok-check_and_finish.ensures.there
 
 pub returns-in-Ok-clause-disk : goal.returns-in-Ok-clause-disk
-returns-in-Ok-clause-disk g c h clean is away ts u w at =
+returns-in-Ok-clause-disk g c clean is t has =
     let view = g.H.Shelf.view in
-    let size = g.H.Shelf.size in
     let clean1 : DiskKept g.S.Store c.load.new.self.registry = omega (arith, clean, c.check_and_finish.ensures.clean) in
-    let said = c.in-Ok.ensures.says h clean1 away ts u w at in
-    let are : c.deref.result.now ≡ ts = c.deref.ensures.value ∙ said.1 in
-    let found = moved g.S.Store view size c.args.self.now.registry c.load.new.self.registry c.args.self.now.shelf c.load.new.self.shelf away ts u w at c.load.ensures.shelf c.deref.result.now are said.2 in
-    let h1 : g.H.Shelf.honest c.load.new.self.shelf = subst g.H.Shelf.honest (sym c.load.ensures.shelf) h in
+    let said = c.in-Ok.ensures.loaded clean1 t has in
+    let of : AreTablesOf t c.in-Ok.state c.deref.result.now = subst (λ (ts : List Intent). AreTablesOf t c.in-Ok.state ts) (sym c.deref.ensures.value) said.0 in
     let fault : c.in-Err-check_and_finish.fault ≡ Disk = cc in
-    subst (λ (x : g.row.H.Denot). (view x).faults < (view c.check_and_finish.new.self.shelf).faults) c.load.ensures.shelf (c.in-Err-check_and_finish.ensures.disk h1 away u w found said.0 (ap Err fault))
+    subst (λ (x : g.row.H.Denot). (view x).faults < (view c.check_and_finish.new.self.shelf).faults) c.load.ensures.shelf (c.in-Err-check_and_finish.ensures.disk t of (ap Err fault))
 
 pub returns-in-Ok-clause-absent : goal.returns-in-Ok-clause-absent
-returns-in-Ok-clause-absent g c h clean p is away ts u w at =
+returns-in-Ok-clause-absent g c clean p is t s ts has of =
     let clean1 : DiskKept g.S.Store c.load.new.self.registry = omega (arith, clean, c.check_and_finish.ensures.clean) in
-    let said = c.in-Ok.ensures.says h clean1 away ts u w at in
-    let are : c.deref.result.now ≡ ts = c.deref.ensures.value ∙ said.1 in
+    let said = c.in-Ok.ensures.loaded clean1 t has in
+    let same = one_reading same_mirror same_component t c.in-Ok.state s c.in-Ok.intents.items ts said.0 of in
     let fault : c.in-Err-check_and_finish.fault ≡ Absent p = cc in
-    absent_back _ _ _ _ _ _ _ said.0 (ap g.H.Shelf.size c.load.ensures.shelf) are (c.in-Err-check_and_finish.ensures.absent p (ap Err fault)).0
+    absent_back _ _ _ _ _ _ _ same.0 (ap g.H.Shelf.size c.load.ensures.shelf) (c.deref.ensures.value ∙ same.1) (c.in-Err-check_and_finish.ensures.absent p (ap Err fault)).0
 
 pub returns-clause-unreadable : goal.returns-clause-unreadable
 returns-clause-unreadable g c clean is =
