@@ -1,0 +1,98 @@
+//! The hash of a sector is taken from the library `md5`. The sums here are those of RFC 1321, and
+//! that of the written sector is `md5sum`'s of its first 119 bytes.
+
+use gm_metadata::{Balance, DiskFlags, Label, Metadata, MirrorFlags};
+use gm_shelf::{MemShelf, Shelf, write_meta};
+use gm_words::dump_text;
+use md5::{Digest, Md5};
+use std::test::Fail;
+
+// The sum of no bytes.
+const OF_NOTHING: [u8; 16] = [
+    0xd4, 0x1d, 0x8c, 0xd9, 0x8f, 0x00, 0xb2, 0x04, 0xe9, 0x80, 0x09, 0x98, 0xec, 0xf8, 0x42, 0x7e,
+];
+
+// The sum of `abc`.
+const OF_ABC: [u8; 16] = [
+    0x90, 0x01, 0x50, 0x98, 0x3c, 0xd2, 0x4f, 0xb0, 0xd6, 0x96, 0x3f, 0x7d, 0x28, 0xe1, 0x7f, 0x72,
+];
+
+const DUMP: &str = "magic: GEOM::MIRROR
+version: 4
+name: gm0
+mid: 3735928559
+did: 2
+all: 3
+genid: 5
+syncid: 6
+priority: 200
+slice: 8192
+balance: split
+mediasize: 1536
+sectorsize: 512
+sync_offset: 1024
+mflags: NOAUTOSYNC
+dflags: SYNCHRONIZING,FORCE_SYNC
+provider: b.img
+provsize: 2048
+md5: ec98fb0a2490959db21eed6541d8a025
+";
+
+fn label(text: &str) -> Result<Label, Fail> {
+    Ok(Label::new(text).ok_or("no label")?)
+}
+
+// Each field has a value that no other one has.
+fn metadata() -> Result<Metadata, Fail> {
+    Ok(Metadata {
+        name: label("gm0")?,
+        mid: 3735928559,
+        did: 2,
+        all: 3,
+        genid: 5,
+        syncid: 6,
+        priority: 200,
+        slice: 8192,
+        balance: Balance::Split,
+        mediasize: 1536,
+        sync_offset: 1024,
+        mflags: MirrorFlags {
+            no_autosync: true,
+            no_failsync: false,
+        },
+        dflags: DiskFlags {
+            dirty: false,
+            synchronizing: true,
+            force_sync: true,
+            inactive: false,
+        },
+        provider: Some(label("b.img")?),
+        provsize: 2048,
+    })
+}
+
+#[test]
+fn the_hash_is_that_of_rfc_1321(rt: HostRuntime) -> Result<(), Fail> {
+    let nothing: [u8; 16] = Md5::digest(b"").into();
+    assert_eq!(rt; nothing, OF_NOTHING);
+    let abc: [u8; 16] = Md5::digest(b"abc").into();
+    assert_eq!(rt; abc, OF_ABC);
+    Ok(())
+}
+
+#[test]
+fn a_written_sector_says_its_metadata(rt: HostRuntime) -> Result<(), Fail> {
+    let alloc = rt.alloc();
+    let name = label("b.img")?;
+    let mut shelf = MemShelf::new(alloc);
+    assert!(rt; shelf.sectors(name).is_none());
+    shelf.add(name, vec![in alloc; [7; 512]; 4]?)?;
+    write_meta(&mut shelf, name, &metadata()?)?;
+    let mut last = [0; 512];
+    shelf.read(name, 3, &mut last)?;
+    let text = dump_text(alloc, &last)?;
+    assert_eq!(rt; text.as_str(), DUMP);
+    shelf.read(name, 2, &mut last)?;
+    assert!(rt; last == [7; 512]);
+    Ok(())
+}
