@@ -59,8 +59,8 @@ module _ {S H : Type 0} (g : Ghosts S) (view : H → View) (size : H → Sizes) 
         subst (λ (x : Answer). IsRun g view size end l away u key c x) (sym (told.1 ∙ (λ i. answer_of (is_done i))))
         (record { world = d.world; calls = d.calls; at = does away u d.world d.at })
 
-    pub carried_leaves : (end : Held S) (l : H) → ((away : Image) (u : World) → IsAt g view size r h away [] u u → LeavesStep g view size r s h k away u key c)
+    pub carried_leaves : (end : Held S) (l : H) → size k ≡ size h → ((away : Image) (u : World) → IsAt g view size r h away [] u u → LeavesStep g view size r s h k away u key c)
         → ((away : Image) (u w : World) → IsAtWork g view size s k away work u w → LeavesOnly g view size s end k l away u w) → RunLeaves g view size r end h l key c
-    carried_leaves end l accepting leaves away u at =
+    carried_leaves end l sizes accepting leaves away u at =
         let d = done away u at in
-        record { registry = s; shelf = k; accepting = accepting away u at; carrying = inr (d.world, reply, d.calls.3, leaves away u d.world d.at) }
+        record { registry = s; shelf = k; sizes = sizes; accepting = accepting away u at; carrying = inr (d.world, reply, d.calls.3, leaves away u d.world d.at) }

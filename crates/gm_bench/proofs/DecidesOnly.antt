@@ -27,10 +27,6 @@ module _ {S H : Type 0} (g : Ghosts S) (view : H → View) (size : H → Sizes) 
   abbrev pub found_of : IsFound g view size r h away ts u w
   found_of = record { tables = at.tables; has = at.has; sizes = at.sizes; leads = at.leads }
 
-  -- the same tables in another registry, with the same shelf
-  abbrev pub at_next : (s : Held S) (k : H) → k ≡ h → HasTables g s at.tables → IsAt g view size s k away ts u w
-  at_next s k same has = subst (λ (x : H). IsAt g view size s x away ts u w) (sym same) (record { tables = at.tables; has = has; sizes = at.sizes; at_hand = at.at_hand; leads = at.leads })
-
 -- a shelf that was only read
 module _ {S H : Type 0} (g : Ghosts S) (view : H → View) (size : H → Sizes) (r : Held S) (h k : H) (away : Image) (ts : List Intent) (u w : World) (at : IsAt g view size r h away ts u w) (quiet : IsQuiet (view h) (view k)) (same : size k ≡ size h) where
   -- the same tables, in whatever phase

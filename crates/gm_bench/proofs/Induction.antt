@@ -14,6 +14,7 @@ use Rattle.gm_state.specs.declared.intents.Intent.{Intent}
 use Rattle.gm_state.specs.declared.intents.Reply.{Reply}
 use Rattle.gm_state.specs.declared.records.Mirror.{Mirror}
 use Rattle.gm_state.specs.declared.records.Component.{Component}
+use Rattle.gm_state.specs.Intents.{IsAtHand}
 use Rattle.gm_state.specs.Records.{IsState, name, provider}
 use Rattle.gm_state.specs.Rows.{Tables, HoldRecords, mirror_row, component_row, answer_row}
 use Rattle.gm_lists.specs.Ordered.{Has, Ascends}
@@ -24,11 +25,14 @@ use Rattle.gm_registry.specs.Registry.{stored}
 use Rattle.gm_rows.specs.Tables.{no_tables}
 use Rattle.gm_bench.specs.declared.answer.Accepted.{Accepted}
 use Rattle.gm_bench.specs.declared.answer.Accepted.TheVariants.{Done, Repeated, Refused}
-use Rattle.gm_bench.specs.Owed.{AcceptAnswers, IsLeft}
+use Rattle.gm_bench.specs.declared.answer.Answer.{Answer}
+use Rattle.gm_bench.specs.declared.answer.Answer.TheVariants as run
+use Rattle.gm_bench.specs.declared.answer.Work.{Work}
+use Rattle.gm_bench.specs.Owed.{AcceptAnswers, IsLeft, LeavesRun, LookDoes, LookLeaves, RunAnswers}
 use Rattle.gm_bench.specs.Leading.{AreAmong, whole, Leads, KeepsClaims, AllLead}
-use Rattle.gm_bench.specs.Recovering.{Recovers, IsShelfOf, LeavesOnly}
+use Rattle.gm_bench.specs.Recovering.{Recovers, IsAt, IsShelfOf, LeavesOnly}
 use Rattle.gm_bench.specs.Accepting.{LeavesStep, OrStep}
-use Rattle.gm_bench.specs.Schedule.{Phase, Event, Accept_returned, Accept_stopped, Apply_returned, Apply_stopped, Settle_returned, Settle_stopped, Open_returned, Open_stopped, Now, none, skips, keeps, Moved, Without_returned, Without_stopped, Without_carrying, Entry, Handed_in, Without, IsNew, IsButMoved, IsStepTo, IsStepWithout, Reached, IsLastStep, ArePending, LeavesCommit, IsMove, HasCount, IsLeftIn, IsStop, after_answer, Happens, IsStart, Runs, AtRest, OnTheWay, Stopped, Headline, Within}
+use Rattle.gm_bench.specs.Schedule.{Phase, Event, Accept_returned, Accept_stopped, Apply_returned, Apply_stopped, Settle_returned, Settle_stopped, Run_returned, Run_stopped, Look_returned, Look_stopped, Open_returned, Open_stopped, Now, none, skips, keeps, Moved, Without_returned, Without_stopped, Without_carrying, Entry, Handed_in, Without, IsNew, IsButMoved, IsStepTo, IsStepWithout, Reached, IsLastStep, ArePending, LeavesCommit, IsMove, HasCount, IsLeftIn, IsStop, IsRunStop, IsOpenOver, after_answer, after_run, with_media, Happens, IsStart, Runs, AtRest, OnTheWay, Stopped, Headline, Within}
 use Rattle.gm_bench.proofs.WorldAtRest.{rest_leads, rest_claims}
 
 -- ---- the world that a schedule starts in
@@ -239,44 +243,122 @@ module _ {S H : Type 0} (g : Ghosts S) (view : H → View) (size : H → Sizes) 
       subst At (sym is) (record { world = was.world; reached = was.reached; at = (clause m.away was.world was.at).1; told = was.told })
 
   -- a commit that was stopped stands, or not
-  accept_stopped : (call : Call) (r s : Held S) (h k : H) (db : Trees) (l : H) (away : Image) (acc ack after : List Entry) (was : AtRest g view size all r h away acc ack) → IsLeftIn db (Handed_in call) acc after
-      → LeavesStep g view size r s h k away was.world call.key call.command → IsStop g view size r s h k db l → Stopped g view size all db l away after ack
-  accept_stopped call r s h k db l away acc ack after was left clause stop =
+  left_by : (call : Call) (r : Held S) (h : H) (db : Trees) (l : H) (away : Image) (acc ack after : List Entry) (was : AtRest g view size all r h away acc ack) → IsLeftIn db (Handed_in call) acc after → size l ≡ size h → (view l).may_leave (view l).seen
+      → OrStep was.world call.key call.command (λ w. Recovers db (size h) away (view l).may_leave was.world w) → Stopped g view size all db l away after ack
+  left_by call r h db l away acc ack after was left same there either =
       let u : World = was.world in
       let many : length u.answered ≡ length acc = answered_many all acc u was.reached in
-      let either : OrStep u call.key call.command (λ w. Recovers db (size h) away (view l).may_leave u w) = elim stop.2 [
-        | inl within ↦ inl (fewer db (size h) away ((view k).left_since (view h).moment) (view l).may_leave u u (clause.within db within.0) within.1)
-        | inr end ↦ elim (clause.end db end.0) [
-          | inl r ↦ inl (fewer db (size h) away (view k).may_leave (view l).may_leave u u r end.1)
-          | inr r ↦ inr (r.0, r.1, r.2, fewer db (size h) away (view k).may_leave (view l).may_leave u r.0 r.3 end.1)
-        ]
-      ] in
-      let resized : (w : World) → Recovers db (size h) away (view l).may_leave u w → Recovers db (size l) away (view l).may_leave u w = λ w. subst (λ (z : Sizes). Recovers db z away (view l).may_leave u w) (sym stop.0) in
+      let resized : (w : World) → Recovers db (size h) away (view l).may_leave u w → Recovers db (size l) away (view l).may_leave u w = λ w. subst (λ (z : Sizes). Recovers db z away (view l).may_leave u w) (sym same) in
       elim left [
         | inl before ↦
             subst (λ (list : List Entry). Stopped g view size all db l away list ack) (sym before.0)
             (elim either [
-              | inl r ↦ record { world = u; before = u; reached = was.reached; last = inl (stays u); sizes = was.at.sizes ∙ sym stop.0; recovers = resized u r; told = was.told }
+              | inl r ↦ record { world = u; before = u; reached = was.reached; last = inl (stays u); sizes = was.at.sizes ∙ sym same; recovers = resized u r; told = was.told }
               | inr r ↦
-                  let n = counts db (size h) away (view l).may_leave (view l).seen u r.0 (length acc) stop.1 r.3 before.1 in
+                  let n = counts db (size h) away (view l).may_leave (view l).seen u r.0 (length acc) there r.3 before.1 in
                   let m : length r.0.answered ≡ suc (length u.answered) = ap length r.2.answered in
                   absurd (omega (arith, n, m, many))
             ])
         | inr stands ↦
             subst (λ (list : List Entry). Stopped g view size all db l away list ack) (sym stands.0)
             (elim either [
-              | inl r ↦ (let n = counts db (size h) away (view l).may_leave (view l).seen u u (length acc + 1) stop.1 r stands.1 in absurd (omega (arith, n, many)))
+              | inl r ↦ (let n = counts db (size h) away (view l).may_leave (view l).seen u u (length acc + 1) there r stands.1 in absurd (omega (arith, n, many)))
               | inr r ↦ record {
                 world = r.0;
                 before = u;
                 reached = (u, was.reached, one_step u r.0 call r.1 r.2);
                 last = inr (was.reached, one_step u r.0 call r.1 r.2);
-                sizes = step_present u r.0 call.key call.command r.1 r.2 ∙ (was.at.sizes ∙ sym stop.0);
+                sizes = step_present u r.0 call.key call.command r.1 r.2 ∙ (was.at.sizes ∙ sym same);
                 recovers = resized r.0 r.3;
                 told = skips was.told;
               }
             ])
       ]
+
+  accept_stopped : (call : Call) (r s : Held S) (h k : H) (db : Trees) (l : H) (away : Image) (acc ack after : List Entry) (was : AtRest g view size all r h away acc ack) → IsLeftIn db (Handed_in call) acc after
+      → LeavesStep g view size r s h k away was.world call.key call.command → IsStop g view size r s h k db l → Stopped g view size all db l away after ack
+  accept_stopped call r s h k db l away acc ack after was left clause stop =
+      let u : World = was.world in
+      left_by call r h db l away acc ack after was left stop.0 stop.1 (elim stop.2 [
+        | inl within ↦ inl (fewer db (size h) away ((view k).left_since (view h).moment) (view l).may_leave u u (clause.within db within.0) within.1)
+        | inr end ↦ elim (clause.end db end.0) [
+          | inl r ↦ inl (fewer db (size h) away (view k).may_leave (view l).may_leave u u r end.1)
+          | inr r ↦ inr (r.0, r.1, r.2, fewer db (size h) away (view k).may_leave (view l).may_leave u r.0 r.3 end.1)
+        ]
+      ])
+
+  -- a run was stopped within its accepting, or behind that
+  run_stopped : (call : Call) (r s : Held S) (h k : H) (db : Trees) (l : H) (away : Image) (acc ack after : List Entry) (was : AtRest g view size all r h away acc ack) → IsLeftIn db (Handed_in call) acc after
+      → (it : LeavesRun g view size r s h k away was.world call.key call.command) → IsRunStop g view size r s h k away was.world call it db l → Stopped g view size all db l away after ack
+  run_stopped call r s h k db l away acc ack after was left it (inl stop) =
+      accept_stopped call r it.registry h it.shelf db l away acc ack after was left it.accepting stop
+  run_stopped call r s h k db l away acc ack after was left it (inr (w, reply, step, leaves, stop)) =
+      let same : size l ≡ size h = stop.0 ∙ it.sizes in
+      let led_on = subst (λ (z : Sizes). Recovers db z away (view l).may_leave was.world w) same (led it.registry s it.shelf k db l away was.world w leaves stop) in
+      left_by call r h db l away acc ack after was left same stop.1 (inr (w, reply, step, led_on))
+
+  run_answered : (call : Call) (a : Answer) (r s : Held S) (h k : H) (m n : Now (Held S) H) → AtRest g view size all r h m.away m.accepted m.acknowledged → n ≡ after_run m call a s k → RunAnswers g view size r s h k call.key call.command a → At n
+  run_answered call (run.Done i reply) r s h k m n was is clause =
+      let it = clause m.away was.world was.at in
+      let step : Step was.world call.key call.command it.world reply = it.calls.3 in
+      subst At (sym is) (record {
+        world = it.world;
+        reached = (was.world, was.reached, one_step was.world it.world call reply step);
+        at = it.at;
+        told = keeps was.told;
+      })
+  run_answered call (run.Repeated i reply) r s h k m n was is clause =
+      let it = clause m.away was.world was.at in
+      subst At (sym is) (record { world = it.world; reached = subst (Reached all m.accepted) (sym it.calls.0) was.reached; at = it.at; told = was.told })
+  run_answered call (run.Refused why) r s h k m n was is clause =
+      let it = clause m.away was.world was.at in
+      subst At (sym is) (record { world = it.world; reached = subst (Reached all m.accepted) (sym it.calls.0) was.reached; at = it.at; told = was.told })
+
+  -- ---- a look
+
+  abbrev looked_at : (r s : Held S) (h k : H) (away : Image) (ts : List Intent) (u w : World) → LookDoes g view size r s h k → IsAt g view size r h away ts u w → IsAt g view size s k away ts u w
+  looked_at r s h k away ts u w does at = record {
+    tables = at.tables;
+    has = does.tables at.tables at.has;
+    sizes = at.sizes ∙ sym does.sizes;
+    at_hand = subst (λ (z : Sizes). (t : Intent) → Has ts t → IsAtHand z t) (sym does.sizes) at.at_hand;
+    leads = subst (λ (z : Sizes). AllLead at.tables ts z away (view k).may_leave u w) (sym does.sizes) (λ x l. at.leads x (does.images x l));
+  }
+
+  abbrev looked_on : (r s : Held S) (h k : H) (away : Image) (work : Work) (acc ack : List Entry) → LookDoes g view size r s h k → OnTheWay g view size all r h away work acc ack → OnTheWay g view size all s k away work acc ack
+  looked_on r s h k away work acc ack does o = record {
+    world = o.world;
+    before = o.before;
+    reached = o.reached;
+    last = o.last;
+    at = record { at = looked_at r s h k away work.intents.items o.before o.world does o.at.at; cover = o.at.cover };
+    told = o.told;
+  }
+
+  looked : (r s : Held S) (h k : H) (m : Now (Held S) H) → IsOpenOver m.phase r h → LookDoes g view size r s h k → At m → AtPhase m (with_media m.phase s k)
+  looked r s h k m (inl phase) does was =
+      let o : AtRest g view size all r h m.away m.accepted m.acknowledged = subst (AtPhase m) phase was in
+      let after : AtRest g view size all s k m.away m.accepted m.acknowledged = record { world = o.world; reached = o.reached; at = looked_at r s h k m.away [] o.world o.world does o.at; told = o.told } in
+      subst (λ (p : Phase (Held S) H). AtPhase m (with_media p s k)) (sym phase) after
+  looked r s h k m (inr (work, inl phase)) does was =
+      let o : OnTheWay g view size all r h m.away work m.accepted m.acknowledged = subst (AtPhase m) phase was in
+      subst (λ (p : Phase (Held S) H). AtPhase m (with_media p s k)) (sym phase) (looked_on r s h k m.away work m.accepted m.acknowledged does o)
+  looked r s h k m (inr (work, inr phase)) does was =
+      let o : (o : OnTheWay g view size all r h m.away work m.accepted m.acknowledged) × IsShelfOf (view h) o.world (size h) = subst (AtPhase m) phase was in
+      let shelf : IsShelfOf (view k) o.0.world (size k) = subst (λ (z : Sizes). IsShelfOf (view k) o.0.world z) (sym does.sizes) (λ x l. o.1 x (does.images x l)) in
+      subst (λ (p : Phase (Held S) H). AtPhase m (with_media p s k)) (sym phase) (looked_on r s h k m.away work m.accepted m.acknowledged does o.0, shelf)
+
+  look_stopped : (r s : Held S) (h k : H) (db : Trees) (l : H) (m : Now (Held S) H) → IsOpenOver m.phase r h → LookLeaves g view size r s h k → IsStop g view size r s h k db l → At m → Stopped g view size all db l m.away m.accepted m.acknowledged
+  look_stopped r s h k db l m (inl phase) leaves stop was =
+      let o : AtRest g view size all r h m.away m.accepted m.acknowledged = subst (AtPhase m) phase was in
+      stopped r s h k db l m.away o.world o.world m.accepted m.acknowledged o.reached (inl (stays o.world)) o.at.sizes o.told (leaves m.away [] o.world o.world o.at) stop
+  look_stopped r s h k db l m (inr (work, inl phase)) leaves stop was =
+      let o : OnTheWay g view size all r h m.away work m.accepted m.acknowledged = subst (AtPhase m) phase was in
+      stopped r s h k db l m.away o.before o.world m.accepted m.acknowledged o.reached (inr (last_pending all m.accepted o.before o.world o.last)) o.at.at.sizes o.told (leaves m.away work.intents.items o.before o.world o.at.at) stop
+  look_stopped r s h k db l m (inr (work, inr phase)) leaves stop was =
+      let it : (o : OnTheWay g view size all r h m.away work m.accepted m.acknowledged) × IsShelfOf (view h) o.world (size h) = subst (AtPhase m) phase was in
+      let o = it.0 in
+      stopped r s h k db l m.away o.before o.world m.accepted m.acknowledged o.reached (inr (last_pending all m.accepted o.before o.world o.last)) o.at.at.sizes o.told (leaves m.away work.intents.items o.before o.world o.at.at) stop
 
   -- the commit of an opening without a provider was stopped: it stands, or not
   without_stopped : (call : Call) (p : List ℕ) (gone : List Intent) (o s : Held S) (h : H) (db : Trees) (l : H) (away : Image) (acc ack after : List Entry) (was : Stopped g view size all (stored g o) h away acc ack) → IsLeftIn db (Without call p gone) acc after
@@ -362,6 +444,13 @@ module _ {S H : Type 0} (g : Ghosts S) (view : H → View) (size : H → Sizes) 
   next m (Settle_stopped s db l) n was (r, h, work, phase, is, clause, stop) =
       let o : (o : OnTheWay g view size all r h m.away work m.accepted m.acknowledged) × IsShelfOf (view h) o.world (size h) = subst (AtPhase m) phase was in
       subst At (sym is) (stopped r s h h db l m.away o.0.before o.0.world m.accepted m.acknowledged o.0.reached (inr (last_pending all m.accepted o.0.before o.0.world o.0.last)) o.0.at.at.sizes o.0.told (clause m.away o.0.before o.0.world o.0.at o.1) stop)
+  next m (Run_returned call a s k) n was (r, h, phase, is, clause) =
+      run_answered call a r s h k m n (subst (AtPhase m) phase was) is clause
+  next m (Run_stopped call s k db l) n was (r, h, phase, after, is, left, leaves, stop) =
+      let rest : AtRest g view size all r h m.away m.accepted m.acknowledged = subst (AtPhase m) phase was in
+      subst At (sym is) (run_stopped call r s h k db l m.away m.accepted m.acknowledged after rest left (leaves m.away rest.world rest.at) (stop m.away rest.world rest.at))
+  next m (Look_returned s k) n was (r, h, over, is, does) = subst At (sym is) (looked r s h k m over does was)
+  next m (Look_stopped s k db l) n was (r, h, over, is, leaves, stop) = subst At (sym is) (look_stopped r s h k db l m over leaves stop was)
   next m (Moved beyond later) n was (db, h, phase, is, move) =
       let o : Stopped g view size all db h m.away m.accepted m.acknowledged = subst (AtPhase m) phase was in
       subst At (sym is) (moved db h later m.away beyond m.accepted m.acknowledged move o)

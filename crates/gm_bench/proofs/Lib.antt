@@ -13,6 +13,7 @@ pub mod Found
 pub mod GatheredFacts
 pub mod Induction
 pub mod Listed
+pub mod Looks
 pub mod LossCommits
 pub mod LossLists
 pub mod LossReadable

@@ -9,13 +9,15 @@ use Rattle.gm_commands.specs.declared.command.Command.{Command}
 use Rattle.gm_state.specs.declared.intents.Reply.{Reply}
 use Rattle.gm_state.specs.World.{World, present}
 use Rattle.gm_rules.specs.Step.{Step}
-use Rattle.gm_registry.specs.Registry.{stored}
+use Rattle.gm_registry.specs.Registry.{stored, HasTables}
 use Rattle.gm_bench.specs.declared.answer.Accepted.{Accepted}
 use Rattle.gm_bench.specs.declared.answer.Answer.{Answer}
 use Rattle.gm_bench.specs.declared.answer.Work.{Work}
 use Rattle.gm_bench.specs.Recovering.{Recovers, IsAt, IsAtWork, IsShelfOf, LeavesOnly}
 use Rattle.gm_bench.specs.Accepting.{LeavesStep, IsAnswered}
 use Rattle.gm_bench.specs.Running.{IsRun}
+use Rattle.gm_state.specs.declared.intents.Intent.{Intent}
+use Rattle.gm_state.specs.Rows.{Tables}
 
 -- What stands between a call's start, with the registry r and the shelf h, and its end, with s and k.
 module _ {S H : Type 0} (g : Ghosts S) (view : H → View) (size : H → Sizes) where
@@ -54,6 +56,7 @@ module _ {S H : Type 0} (g : Ghosts S) (view : H → View) (size : H → Sizes) 
   pub record LeavesRun (r s : Held S) (h k : H) (away : Image) (u : World) (key : List ℕ) (c : Command) : Type 0 where
     pub registry : Held S
     pub shelf : H
+    pub sizes : size shelf ≡ size h
     pub accepting : LeavesStep g view size r registry h shelf away u key c
     pub carrying :
         ((registry ≡ s) × (shelf ≡ k))
@@ -79,3 +82,15 @@ module _ {S H : Type 0} (g : Ghosts S) (view : H → View) (size : H → Sizes) 
 
   abbrev pub OpenDoes : Held S → Held S → H → H → Type 0
   OpenDoes store s h k = (away : Image) (u w : World) → IsLeft store h away u w → IsAt g view size s k away [] w w
+
+  -- A look: the tables stay, a crash leaves no image that it couldn't leave before, and the sizes stay.
+  pub record LookDoes (r s : Held S) (h k : H) : Type 0 where
+    pub tables : (t : Tables) → HasTables g r t → HasTables g s t
+    pub images : (x : Image) → (view k).may_leave x → (view h).may_leave x
+    pub sizes : size k ≡ size h
+
+  -- what a look leaves that is stopped leads on as before
+  abbrev pub LookLeaves : Held S → Held S → H → H → Type 0
+  LookLeaves r s h k =
+      (away : Image) (ts : List Intent) (u w : World) → IsAt g view size r h away ts u w
+      → LeavesOnly g view size r s h k away u w

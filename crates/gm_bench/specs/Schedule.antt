@@ -22,8 +22,10 @@ use Rattle.gm_bench.specs.Losing.{dropped}
 use Rattle.gm_bench.specs.declared.answer.Work.{Work}
 use Rattle.gm_bench.specs.declared.answer.Accepted.{Accepted}
 use Rattle.gm_bench.specs.declared.answer.Accepted.TheVariants.{Done, Repeated, Refused}
+use Rattle.gm_bench.specs.declared.answer.Answer.TheVariants as run
 use Rattle.gm_bench.specs.Recovering.{IsStored, Recovers, IsAt, IsAtWork, IsShelfOf, LeavesOnly}
-use Rattle.gm_bench.specs.Owed.{AcceptLeaves, AcceptAnswers, ApplyLeaves, ApplyDoes, SettleLeaves, SettleDoes, OpenLeaves, OpenDoes, IsLeft}
+use Rattle.gm_bench.specs.Owed.{AcceptLeaves, AcceptAnswers, ApplyLeaves, ApplyDoes, SettleLeaves, SettleDoes, OpenLeaves, OpenDoes, IsLeft, RunAnswers, RunLeaves, LeavesRun, LookDoes, LookLeaves}
+use Rattle.gm_bench.specs.declared.answer.Answer.{Answer}
 
 -- How a command was accepted: handed in to a bench at rest; or by an opening without a provider, of which these intents of
 -- earlier commands were taken out.
@@ -47,6 +49,10 @@ pub data Event (R H : Type 0) : Type 0 where
   Apply_stopped : (shelf : H) (db : Trees) (later : H) → Event R H
   Settle_returned : (registry : R) → Event R H
   Settle_stopped : (registry : R) (db : Trees) (later : H) → Event R H
+  Run_returned : (call : Call) (answer : Answer) (registry : R) (shelf : H) → Event R H
+  Run_stopped : (call : Call) (registry : R) (shelf : H) (db : Trees) (later : H) → Event R H
+  Look_returned : (registry : R) (shelf : H) → Event R H
+  Look_stopped : (registry : R) (shelf : H) (db : Trees) (later : H) → Event R H
   Moved : (away : Image) (later : H) → Event R H
   Open_returned : (store registry : R) (shelf : H) → Event R H
   Open_stopped : (store registry : R) (shelf : H) (db : Trees) (later : H) → Event R H
@@ -67,6 +73,24 @@ after_answer m call (Done n reply work) s k =
     record m { phase = Pending s k work; accepted = Handed_in call ∷ m.accepted; acknowledged = Handed_in call ∷ m.acknowledged }
 after_answer m call (Repeated n reply) s k = record m { phase = Ready s k }
 after_answer m call (Refused why) s k = record m { phase = Ready s k }
+
+-- a command that is run is accepted and acknowledged where it is done; after another answer nothing has changed
+abbrev pub after_run : {R H : Type 0} → Now R H → Call → Answer → R → H → Now R H
+after_run m call (run.Done n reply) s k =
+    record m { phase = Ready s k; accepted = Handed_in call ∷ m.accepted; acknowledged = Handed_in call ∷ m.acknowledged }
+after_run m call (run.Repeated n reply) s k = record m { phase = Ready s k }
+after_run m call (run.Refused why) s k = record m { phase = Ready s k }
+
+-- the bench is open, over these media
+abbrev pub IsOpenOver : {R H : Type 0} → Phase R H → R → H → Type 0
+IsOpenOver p r h = (p ≡ Ready r h) ⊎ ((work : Work) × ((p ≡ Pending r h work) ⊎ (p ≡ Applied r h work)))
+
+-- an open bench over other media, as far with its command as before
+abbrev pub with_media : {R H : Type 0} → Phase R H → R → H → Phase R H
+with_media (Ready r h) s k = Ready s k
+with_media (Pending r h work) s k = Pending s k work
+with_media (Applied r h work) s k = Applied s k work
+with_media (Down db h) s k = Down db h
 
 -- in order, some left out
 pub data Within {A : Type 0} : List A → List A → Type 0 where
@@ -152,6 +176,14 @@ module _ {S H : Type 0} (g : Ghosts S) (view : H → View) (size : H → Sizes) 
       × ((CrashLeaves g r db × ((x : Image) → (view l).may_leave x → (view k).left_since (view h).moment x))
       ⊎ (CrashLeaves g s db × ((x : Image) → (view l).may_leave x → (view k).may_leave x)))
 
+  -- one store and one shelf that a stop within a run leaves: within the accepting, or behind it, while the step is
+  -- carried out
+  abbrev pub IsRunStop : (r s : Held S) (h k : H) (away : Image) (u : World) (call : Call) → LeavesRun g view size r s h k away u call.key call.command → Trees → H → Type 0
+  IsRunStop r s h k away u call it db l =
+      IsStop r it.registry h it.shelf db l
+      ⊎ ((w : World) × (reply : Reply) × Step u call.key call.command w reply
+      × LeavesOnly g view size it.registry s it.shelf k away u w × IsStop it.registry s it.shelf k db l)
+
   -- An opening without a provider: until its commit nothing is written to the shelf, and what a stop leaves leads to w; the
   -- commit leaves that, or what leads to the step.
   pub record LeavesCommit (store mid : Held S) (h : H) (away : Image) (u w : World) (call : Call) (provider : List ℕ) (gone : List Intent) : Type 0 where
@@ -206,6 +238,20 @@ module _ {S H : Type 0} (g : Ghosts S) (view : H → View) (size : H → Sizes) 
     Happens m (Settle_stopped s db l) n =
         (r : Held S) × (h : H) × (work : Work) × (m.phase ≡ Applied r h work)
         × (n ≡ record m { phase = Down db l }) × SettleLeaves g view size r s h work × IsStop r s h h db l
+    Happens m (Run_returned call answer s k) n =
+        (r : Held S) × (h : H) × (m.phase ≡ Ready r h) × (n ≡ after_run m call answer s k)
+        × RunAnswers g view size r s h k call.key call.command answer
+    Happens m (Run_stopped call s k db l) n =
+        (r : Held S) × (h : H) × (m.phase ≡ Ready r h)
+        × (left : List Entry) × (n ≡ record m { phase = Down db l; accepted = left }) × IsLeftIn db (Handed_in call) m.accepted left
+        × (leaves : RunLeaves g view size r s h k call.key call.command)
+        × ((away : Image) (u : World) (at : IsAt g view size r h away [] u u) → IsRunStop r s h k away u call (leaves away u at) db l)
+    Happens m (Look_returned s k) n =
+        (r : Held S) × (h : H) × IsOpenOver m.phase r h × (n ≡ record m { phase = with_media m.phase s k })
+        × LookDoes g view size r s h k
+    Happens m (Look_stopped s k db l) n =
+        (r : Held S) × (h : H) × IsOpenOver m.phase r h
+        × (n ≡ record m { phase = Down db l }) × LookLeaves g view size r s h k × IsStop r s h k db l
     Happens m (Moved beyond later) n =
         (db : Trees) × (h : H) × (m.phase ≡ Down db h) × (n ≡ record m { phase = Down db later; away = beyond })
         × IsMove all h m.away later beyond

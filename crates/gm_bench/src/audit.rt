@@ -1,19 +1,17 @@
 //! Which components the shelf shows otherwise than they are registered. Nothing is written.
 
-ghost use Rattle.std.specs.Prelude.{◌≡◌, ◌≤◌, ◌<◌, ◌↔◌, List, Some, IsTrue, IfOk, IfErr, IsErrOf};
-ghost use Rattle.gm_metadata.specs.Images.{Image};
+ghost use Rattle.std.specs.Prelude.{◌≡◌, ◌≤◌, ◌<◌, ◌↔◌, List, Some, IsTrue, IfOk, IfErr, IsErrOf, OnOk};
 ghost use Rattle.gm_shelf.specs.Disk.{AreReads};
 ghost use Rattle.gm_state.specs.declared.intents.Intent.{Intent};
 ghost use Rattle.gm_state.specs.declared.records.Mirror.{Mirror};
 ghost use Rattle.gm_state.specs.Intents.{IsOf};
 ghost use Rattle.gm_state.specs.Records.{IsState, Records};
 ghost use Rattle.gm_state.specs.Rows.{Tables};
-ghost use Rattle.gm_state.specs.World.{World};
 ghost use Rattle.gm_rows.specs.ReadableTables.{AreTablesOf};
 ghost use Rattle.gm_registry.specs.Registry.{DiskKept, HasTables, Reads};
 ghost use Rattle.gm_bench.specs.Audits.{IsAsRegistered, IsAudit};
 ghost use Rattle.gm_bench.specs.Faults.{IsOfCall, IsOfMedia};
-ghost use Rattle.gm_bench.specs.Recovering.{IsAt};
+ghost use Rattle.gm_bench.specs.Owed.{LookDoes};
 
 use crate::facts::last_of;
 use crate::fault::BenchFault;
@@ -100,11 +98,9 @@ impl<S: Alter, H: Shelf> Media<S, H> {
             → IfOk result (λ names. (t : Tables) (s : Records) (ts : List Intent)
             → HasTables S.Store self.old.registry t → AreTablesOf t s ts
             → IsAudit s (H.size self.old.shelf) (H.view self.old.shelf).seen names.items) }
-        ensures stays { H.honest self.old.shelf → DiskKept S.Store self.new.registry
-            → IfOk result (λ names. (away : Image) (ts : List Intent) (u w : World)
-            → IsAt S.Store H.view H.size self.old.registry self.old.shelf away ts u w
-            → IsAudit w.state (H.size self.old.shelf) (H.view self.old.shelf).seen names.items
-            × IsAt S.Store H.view H.size self.new.registry self.new.shelf away ts u w) }
+        ensures looks { H.honest self.old.shelf → DiskKept S.Store self.new.registry
+            → OnOk result (LookDoes S.Store H.view H.size self.old.registry self.new.registry
+            self.old.shelf self.new.shelf) }
         ensures unreadable { DiskKept S.Store self.new.registry
             → IsErrOf result BenchFault.Unreadable → (t : Tables) (s : Records) (ts : List Intent)
             → HasTables S.Store self.old.registry t → AreTablesOf t s ts → ⊥ }

@@ -1,17 +1,15 @@
 //! What a bench shows of its media. It changes neither.
 
 ghost use Rattle.std.specs.Prelude.{◌≡◌, ◌<◌, ℕ, List, IfOk, OnOk, OnErr, IsErrOf};
-ghost use Rattle.gm_metadata.specs.Images.{Image};
 ghost use Rattle.gm_shelf.specs.Disk.{AreReads};
 ghost use Rattle.gm_state.specs.declared.intents.Intent.{Intent};
 ghost use Rattle.gm_state.specs.Records.{Records};
 ghost use Rattle.gm_state.specs.Rows.{Tables};
-ghost use Rattle.gm_state.specs.World.{World};
 ghost use Rattle.gm_rows.specs.ReadableTables.{AreTablesOf};
 ghost use Rattle.gm_registry.specs.Registry.{DiskKept, HasTables, Reads};
 ghost use Rattle.gm_bench.specs.Audits.{IsAudit};
-ghost use Rattle.gm_bench.specs.Recovering.{IsAt};
 ghost use Rattle.gm_bench.specs.ShelfFacts.{last_sector};
+ghost use Rattle.gm_bench.specs.Owed.{LookDoes, LookLeaves};
 
 use crate::bench::Bench;
 use crate::facts::fact_of;
@@ -27,16 +25,18 @@ impl<S: Alter, H: Shelf> Bench<S, H> {
     /// The mirrors and their components, as the registry has them: what is pending counts as carried out. `Closed` after
     /// an earlier fault; any other fault closes the bench.
     pub fn view(&mut self, alloc: Global) -> Result<State, BenchFault>
-        ensures says { H.honest self.old.media.shelf → DiskKept S.Store self.new.media.registry
-            → IfOk result (λ s. (away : Image) (ts : List Intent) (u w : World)
-            → IsAt S.Store H.view H.size self.old.media.registry self.old.media.shelf away ts u w
-            → (s ≡ w.state) × IsAt S.Store H.view H.size self.new.media.registry
-            self.new.media.shelf away ts u w) }
         // The records that the registry holds, whatever the images hold.
         ensures shows { DiskKept S.Store self.new.media.registry
             → IfOk result (λ state. (t : Tables) (s : Records) (ts : List Intent)
-            → HasTables S.Store self.old.media.registry t → AreTablesOf t s ts
-            → (state ≡ s) × HasTables S.Store self.new.media.registry t) }
+            → HasTables S.Store self.old.media.registry t → AreTablesOf t s ts → state ≡ s) }
+        ensures looks { H.honest self.old.media.shelf → DiskKept S.Store self.new.media.registry
+            → OnOk result (LookDoes S.Store H.view H.size
+            self.old.media.registry self.new.media.registry
+            self.old.media.shelf self.new.media.shelf) }
+        ensures leaves { H.honest self.old.media.shelf → DiskKept S.Store self.new.media.registry
+            → LookLeaves S.Store H.view H.size
+            self.old.media.registry self.new.media.registry
+            self.old.media.shelf self.new.media.shelf }
         ensures unreadable { DiskKept S.Store self.new.media.registry
             → IsErrOf result BenchFault.Unreadable → (t : Tables) (s : Records) (ts : List Intent)
             → HasTables S.Store self.old.media.registry t → AreTablesOf t s ts → ⊥ }
@@ -70,6 +70,14 @@ impl<S: Alter, H: Shelf> Bench<S, H> {
         ensures shows { H.honest self.old.media.shelf → IfOk result (λ found. found
             ≡ last_sector (H.size self.old.media.shelf) (H.view self.old.media.shelf).seen
             provider) }
+        ensures looks { H.honest self.old.media.shelf → DiskKept S.Store self.new.media.registry
+            → OnOk result (LookDoes S.Store H.view H.size
+            self.old.media.registry self.new.media.registry
+            self.old.media.shelf self.new.media.shelf) }
+        ensures leaves { H.honest self.old.media.shelf → DiskKept S.Store self.new.media.registry
+            → LookLeaves S.Store H.view H.size
+            self.old.media.registry self.new.media.registry
+            self.old.media.shelf self.new.media.shelf }
         ensures closed { self.old.progress ≡ Progress.Failed
             → IsErrOf result BenchFault.Closed × (self.new ≡ self.old) }
         ensures stays { OnOk result (self.new.progress ≡ self.old.progress) }
@@ -110,14 +118,14 @@ impl<S: Alter, H: Shelf> Bench<S, H> {
             → HasTables S.Store self.old.media.registry t → AreTablesOf t s ts
             → IsAudit s (H.size self.old.media.shelf) (H.view self.old.media.shelf).seen
             names.items) }
-        ensures stays_at { H.honest self.old.media.shelf
-            → DiskKept S.Store self.new.media.registry
-            → IfOk result (λ names. (away : Image) (ts : List Intent) (u w : World)
-            → IsAt S.Store H.view H.size self.old.media.registry self.old.media.shelf away ts u w
-            → IsAudit w.state (H.size self.old.media.shelf) (H.view self.old.media.shelf).seen
-            names.items
-            × IsAt S.Store H.view H.size self.new.media.registry self.new.media.shelf away ts
-            u w) }
+        ensures looks { H.honest self.old.media.shelf → DiskKept S.Store self.new.media.registry
+            → OnOk result (LookDoes S.Store H.view H.size
+            self.old.media.registry self.new.media.registry
+            self.old.media.shelf self.new.media.shelf) }
+        ensures leaves { H.honest self.old.media.shelf → DiskKept S.Store self.new.media.registry
+            → LookLeaves S.Store H.view H.size
+            self.old.media.registry self.new.media.registry
+            self.old.media.shelf self.new.media.shelf }
         ensures unreadable { DiskKept S.Store self.new.media.registry
             → IsErrOf result BenchFault.Unreadable → (t : Tables) (s : Records) (ts : List Intent)
             → HasTables S.Store self.old.media.registry t → AreTablesOf t s ts → ⊥ }

@@ -20,7 +20,7 @@ returns-in-Ok-carry_out-clause-leaves g c h clean =
     let mid : DiskKept g.S.Store c.accept.new.self.media.registry = omega (arith, clean, c.carry_out.ensures.clean) in
     let told = c.in-Ok.ensures.answers h mid in
     let pending = sym c.phase.ensures ∙ c.in-Pending.is in
-    carried_leaves g.S.Store g.H.Shelf.view g.H.Shelf.size c.args.self.now.media.registry c.accept.new.self.media.registry c.args.self.now.media.shelf c.accept.new.self.media.shelf c.args.key.now c.args.command.now c.in-Ok.answer c.accept.new.self.progress told pending c.carry_out.new.self.media.registry c.carry_out.new.self.media.shelf (c.accept.ensures.leaves h mid)
+    carried_leaves g.S.Store g.H.Shelf.view g.H.Shelf.size c.args.self.now.media.registry c.accept.new.self.media.registry c.args.self.now.media.shelf c.accept.new.self.media.shelf c.args.key.now c.args.command.now c.in-Ok.answer c.accept.new.self.progress told pending c.carry_out.new.self.media.registry c.carry_out.new.self.media.shelf c.accept.ensures.size (c.accept.ensures.leaves h mid)
     (c.carry_out.ensures.leaves (c.accept.ensures.honest h) clean (work g.S.Store g.H.Shelf.view g.H.Shelf.size c.args.self.now.media.registry c.accept.new.self.media.registry c.args.self.now.media.shelf c.accept.new.self.media.shelf c.args.key.now c.args.command.now c.in-Ok.answer c.accept.new.self.progress told pending) (is_work g.S.Store g.H.Shelf.view g.H.Shelf.size c.args.self.now.media.registry c.accept.new.self.media.registry c.args.self.now.media.shelf c.accept.new.self.media.shelf c.args.key.now c.args.command.now c.in-Ok.answer c.accept.new.self.progress told pending))
 
 pub returns-in-Err-carry_out-clause-leaves : goal.returns-in-Err-carry_out-clause-leaves
@@ -28,7 +28,7 @@ returns-in-Err-carry_out-clause-leaves g c h clean =
     let mid : DiskKept g.S.Store c.accept.new.self.media.registry = omega (arith, clean, c.carry_out.ensures.clean) in
     let told = c.in-Ok.ensures.answers h mid in
     let pending = sym c.phase.ensures ∙ c.in-Pending.is in
-    carried_leaves g.S.Store g.H.Shelf.view g.H.Shelf.size c.args.self.now.media.registry c.accept.new.self.media.registry c.args.self.now.media.shelf c.accept.new.self.media.shelf c.args.key.now c.args.command.now c.in-Ok.answer c.accept.new.self.progress told pending c.carry_out.new.self.media.registry c.carry_out.new.self.media.shelf (c.accept.ensures.leaves h mid)
+    carried_leaves g.S.Store g.H.Shelf.view g.H.Shelf.size c.args.self.now.media.registry c.accept.new.self.media.registry c.args.self.now.media.shelf c.accept.new.self.media.shelf c.args.key.now c.args.command.now c.in-Ok.answer c.accept.new.self.progress told pending c.carry_out.new.self.media.registry c.carry_out.new.self.media.shelf c.accept.ensures.size (c.accept.ensures.leaves h mid)
     (c.carry_out.ensures.leaves (c.accept.ensures.honest h) clean (work g.S.Store g.H.Shelf.view g.H.Shelf.size c.args.self.now.media.registry c.accept.new.self.media.registry c.args.self.now.media.shelf c.accept.new.self.media.shelf c.args.key.now c.args.command.now c.in-Ok.answer c.accept.new.self.progress told pending) (is_work g.S.Store g.H.Shelf.view g.H.Shelf.size c.args.self.now.media.registry c.accept.new.self.media.registry c.args.self.now.media.shelf c.accept.new.self.media.shelf c.args.key.now c.args.command.now c.in-Ok.answer c.accept.new.self.progress told pending))
 
 pub returns-in_default-clause-answers : goal.returns-in_default-clause-answers
@@ -42,11 +42,11 @@ returns-in_default-clause-ready g c =
 
 pub returns-in_default-clause-leaves : goal.returns-in_default-clause-leaves
 returns-in_default-clause-leaves g c h clean away u at =
-    record { registry = c.accept.new.self.media.registry; shelf = c.accept.new.self.media.shelf; accepting = c.accept.ensures.leaves h clean away u at; carrying = inl (refl, refl) }
+    record { registry = c.accept.new.self.media.registry; shelf = c.accept.new.self.media.shelf; sizes = c.accept.ensures.size; accepting = c.accept.ensures.leaves h clean away u at; carrying = inl (refl, refl) }
 
 pub returns-in-Err-clause-leaves : goal.returns-in-Err-clause-leaves
 returns-in-Err-clause-leaves g c h clean away u at =
-    record { registry = c.accept.new.self.media.registry; shelf = c.accept.new.self.media.shelf; accepting = c.accept.ensures.leaves h clean away u at; carrying = inl (refl, refl) }
+    record { registry = c.accept.new.self.media.registry; shelf = c.accept.new.self.media.shelf; sizes = c.accept.ensures.size; accepting = c.accept.ensures.leaves h clean away u at; carrying = inl (refl, refl) }
 
 pub returns-in-Err-carry_out-clause-disk : goal.returns-in-Err-carry_out-clause-disk
 returns-in-Err-carry_out-clause-disk g c h clean told away u at =

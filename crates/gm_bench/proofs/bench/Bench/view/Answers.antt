@@ -1,18 +1,11 @@
 use Rattle.std.proofs.Common.{◌≡◌, Err, ap}
 use Rattle.gm_bench.specs.declared.fault.BenchFault.TheVariants.{Unreadable}
-use Rattle.gm_bench.proofs.DecidesOnly.{found_of, at_next}
+use Rattle.gm_shelf.proofs.InTurn.{quiet_itself}
+use Rattle.gm_bench.proofs.DecidesOnly.{quiet_same, reads_none}
+use Rattle.gm_bench.proofs.Looks.{look_does, look_leaves}
 use Rattle.gm_bench.proofs.bench.Bench.view.Goals as goal
 use Rattle.gm_state.proofs.SameRows.{same_mirror, same_component}
 use Rattle.gm_registry.proofs.OneReading.{one_reading}
-
-pub returns-in-Ok-clause-says : goal.returns-in-Ok-clause-says
-returns-in-Ok-clause-says g c h clean away ts u w at =
-    let view = g.H.Shelf.view in
-    let size = g.H.Shelf.size in
-    let r = c.args.self.now.media.registry in
-    let shelf = c.args.self.now.media.shelf in
-    let said = c.in-Ok.ensures.says h clean away ts u w (found_of g.S.Store view size r shelf away ts u w at) in
-    (said.0, at_next g.S.Store view size r shelf away ts u w at c.load.new.self.registry c.load.new.self.shelf c.load.ensures.shelf said.2)
 
 pub returns-in-Ok-clause-closed : goal.returns-in-Ok-clause-closed
 returns-in-Ok-clause-closed g c failed = absurd (c.in_default.not-Failed failed)
@@ -28,4 +21,41 @@ returns-clause-closed g c failed = absurd (c.in_default.not-Failed failed)
 pub returns-in-Ok-clause-shows : goal.returns-in-Ok-clause-shows
 returns-in-Ok-clause-shows g c clean t s ts has of =
     let loaded = c.in-Ok.ensures.loaded clean t has in
-    ((one_reading same_mirror same_component t _ s _ ts loaded.0 of).0, loaded.1)
+    (one_reading same_mirror same_component t _ s _ ts loaded.0 of).0
+
+pub returns-in-Ok-clause-looks : goal.returns-in-Ok-clause-looks
+returns-in-Ok-clause-looks g c h clean =
+    let view = g.H.Shelf.view in
+    let size = g.H.Shelf.size in
+    let r = c.args.self.now.media.registry in
+    let shelf = c.args.self.now.media.shelf in
+    look_does g.S.Store view size r c.load.new.self.registry shelf c.load.new.self.shelf
+    (quiet_same view shelf c.load.new.self.shelf c.load.ensures.shelf)
+    (λ t has. (c.in-Ok.ensures.loaded clean t has).1) (ap size c.load.ensures.shelf)
+
+pub returns-in-Ok-clause-leaves : goal.returns-in-Ok-clause-leaves
+returns-in-Ok-clause-leaves g c h clean =
+    let view = g.H.Shelf.view in
+    let r = c.args.self.now.media.registry in
+    let shelf = c.args.self.now.media.shelf in
+    look_leaves g.S.Store view g.H.Shelf.size r c.load.new.self.registry shelf c.load.new.self.shelf
+    (quiet_same view shelf c.load.new.self.shelf c.load.ensures.shelf) g.met.S.Store.settled
+    (g.met.H.Shelf.lawful shelf h) clean c.load.ensures.reads
+
+pub returns-clause-leaves : goal.returns-clause-leaves
+returns-clause-leaves g c h clean =
+    let view = g.H.Shelf.view in
+    let r = c.args.self.now.media.registry in
+    let shelf = c.args.self.now.media.shelf in
+    look_leaves g.S.Store view g.H.Shelf.size r c.load.new.self.registry shelf c.load.new.self.shelf
+    (quiet_same view shelf c.load.new.self.shelf c.load.ensures.shelf) g.met.S.Store.settled
+    (g.met.H.Shelf.lawful shelf h) clean c.load.ensures.reads
+
+pub returns-in-Failed-clause-leaves : goal.returns-in-Failed-clause-leaves
+returns-in-Failed-clause-leaves g c h clean =
+    let view = g.H.Shelf.view in
+    let r = c.args.self.now.media.registry in
+    let shelf = c.args.self.now.media.shelf in
+    look_leaves g.S.Store view g.H.Shelf.size r r shelf shelf (quiet_itself (view shelf))
+    g.met.S.Store.settled (g.met.H.Shelf.lawful shelf h) clean
+    (reads_none g.S.Store g.met.S.Store.settled r)

@@ -5,8 +5,7 @@ use Rattle.gm_state.proofs.SameRows.{same_mirror, same_component}
 use Rattle.gm_registry.proofs.OneReading.{one_reading}
 use Rattle.gm_bench.specs.declared.fault.BenchFault.TheVariants.{Unreadable}
 use Rattle.gm_bench.specs.Audits.{IsAudit}
-use Rattle.gm_bench.proofs.DecidesOnly.{at_read, found_of}
-use Rattle.gm_bench.proofs.Found.{readable}
+use Rattle.gm_bench.proofs.Looks.{look_does}
 use Rattle.gm_bench.proofs.media.Media.audit.Goals as goal
 
 pub returns-in-Err-clause-unreadable : goal.returns-in-Err-clause-unreadable
@@ -23,16 +22,12 @@ returns-in-Ok-amiss_on-clause-audits g c h clean t s ts has of =
     let audit = subst (λ (x : g.row.H.Denot). IsAudit c.in-Ok.loaded.0 (g.H.Shelf.size x) (g.H.Shelf.view x).seen names) c.load.ensures.shelf (c.in-Ok-amiss_on.ensures.audit h1) in
     subst (λ (x : Records). IsAudit x (g.H.Shelf.size c.args.self.now.shelf) (g.H.Shelf.view c.args.self.now.shelf).seen names) same.0 audit
 
-pub returns-in-Ok-amiss_on-clause-stays : goal.returns-in-Ok-amiss_on-clause-stays
-returns-in-Ok-amiss_on-clause-stays g c h clean away ts u w at =
+pub returns-in-Ok-amiss_on-clause-looks : goal.returns-in-Ok-amiss_on-clause-looks
+returns-in-Ok-amiss_on-clause-looks g c h clean =
     let view = g.H.Shelf.view in
     let size = g.H.Shelf.size in
-    let r = c.args.self.now.registry in
     let shelf = c.args.self.now.shelf in
-    let lawful = g.met.H.Shelf.lawful shelf h in
     let h1 : g.H.Shelf.honest c.load.new.self.shelf = subst g.H.Shelf.honest (sym c.load.ensures.shelf) h in
     let quiet : IsQuiet (view shelf) (view c.amiss_on.new.shelf) = subst (λ (x : g.row.H.Denot). IsQuiet (view x) (view c.amiss_on.new.shelf)) c.load.ensures.shelf (c.amiss_on.ensures.reads h1).quiet in
-    let same : size c.amiss_on.new.shelf ≡ size shelf = c.amiss_on.ensures.size ∙ ap size c.load.ensures.shelf in
-    let of = readable g.S.Store view size r shelf away ts u w (found_of g.S.Store view size r shelf away ts u w at) lawful in
-    let loaded = c.in-Ok.ensures.loaded clean at.tables at.has in
-    (returns-in-Ok-amiss_on-clause-audits g c h clean at.tables w.state ts at.has of, at_read g.S.Store view size r shelf c.amiss_on.new.shelf away ts u w at quiet same c.load.new.self.registry loaded.1)
+    look_does g.S.Store view size c.args.self.now.registry c.load.new.self.registry shelf c.amiss_on.new.shelf quiet
+    (λ t has. (c.in-Ok.ensures.loaded clean t has).1) (c.amiss_on.ensures.size ∙ ap size c.load.ensures.shelf)
