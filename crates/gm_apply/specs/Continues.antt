@@ -5,8 +5,8 @@ use Rattle.gm_state.specs.Records.{IsState}
 use Rattle.gm_state.specs.Intents.{AreThere}
 use Rattle.gm_state.specs.World.{World, Claims, CopiesData}
 
--- u's records are a state, and those of its components that an intent reads or writes are there; in w the claims of all
--- are true, and what was copied to them is their mirror's data
+-- u's records are a state, and those of its components that an intent reads or writes are there; in
+-- w the claims of all are true, and what was copied to them is their mirror's data
 pub record Continues (u w : World) (ts : List Intent) : Type 0 where
   pub state : IsState u.state
   pub there : AreThere u.state ts u.size

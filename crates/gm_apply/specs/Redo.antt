@@ -23,7 +23,8 @@ with_places place w d q j = if place q j then w q j else d q j
 
 -- each sector is the old one, or a place as in w
 abbrev pub SomePlacesNew : Places → Image → Image → Image → Type 0
-SomePlacesNew place w d x = (q : List ℕ) (j : ℕ) → (x q j ≡ d q j) ⊎ ((place q j ≡ true) × (x q j ≡ w q j))
+SomePlacesNew place w d x = (q : List ℕ) (j : ℕ)
+    → (x q j ≡ d q j) ⊎ ((place q j ≡ true) × (x q j ≡ w q j))
 
 -- the provider's last sector is the old one, or all that is copied to the provider is there
 abbrev pub DataBeforeClaim : Sizes → List Intent → Image → Image → Image → List ℕ → Type 0
@@ -31,7 +32,8 @@ DataBeforeClaim size ts w d x p =
     ((j : ℕ) → is_last (size p) j ≡ true → x p j ≡ d p j)
     ⊎ ((j : ℕ) → any_copies ts p j ≡ true → x p j ≡ w p j)
 
--- what intents that were stopped on the way leave of d: some places are as in w, and data come before claims
+-- what intents that were stopped on the way leave of d: some places are as in w, and data come
+-- before claims
 pub record IsPartlyDone (size : Sizes) (ts : List Intent) (w d x : Image) : Type 0 where
   pub mix : SomePlacesNew (is_place size ts) w d x
   pub ordered : InOrder size ts → (p : List ℕ) → DataBeforeClaim size ts w d x p
@@ -41,16 +43,20 @@ pub record CrashLeaves (old new : View) (P : Image → Type 0) : Type 0 where
   pub later : old.moment ≤ new.moment
   pub since : (t : ℕ) (x : Image) → t ≤ old.moment → new.left_since t x → old.left_since t x ⊎ P x
 
--- the places are as in w, in what a read gives and in each image that a crash may leave, and every other sector is as it was
+-- the places are as in w, in what a read gives and in each image that a crash may leave, and every
+-- other sector is as it was
 pub record PlacesAreNew (place : Places) (w : Image) (old new : View) : Type 0 where
   pub seen : Same new.seen (with_places place w old.seen)
-  pub left : (x : Image) → new.may_leave x → From old.may_leave (λ d. Same x (with_places place w d))
+  pub left : (x : Image) → new.may_leave x
+      → From old.may_leave (λ d. Same x (with_places place w d))
 
 -- a crash at any moment of the call leaves some places as in w
 abbrev pub Moments : Places → Image → View → View → Type 0
-Moments place w old new = CrashLeaves old new (λ x. From old.may_leave (λ d. SomePlacesNew place w d x))
+Moments place w old new =
+    CrashLeaves old new (λ x. From old.may_leave (λ d. SomePlacesNew place w d x))
 
--- in the middle of a call some places are as in w: in what a read gives, in what each moment so far left, and in what a crash leaves now
+-- in the middle of a call some places are as in w: in what a read gives, in what each moment so far
+-- left, and in what a crash leaves now
 pub record IsUnderWay (place : Places) (w : Image) (old now : View) : Type 0 where
   pub seen : SomePlacesNew place w old.seen now.seen
   pub moments : Moments place w old now
@@ -60,8 +66,8 @@ pub record IsUnderWay (place : Places) (w : Image) (old now : View) : Type 0 whe
 abbrev pub IsSaid : Records → Sizes → Intent → Image → Image → Type 0
 IsSaid s size t x w = (q : List ℕ) (j : ℕ) → names size t q j ≡ true → Says s x t j (w q j)
 
--- Every sector but these is as it was: in what a read gives, and in each image that a crash may leave, now or at any
--- moment since.
+-- Every sector but these is as it was: in what a read gives, and in each image that a crash may
+-- leave, now or at any moment since.
 pub record KeepsOthers (place : Places) (old new : View) : Type 0 where
   pub seen : AgreeBut place old.seen new.seen
   pub left : (x : Image) → new.may_leave x → From old.may_leave (λ d. AgreeBut place d x)
@@ -86,4 +92,5 @@ LacksProvider size (Copy source target first end) = (size source ≡ None) ⊎ (
 abbrev pub LacksSector : Sizes → Intent → Type 0
 LacksSector size (Meta p) = size p ≡ Some 0
 LacksSector size (Clear p) = size p ≡ Some 0
-LacksSector size (Copy source target first end) = IsSomeAnd (size source) (λ n. n < end) ⊎ IsSomeAnd (size target) (λ n. n < end)
+LacksSector size (Copy source target first end) =
+    IsSomeAnd (size source) (λ n. n < end) ⊎ IsSomeAnd (size target) (λ n. n < end)

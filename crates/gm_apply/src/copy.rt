@@ -78,8 +78,8 @@ fn write_changes<H: Shelf>(
     Ok(())
 }
 
-// Copies a run of so many sectors. Its two buffers are 128 KiB of the stack: those are taken while it copies, and by no
-// other function that this one might be made a part of.
+// Copies a run of so many sectors. Its two buffers are 128 KiB of the stack: those are taken while
+// it copies, and by no other function that this one might be made a part of.
 #[inline(never)]
 fn copy_run<H: Shelf>(
     shelf: &mut H,
@@ -154,7 +154,8 @@ fn copy_runs<H: Shelf>(
     Ok(())
 }
 
-/// Copies the sectors first to end - 1 of the source to the same places of the target, then syncs the target.
+/// Copies the sectors first to end - 1 of the source to the same places of the target, then syncs
+/// the target.
 pub(crate) fn copy_sectors<H: Shelf>(
     shelf: &mut H,
     source: Label,

@@ -23,8 +23,8 @@ fn equal_first(a: &[[u8; 512]], b: &[[u8; 512]]) -> usize
     a.len()
 }
 
-// How many first sectors of a run are equal. Its two buffers are 128 KiB of the stack: those are taken while it
-// compares, and by no other function that this one might be made a part of.
+// How many first sectors of a run are equal. Its two buffers are 128 KiB of the stack: those are
+// taken while it compares, and by no other function that this one might be made a part of.
 #[inline(never)]
 fn compare_run<H: Shelf>(
     shelf: &mut H,
@@ -105,8 +105,8 @@ fn reach_of<H: Shelf>(shelf: &H, source: Label, provider: Label, limit: u64) -> 
     limit.min(source.min(provider))
 }
 
-/// How many first sectors of two providers are equal, counted up to a limit and to the ends of both.
-/// A provider that isn't there has none. One that is compared with itself isn't read.
+/// How many first sectors of two providers are equal, counted up to a limit and to the ends of
+/// both. A provider that isn't there has none. One that is compared with itself isn't read.
 pub fn equal_sectors<H: Shelf>(
     shelf: &mut H,
     source: Label,

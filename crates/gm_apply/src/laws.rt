@@ -1,4 +1,5 @@
-//! What follows of the images that are left on the way: laws, each the contract of a function that does nothing.
+//! What follows of the images that are left on the way: laws, each the contract of a function that
+//! does nothing.
 
 ghost use Rattle.std.specs.Prelude.{◌≡◌, ℕ, List, true};
 ghost use Rattle.gm_metadata.specs.Images.{Image, Sizes, Same, SameThere};
@@ -21,8 +22,8 @@ pub fn every_image_leads_on()
         → Same x (with_places (is_place size ts) w d) → SameThere size x w }
 {}
 
-/// A claim that was true stays true on the way, since data come before claims: of the components of before, and of
-/// those that are new where the intents lead.
+/// A claim that was true stays true on the way, since data come before claims: of the components of
+/// before, and of those that are new where the intents lead.
 pub fn true_claims_stay_true()
     ensures old { (u w : World) (ts : List Intent) (d x : Image) → Continues u w ts
         → InOrder u.size ts → Agrees u.size ts d w.shelf → Claims u w d
@@ -32,9 +33,9 @@ pub fn true_claims_stay_true()
         → IsPartlyDone w.size ts w.shelf d x → NewClaims u w x }
 {}
 
-/// Intents that are readable for a state put data before claims, and no copy lends what another intent writes, where
-/// the components that they read or write are there with their registered sizes. What they copy to a component is its
-/// mirror's data.
+/// Intents that are readable for a state put data before claims, and no copy lends what another
+/// intent writes, where the components that they read or write are there with their registered
+/// sizes. What they copy to a component is its mirror's data.
 pub fn readable_intents_are_safe()
     ensures order { (s : Records) (size : Sizes) (ts : List Intent) → IsState s → AreReadable s ts
         → AreThere s ts size → InOrder size ts }
@@ -44,7 +45,8 @@ pub fn readable_intents_are_safe()
         → AllSay w.state size ts w.shelf → CopiesData w w ts }
 {}
 
-/// Where two readable intents name one sector, they say the same of it: so it doesn't matter which comes last.
+/// Where two readable intents name one sector, they say the same of it: so it doesn't matter which
+/// comes last.
 pub fn one_sector_one_value()
     ensures { (s : Records) (size : Sizes) (ts : List Intent) (t r : Intent) (q : List ℕ) (j : ℕ)
         → IsState s → AreReadable s ts → AreThere s ts size → Has ts t → Has ts r
@@ -52,7 +54,8 @@ pub fn one_sector_one_value()
         → (w : Image) (x : List ℕ) → Says s w t j x → Says s w r j x }
 {}
 
-/// Readable intents lead somewhere from every image, where the components that they read or write are there.
+/// Readable intents lead somewhere from every image, where the components that they read or write
+/// are there.
 pub fn readable_intents_lead_somewhere()
     ensures { (s : Records) (size : Sizes) (ts : List Intent) (x : Image) → IsState s
         → AreReadable s ts

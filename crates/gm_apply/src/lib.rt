@@ -1,8 +1,9 @@
-//! Carries out pending intents on a shelf, from whatever a crash left of them, so that data come before claims.
+//! Carries out pending intents on a shelf, from whatever a crash left of them, so that data come
+//! before claims.
 //!
-//! `redo.rt` has `apply`; `copy.rt` copies sectors. `specs/Redo.antt` says what is left of an image at the end
-//! and at every moment on the way, `laws.rt` what follows of it. `equal_data.rt` tells how many first sectors of two
-//! providers are equal.
+//! `redo.rt` has `apply`; `copy.rt` copies sectors. `specs/Redo.antt` says what is left of an image
+//! at the end and at every moment on the way, `laws.rt` what follows of it. `equal_data.rt` tells
+//! how many first sectors of two providers are equal.
 #![tactic(auto)]
 
 mod copy;

@@ -51,12 +51,14 @@ fn apply_one<H: Shelf>(shelf: &mut H, state: &State, intent: &Intent) -> Result<
     Ok(())
 }
 
-/// Carries out the intents in order. Each ends with a sync of the provider that it wrote. It takes no memory of its own;
-/// a shelf may answer want of it.
+/// Carries out the intents in order. Each ends with a sync of the provider that it wrote. It takes
+/// no memory of its own; a shelf may answer want of it.
 ///
-/// It is meant for intents that are readable for the state. A `Meta` of a provider that is no component writes nothing.
+/// It is meant for intents that are readable for the state. A `Meta` of a provider that is no
+/// component writes nothing.
 pub fn apply<H: Shelf>(shelf: &mut H, state: &State, intents: &[Intent]) -> Result<(), ShelfFault>
-    // At Ok each place holds what its intent says, also in every image that a crash may leave, and all else is as before.
+    // At Ok each place holds what its intent says, also in every image that a crash may leave, and
+    // all else is as before.
     ensures done { H.honest shelf.old → OnOk result ((w : Image)
         → IsRedo state.now (H.size shelf.old) intents.now (H.view shelf.old).seen w
         → PlacesAreNew (is_place (H.size shelf.old) intents.now) w

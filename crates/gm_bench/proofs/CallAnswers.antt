@@ -34,7 +34,8 @@ none_has (y ∷ ys) x e h = let no : ⊥ = cc in no
 
 reply_back : (r : Reply) → ReplyFits r → reply_in (copied_of r) (total_of r) ≡ r
 reply_back Plain f = refl
-reply_back (Copied held total) f = let some : 0 < held = f.0 in let e : (held == 0) ≡ false = ne_eqb held 0 (λ z. omega (arith, z)) in rw e refl
+reply_back (Copied held total) f = let some : 0 < held = f.0 in
+    let e : (held == 0) ≡ false = ne_eqb held 0 (λ z. omega (arith, z)) in rw e refl
 
 at_least_five : (r : Refusal) → 5 ≤ number_of r
 at_least_five NoMirror = omega arith
@@ -62,23 +63,31 @@ at_least_five NotAdoptable = omega arith
 at_least_five WrongSize = omega arith
 at_least_five NoMetadata = omega arith
 
-module _ (u : World) (t : Tables) (sound : Sound u) (holds : HoldRecords u t) (key : List ℕ) (c : Command) where
+module _ (u : World) (t : Tables) (sound : Sound u) (holds : HoldRecords u t) (key : List ℕ)
+    (c : Command) where
   abbrev call : Call
   call = record { key = key; command = c }
 
   pub as_many : count_of t ≡ length u.answered
-  as_many = length_permutation (map answer_row u.answered) t.commands holds.commands ∙ length-map u.answered answer_row
+  as_many = length_permutation (map answer_row u.answered) t.commands holds.commands
+      ∙ length-map u.answered answer_row
 
   -- a key that is free in the tables is free in the world
   pub free_key : IsFree t key → (a : Answered) → Has u.answered a → a.key ≡ key → ⊥
   free_key free a h e =
-      let stands : Has t.commands (answer_row a) = Has-permutation (map answer_row u.answered) t.commands (answer_row a) holds.commands (map-Has answer_row u.answered a h) in
-      none_has (filter (is_under key) t.commands) (answer_row a) free (filter-Has (is_under key) t.commands (answer_row a) stands (same_from a.key key e))
+      let stands : Has t.commands (answer_row a) =
+      Has-permutation (map answer_row u.answered) t.commands (answer_row a) holds.commands
+      (map-Has answer_row u.answered a h) in
+      none_has (filter (is_under key) t.commands) (answer_row a) free
+      (filter-Has (is_under key) t.commands (answer_row a) stands (same_from a.key key e))
 
   -- a row that is kept in the tables is that of an answer
-  pub kept_answer : (number : ℕ) (words : List ℕ) (r : Reply) → IsKeptIn t key number words r → (a : Answered) × Has u.answered a × (a.key ≡ key) × (a.number ≡ number) × (words_of a.command ≡ words) × (a.reply ≡ r)
+  pub kept_answer : (number : ℕ) (words : List ℕ) (r : Reply) → IsKeptIn t key number words r
+      → (a : Answered) × Has u.answered a × (a.key ≡ key) × (a.number ≡ number)
+      × (words_of a.command ≡ words) × (a.reply ≡ r)
   kept_answer number words r k =
-      let stands = Has-permutation t.commands (map answer_row u.answered) k.row (IsPermutation-sym _ _ holds.commands) k.has in
+      let stands = Has-permutation t.commands (map answer_row u.answered) k.row
+      (IsPermutation-sym _ _ holds.commands) k.has in
       let from = Has-map answer_row u.answered k.row stands in
       let a : Answered = from.0 in
       let is : answer_row a ≡ k.row = from.2 in (
@@ -87,12 +96,16 @@ module _ (u : World) (t : Tables) (sound : Sound u) (holds : HoldRecords u t) (k
         ap (λ (x : CommandRow). x.call_key) is ∙ k.key_is,
         ap (λ (x : CommandRow). x.seq) is ∙ k.number_is,
         ap (λ (x : CommandRow). x.words) is ∙ k.words_are,
-        sym (reply_back a.reply (sound.answers.fit a from.1).reply) ∙ (ap (λ (x : CommandRow). reply_in x.copied x.of_total) is ∙ k.reply_is),
+        sym (reply_back a.reply (sound.answers.fit a from.1).reply)
+            ∙ (ap (λ (x : CommandRow). reply_in x.copied x.of_total) is ∙ k.reply_is),
       )
 
   -- which refusals there are
-  each_refusal : (P : ℕ → Type 0) → (is_key key ≡ false → P 2) → ((a : Answered) → Has u.answered a → a.key ≡ key → a.command ≢ c → P 3) → (100000 ≤ length u.answered → P 4)
-      → ((r : Refusal) → Bad u c r → P (number_of r)) → (k : CallRefusal) → IsBadCall u call k → P (number_of_call k)
+  each_refusal : (P : ℕ → Type 0) → (is_key key ≡ false → P 2)
+      → ((a : Answered) → Has u.answered a → a.key ≡ key → a.command ≢ c → P 3)
+      → (100000 ≤ length u.answered → P 4)
+      → ((r : Refusal) → Bad u c r → P (number_of r)) → (k : CallRefusal) → IsBadCall u call k
+      → P (number_of_call k)
   each_refusal P two three four more NoKey h = two h
   each_refusal P two three four more KeyTaken h = three h.0 h.1 h.2 h.3
   each_refusal P two three four more NoRoom h = four h
@@ -102,21 +115,39 @@ module _ (u : World) (t : Tables) (sound : Sound u) (holds : HoldRecords u t) (k
   bad_key e = (
     refl,
     λ a k. true≢false (sym (sound.answers.fit a k.kept).key ∙ (ap is_key k.key ∙ e)),
-    record { applies = e; least = each_refusal (λ k. 2 ≤ k) (λ _. omega arith) (λ a h s d. omega arith) (λ m. omega arith) (λ r b. omega (arith, at_least_five r)) },
+    record {
+      applies = e;
+      least = each_refusal (λ k. 2 ≤ k) (λ _. omega arith) (λ a h s d. omega arith)
+          (λ m. omega arith) (λ r b. omega (arith, at_least_five r));
+    },
   )
 
   module _ (key_ok : is_key key ≡ true) where
     -- the key was accepted before
-    pub same_again : (a : Answered) → Has u.answered a → a.key ≡ key → CommandFits c → words_of a.command ≡ words_of c → Calls u call u (Repeated a.number a.reply)
-    same_again a h e fits words = (refl, a, record { kept = h; key = e; command = same_command a.command c (sound.answers.fit a h).command fits words }, refl, refl)
+    pub same_again : (a : Answered) → Has u.answered a → a.key ≡ key → CommandFits c
+        → words_of a.command ≡ words_of c → Calls u call u (Repeated a.number a.reply)
+    same_again a h e fits words = (
+      refl,
+      a,
+      record {
+        kept = h;
+        key = e;
+        command = same_command a.command c (sound.answers.fit a h).command fits words;
+      },
+      refl,
+      refl,
+    )
 
-    pub other_command : (a : Answered) → Has u.answered a → a.key ≡ key → words_of a.command ≢ words_of c → Calls u call u (Refused KeyTaken)
+    pub other_command : (a : Answered) → Has u.answered a → a.key ≡ key
+        → words_of a.command ≢ words_of c → Calls u call u (Refused KeyTaken)
     other_command a h e other = (
       refl,
-      λ b k. other (ap (λ (x : Answered). words_of x.command) (sound.answers.keys a b h k.kept (e ∙ sym k.key)) ∙ ap words_of k.command),
+      λ b k. other (ap (λ (x : Answered). words_of x.command)
+          (sound.answers.keys a b h k.kept (e ∙ sym k.key)) ∙ ap words_of k.command),
       record {
         applies = (a, h, e, λ s. other (ap words_of s));
-        least = each_refusal (λ k. 3 ≤ k) (λ f. absurd (true≢false (sym key_ok ∙ f))) (λ b g s d. omega arith) (λ m. omega arith) (λ r b. omega (arith, at_least_five r));
+        least = each_refusal (λ k. 3 ≤ k) (λ f. absurd (true≢false (sym key_ok ∙ f)))
+            (λ b g s d. omega arith) (λ m. omega arith) (λ r b. omega (arith, at_least_five r));
       },
     )
 
@@ -127,25 +158,33 @@ module _ (u : World) (t : Tables) (sound : Sound u) (holds : HoldRecords u t) (k
         λ a k. free a k.kept k.key,
         record {
           applies = many;
-          least = each_refusal (λ k. 4 ≤ k) (λ f. absurd (true≢false (sym key_ok ∙ f))) (λ b g s d. absurd (free b g s)) (λ m. omega arith) (λ r b. omega (arith, at_least_five r));
+          least = each_refusal (λ k. 4 ≤ k) (λ f. absurd (true≢false (sym key_ok ∙ f)))
+              (λ b g s d. absurd (free b g s)) (λ m. omega arith)
+              (λ r b. omega (arith, at_least_five r));
         },
       )
 
       module _ (room : length u.answered < 100000) where
-        pub least : (r : Refusal) → IsLeast u.state (seen_of u) c r → Calls u call u (Refused (ByRules r))
+        pub least : (r : Refusal) → IsLeast u.state (seen_of u) c r
+            → Calls u call u (Refused (ByRules r))
         least r l = (
           refl,
           λ a k. free a k.kept k.key,
           record {
             applies = record { listed = l.listed; met = l.met };
-            least = each_refusal (λ k. number_of r ≤ k) (λ f. absurd (true≢false (sym key_ok ∙ f))) (λ b g s d. absurd (free b g s)) (λ m. absurd (omega (arith, m, room))) (λ q b. l.least q b.listed b.met);
+            least = each_refusal (λ k. number_of r ≤ k) (λ f. absurd (true≢false (sym key_ok ∙ f)))
+                (λ b g s d. absurd (free b g s)) (λ m. absurd (omega (arith, m, room)))
+                (λ q b. l.least q b.listed b.met);
           },
         )
 
-        pub stepped : (w : World) (r : Reply) (n : ℕ) → Step u key c w r → n ≡ count_of t + 1 → Calls u call w (Done n r)
+        pub stepped : (w : World) (r : Reply) (n : ℕ) → Step u key c w r → n ≡ count_of t + 1
+            → Calls u call w (Done n r)
         stepped w r n step is = (
           λ a k. free a k.kept k.key,
-          each_refusal (λ k. ⊥) (λ f. absurd (true≢false (sym key_ok ∙ f))) (λ b g s d. free b g s) (λ m. absurd (omega (arith, m, room))) (λ q b. step.good q b),
-          (let long : length w.answered ≡ suc (length u.answered) = ap length step.answered in omega (arith, is, as_many, long)),
+          each_refusal (λ k. ⊥) (λ f. absurd (true≢false (sym key_ok ∙ f))) (λ b g s d. free b g s)
+              (λ m. absurd (omega (arith, m, room))) (λ q b. step.good q b),
+          (let long : length w.answered ≡ suc (length u.answered) = ap length step.answered in
+              omega (arith, is, as_many, long)),
           step,
         )

@@ -35,7 +35,8 @@ not_absent_shelf shelf.Range p e = absurd (let g : ⊥ = cc in g)
 not_absent_shelf shelf.Device p e = absurd (let g : ⊥ = cc in g)
 
 -- a failure of the disk is one of the device, where no provider and no sector is lacking
-pub of_disk : (f : ShelfFault) (P : Type 0) → of_shelf f ≡ Disk → (f ≡ shelf.Absent → ⊥) → (f ≡ shelf.Range → ⊥) → (f ≡ shelf.Device → P) → P
+pub of_disk : (f : ShelfFault) (P : Type 0) → of_shelf f ≡ Disk → (f ≡ shelf.Absent → ⊥)
+    → (f ≡ shelf.Range → ⊥) → (f ≡ shelf.Device → P) → P
 of_disk shelf.Memory P e absent range device = absurd (let g : ⊥ = cc in g)
 of_disk shelf.Absent P e absent range device = absurd (absent refl)
 of_disk shelf.Range P e absent range device = absurd (range refl)
@@ -56,7 +57,8 @@ too_short None m h e = h
 too_short (Some n) m h e = let a : m ≤ n = h in let b : n < m = e in omega arith
 
 no_sector : (o : Option ℕ) → IsSomeAnd o (λ n. 0 < n) → o ≡ Some 0 → ⊥
-no_sector o h e = let l : 0 < 0 = subst (λ (x : Option ℕ). IsSomeAnd x (λ n. 0 < n)) e h in omega (arith, l)
+no_sector o h e = let l : 0 < 0 = subst (λ (x : Option ℕ). IsSomeAnd x (λ n. 0 < n)) e h in
+    omega (arith, l)
 
 pub not_lacking_sector : (size : Sizes) (t : Intent) → IsAtHand size t → LacksSector size t → ⊥
 not_lacking_sector size (Meta p) hand e = no_sector (size p) hand e

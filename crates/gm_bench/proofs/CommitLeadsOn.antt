@@ -32,7 +32,9 @@ no_rows t p = by t.intents (length_permutation (intent_rows 1 []) t.intents p)
     by [] e = refl
     by (x ∷ xs) e = absurd (omega (arith, e))
 
-module _ (u w : World) (key : List ℕ) (c : Command) (ch : Changed) (t : Tables) (x : Image) (makes : Makes u.state (seen_of u) c ch) (plan : Plan u key c ch.intents w) (l : Leads t [] x u) where
+module _ (u w : World) (key : List ℕ) (c : Command) (ch : Changed) (t : Tables) (x : Image)
+    (makes : Makes u.state (seen_of u) c ch) (plan : Plan u key c ch.intents w)
+    (l : Leads t [] x u) where
   abbrev after : Tables
   after = with_accepted ch key (words_of c) t
 
@@ -43,43 +45,64 @@ module _ (u w : World) (key : List ℕ) (c : Command) (ch : Changed) (t : Tables
   sizes_are = λ i q. sym (plan.step.sizes q) i
 
   as_many : length t.commands ≡ length u.answered
-  as_many = length_permutation (map answer_row u.answered) t.commands l.records.commands ∙ length-map u.answered answer_row
+  as_many = length_permutation (map answer_row u.answered) t.commands l.records.commands
+      ∙ length-map u.answered answer_row
 
-  key_row : answer_row (answer u key c (reply_to c u.state)) ≡ command_row key (length t.commands + 1) (words_of c) ch.reply
+  key_row : answer_row (answer u key c (reply_to c u.state))
+      ≡ command_row key (length t.commands + 1) (words_of c) ch.reply
   key_row =
       ap (λ (k : ℕ). command_row key (k + 1) (words_of c) (reply_to c u.state)) (sym as_many)
       ∙ ap (λ (r : Reply). command_row key (length t.commands + 1) (words_of c) r) (sym makes.reply)
 
   held : HoldState w.state after
-  held = subst (λ (s : Records). HoldState s after) state_is (change_held ch key (words_of c) u.state t l.sound.state (record { mirrors = l.records.mirrors; components = l.records.components }))
+  held = subst (λ (s : Records). HoldState s after) state_is
+      (change_held ch key (words_of c) u.state t l.sound.state
+      (record { mirrors = l.records.mirrors; components = l.records.components }))
 
   keys : IsPermutation (map answer_row w.answered) after.commands
   keys =
-      subst (λ (rows : List CommandRow). IsPermutation (map answer_row w.answered) rows) (sym (change_commands ch key (words_of c) t))
-      (subst (λ (l : List Answered). IsPermutation (map answer_row l) (command_row key (length t.commands + 1) (words_of c) ch.reply ∷ t.commands)) (sym plan.step.answered)
-      (subst (λ (r : CommandRow). IsPermutation (answer_row (answer u key c (reply_to c u.state)) ∷ map answer_row u.answered) (r ∷ t.commands)) key_row
-      (IsPermutation-cons (answer_row (answer u key c (reply_to c u.state))) (map answer_row u.answered) t.commands l.records.commands)))
+      subst (λ (rows : List CommandRow). IsPermutation (map answer_row w.answered) rows)
+      (sym (change_commands ch key (words_of c) t))
+      (subst (λ (l : List Answered). IsPermutation (map answer_row l)
+      (command_row key (length t.commands + 1) (words_of c) ch.reply ∷ t.commands))
+      (sym plan.step.answered)
+      (subst (λ (r : CommandRow). IsPermutation (answer_row (answer u key c (reply_to c u.state))
+      ∷ map answer_row u.answered) (r ∷ t.commands)) key_row
+      (IsPermutation-cons (answer_row (answer u key c (reply_to c u.state)))
+      (map answer_row u.answered) t.commands l.records.commands)))
 
   rows_are : after.intents ≡ intent_rows 1 ch.intents
-  rows_are = change_intents ch key (words_of c) t ∙ (ap (λ rows. intent_rows 1 ch.intents ++ rows) (no_rows t l.intents) ∙ append-nil (intent_rows 1 ch.intents))
+  rows_are = change_intents ch key (words_of c) t
+      ∙ (ap (λ rows. intent_rows 1 ch.intents ++ rows) (no_rows t l.intents)
+      ∙ append-nil (intent_rows 1 ch.intents))
 
   pub commit_leads : Leads after ch.intents x w
   commit_leads =
-      let redo : IsRedo w.state u.size ch.intents x w.shelf = record { says = plan.redo.says; lends = plan.redo.lends; agrees = λ q there j off. at_rest t x u l q there j ∙ plan.redo.agrees q there j off } in
+      let redo : IsRedo w.state u.size ch.intents x w.shelf =
+      record {
+        says = plan.redo.says;
+        lends = plan.redo.lends;
+        agrees = λ q there j off. at_rest t x u l q there j ∙ plan.redo.agrees q there j off;
+      } in
       record {
         sound = plan.sound;
         records = record { mirrors = held.mirrors; components = held.components; commands = keys };
-        intents = subst (λ rows. IsPermutation (intent_rows 1 ch.intents) rows) (sym rows_are) (IsPermutation-refl (intent_rows 1 ch.intents));
+        intents = subst (λ rows. IsPermutation (intent_rows 1 ch.intents) rows) (sym rows_are)
+            (IsPermutation-refl (intent_rows 1 ch.intents));
         readable = plan.readable;
-        at_hand = λ r h. subst (λ (z : Sizes). IsAtHand z r) sizes_are (at_hand_up (present u) u.size (masked u (present u) refl) r (plan.at_hand r h));
+        at_hand = λ r h. subst (λ (z : Sizes). IsAtHand z r) sizes_are
+            (at_hand_up (present u) u.size (masked u (present u) refl) r (plan.at_hand r h));
         redo = subst (λ (z : Sizes). IsRedo w.state z ch.intents x w.shelf) sizes_are redo;
       }
 
   -- what is new bore nothing, and claims nothing yet
   new_claims : EachNewClaims u w x
   new_claims m k o none bare d ok bears =
-      let there : IsSome (u.size k.provider) = subst (λ (z : Sizes). IsSome (z k.provider)) (sym sizes_are) (some_there (w.size k.provider) k.sectors (plan.sound.sizes m k o)) in
-      absurd (bare d (subst (λ (s : List ℕ). Bears s d) (at_rest t x u l k.provider there (k.sectors - 1)) bears))
+      let there : IsSome (u.size k.provider) =
+      subst (λ (z : Sizes). IsSome (z k.provider)) (sym sizes_are)
+      (some_there (w.size k.provider) k.sectors (plan.sound.sizes m k o)) in
+      absurd (bare d (subst (λ (s : List ℕ). Bears s d)
+      (at_rest t x u l k.provider there (k.sectors - 1)) bears))
 
   pub commit_claims : KeepsClaims ch.intents x u w
   commit_claims = record {
@@ -87,7 +110,9 @@ module _ (u w : World) (key : List ℕ) (c : Command) (ch : Changed) (t : Tables
     sizes = sizes_are;
     after = plan.claims;
     copies = plan.copies;
-    old = λ m k d o ok bears named mid active clean i below. sound_claims u x l.sound (at_rest t x u l) m k d o ok bears named mid active clean i below
-        ∙ (same_data u u m.name d.syncid i refl ∙ sym (same_data u w m.name d.syncid i (plan.step.holds m o.mirror i)));
+    old = λ m k d o ok bears named mid active clean i below.
+        sound_claims u x l.sound (at_rest t x u l) m k d o ok bears named mid active clean i below
+        ∙ (same_data u u m.name d.syncid i refl
+        ∙ sym (same_data u w m.name d.syncid i (plan.step.holds m o.mirror i)));
     new = new_claims;
   }

@@ -30,7 +30,11 @@ use Rattle.gm_bench.proofs.CommitLeadsOn.{commit_leads, commit_claims}
 use Rattle.gm_bench.proofs.PartCovers.{covers_after}
 use Rattle.gm_bench.proofs.RegistryLeaves.{leads_in}
 
-module _ {S H : Type 0} (g : Ghosts S) (view : H → View) (size : H → Sizes) (r s : Held S) (h : H) (away : Image) (u : World) (key : List ℕ) (c : Command) (p : Planned) (words : List ℕ) (words_is : words ≡ words_of c) (lawful : IsLawful (view h)) (at : IsAt g view size r h away [] u u) (planned : IsPlanned u c p) (can : CanAnswer u key c) where
+module _ {S H : Type 0} (g : Ghosts S) (view : H → View) (size : H
+    → Sizes) (r s : Held S) (h : H) (away : Image) (u : World) (key : List ℕ) (c : Command)
+    (p : Planned) (words : List ℕ) (words_is : words ≡ words_of c) (lawful : IsLawful (view h))
+    (at : IsAt g view size r h away [] u u) (planned : IsPlanned u c p)
+    (can : CanAnswer u key c) where
   abbrev ch : Changed
   ch = p.change
 
@@ -54,40 +58,58 @@ module _ {S H : Type 0} (g : Ghosts S) (view : H → View) (size : H → Sizes) 
 
   leads : AllLead t p.change.intents (size h) away (view h).may_leave u w
   leads x left = (
-    subst (λ (text : List ℕ). Leads (with_accepted p.change key text at.tables) p.change.intents (whole (size h) away x) w) (sym words_is)
-        (commit_leads u w key c p.change at.tables (whole (size h) away x) planned.makes plan (at.leads x left).0),
-    commit_claims u w key c p.change at.tables (whole (size h) away x) planned.makes plan (at.leads x left).0,
+    subst (λ (text : List ℕ). Leads (with_accepted p.change key text at.tables) p.change.intents
+        (whole (size h) away x) w) (sym words_is)
+        (commit_leads u w key c p.change at.tables (whole (size h) away x) planned.makes plan
+        (at.leads x left).0),
+    commit_claims u w key c p.change at.tables (whole (size h) away x) planned.makes plan
+        (at.leads x left).0,
   )
 
-  pub commit_leaves : CrashLeavesOnly g r at.tables → DiskKept g s → MayLeave g r s t → LeavesStep g view size r s h h away u key c
+  pub commit_leaves : CrashLeavesOnly g r at.tables → DiskKept g s → MayLeave g r s t
+      → LeavesStep g view size r s h h away u key c
   commit_leaves only clean may = record {
-    within = leads_in g view size r h away at.tables [] u u only ((view h).left_since (view h).moment) (λ x left. at.leads x (lawful.only_now x left));
+    within = leads_in g view size r h away at.tables [] u u only
+        ((view h).left_since (view h).moment) (λ x left. at.leads x (lawful.only_now x left));
     end = λ db left. elim (may.crash clean db left) [
-      | inl was ↦ inl (leads_in g view size r h away at.tables [] u u only (view h).may_leave at.leads db was)
-      | inr is ↦ inr (w, reply_to c u.state, plan.step, record { tables = t; intents = p.change.intents; stored = inl is; leads = leads })
+      | inl was ↦ inl (leads_in g view size r h away at.tables [] u u only
+          (view h).may_leave at.leads db was)
+      | inr is ↦ inr (
+        w,
+        reply_to c u.state,
+        plan.step,
+        record { tables = t; intents = p.change.intents; stored = inl is; leads = leads },
+      )
     ];
   }
 
   cover : Cover p.work.part w.state p.change.intents
   cover = subst (λ (x : Records). Cover x w.state p.change.intents) (sym planned.is)
-      (covers_after c planned.part u.state w.state p.change planned.leaves (planned.makes.records ∙ sym plan.step.records) plan.sound.state p.change.intents plan.own)
+      (covers_after c planned.part u.state w.state p.change planned.leaves
+      (planned.makes.records ∙ sym plan.step.records) plan.sound.state p.change.intents
+      plan.own)
 
   same_present : present w ≡ present u
   same_present = λ i q. if plan.step.there q i then plan.step.sizes q i else None
 
-  pub commit_done : (n : ℕ) (reply : Reply) → reply ≡ p.change.reply → n ≡ count_of at.tables + 1 → HasTables g s t → IsDone g view size s h away u key c n reply p.work
+  pub commit_done : (n : ℕ) (reply : Reply) → reply ≡ p.change.reply → n ≡ count_of at.tables + 1
+      → HasTables g s t → IsDone g view size s h away u key c n reply p.work
   commit_done n reply reply_is number_is has = record {
     world = w;
-    calls = subst (λ (a : Reply). run.Calls u (record { key = key; command = c }) w (run.Done n a)) (sym (reply_is ∙ planned.makes.reply))
-        (stepped u at.tables first_leads.sound first_leads.records key c can.key_ok can.free can.room w (reply_to c u.state) n plan.step number_is);
+    calls = subst (λ (a : Reply). run.Calls u (record { key = key; command = c }) w (run.Done n a))
+        (sym (reply_is ∙ planned.makes.reply))
+        (stepped u at.tables first_leads.sound first_leads.records key c can.key_ok can.free
+        can.room w (reply_to c u.state) n plan.step number_is);
     at = record {
-      at = subst (λ (ts : List Intent). IsAt g view size s h away ts u w) (sym planned.intents) (record {
-        tables = t;
-        has = has;
-        sizes = same_present ∙ at.sizes;
-        at_hand = λ i k. subst (λ (z : Sizes). IsAtHand z i) at.sizes (plan.at_hand i k);
-        leads = leads;
-      });
-      cover = subst (λ (ts : List Intent). Cover p.work.part w.state ts) (sym planned.intents) cover;
+      at = subst (λ (ts : List Intent). IsAt g view size s h away ts u w) (sym planned.intents)
+          (record {
+            tables = t;
+            has = has;
+            sizes = same_present ∙ at.sizes;
+            at_hand = λ i k. subst (λ (z : Sizes). IsAtHand z i) at.sizes (plan.at_hand i k);
+            leads = leads;
+          });
+      cover = subst (λ (ts : List Intent). Cover p.work.part w.state ts)
+          (sym planned.intents) cover;
     };
   }

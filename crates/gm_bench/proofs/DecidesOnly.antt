@@ -23,12 +23,17 @@ use Rattle.gm_bench.proofs.RegistryLeaves.{leads_in}
 use Rattle.gm_registry.proofs.CallsLeave.{IsSettling, saved}
 use Rattle.gm_state.specs.Rows.{Tables}
 
-module _ {S H : Type 0} (g : Ghosts S) (view : H → View) (size : H → Sizes) (r : Held S) (h : H) (away : Image) (ts : List Intent) (u w : World) (at : IsAt g view size r h away ts u w) where
+module _ {S H : Type 0} (g : Ghosts S) (view : H → View) (size : H
+    → Sizes) (r : Held S) (h : H) (away : Image) (ts : List Intent) (u w : World)
+    (at : IsAt g view size r h away ts u w) where
   abbrev pub found_of : IsFound g view size r h away ts u w
   found_of = record { tables = at.tables; has = at.has; sizes = at.sizes; leads = at.leads }
 
 -- a shelf that was only read
-module _ {S H : Type 0} (g : Ghosts S) (view : H → View) (size : H → Sizes) (r : Held S) (h k : H) (away : Image) (ts : List Intent) (u w : World) (at : IsAt g view size r h away ts u w) (quiet : IsQuiet (view h) (view k)) (same : size k ≡ size h) where
+module _ {S H : Type 0} (g : Ghosts S) (view : H → View) (size : H
+    → Sizes) (r : Held S) (h k : H) (away : Image) (ts : List Intent) (u w : World)
+    (at : IsAt g view size r h away ts u w) (quiet : IsQuiet (view h) (view k))
+    (same : size k ≡ size h) where
   -- the same tables, in whatever phase
   abbrev pub at_read : (s : Held S) → HasTables g s at.tables → IsAt g view size s k away ts u w
   at_read s has = record {
@@ -36,7 +41,8 @@ module _ {S H : Type 0} (g : Ghosts S) (view : H → View) (size : H → Sizes) 
     has = has;
     sizes = at.sizes ∙ sym same;
     at_hand = subst (λ (z : Sizes). (t : Intent) → Has ts t → IsAtHand z t) (sym same) at.at_hand;
-    leads = subst (λ (z : Sizes). AllLead at.tables ts z away (view k).may_leave u w) (sym same) (λ x left. at.leads x (quiet.crash x left));
+    leads = subst (λ (z : Sizes). AllLead at.tables ts z away (view k).may_leave u w) (sym same)
+        (λ x left. at.leads x (quiet.crash x left));
   }
 
 -- a shelf that wasn't touched
@@ -44,7 +50,10 @@ pub quiet_same : {H : Type 0} (view : H → View) (h k : H) → k ≡ h → IsQu
 quiet_same view h k same = subst (λ x. IsQuiet (view h) (view x)) (sym same) (quiet_itself (view h))
 
 -- a bench at rest, whose shelf was only read
-module _ {S H : Type 0} (g : Ghosts S) (view : H → View) (size : H → Sizes) (r : Held S) (h k : H) (away : Image) (u : World) (at : IsAt g view size r h away [] u u) (lawful : IsLawful (view h)) (quiet : IsQuiet (view h) (view k)) (same : size k ≡ size h) where
+module _ {S H : Type 0} (g : Ghosts S) (view : H → View) (size : H
+    → Sizes) (r : Held S) (h k : H) (away : Image) (u : World)
+    (at : IsAt g view size r h away [] u u) (lawful : IsLawful (view h))
+    (quiet : IsQuiet (view h) (view k)) (same : size k ≡ size h) where
   abbrev moments : AllLead at.tables [] (size h) away ((view k).left_since (view h).moment) u u
   moments x left = at.leads x (quiet_moment (view h) (view k) lawful quiet x left)
 
@@ -58,38 +67,56 @@ module _ {S H : Type 0} (g : Ghosts S) (view : H → View) (size : H → Sizes) 
     has = has;
     sizes = at.sizes ∙ sym same;
     at_hand = λ t none. absurd none;
-    leads = subst (λ (z : Sizes). AllLead at.tables [] z away (view k).may_leave u u) (sym same) now;
+    leads = subst (λ (z : Sizes). AllLead at.tables [] z away (view k).may_leave u u)
+        (sym same) now;
   }
 
-  before_step : CrashLeavesOnly g r at.tables → (db : Trees) → CrashLeaves g r db → Recovers db (size h) away ((view k).left_since (view h).moment) u u
-  before_step only = leads_in g view size r h away at.tables [] u u only ((view k).left_since (view h).moment) moments
+  before_step : CrashLeavesOnly g r at.tables → (db : Trees) → CrashLeaves g r db
+      → Recovers db (size h) away ((view k).left_since (view h).moment) u u
+  before_step only =
+      leads_in g view size r h away at.tables [] u u only
+      ((view k).left_since (view h).moment) moments
 
   -- a registry that was only read
-  pub unstepped : (s : Held S) (key : List ℕ) (c : Command) → CrashLeavesOnly g r at.tables → DiskKept g s → LeavesNothingNew g r s → LeavesStep g view size r s h k away u key c
+  pub unstepped : (s : Held S) (key : List ℕ) (c : Command) → CrashLeavesOnly g r at.tables
+      → DiskKept g s → LeavesNothingNew g r s → LeavesStep g view size r s h k away u key c
   unstepped s key c only clean nothing = record {
     within = before_step only;
     end = λ db left. elim (nothing.crash clean db left) [
-      | inl was ↦ inl (leads_in g view size r h away at.tables [] u u only (view k).may_leave now db was)
+      | inl was ↦ inl (leads_in g view size r h away at.tables [] u u only
+          (view k).may_leave now db was)
       | inr none ↦ absurd none
     ];
   }
 
   -- reads, and then more reads and a commit
-  pub then_step : (mid s : Held S) (l : H) (key : List ℕ) (c : Command) → IsQuiet (view h) (view l) → CrashLeavesOnly g r at.tables → LeavesStep g view size mid s k l away u key c → LeavesStep g view size r s h l away u key c
+  pub then_step : (mid s : Held S) (l : H) (key : List ℕ) (c : Command) → IsQuiet (view h) (view l)
+      → CrashLeavesOnly g r at.tables → LeavesStep g view size mid s k l away u key c
+      → LeavesStep g view size r s h l away u key c
   then_step mid s l key c all only leaves = record {
-    within = leads_in g view size r h away at.tables [] u u only ((view l).left_since (view h).moment) (λ x left. at.leads x (quiet_moment (view h) (view l) lawful all x left));
-    end = λ db left. subst (λ (z : Sizes). OrStep u key c (λ w. Recovers db z away (view l).may_leave u w)) same (leaves.end db left);
+    within = leads_in g view size r h away at.tables [] u u only
+        ((view l).left_since (view h).moment)
+        (λ x left. at.leads x (quiet_moment (view h) (view l) lawful all x left));
+    end = λ db left.
+        subst (λ (z : Sizes). OrStep u key c (λ w. Recovers db z away (view l).may_leave u w)) same
+        (leaves.end db left);
   }
 
 -- nothing was asked
-pub unstepped_same : {S H : Type 0} (g : Ghosts S) (view : H → View) (size : H → Sizes) (r : Held S) (h : H) (away : Image) (u : World) (at : IsAt g view size r h away [] u u) (lawful : IsLawful (view h)) (key : List ℕ) (c : Command) → CrashLeavesOnly g r at.tables → LeavesStep g view size r r h h away u key c
+pub unstepped_same : {S H : Type 0} (g : Ghosts S) (view : H → View) (size : H
+    → Sizes) (r : Held S) (h : H) (away : Image) (u : World) (at : IsAt g view size r h away [] u u)
+    (lawful : IsLawful (view h)) (key : List ℕ) (c : Command) → CrashLeavesOnly g r at.tables
+    → LeavesStep g view size r r h h away u key c
 unstepped_same g view size r h away u at lawful key c only = record {
-  within = leads_in g view size r h away at.tables [] u u only ((view h).left_since (view h).moment) (λ x left. at.leads x (lawful.only_now x left));
-  end = λ db left. inl (leads_in g view size r h away at.tables [] u u only (view h).may_leave at.leads db left);
+  within = leads_in g view size r h away at.tables [] u u only ((view h).left_since (view h).moment)
+      (λ x left. at.leads x (lawful.only_now x left));
+  end = λ db left. inl (leads_in g view size r h away at.tables [] u u only
+      (view h).may_leave at.leads db left);
 }
 
 -- what is answered at Ok, in other words
-pub ok_then : {X E : Type 0} (P Q : X → Type 0) → ((x : X) → P x → Q x) → (r : Result X E) → IfOk r P → IfOk r Q
+pub ok_then : {X E : Type 0} (P Q : X → Type 0) → ((x : X) → P x → Q x) → (r : Result X E)
+    → IfOk r P → IfOk r Q
 ok_then P Q f (Ok x) p = f x p
 ok_then P Q f (Err e) p = tt
 
@@ -100,18 +127,25 @@ pub room_of : (b : Bool) (n : ℕ) → b ≡ nat_le 100000 n → b ≡ false →
 room_of b n e t = let h : nat_le 100000 n ≡ false = sym e ∙ t in grind (arith, nat_tests)
 
 -- two reads, one after the other
-pub nothing_then : {S : Type 0} (g : Ghosts S) (r mid s : Held S) → LeavesNothingNew g r mid → LeavesNothingNew g mid s → LeavesNothingNew g r s
-nothing_then g r mid s first second = survives_then (state g r) (state g mid) (state g s) (λ _. ⊥) (λ _. ⊥) (λ _. ⊥) (λ _ db f. f) (λ _ db f. f) first second
+pub nothing_then : {S : Type 0} (g : Ghosts S) (r mid s : Held S) → LeavesNothingNew g r mid
+    → LeavesNothingNew g mid s → LeavesNothingNew g r s
+nothing_then g r mid s first second =
+    survives_then (state g r) (state g mid) (state g s) (λ _. ⊥) (λ _. ⊥) (λ _. ⊥) (λ _ db f. f)
+    (λ _ db f. f) first second
 
 -- a registry that was left alone, and then again
-pub alone_then : {S : Type 0} (g : Ghosts S) (r mid s : Held S) → IsRegistry g mid → WasClean g mid s → LeavesAlone g r mid → LeavesAlone g mid s → LeavesAlone g r s
+pub alone_then : {S : Type 0} (g : Ghosts S) (r mid s : Held S) → IsRegistry g mid
+    → WasClean g mid s → LeavesAlone g r mid → LeavesAlone g mid s → LeavesAlone g r s
 alone_then g r mid s is clean first second = record {
-  tables = λ kept is_open. second.tables kept is_open ∙ first.tables (omega (arith, clean, kept)) is.is_open;
+  tables = λ kept is_open. second.tables kept is_open
+      ∙ first.tables (omega (arith, clean, kept)) is.is_open;
   crash = nothing_then g r mid s first.crash second.crash;
 }
 
 -- a read, and then another, of a registry that keeps its tables in between
-pub reads_then : {S : Type 0} (g : Ghosts S) (r mid s : Held S) → ((t : Tables) → HasTables g r t → HasTables g mid t) → Reads g r mid → Reads g mid s → Reads g r s
+pub reads_then : {S : Type 0} (g : Ghosts S) (r mid s : Held S)
+    → ((t : Tables) → HasTables g r t → HasTables g mid t) → Reads g r mid → Reads g mid s
+    → Reads g r s
 reads_then g r mid s has first second = record {
   kept = λ clean t h is_open. second.kept clean t (has t h) is_open;
   left = λ t h. nothing_then g r mid s (first.left t h) (second.left t (has t h));

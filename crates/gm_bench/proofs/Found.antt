@@ -18,7 +18,9 @@ use Rattle.gm_bench.specs.Presence.{first_absent}
 use Rattle.gm_bench.proofs.Present.{at_hand}
 use Rattle.gm_bench.proofs.ReadTables.{tables_of}
 
-module _ {S H : Type 0} (g : Ghosts S) (view : H → View) (size : H → Sizes) (r : Held S) (h : H) (away : Image) (ts : List Intent) (u w : World) (at : IsFound g view size r h away ts u w) (lawful : IsLawful (view h)) where
+module _ {S H : Type 0} (g : Ghosts S) (view : H → View) (size : H
+    → Sizes) (r : Held S) (h : H) (away : Image) (ts : List Intent) (u w : World)
+    (at : IsFound g view size r h away ts u w) (lawful : IsLawful (view h)) where
   pub lead : Leads at.tables ts (whole (size h) away (view h).seen) w
   lead = (at.leads (view h).seen lawful.holds_now).0
 
@@ -26,7 +28,8 @@ module _ {S H : Type 0} (g : Ghosts S) (view : H → View) (size : H → Sizes) 
   readable = tables_of at.tables ts (whole (size h) away (view h).seen) w lead
 
   -- what is loaded is the world's
-  pub loaded : (s : Records) (is : List Intent) → AreTablesOf at.tables s is → (s ≡ w.state) × (is ≡ ts)
+  pub loaded : (s : Records) (is : List Intent) → AreTablesOf at.tables s is
+      → (s ≡ w.state) × (is ≡ ts)
   loaded s is of = one_reading same_mirror same_component at.tables s w.state is ts of readable
 
 -- all records say what is needed of themselves
@@ -37,15 +40,24 @@ cover_whole s w ts same state = record {
 }
 
 -- with all images at hand
-abbrev pub found_at : {S H : Type 0} (g : Ghosts S) (view : H → View) (size : H → Sizes) (r : Held S) (h : H) (away : Image) (ts : List Intent) (u w : World) → IsFound g view size r h away ts u w → ((t : Intent) → Has ts t → IsAtHand (size h) t) → IsAt g view size r h away ts u w
-found_at g view size r h away ts u w at hand = record { tables = at.tables; has = at.has; sizes = at.sizes; at_hand = hand; leads = at.leads }
+abbrev pub found_at : {S H : Type 0} (g : Ghosts S) (view : H → View) (size : H
+    → Sizes) (r : Held S) (h : H) (away : Image) (ts : List Intent) (u w : World)
+    → IsFound g view size r h away ts u w → ((t : Intent) → Has ts t → IsAtHand (size h) t)
+    → IsAt g view size r h away ts u w
+found_at g view size r h away ts u w at hand =
+    record { tables = at.tables; has = at.has; sizes = at.sizes; at_hand = hand; leads = at.leads }
 
-module _ {S H : Type 0} (g : Ghosts S) (view : H → View) (size : H → Sizes) (r : Held S) (h : H) (away : Image) (ts : List Intent) (u w : World) (at : IsFound g view size r h away ts u w) (lawful : IsLawful (view h)) (s : Records) (same : s ≡ w.state) where
+module _ {S H : Type 0} (g : Ghosts S) (view : H → View) (size : H
+    → Sizes) (r : Held S) (h : H) (away : Image) (ts : List Intent) (u w : World)
+    (at : IsFound g view size r h away ts u w) (lawful : IsLawful (view h)) (s : Records)
+    (same : s ≡ w.state) where
   -- where no image is lacking
   abbrev pub ready : first_absent s (size h) ts ≡ None → IsAt g view size r h away ts u w
   ready none =
       let l = lead g view size r h away ts u w at lawful in
-      found_at g view size r h away ts u w at (at_hand w.state (size h) l.sound.state ts l.readable.each (subst (λ (x : Records). first_absent x (size h) ts ≡ None) same none))
+      found_at g view size r h away ts u w at
+      (at_hand w.state (size h) l.sound.state ts l.readable.each
+      (subst (λ (x : Records). first_absent x (size h) ts ≡ None) same none))
 
   pub covered : Cover s w.state ts
   covered = cover_whole s w.state ts same (lead g view size r h away ts u w at lawful).sound.state

@@ -26,24 +26,41 @@ use Rattle.gm_bench.proofs.Asked.{serves, takes_alike}
 use Rattle.gm_bench.proofs.FactsLookedUp.{are_facts}
 
 -- a command needs the providers that it adopts from
-adopted_needed : (s : Records) (c : Command) (p : List ℕ) → Has (adopted_from c) p → Has (needed_by s c) p
+adopted_needed : (s : Records) (c : Command) (p : List ℕ) → Has (adopted_from c) p
+    → Has (needed_by s c) p
 adopted_needed s (Adopt n ps) p h = Has-append_left ps (map provider (awaited s (Adopt n ps))) p h
 adopted_needed s _ p h = absurd h
 
-module _ {S H : Type 0} (g : Ghosts S) (view : H → View) (size : H → Sizes) (r : Held S) (h : H) (away : Image) (u : World) (at : IsAt g view size r h away [] u u) (lawful : IsLawful (view h)) where
+module _ {S H : Type 0} (g : Ghosts S) (view : H → View) (size : H
+    → Sizes) (r : Held S) (h : H) (away : Image) (u : World) (at : IsAt g view size r h away [] u u)
+    (lawful : IsLawful (view h)) where
   leads : Leads at.tables [] (whole (size h) away (view h).seen) u
   leads = (at.leads (view h).seen lawful.holds_now).0
 
   pub are_records : AreRecordsOf at.tables u.state
-  are_records = record { state = leads.sound.state; rows = record { mirrors = leads.records.mirrors; components = leads.records.components } }
+  are_records = record {
+    state = leads.sound.state;
+    rows = record { mirrors = leads.records.mirrors; components = leads.records.components };
+  }
 
-  pub gathered : (first facts : List Fact) (c : Command) (part : Records) (against : Option Compared) → against ≡ option_map compared_with (source_in (seen_in first) (adopted_from c))
-      → part ≡ part_of u.state c (found_mids (seen_in first) (adopted_from c)) → ((q : List ℕ) → Has (adopted_from c) q → Tell first (size h) (view h).seen None q)
-      → ((s : Records) → IsPartOf part c s → (q : List ℕ) → Has (needed_by s c) q → Tell facts (size h) (view h).seen against q) → IsPartToDecide part (seen_in facts) c u.state × AreFacts facts u c
+  pub gathered : (first facts : List Fact) (c : Command) (part : Records)
+      (against : Option Compared)
+      → against ≡ option_map compared_with (source_in (seen_in first) (adopted_from c))
+      → part ≡ part_of u.state c (found_mids (seen_in first) (adopted_from c))
+      → ((q : List ℕ) → Has (adopted_from c) q → Tell first (size h) (view h).seen None q)
+      → ((s : Records) → IsPartOf part c s → (q : List ℕ) → Has (needed_by s c) q
+      → Tell facts (size h) (view h).seen against q)
+      → IsPartToDecide part (seen_in facts) c u.state × AreFacts facts u c
   gathered first facts c part against is read before tell =
-      let of : IsPartOf part c u.state = record { state = leads.sound.state; mids = found_mids (seen_in first) (adopted_from c); is = read } in
+      let of : IsPartOf part c u.state = record {
+        state = leads.sound.state;
+        mids = found_mids (seen_in first) (adopted_from c);
+        is = read;
+      } in
       let now = tell u.state of in (
         serves u.state part c (seen_in first) (seen_in facts) leads.sound.state read
-            (takes_alike (seen_in facts) (seen_in first) c (λ p h. (now p (adopted_needed u.state c p h)).last_is ∙ sym (before p h).last_is)),
-        are_facts at.tables u (size h) away (view h).seen at.sizes leads facts first c against is before now,
+            (takes_alike (seen_in facts) (seen_in first) c
+            (λ p h. (now p (adopted_needed u.state c p h)).last_is ∙ sym (before p h).last_is)),
+        are_facts at.tables u (size h) away (view h).seen at.sizes leads facts first c against is
+            before now,
       )

@@ -40,7 +40,8 @@ use Rattle.gm_bench.proofs.WorldAtRest.{rest_leads, rest_claims}
 no_mirror : (all : Sizes) (w : World) → IsNew all w → (m : Mirror) → Has w.state.mirrors m → ⊥
 no_mirror all w new m h = subst (λ (ms : List Mirror). Has ms m) new.mirrors h
 
-no_component : (all : Sizes) (w : World) → IsNew all w → (k : Component) → Has w.state.components k → ⊥
+no_component : (all : Sizes) (w : World) → IsNew all w → (k : Component) → Has w.state.components k
+    → ⊥
 no_component all w new k h = subst (λ (ks : List Component). Has ks k) new.components h
 
 no_answer : (all : Sizes) (w : World) → IsNew all w → (a : Answered) → Has w.answered a → ⊥
@@ -49,7 +50,8 @@ no_answer all w new a h = subst (λ (l : List Answered). Has l a) new.answered h
 new_state : (all : Sizes) (w : World) → IsNew all w → IsState w.state
 new_state all w new = record {
   mirrors_in_order = subst (λ (ms : List Mirror). Ascends name ms) (sym new.mirrors) tt;
-  components_in_order = subst (λ (ks : List Component). Ascends provider ks) (sym new.components) tt;
+  components_in_order =
+      subst (λ (ks : List Component). Ascends provider ks) (sym new.components) tt;
   count = (let e : length w.state.mirrors ≡ 0 = ap length new.mirrors in omega (arith, e));
   each = λ m h. absurd (no_mirror all w new m h);
   mids = λ a b h k e. absurd (no_mirror all w new a h);
@@ -75,38 +77,55 @@ new_sound all w new = record {
 
 new_records : (all : Sizes) (w : World) → IsNew all w → HoldRecords w no_tables
 new_records all w new = record {
-  mirrors = subst (λ (ms : List Mirror). IsPermutation (map mirror_row ms) []) (sym new.mirrors) (IsPermutation-refl []);
-  components = subst (λ (ks : List Component). IsPermutation (map component_row ks) []) (sym new.components) (IsPermutation-refl []);
-  commands = subst (λ (l : List Answered). IsPermutation (map answer_row l) []) (sym new.answered) (IsPermutation-refl []);
+  mirrors = subst (λ (ms : List Mirror). IsPermutation (map mirror_row ms) []) (sym new.mirrors)
+      (IsPermutation-refl []);
+  components = subst (λ (ks : List Component). IsPermutation (map component_row ks) [])
+      (sym new.components) (IsPermutation-refl []);
+  commands = subst (λ (l : List Answered). IsPermutation (map answer_row l) []) (sym new.answered)
+      (IsPermutation-refl []);
 }
 
 -- ---- counts of commands
 
 -- as many answers as accepted calls
-answered_many : (all : Sizes) (acc : List Entry) (w : World) → Reached all acc w → length w.answered ≡ length acc
+answered_many : (all : Sizes) (acc : List Entry) (w : World) → Reached all acc w
+    → length w.answered ≡ length acc
 answered_many all [] w new = ap length new.answered
 answered_many all (Without call p gone ∷ older) w (u, reached, s) =
     let e = answered_many all older u reached in
-    let long : length w.answered ≡ suc (length u.answered) = ap length (s.answered ∙ s.step.answered) in
+    let long : length w.answered ≡ suc (length u.answered) =
+    ap length (s.answered ∙ s.step.answered) in
     omega (arith, e, long)
 answered_many all (Handed_in call ∷ older) w (u, reached, s) =
     let e = answered_many all older u reached in
-    let long : length w.answered ≡ suc (length u.answered) = ap length (s.moved.answered ∙ s.step.answered) in
+    let long : length w.answered ≡ suc (length u.answered) =
+    ap length (s.moved.answered ∙ s.step.answered) in
     omega (arith, e, long)
 
 -- with fewer images it leads on as well
-fewer : (db : Trees) (size : Sizes) (away : Image) (X Y : Image → Type 0) (u w : World) → Recovers db size away X u w → ((x : Image) → Y x → X x) → Recovers db size away Y u w
-fewer db size away X Y u w r less = record { tables = r.tables; intents = r.intents; stored = r.stored; leads = λ x l. r.leads x (less x l) }
+fewer : (db : Trees) (size : Sizes) (away : Image) (X Y : Image → Type 0) (u w : World)
+    → Recovers db size away X u w → ((x : Image) → Y x → X x) → Recovers db size away Y u w
+fewer db size away X Y u w r less =
+    record {
+      tables = r.tables;
+      intents = r.intents;
+      stored = r.stored;
+      leads = λ x l. r.leads x (less x l);
+    }
 
 -- the tables of a store that leads to w count its answers
-counts : (db : Trees) (size : Sizes) (away : Image) (X : Image → Type 0) (x : Image) (u w : World) (n : ℕ) → X x → Recovers db size away X u w → HasCount db n → length w.answered ≡ n
+counts : (db : Trees) (size : Sizes) (away : Image) (X : Image
+    → Type 0) (x : Image) (u w : World) (n : ℕ) → X x → Recovers db size away X u w → HasCount db n
+    → length w.answered ≡ n
 counts db size away X x u w n there r count =
     let l = (r.leads x there).0 in
-    let many : length r.tables.commands ≡ length (map answer_row w.answered) = length_permutation (map answer_row w.answered) r.tables.commands l.records.commands in
+    let many : length r.tables.commands ≡ length (map answer_row w.answered) =
+    length_permutation (map answer_row w.answered) r.tables.commands l.records.commands in
     sym (length-map w.answered answer_row) ∙ (sym many ∙ count r.tables r.stored)
 
 -- a step keeps the providers
-step_present : (u w : World) (key : List ℕ) (c : Command) (r : Reply) → Step u key c w r → present w ≡ present u
+step_present : (u w : World) (key : List ℕ) (c : Command) (r : Reply) → Step u key c w r
+    → present w ≡ present u
 step_present u w key c r step = λ i q. if step.there q i then step.sizes q i else None
 
 -- ---- providers that go away or come back
@@ -118,19 +137,41 @@ with_there w there = record w { there = there }
 stays : (w : World) → IsButMoved w w
 stays w = record { state = refl; holds = refl; answered = refl; shelf = refl; size = refl }
 
-moved_on : (u w : World) (there : List ℕ → Bool) → IsButMoved w u → IsButMoved (with_there w there) u
-moved_on u w there m = record { state = m.state; holds = m.holds; answered = m.answered; shelf = m.shelf; size = m.size }
+moved_on : (u w : World) (there : List ℕ → Bool) → IsButMoved w u
+    → IsButMoved (with_there w there) u
+moved_on u w there m = record {
+  state = m.state;
+  holds = m.holds;
+  answered = m.answered;
+  shelf = m.shelf;
+  size = m.size;
+}
 
-moved_from : (u w : World) (there : List ℕ → Bool) → IsButMoved u w → IsButMoved u (with_there w there)
-moved_from u w there m = record { state = m.state; holds = m.holds; answered = m.answered; shelf = m.shelf; size = m.size }
+moved_from : (u w : World) (there : List ℕ → Bool) → IsButMoved u w
+    → IsButMoved u (with_there w there)
+moved_from u w there m = record {
+  state = m.state;
+  holds = m.holds;
+  answered = m.answered;
+  shelf = m.shelf;
+  size = m.size;
+}
 
-one_step : (u w : World) (call : Call) (r : Reply) → Step u call.key call.command w r → IsStepTo u call w
+pub one_step : (u w : World) (call : Call) (r : Reply) → Step u call.key call.command w r
+    → IsStepTo u call w
 one_step u w call r step = record { stepped = w; reply = r; step = step; moved = stays w }
 
-moved_step : (u w : World) (call : Call) (there : List ℕ → Bool) → IsStepTo u call w → IsStepTo u call (with_there w there)
-moved_step u w call there s = record { stepped = s.stepped; reply = s.reply; step = s.step; moved = moved_on s.stepped w there s.moved }
+moved_step : (u w : World) (call : Call) (there : List ℕ → Bool) → IsStepTo u call w
+    → IsStepTo u call (with_there w there)
+moved_step u w call there s = record {
+  stepped = s.stepped;
+  reply = s.reply;
+  step = s.step;
+  moved = moved_on s.stepped w there s.moved;
+}
 
-moved_without : (u w : World) (call : Call) (p : List ℕ) (gone : List Intent) (there : List ℕ → Bool) → IsStepWithout u call p gone w → IsStepWithout u call p gone (with_there w there)
+moved_without : (u w : World) (call : Call) (p : List ℕ) (gone : List Intent) (there : List ℕ
+    → Bool) → IsStepWithout u call p gone w → IsStepWithout u call p gone (with_there w there)
 moved_without u w call p gone there s = record {
   stepped = s.stepped;
   reply = s.reply;
@@ -144,34 +185,66 @@ moved_without u w call p gone there s = record {
   shelf = s.shelf;
 }
 
-moved_reached : (all : Sizes) (acc : List Entry) (w : World) (there : List ℕ → Bool) → Reached all acc w → Reached all acc (with_there w there)
-moved_reached all [] w there new = record { mirrors = new.mirrors; components = new.components; answered = new.answered; sizes = new.sizes }
-moved_reached all (Handed_in call ∷ older) w there (u, reached, s) = (u, reached, moved_step u w call there s)
-moved_reached all (Without call p gone ∷ older) w there (u, reached, s) = (u, reached, moved_without u w call p gone there s)
+moved_reached : (all : Sizes) (acc : List Entry) (w : World) (there : List ℕ → Bool)
+    → Reached all acc w → Reached all acc (with_there w there)
+moved_reached all [] w there new =
+    record {
+      mirrors = new.mirrors;
+      components = new.components;
+      answered = new.answered;
+      sizes = new.sizes;
+    }
+moved_reached all (Handed_in call ∷ older) w there (u, reached, s) =
+    (u, reached, moved_step u w call there s)
+moved_reached all (Without call p gone ∷ older) w there (u, reached, s) =
+    (u, reached, moved_without u w call p gone there s)
 
-moved_last : (all : Sizes) (acc : List Entry) (u w : World) (there : List ℕ → Bool) → ArePending all acc u w → ArePending all acc u (with_there w there)
+moved_last : (all : Sizes) (acc : List Entry) (u w : World) (there : List ℕ → Bool)
+    → ArePending all acc u w → ArePending all acc u (with_there w there)
 moved_last all [] u w there last = absurd last
-moved_last all (Handed_in call ∷ older) u w there (reached, s) = (reached, moved_step u w call there s)
-moved_last all (Without call p gone ∷ older) u w there (v, reached, s, first) = (v, reached, moved_without v w call p gone there s, first)
+moved_last all (Handed_in call ∷ older) u w there (reached, s) =
+    (reached, moved_step u w call there s)
+moved_last all (Without call p gone ∷ older) u w there (v, reached, s, first) =
+    (v, reached, moved_without v w call p gone there s, first)
 
 -- a command that was handed in is the first that is pending
-last_pending : (all : Sizes) (acc : List Entry) (u w : World) → IsLastStep all acc u w → ArePending all acc u w
+last_pending : (all : Sizes) (acc : List Entry) (u w : World) → IsLastStep all acc u w
+    → ArePending all acc u w
 last_pending all [] u w last = absurd last
 last_pending all (Handed_in call ∷ older) u w last = last
 last_pending all (Without call p gone ∷ older) u w last = absurd last
 
-moved_leads : (t : Tables) (ts : List Intent) (x : Image) (w : World) (there : List ℕ → Bool) → Leads t ts x w → Leads t ts x (with_there w there)
+moved_leads : (t : Tables) (ts : List Intent) (x : Image) (w : World) (there : List ℕ → Bool)
+    → Leads t ts x w → Leads t ts x (with_there w there)
 moved_leads t ts x w there l = record {
-  sound = record { state = l.sound.state; answers = l.sound.answers; sizes = l.sound.sizes; full = l.sound.full; whole = l.sound.whole };
-  records = record { mirrors = l.records.mirrors; components = l.records.components; commands = l.records.commands };
+  sound = record {
+    state = l.sound.state;
+    answers = l.sound.answers;
+    sizes = l.sound.sizes;
+    full = l.sound.full;
+    whole = l.sound.whole;
+  };
+  records = record {
+    mirrors = l.records.mirrors;
+    components = l.records.components;
+    commands = l.records.commands;
+  };
   intents = l.intents;
   readable = l.readable;
   at_hand = l.at_hand;
   redo = l.redo;
 }
 
-moved_keeps : (ts : List Intent) (x : Image) (u w : World) (there : List ℕ → Bool) → KeepsClaims ts x u w → KeepsClaims ts x u (with_there w there)
-moved_keeps ts x u w there k = record { sound = k.sound; sizes = k.sizes; after = k.after; copies = k.copies; old = k.old; new = k.new }
+moved_keeps : (ts : List Intent) (x : Image) (u w : World) (there : List ℕ → Bool)
+    → KeepsClaims ts x u w → KeepsClaims ts x u (with_there w there)
+moved_keeps ts x u w there k = record {
+  sound = k.sound;
+  sizes = k.sizes;
+  after = k.after;
+  copies = k.copies;
+  old = k.old;
+  new = k.new;
+}
 
 -- the providers have their sizes for ever
 reached_sizes : (all : Sizes) (acc : List Entry) (w : World) → Reached all acc w → w.size ≡ all
@@ -183,7 +256,8 @@ reached_sizes all (Handed_in call ∷ older) w (u, reached, s) =
     let same : s.stepped.size ≡ u.size = λ i q. s.step.sizes q i in
     s.moved.size ∙ (same ∙ reached_sizes all older u reached)
 
-seen_through : (o full : Option ℕ) → (o ≡ None) ⊎ (o ≡ full) → (if is_some o then full else None) ≡ o
+seen_through : (o full : Option ℕ) → (o ≡ None) ⊎ (o ≡ full)
+    → (if is_some o then full else None) ≡ o
 seen_through None full e = refl
 seen_through (Some n) full (inl e) = absurd (let no : ⊥ = cc in no)
 seen_through (Some n) full (inr e) = sym e
@@ -191,9 +265,12 @@ seen_through (Some n) full (inr e) = sym e
 abbrev there_of : Sizes → List ℕ → Bool
 there_of size q = is_some (size q)
 
-moved_present : (all : Sizes) (w : World) (size : Sizes) → w.size ≡ all → AreAmong size all → present (with_there w (there_of size)) ≡ size
+moved_present : (all : Sizes) (w : World) (size : Sizes) → w.size ≡ all → AreAmong size all
+    → present (with_there w (there_of size)) ≡ size
 moved_present all w size is among =
-    let each : (q : List ℕ) → (if is_some (size q) then w.size q else None) ≡ size q = λ q. seen_through (size q) (w.size q) (subst (λ (z : Sizes). (size q ≡ None) ⊎ (size q ≡ z q)) (sym is) (among q)) in
+    let each : (q : List ℕ) → (if is_some (size q) then w.size q else None) ≡ size q =
+    λ q. seen_through (size q) (w.size q)
+    (subst (λ (z : Sizes). (size q ≡ None) ⊎ (size q ≡ z q)) (sym is) (among q)) in
     λ i q. each q i
 
 module _ {S H : Type 0} (g : Ghosts S) (view : H → View) (size : H → Sizes) (all : Sizes) where
@@ -204,16 +281,23 @@ module _ {S H : Type 0} (g : Ghosts S) (view : H → View) (size : H → Sizes) 
   AtPhase m p = Headline g view size all p m.away m.accepted m.acknowledged
 
   -- the store and the images of a stop lead on, where each such pair does
-  led : (r s : Held S) (h k : H) (db : Trees) (l : H) (away : Image) (u w : World) → LeavesOnly g view size r s h k away u w → IsStop g view size r s h k db l → Recovers db (size l) away (view l).may_leave u w
+  led : (r s : Held S) (h k : H) (db : Trees) (l : H) (away : Image) (u w : World)
+      → LeavesOnly g view size r s h k away u w → IsStop g view size r s h k db l
+      → Recovers db (size l) away (view l).may_leave u w
   led r s h k db l away u w only stop =
       subst (λ (z : Sizes). Recovers db z away (view l).may_leave u w) (sym stop.0)
       (elim stop.2 [
-        | inl within ↦ fewer db (size h) away ((view k).left_since (view h).moment) (view l).may_leave u w (only.within db within.0) within.1
-        | inr end ↦ fewer db (size h) away (view k).may_leave (view l).may_leave u w (only.end db end.0) end.1
+        | inl within ↦ fewer db (size h) away ((view k).left_since (view h).moment)
+            (view l).may_leave u w (only.within db within.0) within.1
+        | inr end ↦ fewer db (size h) away (view k).may_leave (view l).may_leave u w
+            (only.end db end.0) end.1
       ])
 
   -- what a stop within a call leaves, where each pair leads to w
-  stopped : (r s : Held S) (h k : H) (db : Trees) (l : H) (away : Image) (u w : World) (acc ack : List Entry) → Reached all acc w → IsButMoved u w ⊎ ArePending all acc u w → present w ≡ size h → Within ack acc → LeavesOnly g view size r s h k away u w → IsStop g view size r s h k db l
+  stopped : (r s : Held S) (h k : H) (db : Trees) (l : H) (away : Image) (u w : World)
+      (acc ack : List Entry) → Reached all acc w → IsButMoved u w ⊎ ArePending all acc u w
+      → present w ≡ size h → Within ack acc → LeavesOnly g view size r s h k away u w
+      → IsStop g view size r s h k db l
       → Stopped g view size all db l away acc ack
   stopped r s h k db l away u w acc ack reached last is told only stop = record {
     world = w;
@@ -225,7 +309,9 @@ module _ {S H : Type 0} (g : Ghosts S) (view : H → View) (size : H → Sizes) 
     told = told;
   }
 
-  answered : (call : Call) (a : Accepted) (r s : Held S) (h k : H) (m n : Now (Held S) H) → AtRest g view size all r h m.away m.accepted m.acknowledged → n ≡ after_answer m call a s k → AcceptAnswers g view size r s h k call.key call.command a → At n
+  answered : (call : Call) (a : Accepted) (r s : Held S) (h k : H) (m n : Now (Held S) H)
+      → AtRest g view size all r h m.away m.accepted m.acknowledged → n ≡ after_answer m call a s k
+      → AcceptAnswers g view size r s h k call.key call.command a → At n
   answered call (Done i reply work) r s h k m n was is clause =
       let it = clause m.away was.world was.at in
       let step : Step was.world call.key call.command it.world reply = it.calls.3 in
@@ -238,66 +324,112 @@ module _ {S H : Type 0} (g : Ghosts S) (view : H → View) (size : H → Sizes) 
         told = keeps was.told;
       })
   answered call (Repeated i reply) r s h k m n was is clause =
-      subst At (sym is) (record { world = was.world; reached = was.reached; at = (clause m.away was.world was.at).1; told = was.told })
+      subst At (sym is) (record {
+        world = was.world;
+        reached = was.reached;
+        at = (clause m.away was.world was.at).1;
+        told = was.told;
+      })
   answered call (Refused why) r s h k m n was is clause =
-      subst At (sym is) (record { world = was.world; reached = was.reached; at = (clause m.away was.world was.at).1; told = was.told })
+      subst At (sym is) (record {
+        world = was.world;
+        reached = was.reached;
+        at = (clause m.away was.world was.at).1;
+        told = was.told;
+      })
 
   -- a commit that was stopped stands, or not
-  left_by : (call : Call) (r : Held S) (h : H) (db : Trees) (l : H) (away : Image) (acc ack after : List Entry) (was : AtRest g view size all r h away acc ack) → IsLeftIn db (Handed_in call) acc after → size l ≡ size h → (view l).may_leave (view l).seen
-      → OrStep was.world call.key call.command (λ w. Recovers db (size h) away (view l).may_leave was.world w) → Stopped g view size all db l away after ack
+  left_by : (call : Call) (r : Held S) (h : H) (db : Trees) (l : H) (away : Image)
+      (acc ack after : List Entry) (was : AtRest g view size all r h away acc ack)
+      → IsLeftIn db (Handed_in call) acc after → size l ≡ size h → (view l).may_leave (view l).seen
+      → OrStep was.world call.key call.command
+      (λ w. Recovers db (size h) away (view l).may_leave was.world w)
+      → Stopped g view size all db l away after ack
   left_by call r h db l away acc ack after was left same there either =
       let u : World = was.world in
       let many : length u.answered ≡ length acc = answered_many all acc u was.reached in
-      let resized : (w : World) → Recovers db (size h) away (view l).may_leave u w → Recovers db (size l) away (view l).may_leave u w = λ w. subst (λ (z : Sizes). Recovers db z away (view l).may_leave u w) (sym same) in
+      let resized : (w : World) → Recovers db (size h) away (view l).may_leave u w
+      → Recovers db (size l) away (view l).may_leave u w =
+      λ w. subst (λ (z : Sizes). Recovers db z away (view l).may_leave u w) (sym same) in
       elim left [
         | inl before ↦
             subst (λ (list : List Entry). Stopped g view size all db l away list ack) (sym before.0)
             (elim either [
-              | inl r ↦ record { world = u; before = u; reached = was.reached; last = inl (stays u); sizes = was.at.sizes ∙ sym same; recovers = resized u r; told = was.told }
+              | inl r ↦ record {
+                world = u;
+                before = u;
+                reached = was.reached;
+                last = inl (stays u);
+                sizes = was.at.sizes ∙ sym same;
+                recovers = resized u r;
+                told = was.told;
+              }
               | inr r ↦
-                  let n = counts db (size h) away (view l).may_leave (view l).seen u r.0 (length acc) there r.3 before.1 in
+                  let n = counts db (size h) away (view l).may_leave (view l).seen u r.0
+                  (length acc) there r.3 before.1 in
                   let m : length r.0.answered ≡ suc (length u.answered) = ap length r.2.answered in
                   absurd (omega (arith, n, m, many))
             ])
         | inr stands ↦
             subst (λ (list : List Entry). Stopped g view size all db l away list ack) (sym stands.0)
             (elim either [
-              | inl r ↦ (let n = counts db (size h) away (view l).may_leave (view l).seen u u (length acc + 1) there r stands.1 in absurd (omega (arith, n, many)))
+              | inl r ↦ (let n = counts db (size h) away (view l).may_leave (view l).seen u u
+                  (length acc + 1) there r stands.1 in absurd (omega (arith, n, many)))
               | inr r ↦ record {
                 world = r.0;
                 before = u;
                 reached = (u, was.reached, one_step u r.0 call r.1 r.2);
                 last = inr (was.reached, one_step u r.0 call r.1 r.2);
-                sizes = step_present u r.0 call.key call.command r.1 r.2 ∙ (was.at.sizes ∙ sym same);
+                sizes = step_present u r.0 call.key call.command r.1 r.2
+                    ∙ (was.at.sizes ∙ sym same);
                 recovers = resized r.0 r.3;
                 told = skips was.told;
               }
             ])
       ]
 
-  accept_stopped : (call : Call) (r s : Held S) (h k : H) (db : Trees) (l : H) (away : Image) (acc ack after : List Entry) (was : AtRest g view size all r h away acc ack) → IsLeftIn db (Handed_in call) acc after
-      → LeavesStep g view size r s h k away was.world call.key call.command → IsStop g view size r s h k db l → Stopped g view size all db l away after ack
+  accept_stopped : (call : Call) (r s : Held S) (h k : H) (db : Trees) (l : H) (away : Image)
+      (acc ack after : List Entry) (was : AtRest g view size all r h away acc ack)
+      → IsLeftIn db (Handed_in call) acc after
+      → LeavesStep g view size r s h k away was.world call.key call.command
+      → IsStop g view size r s h k db l → Stopped g view size all db l away after ack
   accept_stopped call r s h k db l away acc ack after was left clause stop =
       let u : World = was.world in
       left_by call r h db l away acc ack after was left stop.0 stop.1 (elim stop.2 [
-        | inl within ↦ inl (fewer db (size h) away ((view k).left_since (view h).moment) (view l).may_leave u u (clause.within db within.0) within.1)
+        | inl within
+            ↦ inl (fewer db (size h) away ((view k).left_since (view h).moment)
+            (view l).may_leave u u (clause.within db within.0) within.1)
         | inr end ↦ elim (clause.end db end.0) [
           | inl r ↦ inl (fewer db (size h) away (view k).may_leave (view l).may_leave u u r end.1)
-          | inr r ↦ inr (r.0, r.1, r.2, fewer db (size h) away (view k).may_leave (view l).may_leave u r.0 r.3 end.1)
+          | inr r ↦ inr (
+            r.0,
+            r.1,
+            r.2,
+            fewer db (size h) away (view k).may_leave (view l).may_leave u r.0 r.3 end.1,
+          )
         ]
       ])
 
   -- a run was stopped within its accepting, or behind that
-  run_stopped : (call : Call) (r s : Held S) (h k : H) (db : Trees) (l : H) (away : Image) (acc ack after : List Entry) (was : AtRest g view size all r h away acc ack) → IsLeftIn db (Handed_in call) acc after
-      → (it : LeavesRun g view size r s h k away was.world call.key call.command) → IsRunStop g view size r s h k away was.world call it db l → Stopped g view size all db l away after ack
+  pub run_stopped : (call : Call) (r s : Held S) (h k : H) (db : Trees) (l : H) (away : Image)
+      (acc ack after : List Entry) (was : AtRest g view size all r h away acc ack)
+      → IsLeftIn db (Handed_in call) acc after
+      → (it : LeavesRun g view size r s h k away was.world call.key call.command)
+      → IsRunStop g view size r s h k away was.world call it db l
+      → Stopped g view size all db l away after ack
   run_stopped call r s h k db l away acc ack after was left it (inl stop) =
-      accept_stopped call r it.registry h it.shelf db l away acc ack after was left it.accepting stop
-  run_stopped call r s h k db l away acc ack after was left it (inr (w, reply, step, leaves, stop)) =
+      accept_stopped call r it.registry h it.shelf db l away acc ack after was left it.accepting
+      stop
+  run_stopped call r s h k db l away acc ack after was left it
+      (inr (w, reply, step, leaves, stop)) =
       let same : size l ≡ size h = stop.0 ∙ it.sizes in
-      let led_on = subst (λ (z : Sizes). Recovers db z away (view l).may_leave was.world w) same (led it.registry s it.shelf k db l away was.world w leaves stop) in
+      let led_on = subst (λ (z : Sizes). Recovers db z away (view l).may_leave was.world w) same
+      (led it.registry s it.shelf k db l away was.world w leaves stop) in
       left_by call r h db l away acc ack after was left same stop.1 (inr (w, reply, step, led_on))
 
-  run_answered : (call : Call) (a : Answer) (r s : Held S) (h k : H) (m n : Now (Held S) H) → AtRest g view size all r h m.away m.accepted m.acknowledged → n ≡ after_run m call a s k → RunAnswers g view size r s h k call.key call.command a → At n
+  run_answered : (call : Call) (a : Answer) (r s : Held S) (h k : H) (m n : Now (Held S) H)
+      → AtRest g view size all r h m.away m.accepted m.acknowledged → n ≡ after_run m call a s k
+      → RunAnswers g view size r s h k call.key call.command a → At n
   run_answered call (run.Done i reply) r s h k m n was is clause =
       let it = clause m.away was.world was.at in
       let step : Step was.world call.key call.command it.world reply = it.calls.3 in
@@ -309,86 +441,157 @@ module _ {S H : Type 0} (g : Ghosts S) (view : H → View) (size : H → Sizes) 
       })
   run_answered call (run.Repeated i reply) r s h k m n was is clause =
       let it = clause m.away was.world was.at in
-      subst At (sym is) (record { world = it.world; reached = subst (Reached all m.accepted) (sym it.calls.0) was.reached; at = it.at; told = was.told })
+      subst At (sym is) (record {
+        world = it.world;
+        reached = subst (Reached all m.accepted) (sym it.calls.0) was.reached;
+        at = it.at;
+        told =
+            was.told;
+      })
   run_answered call (run.Refused why) r s h k m n was is clause =
       let it = clause m.away was.world was.at in
-      subst At (sym is) (record { world = it.world; reached = subst (Reached all m.accepted) (sym it.calls.0) was.reached; at = it.at; told = was.told })
+      subst At (sym is) (record {
+        world = it.world;
+        reached = subst (Reached all m.accepted) (sym it.calls.0) was.reached;
+        at = it.at;
+        told =
+            was.told;
+      })
 
   -- ---- a look
 
-  abbrev looked_at : (r s : Held S) (h k : H) (away : Image) (ts : List Intent) (u w : World) → LookDoes g view size r s h k → IsAt g view size r h away ts u w → IsAt g view size s k away ts u w
+  abbrev looked_at : (r s : Held S) (h k : H) (away : Image) (ts : List Intent) (u w : World)
+      → LookDoes g view size r s h k → IsAt g view size r h away ts u w
+      → IsAt g view size s k away ts u w
   looked_at r s h k away ts u w does at = record {
     tables = at.tables;
     has = does.tables at.tables at.has;
     sizes = at.sizes ∙ sym does.sizes;
-    at_hand = subst (λ (z : Sizes). (t : Intent) → Has ts t → IsAtHand z t) (sym does.sizes) at.at_hand;
-    leads = subst (λ (z : Sizes). AllLead at.tables ts z away (view k).may_leave u w) (sym does.sizes) (λ x l. at.leads x (does.images x l));
+    at_hand = subst (λ (z : Sizes). (t : Intent) → Has ts t
+        → IsAtHand z t) (sym does.sizes) at.at_hand;
+    leads = subst (λ (z : Sizes). AllLead at.tables ts z away (view k).may_leave u w)
+        (sym does.sizes) (λ x l. at.leads x (does.images x l));
   }
 
-  abbrev looked_on : (r s : Held S) (h k : H) (away : Image) (work : Work) (acc ack : List Entry) → LookDoes g view size r s h k → OnTheWay g view size all r h away work acc ack → OnTheWay g view size all s k away work acc ack
+  abbrev looked_on : (r s : Held S) (h k : H) (away : Image) (work : Work) (acc ack : List Entry)
+      → LookDoes g view size r s h k → OnTheWay g view size all r h away work acc ack
+      → OnTheWay g view size all s k away work acc ack
   looked_on r s h k away work acc ack does o = record {
     world = o.world;
     before = o.before;
     reached = o.reached;
     last = o.last;
-    at = record { at = looked_at r s h k away work.intents.items o.before o.world does o.at.at; cover = o.at.cover };
+    at = record {
+      at = looked_at r s h k away work.intents.items o.before o.world does o.at.at;
+      cover = o.at.cover;
+    };
     told = o.told;
   }
 
-  looked : (r s : Held S) (h k : H) (m : Now (Held S) H) → IsOpenOver m.phase r h → LookDoes g view size r s h k → At m → AtPhase m (with_media m.phase s k)
+  looked : (r s : Held S) (h k : H) (m : Now (Held S) H) → IsOpenOver m.phase r h
+      → LookDoes g view size r s h k → At m → AtPhase m (with_media m.phase s k)
   looked r s h k m (inl phase) does was =
-      let o : AtRest g view size all r h m.away m.accepted m.acknowledged = subst (AtPhase m) phase was in
-      let after : AtRest g view size all s k m.away m.accepted m.acknowledged = record { world = o.world; reached = o.reached; at = looked_at r s h k m.away [] o.world o.world does o.at; told = o.told } in
+      let o : AtRest g view size all r h m.away m.accepted m.acknowledged =
+      subst (AtPhase m) phase was in
+      let after : AtRest g view size all s k m.away m.accepted m.acknowledged =
+      record {
+        world = o.world;
+        reached = o.reached;
+        at = looked_at r s h k m.away [] o.world o.world does o.at;
+        told = o.told;
+      } in
       subst (λ (p : Phase (Held S) H). AtPhase m (with_media p s k)) (sym phase) after
   looked r s h k m (inr (work, inl phase)) does was =
-      let o : OnTheWay g view size all r h m.away work m.accepted m.acknowledged = subst (AtPhase m) phase was in
-      subst (λ (p : Phase (Held S) H). AtPhase m (with_media p s k)) (sym phase) (looked_on r s h k m.away work m.accepted m.acknowledged does o)
+      let o : OnTheWay g view size all r h m.away work m.accepted m.acknowledged =
+      subst (AtPhase m) phase was in
+      subst (λ (p : Phase (Held S) H). AtPhase m (with_media p s k)) (sym phase)
+      (looked_on r s h k m.away work m.accepted m.acknowledged does o)
   looked r s h k m (inr (work, inr phase)) does was =
-      let o : (o : OnTheWay g view size all r h m.away work m.accepted m.acknowledged) × IsShelfOf (view h) o.world (size h) = subst (AtPhase m) phase was in
-      let shelf : IsShelfOf (view k) o.0.world (size k) = subst (λ (z : Sizes). IsShelfOf (view k) o.0.world z) (sym does.sizes) (λ x l. o.1 x (does.images x l)) in
-      subst (λ (p : Phase (Held S) H). AtPhase m (with_media p s k)) (sym phase) (looked_on r s h k m.away work m.accepted m.acknowledged does o.0, shelf)
+      let o : (o : OnTheWay g view size all r h m.away work m.accepted m.acknowledged)
+      × IsShelfOf (view h) o.world (size h) = subst (AtPhase m) phase was in
+      let shelf : IsShelfOf (view k) o.0.world (size k) =
+      subst (λ (z : Sizes). IsShelfOf (view k) o.0.world z) (sym does.sizes)
+      (λ x l. o.1 x (does.images x l)) in
+      subst (λ (p : Phase (Held S) H). AtPhase m (with_media p s k)) (sym phase)
+      (looked_on r s h k m.away work m.accepted m.acknowledged does o.0, shelf)
 
-  look_stopped : (r s : Held S) (h k : H) (db : Trees) (l : H) (m : Now (Held S) H) → IsOpenOver m.phase r h → LookLeaves g view size r s h k → IsStop g view size r s h k db l → At m → Stopped g view size all db l m.away m.accepted m.acknowledged
+  look_stopped : (r s : Held S) (h k : H) (db : Trees) (l : H) (m : Now (Held S) H)
+      → IsOpenOver m.phase r h → LookLeaves g view size r s h k → IsStop g view size r s h k db l
+      → At m → Stopped g view size all db l m.away m.accepted m.acknowledged
   look_stopped r s h k db l m (inl phase) leaves stop was =
-      let o : AtRest g view size all r h m.away m.accepted m.acknowledged = subst (AtPhase m) phase was in
-      stopped r s h k db l m.away o.world o.world m.accepted m.acknowledged o.reached (inl (stays o.world)) o.at.sizes o.told (leaves m.away [] o.world o.world o.at) stop
+      let o : AtRest g view size all r h m.away m.accepted m.acknowledged =
+      subst (AtPhase m) phase was in
+      stopped r s h k db l m.away o.world o.world m.accepted m.acknowledged o.reached
+      (inl (stays o.world)) o.at.sizes o.told (leaves m.away [] o.world o.world o.at) stop
   look_stopped r s h k db l m (inr (work, inl phase)) leaves stop was =
-      let o : OnTheWay g view size all r h m.away work m.accepted m.acknowledged = subst (AtPhase m) phase was in
-      stopped r s h k db l m.away o.before o.world m.accepted m.acknowledged o.reached (inr (last_pending all m.accepted o.before o.world o.last)) o.at.at.sizes o.told (leaves m.away work.intents.items o.before o.world o.at.at) stop
+      let o : OnTheWay g view size all r h m.away work m.accepted m.acknowledged =
+      subst (AtPhase m) phase was in
+      stopped r s h k db l m.away o.before o.world m.accepted m.acknowledged o.reached
+      (inr (last_pending all m.accepted o.before o.world o.last)) o.at.at.sizes o.told
+      (leaves m.away work.intents.items o.before o.world o.at.at) stop
   look_stopped r s h k db l m (inr (work, inr phase)) leaves stop was =
-      let it : (o : OnTheWay g view size all r h m.away work m.accepted m.acknowledged) × IsShelfOf (view h) o.world (size h) = subst (AtPhase m) phase was in
+      let it : (o : OnTheWay g view size all r h m.away work m.accepted m.acknowledged)
+      × IsShelfOf (view h) o.world (size h) = subst (AtPhase m) phase was in
       let o = it.0 in
-      stopped r s h k db l m.away o.before o.world m.accepted m.acknowledged o.reached (inr (last_pending all m.accepted o.before o.world o.last)) o.at.at.sizes o.told (leaves m.away work.intents.items o.before o.world o.at.at) stop
+      stopped r s h k db l m.away o.before o.world m.accepted m.acknowledged o.reached
+      (inr (last_pending all m.accepted o.before o.world o.last)) o.at.at.sizes o.told
+      (leaves m.away work.intents.items o.before o.world o.at.at) stop
 
   -- the commit of an opening without a provider was stopped: it stands, or not
-  without_stopped : (call : Call) (p : List ℕ) (gone : List Intent) (o s : Held S) (h : H) (db : Trees) (l : H) (away : Image) (acc ack after : List Entry) (was : Stopped g view size all (stored g o) h away acc ack) → IsLeftIn db (Without call p gone) acc after
-      → LeavesCommit g view size o s h away was.before was.world call p gone → IsStop g view size o s h h db l → Stopped g view size all db l away after ack
+  without_stopped : (call : Call) (p : List ℕ) (gone : List Intent) (o s : Held S) (h : H)
+      (db : Trees) (l : H) (away : Image) (acc ack after : List Entry)
+      (was : Stopped g view size all (stored g o) h away acc ack)
+      → IsLeftIn db (Without call p gone) acc after
+      → LeavesCommit g view size o s h away was.before was.world call p gone
+      → IsStop g view size o s h h db l → Stopped g view size all db l away after ack
   without_stopped call p gone o s h db l away acc ack after was left clause stop =
       let u : World = was.before in
       let w : World = was.world in
       let many : length w.answered ≡ length acc = answered_many all acc w was.reached in
-      let either : Recovers db (size h) away (view l).may_leave u w ⊎ ((v : World) × IsStepWithout w call p gone v × (present v ≡ size h) × Recovers db (size h) away (view l).may_leave u v) = elim stop.2 [
-        | inl within ↦ inl (fewer db (size h) away ((view h).left_since (view h).moment) (view l).may_leave u w (clause.within db within.0) within.1)
+      let either : Recovers db (size h) away (view l).may_leave u w
+      ⊎ ((v : World) × IsStepWithout w call p gone v × (present v ≡ size h)
+      × Recovers db (size h) away (view l).may_leave u v) = elim stop.2 [
+        | inl within
+            ↦ inl (fewer db (size h) away ((view h).left_since (view h).moment)
+            (view l).may_leave u w (clause.within db within.0) within.1)
         | inr end ↦ elim (clause.end db end.0) [
           | inl r ↦ inl (fewer db (size h) away (view h).may_leave (view l).may_leave u w r end.1)
-          | inr r ↦ inr (r.0, r.1, r.2, fewer db (size h) away (view h).may_leave (view l).may_leave u r.0 r.3 end.1)
+          | inr r ↦ inr (
+            r.0,
+            r.1,
+            r.2,
+            fewer db (size h) away (view h).may_leave (view l).may_leave u r.0 r.3 end.1,
+          )
         ]
       ] in
-      let resized : (v : World) → Recovers db (size h) away (view l).may_leave u v → Recovers db (size l) away (view l).may_leave u v = λ v. subst (λ (z : Sizes). Recovers db z away (view l).may_leave u v) (sym stop.0) in
+      let resized : (v : World) → Recovers db (size h) away (view l).may_leave u v
+      → Recovers db (size l) away (view l).may_leave u v =
+      λ v. subst (λ (z : Sizes). Recovers db z away (view l).may_leave u v) (sym stop.0) in
       elim left [
         | inl before ↦
             subst (λ (list : List Entry). Stopped g view size all db l away list ack) (sym before.0)
             (elim either [
-              | inl r ↦ record { world = w; before = u; reached = was.reached; last = was.last; sizes = was.sizes ∙ sym stop.0; recovers = resized w r; told = was.told }
+              | inl r ↦ record {
+                world = w;
+                before = u;
+                reached = was.reached;
+                last = was.last;
+                sizes = was.sizes ∙ sym stop.0;
+                recovers = resized w r;
+                told = was.told;
+              }
               | inr r ↦
-                  let n = counts db (size h) away (view l).may_leave (view l).seen u r.0 (length acc) stop.1 r.3 before.1 in
-                  let m : length r.0.answered ≡ suc (length w.answered) = ap length (r.1.answered ∙ r.1.step.answered) in
+                  let n = counts db (size h) away (view l).may_leave (view l).seen u r.0
+                  (length acc) stop.1 r.3 before.1 in
+                  let m : length r.0.answered ≡ suc (length w.answered) =
+                  ap length (r.1.answered ∙ r.1.step.answered) in
                   absurd (omega (arith, n, m, many))
             ])
         | inr stands ↦
             subst (λ (list : List Entry). Stopped g view size all db l away list ack) (sym stands.0)
             (elim either [
-              | inl r ↦ (let n = counts db (size h) away (view l).may_leave (view l).seen u w (length acc + 1) stop.1 r stands.1 in absurd (omega (arith, n, many)))
+              | inl r ↦ (let n = counts db (size h) away (view l).may_leave (view l).seen u w
+                  (length acc + 1) stop.1 r stands.1 in absurd (omega (arith, n, many)))
               | inr r ↦ record {
                 world = r.0;
                 before = u;
@@ -402,84 +605,167 @@ module _ {S H : Type 0} (g : Ghosts S) (view : H → View) (size : H → Sizes) 
       ]
 
   -- with the providers of the later shelf it leads on as well
-  moved : (db : Trees) (h later : H) (away beyond : Image) (acc ack : List Entry) → IsMove g view size all h away later beyond → Stopped g view size all db h away acc ack → Stopped g view size all db later beyond acc ack
+  moved : (db : Trees) (h later : H) (away beyond : Image) (acc ack : List Entry)
+      → IsMove g view size all h away later beyond → Stopped g view size all db h away acc ack
+      → Stopped g view size all db later beyond acc ack
   moved db h later away beyond acc ack move was =
       let w : World = was.world in
       let u : World = was.before in
       let there : List ℕ → Bool = there_of (size later) in
       let r = was.recovers in
-      let leads : AllLead r.tables r.intents (size later) beyond (view later).may_leave u (with_there w there) = λ y left.
+      let leads : AllLead r.tables r.intents (size later) beyond (view later).may_leave u
+      (with_there w there) = λ y left.
       let from = move.images y left in
-      let same : whole (size h) away from.0 ≡ whole (size later) beyond y = λ i p j. sym (from.2 p j) i in
+      let same : whole (size h) away from.0 ≡ whole (size later) beyond y =
+      λ i p j. sym (from.2 p j) i in
       let lead = r.leads from.0 from.1 in (
-        moved_leads r.tables r.intents (whole (size later) beyond y) w there (subst (λ (x : Image). Leads r.tables r.intents x w) same lead.0),
-        moved_keeps r.intents (whole (size later) beyond y) u w there (subst (λ (x : Image). KeepsClaims r.intents x u w) same lead.1),
+        moved_leads r.tables r.intents (whole (size later) beyond y) w there
+            (subst (λ (x : Image). Leads r.tables r.intents x w) same lead.0),
+        moved_keeps r.intents (whole (size later) beyond y) u w there
+            (subst (λ (x : Image). KeepsClaims r.intents x u w) same lead.1),
       ) in
       record {
         world = with_there w there;
         before = u;
         reached = moved_reached all acc w there was.reached;
-        last = elim was.last [ inl m ↦ inl (moved_from u w there m) | inr l ↦ inr (moved_last all acc u w there l) ];
+        last = elim was.last [
+          | inl m ↦ inl (moved_from u w there m)
+          | inr l
+              ↦ inr (moved_last all acc u w there l)
+        ];
         sizes = moved_present all w (size later) (reached_sizes all acc w was.reached) move.sizes;
-        recovers = record { tables = r.tables; intents = r.intents; stored = r.stored; leads = leads };
+        recovers = record {
+          tables = r.tables;
+          intents = r.intents;
+          stored = r.stored;
+          leads = leads;
+        };
         told = was.told;
       }
 
-  next : (m : Now (Held S) H) (e : Event (Held S) H) (n : Now (Held S) H) → At m → Happens g view size all m e n → At n
+  next : (m : Now (Held S) H) (e : Event (Held S) H) (n : Now (Held S) H) → At m
+      → Happens g view size all m e n → At n
   next m (Accept_returned call a s k) n was (r, h, phase, is, clause) =
       answered call a r s h k m n (subst (AtPhase m) phase was) is clause
   next m (Accept_stopped call s k db l) n was (r, h, phase, after, is, left, clause, stop) =
-      let rest : AtRest g view size all r h m.away m.accepted m.acknowledged = subst (AtPhase m) phase was in
-      subst At (sym is) (accept_stopped call r s h k db l m.away m.accepted m.acknowledged after rest left (clause m.away rest.world rest.at) stop)
+      let rest : AtRest g view size all r h m.away m.accepted m.acknowledged =
+      subst (AtPhase m) phase was in
+      subst At (sym is) (accept_stopped call r s h k db l m.away m.accepted m.acknowledged after
+      rest left (clause m.away rest.world rest.at) stop)
   next m (Apply_returned k) n was (r, h, work, phase, is, clause) =
-      let o : OnTheWay g view size all r h m.away work m.accepted m.acknowledged = subst (AtPhase m) phase was in
+      let o : OnTheWay g view size all r h m.away work m.accepted m.acknowledged =
+      subst (AtPhase m) phase was in
       let it = clause m.away o.before o.world o.at in
-      subst At (sym is) (record { world = o.world; before = o.before; reached = o.reached; last = o.last; at = it.0; told = o.told }, it.1)
+      subst At (sym is) (
+        record {
+          world = o.world;
+          before = o.before;
+          reached = o.reached;
+          last = o.last;
+          at = it.0;
+          told = o.told;
+        },
+        it.1,
+      )
   next m (Apply_stopped k db l) n was (r, h, work, phase, is, clause, stop) =
-      let o : OnTheWay g view size all r h m.away work m.accepted m.acknowledged = subst (AtPhase m) phase was in
-      subst At (sym is) (stopped r r h k db l m.away o.before o.world m.accepted m.acknowledged o.reached (inr (last_pending all m.accepted o.before o.world o.last)) o.at.at.sizes o.told (clause m.away o.before o.world o.at) stop)
+      let o : OnTheWay g view size all r h m.away work m.accepted m.acknowledged =
+      subst (AtPhase m) phase was in
+      subst At (sym is) (stopped r r h k db l m.away o.before o.world m.accepted m.acknowledged
+      o.reached (inr (last_pending all m.accepted o.before o.world o.last)) o.at.at.sizes o.told
+      (clause m.away o.before o.world o.at) stop)
   next m (Settle_returned s) n was (r, h, work, phase, is, clause) =
-      let o : (o : OnTheWay g view size all r h m.away work m.accepted m.acknowledged) × IsShelfOf (view h) o.world (size h) = subst (AtPhase m) phase was in
-      subst At (sym is) (record { world = o.0.world; reached = o.0.reached; at = clause m.away o.0.before o.0.world o.0.at o.1; told = o.0.told })
+      let o : (o : OnTheWay g view size all r h m.away work m.accepted m.acknowledged)
+      × IsShelfOf (view h) o.world (size h) = subst (AtPhase m) phase was in
+      subst At (sym is) (record {
+        world = o.0.world;
+        reached = o.0.reached;
+        at = clause m.away o.0.before o.0.world o.0.at o.1;
+        told = o.0.told;
+      })
   next m (Settle_stopped s db l) n was (r, h, work, phase, is, clause, stop) =
-      let o : (o : OnTheWay g view size all r h m.away work m.accepted m.acknowledged) × IsShelfOf (view h) o.world (size h) = subst (AtPhase m) phase was in
-      subst At (sym is) (stopped r s h h db l m.away o.0.before o.0.world m.accepted m.acknowledged o.0.reached (inr (last_pending all m.accepted o.0.before o.0.world o.0.last)) o.0.at.at.sizes o.0.told (clause m.away o.0.before o.0.world o.0.at o.1) stop)
+      let o : (o : OnTheWay g view size all r h m.away work m.accepted m.acknowledged)
+      × IsShelfOf (view h) o.world (size h) = subst (AtPhase m) phase was in
+      subst At (sym is) (stopped r s h h db l m.away o.0.before o.0.world m.accepted m.acknowledged
+      o.0.reached (inr (last_pending all m.accepted o.0.before o.0.world o.0.last))
+      o.0.at.at.sizes o.0.told (clause m.away o.0.before o.0.world o.0.at o.1) stop)
   next m (Run_returned call a s k) n was (r, h, phase, is, clause) =
       run_answered call a r s h k m n (subst (AtPhase m) phase was) is clause
   next m (Run_stopped call s k db l) n was (r, h, phase, after, is, left, leaves, stop) =
-      let rest : AtRest g view size all r h m.away m.accepted m.acknowledged = subst (AtPhase m) phase was in
-      subst At (sym is) (run_stopped call r s h k db l m.away m.accepted m.acknowledged after rest left (leaves m.away rest.world rest.at) (stop m.away rest.world rest.at))
-  next m (Look_returned s k) n was (r, h, over, is, does) = subst At (sym is) (looked r s h k m over does was)
-  next m (Look_stopped s k db l) n was (r, h, over, is, leaves, stop) = subst At (sym is) (look_stopped r s h k db l m over leaves stop was)
+      let rest : AtRest g view size all r h m.away m.accepted m.acknowledged =
+      subst (AtPhase m) phase was in
+      subst At (sym is) (run_stopped call r s h k db l m.away m.accepted m.acknowledged after rest
+      left (leaves m.away rest.world rest.at) (stop m.away rest.world rest.at))
+  next m (Look_returned s k) n was (r, h, over, is, does) =
+      subst At (sym is) (looked r s h k m over does was)
+  next m (Look_stopped s k db l) n was (r, h, over, is, leaves, stop) =
+      subst At (sym is) (look_stopped r s h k db l m over leaves stop was)
   next m (Moved beyond later) n was (db, h, phase, is, move) =
-      let o : Stopped g view size all db h m.away m.accepted m.acknowledged = subst (AtPhase m) phase was in
+      let o : Stopped g view size all db h m.away m.accepted m.acknowledged =
+      subst (AtPhase m) phase was in
       subst At (sym is) (moved db h later m.away beyond m.accepted m.acknowledged move o)
   next m (Open_returned start s k) n was (h, phase, is, clause) =
-      let o : Stopped g view size all (stored g start) h m.away m.accepted m.acknowledged = subst (AtPhase m) phase was in
-      subst At (sym is) (record { world = o.world; reached = o.reached; at = clause m.away o.before o.world (record { sizes = o.sizes; recovers = o.recovers }); told = o.told })
+      let o : Stopped g view size all (stored g start) h m.away m.accepted m.acknowledged =
+      subst (AtPhase m) phase was in
+      subst At (sym is) (record {
+        world = o.world;
+        reached = o.reached;
+        at = clause m.away o.before o.world (record { sizes = o.sizes; recovers = o.recovers });
+        told = o.told;
+      })
   next m (Open_stopped start s k db l) n was (h, phase, is, clause, stop) =
-      let o : Stopped g view size all (stored g start) h m.away m.accepted m.acknowledged = subst (AtPhase m) phase was in
-      let left : IsLeft g view size start h m.away o.before o.world = record { sizes = o.sizes; recovers = o.recovers } in
-      subst At (sym is) (stopped start s h k db l m.away o.before o.world m.accepted m.acknowledged o.reached o.last o.sizes o.told (clause m.away o.before o.world left) stop)
+      let o : Stopped g view size all (stored g start) h m.away m.accepted m.acknowledged =
+      subst (AtPhase m) phase was in
+      let left : IsLeft g view size start h m.away o.before o.world =
+      record { sizes = o.sizes; recovers = o.recovers } in
+      subst At (sym is) (stopped start s h k db l m.away o.before o.world m.accepted m.acknowledged
+      o.reached o.last o.sizes o.told (clause m.away o.before o.world left) stop)
   next m (Without_returned call p gone start s k) n was (h, phase, is, clause) =
-      let o : Stopped g view size all (stored g start) h m.away m.accepted m.acknowledged = subst (AtPhase m) phase was in
+      let o : Stopped g view size all (stored g start) h m.away m.accepted m.acknowledged =
+      subst (AtPhase m) phase was in
       let it = clause m.away o.before o.world (record { sizes = o.sizes; recovers = o.recovers }) in
-      subst At (sym is) (record { world = it.1; reached = (o.world, o.reached, it.2); at = it.3; told = keeps o.told })
-  next m (Without_stopped call p gone start s db l) n was (h, phase, after, is, left, clause, stop) =
-      let o : Stopped g view size all (stored g start) h m.away m.accepted m.acknowledged = subst (AtPhase m) phase was in
-      subst At (sym is) (without_stopped call p gone start s h db l m.away m.accepted m.acknowledged after o left (clause m.away o.before o.world (record { sizes = o.sizes; recovers = o.recovers })).1 stop)
+      subst At (sym is) (record {
+        world = it.1;
+        reached = (o.world, o.reached, it.2);
+        at = it.3;
+        told = keeps o.told;
+      })
+  next m (Without_stopped call p gone start s db l) n was (
+    h,
+    phase,
+    after,
+    is,
+    left,
+    clause,
+    stop,
+  ) =
+      let o : Stopped g view size all (stored g start) h m.away m.accepted m.acknowledged =
+      subst (AtPhase m) phase was in
+      subst At (sym is) (without_stopped call p gone start s h db l m.away m.accepted m.acknowledged
+      after o left (clause m.away o.before o.world (record {
+        sizes = o.sizes;
+        recovers = o.recovers;
+      })).1 stop)
   next m (Without_carrying call p gone start mid s k db l) n was (h, phase, is, clause, stop) =
-      let o : Stopped g view size all (stored g start) h m.away m.accepted m.acknowledged = subst (AtPhase m) phase was in
+      let o : Stopped g view size all (stored g start) h m.away m.accepted m.acknowledged =
+      subst (AtPhase m) phase was in
       let it = clause m.away o.before o.world (record { sizes = o.sizes; recovers = o.recovers }) in
-      subst At (sym is) (stopped mid s h k db l m.away o.before it.1 (Without call p gone ∷ m.accepted) m.acknowledged (o.world, o.reached, it.2) (inr (o.world, o.reached, it.2, o.last)) it.3 (skips o.told) it.4 stop)
+      subst At (sym is) (stopped mid s h k db l m.away o.before it.1
+      (Without call p gone ∷ m.accepted) m.acknowledged (
+        o.world,
+        o.reached,
+        it.2,
+      ) (inr (o.world, o.reached, it.2, o.last)) it.3 (skips o.told) it.4 stop)
 
-  started : (db : Trees) (h : H) (away : Image) (w : World) → IsStart g view size all db h away w → AllLead no_tables [] (size h) away (view h).may_leave w w
+  started : (db : Trees) (h : H) (away : Image) (w : World) → IsStart g view size all db h away w
+      → AllLead no_tables [] (size h) away (view h).may_leave w w
   started db h away w s x l = (
-    rest_leads no_tables (whole (size h) away x) w (new_sound all w s.new) (new_records all w s.new) refl (s.shelf x l),
+    rest_leads no_tables (whole (size h) away x) w (new_sound all w s.new)
+        (new_records all w s.new) refl (s.shelf x l),
     rest_claims (whole (size h) away x) w (new_sound all w s.new) (s.shelf x l),
   )
 
-  pub law : (events : List (Event (Held S) H)) (n : Now (Held S) H) → Runs g view size all events n → At n
+  pub law : (events : List (Event (Held S) H)) (n : Now (Held S) H) → Runs g view size all events n
+      → At n
   law [] n (db, h, away, w, s, is) =
       subst At (sym is) (record {
         world = w;
@@ -487,7 +773,12 @@ module _ {S H : Type 0} (g : Ghosts S) (view : H → View) (size : H → Sizes) 
         reached = s.new;
         last = inl (stays w);
         sizes = s.sizes;
-        recovers = record { tables = no_tables; intents = []; stored = inr (s.empty, refl); leads = started db h away w s };
+        recovers = record {
+          tables = no_tables;
+          intents = [];
+          stored = inr (s.empty, refl);
+          leads = started db h away w s;
+        };
         told = none;
       })
   law (e ∷ older) n (m, runs, happens) = next m e n (law older m runs) happens

@@ -27,49 +27,81 @@ pub some_other : {X : Type 0} (o : Option X) (a b : X) → o ≡ Some a → o �
 some_other o a b e f = let both : Some a ≡ Some b = sym e ∙ f in cc
 
 -- a component is of one mirror
-pub one_home : (s : Records) → IsState s → (m n : Mirror) (k : Component) → IsOf s m k → IsOf s n k → m ≡ n
+pub one_home : (s : Records) → IsState s → (m n : Mirror) (k : Component) → IsOf s m k → IsOf s n k
+    → m ≡ n
 one_home s state m n k o p =
     some_other (mirror_of s k.mirror) m n (home m o) (home n p)
   where
     home : (a : Mirror) → IsOf s a k → mirror_of s k.mirror ≡ Some a
-    home a q = subst (λ (t : List ℕ). mirror_of s t ≡ Some a) (sym (member s a.name k q.component).1) (find_one name s.mirrors state.mirrors_in_order a q.mirror)
+    home a q = subst (λ (t : List ℕ). mirror_of s t ≡ Some a)
+        (sym (member s a.name k q.component).1)
+        (find_one name s.mirrors state.mirrors_in_order a q.mirror)
 
 -- it has a sector
-pub some_sectors : (s : Records) → IsState s → (m : Mirror) (k : Component) → IsOf s m k → 0 < k.sectors
-some_sectors s state m k o = let room = (state.each m o.mirror).sizes k o.component in omega (arith, room)
+pub some_sectors : (s : Records) → IsState s → (m : Mirror) (k : Component) → IsOf s m k
+    → 0 < k.sectors
+some_sectors s state m k o = let room = (state.each m o.mirror).sizes k o.component in
+    omega (arith, room)
 
 pub last_some : (n : ℕ) (sectors : ℕ → List ℕ) → 0 < n → last_of n sectors ≡ sectors (n - 1)
-last_some n sectors h = elim (cases_Bool (n == 0)) [ inl e ↦ absurd (grind (arith, nat_tests)) | inr e ↦ rw e refl ]
+last_some n sectors h =
+    elim (cases_Bool (n == 0)) [ inl e ↦ absurd (grind (arith, nat_tests)) | inr e ↦ rw e refl ]
 
-module _ (s : Records) (state : IsState s) (size : Sizes) (seen : Image) (m : Mirror) (k : Component) (o : IsOf s m k) where
+module _ (s : Records) (state : IsState s) (size : Sizes) (seen : Image) (m : Mirror)
+    (k : Component) (o : IsOf s m k) where
   -- of another size it isn't as it is registered
-  pub other_size : size k.provider ≢ Some k.sectors → (r : Bool) → r ≡ false → IsTrue r ↔ IsAsRegistered size seen m k
-  other_size other r e = (λ t. absurd (let no : true ≡ false = sym t ∙ e in cc), λ is. absurd (other is.size_is))
+  pub other_size : size k.provider ≢ Some k.sectors → (r : Bool) → r ≡ false → IsTrue r
+      ↔ IsAsRegistered size seen m k
+  other_size other r e = (
+    λ t. absurd (let no : true ≡ false = sym t ∙ e in cc),
+    λ is. absurd (other is.size_is),
+  )
 
   -- it has metadata
   pub has_metadata : metadata_of s k.provider ≡ None → ⊥
-  has_metadata none = let both : Some (metadata m k) ≡ None = sym (metadata_found s state m k o) ∙ none in cc
+  has_metadata none = let both : Some (metadata m k) ≡ None = sym (metadata_found s state m k o)
+      ∙ none in cc
 
   -- of its size it is so where its last sector is the encoding of what was found
-  pub by_last : (d : Metadata) (last : List ℕ) (r : Bool) → size k.provider ≡ Some k.sectors → metadata_of s k.provider ≡ Some d → last ≡ last_of k.sectors (seen k.provider)
+  pub by_last : (d : Metadata) (last : List ℕ) (r : Bool) → size k.provider ≡ Some k.sectors
+      → metadata_of s k.provider ≡ Some d → last ≡ last_of k.sectors (seen k.provider)
       → IsTrue r ↔ (last ≡ encoded d) → IsTrue r ↔ IsAsRegistered size seen m k
   by_last d last r sized found shown told =
-      let is : metadata m k ≡ d = some_other (metadata_of s k.provider) (metadata m k) d (metadata_found s state m k o) found in
-      let here : last ≡ seen k.provider (k.sectors - 1) = shown ∙ last_some k.sectors (seen k.provider) (some_sectors s state m k o) in
-      (λ t. record { size_is = sized; last_is = sym here ∙ (told.0 t ∙ ap encoded (sym is)) }, λ so. told.1 (here ∙ (so.last_is ∙ ap encoded is)))
+      let is : metadata m k ≡ d = some_other (metadata_of s k.provider) (metadata m k) d
+      (metadata_found s state m k o) found in
+      let here : last ≡ seen k.provider (k.sectors - 1) =
+      shown ∙ last_some k.sectors (seen k.provider) (some_sectors s state m k o) in (
+        λ t. record { size_is = sized; last_is = sym here ∙ (told.0 t ∙ ap encoded (sym is)) },
+        λ so. told.1 (here ∙ (so.last_is ∙ ap encoded is)),
+      )
 
 -- what was only read shows it as before
-pub as_before : (size size' : Sizes) (seen seen' : Image) (m : Mirror) (k : Component) → size' ≡ size → Same seen' seen → IsAsRegistered size' seen' m k ↔ IsAsRegistered size seen m k
+pub as_before : (size size' : Sizes) (seen seen' : Image) (m : Mirror) (k : Component)
+    → size' ≡ size → Same seen' seen → IsAsRegistered size' seen' m k ↔ IsAsRegistered size seen m k
 as_before size size' seen seen' m k e same = (
-  λ a. record { size_is = subst (λ (z : Sizes). z k.provider ≡ Some k.sectors) e a.size_is; last_is = sym (same k.provider (k.sectors - 1)) ∙ a.last_is },
-  λ b. record { size_is = subst (λ (z : Sizes). z k.provider ≡ Some k.sectors) (sym e) b.size_is; last_is = same k.provider (k.sectors - 1) ∙ b.last_is },
+  λ a. record {
+    size_is = subst (λ (z : Sizes). z k.provider ≡ Some k.sectors) e a.size_is;
+    last_is = sym (same k.provider (k.sectors - 1)) ∙ a.last_is;
+  },
+  λ b. record {
+    size_is = subst (λ (z : Sizes). z k.provider ≡ Some k.sectors) (sym e) b.size_is;
+    last_is = same k.provider (k.sectors - 1) ∙ b.last_is;
+  },
 )
 
 -- ---- the components in their order
 
 -- each component has its mirror
-pub home_of : (s : Records) → IsState s → (k : Component) → Has s.components k → (m : Mirror) × IsOf s m k
-home_of s state k h = let home = state.homes k h in (home.0, record { mirror = home.1; component = filter-Has (λ (c : Component). same_label c.mirror home.0.name) s.components k h (same_from k.mirror home.0.name (sym home.2)) })
+pub home_of : (s : Records) → IsState s → (k : Component) → Has s.components k
+    → (m : Mirror) × IsOf s m k
+home_of s state k h = let home = state.homes k h in (
+  home.0,
+  record {
+    mirror = home.1;
+    component = filter-Has (λ (c : Component). same_label c.mirror home.0.name) s.components k h
+        (same_from k.mirror home.0.name (sym home.2));
+  },
+)
 
 has_at : {X : Type 0} (xs : List X) (j : ℕ) (d : X) → j < length xs → Has xs (get_or xs j d)
 has_at [] j d low = absurd (omega (arith, low))
@@ -77,68 +109,113 @@ has_at (x ∷ xs) zero d low = inl refl
 has_at (x ∷ xs) (suc j) d low = inr (has_at xs j d (omega (arith, low)))
 
 -- what stands at a place is one of them
-pub has_item : {X : Type 0} (xs : List X) (i : ℕ) (x : X) → i < length xs → x ≡ get_or xs i x → Has xs x
+pub has_item : {X : Type 0} (xs : List X) (i : ℕ) (x : X) → i < length xs → x ≡ get_or xs i x
+    → Has xs x
 has_item xs i x low is = subst (Has xs) (sym is) (has_at xs i x low)
 
-ordered_before : {X : Type 0} (key : X → List ℕ) (xs : List X) (i : ℕ) (x : X) → Ascends key xs → i < length xs → x ≡ get_or xs i x → (y : X) → Has (take i xs) y → label_lt (key y) (key x) ≡ true
+ordered_before : {X : Type 0} (key : X → List ℕ) (xs : List X) (i : ℕ) (x : X) → Ascends key xs
+    → i < length xs → x ≡ get_or xs i x → (y : X) → Has (take i xs) y
+    → label_lt (key y) (key x) ≡ true
 ordered_before key [] i x order low is y h = absurd (omega (arith, low))
 ordered_before key (z ∷ zs) zero x order low is y h = absurd h
-ordered_before key (z ∷ zs) (suc i) x order low is y (inl e) = subst (λ v. label_lt (key v) (key x) ≡ true) e (order.0 x (subst (Has zs) (sym is) (has_at zs i x (omega (arith, low)))))
-ordered_before key (z ∷ zs) (suc i) x order low is y (inr h) = ordered_before key zs i x order.1 (omega (arith, low)) is y h
+ordered_before key (z ∷ zs) (suc i) x order low is y (inl e) =
+    subst (λ v. label_lt (key v) (key x) ≡ true) e
+    (order.0 x (subst (Has zs) (sym is) (has_at zs i x (omega (arith, low)))))
+ordered_before key (z ∷ zs) (suc i) x order low is y (inr h) =
+    ordered_before key zs i x order.1 (omega (arith, low)) is y h
 
-ascends_more : (names : List (List ℕ)) (p : List ℕ) → Ascends (λ n. n) names → ((q : List ℕ) → Has names q → label_lt q p ≡ true) → Ascends (λ n. n) (names ++ p ∷ [])
+ascends_more : (names : List (List ℕ)) (p : List ℕ) → Ascends (λ n. n) names
+    → ((q : List ℕ) → Has names q → label_lt q p ≡ true) → Ascends (λ n. n) (names ++ p ∷ [])
 ascends_more [] p order before = (λ y none. absurd none, tt)
-ascends_more (n ∷ names) p order before =
-    (λ y h. ⊎_elim (λ (was : Has names y). order.0 y was) (λ (e : p ≡ y). subst (λ (v : List ℕ). label_lt n v ≡ true) e (before n (inl refl))) (has_either names p y h), ascends_more names p order.1 (λ q h. before q (inr h)))
+ascends_more (n ∷ names) p order before = (
+  λ y h. ⊎_elim (λ (was : Has names y). order.0 y was)
+      (λ (e : p ≡ y). subst (λ (v : List ℕ). label_lt n v ≡ true) e (before n (inl refl)))
+      (has_either names p y h),
+  ascends_more names p order.1 (λ q h. before q (inr h)),
+)
 
 -- ---- all of them
 
 -- the names are those of just the components that aren't as they are registered, of these
-pub record SoFar (s : Records) (size : Sizes) (seen : Image) (done : List Component) (names : List (List ℕ)) : Type 0 where
-  pub amiss : (p : List ℕ) → Has names p → (m : Mirror) × (k : Component) × IsOf s m k × (k.provider ≡ p) × (IsAsRegistered size seen m k → ⊥)
-  pub others : (m : Mirror) (k : Component) → IsOf s m k → Has done k → IsAsRegistered size seen m k ⊎ Has names k.provider
+pub record SoFar (s : Records) (size : Sizes) (seen : Image) (done : List Component)
+    (names : List (List ℕ)) : Type 0 where
+  pub amiss : (p : List ℕ) → Has names p → (m : Mirror) × (k : Component) × IsOf s m k
+      × (k.provider ≡ p) × (IsAsRegistered size seen m k → ⊥)
+  pub others : (m : Mirror) (k : Component) → IsOf s m k → Has done k
+      → IsAsRegistered size seen m k ⊎ Has names k.provider
   pub among : (p : List ℕ) → Has names p → (k : Component) × Has done k × (k.provider ≡ p)
   pub ascend : Ascends (λ p. p) names
 
 pub none_so_far : (s : Records) (size : Sizes) (seen : Image) → SoFar s size seen [] []
-none_so_far s size seen = record { amiss = λ p h. absurd h; others = λ m k o h. absurd h; among = λ p h. absurd h; ascend = tt }
+none_so_far s size seen = record {
+  amiss = λ p h. absurd h;
+  others = λ m k o h. absurd h;
+  among = λ p h. absurd h;
+  ascend = tt;
+}
 
-module _ (s : Records) (state : IsState s) (size : Sizes) (seen : Image) (i : ℕ) (k : Component) (low : i < length s.components) (is : k ≡ get_or s.components i k) (names : List (List ℕ)) (so : SoFar s size seen (take i s.components) names) where
+module _ (s : Records) (state : IsState s) (size : Sizes) (seen : Image) (i : ℕ) (k : Component)
+    (low : i < length s.components) (is : k ≡ get_or s.components i k) (names : List (List ℕ))
+    (so : SoFar s size seen (take i s.components) names) where
   more : take (i + 1) s.components ≡ take i s.components ++ k ∷ []
-  more = take_more s.components i k low ∙ ap (λ (x : Component). take i s.components ++ x ∷ []) (sym is)
+  more = take_more s.components i k low ∙ ap (λ (x : Component). take i s.components ++ x ∷ [])
+      (sym is)
 
-  one_more : (j : Component) → Has (take (i + 1) s.components) j → Has (take i s.components) j ⊎ (k ≡ j)
-  one_more j h = has_either (take i s.components) k j (subst (λ (l : List Component). Has l j) more h)
+  one_more : (j : Component) → Has (take (i + 1) s.components) j
+      → Has (take i s.components) j ⊎ (k ≡ j)
+  one_more j h =
+      has_either (take i s.components) k j (subst (λ (l : List Component). Has l j) more h)
 
   still : (j : Component) → Has (take i s.components) j → Has (take (i + 1) s.components) j
-  still j h = subst (λ (l : List Component). Has l j) (sym more) (has_left (take i s.components) k j h)
+  still j h = subst (λ (l : List Component). Has l j) (sym more)
+      (has_left (take i s.components) k j h)
 
   there : Has (take (i + 1) s.components) k
   there = subst (λ (l : List Component). Has l k) (sym more) (has_last (take i s.components) k)
 
   -- one that is as it is registered
-  pub passed : (m : Mirror) → IsOf s m k → IsAsRegistered size seen m k → SoFar s size seen (take (i + 1) s.components) names
+  pub passed : (m : Mirror) → IsOf s m k → IsAsRegistered size seen m k
+      → SoFar s size seen (take (i + 1) s.components) names
   passed m o right = record {
     amiss = so.amiss;
     others = λ n j p h. ⊎_elim (λ (was : Has (take i s.components) j). so.others n j p was)
         (λ (e : k ≡ j). inl (let q : IsOf s n k = subst (λ (x : Component). IsOf s n x) (sym e) p in
-        subst (λ (x : Component). IsAsRegistered size seen n x) e (subst (λ (a : Mirror). IsAsRegistered size seen a k) (one_home s state m n k o q) right))) (one_more j h);
+        subst (λ (x : Component). IsAsRegistered size seen n x) e
+        (subst (λ (a : Mirror). IsAsRegistered size seen a k)
+        (one_home s state m n k o q) right))) (one_more j h);
     among = λ p h. let from = so.among p h in (from.0, still from.0 from.1, from.2);
     ascend = so.ascend;
   }
 
   -- one that isn't, which is listed
-  pub listed : (m : Mirror) → IsOf s m k → (IsAsRegistered size seen m k → ⊥) → SoFar s size seen (take (i + 1) s.components) (names ++ k.provider ∷ [])
+  pub listed : (m : Mirror) → IsOf s m k → (IsAsRegistered size seen m k → ⊥)
+      → SoFar s size seen (take (i + 1) s.components) (names ++ k.provider ∷ [])
   listed m o not = record {
-    amiss = λ p h. ⊎_elim (λ (was : Has names p). so.amiss p was) (λ (e : k.provider ≡ p). (m, k, o, e, not)) (has_either names k.provider p h);
+    amiss = λ p h. ⊎_elim (λ (was : Has names p). so.amiss p was)
+        (λ (e : k.provider ≡ p). (m, k, o, e, not)) (has_either names k.provider p h);
     others = λ n j p h. ⊎_elim
-        (λ (was : Has (take i s.components) j). ⊎_elim (λ (right : IsAsRegistered size seen n j). inl right) (λ (l : Has names j.provider). inr (has_left names k.provider j.provider l)) (so.others n j p was))
-        (λ (e : k ≡ j). inr (subst (λ (x : Component). Has (names ++ k.provider ∷ []) x.provider) e (has_last names k.provider))) (one_more j h);
-    among = λ p h. ⊎_elim (λ (was : Has names p). let from = so.among p was in (from.0, still from.0 from.1, from.2)) (λ (e : k.provider ≡ p). (k, there, e)) (has_either names k.provider p h);
-    ascend = ascends_more names k.provider so.ascend (λ q h. let from = so.among q h in subst (λ (v : List ℕ). label_lt v k.provider ≡ true) from.2 (ordered_before provider s.components i k state.components_in_order low is from.0 from.1));
+        (λ (was : Has (take i s.components) j).
+        ⊎_elim (λ (right : IsAsRegistered size seen n j). inl right)
+        (λ (l : Has names j.provider). inr (has_left names k.provider j.provider l))
+        (so.others n j p was))
+        (λ (e : k ≡ j). inr (subst (λ (x : Component). Has (names ++ k.provider ∷ []) x.provider) e
+        (has_last names k.provider))) (one_more j h);
+    among = λ p h. ⊎_elim (λ (was : Has names p). let from = so.among p was in
+        (from.0, still from.0 from.1, from.2)) (λ (e : k.provider ≡ p). (k, there, e))
+        (has_either names k.provider p h);
+    ascend = ascends_more names k.provider so.ascend (λ q h. let from = so.among q h in
+        subst (λ (v : List ℕ). label_lt v k.provider ≡ true) from.2
+        (ordered_before provider s.components i k state.components_in_order low is from.0 from.1));
   }
 
-pub all_looked_at : (s : Records) (size : Sizes) (seen : Image) (i : ℕ) (names : List (List ℕ)) → length s.components ≤ i → SoFar s size seen (take i s.components) names → IsAudit s size seen names
+pub all_looked_at : (s : Records) (size : Sizes) (seen : Image) (i : ℕ) (names : List (List ℕ))
+    → length s.components ≤ i → SoFar s size seen (take i s.components) names
+    → IsAudit s size seen names
 all_looked_at s size seen i names high so =
     let all : take i s.components ≡ s.components = take_all i s.components high in
-    record { amiss = so.amiss; others = λ m k o. so.others m k o (subst (λ (l : List Component). Has l k) (sym all) (member s m.name k o.component).0); ascend = so.ascend }
+    record {
+      amiss = so.amiss;
+      others = λ m k o. so.others m k o (subst (λ (l : List Component). Has l k) (sym all)
+          (member s m.name k o.component).0);
+      ascend = so.ascend;
+    }

@@ -11,13 +11,16 @@ use Rattle.gm_registry.proofs.CallsLeave.{IsSettling, saved}
 use Rattle.gm_bench.specs.Owed.{LookDoes, LookLeaves}
 use Rattle.gm_bench.proofs.RegistryLeaves.{read_only}
 
-module _ {S H : Type 0} (g : Ghosts S) (view : H → View) (size : H → Sizes) (r s : Held S) (h k : H) (quiet : IsQuiet (view h) (view k)) where
+module _ {S H : Type 0} (g : Ghosts S) (view : H → View) (size : H
+    → Sizes) (r s : Held S) (h k : H) (quiet : IsQuiet (view h) (view k)) where
   -- wherever it is stopped
   pub look_leaves : IsSettling g → IsLawful (view h) → DiskKept g s → Reads g r s
       → LookLeaves g view size r s h k
   look_leaves settling lawful clean reads away ts u w at =
-      read_only g view size r s h k away at.tables ts u w (saved g settling r at.tables at.has).crash clean
-      (reads.left at.tables at.has) (λ x l. at.leads x (quiet_moment (view h) (view k) lawful quiet x l))
+      read_only g view size r s h k away at.tables ts u w
+      (saved g settling r at.tables at.has).crash clean
+      (reads.left at.tables at.has)
+      (λ x l. at.leads x (quiet_moment (view h) (view k) lawful quiet x l))
       (λ x l. at.leads x (quiet.crash x l))
 
   -- where it ended well

@@ -1,4 +1,5 @@
--- The commit of an opening without a provider: the world that was left, or the step by the loss, whatever image goes with it.
+-- The commit of an opening without a provider: the world that was left, or the step by the loss,
+-- whatever image goes with it.
 use Rattle.std.proofs.Common.{◌≡◌, ◌∙◌, inl, inr, ℕ, ◌+◌, ◌&&◌, true, false, List, [], ◌∷◌, map, length, None, Some, refl, sym, ap, subst, append-nil, if◌then◌else◌}
 use Rattle.std.specs.Prelude.{IsSome}
 use Rattle.std.specs.List.Sorted.{IsPermutation}
@@ -48,27 +49,37 @@ use Rattle.gm_bench.proofs.Losses.{leads_to_loss, keeps_in_loss}
 use Rattle.gm_bench.proofs.RegistryLeaves.{leads_in}
 
 -- what writes to p is taken out
-taken_out : (p : List ℕ) (ts : List Intent) (t : Intent) → Has ts t → writes_to p t ≡ true → Has (dropped p ts) t
+taken_out : (p : List ℕ) (ts : List Intent) (t : Intent) → Has ts t → writes_to p t ≡ true
+    → Has (dropped p ts) t
 taken_out p [] t h e = absurd h
-taken_out p (r ∷ rs) t (inl s) e = let w : writes_to p r ≡ true = ap (writes_to p) s ∙ e in rw w (inl s)
+taken_out p (r ∷ rs) t (inl s) e = let w : writes_to p r ≡ true = ap (writes_to p) s ∙ e in
+    rw w (inl s)
 taken_out p (r ∷ rs) t (inr h) e =
-    elim (cases_Bool (writes_to p r)) [ inl w ↦ rw w (inr (taken_out p rs t h e)) | inr w ↦ rw w (taken_out p rs t h e) ]
+    elim (cases_Bool (writes_to p r)) [
+      | inl w ↦ rw w (inr (taken_out p rs t h e))
+      | inr w
+          ↦ rw w (taken_out p rs t h e)
+    ]
 
 -- a sector of p that none of those names is no place at all
-no_place : (p : List ℕ) (size : Sizes) (ts : List Intent) (j : ℕ) → is_place size (dropped p ts) p j ≡ false → is_place size ts p j ≡ false
+no_place : (p : List ℕ) (size : Sizes) (ts : List Intent) (j : ℕ)
+    → is_place size (dropped p ts) p j ≡ false → is_place size ts p j ≡ false
 no_place p size ts j off =
     elim (cases_Bool (is_place size ts p j)) [
       | inr f ↦ f
       | inl e ↦
           let by = placed_by size ts p j e in
           elim (cases_Bool (writes_to p by.0)) [
-            | inl w ↦ not_both (is_place size (dropped p ts) p j) (place_from size (dropped p ts) by.0 p j (taken_out p ts by.0 by.1 w) by.2) off
+            | inl w ↦ not_both (is_place size (dropped p ts) p j)
+                (place_from size (dropped p ts) by.0 p j (taken_out p ts by.0 by.1 w) by.2) off
             | inr w ↦ not_both (names size by.0 p j) by.2 (names_none p p size by.0 j w)
           ]
     ]
 
 -- the records of a commit, beside whatever was pending
-module _ (w v : World) (key : List ℕ) (c : Command) (ch : Changed) (ts : List Intent) (t : Tables) (y : Image) (l : Leads t ts y w) (makes : Makes w.state (seen_of w) c ch) (us : List Intent) (plan : Plan w key c us v) (all : List Intent) where
+module _ (w v : World) (key : List ℕ) (c : Command) (ch : Changed) (ts : List Intent) (t : Tables)
+    (y : Image) (l : Leads t ts y w) (makes : Makes w.state (seen_of w) c ch) (us : List Intent)
+    (plan : Plan w key c us v) (all : List Intent) where
   abbrev change : Changed
   change = record ch { intents = all }
 
@@ -79,40 +90,59 @@ module _ (w v : World) (key : List ℕ) (c : Command) (ch : Changed) (ts : List 
   state_is = makes.records ∙ sym plan.step.records
 
   as_many : length t.commands ≡ length w.answered
-  as_many = length_permutation (map answer_row w.answered) t.commands l.records.commands ∙ length-map w.answered answer_row
+  as_many = length_permutation (map answer_row w.answered) t.commands l.records.commands
+      ∙ length-map w.answered answer_row
 
-  key_row : answer_row (answer w key c (reply_to c w.state)) ≡ command_row key (length t.commands + 1) (words_of c) ch.reply
+  key_row : answer_row (answer w key c (reply_to c w.state))
+      ≡ command_row key (length t.commands + 1) (words_of c) ch.reply
   key_row =
       ap (λ (k : ℕ). command_row key (k + 1) (words_of c) (reply_to c w.state)) (sym as_many)
       ∙ ap (λ (r : Reply). command_row key (length t.commands + 1) (words_of c) r) (sym makes.reply)
 
   held : HoldState v.state after
-  held = subst (λ (s : Records). HoldState s after) state_is (change_held change key (words_of c) w.state (settled t) l.sound.state (record { mirrors = l.records.mirrors; components = l.records.components }))
+  held = subst (λ (s : Records). HoldState s after) state_is
+      (change_held change key (words_of c) w.state (settled t) l.sound.state
+      (record { mirrors = l.records.mirrors; components = l.records.components }))
 
   keys : IsPermutation (map answer_row v.answered) after.commands
   keys =
-      subst (λ (rows : List CommandRow). IsPermutation (map answer_row v.answered) rows) (sym (change_commands change key (words_of c) (settled t)))
-      (subst (λ (a : List Answered). IsPermutation (map answer_row a) (command_row key (length t.commands + 1) (words_of c) ch.reply ∷ t.commands)) (sym plan.step.answered)
-      (subst (λ (r : CommandRow). IsPermutation (answer_row (answer w key c (reply_to c w.state)) ∷ map answer_row w.answered) (r ∷ t.commands)) key_row
-      (IsPermutation-cons (answer_row (answer w key c (reply_to c w.state))) (map answer_row w.answered) t.commands l.records.commands)))
+      subst (λ (rows : List CommandRow). IsPermutation (map answer_row v.answered) rows)
+      (sym (change_commands change key (words_of c) (settled t)))
+      (subst (λ (a : List Answered). IsPermutation (map answer_row a)
+      (command_row key (length t.commands + 1) (words_of c) ch.reply ∷ t.commands))
+      (sym plan.step.answered)
+      (subst (λ (r : CommandRow). IsPermutation (answer_row (answer w key c (reply_to c w.state))
+      ∷ map answer_row w.answered) (r ∷ t.commands)) key_row
+      (IsPermutation-cons (answer_row (answer w key c (reply_to c w.state)))
+      (map answer_row w.answered) t.commands l.records.commands)))
 
   pub rows : HoldRecords v after
   rows = record { mirrors = held.mirrors; components = held.components; commands = keys }
 
   pub intents_are : IsPermutation (intent_rows 1 all) after.intents
   intents_are =
-      let is : after.intents ≡ intent_rows 1 all = change_intents change key (words_of c) (settled t) ∙ append-nil (intent_rows 1 all) in
-      subst (λ rows. IsPermutation (intent_rows 1 all) rows) (sym is) (IsPermutation-refl (intent_rows 1 all))
+      let is : after.intents ≡ intent_rows 1 all =
+      change_intents change key (words_of c) (settled t) ∙ append-nil (intent_rows 1 all) in
+      subst (λ rows. IsPermutation (intent_rows 1 all) rows) (sym is)
+      (IsPermutation-refl (intent_rows 1 all))
 
-module _ {S H : Type 0} (g : Ghosts S) (view : H → View) (size : H → Sizes) (start mid s : Held S) (h : H) (away : Image) (u w : World) (lawful : IsLawful (view h)) (only_start : (db : Trees) → CrashLeaves g start db → db ≡ stored g start) (r : Recovers (stored g start) (size h) away (view h).may_leave u w)
-    (sizes : present w ≡ size h) (only : CrashLeavesOnly g mid r.tables) (key n p next : List ℕ) (m : Mirror) (found_is : mirror_of w.state n ≡ Some m) (here : (k : Component) × IsOf w.state m k × (k.provider ≡ p)) (gone : size h p ≡ None) (ch : Changed) (makes : Makes w.state (seen_of w) (Lost n (p ∷ [])) ch) (can : CanAnswer w key (Lost n (p ∷ []))) where
+module _ {S H : Type 0} (g : Ghosts S) (view : H → View) (size : H
+    → Sizes) (start mid s : Held S) (h : H) (away : Image) (u w : World)
+    (lawful : IsLawful (view h)) (only_start : (db : Trees) → CrashLeaves g start db
+    → db ≡ stored g start) (r : Recovers (stored g start) (size h) away (view h).may_leave u w)
+    (sizes : present w ≡ size h) (only : CrashLeavesOnly g mid r.tables) (key n p next : List ℕ)
+    (m : Mirror) (found_is : mirror_of w.state n ≡ Some m) (here : (k : Component)
+    × IsOf w.state m k × (k.provider ≡ p)) (gone : size h p ≡ None) (ch : Changed)
+    (makes : Makes w.state (seen_of w) (Lost n (p ∷ [])) ch)
+    (can : CanAnswer w key (Lost n (p ∷ []))) where
   abbrev pub c : Command
   c = Lost n (p ∷ [])
 
   abbrev pub y : Image → Image
   y x = whole (size h) away x
 
-  pub lead : (x : Image) → (view h).may_leave x → Leads r.tables r.intents (y x) w × KeepsClaims r.intents (y x) u w
+  pub lead : (x : Image) → (view h).may_leave x
+      → Leads r.tables r.intents (y x) w × KeepsClaims r.intents (y x) u w
   lead x left = r.leads x left
 
   abbrev pub first : Leads r.tables r.intents (y (view h).seen) w
@@ -153,17 +183,29 @@ module _ {S H : Type 0} (g : Ghosts S) (view : H → View) (size : H → Sizes) 
     size = refl;
     shelf = λ q j off. elim (cases_Bool (same_label q p)) [
       | inr d ↦ rw d refl
-      | inl e ↦ subst (λ (x : List ℕ). world.shelf x j ≡ v.shelf x j) (sym (same_is q p e)) (kept j (subst (λ (x : List ℕ). (same_label p x && is_place w.size (dropped p r.intents) x j) ≡ false) (same_is q p e) off))
+      | inl e ↦ subst (λ (x : List ℕ). world.shelf x j ≡ v.shelf x j) (sym (same_is q p e))
+          (kept j (subst (λ (x : List ℕ).
+          (same_label p x && is_place w.size (dropped p r.intents) x j) ≡ false)
+          (same_is q p e) off))
     ];
   }
     where
-      kept : (j : ℕ) → (same_label p p && is_place w.size (dropped p r.intents) p j) ≡ false → world.shelf p j ≡ v.shelf p j
+      kept : (j : ℕ) → (same_label p p && is_place w.size (dropped p r.intents) p j) ≡ false
+          → world.shelf p j ≡ v.shelf p j
       kept j off =
-          let none : is_place w.size (dropped p r.intents) p j ≡ false = rw (same_from p p refl) at off in
-          let there : IsSome (w.size p) = subst (λ (q : List ℕ). IsSome (w.size q)) here.2 (some_there (w.size here.0.provider) here.0.sectors (first.sound.sizes m here.0 here.1)) in
-          let left : away p j ≡ w.shelf p j = sym (at_p (view h).seen j) ∙ first.redo.agrees p there j (no_place p w.size r.intents j none) in
-          let stays : v.shelf p j ≡ w.shelf p j = loss.shelf p j (λ k h same _. (loss.components k (member v.state m.name k h).0).1 same) in
-          (let on : world.shelf p j ≡ away p j = rw (same_from p p refl) refl in on) ∙ (left ∙ sym stays)
+          let none : is_place w.size (dropped p r.intents) p j ≡ false =
+          rw (same_from p p refl) at off in
+          let there : IsSome (w.size p) =
+          subst (λ (q : List ℕ). IsSome (w.size q)) here.2
+          (some_there (w.size here.0.provider) here.0.sectors
+          (first.sound.sizes m here.0 here.1)) in
+          let left : away p j ≡ w.shelf p j = sym (at_p (view h).seen j)
+          ∙ first.redo.agrees p there j (no_place p w.size r.intents j none) in
+          let stays : v.shelf p j ≡ w.shelf p j =
+          loss.shelf p j (λ k h same _. (loss.components k (member v.state m.name k h).0).1
+          same) in
+          (let on : world.shelf p j ≡ away p j = rw (same_from p p refl) refl in
+          on) ∙ (left ∙ sym stays)
 
   same_present : present world ≡ size h
   same_present = (λ i q. if plan.step.there q i then plan.step.sizes q i else None) ∙ sizes
@@ -179,13 +221,18 @@ module _ {S H : Type 0} (g : Ghosts S) (view : H → View) (size : H → Sizes) 
     leads : AllLead t all (size h) away (view h).may_leave u world
     leads x left =
         let l = lead x left in
-        let rows_are : HoldRecords v t = rows w v key c ch r.intents r.tables (y x) l.0 makes us plan all in
-        let intents : IsPermutation (intent_rows 1 all) t.intents = intents_are w v key c ch r.intents r.tables (y x) l.0 makes us plan all in (
-          leads_to_loss u w v m p next loss r.intents (y x) away (at_p x) r.tables l.0 has_next t rows_are intents,
+        let rows_are : HoldRecords v t =
+        rows w v key c ch r.intents r.tables (y x) l.0 makes us plan all in
+        let intents : IsPermutation (intent_rows 1 all) t.intents =
+        intents_are w v key c ch r.intents r.tables (y x) l.0 makes us plan all in (
+          leads_to_loss u w v m p next loss r.intents (y x) away
+              (at_p x) r.tables l.0 has_next t rows_are intents,
           keeps_in_loss u w v m p next loss r.intents (y x) away (at_p x) r.tables l.0 has_next l.1,
         )
 
-    pub loss_leaves : DiskKept g s → MayLeave g mid s t → LeavesCommit g view size start s h away u w (record { key = key; command = c }) p (dropped p r.intents)
+    pub loss_leaves : DiskKept g s → MayLeave g mid s t
+        → LeavesCommit g view size start s h away u w (record { key = key; command = c }) p
+        (dropped p r.intents)
     loss_leaves clean may = record {
       within = λ db left. record {
         tables = r.tables;
@@ -194,7 +241,13 @@ module _ {S H : Type 0} (g : Ghosts S) (view : H → View) (size : H → Sizes) 
         leads = λ x l. r.leads x (lawful.only_now x l);
       };
       end = λ db left. elim (may.crash clean db left) [
-        | inl was ↦ inl (leads_in g view size mid h away r.tables r.intents u w only (view h).may_leave r.leads db was)
-        | inr is ↦ inr (world, stepped, same_present, record { tables = t; intents = all; stored = inl is; leads = leads })
+        | inl was ↦ inl (leads_in g view size mid h away r.tables r.intents u w only
+            (view h).may_leave r.leads db was)
+        | inr is ↦ inr (
+          world,
+          stepped,
+          same_present,
+          record { tables = t; intents = all; stored = inl is; leads = leads },
+        )
       ];
     }

@@ -31,33 +31,50 @@ apart_from a b e s = not_both (same_label a b) (same_from a b s) e
 -- What `lost` of p makes of w.
 pub record IsLoss (w v : World) (m : Mirror) (p : List ℕ) : Type 0 where
   pub here : Has w.state.mirrors m
-  pub mirrors : (a : Mirror) → Has v.state.mirrors a → (a ≡ record m { genid = m.genid + 1 }) ⊎ ((a.name ≢ m.name) × Has w.state.mirrors a)
+  pub mirrors : (a : Mirror) → Has v.state.mirrors a
+      → (a ≡ record m { genid = m.genid + 1 }) ⊎ ((a.name ≢ m.name) × Has w.state.mirrors a)
   pub mirror_stays : Has v.state.mirrors (record m { genid = m.genid + 1 })
   pub others_stay : (a : Mirror) → Has w.state.mirrors a → a.name ≢ m.name → Has v.state.mirrors a
-  pub components : (k : Component) → Has v.state.components k → Has w.state.components k × (k.provider ≢ p)
+  pub components : (k : Component) → Has v.state.components k
+      → Has w.state.components k × (k.provider ≢ p)
   pub stay : (k : Component) → Has w.state.components k → k.provider ≢ p → Has v.state.components k
   pub sound : Sound v
   pub sizes : v.size ≡ w.size
   pub holds : (a : Mirror) → Has w.state.mirrors a → (i : ℕ) → v.holds a.name i ≡ w.holds a.name i
-  pub shelf : (q : List ℕ) (j : ℕ) → ((k : Component) → Has (members v.state.components m.name) k → k.provider ≡ q → j ≡ k.sectors - 1 → ⊥) → v.shelf q j ≡ w.shelf q j
+  pub shelf : (q : List ℕ) (j : ℕ) → ((k : Component) → Has (members v.state.components m.name) k
+      → k.provider ≡ q → j ≡ k.sectors - 1 → ⊥) → v.shelf q j ≡ w.shelf q j
 
-pub on_provider : (s : Records) (p : List ℕ) → component_of s p ≢ None → (k : Component) × Has s.components k × (k.provider ≡ p)
+pub on_provider : (s : Records) (p : List ℕ) → component_of s p ≢ None
+    → (k : Component) × Has s.components k × (k.provider ≡ p)
 on_provider s p some =
     elim (option_cases (component_of s p)) [
       | inl none ↦ absurd (some none)
-      | inr k ↦ (let f = found (λ (c : Component). same_label c.provider p) s.components k.0 k.1 in (k.0, f.0, same_is k.0.provider p f.1))
+      | inr k ↦ (let f = found (λ (c : Component). same_label c.provider p) s.components k.0 k.1 in
+          (k.0, f.0, same_is k.0.provider p f.1))
     ]
 
-pub is_some_there : (s : Records) (k : Component) → Has s.components k → component_of s k.provider ≢ None
-is_some_there s k h none = not_both (same_label k.provider k.provider) (same_from k.provider k.provider refl) (found_none (λ (c : Component). same_label c.provider k.provider) s.components none k h)
+pub is_some_there : (s : Records) (k : Component) → Has s.components k
+    → component_of s k.provider ≢ None
+is_some_there s k h none =
+    not_both (same_label k.provider k.provider) (same_from k.provider k.provider refl)
+    (found_none (λ (c : Component). same_label c.provider k.provider) s.components none k h)
 
 -- a component of a state is one of its mirror
-pub home : (s : Records) → IsState s → (k : Component) → Has s.components k → (m : Mirror) × IsOf s m k
+pub home : (s : Records) → IsState s → (k : Component) → Has s.components k
+    → (m : Mirror) × IsOf s m k
 home s state k h =
-    let a = state.homes k h in
-    (a.0, record { mirror = a.1; component = filter-Has (λ (c : Component). same_label c.mirror a.0.name) s.components k h (same_from k.mirror a.0.name (sym a.2)) })
+    let a = state.homes k h in (
+      a.0,
+      record {
+        mirror = a.1;
+        component = filter-Has (λ (c : Component). same_label c.mirror a.0.name) s.components k h
+            (same_from k.mirror a.0.name (sym a.2));
+      },
+    )
 
-module _ (w v : World) (m : Mirror) (p next : List ℕ) (loss : IsLoss w v m p) (sound : Sound w) (ts : List Intent) (readable : AreReadable w.state ts) (has_next : HasNext v.state p next ts) where
+module _ (w v : World) (m : Mirror) (p next : List ℕ) (loss : IsLoss w v m p) (sound : Sound w)
+    (ts : List Intent) (readable : AreReadable w.state ts) (has_next :
+    HasNext v.state p next ts) where
   abbrev others : List Component
   others = members v.state.components m.name
 
@@ -65,20 +82,27 @@ module _ (w v : World) (m : Mirror) (p next : List ℕ) (loss : IsLoss w v m p) 
   after = pending_after p next ts others
 
   -- a copy that doesn't write to p and doesn't take from it stays within the data
-  copy_stays : (f t : List ℕ) (a b : ℕ) → t ≢ p → f ≢ p → IsCopyWithin w.state f t a b → IsCopyWithin v.state f t a b
+  copy_stays : (f t : List ℕ) (a b : ℕ) → t ≢ p → f ≢ p → IsCopyWithin w.state f t a b
+      → IsCopyWithin v.state f t a b
   copy_stays f t a b other apart c =
       let to = member w.state c.mirror.name c.to c.to_is.component in
       let from = member w.state c.mirror.name c.from c.from_is.component in
       let to_stays = loss.stay c.to to.0 (λ e. other (sym c.target_is ∙ e)) in
       let from_stays = loss.stay c.from from.0 (λ e. apart (sym c.source_is ∙ e)) in
       let mirror = home v.state loss.sound.state c.to to_stays in
-      let at : mirror.0.name ≡ c.mirror.name = sym (member v.state mirror.0.name c.to mirror.1.component).1 ∙ to.1 in
+      let at : mirror.0.name ≡ c.mirror.name =
+      sym (member v.state mirror.0.name c.to mirror.1.component).1 ∙ to.1 in
       -- the mirror is the one of before, or the one whose genid rose: it has as many data sectors
-      let same : mirror.0.data_sectors ≡ c.mirror.data_sectors = elim (loss.mirrors mirror.0 mirror.1.mirror) [
+      let same : mirror.0.data_sectors ≡ c.mirror.data_sectors =
+      elim (loss.mirrors mirror.0 mirror.1.mirror) [
         | inl bumped ↦
-            let one : m ≡ c.mirror = one name w.state.mirrors sound.state.mirrors_in_order m c.mirror loss.here c.to_is.mirror (sym (ap (λ (x : Mirror). x.name) bumped) ∙ at) in
+            let one : m ≡ c.mirror =
+            one name w.state.mirrors sound.state.mirrors_in_order m c.mirror loss.here
+            c.to_is.mirror (sym (ap (λ (x : Mirror). x.name) bumped) ∙ at) in
             ap (λ (x : Mirror). x.data_sectors) bumped ∙ ap (λ (x : Mirror). x.data_sectors) one
-        | inr old ↦ ap (λ (x : Mirror). x.data_sectors) (one name w.state.mirrors sound.state.mirrors_in_order mirror.0 c.mirror old.1 c.to_is.mirror at)
+        | inr old ↦ ap (λ (x : Mirror). x.data_sectors)
+            (one name w.state.mirrors sound.state.mirrors_in_order mirror.0 c.mirror old.1
+            c.to_is.mirror at)
       ] in
       let within = c.within in
       record {
@@ -86,7 +110,12 @@ module _ (w v : World) (m : Mirror) (p next : List ℕ) (loss : IsLoss w v m p) 
         to = c.to;
         from = c.from;
         to_is = mirror.1;
-        from_is = record { mirror = mirror.1.mirror; component = filter-Has (λ (k : Component). same_label k.mirror mirror.0.name) v.state.components c.from from_stays (same_from c.from.mirror mirror.0.name (from.1 ∙ sym at)) };
+        from_is = record {
+          mirror = mirror.1.mirror;
+          component = filter-Has (λ (k : Component). same_label k.mirror mirror.0.name)
+              v.state.components c.from from_stays
+              (same_from c.from.mirror mirror.0.name (from.1 ∙ sym at));
+        };
         target_is = c.target_is;
         source_is = c.source_is;
         other = c.other;
@@ -95,30 +124,39 @@ module _ (w v : World) (m : Mirror) (p next : List ℕ) (loss : IsLoss w v m p) 
         within = (omega (arith, within, same));
       }
 
-  readable_stays : (r : Intent) → Has ts r → writes_to p r ≡ false → IsReadable v.state (redirected p next r)
+  readable_stays : (r : Intent) → Has ts r → writes_to p r ≡ false
+      → IsReadable v.state (redirected p next r)
   readable_stays (Meta a) h e =
       let k = on_provider w.state a (readable.each (Meta a) h) in
       let stays = loss.stay k.0 k.1 (λ s. apart_from a p e (sym k.2 ∙ s)) in
       subst (λ (q : List ℕ). component_of v.state q ≢ None) k.2 (is_some_there v.state k.0 stays)
   readable_stays (Clear a) h e =
       let clear : IsReadable w.state (Clear a) = readable.each (Clear a) h in
-      let none : component_of w.state a ≡ None = clear.1 in
-      (clear.0, find_none (λ (c : Component). same_label c.provider a) v.state.components (λ k g. found_none (λ (c : Component). same_label c.provider a) w.state.components none k (loss.components k g).0))
+      let none : component_of w.state a ≡ None = clear.1 in (
+        clear.0,
+        find_none (λ (c : Component). same_label c.provider a) v.state.components
+            (λ k g. found_none (λ (c : Component). same_label c.provider a) w.state.components
+            none k
+            (loss.components k g).0),
+      )
   readable_stays (Copy f t a b) h e =
       let c : IsCopyWithin w.state f t a b = readable.each (Copy f t a b) h in
       let other : t ≢ p = apart_from t p e in
       elim (cases_Bool (same_label f p)) [
-        | inl s ↦ rw s (has_next t a b (subst (λ (q : List ℕ). Has ts (Copy q t a b)) (same_is f p s) h) other)
+        | inl s ↦ rw s
+            (has_next t a b (subst (λ (q : List ℕ). Has ts (Copy q t a b)) (same_is f p s) h) other)
         | inr s ↦ rw s (copy_stays f t a b other (apart_from f p s) c)
       ]
 
   pub are_readable : AreReadable v.state after
   are_readable = record {
     each = λ t h. ⊎_elim
-        (λ (g : Has (remaining p next ts) t). let was = has_remaining p next ts t g in subst (λ (x : Intent). IsReadable v.state x) was.3 (readable_stays was.0 was.1 was.2))
+        (λ (g : Has (remaining p next ts) t). let was = has_remaining p next ts t g in
+        subst (λ (x : Intent). IsReadable v.state x) was.3 (readable_stays was.0 was.1 was.2))
         (λ (g : Has (metas others) t).
         let k = has_meta p next others t g in
-        subst (λ (x : Intent). IsReadable v.state x) k.2 (is_some_there v.state k.0 (member v.state m.name k.0 k.1).0))
+        subst (λ (x : Intent). IsReadable v.state x) k.2
+        (is_some_there v.state k.0 (member v.state m.name k.0 k.1).0))
         (Has-append (remaining p next ts) (metas others) t h);
     one_copy = one_copy_after p next ts others readable.one_copy;
     ordered = ordered_after p next ts others readable.ordered;
@@ -126,7 +164,8 @@ module _ (w v : World) (m : Mirror) (p next : List ℕ) (loss : IsLoss w v m p) 
 
 -- ---- the plan of `lost`
 
-module _ (w v : World) (key n p : List ℕ) (ts : List Intent) (m : Mirror) (sound : Sound w) (found_is : mirror_of w.state n ≡ Some m) (plan : Plan w key (Lost n (p ∷ [])) ts v) where
+module _ (w v : World) (key n p : List ℕ) (ts : List Intent) (m : Mirror) (sound : Sound w)
+    (found_is : mirror_of w.state n ≡ Some m) (plan : Plan w key (Lost n (p ∷ [])) ts v) where
   there : Has w.state.mirrors m × (same_label m.name n ≡ true)
   there = found (λ (a : Mirror). same_label a.name n) w.state.mirrors m found_is
 
@@ -136,54 +175,81 @@ module _ (w v : World) (key n p : List ℕ) (ts : List Intent) (m : Mirror) (sou
   mirrors_are : v.state.mirrors ≡ put name bumped w.state.mirrors
   mirrors_are = ap (λ (s : Records). s.mirrors) plan.step.records ∙ rw found_is refl
 
-  components_are : v.state.components ≡ filter (λ (k : Component). not (same_label k.provider p)) w.state.components
+  components_are : v.state.components ≡ filter (λ (k : Component). not (same_label k.provider p))
+      w.state.components
   components_are = ap (λ (s : Records). s.components) plan.step.records ∙ rw found_is refl
 
   bumped_there : Has v.state.mirrors bumped
-  bumped_there = subst (λ (l : List Mirror). Has l bumped) (sym mirrors_are) (put_there name bumped w.state.mirrors)
+  bumped_there = subst (λ (l : List Mirror). Has l bumped) (sym mirrors_are)
+      (put_there name bumped w.state.mirrors)
 
-  mirror_or : (a : Mirror) → Has v.state.mirrors a → (a ≡ bumped) ⊎ ((a.name ≢ m.name) × Has w.state.mirrors a)
+  mirror_or : (a : Mirror) → Has v.state.mirrors a
+      → (a ≡ bumped) ⊎ ((a.name ≢ m.name) × Has w.state.mirrors a)
   mirror_or a h =
       elim (same_tells a.name m.name) [
-        | inl same ↦ inl (one name v.state.mirrors plan.sound.state.mirrors_in_order a bumped h bumped_there same.1)
+        | inl same ↦ inl (one name v.state.mirrors plan.sound.state.mirrors_in_order a bumped h
+            bumped_there same.1)
         | inr apart ↦ ⊎_elim
             (λ (e : bumped ≡ a). inl (sym e))
             (λ (g : Has w.state.mirrors a). inr (apart.1, g))
-            (put_or name bumped w.state.mirrors a (subst (λ (l : List Mirror). Has l a) mirrors_are h))
+            (put_or name bumped w.state.mirrors a
+            (subst (λ (l : List Mirror). Has l a) mirrors_are h))
       ]
 
-  component_was : (k : Component) → Has v.state.components k → Has w.state.components k × (k.provider ≢ p)
+  component_was : (k : Component) → Has v.state.components k
+      → Has w.state.components k × (k.provider ≢ p)
   component_was k h =
-      let r = Has-filter (λ (c : Component). not (same_label c.provider p)) w.state.components k (subst (λ (l : List Component). Has l k) components_are h) in
+      let r = Has-filter (λ (c : Component). not (same_label c.provider p)) w.state.components k
+      (subst (λ (l : List Component). Has l k) components_are h) in
       (r.0, λ e. not_both (not (same_label k.provider p)) r.1 (ap not (same_from k.provider p e)))
 
-  component_stays : (k : Component) → Has w.state.components k → k.provider ≢ p → Has v.state.components k
-  component_stays k h d = subst (λ (l : List Component). Has l k) (sym components_are) (filter-Has (λ (c : Component). not (same_label c.provider p)) w.state.components k h (ap not (differ k.provider p d)))
+  component_stays : (k : Component) → Has w.state.components k → k.provider ≢ p
+      → Has v.state.components k
+  component_stays k h d =
+      subst (λ (l : List Component). Has l k) (sym components_are)
+      (filter-Has (λ (c : Component). not (same_label c.provider p)) w.state.components k h
+      (ap not (differ k.provider p d)))
 
   -- a last sector of another mirror's component says what it said
-  other_says : (k : Component) → Has v.state.components k → k.mirror ≢ m.name → (j : ℕ) → k.sectors ≡ j + 1 → v.shelf k.provider j ≡ w.shelf k.provider j
+  other_says : (k : Component) → Has v.state.components k → k.mirror ≢ m.name → (j : ℕ)
+      → k.sectors ≡ j + 1 → v.shelf k.provider j ≡ w.shelf k.provider j
   other_says k h d j is =
       let at = home v.state plan.sound.state k h in
       ⊎_elim
-      (λ (e : at.0 ≡ bumped). absurd (d ((member v.state at.0.name k at.1.component).1 ∙ ap (λ (x : Mirror). x.name) e)))
+      (λ (e : at.0 ≡ bumped).
+      absurd (d ((member v.state at.0.name k at.1.component).1
+      ∙ ap (λ (x : Mirror). x.name) e)))
       (λ (g : (at.0.name ≢ m.name) × Has w.state.mirrors at.0).
-      let of : IsOf w.state at.0 k = record { mirror = g.1; component = filter-Has (λ (c : Component). same_label c.mirror at.0.name) w.state.components k (component_was k h).0 (same_from k.mirror at.0.name (member v.state at.0.name k at.1.component).1) } in
+      let of : IsOf w.state at.0 k = record {
+        mirror = g.1;
+        component = filter-Has (λ (c : Component). same_label c.mirror at.0.name)
+            w.state.components k (component_was k h).0
+            (same_from k.mirror at.0.name (member v.state at.0.name k at.1.component).1);
+      } in
       let last : j ≡ k.sectors - 1 = omega (arith, is) in
-      ap (v.shelf k.provider) last ∙ (plan.sound.full at.0 k at.1 ∙ (sym (sound.full at.0 k of) ∙ sym (ap (w.shelf k.provider) last))))
+      ap (v.shelf k.provider) last ∙ (plan.sound.full at.0 k at.1
+      ∙ (sym (sound.full at.0 k of) ∙ sym (ap (w.shelf k.provider) last))))
       (mirror_or at.0 at.1.mirror)
 
-  shelf_stays : (q : List ℕ) (j : ℕ) → ((k : Component) → Has (members v.state.components m.name) k → k.provider ≡ q → j ≡ k.sectors - 1 → ⊥) → v.shelf q j ≡ w.shelf q j
+  shelf_stays : (q : List ℕ) (j : ℕ)
+      → ((k : Component) → Has (members v.state.components m.name) k → k.provider ≡ q
+      → j ≡ k.sectors - 1 → ⊥) → v.shelf q j ≡ w.shelf q j
   shelf_stays q j none =
-      elim (cases_Bool (list_any (λ (k : Component). same_label k.provider q && k.sectors == j + 1) v.state.components)) [
+      elim (cases_Bool (list_any (λ (k : Component). same_label k.provider q && k.sectors == j + 1)
+      v.state.components)) [
         | inr off ↦ plan.step.others q j (rw off refl)
         | inl e ↦
-            let k = some_any (λ (k : Component). same_label k.provider q && k.sectors == j + 1) v.state.components e in
+            let k = some_any (λ (k : Component). same_label k.provider q && k.sectors == j + 1)
+            v.state.components e in
             let parts = and_parts (same_label k.0.provider q) (k.0.sectors == j + 1) k.2 in
             let at : k.0.provider ≡ q = same_is k.0.provider q parts.0 in
             let last : k.0.sectors ≡ j + 1 = eqb-true k.0.sectors (j + 1) parts.1 in
             elim (same_tells k.0.mirror m.name) [
-              | inl mine ↦ absurd (none k.0 (filter-Has (λ (c : Component). same_label c.mirror m.name) v.state.components k.0 k.1 mine.0) at (omega (arith, last)))
-              | inr theirs ↦ subst (λ (x : List ℕ). v.shelf x j ≡ w.shelf x j) at (other_says k.0 k.1 theirs.1 j last)
+              | inl mine ↦ absurd
+                  (none k.0 (filter-Has (λ (c : Component). same_label c.mirror m.name)
+                  v.state.components k.0 k.1 mine.0) at (omega (arith, last)))
+              | inr theirs ↦ subst (λ (x : List ℕ). v.shelf x j ≡ w.shelf x j) at
+                  (other_says k.0 k.1 theirs.1 j last)
             ]
       ]
 

@@ -31,39 +31,59 @@ in_sync Inactive e = cc
 in_sync (Copying forced held) e = cc
 
 -- what a source is
-source_is : (s : Records) (t : Component) (next : List ℕ) → component_of s t.provider ≡ Some t → source_of s t.provider ≡ Some next
-    → (k : Component) × Has (members s.components t.mirror) k × (lends_to t k ≡ true) × (k.provider ≡ next)
+source_is : (s : Records) (t : Component) (next : List ℕ) → component_of s t.provider ≡ Some t
+    → source_of s t.provider ≡ Some next
+    → (k : Component) × Has (members s.components t.mirror) k × (lends_to t k ≡ true)
+    × (k.provider ≡ next)
 source_is s t next at is =
-    let by : option_map provider (source_among t (members s.components t.mirror)) ≡ Some next = rw at at is in
+    let by : option_map provider (source_among t (members s.components t.mirror)) ≡ Some next =
+    rw at at is in
     elim (option_cases (source_among t (members s.components t.mirror))) [
       | inl none ↦ (let f : option_map provider None ≡ Some next = rw none at by in cc)
       | inr k ↦
-          let f = found (λ (x : Component). lends_to t x && not (list_any (λ j. lends_to t j && goes_first j x) (members s.components t.mirror))) (members s.components t.mirror) k.0 k.1 in
+          let f = found (λ (x : Component). lends_to t x && not
+          (list_any (λ j. lends_to t j && goes_first j x) (members s.components t.mirror)))
+          (members s.components t.mirror) k.0 k.1 in
           let g : option_map provider (Some k.0) ≡ Some next = rw k.1 at by in
           (k.0, f.0, (and_parts (lends_to t k.0) _ f.1).0, (let e : k.0.provider ≡ next = cc in e))
     ]
 
-module _ (w v : World) (m : Mirror) (p next : List ℕ) (loss : IsLoss w v m p) (sound : Sound w) (ts : List Intent) (readable : AreReadable w.state ts) where
-  pub has_next : ((t : List ℕ) (a b : ℕ) → Has ts (Copy p t a b) → source_of v.state t ≡ Some next) → HasNext v.state p next ts
+module _ (w v : World) (m : Mirror) (p next : List ℕ) (loss : IsLoss w v m p) (sound : Sound w)
+    (ts : List Intent) (readable : AreReadable w.state ts) where
+  pub has_next : ((t : List ℕ) (a b : ℕ) → Has ts (Copy p t a b) → source_of v.state t ≡ Some next)
+      → HasNext v.state p next ts
   has_next sources t a b h other =
       let c : IsCopyWithin w.state p t a b = readable.each (Copy p t a b) h in
       let was = member w.state c.mirror.name c.to c.to_is.component in
-      let stays : Has v.state.components c.to = loss.stay c.to was.0 (λ e. other (sym c.target_is ∙ e)) in
-      let at : component_of v.state c.to.provider ≡ Some c.to = find_one provider v.state.components loss.sound.state.components_in_order c.to stays in
-      let source : source_of v.state c.to.provider ≡ Some next = subst (λ (q : List ℕ). source_of v.state q ≡ Some next) (sym c.target_is) (sources t a b h) in
+      let stays : Has v.state.components c.to =
+      loss.stay c.to was.0 (λ e. other (sym c.target_is ∙ e)) in
+      let at : component_of v.state c.to.provider ≡ Some c.to =
+      find_one provider v.state.components loss.sound.state.components_in_order c.to stays in
+      let source : source_of v.state c.to.provider ≡ Some next =
+      subst (λ (q : List ℕ). source_of v.state q ≡ Some next) (sym c.target_is)
+      (sources t a b h) in
       let k = source_is v.state c.to next at source in
       let of = home v.state loss.sound.state c.to stays in
       let place = member v.state c.to.mirror k.0 k.1 in
       let mine = (member v.state of.0.name c.to of.1.component).1 in
-      let parts = and_parts (same_label k.0.mirror c.to.mirror) (is_active k.0.disk && not (same_label k.0.provider c.to.provider)) k.2 in
-      let rest = and_parts (is_active k.0.disk) (not (same_label k.0.provider c.to.provider)) parts.1 in
-      let apart : k.0.provider ≢ c.to.provider = λ e. not_both (not (same_label k.0.provider c.to.provider)) rest.1 (ap not (same_from k.0.provider c.to.provider e)) in
+      let parts = and_parts (same_label k.0.mirror c.to.mirror)
+      (is_active k.0.disk && not (same_label k.0.provider c.to.provider)) k.2 in
+      let rest = and_parts (is_active k.0.disk) (not (same_label k.0.provider c.to.provider))
+      parts.1 in
+      let apart : k.0.provider ≢ c.to.provider =
+      λ e. not_both (not (same_label k.0.provider c.to.provider)) rest.1
+      (ap not (same_from k.0.provider c.to.provider e)) in
       let name_is : of.0.name ≡ c.mirror.name = sym mine ∙ was.1 in
-      let as_many : of.0.data_sectors ≡ c.mirror.data_sectors = elim (loss.mirrors of.0 of.1.mirror) [
+      let as_many : of.0.data_sectors ≡ c.mirror.data_sectors =
+      elim (loss.mirrors of.0 of.1.mirror) [
         | inl bumped ↦
-            let one_is : m ≡ c.mirror = one name w.state.mirrors sound.state.mirrors_in_order m c.mirror loss.here c.to_is.mirror (sym (ap (λ (x : Mirror). x.name) bumped) ∙ name_is) in
+            let one_is : m ≡ c.mirror =
+            one name w.state.mirrors sound.state.mirrors_in_order m c.mirror loss.here
+            c.to_is.mirror (sym (ap (λ (x : Mirror). x.name) bumped) ∙ name_is) in
             ap (λ (x : Mirror). x.data_sectors) bumped ∙ ap (λ (x : Mirror). x.data_sectors) one_is
-        | inr old ↦ ap (λ (x : Mirror). x.data_sectors) (one name w.state.mirrors sound.state.mirrors_in_order of.0 c.mirror old.1 c.to_is.mirror name_is)
+        | inr old ↦ ap (λ (x : Mirror). x.data_sectors)
+            (one name w.state.mirrors sound.state.mirrors_in_order of.0 c.mirror old.1
+            c.to_is.mirror name_is)
       ] in
       let within = c.within in
       record {
@@ -71,7 +91,11 @@ module _ (w v : World) (m : Mirror) (p next : List ℕ) (loss : IsLoss w v m p) 
         to = c.to;
         from = k.0;
         to_is = of.1;
-        from_is = record { mirror = of.1.mirror; component = filter-Has (λ (x : Component). same_label x.mirror of.0.name) v.state.components k.0 place.0 (same_from k.0.mirror of.0.name (place.1 ∙ mine)) };
+        from_is = record {
+          mirror = of.1.mirror;
+          component = filter-Has (λ (x : Component). same_label x.mirror of.0.name)
+              v.state.components k.0 place.0 (same_from k.0.mirror of.0.name (place.1 ∙ mine));
+        };
         target_is = c.target_is;
         source_is = k.3;
         other = λ e. apart (k.3 ∙ (e ∙ sym c.target_is));

@@ -1,5 +1,5 @@
--- What is pending behind a loss leads, from the very image, to the world of the loss, and keeps the claims of the world
--- before the first command.
+-- What is pending behind a loss leads, from the very image, to the world of the loss, and keeps the
+-- claims of the world before the first command.
 use Rattle.std.proofs.Common.{◌≡◌, ◌≢◌, ◌∙◌, inl, inr, ⊎_elim, ℕ, ◌+◌, ◌-◌, ◌*◌, ◌/◌, ◌<◌, ◌≤◌, ◌^◌, ◌==◌, ◌&&◌, Bool, true, false, IsTrue, refl, sym, ap, subst, arith, List, find, Option, Some, None, if◌then◌else◌}
 use Rattle.std.specs.List.Sorted.{IsPermutation}
 use Rattle.std.specs.Prelude.{IsSome, IsSomeAnd, IfSome}
@@ -39,11 +39,13 @@ use Rattle.gm_bench.proofs.LossReadable.{IsLoss, apart_from, home, are_readable}
 use Rattle.gm_bench.proofs.LossRemaining.{has_remaining, same_names, place_stays, copied_before, has_meta, meta_has, any_copies_metas, remaining_has}
 use Rattle.gm_bench.proofs.ShelfProviders.{have_sizes}
 
-provider_fits : (h : Bool) (p : List ℕ) → IsTrue (is_label p) → IfSome (if h then Some p else None) (λ n. IsTrue (is_label n))
+provider_fits : (h : Bool) (p : List ℕ) → IsTrue (is_label p)
+    → IfSome (if h then Some p else None) (λ n. IsTrue (is_label n))
 provider_fits true p e = e
 provider_fits false p e = tt
 
-metadata_fits : (s : Records) (m : Mirror) (k : Component) → IsState s → IsOf s m k → IsMetadata (metadata m k)
+metadata_fits : (s : Records) (m : Mirror) (k : Component) → IsState s → IsOf s m k
+    → IsMetadata (metadata m k)
 metadata_fits s m k state of =
     let r : IsMirror m (members s.components m.name) = state.each m of.mirror in
     let kf = r.members_fit k of.component in
@@ -68,7 +70,8 @@ metadata_fits s m k state of =
       provsize_ok = omega arith;
     }
 
-own : (m : Mirror) (k : Component) → IsMetadata (metadata m k) → Bears (encoded (metadata m k)) (metadata m k)
+own : (m : Mirror) (k : Component) → IsMetadata (metadata m k)
+    → Bears (encoded (metadata m k)) (metadata m k)
 own m k fits = (encoded_is_full (metadata m k) (named (metadata m k) fits)).bears
 
 -- a claim speaks of its provider alone
@@ -79,7 +82,9 @@ claims_there m k list x y same claims d ok bears named mid active clean i low =
     subst (λ (s : List ℕ). Bears s d) (same (k.sectors - 1)) bears in
     same i ∙ claims d ok was named mid active clean i low
 
-module _ (u w v : World) (m : Mirror) (p next : List ℕ) (loss : IsLoss w v m p) (ts : List Intent) (y away : Image) (left : (j : ℕ) → y p j ≡ away p j) (before : Tables) (l : Leads before ts y w) (has_next : HasNext v.state p next ts) where
+module _ (u w v : World) (m : Mirror) (p next : List ℕ) (loss : IsLoss w v m p) (ts : List Intent)
+    (y away : Image) (left : (j : ℕ) → y p j ≡ away p j) (before : Tables) (l : Leads before ts y w)
+    (has_next : HasNext v.state p next ts) where
   abbrev others : List Component
   others = members v.state.components m.name
 
@@ -104,15 +109,20 @@ module _ (u w v : World) (m : Mirror) (p next : List ℕ) (loss : IsLoss w v m p
     state = loss.sound.state;
     answers = loss.sound.answers;
     sizes = loss.sound.sizes;
-    full = λ n k o. off_p k.provider (gone k (member v.state n.name k o.component).0) (k.sectors - 1) ∙ loss.sound.full n k o;
-    whole = λ n k o i low. off_p k.provider (gone k (member v.state n.name k o.component).0) i ∙ loss.sound.whole n k o i low;
+    full = λ n k o. off_p k.provider (gone k (member v.state n.name k o.component).0)
+        (k.sectors - 1) ∙ loss.sound.full n k o;
+    whole = λ n k o i low. off_p k.provider (gone k (member v.state n.name k o.component).0) i
+        ∙ loss.sound.whole n k o i low;
   }
 
   -- a sector that isn't the last one of a component of v stays
-  data_stays : (n : Mirror) (k : Component) → IsOf v.state n k → (j : ℕ) → j < n.data_sectors → v.shelf k.provider j ≡ w.shelf k.provider j
+  data_stays : (n : Mirror) (k : Component) → IsOf v.state n k → (j : ℕ) → j < n.data_sectors
+      → v.shelf k.provider j ≡ w.shelf k.provider j
   data_stays n k o j low = loss.shelf k.provider j (λ c h same at.
       let c_in = (member v.state m.name c h).0 in
-      let one_is : c ≡ k = one provider v.state.components loss.sound.state.components_in_order c k c_in (member v.state n.name k o.component).0 same in
+      let one_is : c ≡ k =
+      one provider v.state.components loss.sound.state.components_in_order c k c_in
+      (member v.state n.name k o.component).0 same in
       let room = (loss.sound.state.each n o.mirror).sizes k o.component in
       let size : c.sectors ≡ k.sectors = ap (λ (x : Component). x.sectors) one_is in
       omega (arith, room, low, at, size))
@@ -123,21 +133,27 @@ module _ (u w v : World) (m : Mirror) (p next : List ℕ) (loss : IsLoss w v m p
     c = l.readable.each (Copy f t a b) h
 
     to_in : Has v.state.components c.to
-    to_in = loss.stay c.to (member w.state c.mirror.name c.to c.to_is.component).0 (λ e. other (sym c.target_is ∙ e))
+    to_in = loss.stay c.to (member w.state c.mirror.name c.to c.to_is.component).0
+        (λ e. other (sym c.target_is ∙ e))
 
     to_home : (n : Mirror) × IsOf v.state n c.to
     to_home = home v.state loss.sound.state c.to to_in
 
     -- the mirror of the target has its name still, and as many data
     home_name : to_home.0.name ≡ c.mirror.name
-    home_name = sym (member v.state to_home.0.name c.to to_home.1.component).1 ∙ (member w.state c.mirror.name c.to c.to_is.component).1
+    home_name = sym (member v.state to_home.0.name c.to to_home.1.component).1
+        ∙ (member w.state c.mirror.name c.to c.to_is.component).1
 
     home_data : to_home.0.data_sectors ≡ c.mirror.data_sectors
     home_data = elim (loss.mirrors to_home.0 to_home.1.mirror) [
       | inl bumped ↦
-          let one_is : m ≡ c.mirror = one name w.state.mirrors l.sound.state.mirrors_in_order m c.mirror loss.here c.to_is.mirror (sym (ap (λ (x : Mirror). x.name) bumped) ∙ home_name) in
+          let one_is : m ≡ c.mirror =
+          one name w.state.mirrors l.sound.state.mirrors_in_order m c.mirror loss.here
+          c.to_is.mirror (sym (ap (λ (x : Mirror). x.name) bumped) ∙ home_name) in
           ap (λ (x : Mirror). x.data_sectors) bumped ∙ ap (λ (x : Mirror). x.data_sectors) one_is
-      | inr old ↦ ap (λ (x : Mirror). x.data_sectors) (one name w.state.mirrors l.sound.state.mirrors_in_order to_home.0 c.mirror old.1 c.to_is.mirror home_name)
+      | inr old ↦ ap (λ (x : Mirror). x.data_sectors)
+          (one name w.state.mirrors l.sound.state.mirrors_in_order to_home.0 c.mirror old.1
+          c.to_is.mirror home_name)
     ]
 
     module _ (j : ℕ) (low : a ≤ j) (high : j < b) where
@@ -146,28 +162,45 @@ module _ (u w v : World) (m : Mirror) (p next : List ℕ) (loss : IsLoss w v m p
 
       -- the target's sector stays from w to v
       target_stays : v.shelf t j ≡ w.shelf t j
-      target_stays = subst (λ (q : List ℕ). v.shelf q j ≡ w.shelf q j) c.target_is (data_stays to_home.0 c.to to_home.1 j (let e = home_data in let d = in_data in omega (arith, e, d)))
+      target_stays = subst (λ (q : List ℕ). v.shelf q j ≡ w.shelf q j) c.target_is
+          (data_stays to_home.0 c.to to_home.1 j (let e = home_data in let d = in_data in
+          omega (arith, e, d)))
 
       -- and is the mirror's data
-      target_data : (n : names w.size (Copy f t a b) t j ≡ true) → w.shelf t j ≡ w.holds c.mirror.name j
+      target_data : (n : names w.size (Copy f t a b) t j ≡ true)
+          → w.shelf t j ≡ w.holds c.mirror.name j
       target_data n =
           let says : w.shelf t j ≡ w.shelf f j = l.redo.says (Copy f t a b) h t j n in
-          let low_by : j < held_by c.from.disk c.mirror.data_sectors = subst (λ (d : Disk). j < held_by d c.mirror.data_sectors) (sym c.active) in_data in
-          says ∙ subst (λ (q : List ℕ). w.shelf q j ≡ w.holds c.mirror.name j) c.source_is (l.sound.whole c.mirror c.from c.from_is j low_by)
+          let low_by : j < held_by c.from.disk c.mirror.data_sectors =
+          subst (λ (d : Disk). j < held_by d c.mirror.data_sectors) (sym c.active) in_data in
+          says ∙ subst (λ (q : List ℕ). w.shelf q j ≡ w.holds c.mirror.name j) c.source_is
+          (l.sound.whole c.mirror c.from c.from_is j low_by)
 
       -- a copy of v's records from a component that lends to the target says the same
-      lent : (s : List ℕ) → IsCopyWithin v.state s t a b → names w.size (Copy f t a b) t j ≡ true → world.shelf t j ≡ world.shelf s j
+      lent : (s : List ℕ) → IsCopyWithin v.state s t a b → names w.size (Copy f t a b) t j ≡ true
+          → world.shelf t j ≡ world.shelf s j
       lent s d n =
           let from_in = member v.state d.mirror.name d.from d.from_is.component in
           let to_d = member v.state d.mirror.name d.to d.to_is.component in
           let apart : s ≢ p = λ e. gone d.from from_in.0 (d.source_is ∙ e) in
-          let one_is : d.to ≡ c.to = one provider v.state.components loss.sound.state.components_in_order d.to c.to to_d.0 to_in (d.target_is ∙ sym c.target_is) in
-          let name : d.mirror.name ≡ c.mirror.name = sym to_d.1 ∙ (ap (λ (x : Component). x.mirror) one_is ∙ (member w.state c.mirror.name c.to c.to_is.component).1) in
+          let one_is : d.to ≡ c.to =
+          one provider v.state.components loss.sound.state.components_in_order d.to c.to to_d.0
+          to_in (d.target_is ∙ sym c.target_is) in
+          let name : d.mirror.name ≡ c.mirror.name =
+          sym to_d.1 ∙ (ap (λ (x : Component). x.mirror) one_is
+          ∙ (member w.state c.mirror.name c.to c.to_is.component).1) in
           let within = d.within in
-          let low_by : j < held_by d.from.disk d.mirror.data_sectors = subst (λ (x : Disk). j < held_by x d.mirror.data_sectors) (sym d.active) (omega (arith, within, high)) in
-          let source : v.shelf s j ≡ v.holds d.mirror.name j = subst (λ (q : List ℕ). v.shelf q j ≡ v.holds d.mirror.name j) d.source_is (loss.sound.whole d.mirror d.from d.from_is j low_by) in
-          let lists : v.holds d.mirror.name j ≡ w.holds c.mirror.name j = ap (λ (x : List ℕ). v.holds x j) name ∙ loss.holds c.mirror c.to_is.mirror j in
-          off_p t other j ∙ (target_stays ∙ (target_data n ∙ (sym lists ∙ (sym source ∙ sym (off_p s apart j)))))
+          let low_by : j < held_by d.from.disk d.mirror.data_sectors =
+          subst (λ (x : Disk). j < held_by x d.mirror.data_sectors) (sym d.active)
+          (omega (arith, within, high)) in
+          let source : v.shelf s j ≡ v.holds d.mirror.name j =
+          subst (λ (q : List ℕ). v.shelf q j ≡ v.holds d.mirror.name j) d.source_is
+          (loss.sound.whole d.mirror d.from d.from_is j low_by) in
+          let lists : v.holds d.mirror.name j ≡ w.holds c.mirror.name j =
+          ap (λ (x : List ℕ). v.holds x j) name ∙ loss.holds c.mirror c.to_is.mirror j in
+          off_p t other j
+          ∙ (target_stays
+          ∙ (target_data n ∙ (sym lists ∙ (sym source ∙ sym (off_p s apart j)))))
 
   readable : AreReadable v.state after
   readable = are_readable w v m p next loss l.sound ts l.readable has_next
@@ -176,43 +209,69 @@ module _ (u w v : World) (m : Mirror) (p next : List ℕ) (loss : IsLoss w v m p
   same_size q = λ i. loss.sizes i q
 
   -- the last sector of a component of the mirror
-  last_says : (k : Component) → Has v.state.components k → (j : ℕ) → is_last (v.size k.provider) j ≡ true → (n : Mirror) × IsOf v.state n k × (world.shelf k.provider j ≡ encoded (metadata n k))
+  last_says : (k : Component) → Has v.state.components k → (j : ℕ)
+      → is_last (v.size k.provider) j ≡ true → (n : Mirror) × IsOf v.state n k
+      × (world.shelf k.provider j ≡ encoded (metadata n k))
   last_says k h j last =
       let at = home v.state loss.sound.state k h in
-      let is : j ≡ k.sectors - 1 = last_is (v.size k.provider) k.sectors j (loss.sound.sizes at.0 k at.1) last in
+      let is : j ≡ k.sectors - 1 =
+      last_is (v.size k.provider) k.sectors j (loss.sound.sizes at.0 k at.1) last in
       (at.0, at.1, ap (λ (i : ℕ). world.shelf k.provider i) is ∙ sound.full at.0 k at.1)
 
-  stays_say : (r : Intent) → Has ts r → writes_to p r ≡ false → (q : List ℕ) (j : ℕ) → names v.size (redirected p next r) q j ≡ true → Says v.state world.shelf (redirected p next r) j (world.shelf q j)
+  stays_say : (r : Intent) → Has ts r → writes_to p r ≡ false → (q : List ℕ) (j : ℕ)
+      → names v.size (redirected p next r) q j ≡ true
+      → Says v.state world.shelf (redirected p next r) j (world.shelf q j)
   stays_say (Meta a) h e q j n =
       let at = last_named v.size a q j n in
-      let was : Says w.state w.shelf (Meta a) j (w.shelf q j) = l.redo.says (Meta a) h q j (subst (λ (o : Option ℕ). (same_label a q && is_last o j) ≡ true) (same_size q) n) in
+      let was : Says w.state w.shelf (Meta a) j (w.shelf q j) =
+      l.redo.says (Meta a) h q j
+      (subst (λ (o : Option ℕ). (same_label a q && is_last o j) ≡ true) (same_size q) n) in
       let k : Component = was.1 in
-      let k_in = loss.stay k (member w.state was.0.name k was.2.component).0 (λ s. apart_from a p e (sym was.3 ∙ s)) in
+      let k_in = loss.stay k (member w.state was.0.name k was.2.component).0
+      (λ s. apart_from a p e (sym was.3 ∙ s)) in
       let there : k.provider ≡ q = was.3 ∙ at.0 in
-      let says = last_says k k_in j (subst (λ (x : List ℕ). is_last (v.size x) j ≡ true) (sym there) at.1) in
-      (says.0, k, says.1, was.3, subst (λ (x : List ℕ). world.shelf x j ≡ encoded (metadata says.0 k)) there says.2)
+      let says = last_says k k_in j (subst (λ (x : List ℕ). is_last (v.size x) j ≡ true)
+      (sym there) at.1) in (
+        says.0,
+        k,
+        says.1,
+        was.3,
+        subst (λ (x : List ℕ). world.shelf x j ≡ encoded (metadata says.0 k)) there says.2,
+      )
   stays_say (Clear a) h e q j n =
       let at = last_named v.size a q j n in
       let clear : IsReadable w.state (Clear a) = l.readable.each (Clear a) h in
       let none : component_of w.state a ≡ None = clear.1 in
-      let was : w.shelf q j ≡ zeros = l.redo.says (Clear a) h q j (subst (λ (o : Option ℕ). (same_label a q && is_last o j) ≡ true) (same_size q) n) in
+      let was : w.shelf q j ≡ zeros =
+      l.redo.says (Clear a) h q j
+      (subst (λ (o : Option ℕ). (same_label a q && is_last o j) ≡ true) (same_size q) n) in
       let apart : q ≢ p = λ s. apart_from a p e (at.0 ∙ s) in
-      let stays : v.shelf q j ≡ w.shelf q j = loss.shelf q j (λ k g same _. not_both (same_label k.provider a) (same_from k.provider a (same ∙ sym at.0)) (found_none (λ (c : Component). same_label c.provider a) w.state.components none k (loss.components k (member v.state m.name k g).0).0)) in
+      let stays : v.shelf q j ≡ w.shelf q j =
+      loss.shelf q j (λ k g same _. not_both (same_label k.provider a)
+      (same_from k.provider a (same ∙ sym at.0))
+      (found_none (λ (c : Component). same_label c.provider a) w.state.components none k
+      (loss.components k (member v.state m.name k g).0).0)) in
       off_p q apart j ∙ (stays ∙ was)
   stays_say (Copy f t a b) h e q j n =
       let other : t ≢ p = apart_from t p e in
-      let named : copies (Copy f t a b) q j ≡ true = sym (same_names p next v.size (Copy f t a b) q j) ∙ n in
+      let named : copies (Copy f t a b) q j ≡ true =
+      sym (same_names p next v.size (Copy f t a b) q j) ∙ n in
       let range = copy_range f t a b q j named in
-      let at_t : copies (Copy f t a b) t j ≡ true = subst (λ (x : List ℕ). copies (Copy f t a b) x j ≡ true) (sym range.0) named in
-      let again : Has after (redirected p next (Copy f t a b)) = append-left (remaining p next ts) (metas others) (redirected p next (Copy f t a b)) (remaining_has p next ts (Copy f t a b) h e) in
+      let at_t : copies (Copy f t a b) t j ≡ true =
+      subst (λ (x : List ℕ). copies (Copy f t a b) x j ≡ true) (sym range.0) named in
+      let again : Has after (redirected p next (Copy f t a b)) =
+      append-left (remaining p next ts) (metas others) (redirected p next (Copy f t a b))
+      (remaining_has p next ts (Copy f t a b) h e) in
       let is = readable.each (redirected p next (Copy f t a b)) again in
       elim (cases_Bool (same_label f p)) [
         | inl s ↦
             let d : IsCopyWithin v.state next t a b = rw s at is in
-            rw s (subst (λ (x : List ℕ). world.shelf x j ≡ world.shelf next j) range.0 (lent f t a b h other j range.1 range.2 next d at_t))
+            rw s (subst (λ (x : List ℕ). world.shelf x j ≡ world.shelf next j) range.0
+            (lent f t a b h other j range.1 range.2 next d at_t))
         | inr s ↦
             let d : IsCopyWithin v.state f t a b = rw s at is in
-            rw s (subst (λ (x : List ℕ). world.shelf x j ≡ world.shelf f j) range.0 (lent f t a b h other j range.1 range.2 f d at_t))
+            rw s (subst (λ (x : List ℕ). world.shelf x j ≡ world.shelf f j) range.0
+            (lent f t a b h other j range.1 range.2 f d at_t))
       ]
 
   all_say : AllSay v.state v.size after world.shelf
@@ -220,40 +279,65 @@ module _ (u w v : World) (m : Mirror) (p next : List ℕ) (loss : IsLoss w v m p
       ⊎_elim
       (λ (g : Has (remaining p next ts) t).
       let was = has_remaining p next ts t g in
-      subst (λ (x : Intent). Says v.state world.shelf x j (world.shelf q j)) was.3 (stays_say was.0 was.1 was.2 q j (subst (λ (x : Intent). names v.size x q j ≡ true) (sym was.3) n)))
+      subst (λ (x : Intent). Says v.state world.shelf x j (world.shelf q j)) was.3
+      (stays_say was.0 was.1 was.2 q j (subst (λ (x : Intent). names v.size x q j ≡ true)
+      (sym was.3) n)))
       (λ (g : Has (metas others) t).
       let k = has_meta p next others t g in
-      let named : names v.size (Meta k.0.provider) q j ≡ true = subst (λ (x : Intent). names v.size x q j ≡ true) (sym k.2) n in
+      let named : names v.size (Meta k.0.provider) q j ≡ true =
+      subst (λ (x : Intent). names v.size x q j ≡ true) (sym k.2) n in
       let at = last_named v.size k.0.provider q j named in
-      let says = last_says k.0 (member v.state m.name k.0 k.1).0 j (subst (λ (x : List ℕ). is_last (v.size x) j ≡ true) (sym at.0) at.1) in
-      subst (λ (x : Intent). Says v.state world.shelf x j (world.shelf q j)) k.2 (says.0, k.0, says.1, refl, subst (λ (x : List ℕ). world.shelf x j ≡ encoded (metadata says.0 k.0)) at.0 says.2))
+      let says = last_says k.0 (member v.state m.name k.0 k.1).0 j
+      (subst (λ (x : List ℕ). is_last (v.size x) j ≡ true) (sym at.0) at.1) in
+      subst (λ (x : Intent). Says v.state world.shelf x j (world.shelf q j)) k.2 (
+        says.0,
+        k.0,
+        says.1,
+        refl,
+        subst (λ (x : List ℕ). world.shelf x j ≡ encoded (metadata says.0 k.0)) at.0
+            says.2,
+      ))
       (Has-append (remaining p next ts) (metas others) t h)
 
-  place_before : (q : List ℕ) (j : ℕ) → q ≢ p → is_place v.size after q j ≡ false → is_place w.size ts q j ≡ false
+  place_before : (q : List ℕ) (j : ℕ) → q ≢ p → is_place v.size after q j ≡ false
+      → is_place w.size ts q j ≡ false
   place_before q j d off =
       elim (cases_Bool (is_place w.size ts q j)) [
         | inr f ↦ f
         | inl e ↦
-            let again : is_place v.size ts q j ≡ true = subst (λ (z : Sizes). is_place z ts q j ≡ true) (sym loss.sizes) e in
-            let by = placed_by v.size (remaining p next ts) q j (place_stays p next v.size ts q j d again) in
-            not_both (is_place v.size after q j) (place_from v.size after by.0 q j (append-left (remaining p next ts) (metas others) by.0 by.1) by.2) off
+            let again : is_place v.size ts q j ≡ true =
+            subst (λ (z : Sizes). is_place z ts q j ≡ true) (sym loss.sizes) e in
+            let by = placed_by v.size (remaining p next ts) q j
+            (place_stays p next v.size ts q j d again) in
+            not_both (is_place v.size after q j)
+            (place_from v.size after by.0 q j (append-left (remaining p next ts)
+            (metas others) by.0 by.1) by.2) off
       ]
 
   agrees : Agrees v.size after y world.shelf
   agrees q there j off =
       elim (cases_Bool (same_label q p)) [
-        | inl s ↦ subst (λ (x : List ℕ). y x j ≡ world.shelf x j) (sym (same_is q p s)) (left j ∙ sym (on_p j))
+        | inl s ↦ subst (λ (x : List ℕ). y x j ≡ world.shelf x j) (sym (same_is q p s))
+            (left j ∙ sym (on_p j))
         | inr s ↦
             let d : q ≢ p = apart_from q p s in
-            let there' : IsSome (w.size q) = subst (λ (o : Option ℕ). IsSome o) (same_size q) there in
+            let there' : IsSome (w.size q) =
+            subst (λ (o : Option ℕ). IsSome o) (same_size q) there in
             let was : y q j ≡ w.shelf q j = l.redo.agrees q there' j (place_before q j d off) in
             let stays : v.shelf q j ≡ w.shelf q j = loss.shelf q j (λ k g same at.
             let of = home v.state loss.sound.state k (member v.state m.name k g).0 in
             let room = (loss.sound.state.each of.0 of.1.mirror).sizes k of.1.component in
-            let last : is_last (v.size k.provider) j ≡ true = last_at (v.size k.provider) k.sectors j (loss.sound.sizes of.0 k of.1) (omega (arith, room)) at in
-            let named : names v.size (Meta k.provider) k.provider j ≡ true = rw (same_from k.provider k.provider refl, last) refl in
-            let place : is_place v.size after k.provider j ≡ true = place_from v.size after (Meta k.provider) k.provider j (append-right (remaining p next ts) (metas others) (Meta k.provider) (meta_has p next others k g)) named in
-            not_both (is_place v.size after q j) (subst (λ (x : List ℕ). is_place v.size after x j ≡ true) same place) off) in
+            let last : is_last (v.size k.provider) j ≡ true =
+            last_at (v.size k.provider) k.sectors j (loss.sound.sizes of.0 k of.1)
+            (omega (arith, room)) at in
+            let named : names v.size (Meta k.provider) k.provider j ≡ true =
+            rw (same_from k.provider k.provider refl, last) refl in
+            let place : is_place v.size after k.provider j ≡ true =
+            place_from v.size after (Meta k.provider) k.provider j
+            (append-right (remaining p next ts) (metas others) (Meta k.provider)
+            (meta_has p next others k g)) named in
+            not_both (is_place v.size after q j)
+            (subst (λ (x : List ℕ). is_place v.size after x j ≡ true) same place) off) in
             was ∙ (sym stays ∙ sym (off_p q d j))
       ]
 
@@ -262,20 +346,35 @@ module _ (u w v : World) (m : Mirror) (p next : List ℕ) (loss : IsLoss w v m p
   there_all : AreThere v.state after v.size
   there_all = have_sizes v after loss.sound
 
-  hand_one : (r : Intent) → Has ts r → writes_to p r ≡ false → IsReadable v.state (redirected p next r) → IsAtHand v.size (redirected p next r)
-  hand_one (Meta a) h e is = subst (λ (o : Option ℕ). IsSomeAnd o (λ n. 0 < n)) (sym (same_size a)) (l.at_hand (Meta a) h)
-  hand_one (Clear a) h e is = subst (λ (o : Option ℕ). IsSomeAnd o (λ n. 0 < n)) (sym (same_size a)) (l.at_hand (Clear a) h)
+  hand_one : (r : Intent) → Has ts r → writes_to p r ≡ false
+      → IsReadable v.state (redirected p next r) → IsAtHand v.size (redirected p next r)
+  hand_one (Meta a) h e is =
+      subst (λ (o : Option ℕ). IsSomeAnd o (λ n. 0 < n)) (sym (same_size a)) (l.at_hand (Meta a) h)
+  hand_one (Clear a) h e is =
+      subst (λ (o : Option ℕ). IsSomeAnd o (λ n. 0 < n)) (sym (same_size a)) (l.at_hand (Clear a) h)
   hand_one (Copy f t a b) h e is =
       let was = l.at_hand (Copy f t a b) h in
-      let to : IsSomeAnd (v.size t) (λ n. b ≤ n) = subst (λ (o : Option ℕ). IsSomeAnd o (λ n. b ≤ n)) (sym (same_size t)) was.1 in
+      let to : IsSomeAnd (v.size t) (λ n. b ≤ n) =
+      subst (λ (o : Option ℕ). IsSomeAnd o (λ n. b ≤ n)) (sym (same_size t)) was.1 in
       elim (cases_Bool (same_label f p)) [
         | inl s ↦
             let d : IsCopyWithin v.state next t a b = rw s at is in
-            let size : v.size next ≡ Some d.from.sectors = subst (λ (q : List ℕ). v.size q ≡ Some d.from.sectors) d.source_is (loss.sound.sizes d.mirror d.from d.from_is) in
-            let room = (loss.sound.state.each d.mirror d.from_is.mirror).sizes d.from d.from_is.component in
+            let size : v.size next ≡ Some d.from.sectors =
+            subst (λ (q : List ℕ). v.size q ≡ Some d.from.sectors) d.source_is
+            (loss.sound.sizes d.mirror d.from d.from_is) in
+            let room = (loss.sound.state.each d.mirror d.from_is.mirror).sizes d.from
+            d.from_is.component in
             let within = d.within in
-            rw s (subst (λ (o : Option ℕ). IsSomeAnd o (λ n. b ≤ n)) (sym size) (omega (arith, room, within)), to)
-        | inr s ↦ rw s (subst (λ (o : Option ℕ). IsSomeAnd o (λ n. b ≤ n)) (sym (same_size f)) was.0, to)
+            rw s (
+              subst (λ (o : Option ℕ). IsSomeAnd o (λ n. b ≤ n)) (sym size)
+                  (omega (arith, room, within)),
+              to,
+            )
+        | inr s ↦ rw s (
+          subst (λ (o : Option ℕ). IsSomeAnd o (λ n. b ≤ n))
+              (sym (same_size f)) was.0,
+          to,
+        )
       ]
 
   at_hand : (t : Intent) → Has after t → IsAtHand v.size t
@@ -283,22 +382,36 @@ module _ (u w v : World) (m : Mirror) (p next : List ℕ) (loss : IsLoss w v m p
       ⊎_elim
       (λ (g : Has (remaining p next ts) t).
       let was = has_remaining p next ts t g in
-      subst (λ (x : Intent). IsAtHand v.size x) was.3 (hand_one was.0 was.1 was.2 (subst (λ (x : Intent). IsReadable v.state x) (sym was.3) (readable.each t h))))
+      subst (λ (x : Intent). IsAtHand v.size x) was.3
+      (hand_one was.0 was.1 was.2 (subst (λ (x : Intent). IsReadable v.state x) (sym was.3)
+      (readable.each t h))))
       (λ (g : Has (metas others) t).
       let k = has_meta p next others t g in
       let of = home v.state loss.sound.state k.0 (member v.state m.name k.0 k.1).0 in
       let room = (loss.sound.state.each of.0 of.1.mirror).sizes k.0 of.1.component in
-      subst (λ (x : Intent). IsAtHand v.size x) k.2 (subst (λ (o : Option ℕ). IsSomeAnd o (λ n. 0 < n)) (sym (loss.sound.sizes of.0 k.0 of.1)) (omega (arith, room))))
+      subst (λ (x : Intent). IsAtHand v.size x) k.2
+      (subst (λ (o : Option ℕ). IsSomeAnd o (λ n. 0 < n)) (sym (loss.sound.sizes of.0 k.0 of.1))
+      (omega (arith, room))))
       (Has-append (remaining p next ts) (metas others) t h)
 
-  pub leads_to_loss : (t : Tables) → HoldRecords v t → IsPermutation (intent_rows 1 after) t.intents → Leads t after y world
+  pub leads_to_loss : (t : Tables) → HoldRecords v t → IsPermutation (intent_rows 1 after) t.intents
+      → Leads t after y world
   leads_to_loss t rows intents = record {
     sound = sound;
-    records = record { mirrors = rows.mirrors; components = rows.components; commands = rows.commands };
+    records = record {
+      mirrors = rows.mirrors;
+      components = rows.components;
+      commands = rows.commands;
+    };
     intents = intents;
     readable = readable;
     at_hand = at_hand;
-    redo = record { says = all_say; lends = λ r h. lends_on v.state v.size loss.sound.state after there_all after (λ x g. g) readable r h; agrees = agrees };
+    redo = record {
+      says = all_say;
+      lends = λ r h. lends_on v.state v.size loss.sound.state after there_all after
+          (λ x g. g) readable r h;
+      agrees = agrees;
+    };
   }
 
   -- ---- and keeps the claims of u
@@ -389,55 +502,75 @@ module _ (u w v : World) (m : Mirror) (p next : List ℕ) (loss : IsLoss w v m p
     world_size : u.size ≡ v.size
     world_size = k.sizes ∙ sym loss.sizes
 
-    -- a component of u on a provider of which v has a component of the mirror: its last sector says the new genid, and
-    -- claims no more than it did in w
-    module _ (a : Mirror) (c : Component) (o : IsOf u.state a c) (j : Component) (in_v : Has others j) (same : j.provider ≡ c.provider) where
+    -- a component of u on a provider of which v has a component of the mirror: its last sector says
+    -- the new genid, and claims no more than it did in w
+    module _ (a : Mirror) (c : Component) (o : IsOf u.state a c) (j : Component)
+        (in_v : Has others j) (same : j.provider ≡ c.provider) where
       of_v : IsOf v.state (record m { genid = m.genid + 1 }) j
       of_v = record { mirror = loss.mirror_stays; component = in_v }
 
       of_w : IsOf w.state m j
       of_w =
           let at = member v.state m.name j in_v in
-          record { mirror = loss.here; component = filter-Has (λ (x : Component). same_label x.mirror m.name) w.state.components j (loss.components j at.0).0 (same_from j.mirror m.name at.1) }
+          record {
+            mirror = loss.here;
+            component = filter-Has (λ (x : Component). same_label x.mirror m.name)
+                w.state.components j (loss.components j at.0).0 (same_from j.mirror m.name at.1);
+          }
 
       as_many : j.sectors ≡ c.sectors
       as_many =
-          let one : v.size j.provider ≡ Some j.sectors = loss.sound.sizes (record m { genid = m.genid + 1 }) j of_v in
+          let one : v.size j.provider ≡ Some j.sectors =
+          loss.sound.sizes (record m { genid = m.genid + 1 }) j of_v in
           let two : u.size c.provider ≡ Some c.sectors = k.sound.sizes a c o in
-          let three : Some j.sectors ≡ Some c.sectors = sym one ∙ (ap v.size same ∙ (sym (λ i. world_size i c.provider) ∙ two)) in
+          let three : Some j.sectors ≡ Some c.sectors =
+          sym one ∙ (ap v.size same ∙ (sym (λ i. world_size i c.provider) ∙ two)) in
           cc
 
-      new_last : v.shelf c.provider (c.sectors - 1) ≡ encoded (metadata (record m { genid = m.genid + 1 }) j)
+      new_last : v.shelf c.provider (c.sectors - 1)
+          ≡ encoded (metadata (record m { genid = m.genid + 1 }) j)
       new_last =
-          subst (λ (n : ℕ). v.shelf c.provider (n - 1) ≡ encoded (metadata (record m { genid = m.genid + 1 }) j)) as_many
-          (subst (λ (q : List ℕ). v.shelf q (j.sectors - 1) ≡ encoded (metadata (record m { genid = m.genid + 1 }) j)) same (loss.sound.full (record m { genid = m.genid + 1 }) j of_v))
+          subst (λ (n : ℕ). v.shelf c.provider (n - 1)
+          ≡ encoded (metadata (record m { genid = m.genid + 1 }) j)) as_many
+          (subst (λ (q : List ℕ). v.shelf q (j.sectors - 1)
+          ≡ encoded (metadata (record m { genid = m.genid + 1 }) j)) same
+          (loss.sound.full (record m { genid = m.genid + 1 }) j of_v))
 
       old_last : w.shelf c.provider (c.sectors - 1) ≡ encoded (metadata m j)
       old_last =
           subst (λ (n : ℕ). w.shelf c.provider (n - 1) ≡ encoded (metadata m j)) as_many
-          (subst (λ (q : List ℕ). w.shelf q (j.sectors - 1) ≡ encoded (metadata m j)) same (l.sound.full m j of_w))
+          (subst (λ (q : List ℕ). w.shelf q (j.sectors - 1) ≡ encoded (metadata m j)) same
+          (l.sound.full m j of_w))
 
       -- what is claimed lies before the last sector
-      before_last : (d : Metadata) → metadata (record m { genid = m.genid + 1 }) j ≡ d → (i : ℕ) → i < claimed a d → i < c.sectors - 1
+      before_last : (d : Metadata) → metadata (record m { genid = m.genid + 1 }) j ≡ d → (i : ℕ)
+          → i < claimed a d → i < c.sectors - 1
       before_last d is i low =
-          let mine : i < claimed a (metadata m j) = subst (λ (n : ℕ). i < n) (sym (ap (claimed a) is)) low in
+          let mine : i < claimed a (metadata m j) =
+          subst (λ (n : ℕ). i < n) (sym (ap (claimed a) is)) low in
           let room_a = (k.sound.state.each a o.mirror).sizes c o.component in
           let room_m = (l.sound.state.each m of_w.mirror).sizes j of_w.component in
           let held = (l.sound.state.each m of_w.mirror).held j of_w.component in
           by j.disk held mine room_a room_m as_many
         where
-          by : (e : Disk) → held_of e < m.data_sectors → i < (if (metadata m (record j { disk = e })).dflags.synchronizing then 512 * held_of e / 512 else a.data_sectors)
-              → a.data_sectors + 1 ≤ c.sectors → m.data_sectors + 1 ≤ j.sectors → j.sectors ≡ c.sectors → i < c.sectors - 1
+          by : (e : Disk) → held_of e < m.data_sectors
+              → i < (if (metadata m (record j { disk = e })).dflags.synchronizing then 512
+              * held_of e / 512 else a.data_sectors)
+              → a.data_sectors + 1 ≤ c.sectors → m.data_sectors + 1 ≤ j.sectors
+              → j.sectors ≡ c.sectors → i < c.sectors - 1
           by InSync held low ra rm many = omega (arith, low, ra)
           by Inactive held low ra rm many = omega (arith, low, ra)
           by (Copying forced h) held low ra rm many = omega (arith, held, low, rm, many)
 
       claims_lost : ClaimsOf a c (data_at u w a.name) v.shelf
       claims_lost d ok bears named mid active clean i low =
-          let is : metadata (record m { genid = m.genid + 1 }) j ≡ d = sym (bears_one v.state (record m { genid = m.genid + 1 }) j loss.sound.state of_v (v.shelf c.provider (c.sectors - 1)) new_last d ok bears) in
+          let is : metadata (record m { genid = m.genid + 1 }) j ≡ d =
+          sym (bears_one v.state (record m { genid = m.genid + 1 }) j loss.sound.state of_v
+          (v.shelf c.provider (c.sectors - 1)) new_last d ok bears) in
           let e : Metadata = metadata m j in
           let fits : IsMetadata e = metadata_fits w.state m j l.sound.state of_w in
-          let was : Bears (w.shelf c.provider (c.sectors - 1)) e = subst (λ (s : List ℕ). Bears s e) (sym old_last) (own m j fits) in
+          let was : Bears (w.shelf c.provider (c.sectors - 1)) e =
+          subst (λ (s : List ℕ). Bears s e) (sym old_last) (own m j fits) in
           let below : Below w.shelf (data_at u w a.name e.syncid) c.provider (claimed a e) =
           k.after a c e o fits was
           (ap (λ (x : Metadata). x.name) is ∙ named)
@@ -447,8 +580,11 @@ module _ (u w v : World) (m : Mirror) (p next : List ℕ) (loss : IsLoss w v m p
           let syncid : e.syncid ≡ d.syncid = ap (λ (x : Metadata). x.syncid) is in
           let mine : i < claimed a e = subst (λ (n : ℕ). i < n) (sym (ap (claimed a) is)) low in
           let low_last = before_last d is i low in
-          let stays : v.shelf c.provider i ≡ w.shelf c.provider i = loss.shelf c.provider i (λ x h at last.
-          let one_is : x ≡ j = one provider v.state.components loss.sound.state.components_in_order x j (member v.state m.name x h).0 (member v.state m.name j in_v).0 (at ∙ sym same) in
+          let stays : v.shelf c.provider i ≡ w.shelf c.provider i =
+          loss.shelf c.provider i (λ x h at last.
+          let one_is : x ≡ j =
+          one provider v.state.components loss.sound.state.components_in_order x j
+          (member v.state m.name x h).0 (member v.state m.name j in_v).0 (at ∙ sym same) in
           let size : x.sectors ≡ j.sectors = ap (λ (z : Component). z.sectors) one_is in
           let many = as_many in
           omega (arith, last, size, many, low_last)) in
@@ -456,15 +592,28 @@ module _ (u w v : World) (m : Mirror) (p next : List ℕ) (loss : IsLoss w v m p
 
     after_loss : Claims u world world.shelf
     after_loss a c e o ok bears named mid active clean i low =
-        let all : ClaimsOf a c (data_at u w a.name) world.shelf = elim (cases_Bool (same_label c.provider p)) [
-          | inl s ↦ claims_there a c (data_at u w a.name) y world.shelf (λ i. subst (λ (q : List ℕ). world.shelf q i ≡ y q i) (sym (same_is c.provider p s)) (on_p i ∙ sym (left i))) (λ d ok bears named mid active clean. k.old a c d o ok bears named mid active clean)
+        let all : ClaimsOf a c (data_at u w a.name) world.shelf =
+        elim (cases_Bool (same_label c.provider p)) [
+          | inl s ↦ claims_there a c (data_at u w a.name) y world.shelf
+              (λ i. subst (λ (q : List ℕ). world.shelf q i ≡ y q i) (sym (same_is c.provider p s))
+              (on_p i ∙ sym (left i))) (λ d ok bears named mid active clean.
+              k.old a c d o ok bears named mid active clean)
           | inr s ↦
               let d : c.provider ≢ p = apart_from c.provider p s in
-              let in_v : ClaimsOf a c (data_at u w a.name) v.shelf = elim (option_cases (find (λ (x : Component). same_label x.provider c.provider) others)) [
-                | inr j ↦ (let f = found (λ (x : Component). same_label x.provider c.provider) others j.0 j.1 in claims_lost a c o j.0 f.0 (same_is j.0.provider c.provider f.1))
+              let in_v : ClaimsOf a c (data_at u w a.name) v.shelf =
+              elim (option_cases (find (λ (x : Component). same_label x.provider c.provider)
+              others)) [
+                | inr j ↦ (let f = found (λ (x : Component). same_label x.provider c.provider)
+                    others j.0 j.1 in
+                    claims_lost a c o j.0 f.0 (same_is j.0.provider c.provider f.1))
                 | inl none ↦ claims_there a c (data_at u w a.name) w.shelf v.shelf
-                    (λ i. loss.shelf c.provider i (λ x h at _. not_both (same_label x.provider c.provider) (same_from x.provider c.provider at) (found_none (λ (x : Component). same_label x.provider c.provider) others none x h)))
-                    (λ d ok bears named mid active clean. k.after a c d o ok bears named mid active clean)
+                    (λ i. loss.shelf c.provider i
+                    (λ x h at _. not_both (same_label x.provider c.provider)
+                    (same_from x.provider c.provider at)
+                    (found_none (λ (x : Component). same_label x.provider c.provider) others
+                    none x h)))
+                    (λ d ok bears named mid active clean. k.after a c d o ok bears named mid active
+                    clean)
               ] in
               claims_there a c (data_at u w a.name) v.shelf world.shelf (off_p c.provider d) in_v
         ] in
@@ -472,7 +621,8 @@ module _ (u w v : World) (m : Mirror) (p next : List ℕ) (loss : IsLoss w v m p
 
     copies_loss : CopiesData u world after
     copies_loss a c o i e =
-        let was = copied_before p next ts c.provider i (any_copies_metas p next (remaining p next ts) others c.provider i e) in
+        let was = copied_before p next ts c.provider i
+        (any_copies_metas p next (remaining p next ts) others c.provider i e) in
         by was.0 was.1 was.2 was.3
       where
         by : (r : Intent) → Has ts r → writes_to p r ≡ false → copies r c.provider i ≡ true
@@ -484,7 +634,9 @@ module _ (u w v : World) (m : Mirror) (p next : List ℕ) (loss : IsLoss w v m p
             let range = copy_range f t x z c.provider i is in
             let other : t ≢ p = apart_from t p off in
             let apart : c.provider ≢ p = λ s. other (range.0 ∙ s) in
-            let stays : v.shelf c.provider i ≡ w.shelf c.provider i = subst (λ (q : List ℕ). v.shelf q i ≡ w.shelf q i) range.0 (target_stays f t x z h other i range.1 range.2) in
+            let stays : v.shelf c.provider i ≡ w.shelf c.provider i =
+            subst (λ (q : List ℕ). v.shelf q i ≡ w.shelf q i) range.0
+            (target_stays f t x z h other i range.1 range.2) in
             let was = k.copies a c o i (copies_from ts (Copy f t x z) c.provider i h is) in (
               off_p c.provider apart i ∙ (stays ∙ was.0),
               holds_stay a.name i was.2 ∙ was.1,
@@ -498,15 +650,24 @@ module _ (u w v : World) (m : Mirror) (p next : List ℕ) (loss : IsLoss w v m p
         elim (loss.mirrors a o.mirror) [
           | inl bumped ↦
               let name : a.name ≡ m.name = ap (λ (x : Mirror). x.name) bumped in
-              let of : IsOf w.state m c = record { mirror = loss.here; component = filter-Has (λ (x : Component). same_label x.mirror m.name) w.state.components c in_w (same_from c.mirror m.name (at.1 ∙ name)) } in
+              let of : IsOf w.state m c = record {
+                mirror = loss.here;
+                component = filter-Has (λ (x : Component). same_label x.mirror m.name)
+                    w.state.components c in_w (same_from c.mirror m.name (at.1 ∙ name));
+              } in
               let was : ClaimsOf m c (λ syncid. w.holds m.name) y = k.new m c of none bare in
-              let lists : (i : ℕ) → w.holds m.name i ≡ v.holds m.name i = λ i. sym (loss.holds m loss.here i) in
+              let lists : (i : ℕ) → w.holds m.name i ≡ v.holds m.name i =
+              λ i. sym (loss.holds m loss.here i) in
               let here : ClaimsOf m c (λ syncid. v.holds m.name) y =
               λ d ok bears named mid active clean i low.
               was d ok bears named mid active clean i low ∙ lists i in
               subst (λ (x : Mirror). ClaimsOf x c (λ syncid. v.holds x.name) y) (sym bumped) here
           | inr old ↦
-              let of : IsOf w.state a c = record { mirror = old.1; component = filter-Has (λ (x : Component). same_label x.mirror a.name) w.state.components c in_w (same_from c.mirror a.name at.1) } in
+              let of : IsOf w.state a c = record {
+                mirror = old.1;
+                component = filter-Has (λ (x : Component). same_label x.mirror a.name)
+                    w.state.components c in_w (same_from c.mirror a.name at.1);
+              } in
               λ d ok bears named mid active clean i low.
               k.new a c of none bare d ok bears named mid active clean i low
               ∙ sym (loss.holds a old.1 i)

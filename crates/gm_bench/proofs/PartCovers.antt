@@ -24,17 +24,21 @@ use Rattle.gm_refusals.proofs.PartAgrees.{of_part, is_state}
 use Rattle.gm_bench.specs.Recovering.{Cover}
 
 -- a component of the mirror that the command names is of that name
-named_by : (o : Option (List ℕ)) (k : Component) → is_member_of o k ≡ true → (n : List ℕ) × (o ≡ Some n) × (k.mirror ≡ n)
+named_by : (o : Option (List ℕ)) (k : Component) → is_member_of o k ≡ true
+    → (n : List ℕ) × (o ≡ Some n) × (k.mirror ≡ n)
 named_by None k e = cc
 named_by (Some n) k e = (n, refl, same_is k.mirror n e)
 
 module _ (s : Records) (c : Command) (part : Records) (of : IsPartOf part c s) where
-  own_of : (m : Mirror) (k : Component) → IsOf s m k → (j : Component) → Has (members_named s c) j → k ≡ j → IsOf part m k
+  own_of : (m : Mirror) (k : Component) → IsOf s m k → (j : Component) → Has (members_named s c) j
+      → k ≡ j → IsOf part m k
   own_of m k o j h same =
       let j' = Has-filter (λ (x : Component). is_member_of (name_of c) x) s.components j h in
       let n = named_by (name_of c) j j'.1 in
-      let at : m.name ≡ n.0 = sym (member s m.name k o.component).1 ∙ (ap (λ (x : Component). x.mirror) same ∙ n.2) in
-      subst (λ (r : Records). IsOf r m k) (sym of.is) (of_part s c of.mids of.state n.0 n.1 m k o at)
+      let at : m.name ≡ n.0 = sym (member s m.name k o.component).1
+      ∙ (ap (λ (x : Component). x.mirror) same ∙ n.2) in
+      subst (λ (r : Records). IsOf r m k) (sym of.is)
+      (of_part s c of.mids of.state n.0 n.1 m k o at)
 
   pub covers : (ts : List Intent) → ((p : List ℕ) → Has ts (Meta p) → IsOwn s c p) → Cover part s ts
   covers ts own = record {
@@ -42,28 +46,36 @@ module _ (s : Records) (c : Command) (part : Records) (of : IsPartOf part c s) w
     metas = λ p h m k o is.
         let mine = own p h in
         let j : Component = mine.0 in
-        let there : Has s.components j = (Has-filter (λ (x : Component). is_member_of (name_of c) x) s.components j mine.1).0 in
-        let same : k ≡ j = one provider s.components of.state.components_in_order k j (member s m.name k o.component).0 there (is ∙ sym mine.2) in
+        let there : Has s.components j =
+        (Has-filter (λ (x : Component). is_member_of (name_of c) x) s.components j mine.1).0 in
+        let same : k ≡ j = one provider s.components of.state.components_in_order k j
+        (member s m.name k o.component).0 there (is ∙ sym mine.2) in
         own_of m k o j mine.1 same;
   }
 
 -- what a change leaves of a part says what the intents behind the change need
-module _ (c : Command) (part s w : Records) (ch : Changed) (leaves : LeavesPart part c s ch) (is : changed_by ch s ≡ w) (state : IsState w) where
-  pub covers_after : (ts : List Intent) → ((p : List ℕ) → Has ts (Meta p) → IsOwn w c p) → Cover (changed_by ch part) w ts
+module _ (c : Command) (part s w : Records) (ch : Changed) (leaves : LeavesPart part c s ch)
+    (is : changed_by ch s ≡ w) (state : IsState w) where
+  pub covers_after : (ts : List Intent) → ((p : List ℕ) → Has ts (Meta p) → IsOwn w c p)
+      → Cover (changed_by ch part) w ts
   covers_after ts own = record {
     state = leaves.state (subst IsState (sym is) state);
     metas = λ p h m k o at.
         let mine = own p h in
         let j : Component = mine.0 in
         let j' = Has-filter (λ (x : Component). is_member_of (name_of c) x) w.components j mine.1 in
-        let same : k ≡ j = one provider w.components state.components_in_order k j (member w m.name k o.component).0 j'.0 (at ∙ sym mine.2) in
+        let same : k ≡ j = one provider w.components state.components_in_order k j
+        (member w m.name k o.component).0 j'.0 (at ∙ sym mine.2) in
         let n = named_by (name_of c) j j'.1 in
-        let named : m.name ≡ n.0 = sym (member w m.name k o.component).1 ∙ (ap (λ (x : Component). x.mirror) same ∙ n.2) in
+        let named : m.name ≡ n.0 = sym (member w m.name k o.component).1
+        ∙ (ap (λ (x : Component). x.mirror) same ∙ n.2) in
         leaves.own m k (subst (λ (r : Records). IsOf r m k) (sym is) o) (n.1 ∙ ap Some (sym named));
   }
 
 -- what a command leaves of its part is a state
-pub part_stays : (u : World) (key : List ℕ) (c : Command) (ch : Changed) (part : Records) → Sound u → CanAnswer u key c → Makes u.state (seen_of u) c ch → LeavesPart part c u.state ch → IsState (changed_by ch part)
+pub part_stays : (u : World) (key : List ℕ) (c : Command) (ch : Changed) (part : Records) → Sound u
+    → CanAnswer u key c → Makes u.state (seen_of u) c ch → LeavesPart part c u.state ch
+    → IsState (changed_by ch part)
 part_stays u key c ch part sound can makes leaves =
     let plan = every_plan u key c sound can makes.good in
     let same : changed_by ch u.state ≡ plan.0.state = makes.records ∙ sym plan.1.step.records in

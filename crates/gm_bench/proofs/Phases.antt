@@ -48,7 +48,8 @@ phase_told (accepted.Repeated n reply) = refl
 phase_told (accepted.Refused why) = refl
 
 -- an answer that leaves nothing pending
-pub not_pending : (a : Answer) (p : Progress) → phase_of p ≡ phase_after a → (phase_of p ≡ phase.Pending → ⊥) → p ≡ Ready
+pub not_pending : (a : Answer) (p : Progress) → phase_of p ≡ phase_after a
+    → (phase_of p ≡ phase.Pending → ⊥) → p ≡ Ready
 not_pending (Done n reply) p is other = absurd (other is)
 not_pending (Repeated n reply) Ready is other = refl
 not_pending (Repeated n reply) (Pending work) is other = cc
@@ -60,7 +61,11 @@ not_pending (Refused why) (Applied work) is other = cc
 not_pending (Refused why) Failed is other = cc
 
 -- what is pending was accepted
-pub was_done : (it : Accepted) (p : Progress) → p ≡ progress_after it → phase_of p ≡ phase.Pending → (n : ℕ) × (reply : Reply) × (work : Work) × (it ≡ accepted.Done n reply work) × (p ≡ Pending work)
+pub was_done : (it : Accepted) (p : Progress) → p ≡ progress_after it → phase_of p ≡ phase.Pending
+    → (n : ℕ) × (reply : Reply) × (work : Work) × (it ≡ accepted.Done n reply work)
+    × (p ≡ Pending work)
 was_done (accepted.Done n reply work) p is pending = (n, reply, work, refl, is)
-was_done (accepted.Repeated n reply) p is pending = let e : phase.Ready ≡ phase.Pending = sym (ap phase_of is) ∙ pending in cc
-was_done (accepted.Refused why) p is pending = let e : phase.Ready ≡ phase.Pending = sym (ap phase_of is) ∙ pending in cc
+was_done (accepted.Repeated n reply) p is pending =
+    let e : phase.Ready ≡ phase.Pending = sym (ap phase_of is) ∙ pending in cc
+was_done (accepted.Refused why) p is pending =
+    let e : phase.Ready ≡ phase.Pending = sym (ap phase_of is) ∙ pending in cc

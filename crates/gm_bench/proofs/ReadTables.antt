@@ -15,9 +15,11 @@ use Rattle.gm_lists.proofs.Lists.{Has-map}
 
 in_range : (r : Reply) → ReplyFits r → (copied_of r ≤ 1048576) × (total_of r ≤ 1048576)
 in_range Plain f = (omega arith, omega arith)
-in_range (Copied held total) f = let a : held ≤ total = f.1 in let b : total ≤ 1048576 = f.2 in (omega arith, omega arith)
+in_range (Copied held total) f = let a : held ≤ total = f.1 in let b : total ≤ 1048576 = f.2 in
+    (omega arith, omega arith)
 
-pub tables_of : (t : Tables) (ts : List Intent) (x : Image) (w : World) → Leads t ts x w → AreTablesOf t w.state ts
+pub tables_of : (t : Tables) (ts : List Intent) (x : Image) (w : World) → Leads t ts x w
+    → AreTablesOf t w.state ts
 tables_of t ts x w l = record {
   state = l.sound.state;
   mirrors = l.records.mirrors;
@@ -25,9 +27,13 @@ tables_of t ts x w l = record {
   intents = l.intents;
   readable = l.readable;
   commands = λ c h.
-      let from = Has-map answer_row w.answered c (Has-permutation t.commands (map answer_row w.answered) c (IsPermutation-sym _ _ l.records.commands) h) in
+      let from = Has-map answer_row w.answered c
+      (Has-permutation t.commands (map answer_row w.answered) c
+      (IsPermutation-sym _ _ l.records.commands) h) in
       subst IsInRange from.2 (in_range from.0.reply (l.sound.answers.fit from.0 from.1).reply);
-  count = (let e : length t.commands ≡ length (map answer_row w.answered) = length_permutation (map answer_row w.answered) t.commands l.records.commands in
-      let f : length (map answer_row w.answered) ≡ length w.answered = length-map w.answered answer_row in
+  count = (let e : length t.commands ≡ length (map answer_row w.answered) = length_permutation
+      (map answer_row w.answered) t.commands l.records.commands in
+      let f : length (map answer_row w.answered) ≡ length w.answered =
+      length-map w.answered answer_row in
       let g : length w.answered ≤ 100000 = l.sound.answers.count in omega (arith, e, f));
 }

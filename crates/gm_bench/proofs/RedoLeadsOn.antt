@@ -19,14 +19,17 @@ use Rattle.gm_state.proofs.SoundClaims.{sound_claims, same_data}
 
 -- what `apply` promises of moments, for these records, sizes and intents
 abbrev pub Moments : Records → Sizes → List Intent → View → View → Type 0
-Moments s size ts old new = (w : Image) → IsRedo s size ts old.seen w → CrashLeaves old new (λ x. From old.may_leave (λ d. IsPartlyDone size ts w d x))
+Moments s size ts old new = (w : Image) → IsRedo s size ts old.seen w
+    → CrashLeaves old new (λ x. From old.may_leave (λ d. IsPartlyDone size ts w d x))
 
 -- and of its end
 abbrev pub End : Records → Sizes → List Intent → View → View → Type 0
-End s size ts old new = (w : Image) → IsRedo s size ts old.seen w → PlacesAreNew (is_place size ts) w old new
+End s size ts old new = (w : Image) → IsRedo s size ts old.seen w
+    → PlacesAreNew (is_place size ts) w old new
 
 module _ (t : Tables) (ts : List Intent) (u w : World) where
-  partly_leads : (d x : Image) → Leads t ts d w → IsPartlyDone w.size ts w.shelf d x → Leads t ts x w
+  partly_leads : (d x : Image) → Leads t ts d w → IsPartlyDone w.size ts w.shelf d x
+      → Leads t ts x w
   partly_leads d x l part = record {
     sound = l.sound;
     records = l.records;
@@ -38,7 +41,12 @@ module _ (t : Tables) (ts : List Intent) (u w : World) where
 
   -- where the claims of u and of w are kept
   goes_old : (x : Image) → Leads t ts x w → KeepsClaims ts x u w → Continues u w ts
-  goes_old x l k = record { state = k.sound.state; there = have_sizes u ts k.sound; claims = k.after; copies = k.copies }
+  goes_old x l k = record {
+    state = k.sound.state;
+    there = have_sizes u ts k.sound;
+    claims = k.after;
+    copies = k.copies;
+  }
 
   goes_new : (x : Image) → Leads t ts x w → Continues w w ts
   goes_new x l = record {
@@ -48,16 +56,20 @@ module _ (t : Tables) (ts : List Intent) (u w : World) where
     copies = copies_data w w.size ts l.sound l.readable l.redo.says;
   }
 
-  partly_claims : (d x : Image) → Leads t ts d w → KeepsClaims ts d u w → IsPartlyDone w.size ts w.shelf d x → KeepsClaims ts x u w
+  partly_claims : (d x : Image) → Leads t ts d w → KeepsClaims ts d u w
+      → IsPartlyDone w.size ts w.shelf d x → KeepsClaims ts x u w
   partly_claims d x l k part =
-      let order : InOrder w.size ts = order_of w w.size ts l.sound l.readable (have_sizes w ts l.sound) in
+      let order : InOrder w.size ts =
+      order_of w w.size ts l.sound l.readable (have_sizes w ts l.sound) in
       let back : w.size ≡ u.size = sym k.sizes in
       record {
         sound = k.sound;
         sizes = k.sizes;
         after = k.after;
         copies = k.copies;
-        old = claims_kept u w ts d x (goes_old d l k) (subst (λ (z : Sizes). InOrder z ts) back order) (subst (λ (z : Sizes). Agrees z ts d w.shelf) back l.redo.agrees) k.old
+        old = claims_kept u w ts d x (goes_old d l k)
+            (subst (λ (z : Sizes). InOrder z ts) back order)
+            (subst (λ (z : Sizes). Agrees z ts d w.shelf) back l.redo.agrees) k.old
             (subst (λ (z : Sizes). IsPartlyDone z ts w.shelf d x) back part);
         new = λ m c o none bare e ok bears named mid active clean.
             let room = (l.sound.state.each m o.mirror).sizes c o.component in
@@ -71,31 +83,42 @@ module _ (t : Tables) (ts : List Intent) (u w : World) where
             ∙ same_data w w m.name e.syncid i refl) bears;
       }
 
-  module _ (old new : View) (lawful : IsLawful old) (size : Sizes) (away : Image) (leads : AllLead t ts size away old.may_leave u w) (sizes : present w ≡ size) (hand : (r : Intent) → Has ts r → IsAtHand size r) (part : Records) (cover : Cover part w.state ts) where
+  module _ (old new : View) (lawful : IsLawful old) (size : Sizes) (away : Image)
+      (leads : AllLead t ts size away old.may_leave u w) (sizes : present w ≡ size)
+      (hand : (r : Intent) → Has ts r → IsAtHand size r) (part : Records)
+      (cover : Cover part w.state ts) where
     mask : AreAmong size w.size
     mask = masked w size sizes
 
     start : (x : Image) → Leads t ts (whole size away x) w → IsRedo part size ts x w.shelf
     start x l = redo_down part w.state size w.size mask ts cover hand away x w.shelf l.redo
 
-    moments_of : Moments part size ts old new → CrashLeaves old new (λ x. From old.may_leave (λ d. IsPartlyDone size ts w.shelf d x))
+    moments_of : Moments part size ts old new
+        → CrashLeaves old new (λ x. From old.may_leave (λ d. IsPartlyDone size ts w.shelf d x))
     moments_of h = h w.shelf (start old.seen (leads old.seen lawful.holds_now).0)
 
-    up : (d x : Image) → Leads t ts (whole size away d) w → IsPartlyDone size ts w.shelf d x → IsPartlyDone w.size ts w.shelf (whole size away d) (whole size away x)
-    up d x l done = partly_up size w.size mask ts away w.shelf d x (λ order. order_of w size ts l.sound l.readable (are_there w size ts l.sound mask hand)) done
+    up : (d x : Image) → Leads t ts (whole size away d) w → IsPartlyDone size ts w.shelf d x
+        → IsPartlyDone w.size ts w.shelf (whole size away d) (whole size away x)
+    up d x l done = partly_up size w.size mask ts away w.shelf d x
+        (λ order. order_of w size ts l.sound l.readable (are_there w size ts l.sound mask hand))
+        done
 
     -- an image of any moment of the redo
-    pub any_moment : Moments part size ts old new → AllLead t ts size away (new.left_since old.moment) u w
+    pub any_moment : Moments part size ts old new
+        → AllLead t ts size away (new.left_since old.moment) u w
     any_moment h x left = elim ((moments_of h).since old.moment x (omega arith) left) [
       | inl before ↦ leads x (lawful.only_now x before)
       | inr done ↦
           let was = leads done.0 done.1 in
-          let on = up done.0 x was.0 done.2 in
-          (partly_leads (whole size away done.0) (whole size away x) was.0 on, partly_claims (whole size away done.0) (whole size away x) was.0 was.1 on)
+          let on = up done.0 x was.0 done.2 in (
+            partly_leads (whole size away done.0) (whole size away x) was.0 on,
+            partly_claims (whole size away done.0) (whole size away x) was.0 was.1 on,
+          )
     ]
 
     -- an image that is left at the end
-    pub counts : IsLawful new → Moments part size ts old new → (x : Image) → new.may_leave x → new.left_since old.moment x
+    pub counts : IsLawful new → Moments part size ts old new → (x : Image) → new.may_leave x
+        → new.left_since old.moment x
     counts after h x left = after.counts_now old.moment x (moments_of h).later left
 
     pub ends : End part size ts old new → IsShelfOf new w size

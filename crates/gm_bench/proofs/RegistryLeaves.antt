@@ -16,14 +16,23 @@ use Rattle.gm_bench.proofs.ShelfProviders.{masked}
 use Rattle.gm_bench.proofs.WorldAtRest.{rest_leads, rest_claims, settled_claims, whole_rest}
 
 settled_records : (w : World) (t : Tables) → HoldRecords w t → HoldRecords w (settled t)
-settled_records w t r = record { mirrors = r.mirrors; components = r.components; commands = r.commands }
+settled_records w t r = record {
+  mirrors = r.mirrors;
+  components = r.components;
+  commands = r.commands;
+}
 
 module _ {S H : Type 0} (g : Ghosts S) (view : H → View) (size : H → Sizes) where
   -- a store that a crash leaves of a registry with these tables
-  pub leads_in : (r : Held S) (h : H) (away : Image) (t : Tables) (ts : List Intent) (u w : World) → CrashLeavesOnly g r t → (X : Image → Type 0) → AllLead t ts (size h) away X u w → (db : Trees) → CrashLeaves g r db → Recovers db (size h) away X u w
-  leads_in r h away t ts u w only X leads db left = record { tables = t; intents = ts; stored = inl (only db left); leads = leads }
+  pub leads_in : (r : Held S) (h : H) (away : Image) (t : Tables) (ts : List Intent) (u w : World)
+      → CrashLeavesOnly g r t → (X : Image → Type 0) → AllLead t ts (size h) away X u w
+      → (db : Trees) → CrashLeaves g r db → Recovers db (size h) away X u w
+  leads_in r h away t ts u w only X leads db left =
+      record { tables = t; intents = ts; stored = inl (only db left); leads = leads }
 
-  module _ (r : Held S) (h k : H) (away : Image) (ts : List Intent) (u w : World) (at : IsAt g view size r h away ts u w) (only : CrashLeavesOnly g r at.tables) (lawful : IsLawful (view h)) where
+  module _ (r : Held S) (h k : H) (away : Image) (ts : List Intent) (u w : World)
+      (at : IsAt g view size r h away ts u w) (only : CrashLeavesOnly g r at.tables)
+      (lawful : IsLawful (view h)) where
     abbrev before : View
     before = view h
 
@@ -31,37 +40,48 @@ module _ {S H : Type 0} (g : Ghosts S) (view : H → View) (size : H → Sizes) 
     mask = masked w (size h) at.sizes
 
     -- a redo, whose registry isn't touched
-    pub redo_leaves : AllLead at.tables ts (size h) away ((view k).left_since before.moment) u w → ((x : Image) → (view k).may_leave x → (view k).left_since before.moment x) → LeavesOnly g view size r r h k away u w
+    pub redo_leaves : AllLead at.tables ts (size h) away ((view k).left_since before.moment) u w
+        → ((x : Image) → (view k).may_leave x → (view k).left_since before.moment x)
+        → LeavesOnly g view size r r h k away u w
     redo_leaves leads counts = record {
       within = leads_in r h away at.tables ts u w only ((view k).left_since before.moment) leads;
-      end = leads_in r h away at.tables ts u w only (view k).may_leave (λ x l. leads x (counts x l));
+      end = leads_in r h away at.tables ts u w only (view k).may_leave
+          (λ x l. leads x (counts x l));
     }
 
     first : Leads at.tables ts (whole (size h) away before.seen) w
     first = (at.leads before.seen lawful.holds_now).0
 
     -- tables that are settled, with the shelf of the world
-    pub settled_leads : IsShelfOf before w (size h) → (x : Image) → before.may_leave x → Leads (settled at.tables) [] (whole (size h) away x) w
+    pub settled_leads : IsShelfOf before w (size h) → (x : Image) → before.may_leave x
+        → Leads (settled at.tables) [] (whole (size h) away x) w
     settled_leads shelf x left =
-        rest_leads (settled at.tables) (whole (size h) away x) w first.sound (settled_records w at.tables first.records) refl
+        rest_leads (settled at.tables) (whole (size h) away x) w first.sound
+        (settled_records w at.tables first.records) refl
         (whole_rest at.tables ts (size h) away before.seen x w mask at.at_hand first (shelf x left))
 
     -- the settling, which leaves the shelf
-    pub settle_leaves : (s : Held S) → DiskKept g s → MayLeave g r s (settled at.tables) → IsShelfOf before w (size h) → LeavesOnly g view size r s h h away u w
+    pub settle_leaves : (s : Held S) → DiskKept g s → MayLeave g r s (settled at.tables)
+        → IsShelfOf before w (size h) → LeavesOnly g view size r s h h away u w
     settle_leaves s clean may shelf = record {
-      within = leads_in r h away at.tables ts u w only (before.left_since before.moment) (λ x l. at.leads x (lawful.only_now x l));
+      within = leads_in r h away at.tables ts u w only (before.left_since before.moment)
+          (λ x l. at.leads x (lawful.only_now x l));
       end = λ db left. elim (may.crash clean db left) [
         | inl was ↦ leads_in r h away at.tables ts u w only before.may_leave at.leads db was
         | inr is ↦ record {
           tables = settled at.tables;
           intents = [];
           stored = inl is;
-          leads = λ x l. (settled_leads shelf x l, settled_claims ts (whole (size h) away x) u w (at.leads x l).1);
+          leads = λ x l. (
+            settled_leads shelf x l,
+            settled_claims ts (whole (size h) away x) u w (at.leads x l).1,
+          );
         }
       ];
     }
 
-    pub settle_rests : (s : Held S) → HasTables g s (settled at.tables) → IsShelfOf before w (size h) → IsAt g view size s h away [] w w
+    pub settle_rests : (s : Held S) → HasTables g s (settled at.tables)
+        → IsShelfOf before w (size h) → IsAt g view size s h away [] w w
     settle_rests s has shelf = record {
       tables = settled at.tables;
       has = has;
@@ -69,13 +89,18 @@ module _ {S H : Type 0} (g : Ghosts S) (view : H → View) (size : H → Sizes) 
       at_hand = λ t none. absurd none;
       leads = λ x left. (
         settled_leads shelf x left,
-        rest_claims (whole (size h) away x) w first.sound (whole_rest at.tables ts (size h) away before.seen x w mask at.at_hand first (shelf x left)),
+        rest_claims (whole (size h) away x) w first.sound
+            (whole_rest at.tables ts (size h) away before.seen x w mask at.at_hand first
+            (shelf x left)),
       );
     }
 
   -- a registry that was only read, and then whatever left images of these
-  pub read_only : (r s : Held S) (h k : H) (away : Image) (t : Tables) (ts : List Intent) (u w : World) → CrashLeavesOnly g r t → DiskKept g s → LeavesNothingNew g r s
-      → AllLead t ts (size h) away ((view k).left_since (view h).moment) u w → AllLead t ts (size h) away (view k).may_leave u w → LeavesOnly g view size r s h k away u w
+  pub read_only : (r s : Held S) (h k : H) (away : Image) (t : Tables) (ts : List Intent)
+      (u w : World) → CrashLeavesOnly g r t → DiskKept g s → LeavesNothingNew g r s
+      → AllLead t ts (size h) away ((view k).left_since (view h).moment) u w
+      → AllLead t ts (size h) away (view k).may_leave u w
+      → LeavesOnly g view size r s h k away u w
   read_only r s h k away t ts u w only clean nothing since now = record {
     within = leads_in r h away t ts u w only ((view k).left_since (view h).moment) since;
     end = λ db left. elim (nothing.crash clean db left) [
@@ -85,15 +110,23 @@ module _ {S H : Type 0} (g : Ghosts S) (view : H → View) (size : H → Sizes) 
   }
 
   -- nothing was done
-  pub still_only : (r : Held S) (h : H) (away : Image) (t : Tables) (ts : List Intent) (u w : World) → CrashLeavesOnly g r t → IsLawful (view h) → AllLead t ts (size h) away (view h).may_leave u w → LeavesOnly g view size r r h h away u w
+  pub still_only : (r : Held S) (h : H) (away : Image) (t : Tables) (ts : List Intent) (u w : World)
+      → CrashLeavesOnly g r t → IsLawful (view h)
+      → AllLead t ts (size h) away (view h).may_leave u w → LeavesOnly g view size r r h h away u w
   still_only r h away t ts u w only lawful leads = record {
-    within = leads_in r h away t ts u w only ((view h).left_since (view h).moment) (λ x l. leads x (lawful.only_now x l));
+    within = leads_in r h away t ts u w only ((view h).left_since (view h).moment)
+        (λ x l. leads x (lawful.only_now x l));
     end = leads_in r h away t ts u w only (view h).may_leave leads;
   }
 
   -- a call of one medium after a call of the other
-  pub then_only : (r mid s : Held S) (h k l : H) (away : Image) (u w : World) → l ≡ k → size k ≡ size h → LeavesOnly g view size r mid h k away u w → LeavesOnly g view size mid s k l away u w → LeavesOnly g view size r s h l away u w
+  pub then_only : (r mid s : Held S) (h k l : H) (away : Image) (u w : World) → l ≡ k
+      → size k ≡ size h → LeavesOnly g view size r mid h k away u w
+      → LeavesOnly g view size mid s k l away u w → LeavesOnly g view size r s h l away u w
   then_only r mid s h k l away u w same sizes first second = record {
-    within = subst (λ (x : H). (db : Trees) → CrashLeaves g r db → Recovers db (size h) away ((view x).left_since (view h).moment) u w) (sym same) first.within;
-    end = λ db left. subst (λ (z : Sizes). Recovers db z away (view l).may_leave u w) sizes (second.end db left);
+    within = subst (λ (x : H). (db : Trees) → CrashLeaves g r db
+        → Recovers db (size h) away ((view x).left_since (view h).moment) u w)
+        (sym same) first.within;
+    end = λ db left. subst (λ (z : Sizes). Recovers db z away (view l).may_leave u w) sizes
+        (second.end db left);
   }

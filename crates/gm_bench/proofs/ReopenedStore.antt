@@ -12,39 +12,81 @@ use Rattle.gm_rows.specs.Tables.{Holds, IsEmpty, no_tables}
 use Rattle.gm_bench.specs.Leading.{AllLead}
 use Rattle.gm_bench.specs.Recovering.{IsStored, Recovers, IsFound, LeavesOnly}
 
-module _ {S H : Type 0} (g : Ghosts S) (view : H → View) (size : H → Sizes) (start : Held S) (h : H) (away : Image) (u w : World) (lawful : IsLawful (view h)) (only : (db : Trees) → CrashLeaves g start db → db ≡ stored g start) (r : Recovers (stored g start) (size h) away (view h).may_leave u w) where
+module _ {S H : Type 0} (g : Ghosts S) (view : H → View) (size : H
+    → Sizes) (start : Held S) (h : H) (away : Image) (u w : World) (lawful : IsLawful (view h))
+    (only : (db : Trees) → CrashLeaves g start db
+    → db ≡ stored g start) (r : Recovers (stored g start) (size h) away
+    (view h).may_leave u w) where
   -- the store as it was, with any images that lead on
-  as_it_was : (X : Image → Type 0) → AllLead r.tables r.intents (size h) away X u w → (db : Trees) → CrashLeaves g start db → Recovers db (size h) away X u w
-  as_it_was X leads db left = record { tables = r.tables; intents = r.intents; stored = subst (λ (d : Trees). IsStored d r.tables) (sym (only db left)) r.stored; leads = leads }
+  as_it_was : (X : Image → Type 0) → AllLead r.tables r.intents (size h) away X u w → (db : Trees)
+      → CrashLeaves g start db → Recovers db (size h) away X u w
+  as_it_was X leads db left = record {
+    tables = r.tables;
+    intents = r.intents;
+    stored = subst (λ (d : Trees). IsStored d r.tables) (sym (only db left)) r.stored;
+    leads =
+        leads;
+  }
 
-  pub opened : (mid : Held S) → (IsEmpty (stored g start) → HasTables g mid no_tables) → ((t : Tables) → Holds (stored g start) t → HasTables g mid t) → HasTables g mid r.tables
-  opened mid made found = elim r.stored [ inl h ↦ found r.tables h | inr e ↦ subst (HasTables g mid) (sym e.1) (made e.0) ]
+  pub opened : (mid : Held S) → (IsEmpty (stored g start) → HasTables g mid no_tables)
+      → ((t : Tables) → Holds (stored g start) t → HasTables g mid t) → HasTables g mid r.tables
+  opened mid made found =
+      elim r.stored [
+        | inl h ↦ found r.tables h
+        | inr e
+            ↦ subst (HasTables g mid) (sym e.1) (made e.0)
+      ]
 
-  abbrev pub opened_at : (mid : Held S) → present w ≡ size h → HasTables g mid r.tables → IsFound g view size mid h away r.intents u w
+  abbrev pub opened_at : (mid : Held S) → present w ≡ size h → HasTables g mid r.tables
+      → IsFound g view size mid h away r.intents u w
   opened_at mid is has = record { tables = r.tables; has = has; sizes = is; leads = r.leads }
 
   -- the opened registry, with the intents that were left
-  abbrev pub reopened : (mid : Held S) → present w ≡ size h → (IsEmpty (stored g start) → HasTables g mid no_tables) → ((t : Tables) → Holds (stored g start) t → HasTables g mid t) → IsFound g view size mid h away r.intents u w
+  abbrev pub reopened : (mid : Held S) → present w ≡ size h
+      → (IsEmpty (stored g start) → HasTables g mid no_tables)
+      → ((t : Tables) → Holds (stored g start) t → HasTables g mid t)
+      → IsFound g view size mid h away r.intents u w
   reopened mid is made found = opened_at mid is (opened mid made found)
 
   -- an opening that ended before anything was carried out
-  pub unopened : (new : Held S) → DiskKept g new → (IsEmpty (stored g start) → MayLeave g start new no_tables) → ((t : Tables) → Holds (stored g start) t → LeavesNothingNew g start new) → LeavesOnly g view size start new h h away u w
+  pub unopened : (new : Held S) → DiskKept g new
+      → (IsEmpty (stored g start) → MayLeave g start new no_tables)
+      → ((t : Tables) → Holds (stored g start) t → LeavesNothingNew g start new)
+      → LeavesOnly g view size start new h h away u w
   unopened new clean made found = record {
-    within = as_it_was ((view h).left_since (view h).moment) (λ x l. r.leads x (lawful.only_now x l));
+    within = as_it_was ((view h).left_since (view h).moment)
+        (λ x l. r.leads x (lawful.only_now x l));
     end = λ db left. elim r.stored [
-      | inl holds ↦ elim ((found r.tables holds).crash clean db left) [ inl was ↦ as_it_was (view h).may_leave r.leads db was | inr none ↦ absurd none ]
+      | inl holds ↦ elim ((found r.tables holds).crash clean db left) [
+        | inl was
+            ↦ as_it_was (view h).may_leave r.leads db was
+        | inr none ↦ absurd none
+      ]
       | inr e ↦ elim ((made e.0).crash clean db left) [
         | inl was ↦ as_it_was (view h).may_leave r.leads db was
-        | inr is ↦ record { tables = r.tables; intents = r.intents; stored = inl (subst (λ (t : Tables). Holds db t) (sym e.1) is); leads = r.leads }
+        | inr is ↦ record {
+          tables = r.tables;
+          intents = r.intents;
+          stored = inl (subst (λ (t : Tables). Holds db t) (sym e.1) is);
+          leads = r.leads;
+        }
       ]
     ];
   }
 
   -- what was carried out and settled behind that
-  pub recovered : (mid ended : Held S) (k : H) → AllLead r.tables r.intents (size h) away ((view k).left_since (view h).moment) u w → LeavesOnly g view size mid ended h k away u w → LeavesOnly g view size start ended h k away u w
-  recovered mid ended k leads l = record { within = as_it_was ((view k).left_since (view h).moment) leads; end = l.end }
+  pub recovered : (mid ended : Held S) (k : H)
+      → AllLead r.tables r.intents (size h) away ((view k).left_since (view h).moment) u w
+      → LeavesOnly g view size mid ended h k away u w
+      → LeavesOnly g view size start ended h k away u w
+  recovered mid ended k leads l =
+      record { within = as_it_was ((view k).left_since (view h).moment) leads; end = l.end }
 
 -- tables that a store held are those of the opened registry
-pub opened_tables : {S : Type 0} (g : Ghosts S) (start mid : Held S) → (IsEmpty (stored g start) → HasTables g mid no_tables) → ((t : Tables) → Holds (stored g start) t → HasTables g mid t) → (t : Tables) → IsStored (stored g start) t → HasTables g mid t
+pub opened_tables : {S : Type 0} (g : Ghosts S) (start mid : Held S)
+    → (IsEmpty (stored g start) → HasTables g mid no_tables)
+    → ((t : Tables) → Holds (stored g start) t → HasTables g mid t) → (t : Tables)
+    → IsStored (stored g start) t → HasTables g mid t
 opened_tables g start mid made found t (inl holds) = found t holds
-opened_tables g start mid made found t (inr empty) = subst (HasTables g mid) (sym empty.1) (made empty.0)
+opened_tables g start mid made found t (inr empty) =
+    subst (HasTables g mid) (sym empty.1) (made empty.0)

@@ -13,26 +13,44 @@ use Rattle.gm_bench.specs.Recovering.{Recovers, IsFound, LeavesOnly}
 use Rattle.gm_bench.specs.Presence.{first_absent}
 use Rattle.gm_bench.proofs.RegistryLeaves.{leads_in}
 
-module _ {S H : Type 0} (g : Ghosts S) (view : H → View) (size : H → Sizes) (r mid : Held S) (h k : H) (away : Image) (ts : List Intent) (u w : World) (at : IsFound g view size r h away ts u w) (same : k ≡ h) (is : List Intent) (are : is ≡ ts) where
+module _ {S H : Type 0} (g : Ghosts S) (view : H → View) (size : H
+    → Sizes) (r mid : Held S) (h k : H) (away : Image) (ts : List Intent) (u w : World)
+    (at : IsFound g view size r h away ts u w) (same : k ≡ h) (is : List Intent)
+    (are : is ≡ ts) where
   -- the registry was read, and the shelf is the same
   abbrev pub moved : HasTables g mid at.tables → IsFound g view size mid k away is u w
   moved has = record {
     tables = at.tables;
     has = has;
     sizes = at.sizes ∙ sym (ap size same);
-    leads = subst (λ (x : H). AllLead at.tables is (size x) away (view x).may_leave u w) (sym same) (subst (λ (l : List Intent). AllLead at.tables l (size h) away (view h).may_leave u w) (sym are) at.leads);
+    leads = subst (λ (x : H). AllLead at.tables is (size x) away (view x).may_leave u w) (sym same)
+        (subst (λ (l : List Intent). AllLead at.tables l (size h) away (view h).may_leave u w)
+        (sym are) at.leads);
   }
 
-  pub moments_back : (l : H) → AllLead at.tables is (size k) away ((view l).left_since (view k).moment) u w → AllLead at.tables ts (size h) away ((view l).left_since (view h).moment) u w
-  moments_back l m = subst (λ (is : List Intent). AllLead at.tables is (size h) away ((view l).left_since (view h).moment) u w) are (subst (λ (x : H). AllLead at.tables is (size x) away ((view l).left_since (view x).moment) u w) same m)
+  pub moments_back : (l : H)
+      → AllLead at.tables is (size k) away ((view l).left_since (view k).moment) u w
+      → AllLead at.tables ts (size h) away ((view l).left_since (view h).moment) u w
+  moments_back l m =
+      subst (λ (is : List Intent). AllLead at.tables is (size h) away
+      ((view l).left_since (view h).moment) u w) are
+      (subst (λ (x : H). AllLead at.tables is (size x) away
+      ((view l).left_since (view x).moment) u w) same m)
 
-  pub leaves_back : (s : Held S) (l : H) → CrashLeavesOnly g r at.tables → AllLead at.tables is (size k) away ((view l).left_since (view k).moment) u w → LeavesOnly g view size mid s k l away u w → LeavesOnly g view size r s h l away u w
+  pub leaves_back : (s : Held S) (l : H) → CrashLeavesOnly g r at.tables
+      → AllLead at.tables is (size k) away ((view l).left_since (view k).moment) u w
+      → LeavesOnly g view size mid s k l away u w → LeavesOnly g view size r s h l away u w
   leaves_back s l only m leaves = record {
-    within = leads_in g view size r h away at.tables ts u w only ((view l).left_since (view h).moment) (moments_back l m);
-    end = λ db left. subst (λ (x : H). Recovers db (size x) away (view l).may_leave u w) same (leaves.end db left);
+    within = leads_in g view size r h away at.tables ts u w only
+        ((view l).left_since (view h).moment) (moments_back l m);
+    end = λ db left. subst (λ (x : H). Recovers db (size x) away (view l).may_leave u w) same
+        (leaves.end db left);
   }
 
 -- a provider that is lacking, of the same records, sizes and intents
-pub absent_back : (s v : Records) (size full : Sizes) (is ts : List Intent) (o : Option (List ℕ)) → s ≡ v → size ≡ full → is ≡ ts → first_absent s size is ≡ o → first_absent v full ts ≡ o
+pub absent_back : (s v : Records) (size full : Sizes) (is ts : List Intent) (o : Option (List ℕ))
+    → s ≡ v → size ≡ full → is ≡ ts → first_absent s size is ≡ o → first_absent v full ts ≡ o
 absent_back s v size full is ts o same sizes are e =
-    subst (λ (l : List Intent). first_absent v full l ≡ o) are (subst (λ (z : Sizes). first_absent v z is ≡ o) sizes (subst (λ (x : Records). first_absent x size is ≡ o) same e))
+    subst (λ (l : List Intent). first_absent v full l ≡ o) are
+    (subst (λ (z : Sizes). first_absent v z is ≡ o) sizes
+    (subst (λ (x : Records). first_absent x size is ≡ o) same e))

@@ -22,21 +22,28 @@ OrStep u key c P = P u ⊎ ((w : World) × (r : Reply) × Step u key c w r × P 
 
 module _ {S H : Type 0} (g : Ghosts S) (view : H → View) (size : H → Sizes) where
   -- A stop leaves the world before or the command's step, whatever image goes with it.
-  pub record LeavesStep (r s : Held S) (h k : H) (away : Image) (u : World) (key : List ℕ) (c : Command) : Type 0 where
-    pub within : (db : Trees) → CrashLeaves g r db → Recovers db (size h) away ((view k).left_since (view h).moment) u u
-    pub end : (db : Trees) → CrashLeaves g s db → OrStep u key c (λ w. Recovers db (size h) away (view k).may_leave u w)
+  pub record LeavesStep (r s : Held S) (h k : H) (away : Image) (u : World) (key : List ℕ)
+      (c : Command) : Type 0 where
+    pub within : (db : Trees) → CrashLeaves g r db
+        → Recovers db (size h) away ((view k).left_since (view h).moment) u u
+    pub end : (db : Trees) → CrashLeaves g s db
+        → OrStep u key c (λ w. Recovers db (size h) away (view k).may_leave u w)
 
-  -- The command is done with this number and reply: the bench is at the world of its step, with this work still to be
-  -- carried out.
-  pub record IsDone (r : Held S) (h : H) (away : Image) (u : World) (key : List ℕ) (c : Command) (n : ℕ) (reply : Reply) (work : Work) : Type 0 where
+  -- The command is done with this number and reply: the bench is at the world of its step, with
+  -- this work still to be carried out.
+  pub record IsDone (r : Held S) (h : H) (away : Image) (u : World) (key : List ℕ) (c : Command)
+      (n : ℕ) (reply : Reply) (work : Work) : Type 0 where
     pub world : World
     pub calls : run.Calls u (record { key = key; command = c }) world (run.Done n reply)
     pub at : IsAtWork g view size r h away work u world
 
-  -- The answer is the abstract bench's; where it isn't Done the bench stays at rest in the same world.
+  -- The answer is the abstract bench's; where it isn't Done the bench stays at rest in the same
+  -- world.
   abbrev pub IsAnswered : Held S → H → Image → World → List ℕ → Command → Accepted → Type 0
   IsAnswered r h away u key c (Done n reply work) = IsDone r h away u key c n reply work
   IsAnswered r h away u key c (Repeated n reply) =
-      run.Calls u (record { key = key; command = c }) u (run.Repeated n reply) × IsAt g view size r h away [] u u
+      run.Calls u (record { key = key; command = c }) u (run.Repeated n reply)
+      × IsAt g view size r h away [] u u
   IsAnswered r h away u key c (Refused why) =
-      run.Calls u (record { key = key; command = c }) u (run.Refused why) × IsAt g view size r h away [] u u
+      run.Calls u (record { key = key; command = c }) u (run.Refused why)
+      × IsAt g view size r h away [] u u

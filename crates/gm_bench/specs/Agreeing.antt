@@ -27,9 +27,11 @@ pub record IsRegistered (s : Records) (size : Sizes) (seen : Image) (p : Provide
   pub name_is : p.name ≡ component.provider
 
 -- the providers are those of the registered components alone
-pub record AreRegistered (s : Records) (size : Sizes) (seen : Image) (ps : List Provider) : Type 0 where
+pub record AreRegistered (s : Records) (size : Sizes) (seen : Image) (ps : List Provider) :
+    Type 0 where
   pub each : (p : Provider) → Has ps p → IsRegistered s size seen p
-  pub all : (m : Mirror) (k : Component) → IsOf s m k → (p : Provider) × Has ps p × (p.name ≡ k.provider)
+  pub all : (m : Mirror) (k : Component) → IsOf s m k
+      → (p : Provider) × Has ps p × (p.name ≡ k.provider)
 
 -- the state of a component that a member's is; of a BROKEN one there is none
 abbrev pub named : MemberState → Option ComponentState
@@ -45,6 +47,7 @@ IsTold t x = (g : Group) × Has t.groups.items g × Has g.members.items x
 
 -- each component is told of, none is left out, and each has the state that the records name
 pub record Agree (s : Records) (t : Tasted) : Type 0 where
-  pub all : (m : Mirror) (k : Component) → IsOf s m k → (x : Member) × IsTold t x × (x.provider ≡ k.provider)
+  pub all : (m : Mirror) (k : Component) → IsOf s m k
+      → (x : Member) × IsTold t x × (x.provider ≡ k.provider)
   pub states : (x : Member) → IsTold t x → named x.state ≡ component_state s x.provider
   pub none_left : (x : LeftOut) → Has t.left.items x → ⊥

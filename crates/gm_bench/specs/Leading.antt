@@ -23,8 +23,8 @@ whole size away x p i = if is_some (size p) then x p i else away p i
 abbrev pub AreAmong : Sizes → Sizes → Type 0
 AreAmong size all = (q : List ℕ) → (size q ≡ None) ⊎ (size q ≡ all q)
 
--- Beside these intents the tables hold the rows of the world. The image is the world's but for the sectors that the
--- intents name, and in the world those hold what the intents say.
+-- Beside these intents the tables hold the rows of the world. The image is the world's but for the
+-- sectors that the intents name, and in the world those hold what the intents say.
 pub record Leads (t : Tables) (ts : List Intent) (x : Image) (w : World) : Type 0 where
   pub sound : Sound w
   pub records : HoldRecords w t
@@ -50,8 +50,8 @@ EachNewClaims u w x =
     (m : Mirror) (k : Component) → IsOf w.state m k → component_of u.state k.provider ≡ None
     → WasBare u k → ClaimsOf m k (λ syncid. w.holds m.name) x
 
--- No component of u claims in the image a sector that it lacks, nor does one that is new in w; and the intents keep that
--- on the way to w.
+-- No component of u claims in the image a sector that it lacks, nor does one that is new in w; and
+-- the intents keep that on the way to w.
 pub record KeepsClaims (ts : List Intent) (x : Image) (u w : World) : Type 0 where
   pub sound : Sound u
   pub sizes : u.size ≡ w.size
@@ -60,7 +60,9 @@ pub record KeepsClaims (ts : List Intent) (x : Image) (u w : World) : Type 0 whe
   pub old : Claims u w x
   pub new : EachNewClaims u w x
 
--- with each of the shelf's images the tables and their intents lead to w, and no component claims on the way a sector
--- that it lacks
-abbrev pub AllLead : Tables → List Intent → Sizes → Image → (Image → Type 0) → World → World → Type 0
-AllLead t ts size away X u w = (x : Image) → X x → Leads t ts (whole size away x) w × KeepsClaims ts (whole size away x) u w
+-- with each of the shelf's images the tables and their intents lead to w, and no component claims
+-- on the way a sector that it lacks
+abbrev pub AllLead : Tables → List Intent → Sizes → Image → (Image → Type 0) → World → World
+    → Type 0
+AllLead t ts size away X u w = (x : Image) → X x
+    → Leads t ts (whole size away x) w × KeepsClaims ts (whole size away x) u w

@@ -20,7 +20,8 @@ writes_to p (Copy source target first end) = same_label target p
 abbrev pub redirected : List ℕ → List ℕ → Intent → Intent
 redirected p next (Meta q) = Meta q
 redirected p next (Clear q) = Clear q
-redirected p next (Copy source target first end) = if same_label source p then Copy next target first end else Copy source target first end
+redirected p next (Copy source target first end) =
+    if same_label source p then Copy next target first end else Copy source target first end
 
 -- those that are taken out
 abbrev pub dropped : List ℕ → List Intent → List Intent
@@ -30,7 +31,8 @@ dropped p (t ∷ ts) = if writes_to p t then t ∷ dropped p ts else dropped p t
 -- those that stay, in their order
 abbrev pub remaining : List ℕ → List ℕ → List Intent → List Intent
 remaining p next [] = []
-remaining p next (t ∷ ts) = if writes_to p t then remaining p next ts else redirected p next t ∷ remaining p next ts
+remaining p next (t ∷ ts) = if writes_to p t then remaining p next ts else redirected p next t
+    ∷ remaining p next ts
 
 -- all that is pending then: Meta of the mirror's other components behind what stays
 abbrev pub pending_after : List ℕ → List ℕ → List Intent → List Component → List Intent
@@ -42,4 +44,5 @@ as_left v p away = record v { shelf = λ q j. if same_label q p then away q j el
 
 -- where a pending copy takes from the provider, the next source serves
 abbrev pub HasNext : Records → List ℕ → List ℕ → List Intent → Type 0
-HasNext s p next ts = (target : List ℕ) (first end : ℕ) → Has ts (Copy p target first end) → target ≢ p → IsCopyWithin s next target first end
+HasNext s p next ts = (target : List ℕ) (first end : ℕ) → Has ts (Copy p target first end)
+    → target ≢ p → IsCopyWithin s next target first end

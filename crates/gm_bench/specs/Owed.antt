@@ -1,5 +1,5 @@
--- What each call owes of its media, of an honest shelf and a disk that keeps what is written. The contract of the call and
--- the law over schedules say the same words.
+-- What each call owes of its media, of an honest shelf and a disk that keeps what is written. The
+-- contract of the call and the law over schedules say the same words.
 use Rattle.std.specs.Prelude.{◌≡◌, ◌⊎◌, ℕ, List, []}
 use Rattle.sqlite_trees.specs.declared.store.Store.{Ghosts}
 use Rattle.sqlite.specs.Held.{Held}
@@ -19,21 +19,25 @@ use Rattle.gm_bench.specs.Running.{IsRun}
 use Rattle.gm_state.specs.declared.intents.Intent.{Intent}
 use Rattle.gm_state.specs.Rows.{Tables}
 
--- What stands between a call's start, with the registry r and the shelf h, and its end, with s and k.
+-- What stands between a call's start, with the registry r and the shelf h, and its end, with s and
+-- k.
 module _ {S H : Type 0} (g : Ghosts S) (view : H → View) (size : H → Sizes) where
   -- a command that is handed in at rest: what a stop leaves, and what it is answered
   abbrev pub AcceptLeaves : Held S → Held S → H → H → List ℕ → Command → Type 0
   AcceptLeaves r s h k key c =
-      (away : Image) (u : World) → IsAt g view size r h away [] u u → LeavesStep g view size r s h k away u key c
+      (away : Image) (u : World) → IsAt g view size r h away [] u u
+      → LeavesStep g view size r s h k away u key c
 
   abbrev pub AcceptAnswers : Held S → Held S → H → H → List ℕ → Command → Accepted → Type 0
   AcceptAnswers r s h k key c a =
-      (away : Image) (u : World) → IsAt g view size r h away [] u u → IsAnswered g view size s k away u key c a
+      (away : Image) (u : World) → IsAt g view size r h away [] u u
+      → IsAnswered g view size s k away u key c a
 
   -- work that is carried out: what a stop leaves, and that the shelf is then the world's
   abbrev pub ApplyLeaves : Held S → H → H → Work → Type 0
   ApplyLeaves r h k work =
-      (away : Image) (u w : World) → IsAtWork g view size r h away work u w → LeavesOnly g view size r r h k away u w
+      (away : Image) (u w : World) → IsAtWork g view size r h away work u w
+      → LeavesOnly g view size r r h k away u w
 
   abbrev pub ApplyDoes : Held S → H → H → Work → Type 0
   ApplyDoes r h k work =
@@ -43,24 +47,28 @@ module _ {S H : Type 0} (g : Ghosts S) (view : H → View) (size : H → Sizes) 
   -- work that is settled: what a stop leaves, and that the bench is then at rest
   abbrev pub SettleLeaves : Held S → Held S → H → Work → Type 0
   SettleLeaves r s h work =
-      (away : Image) (u w : World) → IsAtWork g view size r h away work u w → IsShelfOf (view h) w (size h)
+      (away : Image) (u w : World) → IsAtWork g view size r h away work u w
+      → IsShelfOf (view h) w (size h)
       → LeavesOnly g view size r s h h away u w
 
   abbrev pub SettleDoes : Held S → Held S → H → Work → Type 0
   SettleDoes r s h work =
-      (away : Image) (u w : World) → IsAtWork g view size r h away work u w → IsShelfOf (view h) w (size h)
+      (away : Image) (u w : World) → IsAtWork g view size r h away work u w
+      → IsShelfOf (view h) w (size h)
       → IsAt g view size s h away [] w w
 
-  -- A stop within a command that is run: it is accepted at some point, before which the world stays or becomes that of the
-  -- command's step; and what is left behind that point leads to the step.
-  pub record LeavesRun (r s : Held S) (h k : H) (away : Image) (u : World) (key : List ℕ) (c : Command) : Type 0 where
+  -- A stop within a command that is run: it is accepted at some point, before which the world stays
+  -- or becomes that of the command's step; and what is left behind that point leads to the step.
+  pub record LeavesRun (r s : Held S) (h k : H) (away : Image) (u : World) (key : List ℕ)
+      (c : Command) : Type 0 where
     pub registry : Held S
     pub shelf : H
     pub sizes : size shelf ≡ size h
     pub accepting : LeavesStep g view size r registry h shelf away u key c
     pub carrying :
         ((registry ≡ s) × (shelf ≡ k))
-        ⊎ ((w : World) × (reply : Reply) × Step u key c w reply × LeavesOnly g view size registry s shelf k away u w)
+        ⊎ ((w : World) × (reply : Reply) × Step u key c w reply
+        × LeavesOnly g view size registry s shelf k away u w)
 
   -- a command that is handed in at rest, carried out and settled
   abbrev pub RunLeaves : Held S → Held S → H → H → List ℕ → Command → Type 0
@@ -69,7 +77,8 @@ module _ {S H : Type 0} (g : Ghosts S) (view : H → View) (size : H → Sizes) 
 
   abbrev pub RunAnswers : Held S → Held S → H → H → List ℕ → Command → Answer → Type 0
   RunAnswers r s h k key c a =
-      (away : Image) (u : World) → IsAt g view size r h away [] u u → IsRun g view size s k away u key c a
+      (away : Image) (u : World) → IsAt g view size r h away [] u u
+      → IsRun g view size s k away u key c a
 
   -- The store and the shelf before an opening lead to w.
   pub record IsLeft (store : Held S) (h : H) (away : Image) (u w : World) : Type 0 where
@@ -78,12 +87,15 @@ module _ {S H : Type 0} (g : Ghosts S) (view : H → View) (size : H → Sizes) 
 
   -- an opening: what a stop leaves, and that the bench is then at rest in the world that was left
   abbrev pub OpenLeaves : Held S → Held S → H → H → Type 0
-  OpenLeaves store s h k = (away : Image) (u w : World) → IsLeft store h away u w → LeavesOnly g view size store s h k away u w
+  OpenLeaves store s h k = (away : Image) (u w : World) → IsLeft store h away u w
+      → LeavesOnly g view size store s h k away u w
 
   abbrev pub OpenDoes : Held S → Held S → H → H → Type 0
-  OpenDoes store s h k = (away : Image) (u w : World) → IsLeft store h away u w → IsAt g view size s k away [] w w
+  OpenDoes store s h k = (away : Image) (u w : World) → IsLeft store h away u w
+      → IsAt g view size s k away [] w w
 
-  -- A look: the tables stay, a crash leaves no image that it couldn't leave before, and the sizes stay.
+  -- A look: the tables stay, a crash leaves no image that it couldn't leave before, and the sizes
+  -- stay.
   pub record LookDoes (r s : Held S) (h k : H) : Type 0 where
     pub tables : (t : Tables) → HasTables g r t → HasTables g s t
     pub images : (x : Image) → (view k).may_leave x → (view h).may_leave x

@@ -13,7 +13,8 @@ use Rattle.gm_refusals.specs.WorldFacts.{AreFacts, seen_of}
 use Rattle.gm_bench.specs.declared.plan.Planned.{Planned}
 use Rattle.gm_bench.specs.declared.plan.Gathered.{Gathered}
 
--- the change is the command's, the intents are the change's, and the part is what the change leaves of one
+-- the change is the command's, the intents are the change's, and the part is what the change leaves
+-- of one
 pub record IsPlanned (u : World) (c : Command) (p : Planned) : Type 0 where
   pub makes : Makes u.state (seen_of u) c p.change
   pub intents : p.work.intents.items ≡ p.change.intents
@@ -26,7 +27,8 @@ abbrev pub IsDecided : World → Command → Result Planned Refusal → Type 0
 IsDecided u c (Ok planned) = IsPlanned u c planned
 IsDecided u c (Err r) = IsLeast u.state (seen_of u) c r
 
--- a part of the records that serves to decide on the command, how many mirrors there are, and facts of the world
+-- a part of the records that serves to decide on the command, how many mirrors there are, and facts
+-- of the world
 pub record IsKnown (u : World) (c : Command) (g : Gathered) : Type 0 where
   pub part : IsPartToDecide g.part.state (seen_in g.facts) c u.state
   pub mirrors : g.part.mirrors ≡ length u.state.mirrors

@@ -10,7 +10,8 @@ use Rattle.gm_state.specs.Records.{Records}
 use Rattle.gm_state.specs.Intents.{IsAtHand}
 use Rattle.gm_lists.specs.Ordered.{Has}
 
--- a provider of so many sectors serves: a component with its registered size, another one with a sector
+-- a provider of so many sectors serves: a component with its registered size, another one with a
+-- sector
 abbrev pub serves : Option Component → Option ℕ → Bool
 serves k None = false
 serves None (Some n) = nat_lt 0 n

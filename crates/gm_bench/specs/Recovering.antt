@@ -23,8 +23,10 @@ use Rattle.gm_bench.specs.Leading.{AllLead}
 abbrev pub IsStored : Trees → Tables → Type 0
 IsStored db t = Holds db t ⊎ (IsEmpty db × (t ≡ no_tables))
 
--- The store leads to w with each of the shelf's images, where the providers that aren't on it hold what is away.
-pub record Recovers (db : Trees) (size : Sizes) (away : Image) (X : Image → Type 0) (u w : World) : Type 0 where
+-- The store leads to w with each of the shelf's images, where the providers that aren't on it hold
+-- what is away.
+pub record Recovers (db : Trees) (size : Sizes) (away : Image) (X : Image → Type 0) (u w : World) :
+    Type 0 where
   pub tables : Tables
   pub intents : List Intent
   pub stored : IsStored db tables
@@ -33,36 +35,42 @@ pub record Recovers (db : Trees) (size : Sizes) (away : Image) (X : Image → Ty
 -- these records say of each Meta among the intents what all records say
 pub record Cover (part all : Records) (ts : List Intent) : Type 0 where
   pub state : IsState part
-  pub metas : (p : List ℕ) → Has ts (Meta p) → (m : Mirror) (k : Component) → IsOf all m k → k.provider ≡ p → IsOf part m k
+  pub metas : (p : List ℕ) → Has ts (Meta p) → (m : Mirror) (k : Component) → IsOf all m k
+      → k.provider ≡ p → IsOf part m k
 
 -- each image that a crash may leave is the world's, on the providers that are there
 abbrev pub IsShelfOf : View → World → Sizes → Type 0
 IsShelfOf v w size = (x : Image) → v.may_leave x → SameThere size x w.shelf
 
 module _ {S H : Type 0} (g : Ghosts S) (view : H → View) (size : H → Sizes) where
-  -- The registry holds tables with these intents, and with each image that a crash may leave of the shelf they lead to w.
-  pub record IsFound (r : Held S) (h : H) (away : Image) (ts : List Intent) (u w : World) : Type 0 where
+  -- The registry holds tables with these intents, and with each image that a crash may leave of the
+  -- shelf they lead to w.
+  pub record IsFound (r : Held S) (h : H) (away : Image) (ts : List Intent) (u w : World) :
+      Type 0 where
     pub tables : Tables
     pub has : HasTables g r tables
     pub sizes : present w ≡ size h
     pub leads : AllLead tables ts (size h) away (view h).may_leave u w
 
-  -- The registry holds tables with these intents, whose providers are on the shelf; and with each image that a crash may
-  -- leave of the shelf they lead to w.
-  pub record IsAt (r : Held S) (h : H) (away : Image) (ts : List Intent) (u w : World) : Type 0 where
+  -- The registry holds tables with these intents, whose providers are on the shelf; and with each
+  -- image that a crash may leave of the shelf they lead to w.
+  pub record IsAt (r : Held S) (h : H) (away : Image) (ts : List Intent) (u w : World) :
+      Type 0 where
     pub tables : Tables
     pub has : HasTables g r tables
     pub sizes : present w ≡ size h
     pub at_hand : (t : Intent) → Has ts t → IsAtHand (size h) t
     pub leads : AllLead tables ts (size h) away (view h).may_leave u w
 
-  -- The bench is at a world to which this work leads, and the work's part of the records says what its intents need.
+  -- The bench is at a world to which this work leads, and the work's part of the records says what
+  -- its intents need.
   pub record IsAtWork (r : Held S) (h : H) (away : Image) (work : Work) (u w : World) : Type 0 where
     pub at : IsAt r h away work.intents.items u w
     pub cover : Cover work.part w.state work.intents.items
 
-  -- A stop within a call finds the registry as it was with an image of any moment, or what both may leave at the call's
-  -- end. Every such pair leads to w.
+  -- A stop within a call finds the registry as it was with an image of any moment, or what both may
+  -- leave at the call's end. Every such pair leads to w.
   pub record LeavesOnly (r s : Held S) (h k : H) (away : Image) (u w : World) : Type 0 where
-    pub within : (db : Trees) → CrashLeaves g r db → Recovers db (size h) away ((view k).left_since (view h).moment) u w
+    pub within : (db : Trees) → CrashLeaves g r db
+        → Recovers db (size h) away ((view k).left_since (view h).moment) u w
     pub end : (db : Trees) → CrashLeaves g s db → Recovers db (size h) away (view k).may_leave u w

@@ -1,5 +1,5 @@
--- Schedules: calls that returned or were stopped, providers that went away or came back, and openings. A stop between
--- two calls is one at the end of the first, or at the start of the second.
+-- Schedules: calls that returned or were stopped, providers that went away or came back, and
+-- openings. A stop between two calls is one at the end of the first, or at the start of the second.
 use Rattle.std.specs.Prelude.{◌≡◌, ◌⊎◌, ◌+◌, ◌&&◌, ℕ, false, List, [], ◌∷◌, length}
 use Rattle.sqlite_trees.specs.declared.store.Store.{Ghosts}
 use Rattle.sqlite.specs.Tree.{Trees}
@@ -27,21 +27,23 @@ use Rattle.gm_bench.specs.Recovering.{IsStored, Recovers, IsAt, IsAtWork, IsShel
 use Rattle.gm_bench.specs.Owed.{AcceptLeaves, AcceptAnswers, ApplyLeaves, ApplyDoes, SettleLeaves, SettleDoes, OpenLeaves, OpenDoes, IsLeft, RunAnswers, RunLeaves, LeavesRun, LookDoes, LookLeaves}
 use Rattle.gm_bench.specs.declared.answer.Answer.{Answer}
 
--- How a command was accepted: handed in to a bench at rest; or by an opening without a provider, of which these intents of
--- earlier commands were taken out.
+-- How a command was accepted: handed in to a bench at rest; or by an opening without a provider, of
+-- which these intents of earlier commands were taken out.
 pub data Entry : Type 0 where
   Handed_in : (call : Call) → Entry
   Without : (call : Call) (provider : List ℕ) (gone : List Intent) → Entry
 
--- where the bench is: between two calls, some with work that is pending, or stopped with one store and a shelf
+-- where the bench is: between two calls, some with work that is pending, or stopped with one store
+-- and a shelf
 pub data Phase (R H : Type 0) : Type 0 where
   Ready : (registry : R) (shelf : H) → Phase R H
   Pending : (registry : R) (shelf : H) (work : Work) → Phase R H
   Applied : (registry : R) (shelf : H) (work : Work) → Phase R H
   Down : (db : Trees) (shelf : H) → Phase R H
 
--- What may happen next, with what it left. A call that faulted is one that was stopped at its end; `Moved` says what the
--- providers hold that the later shelf hasn't; an opening is of a connection to the store.
+-- What may happen next, with what it left. A call that faulted is one that was stopped at its end;
+-- `Moved` says what the providers hold that the later shelf hasn't; an opening is of a connection
+-- to the store.
 pub data Event (R H : Type 0) : Type 0 where
   Accept_returned : (call : Call) (answer : Accepted) (registry : R) (shelf : H) → Event R H
   Accept_stopped : (call : Call) (registry : R) (shelf : H) (db : Trees) (later : H) → Event R H
@@ -56,34 +58,49 @@ pub data Event (R H : Type 0) : Type 0 where
   Moved : (away : Image) (later : H) → Event R H
   Open_returned : (store registry : R) (shelf : H) → Event R H
   Open_stopped : (store registry : R) (shelf : H) (db : Trees) (later : H) → Event R H
-  Without_returned : (call : Call) (provider : List ℕ) (gone : List Intent) (store registry : R) (shelf : H) → Event R H
-  Without_stopped : (call : Call) (provider : List ℕ) (gone : List Intent) (store registry : R) (db : Trees) (later : H) → Event R H
-  Without_carrying : (call : Call) (provider : List ℕ) (gone : List Intent) (store middle registry : R) (shelf : H) (db : Trees) (later : H) → Event R H
+  Without_returned : (call : Call) (provider : List ℕ) (gone : List Intent) (store registry : R)
+      (shelf : H) → Event R H
+  Without_stopped : (call : Call) (provider : List ℕ) (gone : List Intent) (store registry : R)
+      (db : Trees) (later : H) → Event R H
+  Without_carrying : (call : Call) (provider : List ℕ) (gone : List Intent)
+      (store middle registry : R) (shelf : H) (db : Trees) (later : H) → Event R H
 
--- the phase, what the providers hold that are away, and the accepted and the acknowledged calls, the newest first
+-- the phase, what the providers hold that are away, and the accepted and the acknowledged calls,
+-- the newest first
 pub record Now (R H : Type 0) : Type 0 where
   pub phase : Phase R H
   pub away : Image
   pub accepted : List Entry
   pub acknowledged : List Entry
 
--- a command that is done is pending, accepted and acknowledged; after another answer nothing has changed
+-- a command that is done is pending, accepted and acknowledged; after another answer nothing has
+-- changed
 abbrev pub after_answer : {R H : Type 0} → Now R H → Call → Accepted → R → H → Now R H
 after_answer m call (Done n reply work) s k =
-    record m { phase = Pending s k work; accepted = Handed_in call ∷ m.accepted; acknowledged = Handed_in call ∷ m.acknowledged }
+    record m {
+      phase = Pending s k work;
+      accepted = Handed_in call ∷ m.accepted;
+      acknowledged = Handed_in call ∷ m.acknowledged;
+    }
 after_answer m call (Repeated n reply) s k = record m { phase = Ready s k }
 after_answer m call (Refused why) s k = record m { phase = Ready s k }
 
--- a command that is run is accepted and acknowledged where it is done; after another answer nothing has changed
+-- a command that is run is accepted and acknowledged where it is done; after another answer nothing
+-- has changed
 abbrev pub after_run : {R H : Type 0} → Now R H → Call → Answer → R → H → Now R H
 after_run m call (run.Done n reply) s k =
-    record m { phase = Ready s k; accepted = Handed_in call ∷ m.accepted; acknowledged = Handed_in call ∷ m.acknowledged }
+    record m {
+      phase = Ready s k;
+      accepted = Handed_in call ∷ m.accepted;
+      acknowledged = Handed_in call ∷ m.acknowledged;
+    }
 after_run m call (run.Repeated n reply) s k = record m { phase = Ready s k }
 after_run m call (run.Refused why) s k = record m { phase = Ready s k }
 
 -- the bench is open, over these media
 abbrev pub IsOpenOver : {R H : Type 0} → Phase R H → R → H → Type 0
-IsOpenOver p r h = (p ≡ Ready r h) ⊎ ((work : Work) × ((p ≡ Pending r h work) ⊎ (p ≡ Applied r h work)))
+IsOpenOver p r h =
+    (p ≡ Ready r h) ⊎ ((work : Work) × ((p ≡ Pending r h work) ⊎ (p ≡ Applied r h work)))
 
 -- an open bench over other media, as far with its command as before
 abbrev pub with_media : {R H : Type 0} → Phase R H → R → H → Phase R H
@@ -120,9 +137,10 @@ pub record IsStepTo (u : World) (call : Call) (w : World) : Type 0 where
   pub step : Step u call.key call.command stepped reply
   pub moved : IsButMoved w stepped
 
--- The call's step from u, by an opening without the provider: its sectors that the intents named which were taken out hold
--- what they were left with.
-pub record IsStepWithout (u : World) (call : Call) (provider : List ℕ) (gone : List Intent) (w : World) : Type 0 where
+-- The call's step from u, by an opening without the provider: its sectors that the intents named
+-- which were taken out hold what they were left with.
+pub record IsStepWithout (u : World) (call : Call) (provider : List ℕ) (gone : List Intent)
+    (w : World) : Type 0 where
   pub stepped : World
   pub reply : Reply
   pub step : Step u call.key call.command stepped reply
@@ -132,7 +150,8 @@ pub record IsStepWithout (u : World) (call : Call) (provider : List ℕ) (gone :
   pub holds : w.holds ≡ stepped.holds
   pub answered : w.answered ≡ stepped.answered
   pub size : w.size ≡ stepped.size
-  pub shelf : (q : List ℕ) (j : ℕ) → (same_label provider q && is_place u.size gone q j) ≡ false → w.shelf q j ≡ stepped.shelf q j
+  pub shelf : (q : List ℕ) (j : ℕ) → (same_label provider q && is_place u.size gone q j) ≡ false
+      → w.shelf q j ≡ stepped.shelf q j
 
 abbrev pub IsEntry : World → Entry → World → Type 0
 IsEntry u (Handed_in call) w = IsStepTo u call w
@@ -149,13 +168,14 @@ IsLastStep all [] u w = ⊥
 IsLastStep all (Handed_in call ∷ older) u w = Reached all older u × IsStepTo u call w
 IsLastStep all (Without call provider gone ∷ older) u w = ⊥
 
--- u is the world before the first of those of the last commands that may be pending, and w the one after them all: openings
--- without a provider, behind one command that was handed in or behind none
+-- u is the world before the first of those of the last commands that may be pending, and w the one
+-- after them all: openings without a provider, behind one command that was handed in or behind none
 abbrev pub ArePending : Sizes → List Entry → World → World → Type 0
 ArePending all [] u w = ⊥
 ArePending all (Handed_in call ∷ older) u w = Reached all older u × IsStepTo u call w
 ArePending all (Without call provider gone ∷ older) u w =
-    (v : World) × Reached all older v × IsStepWithout v call provider gone w × (IsButMoved u v ⊎ ArePending all older u v)
+    (v : World) × Reached all older v × IsStepWithout v call provider gone w
+    × (IsButMoved u v ⊎ ArePending all older u v)
 
 -- how many commands the tables of a store hold
 abbrev pub HasCount : Trees → ℕ → Type 0
@@ -164,96 +184,119 @@ HasCount db n = (t : Tables) → IsStored db t → count_of t ≡ n
 -- the commits that were left: with that of the call, or without
 abbrev pub IsLeftIn : Trees → Entry → List Entry → List Entry → Type 0
 IsLeftIn db entry before after =
-    ((after ≡ before) × HasCount db (length before)) ⊎ ((after ≡ entry ∷ before) × HasCount db (length before + 1))
+    ((after ≡ before) × HasCount db (length before))
+    ⊎ ((after ≡ entry ∷ before) × HasCount db (length before + 1))
 
 module _ {S H : Type 0} (g : Ghosts S) (view : H → View) (size : H → Sizes) where
-  -- one store and one shelf that a stop within a call leaves: the store is of the call's start and the image of any
-  -- moment, or both are of its end
+  -- one store and one shelf that a stop within a call leaves: the store is of the call's start and
+  -- the image of any moment, or both are of its end
   abbrev pub IsStop : Held S → Held S → H → H → Trees → H → Type 0
   IsStop r s h k db l =
       (size l ≡ size h)
       × ((view l).may_leave (view l).seen)
-      × ((CrashLeaves g r db × ((x : Image) → (view l).may_leave x → (view k).left_since (view h).moment x))
+      × ((CrashLeaves g r db × ((x : Image) → (view l).may_leave x
+      → (view k).left_since (view h).moment x))
       ⊎ (CrashLeaves g s db × ((x : Image) → (view l).may_leave x → (view k).may_leave x)))
 
-  -- one store and one shelf that a stop within a run leaves: within the accepting, or behind it, while the step is
-  -- carried out
-  abbrev pub IsRunStop : (r s : Held S) (h k : H) (away : Image) (u : World) (call : Call) → LeavesRun g view size r s h k away u call.key call.command → Trees → H → Type 0
+  -- one store and one shelf that a stop within a run leaves: within the accepting, or behind it,
+  -- while the step is carried out
+  abbrev pub IsRunStop : (r s : Held S) (h k : H) (away : Image) (u : World) (call : Call)
+      → LeavesRun g view size r s h k away u call.key call.command → Trees → H → Type 0
   IsRunStop r s h k away u call it db l =
       IsStop r it.registry h it.shelf db l
       ⊎ ((w : World) × (reply : Reply) × Step u call.key call.command w reply
-      × LeavesOnly g view size it.registry s it.shelf k away u w × IsStop it.registry s it.shelf k db l)
+      × LeavesOnly g view size it.registry s it.shelf k away u w
+      × IsStop it.registry s it.shelf k db l)
 
-  -- An opening without a provider: until its commit nothing is written to the shelf, and what a stop leaves leads to w; the
-  -- commit leaves that, or what leads to the step.
-  pub record LeavesCommit (store mid : Held S) (h : H) (away : Image) (u w : World) (call : Call) (provider : List ℕ) (gone : List Intent) : Type 0 where
-    pub within : (db : Trees) → CrashLeaves g store db → Recovers db (size h) away ((view h).left_since (view h).moment) u w
+  -- An opening without a provider: until its commit nothing is written to the shelf, and what a
+  -- stop leaves leads to w; the commit leaves that, or what leads to the step.
+  pub record LeavesCommit (store mid : Held S) (h : H) (away : Image) (u w : World) (call : Call)
+      (provider : List ℕ) (gone : List Intent) : Type 0 where
+    pub within : (db : Trees) → CrashLeaves g store db
+        → Recovers db (size h) away ((view h).left_since (view h).moment) u w
     pub end : (db : Trees) → CrashLeaves g mid db → Recovers db (size h) away (view h).may_leave u w
-        ⊎ ((v : World) × IsStepWithout w call provider gone v × (present v ≡ size h) × Recovers db (size h) away (view h).may_leave u v)
+        ⊎ ((v : World) × IsStepWithout w call provider gone v × (present v ≡ size h)
+        × Recovers db (size h) away (view h).may_leave u v)
 
   abbrev pub WithoutLeaves : Held S → Held S → H → Call → List ℕ → List Intent → Type 0
   WithoutLeaves store mid h call provider gone =
       (away : Image) (u w : World) → (left : IsLeft g view size store h away u w)
-      → (gone ≡ dropped provider left.recovers.intents) × LeavesCommit store mid h away u w call provider gone
+      → (gone ≡ dropped provider left.recovers.intents)
+      × LeavesCommit store mid h away u w call provider gone
 
   -- behind the commit: what a stop leaves leads to the step
-  abbrev pub WithoutCarries : Held S → Held S → Held S → H → H → Call → List ℕ → List Intent → Type 0
+  abbrev pub WithoutCarries : Held S → Held S → Held S → H → H → Call → List ℕ → List Intent
+      → Type 0
   WithoutCarries store mid s h k call provider gone =
       (away : Image) (u w : World) → (left : IsLeft g view size store h away u w)
-      → (gone ≡ dropped provider left.recovers.intents) × (v : World) × IsStepWithout w call provider gone v × (present v ≡ size h) × LeavesOnly g view size mid s h k away u v
+      → (gone ≡ dropped provider left.recovers.intents) × (v : World)
+      × IsStepWithout w call provider gone v × (present v ≡ size h)
+      × LeavesOnly g view size mid s h k away u v
 
   -- at its end the bench is at rest in the world of the step
   abbrev pub WithoutDoes : Held S → Held S → H → H → Call → List ℕ → List Intent → Type 0
   WithoutDoes store s h k call provider gone =
       (away : Image) (u w : World) → (left : IsLeft g view size store h away u w)
-      → (gone ≡ dropped provider left.recovers.intents) × (v : World) × IsStepWithout w call provider gone v × IsAt g view size s k away [] v v
+      → (gone ≡ dropped provider left.recovers.intents) × (v : World)
+      × IsStepWithout w call provider gone v × IsAt g view size s k away [] v v
 
-  -- Providers went away or came back unchanged: those on the later shelf have their sizes, and whatever image is left of
-  -- it, all providers hold what they hold with one that may be left of this shelf.
+  -- Providers went away or came back unchanged: those on the later shelf have their sizes, and
+  -- whatever image is left of it, all providers hold what they hold with one that may be left of
+  -- this shelf.
   pub record IsMove (all : Sizes) (h : H) (away : Image) (later : H) (beyond : Image) : Type 0 where
     pub sizes : AreAmong (size later) all
     pub images : (y : Image) → (view later).may_leave y
-        → (x : Image) × (view h).may_leave x × Same (whole (size later) beyond y) (whole (size h) away x)
+        → (x : Image) × (view h).may_leave x × Same (whole (size later) beyond y)
+        (whole (size h) away x)
 
   -- the providers have these sizes for ever
   module _ (all : Sizes) where
-    -- each event is what the contract of its call says of an honest shelf and a disk that keeps what is written
+    -- each event is what the contract of its call says of an honest shelf and a disk that keeps
+    -- what is written
     abbrev pub Happens : Now (Held S) H → Event (Held S) H → Now (Held S) H → Type 0
     Happens m (Accept_returned call answer s k) n =
         (r : Held S) × (h : H) × (m.phase ≡ Ready r h) × (n ≡ after_answer m call answer s k)
         × AcceptAnswers g view size r s h k call.key call.command answer
     Happens m (Accept_stopped call s k db l) n =
         (r : Held S) × (h : H) × (m.phase ≡ Ready r h)
-        × (left : List Entry) × (n ≡ record m { phase = Down db l; accepted = left }) × IsLeftIn db (Handed_in call) m.accepted left
+        × (left : List Entry) × (n ≡ record m { phase = Down db l; accepted = left })
+        × IsLeftIn db (Handed_in call) m.accepted left
         × AcceptLeaves g view size r s h k call.key call.command × IsStop r s h k db l
     Happens m (Apply_returned k) n =
         (r : Held S) × (h : H) × (work : Work) × (m.phase ≡ Pending r h work)
         × (n ≡ record m { phase = Applied r k work }) × ApplyDoes g view size r h k work
     Happens m (Apply_stopped k db l) n =
         (r : Held S) × (h : H) × (work : Work) × (m.phase ≡ Pending r h work)
-        × (n ≡ record m { phase = Down db l }) × ApplyLeaves g view size r h k work × IsStop r r h k db l
+        × (n ≡ record m { phase = Down db l }) × ApplyLeaves g view size r h k work
+        × IsStop r r h k db l
     Happens m (Settle_returned s) n =
         (r : Held S) × (h : H) × (work : Work) × (m.phase ≡ Applied r h work)
         × (n ≡ record m { phase = Ready s h }) × SettleDoes g view size r s h work
     Happens m (Settle_stopped s db l) n =
         (r : Held S) × (h : H) × (work : Work) × (m.phase ≡ Applied r h work)
-        × (n ≡ record m { phase = Down db l }) × SettleLeaves g view size r s h work × IsStop r s h h db l
+        × (n ≡ record m { phase = Down db l }) × SettleLeaves g view size r s h work
+        × IsStop r s h h db l
     Happens m (Run_returned call answer s k) n =
         (r : Held S) × (h : H) × (m.phase ≡ Ready r h) × (n ≡ after_run m call answer s k)
         × RunAnswers g view size r s h k call.key call.command answer
     Happens m (Run_stopped call s k db l) n =
         (r : Held S) × (h : H) × (m.phase ≡ Ready r h)
-        × (left : List Entry) × (n ≡ record m { phase = Down db l; accepted = left }) × IsLeftIn db (Handed_in call) m.accepted left
+        × (left : List Entry) × (n ≡ record m { phase = Down db l; accepted = left })
+        × IsLeftIn db (Handed_in call) m.accepted left
         × (leaves : RunLeaves g view size r s h k call.key call.command)
-        × ((away : Image) (u : World) (at : IsAt g view size r h away [] u u) → IsRunStop r s h k away u call (leaves away u at) db l)
+        × ((away : Image) (u : World) (at : IsAt g view size r h away [] u u)
+        → IsRunStop r s h k away u call (leaves away u at) db l)
     Happens m (Look_returned s k) n =
-        (r : Held S) × (h : H) × IsOpenOver m.phase r h × (n ≡ record m { phase = with_media m.phase s k })
+        (r : Held S) × (h : H) × IsOpenOver m.phase r h
+        × (n ≡ record m { phase = with_media m.phase s k })
         × LookDoes g view size r s h k
     Happens m (Look_stopped s k db l) n =
         (r : Held S) × (h : H) × IsOpenOver m.phase r h
-        × (n ≡ record m { phase = Down db l }) × LookLeaves g view size r s h k × IsStop r s h k db l
+        × (n ≡ record m { phase = Down db l }) × LookLeaves g view size r s h k
+        × IsStop r s h k db l
     Happens m (Moved beyond later) n =
-        (db : Trees) × (h : H) × (m.phase ≡ Down db h) × (n ≡ record m { phase = Down db later; away = beyond })
+        (db : Trees) × (h : H) × (m.phase ≡ Down db h)
+        × (n ≡ record m { phase = Down db later; away = beyond })
         × IsMove all h m.away later beyond
     Happens m (Open_returned o s k) n =
         (h : H) × (m.phase ≡ Down (stored g o) h) × (n ≡ record m { phase = Ready s k })
@@ -263,23 +306,30 @@ module _ {S H : Type 0} (g : Ghosts S) (view : H → View) (size : H → Sizes) 
         × OpenLeaves g view size o s h k × IsStop o s h k db l
     Happens m (Without_returned call p gone o s k) n =
         (h : H) × (m.phase ≡ Down (stored g o) h)
-        × (n ≡ record m { phase = Ready s k; accepted = Without call p gone ∷ m.accepted; acknowledged = Without call p gone ∷ m.acknowledged })
+        × (n ≡ record m {
+          phase = Ready s k;
+          accepted = Without call p gone ∷ m.accepted;
+          acknowledged = Without call p gone ∷ m.acknowledged;
+        })
         × WithoutDoes o s h k call p gone
     Happens m (Without_stopped call p gone o s db l) n =
         (h : H) × (m.phase ≡ Down (stored g o) h)
-        × (left : List Entry) × (n ≡ record m { phase = Down db l; accepted = left }) × IsLeftIn db (Without call p gone) m.accepted left
+        × (left : List Entry) × (n ≡ record m { phase = Down db l; accepted = left })
+        × IsLeftIn db (Without call p gone) m.accepted left
         × WithoutLeaves o s h call p gone × IsStop o s h h db l
     Happens m (Without_carrying call p gone o mid s k db l) n =
         (h : H) × (m.phase ≡ Down (stored g o) h)
         × (n ≡ record m { phase = Down db l; accepted = Without call p gone ∷ m.accepted })
         × WithoutCarries o mid s h k call p gone × IsStop mid s h k db l
 
-    -- A start: a store without tables, and a new world whose providers hold what any crash leaves of them.
+    -- A start: a store without tables, and a new world whose providers hold what any crash leaves
+    -- of them.
     pub record IsStart (db : Trees) (h : H) (away : Image) (w : World) : Type 0 where
       pub empty : IsEmpty db
       pub new : IsNew all w
       pub sizes : present w ≡ size h
-      pub shelf : (x : Image) → (view h).may_leave x → SameThere w.size (whole (size h) away x) w.shelf
+      pub shelf : (x : Image) → (view h).may_leave x
+          → SameThere w.size (whole (size h) away x) w.shelf
 
     -- the events, the newest first, lead to this from a start
     abbrev pub Runs : List (Event (Held S) H) → Now (Held S) H → Type 0
@@ -288,15 +338,18 @@ module _ {S H : Type 0} (g : Ghosts S) (view : H → View) (size : H → Sizes) 
         × (n ≡ record { phase = Down db h; away = away; accepted = []; acknowledged = [] })
     Runs (e ∷ older) n = (m : Now (Held S) H) × Runs older m × Happens m e n
 
-    -- after an opening and at rest: the tables and the shelf are those of the world after the accepted calls
+    -- after an opening and at rest: the tables and the shelf are those of the world after the
+    -- accepted calls
     pub record AtRest (r : Held S) (h : H) (away : Image) (acc ack : List Entry) : Type 0 where
       pub world : World
       pub reached : Reached all acc world
       pub at : IsAt g view size r h away [] world world
       pub told : Within ack acc
 
-    -- the work that is pending leads to it, and no component claims on the way a sector that it lacks
-    pub record OnTheWay (r : Held S) (h : H) (away : Image) (work : Work) (acc ack : List Entry) : Type 0 where
+    -- the work that is pending leads to it, and no component claims on the way a sector that it
+    -- lacks
+    pub record OnTheWay (r : Held S) (h : H) (away : Image) (work : Work) (acc ack : List Entry) :
+        Type 0 where
       pub world : World
       pub before : World
       pub reached : Reached all acc world
@@ -304,7 +357,8 @@ module _ {S H : Type 0} (g : Ghosts S) (view : H → View) (size : H → Sizes) 
       pub at : IsAtWork g view size r h away work before world
       pub told : Within ack acc
 
-    -- whatever a stop left leads to it, from itself or from the world before the first command that is pending
+    -- whatever a stop left leads to it, from itself or from the world before the first command that
+    -- is pending
     pub record Stopped (db : Trees) (h : H) (away : Image) (acc ack : List Entry) : Type 0 where
       pub world : World
       pub before : World

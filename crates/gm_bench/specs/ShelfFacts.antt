@@ -13,21 +13,25 @@ last_of n sectors = if n == 0 then zeros else sectors (n - 1)
 
 -- the last sector of a provider that is there and has one
 abbrev pub last_sector : Sizes → Image → List ℕ → Option (List ℕ)
-last_sector size seen p = option_and_then (λ n. if n == 0 then None else Some (seen p (n - 1))) (size p)
+last_sector size seen p =
+    option_and_then (λ n. if n == 0 then None else Some (seen p (n - 1))) (size p)
 
 -- where a provider is compared, so many of its first sectors are equal
 abbrev pub AreEqual : Sizes → Image → Option Compared → List ℕ → ℕ → Type 0
 AreEqual size seen None q n = Unit {0}
-AreEqual size seen (Some with) q n = CountsEqual seen with.source q (reach_of size with.source q with.limit) n
+AreEqual size seen (Some with) q n =
+    CountsEqual seen with.source q (reach_of size with.source q with.limit) n
 
 -- the fact is what the shelf says
-pub record IsFact (size : Sizes) (seen : Image) (against : Option Compared) (f : Fact) : Type 0 where
+pub record IsFact (size : Sizes) (seen : Image) (against : Option Compared) (f : Fact) :
+    Type 0 where
   pub sectors : size f.provider ≡ Some f.sectors
   pub last : f.last ≡ last_of f.sectors (seen f.provider)
   pub equal : AreEqual size seen against f.provider f.equal
 
 -- the facts say of this provider what the shelf says
-pub record Tell (facts : List Fact) (size : Sizes) (seen : Image) (against : Option Compared) (q : List ℕ) : Type 0 where
+pub record Tell (facts : List Fact) (size : Sizes) (seen : Image) (against : Option Compared)
+    (q : List ℕ) : Type 0 where
   pub size_is : size_in facts q ≡ size q
   pub last_is : last_in facts q ≡ option_map (λ n. last_of n (seen q)) (size q)
   pub equal_is : AreEqual size seen against q (equals_in facts q)

@@ -1,4 +1,5 @@
--- What a shelf shows to one who tastes it: its providers with their last sectors, without a registry.
+-- What a shelf shows to one who tastes it: its providers with their last sectors, without a
+-- registry.
 use Rattle.std.specs.Prelude.{◌≡◌, ℕ, List, Some}
 use Rattle.gm_metadata.specs.Images.{Image, Sizes}
 use Rattle.gm_taste.specs.declared.provider.Provider.{Provider}
@@ -20,7 +21,8 @@ pub record IsShown (size : Sizes) (seen : Image) (p : Provider) : Type 0 where
 -- these are the providers of the shelf, each once
 pub record AreShown (size : Sizes) (seen : Image) (ps : List Provider) : Type 0 where
   pub each : (p : Provider) → Has ps p → IsShown size seen p
-  pub all : (name : List ℕ) (n : ℕ) → size name ≡ Some n → (p : Provider) × Has ps p × (p.name ≡ name)
+  pub all : (name : List ℕ) (n : ℕ) → size name ≡ Some n
+      → (p : Provider) × Has ps p × (p.name ≡ name)
   pub once : DistinctNames ps
 
 -- what the last sectors of the shelf's providers tell

@@ -3,7 +3,8 @@
 use gm_refusals::CallRefusal;
 use gm_state::{Intent, Reply, State};
 
-/// The number of an accepted command and its reply, now or when its key came first; or why it is refused.
+/// The number of an accepted command and its reply, now or when its key came first; or why it is
+/// refused.
 #[derive(Clone, Copy, Debug, PartialEq, Eq)]
 pub enum Answer {
     /// The command is accepted, under this number.

@@ -62,7 +62,8 @@ fn is_as_registered<H: Shelf>(
     }
 }
 
-/// The names of the components that the shelf shows otherwise than they are registered, in byte order.
+/// The names of the components that the shelf shows otherwise than they are registered, in byte
+/// order.
 pub(crate) fn amiss_on<H: Shelf>(
     alloc: Global,
     shelf: &mut H,

@@ -53,8 +53,8 @@ fn providers_on<H: Shelf>(alloc: Global, shelf: &mut H) -> Result<Vec<Provider>,
     Ok(providers)
 }
 
-/// What the last sectors of a shelf's providers tell; zeros stand for the last sector of one that has none. `Disk` where
-/// one can't be read, or `Memory`.
+/// What the last sectors of a shelf's providers tell; zeros stand for the last sector of one that
+/// has none. `Disk` where one can't be read, or `Memory`.
 pub fn taste_shelf<H: Shelf>(alloc: Global, shelf: &mut H) -> Result<Tasted, BenchFault>
     ensures tasted { H.honest shelf.old
         → IfOk result (IsTastedOn (H.size shelf.old) (H.view shelf.old).seen) }

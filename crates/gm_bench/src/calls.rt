@@ -25,9 +25,9 @@ use std::alloc::Global;
 use std::mem;
 
 impl<S: Alter, H: Shelf> Bench<S, H> {
-    /// Hands in a command under a key, in phase Ready. It reads the shelf, and writes the registry alone; what is done is
-    /// then pending. `Closed` after an earlier fault, before anything is read or written; any other fault closes the
-    /// bench.
+    /// Hands in a command under a key, in phase Ready. It reads the shelf, and writes the registry
+    /// alone; what is done is then pending. `Closed` after an earlier fault, before anything is
+    /// read or written; any other fault closes the bench.
     pub fn accept(
         &mut self,
         alloc: Global,
@@ -208,7 +208,8 @@ impl<S: Alter, H: Shelf> Bench<S, H> {
         }
     }
 
-    /// `accept`, `apply` and `settle` in turn. What was accepted before a fault is carried out by the next opening.
+    /// `accept`, `apply` and `settle` in turn. What was accepted before a fault is carried out by
+    /// the next opening.
     pub fn run(&mut self, alloc: Global, key: &str, command: &Command) -> Result<Answer, BenchFault>
         requires { TakesCommands self.old.progress }
         ensures answers { H.honest self.old.media.shelf → DiskKept S.Store self.new.media.registry

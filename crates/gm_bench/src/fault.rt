@@ -7,8 +7,8 @@ use gm_metadata::Label;
 use gm_rows::StoreFault;
 use gm_shelf::ShelfFault;
 
-/// Why the bench didn't do a call. After any of these but `Closed` and `Absent` the bench is closed: every call is
-/// answered `Closed` until it is opened again.
+/// Why the bench didn't do a call. After any of these but `Closed` and `Absent` the bench is
+/// closed: every call is answered `Closed` until it is opened again.
 #[derive(Clone, Copy, Debug, PartialEq, Eq, thiserror::Error)]
 pub enum BenchFault {
     /// Memory was refused.
@@ -23,7 +23,8 @@ pub enum BenchFault {
     /// An earlier fault closed the bench.
     #[error("F4 reopen first")]
     Closed,
-    /// An opening finds that the image of a pending intent isn't there, has no sectors or another size.
+    /// An opening finds that the image of a pending intent isn't there, has no sectors or another
+    /// size.
     #[error("F5 absent {0}")]
     Absent(Label),
     /// The store holds no registry, or one whose tables don't say a state.
@@ -59,7 +60,8 @@ impl BenchFault {
         }
     }
 
-    /// What a fault of the shelf is to the bench, which names only providers and sectors that are there.
+    /// What a fault of the shelf is to the bench, which names only providers and sectors that are
+    /// there.
     pub(crate) fn of_shelf(fault: ShelfFault) -> BenchFault
         ensures value { result ≡ of_shelf fault }
         ensures media { IsOfMedia result }

@@ -36,7 +36,8 @@ use gm_state::{Intent, State};
 use sqlite::Alter;
 use std::alloc::Global;
 
-/// What is to be done for a command that nothing refuses: the change, and what is then to be carried out.
+/// What is to be done for a command that nothing refuses: the change, and what is then to be
+/// carried out.
 #[derive(Drop)]
 pub(crate) struct Planned {
     pub(crate) change: Change,
@@ -126,8 +127,8 @@ impl<S: Alter, H: Shelf> Media<S, H> {
         }
     }
 
-    /// The part of the records that the command asks for, and that has each of these mids, and how many
-    /// mirrors there are. It writes nothing.
+    /// The part of the records that the command asks for, and that has each of these mids, and how
+    /// many mirrors there are. It writes nothing.
     pub(crate) fn part(
         &mut self,
         alloc: Global,
@@ -210,8 +211,8 @@ impl<S: Alter, H: Shelf> Media<S, H> {
         }
     }
 
-    // What is to be known to decide on the command: the images that it adopts from say which mids its
-    // part has, and which data are to be compared.
+    // What is to be known to decide on the command: the images that it adopts from say which mids
+    // its part has, and which data are to be compared.
     fn gather(&mut self, alloc: Global, command: &Command) -> Result<Gathered, BenchFault>
         ensures known { H.honest self.old.shelf → DiskKept S.Store self.new.registry
             → IfOk result (λ r. (away : Image) (u : World)

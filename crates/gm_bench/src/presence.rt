@@ -42,8 +42,8 @@ fn absent_of<H: Shelf>(shelf: &H, state: &State, intent: &Intent) -> Option<Labe
     None
 }
 
-/// The first provider of the intents, a copy's target before its source, that isn't there with a sector or, as a
-/// component, with its registered size.
+/// The first provider of the intents, a copy's target before its source, that isn't there with a
+/// sector or, as a component, with its registered size.
 pub(crate) fn first_absent<H: Shelf>(shelf: &H, state: &State, intents: &[Intent]) -> Option<Label>
     ensures { result ≡ first_absent state.now (H.size shelf.now) intents.now }
 {

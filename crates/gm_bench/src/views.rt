@@ -22,8 +22,8 @@ use sqlite::Alter;
 use std::alloc::Global;
 
 impl<S: Alter, H: Shelf> Bench<S, H> {
-    /// The mirrors and their components, as the registry has them: what is pending counts as carried out. `Closed` after
-    /// an earlier fault; any other fault closes the bench.
+    /// The mirrors and their components, as the registry has them: what is pending counts as
+    /// carried out. `Closed` after an earlier fault; any other fault closes the bench.
     pub fn view(&mut self, alloc: Global) -> Result<State, BenchFault>
         // The records that the registry holds, whatever the images hold.
         ensures shows { DiskKept S.Store self.new.media.registry
@@ -64,8 +64,8 @@ impl<S: Alter, H: Shelf> Bench<S, H> {
         }
     }
 
-    /// The last sector of a provider; None where it is absent or has no sectors. `Closed` after an earlier fault; any
-    /// other fault closes the bench.
+    /// The last sector of a provider; None where it is absent or has no sectors. `Closed` after an
+    /// earlier fault; any other fault closes the bench.
     pub fn last_sector(&mut self, provider: Label) -> Result<Option<[u8; 512]>, BenchFault>
         ensures shows { H.honest self.old.media.shelf → IfOk result (λ found. found
             ≡ last_sector (H.size self.old.media.shelf) (H.view self.old.media.shelf).seen
@@ -108,9 +108,10 @@ impl<S: Alter, H: Shelf> Bench<S, H> {
         }
     }
 
-    /// The components that the shelf shows otherwise than they are registered, by the names of their providers in byte
-    /// order: a provider that isn't there or has another size, or a last sector that isn't byte for byte the component's
-    /// metadata. `Closed` after an earlier fault; any other fault closes the bench.
+    /// The components that the shelf shows otherwise than they are registered, by the names of
+    /// their providers in byte order: a provider that isn't there or has another size, or a last
+    /// sector that isn't byte for byte the component's metadata. `Closed` after an earlier fault;
+    /// any other fault closes the bench.
     pub fn audit(&mut self, alloc: Global) -> Result<Vec<Label>, BenchFault>
         // By the records that the registry holds and by what the shelf shows, whoever wrote it.
         ensures audits { H.honest self.old.media.shelf → DiskKept S.Store self.new.media.registry

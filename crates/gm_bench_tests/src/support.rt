@@ -1,5 +1,5 @@
-//! What the tests of the bench share: images, commands, calls, and what a last sector is expected to say. The expected
-//! values are worked out by hand.
+//! What the tests of the bench share: images, commands, calls, and what a last sector is expected
+//! to say. The expected values are worked out by hand.
 
 use gm_bench::{Answer, Bench, BenchFault, OpenFault, Phase};
 use gm_commands::{BalanceWord, Command, NewComponent, NewMirror, Providers, Settings, Slice};
@@ -175,8 +175,8 @@ pub fn metadata(did: u32, all: u8, dflags: DiskFlags) -> Result<Metadata, Fail> 
     })
 }
 
-// The tests go over any store and shelf, and these have no clause, so that a proof carries neither what those in memory
-// are made of nor the state of each call.
+// The tests go over any store and shelf, and these have no clause, so that a proof carries neither
+// what those in memory are made of nor the state of each call.
 pub fn try_open<S: Alter + Drop, H: Shelf + Drop>(
     alloc: Global,
     store: Connection<S>,

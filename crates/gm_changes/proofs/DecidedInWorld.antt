@@ -29,11 +29,13 @@ use Rattle.gm_lists.proofs.Lists.{map-Has}
 -- ---- what is seen of images that are to be adopted
 
 module _ (x y : Seen) where
-  same_takes : (c : Command) → ((p : List ℕ) → Has (looked_at c) p → x.last p ≡ y.last p) → (m : Mirror) → takes_mid x c m ≡ takes_mid y c m
+  same_takes : (c : Command) → ((p : List ℕ) → Has (looked_at c) p → x.last p ≡ y.last p)
+      → (m : Mirror) → takes_mid x c m ≡ takes_mid y c m
   same_takes (Adopt n ps) h m = same_mid x y ps m.mid h
   same_takes _ h m = refl
 
-  same_dids : (c : Command) → ((p : List ℕ) → Has (looked_at c) p → x.last p ≡ y.last p) → finds_did_twice x c ≡ finds_did_twice y c
+  same_dids : (c : Command) → ((p : List ℕ) → Has (looked_at c) p → x.last p ≡ y.last p)
+      → finds_did_twice x c ≡ finds_did_twice y c
   same_dids (Adopt n ps) h = same_twice x y ps h
   same_dids _ h = refl
 
@@ -43,7 +45,8 @@ module _ (x y : Seen) where
 
   -- as many first sectors are equal to those of the source
   abbrev SameEqual : Command → Type 0
-  SameEqual (Adopt n ps) = (b : Member) → source_in y ps ≡ Some b → (p : List ℕ) → Has ps p → (k : ℕ) → k ≤ data_of b.metadata → x.equal b.provider p k ≡ y.equal b.provider p k
+  SameEqual (Adopt n ps) = (b : Member) → source_in y ps ≡ Some b → (p : List ℕ) → Has ps p
+      → (k : ℕ) → k ≤ data_of b.metadata → x.equal b.provider p k ≡ y.equal b.provider p k
   SameEqual _ = Unit {0}
 
 -- ---- the facts of a world
@@ -53,29 +56,45 @@ module _ (facts : List Fact) (u : World) (c : Command) (are : AreFacts facts u c
   seen p h = Has-append_left (looked_at c) (map provider (awaited u.state c)) p h
 
   of_mirror : (k : Component) → Has (awaited u.state c) k → Has (needed_by u.state c) k.provider
-  of_mirror k h = Has-append_right (looked_at c) (map provider (awaited u.state c)) k.provider (map-Has provider (awaited u.state c) k h)
+  of_mirror k h = Has-append_right (looked_at c) (map provider (awaited u.state c)) k.provider
+      (map-Has provider (awaited u.state c) k h)
 
   -- a test of what the command looks at comes out alike
-  by_size : (test : Option ℕ → Bool) → list_any (λ p. test (size_in facts p)) (looked_at c) ≡ list_any (λ p. test (present u p)) (looked_at c)
+  by_size : (test : Option ℕ → Bool)
+      → list_any (λ p. test (size_in facts p)) (looked_at c)
+      ≡ list_any (λ p. test (present u p)) (looked_at c)
   by_size test = any_agree _ _ (looked_at c) (λ p h. ap test (are.size p (seen p h)))
 
-  by_last : (test : Option (List ℕ) → Bool) → list_any (λ p. test (last_in facts p)) (looked_at c) ≡ list_any (λ p. test (last_of u p)) (looked_at c)
+  by_last : (test : Option (List ℕ) → Bool)
+      → list_any (λ p. test (last_in facts p)) (looked_at c)
+      ≡ list_any (λ p. test (last_of u p)) (looked_at c)
   by_last test = any_agree _ _ (looked_at c) (λ p h. ap test (are.last p (seen p h)))
 
-  small : (o : Option Mirror) → is_there_and o (λ m. list_any (λ p. is_there_and (size_in facts p) (λ n. nat_lt n (m.data_sectors + 1))) (looked_at c)) ≡ is_there_and o (λ m. list_any (λ p. is_there_and (present u p) (λ n. nat_lt n (m.data_sectors + 1))) (looked_at c))
+  small : (o : Option Mirror)
+      → is_there_and o
+      (λ m. list_any (λ p. is_there_and (size_in facts p) (λ n. nat_lt n (m.data_sectors + 1)))
+      (looked_at c)) ≡ is_there_and o
+      (λ m. list_any (λ p. is_there_and (present u p) (λ n. nat_lt n (m.data_sectors + 1)))
+      (looked_at c))
   small None = refl
   small (Some m) = by_size (λ o. is_there_and o (λ n. nat_lt n (m.data_sectors + 1)))
 
   pub same : (r : Refusal) → applies u.state (seen_in facts) c r ≡ applies u.state (seen_of u) c r
   same NoMirror = refl
   same NameTaken = refl
-  same MidTaken = any_agree _ _ u.state.mirrors (λ m h. same_takes (seen_in facts) (seen_of u) c (λ p k. are.last p (seen p k)) m)
-  same Absent = ap₂ (λ a b. a || b) (by_size is_none) (any_agree _ _ (awaited u.state c) (λ k h. ap (λ o. not (has_size o k.sectors)) (are.size k.provider (of_mirror k h))))
+  same MidTaken =
+      any_agree _ _ u.state.mirrors (λ m h. same_takes (seen_in facts) (seen_of u) c
+      (λ p k. are.last p (seen p k)) m)
+  same Absent =
+      ap₂ (λ a b. a || b) (by_size is_none)
+      (any_agree _ _ (awaited u.state c)
+      (λ k h. ap (λ o. not (has_size o k.sectors)) (are.size k.provider (of_mirror k h))))
   same ProviderTaken = refl
   same CarriesMetadata = by_last last_carries
   same TooSmall = small (mirror_named u.state c)
   same NotMember = refl
-  same DidTaken = ap (λ b. list_any (has_did c) (members_named u.state c) || b) (same_dids (seen_in facts) (seen_of u) c (λ p k. are.last p (seen p k)))
+  same DidTaken = ap (λ b. list_any (has_did c) (members_named u.state c) || b)
+      (same_dids (seen_in facts) (seen_of u) c (λ p k. are.last p (seen p k)))
   same Full = refl
   same TooManyMirrors = refl
   same SomeLost = refl
@@ -88,14 +107,31 @@ module _ (facts : List Fact) (u : World) (c : Command) (are : AreFacts facts u c
   same LastSyncid = refl
   same LastGenid = refl
   same NothingGiven = refl
-  same NotAdoptable = same_unfit (seen_in facts) (seen_of u) c (record { size = λ p h. are.size p (seen p h); last = λ p h. are.last p (seen p h) })
+  same NotAdoptable =
+      same_unfit (seen_in facts) (seen_of u) c (record {
+        size = λ p h. are.size p (seen p h);
+        last = λ p h. are.last p (seen p h);
+      })
   same WrongSize = by_size (λ o. is_there_and o has_wrong_size)
   same NoMetadata = by_last (λ o. not (last_carries o))
 
 -- the records depend on what is seen of the providers that are looked at
-same_after : (x y : Seen) (c : Command) (s : Records) → SeeAlike x y (looked_at c) → SameEqual x y c → after x c s ≡ after y c s
-same_after x y (Label new) s e q = ap (λ o. let r : Records = record { mirrors = put name (new_mirror new (unwrap_or o 0)) s.mirrors; components = put provider (first_component new (unwrap_or o 0)) s.components } in r) (e.size new.provider (inl refl))
-same_after x y (Insert new) s e q = ap (λ o. on_found (mirror_of s new.name) s (λ m. record { mirrors = put name (record m { all = m.all + 1 }) s.mirrors; components = put provider (spare m new (unwrap_or o 0)) s.components })) (e.size new.provider (inl refl))
+same_after : (x y : Seen) (c : Command) (s : Records) → SeeAlike x y (looked_at c) → SameEqual x y c
+    → after x c s ≡ after y c s
+same_after x y (Label new) s e q =
+    ap (λ o. let r :
+    Records = record {
+      mirrors = put name (new_mirror new (unwrap_or o 0)) s.mirrors;
+      components = put provider (first_component new (unwrap_or o 0)) s.components;
+    } in
+    r) (e.size new.provider (inl refl))
+same_after x y (Insert new) s e q =
+    ap (λ o. on_found (mirror_of s new.name) s
+    (λ m. record {
+      mirrors = put name (record m { all = m.all + 1 }) s.mirrors;
+      components = put provider (spare m new (unwrap_or o 0)) s.components;
+    }))
+    (e.size new.provider (inl refl))
 same_after x y (Remove n p) s e q = refl
 same_after x y (Deactivate n p) s e q = refl
 same_after x y (Activate n p) s e q = refl
@@ -109,20 +145,37 @@ same_after x y (Advance n p) s e q = refl
 same_after x y (Adopt n ps) s e q =
     same_source_after (source_in x ps) (same_source x y ps e)
   where
-    same_source_after : (o : Option Member) → o ≡ source_in y ps → on_found o s (λ b. record { mirrors = put name (adopted_mirror n b.metadata) s.mirrors; components = put_all provider (adopted x n ps b) s.components }) ≡ after y (Adopt n ps) s
+    same_source_after : (o : Option Member) → o ≡ source_in y ps
+        → on_found o s (λ b. record {
+          mirrors = put name (adopted_mirror n b.metadata) s.mirrors;
+          components = put_all provider (adopted x n ps b) s.components;
+        }) ≡ after y (Adopt n ps) s
     same_source_after None i = rw (← i) refl
     same_source_after (Some b) i =
-        ap (λ ks. let r : Records = record { mirrors = put name (adopted_mirror n b.metadata) s.mirrors; components = put_all provider ks s.components } in r) (same_adopted x y ps e n b (q b (sym i)))
-        ∙ ap (λ o. on_found o s (λ b. record { mirrors = put name (adopted_mirror n b.metadata) s.mirrors; components = put_all provider (adopted y n ps b) s.components })) i
+        ap (λ ks. let r :
+        Records = record {
+          mirrors = put name (adopted_mirror n b.metadata) s.mirrors;
+          components = put_all provider ks s.components;
+        } in
+        r) (same_adopted x y ps e n b (q b (sym i)))
+        ∙ ap (λ o. on_found o s
+        (λ b. record {
+          mirrors = put name (adopted_mirror n b.metadata) s.mirrors;
+          components = put_all provider (adopted y n ps b) s.components;
+        })) i
 
 -- facts that tell which sectors are equal tell it where the command is good
-equal_by : (facts : List Fact) (u : World) (c : Command) → TellEqual facts u c → IsGood u.state (seen_of u) c → SameEqual (seen_in facts) (seen_of u) c
+equal_by : (facts : List Fact) (u : World) (c : Command) → TellEqual facts u c
+    → IsGood u.state (seen_of u) c → SameEqual (seen_in facts) (seen_of u) c
 equal_by facts u (Adopt n ps) tell good = λ b from p h k l.
-    tell (not-false (is_adoptable (seen_of u) n ps) (good NotAdoptable (inr (inr (inr (inr (inr (inr (inr (inl refl)))))))))) b from p h k l
+    tell (not-false (is_adoptable (seen_of u) n ps)
+    (good NotAdoptable (inr (inr (inr (inr (inr (inr (inr (inl refl)))))))))) b from p h k l
 equal_by facts u _ tell good = tt
 
 -- what is decided from facts of the world is decided in the world
-decides_in : (facts : List Fact) (u : World) (c : Command) → AreFacts facts u c → (r : Result Changed Refusal) → Decides u.state (seen_in facts) c r → Decides u.state (seen_of u) c r
+decides_in : (facts : List Fact) (u : World) (c : Command) → AreFacts facts u c
+    → (r : Result Changed Refusal) → Decides u.state (seen_in facts) c r
+    → Decides u.state (seen_of u) c r
 decides_in facts u c are (Err r) d = record {
   listed = d.listed;
   met = sym (same facts u c are r) ∙ d.met;
@@ -130,8 +183,13 @@ decides_in facts u c are (Err r) d = record {
 }
 decides_in facts u c are (Ok ch) d =
     let good : IsGood u.state (seen_of u) c = λ r h. sym (same facts u c are r) ∙ d.good r h in
-    let alike : SeeAlike (seen_in facts) (seen_of u) (looked_at c) = record { size = λ p h. are.size p (seen facts u c are p h); last = λ p h. are.last p (seen facts u c are p h) } in
-    let e = same_after (seen_in facts) (seen_of u) c u.state alike (equal_by facts u c are.equal good) in
+    let alike : SeeAlike (seen_in facts) (seen_of u) (looked_at c) =
+    record {
+      size = λ p h. are.size p (seen facts u c are p h);
+      last = λ p h. are.last p (seen facts u c are p h);
+    } in
+    let e = same_after (seen_in facts) (seen_of u) c u.state alike
+    (equal_by facts u c are.equal good) in
     record {
       good = good;
       records = d.records ∙ e;
@@ -139,5 +197,8 @@ decides_in facts u c are (Ok ch) d =
       reply = d.reply;
     }
 
-pub in_world : (facts : List Fact) (s : Records) (c : Command) (r : Result Changed Refusal) → Decides s (seen_in facts) c r → (u : World) → u.state ≡ s → AreFacts facts u c → Decides u.state (seen_of u) c r
-in_world facts s c r d u e are = decides_in facts u c are r (subst (λ (t : Records). Decides t (seen_in facts) c r) (sym e) d)
+pub in_world : (facts : List Fact) (s : Records) (c : Command) (r : Result Changed Refusal)
+    → Decides s (seen_in facts) c r → (u : World) → u.state ≡ s → AreFacts facts u c
+    → Decides u.state (seen_of u) c r
+in_world facts s c r d u e are =
+    decides_in facts u c are r (subst (λ (t : Records). Decides t (seen_in facts) c r) (sym e) d)

@@ -34,34 +34,53 @@ use Rattle.gm_state.proofs.FoundRecords.{named}
 use Rattle.gm_changes.proofs.KeptComponents.{Keeps, keeps_configured, keeps_deactivated, keeps_where, put_mapped, where_of}
 use Rattle.gm_lists.proofs.Mapped.{filter-map}
 
--- the test passes the mirror that the command names, and those whose components are on providers that it names
+-- the test passes the mirror that the command names, and those whose components are on providers
+-- that it names
 record TakesIn (t : List ℕ → Bool) (c : Command) (s : Records) : Type 0 where
   name : (n : List ℕ) → name_of c ≡ Some n → t n ≡ true
-  owners : (p : List ℕ) → Has (providers_of c) p → (k : Component) → Has s.components k → k.provider ≡ p → t k.mirror ≡ true
+  owners : (p : List ℕ) → Has (providers_of c) p → (k : Component) → Has s.components k
+      → k.provider ≡ p → t k.mirror ≡ true
 
--- ---- what the command makes of the records of some names is what it makes of the whole, of these names
+-- ---- what the command makes of the records of some names is what it makes of the whole, of them
 
 module _ (t : List ℕ → Bool) (s : Records) (state : IsState s) where
-  two : (ms : List Mirror) (ks : List Component) (r : Records) → ms ≡ filter (λ m. t m.name) r.mirrors → ks ≡ filter (λ k. t k.mirror) r.components → record { mirrors = ms; components = ks } ≡ by_names t r
+  two : (ms : List Mirror) (ks : List Component) (r : Records)
+      → ms ≡ filter (λ m. t m.name) r.mirrors → ks ≡ filter (λ k. t k.mirror) r.components
+      → record { mirrors = ms; components = ks } ≡ by_names t r
   two ms ks r e f = ap₂ (λ a b. let p : Records = record { mirrors = a; components = b } in p) e f
 
   -- a record is put among the mirrors of these names
-  puts_mirror : (m : Mirror) → t m.name ≡ true → put name m (by_names t s).mirrors ≡ filter (λ a. t a.name) (put name m s.mirrors)
-  puts_mirror m e = sym (filter-put name (λ (a : Mirror). t a.name) m s.mirrors state.mirrors_in_order e (λ z h i. ap t i ∙ e))
+  puts_mirror : (m : Mirror) → t m.name ≡ true
+      → put name m (by_names t s).mirrors ≡ filter (λ a. t a.name) (put name m s.mirrors)
+  puts_mirror m e =
+      sym (filter-put name (λ (a : Mirror). t a.name) m s.mirrors state.mirrors_in_order e
+      (λ z h i. ap t i ∙ e))
 
-  puts_component : (c : Command) → TakesIn t c s → (k : Component) → t k.mirror ≡ true → Has (providers_of c) k.provider → put provider k (by_names t s).components ≡ filter (λ j. t j.mirror) (put provider k s.components)
-  puts_component c takes k e i = sym (filter-put provider (λ (j : Component). t j.mirror) k s.components state.components_in_order e (λ z h o. takes.owners k.provider i z h o))
+  puts_component : (c : Command) → TakesIn t c s → (k : Component) → t k.mirror ≡ true
+      → Has (providers_of c) k.provider
+      → put provider k (by_names t s).components ≡ filter (λ j. t j.mirror)
+      (put provider k s.components)
+  puts_component c takes k e i =
+      sym (filter-put provider (λ (j : Component). t j.mirror) k s.components
+      state.components_in_order e (λ z h o. takes.owners k.provider i z h o))
 
   -- the mirror of a name that passes
   same_found : (n : List ℕ) → t n ≡ true → mirror_of (by_names t s) n ≡ mirror_of s n
-  same_found n e = find_within (λ (m : Mirror). same_label m.name n) (λ (m : Mirror). t m.name) s.mirrors (λ m h u. ap t (same_is m.name n u) ∙ e)
+  same_found n e = find_within (λ (m : Mirror). same_label m.name n)
+      (λ (m : Mirror). t m.name) s.mirrors (λ m h u. ap t (same_is m.name n u) ∙ e)
 
-  of_found : {X : Type 0} (o : Option X) (f g : X → Records) → ((x : X) → o ≡ Some x → f x ≡ by_names t (g x)) → on_found o (by_names t s) f ≡ by_names t (on_found o s g)
+  of_found : {X : Type 0} (o : Option X) (f g : X → Records)
+      → ((x : X) → o ≡ Some x → f x ≡ by_names t (g x))
+      → on_found o (by_names t s) f ≡ by_names t (on_found o s g)
   of_found None f g h = refl
   of_found (Some x) f g h = h x refl
 
-  on_named : (n : List ℕ) → t n ≡ true → (f g : Mirror → Records) → ((m : Mirror) → mirror_of s n ≡ Some m → f m ≡ by_names t (g m)) → on_found (mirror_of (by_names t s) n) (by_names t s) f ≡ by_names t (on_found (mirror_of s n) s g)
-  on_named n e f g h = ap (λ o. on_found o (by_names t s) f) (same_found n e) ∙ of_found (mirror_of s n) f g h
+  on_named : (n : List ℕ) → t n ≡ true → (f g : Mirror → Records)
+      → ((m : Mirror) → mirror_of s n ≡ Some m → f m ≡ by_names t (g m))
+      → on_found (mirror_of (by_names t s) n) (by_names t s) f
+      ≡ by_names t (on_found (mirror_of s n) s g)
+  on_named n e f g h = ap (λ o. on_found o (by_names t s) f) (same_found n e)
+      ∙ of_found (mirror_of s n) f g h
 
   -- the found mirror has a name that passes
   found_passes : (n : List ℕ) → t n ≡ true → (m : Mirror) → mirror_of s n ≡ Some m → t m.name ≡ true
@@ -70,27 +89,42 @@ module _ (t : List ℕ → Bool) (s : Records) (state : IsState s) where
   -- a component on a provider that the command names is put in place of it
   module _ (c : Command) (takes : TakesIn t c s) (p : List ℕ) (named : Has (providers_of c) p) where
     same_at : component_of (by_names t s) p ≡ component_of s p
-    same_at = find_within (λ (k : Component). same_label k.provider p) (λ (k : Component). t k.mirror) s.components (λ k h u. takes.owners p named k h (same_is k.provider p u))
+    same_at = find_within (λ (k : Component). same_label k.provider p)
+        (λ (k : Component). t k.mirror) s.components
+        (λ k h u. takes.owners p named k h (same_is k.provider p u))
 
-    on_at : (f g : Component → Records) → ((k : Component) → component_of s p ≡ Some k → f k ≡ by_names t (g k)) → on_found (component_of (by_names t s) p) (by_names t s) f ≡ by_names t (on_found (component_of s p) s g)
+    on_at : (f g : Component → Records)
+        → ((k : Component) → component_of s p ≡ Some k → f k ≡ by_names t (g k))
+        → on_found (component_of (by_names t s) p) (by_names t s) f
+        ≡ by_names t (on_found (component_of s p) s g)
     on_at f g h = ap (λ o. on_found o (by_names t s) f) same_at ∙ of_found (component_of s p) f g h
 
-    puts_at : (k k' : Component) → component_of s p ≡ Some k → k'.provider ≡ k.provider → k'.mirror ≡ k.mirror → put provider k' (by_names t s).components ≡ filter (λ j. t j.mirror) (put provider k' s.components)
+    puts_at : (k k' : Component) → component_of s p ≡ Some k → k'.provider ≡ k.provider
+        → k'.mirror ≡ k.mirror → put provider k' (by_names t s).components
+        ≡ filter (λ j. t j.mirror) (put provider k' s.components)
     puts_at k k' at e f =
         let is = found (λ (j : Component). same_label j.provider p) s.components k at in
         let on : k.provider ≡ p = same_is k.provider p is.1 in
-        puts_component c takes k' (ap t f ∙ takes.owners p named k is.0 on) (subst (λ (n : List ℕ). Has (providers_of c) n) (sym (e ∙ on)) named)
+        puts_component c takes k' (ap t f ∙ takes.owners p named k is.0 on)
+        (subst (λ (n : List ℕ). Has (providers_of c) n) (sym (e ∙ on)) named)
 
   -- components of a mirror are changed where they stand
   puts_mapped : (n : List ℕ) (f : Component → Component) → Keeps f
-      → put_all provider (map f (members (by_names t s).components n)) (by_names t s).components ≡ filter (λ k. t k.mirror) (put_all provider (map f (members s.components n)) s.components)
+      → put_all provider (map f (members (by_names t s).components n)) (by_names t s).components
+      ≡ filter (λ k. t k.mirror)
+      (put_all provider (map f (members s.components n)) s.components)
   puts_mapped n f keeps =
       let own : List Component = (by_names t s).components in
-      put_mapped n f keeps own (Ascends-filter (λ (k : Component). t k.mirror) provider s.components state.components_in_order)
-      ∙ (sym (filter-map (where_of n f) (λ (k : Component). t k.mirror) (λ k. ap t ((keeps_where n f keeps).mirror k)) s.components)
-      ∙ sym (ap (filter (λ (k : Component). t k.mirror)) (put_mapped n f keeps s.components state.components_in_order)))
+      put_mapped n f keeps own
+      (Ascends-filter (λ (k : Component). t k.mirror) provider s.components
+      state.components_in_order)
+      ∙ (sym (filter-map (where_of n f) (λ (k : Component). t k.mirror)
+      (λ k. ap t ((keeps_where n f keeps).mirror k)) s.components)
+      ∙ sym (ap (filter (λ (k : Component). t k.mirror))
+      (put_mapped n f keeps s.components state.components_in_order)))
 
-  after_names : (x : Seen) (c : Command) → TakesIn t c s → after x c (by_names t s) ≡ by_names t (after x c s)
+  after_names : (x : Seen) (c : Command) → TakesIn t c s
+      → after x c (by_names t s) ≡ by_names t (after x c s)
   after_names x (Label new) takes =
       let m : Mirror = new_mirror new (unwrap_or (x.size new.provider) 0) in
       let k : Component = first_component new (unwrap_or (x.size new.provider) 0) in
@@ -102,64 +136,110 @@ module _ (t : List ℕ → Bool) (s : Records) (state : IsState s) where
       on_named new.name e _ _ (λ m is.
       let k : Component = spare m new (unwrap_or (x.size new.provider) 0) in
       let u : t m.name ≡ true = found_passes new.name e m is in
-      two _ _ (record { mirrors = put name (record m { all = m.all + 1 }) s.mirrors; components = put provider k s.components })
-      (puts_mirror (record m { all = m.all + 1 }) u) (puts_component (Insert new) takes k u (inl refl)))
+      two _ _ (record {
+        mirrors = put name (record m { all = m.all + 1 }) s.mirrors;
+        components = put provider k s.components;
+      })
+      (puts_mirror (record m { all = m.all + 1 }) u)
+      (puts_component (Insert new) takes k u (inl refl)))
   after_names x (Remove n p) takes =
       let e : t n ≡ true = takes.name n refl in
       on_named n e _ _ (λ m is.
-      two _ _ (record { mirrors = put name (record m { all = m.all - 1 }) s.mirrors; components = without provider p s.components })
+      two _ _ (record {
+        mirrors = put name (record m { all = m.all - 1 }) s.mirrors;
+        components = without provider p s.components;
+      })
       (puts_mirror (record m { all = m.all - 1 }) (found_passes n e m is))
-      (filter_swap (λ (k : Component). not (same_label k.provider p)) (λ (k : Component). t k.mirror) s.components))
+      (filter_swap (λ (k : Component). not (same_label k.provider p))
+      (λ (k : Component). t k.mirror) s.components))
   after_names x (Deactivate n p) takes =
       let e : t n ≡ true = takes.name n refl in
       on_named n e _ _ (λ m is.
-      two _ _ (record { mirrors = put name (record m { syncid = m.syncid + 1 }) s.mirrors; components = put_all provider (map (deactivated (m.syncid + 1) p) (members s.components n)) s.components })
+      two _ _ (record {
+        mirrors = put name (record m { syncid = m.syncid + 1 }) s.mirrors;
+        components =
+            put_all provider (map (deactivated (m.syncid + 1) p) (members s.components n))
+            s.components;
+      })
       (puts_mirror (record m { syncid = m.syncid + 1 }) (found_passes n e m is))
       (puts_mapped n (deactivated (m.syncid + 1) p) (keeps_deactivated (m.syncid + 1) p)))
   after_names x (Activate n p) takes =
       let c : Command = Activate n p in
       on_named n (takes.name n refl) _ _ (λ m is. on_at c takes p (inl refl) _ _ (λ k at.
-      two _ _ (record { mirrors = s.mirrors; components = put provider (activated m k) s.components }) refl (puts_at c takes p (inl refl) k (activated m k) at refl refl)))
+      two _ _ (record {
+        mirrors = s.mirrors;
+        components = put provider (activated m k) s.components;
+      }) refl
+      (puts_at c takes p (inl refl) k (activated m k) at refl refl)))
   after_names x (Forget n) takes =
       let e : t n ≡ true = takes.name n refl in
       on_named n e _ _ (λ m is.
-      let same : length (members (by_names t s).components n) ≡ length (members s.components n) = ap length (same_of t s n e) in
-      two _ _ (record { mirrors = put name (record m { all = length (members s.components n) }) s.mirrors; components = s.components })
-      (rw same (puts_mirror (record m { all = length (members s.components n) }) (found_passes n e m is))) refl)
+      let same : length (members (by_names t s).components n) ≡ length (members s.components n) =
+      ap length (same_of t s n e) in
+      two _ _ (record {
+        mirrors = put name (record m { all = length (members s.components n) })
+            s.mirrors;
+        components = s.components;
+      })
+      (rw same (puts_mirror (record m { all = length (members s.components n) })
+      (found_passes n e m is))) refl)
   after_names x (Rebuild n p) takes =
       let c : Command = Rebuild n p in
       on_at c takes p (inl refl) _ _ (λ k at.
-      two _ _ (record { mirrors = s.mirrors; components = put provider (rebuilt k) s.components }) refl (puts_at c takes p (inl refl) k (rebuilt k) at refl refl))
+      two _ _ (record { mirrors = s.mirrors; components = put provider (rebuilt k) s.components })
+      refl (puts_at c takes p (inl refl) k (rebuilt k) at refl refl))
   after_names x (Configure n settings) takes =
       let e : t n ≡ true = takes.name n refl in
       on_named n e _ _ (λ m is.
-      two _ _ (record { mirrors = put name (configured_mirror settings m) s.mirrors; components = put_all provider (map (configured settings) (members s.components n)) s.components })
+      two _ _ (record {
+        mirrors = put name (configured_mirror settings m) s.mirrors;
+        components =
+            put_all provider (map (configured settings) (members s.components n)) s.components;
+      })
       (puts_mirror (configured_mirror settings m) (found_passes n e m is))
       (puts_mapped n (configured settings) (keeps_configured settings)))
   after_names x (commands.Clear p) takes = refl
   after_names x (Destroy n) takes =
-      two _ _ (record { mirrors = without name n s.mirrors; components = filter (λ k. not (same_label k.mirror n)) s.components })
+      two _ _ (record {
+        mirrors = without name n s.mirrors;
+        components = filter (λ k. not (same_label k.mirror n)) s.components;
+      })
       (filter_swap (λ (m : Mirror). not (same_label m.name n)) (λ (m : Mirror). t m.name) s.mirrors)
-      (filter_swap (λ (k : Component). not (same_label k.mirror n)) (λ (k : Component). t k.mirror) s.components)
+      (filter_swap (λ (k : Component). not (same_label k.mirror n))
+      (λ (k : Component). t k.mirror) s.components)
   after_names x (Lost n ps) takes =
       let e : t n ≡ true = takes.name n refl in
       on_named n e _ _ (λ m is.
-      two _ _ (record { mirrors = put name (record m { genid = m.genid + 1 }) s.mirrors; components = without_all provider ps s.components })
+      two _ _ (record {
+        mirrors = put name (record m { genid = m.genid + 1 }) s.mirrors;
+        components = without_all provider ps s.components;
+      })
       (puts_mirror (record m { genid = m.genid + 1 }) (found_passes n e m is))
       (without_all-swap ps (λ (k : Component). t k.mirror) s.components))
   after_names x (Advance n p) takes =
       let c : Command = Advance n p in
       on_named n (takes.name n refl) _ _ (λ m is. on_at c takes p (inl refl) _ _ (λ k at.
-      two _ _ (record { mirrors = s.mirrors; components = put provider (advanced m k) s.components }) refl (puts_at c takes p (inl refl) k (advanced m k) at refl refl)))
+      two _ _ (record {
+        mirrors = s.mirrors;
+        components = put provider (advanced m k) s.components;
+      }) refl
+      (puts_at c takes p (inl refl) k (advanced m k) at refl refl)))
   after_names x (Adopt n ps) takes =
       let e : t n ≡ true = takes.name n refl in
       of_found (source_in x ps) _ _ (λ b from.
       let ks : List Component = adopted x n ps b in
-      let mine : (k : Component) → Has ks k → t k.mirror ≡ true = λ k h. ap t (adopted_mirror_is x n ps b k h) ∙ e in
-      let owned : (k j : Component) → Has ks k → Has s.components j → j.provider ≡ k.provider → t j.mirror ≡ true = λ k j h i o. takes.owners k.provider (adopted_on x n ps b k h) j i o in
-      two _ _ (record { mirrors = put name (adopted_mirror n b.metadata) s.mirrors; components = put_all provider ks s.components })
+      let mine : (k : Component) → Has ks k → t k.mirror ≡ true =
+      λ k h. ap t (adopted_mirror_is x n ps b k h) ∙ e in
+      let owned : (k j : Component) → Has ks k → Has s.components j → j.provider ≡ k.provider
+      → t j.mirror ≡ true =
+      λ k j h i o. takes.owners k.provider (adopted_on x n ps b k h) j i o in
+      two _ _ (record {
+        mirrors = put name (adopted_mirror n b.metadata) s.mirrors;
+        components = put_all provider ks s.components;
+      })
       (puts_mirror (adopted_mirror n b.metadata) e)
-      (sym (filter-put_all provider (λ (k : Component). t k.mirror) ks s.components state.components_in_order mine owned)))
+      (sym (filter-put_all provider (λ (k : Component). t k.mirror) ks s.components
+      state.components_in_order mine owned)))
 
 -- ---- so of a part
 
@@ -168,29 +248,39 @@ module _ (part s : Records) (c : Command) (of : IsPartOf part c s) where
   passes = chosen s c of.mids of.state
 
   takes_in : TakesIn passes c s
-  takes_in = record { name = chosen_name s c of.mids of.state; owners = chosen_owner s c of.mids of.state }
+  takes_in = record {
+    name = chosen_name s c of.mids of.state;
+    owners = chosen_owner s c of.mids of.state;
+  }
 
   part_state : IsState part
   part_state = subst IsState (sym of.is) (is_state s c of.mids of.state)
 
-  follows : (x : Seen) (ch : Changed) → Makes part x c ch → Makes s x c ch → changed_by ch part ≡ by_names passes (changed_by ch s)
+  follows : (x : Seen) (ch : Changed) → Makes part x c ch → Makes s x c ch
+      → changed_by ch part ≡ by_names passes (changed_by ch s)
   follows x ch p w =
-      p.records ∙ (ap (after x c) (of.is ∙ part_is s c of.mids of.state) ∙ (after_names passes s of.state x c takes_in ∙ ap (by_names passes) (sym w.records)))
+      p.records ∙ (ap (after x c) (of.is ∙ part_is s c of.mids of.state)
+      ∙ (after_names passes s of.state x c takes_in ∙ ap (by_names passes) (sym w.records)))
 
-  pub leaves_part : (x : Seen) (ch : Changed) → Makes part x c ch → Makes s x c ch → LeavesPart part c s ch
+  pub leaves_part : (x : Seen) (ch : Changed) → Makes part x c ch → Makes s x c ch
+      → LeavesPart part c s ch
   leaves_part x ch p w =
       let is : by_names passes (changed_by ch s) ≡ changed_by ch part = sym (follows x ch p w) in
       record {
         state = λ state. subst IsState is (by_names_state passes (changed_by ch s) state);
-        own = λ m k o e. subst (λ (r : Records). IsOf r m k) is (by_names_of passes (changed_by ch s) m k o (chosen_name s c of.mids of.state m.name e));
+        own = λ m k o e. subst (λ (r : Records). IsOf r m k) is
+            (by_names_of passes (changed_by ch s) m k o
+            (chosen_name s c of.mids of.state m.name e));
       }
 
   -- ---- what nothing refuses on the whole, nothing refuses on the part
 
   few : (length s.mirrors == 64) ≡ false → (length part.mirrors == 64) ≡ false
   few e =
-      let less : length (part_of s c of.mids).mirrors ≤ length s.mirrors = length-filter_le (is_asked s c of.mids) s.mirrors in
-      let fewer : length part.mirrors ≤ length s.mirrors = subst (λ (r : Records). length r.mirrors ≤ length s.mirrors) (sym of.is) less in
+      let less : length (part_of s c of.mids).mirrors ≤ length s.mirrors =
+      length-filter_le (is_asked s c of.mids) s.mirrors in
+      let fewer : length part.mirrors ≤ length s.mirrors =
+      subst (λ (r : Records). length r.mirrors ≤ length s.mirrors) (sym of.is) less in
       let most : length s.mirrors ≤ 64 = of.state.count in
       let apart : length s.mirrors ≢ 64 = not_at (length s.mirrors) 64 e in
       let other : length part.mirrors ≢ 64 = omega arith in
@@ -222,6 +312,10 @@ module _ (part s : Records) (c : Command) (of : IsPartOf part c s) where
   good_part x but good WrongSize h = but WrongSize h refl
   good_part x but good NoMetadata h = but NoMetadata h refl
 
-pub made_leaves : (part s : Records) (x : Seen) (c : Command) → IsPartToDecide part x c s → (ch : Changed) → IsMade part x c ch → IsGoodButCount part x c → IsGood s x c → LeavesPart part c s ch
+pub made_leaves : (part s : Records) (x : Seen) (c : Command) → IsPartToDecide part x c s
+    → (ch : Changed) → IsMade part x c ch → IsGoodButCount part x c → IsGood s x c
+    → LeavesPart part c s ch
 made_leaves part s x c to ch made but good =
-    leaves_part part s c to.of x ch (made part (whole_to_decide part x c (part_state part s c to.of)) (good_part part s c to.of x but good)) (made s to good)
+    leaves_part part s c to.of x ch
+    (made part (whole_to_decide part x c (part_state part s c to.of))
+    (good_part part s c to.of x but good)) (made s to good)

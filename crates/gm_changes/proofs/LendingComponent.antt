@@ -1,4 +1,5 @@
--- What the refusals of advance rule out: the component is SYNCHRONIZING, and another one of its mirror lends.
+-- What the refusals of advance rule out: the component is SYNCHRONIZING, and another one of its
+-- mirror lends.
 use Rattle.std.proofs.Common.{◌≡◌, ◌≢◌, ◌∙◌, inl, inr, ℕ, ◌<◌, ◌≤◌, ◌+◌, ◌^◌, ◌&&◌, Bool, true, false, not, refl, sym, ap, subst, arith, List, [], ◌∷◌, Option, Some, option_map}
 use Rattle.std.specs.List.{list_any}
 use Rattle.std.proofs.lemmas.Bool.{and_parts, not-false, not-true}
@@ -24,25 +25,35 @@ use Rattle.gm_state.proofs.FoundRecords.{provider_at, rules_of}
 use Rattle.gm_refusals.proofs.NothingApplies.{on_one}
 use Rattle.gm_state.proofs.FoundRecords.{active_is}
 
-copying : (flags : MirrorFlags) (d : Disk) → is_synchronizing (state_by flags d) ≡ true → (forced : Bool) × (held : ℕ) × (d ≡ Copying forced held)
+copying : (flags : MirrorFlags) (d : Disk) → is_synchronizing (state_by flags d) ≡ true
+    → (forced : Bool) × (held : ℕ) × (d ≡ Copying forced held)
 copying flags InSync e = cc
 copying flags Inactive e = cc
 copying flags (Copying forced held) e = (forced, held, refl)
 
-module _ (s : Records) (n p : List ℕ) (state : IsState s) (m : Mirror) (k : Component) (at_name : mirror_of s n ≡ Some m) (at : component_of s p ≡ Some k) (home : k.mirror ≡ n) where
+module _ (s : Records) (n p : List ℕ) (state : IsState s) (m : Mirror) (k : Component)
+    (at_name : mirror_of s n ≡ Some m) (at : component_of s p ≡ Some k) (home : k.mirror ≡ n) where
   in_all : Has s.components k
   in_all = (found (λ (c : Component). same_label c.provider p) s.components k at).0
 
   mine : Has (members s.components n) k
-  mine = filter-Has (λ (c : Component). same_label c.mirror n) s.components k in_all (same_from k.mirror n home)
+  mine = filter-Has (λ (c : Component). same_label c.mirror n) s.components k in_all
+      (same_from k.mirror n home)
 
   -- it is being filled
-  pub is_copying : is_there_and (mirror_of s n) (λ m. list_any (λ k. is_on_any (p ∷ []) k && not (is_synchronizing (state_by m.flags k.disk))) (members s.components n)) ≡ false
+  pub is_copying : is_there_and (mirror_of s n)
+      (λ m. list_any (λ k. is_on_any (p ∷ []) k && not (is_synchronizing (state_by m.flags k.disk)))
+      (members s.components n)) ≡ false
       → (forced : Bool) × (held : ℕ) × (k.disk ≡ Copying forced held)
   is_copying off =
-      let none = fails_there (mirror_of s n) m (λ m. list_any (λ k. is_on_any (p ∷ []) k && not (is_synchronizing (state_by m.flags k.disk))) (members s.components n)) at_name off in
-      let one : (is_on_any (p ∷ []) k && not (is_synchronizing (state_by m.flags k.disk))) ≡ false = none_any (λ k. is_on_any (p ∷ []) k && not (is_synchronizing (state_by m.flags k.disk))) (members s.components n) none k mine in
-      let here : not (is_synchronizing (state_by m.flags k.disk)) ≡ false = rw (on_one k p (provider_at s p k at)) at one in
+      let none = fails_there (mirror_of s n) m
+      (λ m. list_any (λ k. is_on_any (p ∷ []) k && not
+      (is_synchronizing (state_by m.flags k.disk))) (members s.components n)) at_name off in
+      let one : (is_on_any (p ∷ []) k && not (is_synchronizing (state_by m.flags k.disk))) ≡ false =
+      none_any (λ k. is_on_any (p ∷ []) k && not (is_synchronizing (state_by m.flags k.disk)))
+      (members s.components n) none k mine in
+      let here : not (is_synchronizing (state_by m.flags k.disk)) ≡ false =
+      rw (on_one k p (provider_at s p k at)) at one in
       copying m.flags k.disk (not-false _ here)
 
   -- what it holds and a stretch more is no great number
@@ -56,25 +67,47 @@ module _ (s : Records) (n p : List ℕ) (state : IsState s) (m : Mirror) (k : Co
 
   -- an ACTIVE component of the mirror, where that is another one
   pub lender : k.disk ≢ InSync → (r : Option (List ℕ)) → IsSource s p r
-      → (j : Component) × (r ≡ Some j.provider) × Has (members s.components n) j × (j.disk ≡ InSync) × (j.provider ≢ p)
+      → (j : Component) × (r ≡ Some j.provider) × Has (members s.components n) j × (j.disk ≡ InSync)
+      × (j.provider ≢ p)
   lender idle r source =
-      let of : IsSourceOf s (Some k) r = subst (λ (o : Option Component). IsSourceOf s o r) at source in
+      let of : IsSourceOf s (Some k) r =
+      subst (λ (o : Option Component). IsSourceOf s o r) at source in
       elim (option_cases of.0) [
         | inl none ↦
-            let nobody : (j : Component) → Has s.components j × (lends_to k j ≡ true) → ⊥ = subst (λ (o : Option Component). IsBest (λ j. Has s.components j × (lends_to k j ≡ true)) o) none of.1 in
+            let nobody : (j : Component) → Has s.components j × (lends_to k j ≡ true)
+            → ⊥ = subst (λ (o : Option Component). IsBest (λ j. Has s.components j
+            × (lends_to k j ≡ true)) o) none of.1 in
             let a = (rules_of s n m state at_name).active in
-            let there = Has-filter (λ (c : Component). same_label c.mirror n) s.components a.0 a.1 in
-            let apart : a.0.provider ≢ k.provider = λ e. idle (ap (λ (c : Component). c.disk) (one provider s.components state.components_in_order k a.0 in_all there.0 (sym e)) ∙ a.2) in
-            absurd (nobody a.0 (there.0, rw (same_from a.0.mirror k.mirror (same_is a.0.mirror n there.1 ∙ sym home), a.2, differ a.0.provider k.provider apart) refl))
+            let there = Has-filter (λ (c : Component). same_label c.mirror n) s.components a.0
+            a.1 in
+            let apart : a.0.provider ≢ k.provider =
+            λ e. idle (ap (λ (c : Component). c.disk)
+            (one provider s.components state.components_in_order k a.0 in_all there.0 (sym e))
+            ∙ a.2) in
+            absurd (nobody a.0 (
+              there.0,
+              rw (
+                same_from a.0.mirror k.mirror (same_is a.0.mirror n there.1 ∙ sym home),
+                a.2,
+                differ a.0.provider k.provider apart,
+              ) refl,
+            ))
         | inr some ↦
             let j : Component = some.0 in
-            let best : IsBest (λ j. Has s.components j × (lends_to k j ≡ true)) (Some j) = subst (λ (o : Option Component). IsBest (λ j. Has s.components j × (lends_to k j ≡ true)) o) some.1 of.1 in
-            let parts = and_parts (same_label j.mirror k.mirror) (is_active j.disk && not (same_label j.provider k.provider)) best.0.1 in
-            let more = and_parts (is_active j.disk) (not (same_label j.provider k.provider)) parts.1 in (
+            let best : IsBest (λ j. Has s.components j × (lends_to k j ≡ true)) (Some j) =
+            subst (λ (o : Option Component). IsBest (λ j. Has s.components j
+            × (lends_to k j ≡ true)) o) some.1 of.1 in
+            let parts = and_parts (same_label j.mirror k.mirror)
+            (is_active j.disk && not (same_label j.provider k.provider)) best.0.1 in
+            let more = and_parts (is_active j.disk) (not (same_label j.provider k.provider))
+            parts.1 in (
               j,
               of.2 ∙ ap (option_map provider) some.1,
-              filter-Has (λ (c : Component). same_label c.mirror n) s.components j best.0.0 (same_from j.mirror n (same_is j.mirror k.mirror parts.0 ∙ home)),
+              filter-Has (λ (c : Component). same_label c.mirror n) s.components j best.0.0
+                  (same_from j.mirror n (same_is j.mirror k.mirror parts.0 ∙ home)),
               active_is j.disk more.0,
-              λ e. not_both (same_label j.provider k.provider) (same_from j.provider k.provider (e ∙ sym (provider_at s p k at))) (not-true _ more.1),
+              λ e. not_both (same_label j.provider k.provider)
+                  (same_from j.provider k.provider (e ∙ sym (provider_at s p k at)))
+                  (not-true _ more.1),
             )
       ]

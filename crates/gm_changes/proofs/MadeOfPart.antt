@@ -33,122 +33,241 @@ use Rattle.gm_changes.proofs.MakesChange.{insert_makes, remove_makes, deactivate
 
 module _ (part s : Records) (c : Command) (of : IsPartOf part c s) where
   -- what is found in the part is found in the whole
-  mirror_in : (n : List ℕ) (m : Mirror) → name_of c ≡ Some n → mirror_of part n ≡ Some m → mirror_of s n ≡ Some m
-  mirror_in n m e found = sym (same_mirror s c of.mids of.state n e) ∙ (sym (ap (λ (r : Records). mirror_of r n) of.is) ∙ found)
+  mirror_in : (n : List ℕ) (m : Mirror) → name_of c ≡ Some n → mirror_of part n ≡ Some m
+      → mirror_of s n ≡ Some m
+  mirror_in n m e found = sym (same_mirror s c of.mids of.state n e)
+      ∙ (sym (ap (λ (r : Records). mirror_of r n) of.is) ∙ found)
 
-  members_in : (n : List ℕ) (ks : List Component) → name_of c ≡ Some n → members part.components n ≡ ks → members s.components n ≡ ks
-  members_in n ks e found = sym (same_members s c of.mids of.state n e) ∙ (sym (ap (λ (r : Records). members r.components n) of.is) ∙ found)
+  members_in : (n : List ℕ) (ks : List Component) → name_of c ≡ Some n
+      → members part.components n ≡ ks → members s.components n ≡ ks
+  members_in n ks e found = sym (same_members s c of.mids of.state n e)
+      ∙ (sym (ap (λ (r : Records). members r.components n) of.is) ∙ found)
 
-  component_in : (p : List ℕ) (o : Option Component) → Has (providers_of c) p → component_of part p ≡ o → component_of s p ≡ o
-  component_in p o h found = sym (same_component s c of.mids of.state p h) ∙ (sym (ap (λ (r : Records). component_of r p) of.is) ∙ found)
+  component_in : (p : List ℕ) (o : Option Component) → Has (providers_of c) p
+      → component_of part p ≡ o → component_of s p ≡ o
+  component_in p o h found = sym (same_component s c of.mids of.state p h)
+      ∙ (sym (ap (λ (r : Records). component_of r p) of.is) ∙ found)
 
-pub insert_made : (part : Records) (x : Seen) (new : NewComponent) (m : Mirror) (ks : List Component) (sectors : ℕ) (k : Component) (ch : Changed)
-    → mirror_of part new.name ≡ Some m → members part.components new.name ≡ ks → x.size new.provider ≡ Some sectors → component_of part new.provider ≡ None → k ≡ spare m new sectors
-    → ch ≡ record { mirror = Some (record m { all = m.all + 1 }); gone_mirror = None; components = k ∷ []; gone_components = []; intents = metas (put provider k ks); reply = Plain }
+pub insert_made : (part : Records) (x : Seen) (new : NewComponent) (m : Mirror)
+    (ks : List Component) (sectors : ℕ) (k : Component) (ch : Changed)
+    → mirror_of part new.name ≡ Some m → members part.components new.name ≡ ks
+    → x.size new.provider ≡ Some sectors → component_of part new.provider ≡ None
+    → k ≡ spare m new sectors
+    → ch ≡ record {
+      mirror = Some (record m { all = m.all + 1 });
+      gone_mirror = None;
+      components = k ∷ [];
+      gone_components = [];
+      intents = metas (put provider k ks);
+      reply =
+          Plain;
+    }
     → IsMade part x (Insert new) ch
 insert_made part x new m ks sectors k ch found mine size none made is s to good =
     let c : Command = Insert new in
-    insert_makes s x new m ks sectors k ch good to.of.state (mirror_in part s c to.of new.name m refl found) (members_in part s c to.of new.name ks refl mine) size (component_in part s c to.of new.provider None (inl refl) none) made is
+    insert_makes s x new m ks sectors k ch good to.of.state
+    (mirror_in part s c to.of new.name m refl found)
+    (members_in part s c to.of new.name ks refl mine) size
+    (component_in part s c to.of new.provider None (inl refl) none) made is
 
-pub remove_made : (part : Records) (x : Seen) (n p : List ℕ) (m : Mirror) (ks : List Component) (ch : Changed)
+pub remove_made : (part : Records) (x : Seen) (n p : List ℕ) (m : Mirror) (ks : List Component)
+    (ch : Changed)
     → mirror_of part n ≡ Some m → members part.components n ≡ ks
-    → ch ≡ record { mirror = Some (record m { all = m.all - 1 }); gone_mirror = None; components = []; gone_components = p ∷ []; intents = Clear p ∷ metas (without provider p ks); reply = Plain }
+    → ch ≡ record {
+      mirror = Some (record m { all = m.all - 1 });
+      gone_mirror = None;
+      components = [];
+      gone_components = p ∷ [];
+      intents =
+          Clear p ∷ metas (without provider p ks);
+      reply = Plain;
+    }
     → IsMade part x (Remove n p) ch
 remove_made part x n p m ks ch found mine is s to good =
     let c : Command = Remove n p in
-    remove_makes s x n p m ks ch good (mirror_in part s c to.of n m refl found) (members_in part s c to.of n ks refl mine) is
+    remove_makes s x n p m ks ch good (mirror_in part s c to.of n m refl found)
+    (members_in part s c to.of n ks refl mine) is
 
-pub deactivate_made : (part : Records) (x : Seen) (n p : List ℕ) (m : Mirror) (ks : List Component) (ch : Changed)
+pub deactivate_made : (part : Records) (x : Seen) (n p : List ℕ) (m : Mirror) (ks : List Component)
+    (ch : Changed)
     → mirror_of part n ≡ Some m → members part.components n ≡ ks
-    → ch ≡ record { mirror = Some (record m { syncid = m.syncid + 1 }); gone_mirror = None; components = map (deactivated (m.syncid + 1) p) ks; gone_components = []; intents = metas (map (deactivated (m.syncid + 1) p) ks); reply = Plain }
+    → ch ≡ record {
+      mirror = Some (record m { syncid = m.syncid + 1 });
+      gone_mirror = None;
+      components = map (deactivated (m.syncid + 1) p) ks;
+      gone_components = [];
+      intents =
+          metas (map (deactivated (m.syncid + 1) p) ks);
+      reply = Plain;
+    }
     → IsMade part x (Deactivate n p) ch
 deactivate_made part x n p m ks ch found mine is s to good =
     let c : Command = Deactivate n p in
-    deactivate_makes s x n p m ks ch good to.of.state (mirror_in part s c to.of n m refl found) (members_in part s c to.of n ks refl mine) is
+    deactivate_makes s x n p m ks ch good to.of.state (mirror_in part s c to.of n m refl found)
+    (members_in part s c to.of n ks refl mine) is
 
-pub activate_made : (part : Records) (x : Seen) (n p : List ℕ) (m : Mirror) (k : Component) (ch : Changed)
+pub activate_made : (part : Records) (x : Seen) (n p : List ℕ) (m : Mirror) (k : Component)
+    (ch : Changed)
     → mirror_of part n ≡ Some m → component_of part p ≡ Some k
-    → ch ≡ record { mirror = None; gone_mirror = None; components = activated m k ∷ []; gone_components = []; intents = Meta k.provider ∷ []; reply = Plain }
+    → ch ≡ record {
+      mirror = None;
+      gone_mirror = None;
+      components = activated m k ∷ [];
+      gone_components = [];
+      intents = Meta k.provider ∷ [];
+      reply = Plain;
+    }
     → IsMade part x (Activate n p) ch
 activate_made part x n p m k ch found at is s to good =
     let c : Command = Activate n p in
-    activate_makes s x n p m k ch good (mirror_in part s c to.of n m refl found) (component_in part s c to.of p (Some k) (inl refl) at) is
+    activate_makes s x n p m k ch good (mirror_in part s c to.of n m refl found)
+    (component_in part s c to.of p (Some k) (inl refl) at) is
 
-pub forget_made : (part : Records) (x : Seen) (n : List ℕ) (m : Mirror) (ks : List Component) (ch : Changed)
+pub forget_made : (part : Records) (x : Seen) (n : List ℕ) (m : Mirror) (ks : List Component)
+    (ch : Changed)
     → mirror_of part n ≡ Some m → members part.components n ≡ ks
-    → ch ≡ record { mirror = Some (record m { all = length ks }); gone_mirror = None; components = []; gone_components = []; intents = metas ks; reply = Plain }
+    → ch ≡ record {
+      mirror = Some (record m { all = length ks });
+      gone_mirror = None;
+      components = [];
+      gone_components = [];
+      intents = metas ks;
+      reply = Plain;
+    }
     → IsMade part x (Forget n) ch
 forget_made part x n m ks ch found mine is s to good =
     let c : Command = Forget n in
-    forget_makes s x n m ks ch good (mirror_in part s c to.of n m refl found) (members_in part s c to.of n ks refl mine) is
+    forget_makes s x n m ks ch good (mirror_in part s c to.of n m refl found)
+    (members_in part s c to.of n ks refl mine) is
 
 pub rebuild_made : (part : Records) (x : Seen) (n p : List ℕ) (k : Component) (ch : Changed)
     → component_of part p ≡ Some k
-    → ch ≡ record { mirror = None; gone_mirror = None; components = rebuilt k ∷ []; gone_components = []; intents = Meta k.provider ∷ []; reply = Plain }
+    → ch ≡ record {
+      mirror = None;
+      gone_mirror = None;
+      components = rebuilt k ∷ [];
+      gone_components = [];
+      intents = Meta k.provider ∷ [];
+      reply = Plain;
+    }
     → IsMade part x (Rebuild n p) ch
-rebuild_made part x n p k ch at is s to good = rebuild_makes s x n p k ch good (component_in part s (Rebuild n p) to.of p (Some k) (inl refl) at) is
+rebuild_made part x n p k ch at is s to good =
+    rebuild_makes s x n p k ch good (component_in part s (Rebuild n p) to.of p (Some k)
+    (inl refl) at) is
 
-pub advance_made : (part : Records) (x : Seen) (n p : List ℕ) (m : Mirror) (k : Component) (source : List ℕ) (ch : Changed)
+pub advance_made : (part : Records) (x : Seen) (n p : List ℕ) (m : Mirror) (k : Component)
+    (source : List ℕ) (ch : Changed)
     → mirror_of part n ≡ Some m → component_of part p ≡ Some k → source_of part p ≡ Some source
-    → ch ≡ record { mirror = None; gone_mirror = None; components = advanced m k ∷ []; gone_components = []; intents = filling m k source; reply = Copied (reach m k) m.data_sectors }
+    → ch ≡ record {
+      mirror = None;
+      gone_mirror = None;
+      components = advanced m k ∷ [];
+      gone_components = [];
+      intents = filling m k source;
+      reply =
+          Copied (reach m k) m.data_sectors;
+    }
     → IsMade part x (Advance n p) ch
 advance_made part x n p m k source ch found at lent is s to good =
     let c : Command = Advance n p in
     let there : component_of s p ≡ Some k = component_in part s c to.of p (Some k) (inl refl) at in
-    let home : k.mirror ≡ n = home_of s n p to.of.state k there (good refusals.NotMember (inr (inr (inl refl)))) in
-    let mine : members s.components k.mirror ≡ members part.components k.mirror = subst (λ (a : List ℕ). members s.components a ≡ members part.components a) (sym home) (members_in part s c to.of n (members part.components n) refl refl) in
-    let here : option_map provider (source_among k (members part.components k.mirror)) ≡ Some source = rw at at lent in
-    advance_makes s x n p m k source ch good (mirror_in part s c to.of n m refl found) there (rw mine here) is
+    let home : k.mirror ≡ n = home_of s n p to.of.state k there
+    (good refusals.NotMember (inr (inr (inl refl)))) in
+    let mine : members s.components k.mirror ≡ members part.components k.mirror =
+    subst (λ (a : List ℕ). members s.components a ≡ members part.components a) (sym home)
+    (members_in part s c to.of n (members part.components n) refl refl) in
+    let here : option_map provider (source_among k (members part.components k.mirror))
+    ≡ Some source = rw at at lent in
+    advance_makes s x n p m k source ch good (mirror_in part s c to.of n m refl found) there
+    (rw mine here) is
 
-pub configure_made : (part : Records) (x : Seen) (n : List ℕ) (settings : Settings) (m : Mirror) (ks : List Component) (ch : Changed)
+pub configure_made : (part : Records) (x : Seen) (n : List ℕ) (settings : Settings) (m : Mirror)
+    (ks : List Component) (ch : Changed)
     → mirror_of part n ≡ Some m → members part.components n ≡ ks
-    → ch ≡ record { mirror = Some (configured_mirror settings m); gone_mirror = None; components = map (configured settings) ks; gone_components = []; intents = metas (map (configured settings) ks); reply = Plain }
+    → ch ≡ record {
+      mirror = Some (configured_mirror settings m);
+      gone_mirror = None;
+      components = map (configured settings) ks;
+      gone_components = [];
+      intents =
+          metas (map (configured settings) ks);
+      reply = Plain;
+    }
     → IsMade part x (Configure n settings) ch
 configure_made part x n settings m ks ch found mine is s to good =
     let c : Command = Configure n settings in
-    configure_makes s x n settings m ks ch good to.of.state (mirror_in part s c to.of n m refl found) (members_in part s c to.of n ks refl mine) is
+    configure_makes s x n settings m ks ch good to.of.state
+    (mirror_in part s c to.of n m refl found) (members_in part s c to.of n ks refl mine) is
 
 pub destroy_made : (part : Records) (x : Seen) (n : List ℕ) (ks : List Component) (ch : Changed)
     → members part.components n ≡ ks
-    → ch ≡ record { mirror = None; gone_mirror = Some n; components = []; gone_components = map provider ks; intents = clears_of ks; reply = Plain }
+    → ch ≡ record {
+      mirror = None;
+      gone_mirror = Some n;
+      components = [];
+      gone_components = map provider ks;
+      intents = clears_of ks;
+      reply = Plain;
+    }
     → IsMade part x (Destroy n) ch
 destroy_made part x n ks ch mine is s to good =
     let c : Command = Destroy n in
     destroy_makes s x n ks ch good to.of.state (members_in part s c to.of n ks refl mine) is
 
-pub lost_made : (part : Records) (x : Seen) (n : List ℕ) (ps : List (List ℕ)) (m : Mirror) (ks : List Component) (ch : Changed)
+pub lost_made : (part : Records) (x : Seen) (n : List ℕ) (ps : List (List ℕ)) (m : Mirror)
+    (ks : List Component) (ch : Changed)
     → mirror_of part n ≡ Some m → members part.components n ≡ ks
-    → ch ≡ record { mirror = Some (record m { genid = m.genid + 1 }); gone_mirror = None; components = []; gone_components = ps; intents = metas (filter (λ k. not (is_on_any ps k)) ks); reply = Plain }
+    → ch ≡ record {
+      mirror = Some (record m { genid = m.genid + 1 });
+      gone_mirror = None;
+      components = [];
+      gone_components = ps;
+      intents =
+          metas (filter (λ k. not (is_on_any ps k)) ks);
+      reply = Plain;
+    }
     → IsMade part x (Lost n ps) ch
 lost_made part x n ps m ks ch found mine is s to good =
     let c : Command = Lost n ps in
-    lost_makes s x n ps m ks ch good (mirror_in part s c to.of n m refl found) (members_in part s c to.of n ks refl mine) is
+    lost_makes s x n ps m ks ch good (mirror_in part s c to.of n m refl found)
+    (members_in part s c to.of n ks refl mine) is
 
-pub adopt_made : (part : Records) (x : Seen) (n : List ℕ) (ps : List (List ℕ)) (ch : Changed) → is_adoptable x n ps ≡ true
-    → ((b : Member) → source_in x ps ≡ Some b → ch ≡ adopting x n ps b) → IsMade part x (Adopt n ps) ch
+pub adopt_made : (part : Records) (x : Seen) (n : List ℕ) (ps : List (List ℕ)) (ch : Changed)
+    → is_adoptable x n ps ≡ true
+    → ((b : Member) → source_in x ps ≡ Some b → ch ≡ adopting x n ps b)
+    → IsMade part x (Adopt n ps) ch
 adopt_made part x n ps ch fit is s to good =
     let b = fitting x n ps fit in
     adopt_makes s x n ps b.0 ch good to.of.state b.1.source (is b.0 b.1.source)
 
 -- the test of the first in a list that pass: tests that agree find one and the same
-pub find_agree : {X : Type 0} (p q : X → Bool) → ((x : X) → p x ≡ q x) → (xs : List X) → find p xs ≡ find q xs
+pub find_agree : {X : Type 0} (p q : X → Bool) → ((x : X) → p x ≡ q x) → (xs : List X)
+    → find p xs ≡ find q xs
 find_agree p q e [] = refl
 find_agree p q e (x ∷ xs) = ap₂ (λ b o. if b then Some x else o) (e x) (find_agree p q e xs)
 
 -- what is found to apply on the part is what applies on the whole
-pub found_on : (part s : Records) (count : ℕ) (x : Seen) (c : Command) → IsPartToDecide part x c s → count ≡ length s.mirrors → find (applies_to_part part count x c) (own c) ≡ find (applies s x c) (own c)
+pub found_on : (part s : Records) (count : ℕ) (x : Seen) (c : Command) → IsPartToDecide part x c s
+    → count ≡ length s.mirrors → find (applies_to_part part count x c) (own c)
+    ≡ find (applies s x c) (own c)
 found_on part s count x c to is =
-    let found : (m : Mirror) → Has s.mirrors m → takes_mid x c m ≡ true → Has (part_of s c to.of.mids).mirrors m
-    = subst (λ (t : Records). (m : Mirror) → Has s.mirrors m → takes_mid x c m ≡ true → Has t.mirrors m) to.of.is to.found in
-    find_agree _ _ (λ r. subst (λ (t : Records). applies_to_part t count x c r ≡ applies s x c r) (sym to.of.is) (same_applies s c to.of.mids to.of.state count is x found r)) (own c)
+    let found : (m : Mirror) → Has s.mirrors m → takes_mid x c m ≡ true
+    → Has (part_of s c to.of.mids).mirrors m
+    = subst (λ (t : Records). (m : Mirror) → Has s.mirrors m → takes_mid x c m ≡ true
+    → Has t.mirrors m) to.of.is to.found in
+    find_agree _ _ (λ r. subst (λ (t : Records). applies_to_part t count x c r ≡ applies s x c r)
+    (sym to.of.is) (same_applies s c to.of.mids to.of.state count is x found r)) (own c)
 
 -- where nothing is found on the part
-pub none_on : (part : Records) (count : ℕ) (x : Seen) (c : Command) → find (applies_to_part part count x c) (own c) ≡ None → IsGoodButCount part x c
+pub none_on : (part : Records) (count : ℕ) (x : Seen) (c : Command)
+    → find (applies_to_part part count x c) (own c) ≡ None → IsGoodButCount part x c
 none_on part count x c e r h other =
-    let off : applies_to_part part count x c r ≡ false = found_none (applies_to_part part count x c) (own c) e r h in
+    let off : applies_to_part part count x c r ≡ false =
+    found_none (applies_to_part part count x c) (own c) e r h in
     rw other at off
 
-pub good_on : (part : Records) (count : ℕ) (x : Seen) (c : Command) → find (applies_to_part part count x c) (own c) ≡ None
+pub good_on : (part : Records) (count : ℕ) (x : Seen) (c : Command)
+    → find (applies_to_part part count x c) (own c) ≡ None
     → (s : Records) → IsPartToDecide part x c s → count ≡ length s.mirrors → IsGood s x c
 good_on part count x c e s to is = is_good s x c (sym (found_on part s count x c to is) ∙ e)
 

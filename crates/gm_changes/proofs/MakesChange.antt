@@ -33,71 +33,195 @@ use Rattle.gm_lists.proofs.PutTogether.{filter-put_all, put_ordered}
 use Rattle.gm_refusals.proofs.TakenProviders.{adopted_on, adopted_mirror_is, Ascends-adopted}
 use Rattle.gm_changes.proofs.KeptComponents.{keeps_configured, keeps_deactivated, members_put}
 
-pub insert_makes : (s : Records) (x : Seen) (new : NewComponent) (m : Mirror) (ks : List Component) (sectors : ℕ) (k : Component) (ch : Changed)
-    → IsGood s x (Insert new) → IsState s → mirror_of s new.name ≡ Some m → members s.components new.name ≡ ks → x.size new.provider ≡ Some sectors → component_of s new.provider ≡ None → k ≡ spare m new sectors
-    → ch ≡ record { mirror = Some (record m { all = m.all + 1 }); gone_mirror = None; components = k ∷ []; gone_components = []; intents = metas (put provider k ks); reply = Plain }
+pub insert_makes : (s : Records) (x : Seen) (new : NewComponent) (m : Mirror) (ks : List Component)
+    (sectors : ℕ) (k : Component) (ch : Changed)
+    → IsGood s x (Insert new) → IsState s → mirror_of s new.name ≡ Some m
+    → members s.components new.name ≡ ks → x.size new.provider ≡ Some sectors
+    → component_of s new.provider ≡ None → k ≡ spare m new sectors
+    → ch ≡ record {
+      mirror = Some (record m { all = m.all + 1 });
+      gone_mirror = None;
+      components = k ∷ [];
+      gone_components = [];
+      intents = metas (put provider k ks);
+      reply =
+          Plain;
+    }
     → Makes s x (Insert new) ch
 insert_makes s x new m ks sectors k ch good state found mine size none made is =
     let z : Component = spare m new sectors in
     let is_named : m.name ≡ new.name = (named s new.name m found).1 in
-    let others : (j : Component) → Has s.components j → j.provider ≡ z.provider → same_label j.mirror new.name ≡ true = λ j i e. absurd (not_both (same_label j.provider new.provider) (same_from j.provider new.provider e) (new_name s new.provider none j i)) in
-    let placed : members (put provider z s.components) new.name ≡ put provider z (members s.components new.name) = filter-put provider (λ (c : Component). same_label c.mirror new.name) z s.components state.components_in_order (same_from m.name new.name is_named) others in
-    record { good = good; records = rw (is, made, found, size) refl; intents = rw (is, made, found, size, placed, mine) refl; reply = rw is refl }
+    let others : (j : Component) → Has s.components j → j.provider ≡ z.provider
+    → same_label j.mirror new.name ≡ true =
+    λ j i e. absurd (not_both (same_label j.provider new.provider)
+    (same_from j.provider new.provider e) (new_name s new.provider none j i)) in
+    let placed : members (put provider z s.components) new.name
+    ≡ put provider z (members s.components new.name) =
+    filter-put provider (λ (c : Component). same_label c.mirror new.name) z s.components
+    state.components_in_order (same_from m.name new.name is_named) others in
+    record {
+      good = good;
+      records = rw (is, made, found, size) refl;
+      intents = rw (is, made, found, size, placed, mine) refl;
+      reply = rw is refl;
+    }
 
-pub remove_makes : (s : Records) (x : Seen) (n p : List ℕ) (m : Mirror) (ks : List Component) (ch : Changed)
+pub remove_makes : (s : Records) (x : Seen) (n p : List ℕ) (m : Mirror) (ks : List Component)
+    (ch : Changed)
     → IsGood s x (Remove n p) → mirror_of s n ≡ Some m → members s.components n ≡ ks
-    → ch ≡ record { mirror = Some (record m { all = m.all - 1 }); gone_mirror = None; components = []; gone_components = p ∷ []; intents = Clear p ∷ metas (without provider p ks); reply = Plain }
+    → ch ≡ record {
+      mirror = Some (record m { all = m.all - 1 });
+      gone_mirror = None;
+      components = [];
+      gone_components = p ∷ [];
+      intents =
+          Clear p ∷ metas (without provider p ks);
+      reply = Plain;
+    }
     → Makes s x (Remove n p) ch
 remove_makes s x n p m ks ch good found mine is =
-    let swapped : members (without provider p s.components) n ≡ without provider p (members s.components n) = filter_swap (λ (c : Component). same_label c.mirror n) (λ (c : Component). not (same_label c.provider p)) s.components in
-    record { good = good; records = rw (is, found) refl; intents = rw (is, found, swapped, mine) refl; reply = rw is refl }
+    let swapped : members (without provider p s.components) n
+    ≡ without provider p (members s.components n) =
+    filter_swap (λ (c : Component). same_label c.mirror n)
+    (λ (c : Component). not (same_label c.provider p)) s.components in
+    record {
+      good = good;
+      records = rw (is, found) refl;
+      intents = rw (is, found, swapped, mine) refl;
+      reply = rw is refl;
+    }
 
-pub deactivate_makes : (s : Records) (x : Seen) (n p : List ℕ) (m : Mirror) (ks : List Component) (ch : Changed)
+pub deactivate_makes : (s : Records) (x : Seen) (n p : List ℕ) (m : Mirror) (ks : List Component)
+    (ch : Changed)
     → IsGood s x (Deactivate n p) → IsState s → mirror_of s n ≡ Some m → members s.components n ≡ ks
-    → ch ≡ record { mirror = Some (record m { syncid = m.syncid + 1 }); gone_mirror = None; components = map (deactivated (m.syncid + 1) p) ks; gone_components = []; intents = metas (map (deactivated (m.syncid + 1) p) ks); reply = Plain }
+    → ch ≡ record {
+      mirror = Some (record m { syncid = m.syncid + 1 });
+      gone_mirror = None;
+      components = map (deactivated (m.syncid + 1) p) ks;
+      gone_components = [];
+      intents =
+          metas (map (deactivated (m.syncid + 1) p) ks);
+      reply = Plain;
+    }
     → Makes s x (Deactivate n p) ch
 deactivate_makes s x n p m ks ch good state found mine is =
-    let placed = members_put n (deactivated (m.syncid + 1) p) (keeps_deactivated (m.syncid + 1) p) s.components state.components_in_order in
-    record { good = good; records = rw (is, found, mine) refl; intents = rw (is, found, placed, mine) refl; reply = rw is refl }
+    let placed = members_put n (deactivated (m.syncid + 1) p)
+    (keeps_deactivated (m.syncid + 1) p) s.components state.components_in_order in
+    record {
+      good = good;
+      records = rw (is, found, mine) refl;
+      intents = rw (is, found, placed, mine) refl;
+      reply = rw is refl;
+    }
 
-pub activate_makes : (s : Records) (x : Seen) (n p : List ℕ) (m : Mirror) (k : Component) (ch : Changed)
+pub activate_makes : (s : Records) (x : Seen) (n p : List ℕ) (m : Mirror) (k : Component)
+    (ch : Changed)
     → IsGood s x (Activate n p) → mirror_of s n ≡ Some m → component_of s p ≡ Some k
-    → ch ≡ record { mirror = None; gone_mirror = None; components = activated m k ∷ []; gone_components = []; intents = Meta k.provider ∷ []; reply = Plain }
+    → ch ≡ record {
+      mirror = None;
+      gone_mirror = None;
+      components = activated m k ∷ [];
+      gone_components = [];
+      intents = Meta k.provider ∷ [];
+      reply = Plain;
+    }
     → Makes s x (Activate n p) ch
 activate_makes s x n p m k ch good found at is =
-    record { good = good; records = rw (is, found, at) refl; intents = rw (is, provider_at s p k at) refl; reply = rw is refl }
+    record {
+      good = good;
+      records = rw (is, found, at) refl;
+      intents = rw (is, provider_at s p k at) refl;
+      reply = rw is refl;
+    }
 
-pub forget_makes : (s : Records) (x : Seen) (n : List ℕ) (m : Mirror) (ks : List Component) (ch : Changed)
+pub forget_makes : (s : Records) (x : Seen) (n : List ℕ) (m : Mirror) (ks : List Component)
+    (ch : Changed)
     → IsGood s x (Forget n) → mirror_of s n ≡ Some m → members s.components n ≡ ks
-    → ch ≡ record { mirror = Some (record m { all = length ks }); gone_mirror = None; components = []; gone_components = []; intents = metas ks; reply = Plain }
+    → ch ≡ record {
+      mirror = Some (record m { all = length ks });
+      gone_mirror = None;
+      components = [];
+      gone_components = [];
+      intents = metas ks;
+      reply = Plain;
+    }
     → Makes s x (Forget n) ch
 forget_makes s x n m ks ch good found mine is =
-    record { good = good; records = rw (is, found, mine) refl; intents = rw (is, found, mine) refl; reply = rw is refl }
+    record {
+      good = good;
+      records = rw (is, found, mine) refl;
+      intents = rw (is, found, mine) refl;
+      reply = rw is refl;
+    }
 
 pub rebuild_makes : (s : Records) (x : Seen) (n p : List ℕ) (k : Component) (ch : Changed)
     → IsGood s x (Rebuild n p) → component_of s p ≡ Some k
-    → ch ≡ record { mirror = None; gone_mirror = None; components = rebuilt k ∷ []; gone_components = []; intents = Meta k.provider ∷ []; reply = Plain }
+    → ch ≡ record {
+      mirror = None;
+      gone_mirror = None;
+      components = rebuilt k ∷ [];
+      gone_components = [];
+      intents = Meta k.provider ∷ [];
+      reply = Plain;
+    }
     → Makes s x (Rebuild n p) ch
 rebuild_makes s x n p k ch good at is =
-    record { good = good; records = rw (is, at) refl; intents = rw (is, provider_at s p k at) refl; reply = rw is refl }
+    record {
+      good = good;
+      records = rw (is, at) refl;
+      intents = rw (is, provider_at s p k at) refl;
+      reply = rw is refl;
+    }
 
-pub advance_makes : (s : Records) (x : Seen) (n p : List ℕ) (m : Mirror) (k : Component) (source : List ℕ) (ch : Changed)
-    → IsGood s x (Advance n p) → mirror_of s n ≡ Some m → component_of s p ≡ Some k → option_map provider (source_among k (members s.components k.mirror)) ≡ Some source
-    → ch ≡ record { mirror = None; gone_mirror = None; components = advanced m k ∷ []; gone_components = []; intents = filling m k source; reply = Copied (reach m k) m.data_sectors }
+pub advance_makes : (s : Records) (x : Seen) (n p : List ℕ) (m : Mirror) (k : Component)
+    (source : List ℕ) (ch : Changed)
+    → IsGood s x (Advance n p) → mirror_of s n ≡ Some m → component_of s p ≡ Some k
+    → option_map provider (source_among k (members s.components k.mirror)) ≡ Some source
+    → ch ≡ record {
+      mirror = None;
+      gone_mirror = None;
+      components = advanced m k ∷ [];
+      gone_components = [];
+      intents = filling m k source;
+      reply =
+          Copied (reach m k) m.data_sectors;
+    }
     → Makes s x (Advance n p) ch
 advance_makes s x n p m k source ch good found at lent is =
-    record { good = good; records = rw (is, found, at) refl; intents = rw (is, found, at, lent) refl; reply = rw (is, found, at) refl }
+    record {
+      good = good;
+      records = rw (is, found, at) refl;
+      intents = rw (is, found, at, lent) refl;
+      reply = rw (is, found, at) refl;
+    }
 
-pub configure_makes : (s : Records) (x : Seen) (n : List ℕ) (settings : Settings) (m : Mirror) (ks : List Component) (ch : Changed)
-    → IsGood s x (Configure n settings) → IsState s → mirror_of s n ≡ Some m → members s.components n ≡ ks
-    → ch ≡ record { mirror = Some (configured_mirror settings m); gone_mirror = None; components = map (configured settings) ks; gone_components = []; intents = metas (map (configured settings) ks); reply = Plain }
+pub configure_makes : (s : Records) (x : Seen) (n : List ℕ) (settings : Settings) (m : Mirror)
+    (ks : List Component) (ch : Changed)
+    → IsGood s x (Configure n settings) → IsState s → mirror_of s n ≡ Some m
+    → members s.components n ≡ ks
+    → ch ≡ record {
+      mirror = Some (configured_mirror settings m);
+      gone_mirror = None;
+      components = map (configured settings) ks;
+      gone_components = [];
+      intents =
+          metas (map (configured settings) ks);
+      reply = Plain;
+    }
     → Makes s x (Configure n settings) ch
 configure_makes s x n settings m ks ch good state found mine is =
-    let placed = members_put n (configured settings) (keeps_configured settings) s.components state.components_in_order in
-    record { good = good; records = rw (is, found, mine) refl; intents = rw (is, found, placed, mine) refl; reply = rw is refl }
+    let placed = members_put n (configured settings) (keeps_configured settings) s.components
+    state.components_in_order in
+    record {
+      good = good;
+      records = rw (is, found, mine) refl;
+      intents = rw (is, found, placed, mine) refl;
+      reply = rw is refl;
+    }
 
 -- two filters in a row
-filter-filter : {X : Type 0} (p q : X → Bool) (xs : List X) → filter (λ x. not (p x)) (filter (λ x. not (q x)) xs) ≡ filter (λ x. not (q x || p x)) xs
+filter-filter : {X : Type 0} (p q : X → Bool) (xs : List X)
+    → filter (λ x. not (p x)) (filter (λ x. not (q x)) xs) ≡ filter (λ x. not (q x || p x)) xs
 filter-filter p q [] = refl
 filter-filter p q (x ∷ xs) =
     elim (cases_Bool (q x)) [
@@ -109,68 +233,128 @@ filter-filter p q (x ∷ xs) =
     ]
 
 -- to delete by names is to keep what has none of them
-pub without_all-filter : (names : List (List ℕ)) (ks : List Component) → without_all provider names ks ≡ filter (λ k. not (list_any (λ p. same_label k.provider p) names)) ks
+pub without_all-filter : (names : List (List ℕ)) (ks : List Component)
+    → without_all provider names ks
+    ≡ filter (λ k. not (list_any (λ p. same_label k.provider p) names)) ks
 without_all-filter [] ks = sym (filter_id (λ k. true) ks (λ x h. refl))
 without_all-filter (p ∷ names) ks =
-    without_all-filter names (without provider p ks) ∙ filter-filter (λ k. list_any (λ q. same_label k.provider q) names) (λ k. same_label k.provider p) ks
+    without_all-filter names (without provider p ks) ∙ filter-filter
+    (λ k. list_any (λ q. same_label k.provider q) names) (λ k. same_label k.provider p) ks
 
-pub without_all-swap : (names : List (List ℕ)) (q : Component → Bool) (ks : List Component) → without_all provider names (filter q ks) ≡ filter q (without_all provider names ks)
+pub without_all-swap : (names : List (List ℕ)) (q : Component → Bool) (ks : List Component)
+    → without_all provider names (filter q ks) ≡ filter q (without_all provider names ks)
 without_all-swap names q ks =
     let stays : Component → Bool = λ k. not (list_any (λ p. same_label k.provider p) names) in
-    without_all-filter names (filter q ks) ∙ (filter_swap stays q ks ∙ sym (ap (filter q) (without_all-filter names ks)))
+    without_all-filter names (filter q ks)
+    ∙ (filter_swap stays q ks ∙ sym (ap (filter q) (without_all-filter names ks)))
 
-pub lost_makes : (s : Records) (x : Seen) (n : List ℕ) (ps : List (List ℕ)) (m : Mirror) (ks : List Component) (ch : Changed)
+pub lost_makes : (s : Records) (x : Seen) (n : List ℕ) (ps : List (List ℕ)) (m : Mirror)
+    (ks : List Component) (ch : Changed)
     → IsGood s x (Lost n ps) → mirror_of s n ≡ Some m → members s.components n ≡ ks
-    → ch ≡ record { mirror = Some (record m { genid = m.genid + 1 }); gone_mirror = None; components = []; gone_components = ps; intents = metas (filter (λ k. not (is_on_any ps k)) ks); reply = Plain }
+    → ch ≡ record {
+      mirror = Some (record m { genid = m.genid + 1 });
+      gone_mirror = None;
+      components = [];
+      gone_components = ps;
+      intents =
+          metas (filter (λ k. not (is_on_any ps k)) ks);
+      reply = Plain;
+    }
     → Makes s x (Lost n ps) ch
 lost_makes s x n ps m ks ch good found mine is =
-    let left : members (without_all provider ps s.components) n ≡ filter (λ k. not (is_on_any ps k)) ks
-    = sym (without_all-swap ps (λ (k : Component). same_label k.mirror n) s.components) ∙ (ap (without_all provider ps) mine ∙ without_all-filter ps ks) in
-    record { good = good; records = rw (is, found) refl; intents = rw (is, found, left) refl; reply = rw is refl }
+    let left : members (without_all provider ps s.components) n
+    ≡ filter (λ k. not (is_on_any ps k)) ks
+    = sym (without_all-swap ps (λ (k : Component). same_label k.mirror n) s.components)
+    ∙ (ap (without_all provider ps) mine ∙ without_all-filter ps ks) in
+    record {
+      good = good;
+      records = rw (is, found) refl;
+      intents = rw (is, found, left) refl;
+      reply = rw is refl;
+    }
 
 -- a mirror that isn't registered has no components
-no_component : (s : Records) (n : List ℕ) → IsState s → mirror_of s n ≡ None → (k : Component) → Has s.components k → same_label k.mirror n ≡ false
+no_component : (s : Records) (n : List ℕ) → IsState s → mirror_of s n ≡ None → (k : Component)
+    → Has s.components k → same_label k.mirror n ≡ false
 no_component s n state none k h =
     let home = state.homes k h in
-    sym (ap (λ (a : List ℕ). same_label a n) home.2) ∙ found_none (λ (m : Mirror). same_label m.name n) s.mirrors none home.0 home.1
+    sym (ap (λ (a : List ℕ). same_label a n) home.2) ∙ found_none
+    (λ (m : Mirror). same_label m.name n) s.mirrors none home.0 home.1
 
 -- a component has the provider of a member of the mirror just where it is one
 is_member : (s : Records) (n : List ℕ) → IsState s → (k : Component) → Has s.components k
-    → list_any (λ p. same_label k.provider p) (map provider (members s.components n)) ≡ same_label k.mirror n
+    → list_any (λ p. same_label k.provider p) (map provider (members s.components n))
+    ≡ same_label k.mirror n
 is_member s n state k h =
     any-map (λ p. same_label k.provider p) provider (members s.components n) ∙
     elim (cases_Bool (same_label k.mirror n)) [
-      | inl t ↦ any_from (λ j. same_label k.provider j.provider) (members s.components n) k (filter-Has (λ (j : Component). same_label j.mirror n) s.components k h t) (same_from k.provider k.provider refl) ∙ sym t
-      | inr t ↦ elim (cases_Bool (list_any (λ j. same_label k.provider j.provider) (members s.components n))) [
-        | inr u ↦ u ∙ sym t
-        | inl u ↦
-            let some = some_any (λ j. same_label k.provider j.provider) (members s.components n) u in
-            let r = Has-filter (λ (j : Component). same_label j.mirror n) s.components some.0 some.1 in
-            let same : k ≡ some.0 = one provider s.components state.components_in_order k some.0 h r.0 (same_is k.provider some.0.provider some.2) in
-            not_both (same_label k.mirror n) (ap (λ (j : Component). same_label j.mirror n) same ∙ r.1) t
-      ]
+      | inl t ↦ any_from (λ j. same_label k.provider j.provider) (members s.components n) k
+          (filter-Has (λ (j : Component). same_label j.mirror n) s.components k h t)
+          (same_from k.provider k.provider refl) ∙ sym t
+      | inr t ↦ elim (cases_Bool (list_any (λ j. same_label k.provider j.provider)
+          (members s.components n))) [
+            | inr u ↦ u ∙ sym t
+            | inl u ↦
+                let some = some_any (λ j. same_label k.provider j.provider)
+                (members s.components n) u in
+                let r = Has-filter (λ (j : Component). same_label j.mirror n) s.components some.0
+                some.1 in
+                let same : k ≡ some.0 =
+                one provider s.components state.components_in_order k some.0 h r.0
+                (same_is k.provider some.0.provider some.2) in
+                not_both (same_label k.mirror n) (ap (λ (j : Component). same_label j.mirror n) same
+                ∙ r.1) t
+          ]
     ]
 
 pub destroy_makes : (s : Records) (x : Seen) (n : List ℕ) (ks : List Component) (ch : Changed)
     → IsGood s x (Destroy n) → IsState s → members s.components n ≡ ks
-    → ch ≡ record { mirror = None; gone_mirror = Some n; components = []; gone_components = map provider ks; intents = clears_of ks; reply = Plain }
+    → ch ≡ record {
+      mirror = None;
+      gone_mirror = Some n;
+      components = [];
+      gone_components = map provider ks;
+      intents = clears_of ks;
+      reply = Plain;
+    }
     → Makes s x (Destroy n) ch
 destroy_makes s x n ks ch good state mine is =
-    let left : without_all provider (map provider (members s.components n)) s.components ≡ filter (λ k. not (same_label k.mirror n)) s.components
-    = without_all-filter (map provider (members s.components n)) s.components ∙ filter_agree _ _ s.components (λ k h. ap not (is_member s n state k h)) in
-    record { good = good; records = rw (is, ← mine, left) refl; intents = rw (is, mine) refl; reply = rw is refl }
+    let left : without_all provider (map provider (members s.components n)) s.components
+    ≡ filter (λ k. not (same_label k.mirror n)) s.components
+    = without_all-filter (map provider (members s.components n)) s.components
+    ∙ filter_agree _ _ s.components (λ k h. ap not (is_member s n state k h)) in
+    record {
+      good = good;
+      records = rw (is, ← mine, left) refl;
+      intents = rw (is, mine) refl;
+      reply = rw is refl;
+    }
 
-pub adopt_makes : (s : Records) (x : Seen) (n : List ℕ) (ps : List (List ℕ)) (b : Member) (ch : Changed)
-    → IsGood s x (Adopt n ps) → IsState s → source_in x ps ≡ Some b → ch ≡ adopting x n ps b → Makes s x (Adopt n ps) ch
+pub adopt_makes : (s : Records) (x : Seen) (n : List ℕ) (ps : List (List ℕ)) (b : Member)
+    (ch : Changed)
+    → IsGood s x (Adopt n ps) → IsState s → source_in x ps ≡ Some b → ch ≡ adopting x n ps b
+    → Makes s x (Adopt n ps) ch
 adopt_makes s x n ps b ch good state from is =
     let ks : List Component = adopted x n ps b in
     let other : (k : Component) → Has s.components k → same_label k.mirror n ≡ false
     = no_component s n state (none_from (mirror_of s n) (good refusals.NameTaken (inl refl))) in
-    let free : (k j : Component) → Has ks k → Has s.components j → j.provider ≡ k.provider → same_label j.mirror n ≡ true = λ k j h i e.
+    let free : (k j : Component) → Has ks k → Has s.components j → j.provider ≡ k.provider
+    → same_label j.mirror n ≡ true = λ k j h i e.
     not_both (same_label j.provider k.provider) (same_from j.provider k.provider e)
-    (new_name s k.provider (none_from (component_of s k.provider) (none_any (λ p. is_some (component_of s p)) ps (good refusals.ProviderTaken (inr (inr (inr (inl refl))))) k.provider (adopted_on x n ps b k h))) j i) in
-    let mine : (k : Component) → Has ks k → same_label k.mirror n ≡ true = λ k h. same_from k.mirror n (adopted_mirror_is x n ps b k h) in
+    (new_name s k.provider (none_from (component_of s k.provider)
+    (none_any (λ p. is_some (component_of s p)) ps
+    (good refusals.ProviderTaken (inr (inr (inr (inl refl))))) k.provider
+    (adopted_on x n ps b k h))) j i) in
+    let mine : (k : Component) → Has ks k → same_label k.mirror n ≡ true =
+    λ k h. same_from k.mirror n (adopted_mirror_is x n ps b k h) in
     let placed : members (put_all provider ks s.components) n ≡ ks
-    = filter-put_all provider (λ (k : Component). same_label k.mirror n) ks s.components state.components_in_order mine free
-    ∙ (ap (put_all provider ks) (no_members s.components n other) ∙ put_ordered provider ks (Ascends-adopted x n ps b)) in
-    record { good = good; records = rw (is, from) refl; intents = rw (is, from, placed) refl; reply = rw is refl }
+    = filter-put_all provider (λ (k : Component). same_label k.mirror n) ks s.components
+    state.components_in_order mine free
+    ∙ (ap (put_all provider ks) (no_members s.components n other)
+    ∙ put_ordered provider ks (Ascends-adopted x n ps b)) in
+    record {
+      good = good;
+      records = rw (is, from) refl;
+      intents = rw (is, from, placed) refl;
+      reply = rw is refl;
+    }

@@ -26,7 +26,8 @@ use Rattle.gm_state.specs.Sources.{source_of}
 use Rattle.gm_refusals.specs.Seen.{Seen}
 use Rattle.gm_refusals.specs.Adoptable.{source_in, adopted_mirror, adopted}
 
--- the record of a labelled mirror: genid 0, syncid 1, one component, and all sectors of the provider but the last as data
+-- the record of a labelled mirror: genid 0, syncid 1, one component, and all sectors of the
+-- provider but the last as data
 abbrev pub new_mirror : NewMirror → ℕ → Mirror
 new_mirror new sectors = record {
   name = new.name;
@@ -66,8 +67,8 @@ spare m new sectors = record {
   sectors = sectors;
 }
 
--- A component of a mirror of which the one on p is taken out of use: that one becomes INACTIVE and keeps its syncid,
--- and each other that isn't INACTIVE takes the mirror's new one.
+-- A component of a mirror of which the one on p is taken out of use: that one becomes INACTIVE and
+-- keeps its syncid, and each other that isn't INACTIVE takes the mirror's new one.
 abbrev pub deactivated : ℕ → List ℕ → Component → Component
 deactivated syncid p k =
     if same_label k.provider p then record k { disk = Inactive }
@@ -77,7 +78,8 @@ deactivated syncid p k =
 abbrev pub activated : Mirror → Component → Component
 activated m k = record k { disk = Copying false 0; syncid = m.syncid }
 
--- a component that is to be filled anew, also where the mirror doesn't fill its components by itself
+-- a component that is to be filled anew, also where the mirror doesn't fill its components by
+-- itself
 abbrev pub rebuilt : Component → Component
 rebuilt k = record k { disk = Copying true 0 }
 
@@ -98,7 +100,8 @@ configured_mirror settings m = record m {
 -- the priority of a component: what is given, where that is for its provider
 abbrev pub priority_by : Option Preference → Component → ℕ
 priority_by None k = k.priority
-priority_by (Some preference) k = if same_label k.provider preference.provider then preference.priority else k.priority
+priority_by (Some preference) k =
+    if same_label k.provider preference.provider then preference.priority else k.priority
 
 -- a component of a mirror that is configured
 abbrev pub configured : Settings → Component → Component
@@ -107,9 +110,11 @@ configured settings k = record k {
   hardcoded = unwrap_or settings.hardcode k.hardcoded;
 }
 
--- how many of the mirror's data sectors a component holds after its next stretch, which has at most 256
+-- how many of the mirror's data sectors a component holds after its next stretch, which has at most
+-- 256
 abbrev pub reach : Mirror → Component → ℕ
-reach m k = if nat_lt (held_of k.disk + 256) m.data_sectors then held_of k.disk + 256 else m.data_sectors
+reach m k = if nat_lt (held_of k.disk + 256) m.data_sectors then held_of k.disk
+    + 256 else m.data_sectors
 
 -- a component that is filled, and holds so many of them by now: in sync where it holds all
 abbrev pub holding : Mirror → ℕ → Disk → Disk
@@ -142,12 +147,14 @@ after x (commands.Remove n p) s = on_found (mirror_of s n) s (λ m. record {
 })
 after x (commands.Deactivate n p) s = on_found (mirror_of s n) s (λ m. record {
   mirrors = put name (record m { syncid = m.syncid + 1 }) s.mirrors;
-  components = put_all provider (map (deactivated (m.syncid + 1) p) (members s.components n)) s.components;
+  components =
+      put_all provider (map (deactivated (m.syncid + 1) p) (members s.components n)) s.components;
 })
-after x (commands.Activate n p) s = on_found (mirror_of s n) s (λ m. on_found (component_of s p) s (λ k. record {
-  mirrors = s.mirrors;
-  components = put provider (activated m k) s.components;
-}))
+after x (commands.Activate n p) s =
+    on_found (mirror_of s n) s (λ m. on_found (component_of s p) s (λ k. record {
+      mirrors = s.mirrors;
+      components = put provider (activated m k) s.components;
+    }))
 after x (commands.Forget n) s = on_found (mirror_of s n) s (λ m. record {
   mirrors = put name (record m { all = length (members s.components n) }) s.mirrors;
   components = s.components;
@@ -169,10 +176,11 @@ after x (commands.Lost n ps) s = on_found (mirror_of s n) s (λ m. record {
   mirrors = put name (record m { genid = m.genid + 1 }) s.mirrors;
   components = without_all provider ps s.components;
 })
-after x (commands.Advance n p) s = on_found (mirror_of s n) s (λ m. on_found (component_of s p) s (λ k. record {
-  mirrors = s.mirrors;
-  components = put provider (advanced m k) s.components;
-}))
+after x (commands.Advance n p) s =
+    on_found (mirror_of s n) s (λ m. on_found (component_of s p) s (λ k. record {
+      mirrors = s.mirrors;
+      components = put provider (advanced m k) s.components;
+    }))
 after x (commands.Adopt n ps) s = on_found (source_in x ps) s (λ b. record {
   mirrors = put name (adopted_mirror n b.metadata) s.mirrors;
   components = put_all provider (adopted x n ps b) s.components;
@@ -180,7 +188,9 @@ after x (commands.Adopt n ps) s = on_found (source_in x ps) s (λ b. record {
 
 -- what the command is answered beside its number, where the records before are s
 abbrev pub reply_to : Command → Records → Reply
-reply_to (commands.Advance n p) s = on_found (mirror_of s n) Plain (λ m. on_found (component_of s p) Plain (λ k. Copied (reach m k) m.data_sectors))
+reply_to (commands.Advance n p) s =
+    on_found (mirror_of s n) Plain (λ m. on_found (component_of s p) Plain
+    (λ k. Copied (reach m k) m.data_sectors))
 reply_to _ s = Plain
 
 -- Meta of each of the components, and Clear of each
@@ -208,7 +218,8 @@ intents_of (commands.Clear p) s s' = Clear p ∷ []
 intents_of (commands.Destroy n) s s' = clears_of (members s.components n)
 intents_of (commands.Lost n ps) s s' = metas (members s'.components n)
 intents_of (commands.Advance n p) s s' =
-    on_found (mirror_of s n) [] (λ m. on_found (component_of s p) [] (λ k. on_found (source_of s p) [] (λ source. filling m k source)))
+    on_found (mirror_of s n) [] (λ m. on_found (component_of s p) []
+    (λ k. on_found (source_of s p) [] (λ source. filling m k source)))
 intents_of (commands.Adopt n ps) s s' = metas (members s'.components n)
 
 -- whether the last sector of q becomes zero, where the records before are s
@@ -230,5 +241,6 @@ clears s (commands.Adopt n ps) q = false
 -- whether sector j of q is one that the command copies, where the records before are s
 abbrev pub fills : Records → Command → List ℕ → ℕ → Bool
 fills s (commands.Advance n p) q j =
-    on_found (mirror_of s n) false (λ m. on_found (component_of s p) false (λ k. same_label p q && (nat_le (held_of k.disk) j && nat_lt j (reach m k))))
+    on_found (mirror_of s n) false (λ m. on_found (component_of s p) false
+    (λ k. same_label p q && (nat_le (held_of k.disk) j && nat_lt j (reach m k))))
 fills s _ q j = false

@@ -49,10 +49,12 @@ without_some (Some n) ms = without name n ms
 abbrev pub changed_by : Changed → Records → Records
 changed_by ch s = record {
   mirrors = put_some ch.mirror (without_some ch.gone_mirror s.mirrors);
-  components = put_all provider ch.components (without_all provider ch.gone_components s.components);
+  components =
+      put_all provider ch.components (without_all provider ch.gone_components s.components);
 }
 
--- no refusal applies, and the change is what the command makes of the records, with its intents and its reply
+-- no refusal applies, and the change is what the command makes of the records, with its intents and
+-- its reply
 pub record Makes (s : Records) (x : Seen) (c : Command) (ch : Changed) : Type 0 where
   pub good : IsGood s x c
   pub records : changed_by ch s ≡ after x c s

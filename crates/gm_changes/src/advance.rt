@@ -1,4 +1,5 @@
-//! The change of advance: the next stretch of a mirror's data is copied to a component that is to be filled.
+//! The change of advance: the next stretch of a mirror's data is copied to a component that is to
+//! be filled.
 
 ghost use Rattle.std.specs.Prelude.{◌≡◌, ◌+◌, ◌<◌, ◌^◌, [], ◌∷◌, None, IfOk};
 ghost use Rattle.gm_changes.specs.After.{advanced, filling, holding, reach};

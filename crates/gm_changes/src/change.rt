@@ -8,8 +8,8 @@ use gm_state::{Component, Intent, Mirror, Reply};
 use std::alloc::AllocError;
 use std::marker::Model;
 
-/// Records to put, names of records to delete, what is to be written, and what is answered. Deletions come before what
-/// is put.
+/// Records to put, names of records to delete, what is to be written, and what is answered.
+/// Deletions come before what is put.
 #[derive(Debug, Drop)]
 pub struct Change {
     pub(crate) mirror: Option<Mirror>,

@@ -1,9 +1,10 @@
-//! What a command makes of the records where nothing refuses it: the records to put and to drop, what is to be written,
-//! and the reply.
+//! What a command makes of the records where nothing refuses it: the records to put and to drop,
+//! what is to be written, and the reply.
 //!
-//! Begin with `change.rt`, the answer, and `specs/After.antt`, what each command makes of the records. `decision.rt` decides
-//! on a command, by the least refusal or its change; each command has a file of its own, and `members.rt` what several of
-//! them share. `changed_state.rt` makes the change.
+//! Begin with `change.rt`, the answer, and `specs/After.antt`, what each command makes of the
+//! records. `decision.rt` decides on a command, by the least refusal or its change; each command
+//! has a file of its own, and `members.rt` what several of them share. `changed_state.rt` makes the
+//! change.
 #![tactic(auto)]
 
 mod activate;

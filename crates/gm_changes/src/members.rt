@@ -1,4 +1,5 @@
-//! What the changes of several commands are made of: components of a mirror that stay, or that are put.
+//! What the changes of several commands are made of: components of a mirror that stay, or that are
+//! put.
 
 ghost use Rattle.std.specs.Option.{ForSome};
 ghost use Rattle.std.specs.Prelude.{◌≡◌, ◌-◌, ◌<◌, [], ◌∷◌, Some, None, IfOk, false, not, filter, ◌^◌, IsSome};

@@ -10,7 +10,9 @@ use Rattle.gm_commands.specs.Commands.{balance_of_word, on_where}
 use Rattle.gm_commands.proofs.OneParting.{spaceless, decimal_spaceless}
 
 word_back : List ℕ → BalanceWord
-word_back w = cond (get_or w 0 0 == 108) Load (cond (get_or w 0 0 == 112) Prefer (cond (get_or w 0 0 == 114) RoundRobin Split))
+word_back w =
+    cond (get_or w 0 0 == 108) Load (cond (get_or w 0 0 == 112) Prefer
+    (cond (get_or w 0 0 == 114) RoundRobin Split))
 
 word_again : (b : BalanceWord) → word_back (balance_name (balance_of_word b)) ≡ b
 unfolding word_back
@@ -31,7 +33,8 @@ not_again : (b : Bool) → not (not b) ≡ b
 not_again true = refl
 not_again false = refl
 
-pub same_balance : (a b : BalanceWord) → balance_name (balance_of_word a) ≡ balance_name (balance_of_word b) → a ≡ b
+pub same_balance : (a b : BalanceWord)
+    → balance_name (balance_of_word a) ≡ balance_name (balance_of_word b) → a ≡ b
 same_balance a b e = sym (word_again a) ∙ (ap word_back e ∙ word_again b)
 
 pub same_switch : (a b : Bool) → on_where a ≡ on_where b → a ≡ b
@@ -40,7 +43,8 @@ same_switch a b e = sym (switch_again a) ∙ (ap switch_back e ∙ switch_again 
 pub same_off : (a b : Bool) → on_where (not a) ≡ on_where (not b) → a ≡ b
 same_off a b e = sym (not_again a) ∙ (ap not (same_switch (not a) (not b) e) ∙ not_again b)
 
-pub same_flags : (f g : MirrorFlags) → f.no_autosync ≡ g.no_autosync → f.no_failsync ≡ g.no_failsync → f ≡ g
+pub same_flags : (f g : MirrorFlags) → f.no_autosync ≡ g.no_autosync → f.no_failsync ≡ g.no_failsync
+    → f ≡ g
 same_flags f g p q = λ i. record { no_autosync = p i; no_failsync = q i }
 
 pub same_number : (m n : ℕ) → m < 2 ^ 32 → n < 2 ^ 32 → decimal m ≡ decimal n → m ≡ n

@@ -26,18 +26,22 @@ SliceFits slice = IfSome slice (λ n. (0 < n) × (n < 2 ^ 32))
 
 -- a priority that is given is a provider's
 abbrev pub PreferenceFits : Option Preference → Type 0
-PreferenceFits preference = IfSome preference (λ p. IsTrue (is_label p.provider) × (p.priority < 2 ^ 8))
+PreferenceFits preference =
+    IfSome preference (λ p. IsTrue (is_label p.provider) × (p.priority < 2 ^ 8))
 
 -- names are labels, numbers fit, and a slice isn't 0, as the types of the code have it
 abbrev pub CommandFits : Command → Type 0
-CommandFits (Label new) = IsTrue (is_label new.name) × IsTrue (is_label new.provider) × (new.mid < 2 ^ 32) × (new.did < 2 ^ 32) × (0 < new.slice) × (new.slice < 2 ^ 32)
-CommandFits (Insert new) = IsTrue (is_label new.name) × IsTrue (is_label new.provider) × (new.did < 2 ^ 32) × (new.priority < 2 ^ 8)
+CommandFits (Label new) = IsTrue (is_label new.name) × IsTrue (is_label new.provider)
+    × (new.mid < 2 ^ 32) × (new.did < 2 ^ 32) × (0 < new.slice) × (new.slice < 2 ^ 32)
+CommandFits (Insert new) = IsTrue (is_label new.name) × IsTrue (is_label new.provider)
+    × (new.did < 2 ^ 32) × (new.priority < 2 ^ 8)
 CommandFits (Remove n p) = IsTrue (is_label n) × IsTrue (is_label p)
 CommandFits (Deactivate n p) = IsTrue (is_label n) × IsTrue (is_label p)
 CommandFits (Activate n p) = IsTrue (is_label n) × IsTrue (is_label p)
 CommandFits (Forget n) = IsTrue (is_label n)
 CommandFits (Rebuild n p) = IsTrue (is_label n) × IsTrue (is_label p)
-CommandFits (Configure n settings) = IsTrue (is_label n) × SliceFits settings.slice × PreferenceFits settings.preference
+CommandFits (Configure n settings) = IsTrue (is_label n) × SliceFits settings.slice
+    × PreferenceFits settings.preference
 CommandFits (Clear p) = IsTrue (is_label p)
 CommandFits (Destroy n) = IsTrue (is_label n)
 CommandFits (Lost n ps) = IsTrue (is_label n) × IsTrue (list_all is_label ps) × (0 < length ps)
@@ -50,11 +54,14 @@ on_where b = if b then codes "on" else codes "off"
 
 -- the options of label that tell numbers and names
 abbrev pub number_words : ℕ → ℕ → List ℕ → ℕ → List (List ℕ)
-number_words mid did balance slice = codes "--mid" ∷ decimal mid ∷ codes "--did" ∷ decimal did ∷ codes "--balance" ∷ balance ∷ codes "--slice" ∷ decimal slice ∷ []
+number_words mid did balance slice = codes "--mid" ∷ decimal mid ∷ codes "--did" ∷ decimal did
+    ∷ codes "--balance" ∷ balance ∷ codes "--slice" ∷ decimal slice ∷ []
 
 -- those that turn something on or off
 abbrev pub switch_words : List ℕ → List ℕ → List ℕ → List (List ℕ)
-switch_words autosync failsync hardcode = codes "--autosync" ∷ autosync ∷ codes "--failsync" ∷ failsync ∷ codes "--hardcode" ∷ hardcode ∷ []
+switch_words autosync failsync hardcode =
+    codes "--autosync" ∷ autosync ∷ codes "--failsync" ∷ failsync ∷ codes "--hardcode" ∷ hardcode
+    ∷ []
 
 -- the options of configure, each where it was given
 abbrev pub balance_words : Option BalanceWord → List (List ℕ)
@@ -71,22 +78,27 @@ given_switch option (Some set) = option ∷ on_where set ∷ []
 
 abbrev pub preference_words : Option Preference → List (List ℕ)
 preference_words None = []
-preference_words (Some p) = codes "--prov" ∷ p.provider ∷ codes "--priority" ∷ decimal p.priority ∷ []
+preference_words (Some p) = codes "--prov" ∷ p.provider ∷ codes "--priority" ∷ decimal p.priority
+    ∷ []
 
 abbrev pub setting_words : Settings → List (List ℕ)
 setting_words s =
     balance_words s.balance ++ slice_words s.slice ++ given_switch (codes "--autosync") s.autosync
-    ++ given_switch (codes "--failsync") s.failsync ++ given_switch (codes "--hardcode") s.hardcode ++ preference_words s.preference
+    ++ given_switch (codes "--failsync") s.failsync ++ given_switch (codes "--hardcode") s.hardcode
+    ++ preference_words s.preference
 
 -- a space before each
 abbrev pub spaced : List (List ℕ) → List ℕ
 spaced ws = flat_map (λ w. 32 ∷ w) ws
 
--- the words: the command, its options in their order with each default written out, and then the names
+-- the words: the command, its options in their order with each default written out, and then the
+-- names
 abbrev pub words : Command → List (List ℕ)
 words (Label new) =
-    codes "label" ∷ number_words new.mid new.did (balance_name (balance_of_word new.balance)) new.slice
-    ++ switch_words (on_where (not new.flags.no_autosync)) (on_where (not new.flags.no_failsync)) (on_where new.hardcoded)
+    codes "label" ∷ number_words new.mid new.did (balance_name (balance_of_word new.balance))
+    new.slice
+    ++ switch_words (on_where (not new.flags.no_autosync)) (on_where (not new.flags.no_failsync))
+    (on_where new.hardcoded)
     ++ new.name ∷ new.provider ∷ []
 words (Insert new) =
     codes "insert" ∷ codes "--did" ∷ decimal new.did ∷ codes "--priority" ∷ decimal new.priority

@@ -267,8 +267,9 @@ fn command_fits(command: &Command)
     }
 }
 
-/// The canonical words of a command: its name, the options in their order, each with its value and each default
-/// written out, and then the names; joined by one space, numbers in plain decimals (this project's own).
+/// The canonical words of a command: its name, the options in their order, each with its value and
+/// each default written out, and then the names; joined by one space, numbers in plain decimals
+/// (this project's own).
 pub fn words_of(alloc: Global, command: &Command) -> Result<String, AllocError>
     ensures words { IfOk result (λ text. string_bytes text ≡ words_of command.now) }
     ensures fits { CommandFits command.now }

@@ -112,20 +112,23 @@ pub struct NewComponent {
     pub hardcoded: bool,
 }
 
-/// A command of gmirror(8), as its words say it; `Lost`, `Advance` and `Adopt` are this project's own.
+/// A command of gmirror(8), as its words say it; `Lost`, `Advance` and `Adopt` are this project's
+/// own.
 #[derive(Debug, PartialEq, Eq, Drop)]
 pub enum Command {
     Label(NewMirror),
     Insert(NewComponent),
     /// One component less.
     Remove { name: Label, provider: Label },
-    /// A component is taken out of use: it keeps the count of syncs that it has, the others count one more.
+    /// A component is taken out of use: it keeps the count of syncs that it has, the others count
+    /// one more.
     Deactivate { name: Label, provider: Label },
     /// A component that was taken out of use is to be filled anew.
     Activate { name: Label, provider: Label },
     /// Components that were lost are no longer waited for.
     Forget { name: Label },
-    /// A component is to be filled anew, also where the mirror doesn't fill its components by itself.
+    /// A component is to be filled anew, also where the mirror doesn't fill its components by
+    /// itself.
     Rebuild { name: Label, provider: Label },
     /// The mirror and its components are set otherwise.
     Configure { name: Label, settings: Settings },
@@ -133,9 +136,11 @@ pub enum Command {
     Clear { provider: Label },
     /// The mirror and its components are dropped.
     Destroy { name: Label },
-    /// Components whose images won't come back are dropped; they are waited for until they are forgotten.
+    /// Components whose images won't come back are dropped; they are waited for until they are
+    /// forgotten.
     Lost { name: Label, providers: Providers },
-    /// The next sectors of the mirror's data are copied to a component that is to be filled, at most 256.
+    /// The next sectors of the mirror's data are copied to a component that is to be filled, at
+    /// most 256.
     Advance { name: Label, provider: Label },
     /// A mirror that is found on these providers is registered, with what their images bear out.
     Adopt { name: Label, providers: Providers },

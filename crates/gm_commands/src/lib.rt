@@ -1,8 +1,9 @@
-//! The commands that a bench is handed, the keys that they are handed in under, and the words by which they are compared.
+//! The commands that a bench is handed, the keys that they are handed in under, and the words by
+//! which they are compared.
 //!
-//! Begin with `command.rt`, what a command can say; `providers.rt` has the lists of providers that it names. `call_key.rt`
-//! says what a key is, `canonical_words.rt` and `specs/Commands.antt` which words a command has, and `laws.rt` that two
-//! commands have equal words only where they are one.
+//! Begin with `command.rt`, what a command can say; `providers.rt` has the lists of providers that
+//! it names. `call_key.rt` says what a key is, `canonical_words.rt` and `specs/Commands.antt` which
+//! words a command has, and `laws.rt` that two commands have equal words only where they are one.
 #![tactic(auto)]
 
 mod call_key;

@@ -19,7 +19,8 @@ no_text : (text : List ℕ) (b : Bool) → is_utf8 text ≡ b → (IsUtf8 text �
 no_text text true e not = absurd (not (IsUtf8-from_is_utf8 text e))
 no_text text false e not = e
 
-pub asked_bytes : (text : List ℕ) → IsShort text → (IsUtf8 text → ⊥) → asked text ≡ Wrong (codes "?")
+pub asked_bytes : (text : List ℕ) → IsShort text → (IsUtf8 text → ⊥)
+    → asked text ≡ Wrong (codes "?")
 unfolding asked
 asked_bytes text short not =
     let test : nat_lt 1024 (length text) ≡ false = grind (arith, nat_tests) in

@@ -10,7 +10,8 @@ use Rattle.gm_front.specs.Input.{Fits, IsLine, IsCopied, Begins}
 use Rattle.gm_front.specs.declared.lines.Line.{Line}
 use Rattle.gm_front.specs.declared.lines.Line.TheVariants.{End, Whole, Long}
 
-pub set_last : (xs : List ℕ) (n : ℕ) (b : ℕ) → n < length xs → take (n + 1) (set xs n b) ≡ take n xs ++ b ∷ []
+pub set_last : (xs : List ℕ) (n : ℕ) (b : ℕ) → n < length xs
+    → take (n + 1) (set xs n b) ≡ take n xs ++ b ∷ []
 set_last xs n b h = rw add-one (take-suc-set xs n b h)
 
 both : (a b : Bool) → (a && b) ≡ true → (a ≡ true) × (b ≡ true)
@@ -23,7 +24,8 @@ not_true false h = refl
 not_true true h = absurd (true≢false (sym h))
 
 -- a line with a line feed and more bytes after it
-pub line_fed : (seen rest : List ℕ) → is_one_line seen ≡ true → (line_at (seen ++ 10 ∷ rest) ≡ seen) × (drop_through 10 (seen ++ 10 ∷ rest) ≡ rest)
+pub line_fed : (seen rest : List ℕ) → is_one_line seen ≡ true
+    → (line_at (seen ++ 10 ∷ rest) ≡ seen) × (drop_through 10 (seen ++ 10 ∷ rest) ≡ rest)
 line_fed [] rest h = (refl, refl)
 line_fed (b ∷ seen) rest h =
     let p : (not (b == 10) ≡ true) × (is_one_line seen ≡ true) = both _ _ h in
@@ -32,7 +34,8 @@ line_fed (b ∷ seen) rest h =
     (rw e (ap (λ xs. b ∷ xs) more.0), rw e more.1)
 
 -- a last line
-pub line_last : (seen : List ℕ) → is_one_line seen ≡ true → (line_at seen ≡ seen) × (drop_through 10 seen ≡ [])
+pub line_last : (seen : List ℕ) → is_one_line seen ≡ true
+    → (line_at seen ≡ seen) × (drop_through 10 seen ≡ [])
 line_last [] h = (refl, refl)
 line_last (b ∷ seen) h =
     let p : (not (b == 10) ≡ true) × (is_one_line seen ≡ true) = both _ _ h in
@@ -44,7 +47,8 @@ line_last (b ∷ seen) h =
 abbrev pub found_of : ℕ → Line
 found_of count = if nat_lt count 1025 then Whole count else Long
 
-fits_by : (count : ℕ) (whole : Bool) → nat_lt count 1025 ≡ whole → Fits (if whole then Whole count else Long)
+fits_by : (count : ℕ) (whole : Bool) → nat_lt count 1025 ≡ whole
+    → Fits (if whole then Whole count else Long)
 fits_by count true test = grind (arith, nat_tests)
 fits_by count false test = tt
 
@@ -55,11 +59,14 @@ ended_by : (count : ℕ) (some : Bool) → Fits (if some then found_of count els
 ended_by count true = fits_by count _ refl
 ended_by count false = tt
 
-pub ended_fits : (count : ℕ) (found : Line) → found ≡ (if nat_lt 0 count then found_of count else End) → Fits found
+pub ended_fits : (count : ℕ) (found : Line)
+    → found ≡ (if nat_lt 0 count then found_of count else End) → Fits found
 ended_fits count found e = rw e (ended_by count _)
 
 -- what was counted is the line
-pub is_found : (bytes line seen rest : List ℕ) (count : ℕ) (whole : Bool) → nat_lt count 1025 ≡ whole → IsCopied line count seen → 0 < length bytes → line_at bytes ≡ seen → drop_through 10 bytes ≡ rest
+pub is_found : (bytes line seen rest : List ℕ) (count : ℕ) (whole : Bool)
+    → nat_lt count 1025 ≡ whole → IsCopied line count seen → 0 < length bytes → line_at bytes ≡ seen
+    → drop_through 10 bytes ≡ rest
     → IsLine bytes (Some rest) line (if whole then Whole count else Long)
 is_found bytes line seen rest count true test copied some is_line is_rest =
     let few : count ≤ 1024 = grind (arith, nat_tests) in
@@ -70,56 +77,68 @@ is_found bytes line seen rest count false test copied some is_line is_rest =
     (rw is_line (omega arith), ap Some (sym is_rest))
 
 -- where a line feed comes
-pub fed : (old mid new : Option (List ℕ)) (line : List ℕ) (count : ℕ) (b : ℕ) (found : Line) → Begins old mid line count → Consumes mid new (b ∷ []) → b ≡ 10 → found ≡ found_of count
+pub fed : (old mid new : Option (List ℕ)) (line : List ℕ) (count : ℕ) (b : ℕ) (found : Line)
+    → Begins old mid line count → Consumes mid new (b ∷ []) → b ≡ 10 → found ≡ found_of count
     → IfSome old (λ bytes. IsLine bytes new line found)
 fed None mid new line count b found begins took is e = tt
 fed (Some bytes) None new line count b found begins took is e = absurd begins.consumed
 fed (Some bytes) (Some ms) None line count b found begins took is e = absurd took
 fed (Some bytes) (Some ms) (Some ns) line count b found begins took is e =
-    let all : bytes ≡ begins.seen ++ 10 ∷ ns = begins.consumed ∙ ap (λ xs. begins.seen ++ xs) (took ∙ ap (λ x. x ∷ ns) is) in
+    let all : bytes ≡ begins.seen ++ 10 ∷ ns =
+    begins.consumed ∙ ap (λ xs. begins.seen ++ xs) (took ∙ ap (λ x. x ∷ ns) is) in
     let parts = line_fed begins.seen ns begins.is_one in
     let some : 0 < length bytes = rw all (omega (arith, length-append begins.seen (10 ∷ ns))) in
-    rw e (is_found bytes line begins.seen ns count _ refl begins.copied some (ap line_at all ∙ parts.0) (ap (drop_through 10) all ∙ parts.1))
+    rw e (is_found bytes line begins.seen ns count _ refl begins.copied some
+    (ap line_at all ∙ parts.0) (ap (drop_through 10) all ∙ parts.1))
 
 no_bytes : (xs : List ℕ) → length xs ≡ 0 → xs ≡ []
 no_bytes [] h = refl
 no_bytes (x ∷ xs) h = absurd (omega arith)
 
-is_ended : (bytes line seen : List ℕ) (count : ℕ) (some : Bool) → nat_lt 0 count ≡ some → IsCopied line count seen → bytes ≡ seen → is_one_line seen ≡ true
+is_ended : (bytes line seen : List ℕ) (count : ℕ) (some : Bool) → nat_lt 0 count ≡ some
+    → IsCopied line count seen → bytes ≡ seen → is_one_line seen ≡ true
     → IsLine bytes (Some []) line (if some then found_of count else End)
 is_ended bytes line seen count true test copied all one =
     let parts = line_last seen one in
     let any : 0 < count = grind (arith, nat_tests) in
     let counted : count ≡ min (length seen) 1025 = copied.counted in
-    is_found bytes line seen [] count _ refl copied (rw all (omega arith)) (ap line_at all ∙ parts.0) (ap (drop_through 10) all ∙ parts.1)
+    is_found bytes line seen [] count _ refl copied (rw all (omega arith))
+    (ap line_at all ∙ parts.0) (ap (drop_through 10) all ∙ parts.1)
 is_ended bytes line seen count false test copied all one =
     let none : count ≡ 0 = grind (arith, nat_tests) in
     let counted : count ≡ min (length seen) 1025 = copied.counted in
     (all ∙ no_bytes seen (omega arith), refl)
 
 -- where the input ends
-pub ended : (old mid new : Option (List ℕ)) (line : List ℕ) (count : ℕ) (found : Line) → Begins old mid line count → Consumes mid new [] → IsAtEnd new
-    → found ≡ (if nat_lt 0 count then found_of count else End) → IfSome old (λ bytes. IsLine bytes new line found)
+pub ended : (old mid new : Option (List ℕ)) (line : List ℕ) (count : ℕ) (found : Line)
+    → Begins old mid line count → Consumes mid new [] → IsAtEnd new
+    → found ≡ (if nat_lt 0 count then found_of count else End)
+    → IfSome old (λ bytes. IsLine bytes new line found)
 ended None mid new line count found begins took at_end e = tt
 ended (Some bytes) None new line count found begins took at_end e = absurd begins.consumed
 ended (Some bytes) (Some ms) None line count found begins took at_end e = absurd took
 ended (Some bytes) (Some ms) (Some ns) line count found begins took at_end e =
-    let all : bytes ≡ begins.seen = begins.consumed ∙ ap (λ xs. begins.seen ++ xs) (took ∙ at_end) ∙ append-nil begins.seen in
+    let all : bytes ≡ begins.seen = begins.consumed ∙ ap (λ xs. begins.seen ++ xs) (took ∙ at_end)
+    ∙ append-nil begins.seen in
     rw (e, at_end) (is_ended bytes line begins.seen count _ refl begins.copied all begins.is_one)
 
-first_of_one : (b : ℕ) (t : Bool) → (b == 10) ≡ t → lines_of (b ∷ []) ≡ line_at (b ∷ []) ∷ lines_of (drop_through 10 (b ∷ []))
+first_of_one : (b : ℕ) (t : Bool) → (b == 10) ≡ t
+    → lines_of (b ∷ []) ≡ line_at (b ∷ []) ∷ lines_of (drop_through 10 (b ∷ []))
 unfolding lines_of
 first_of_one b true e = rw e refl
 first_of_one b false e = rw e refl
 
-first_of_more : (b : ℕ) (bytes : List ℕ) (t : Bool) → (b == 10) ≡ t → lines_of bytes ≡ line_at bytes ∷ lines_of (drop_through 10 bytes)
+first_of_more : (b : ℕ) (bytes : List ℕ) (t : Bool) → (b == 10) ≡ t
+    → lines_of bytes ≡ line_at bytes ∷ lines_of (drop_through 10 bytes)
     → lines_of (b ∷ bytes) ≡ line_at (b ∷ bytes) ∷ lines_of (drop_through 10 (b ∷ bytes))
 unfolding lines_of
 first_of_more b bytes true e h = rw e refl
 first_of_more b bytes false e h = rw e (ap (onto b) h)
 
 -- the first line, and those of the rest
-pub lines_first : (bytes : List ℕ) → 0 < length bytes → lines_of bytes ≡ line_at bytes ∷ lines_of (drop_through 10 bytes)
+pub lines_first : (bytes : List ℕ) → 0 < length bytes
+    → lines_of bytes ≡ line_at bytes ∷ lines_of (drop_through 10 bytes)
 lines_first [] h = absurd (omega arith)
 lines_first (b ∷ []) h = first_of_one b _ refl
-lines_first (b ∷ c ∷ bytes) h = first_of_more b (c ∷ bytes) _ refl (lines_first (c ∷ bytes) (omega arith))
+lines_first (b ∷ c ∷ bytes) h =
+    first_of_more b (c ∷ bytes) _ refl (lines_first (c ∷ bytes) (omega arith))

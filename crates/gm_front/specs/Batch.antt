@@ -31,7 +31,8 @@ Replies u (Call key command) w text refused =
     × (text ≡ answer_line key answer) × (refused ≡ is_refusal answer)
 
 -- A line, and then others.
-pub record Follows (Rest : World → List ℕ → Bool → Type 0) (u : World) (line text : List ℕ) (refused : Bool) : Type 0 where
+pub record Follows (Rest : World → List ℕ → Bool
+    → Type 0) (u : World) (line text : List ℕ) (refused : Bool) : Type 0 where
   pub world : World
   pub first : List ℕ
   pub more : List ℕ
@@ -45,13 +46,15 @@ pub record Follows (Rest : World → List ℕ → Bool → Type 0) (u : World) (
 -- Lines in turn: what they are told one after another, and whether one is refused.
 abbrev pub Answers : World → List (List ℕ) → World → List ℕ → Bool → Type 0
 Answers u [] w text refused = (w ≡ u) × (text ≡ []) × (refused ≡ false)
-Answers u (line ∷ lines) w text refused = Follows (λ v more is_refused. Answers v lines w more is_refused) u line text refused
+Answers u (line ∷ lines) w text refused =
+    Follows (λ v more is_refused. Answers v lines w more is_refused) u line text refused
 
 -- known bytes grow by a beginning of these
 abbrev pub AppendsFront : Option (List ℕ) → Option (List ℕ) → List ℕ → Type 0
 AppendsFront None new bytes = Unit {0}
 AppendsFront (Some xs) None bytes = ⊥
-AppendsFront (Some xs) (Some ys) bytes = (front : List ℕ) × (rest : List ℕ) × (bytes ≡ front ++ rest) × (ys ≡ xs ++ front)
+AppendsFront (Some xs) (Some ys) bytes =
+    (front : List ℕ) × (rest : List ℕ) × (bytes ≡ front ++ rest) × (ys ≡ xs ++ front)
 
 -- where the input failed all is told, else a beginning of it
 abbrev pub Tells : FrontFault → Option (List ℕ) → Option (List ℕ) → List ℕ → Type 0
@@ -75,17 +78,21 @@ abbrev pub AreLines : Option (List ℕ) → List (List ℕ) → Type 0
 AreLines input lines = IfSome input (λ bytes. lines_of bytes ≡ lines)
 
 abbrev pub AreFirst : Option (List ℕ) → List (List ℕ) → Type 0
-AreFirst input lines = IfSome input (λ bytes. (more : List (List ℕ)) × (lines_of bytes ≡ lines ++ more))
+AreFirst input lines =
+    IfSome input (λ bytes. (more : List (List ℕ)) × (lines_of bytes ≡ lines ++ more))
 
 module _ {S H : Type 0} (g : Ghosts S) (view : H → View) (size : H → Sizes) where
-  -- The lines were answered in turn from the world u on, and the bench is at rest in the world that they reach.
-  pub record AreAnswered (s : Held S) (k : H) (away : Image) (u : World) (lines : List (List ℕ)) (text : List ℕ) (refused : Bool) : Type 0 where
+  -- The lines were answered in turn from the world u on, and the bench is at rest in the world that
+  -- they reach.
+  pub record AreAnswered (s : Held S) (k : H) (away : Image) (u : World) (lines : List (List ℕ))
+      (text : List ℕ) (refused : Bool) : Type 0 where
     pub world : World
     pub answers : Answers u lines world text refused
     pub at : IsAt g view size s k away [] world world
 
   -- All lines were answered, and told what they are answered.
-  pub record Ends (input before now : Option (List ℕ)) (s : Held S) (k : H) (away : Image) (u : World) (refused : Bool) : Type 0 where
+  pub record Ends (input before now : Option (List ℕ)) (s : Held S) (k : H) (away : Image)
+      (u : World) (refused : Bool) : Type 0 where
     pub lines : List (List ℕ)
     pub text : List ℕ
     pub read : AreLines input lines
@@ -93,7 +100,8 @@ module _ {S H : Type 0} (g : Ghosts S) (view : H → View) (size : H → Sizes) 
     pub answered : AreAnswered s k away u lines text refused
 
   -- Some of the lines were answered, and told so.
-  pub record Breaks (input : Option (List ℕ)) (Told : List ℕ → Type 0) (s : Held S) (k : H) (away : Image) (u : World) : Type 0 where
+  pub record Breaks (input : Option (List ℕ)) (Told : List ℕ
+      → Type 0) (s : Held S) (k : H) (away : Image) (u : World) : Type 0 where
     pub lines : List (List ℕ)
     pub text : List ℕ
     pub refused : Bool
@@ -102,7 +110,8 @@ module _ {S H : Type 0} (g : Ghosts S) (view : H → View) (size : H → Sizes) 
     pub answered : AreAnswered s k away u lines text refused
 
   -- The bench failed at the command of a line, after those before it were answered.
-  pub record Stops (input : Option (List ℕ)) (Told : List ℕ → Type 0) (s : Held S) (k : H) (away : Image) (u : World) (fault : BenchFault) : Type 0 where
+  pub record Stops (input : Option (List ℕ)) (Told : List ℕ
+      → Type 0) (s : Held S) (k : H) (away : Image) (u : World) (fault : BenchFault) : Type 0 where
     pub lines : List (List ℕ)
     pub line : List ℕ
     pub key : List ℕ
@@ -119,9 +128,14 @@ module _ {S H : Type 0} (g : Ghosts S) (view : H → View) (size : H → Sizes) 
     pub disk : fault ≡ Disk → (view shelf).faults < (view k).faults
     pub readable : fault ≡ Unreadable → AreWrittenUnder key answered.at.tables → ⊥
 
-  -- what a batch owes where it ended, where the bench failed, and where the answers weren't all told
-  abbrev pub Batches : Option (List ℕ) → Option (List ℕ) → Option (List ℕ) → Held S → H → Image → World → Result BatchEnd FrontFault → Type 0
-  Batches input before now s k away u (Ok (Ended refused)) = Ends input before now s k away u refused
-  Batches input before now s k away u (Ok (Stopped fault)) = Stops input (Appends before now) s k away u fault
+  -- what a batch owes where it ended, where the bench failed, and where the answers weren't all
+  -- told
+  abbrev pub Batches : Option (List ℕ) → Option (List ℕ) → Option (List ℕ) → Held S → H → Image
+      → World → Result BatchEnd FrontFault → Type 0
+  Batches input before now s k away u (Ok (Ended refused)) =
+      Ends input before now s k away u refused
+  Batches input before now s k away u (Ok (Stopped fault)) =
+      Stops input (Appends before now) s k away u fault
   Batches input before now s k away u (Err fault) =
-      Breaks input (Tells fault before now) s k away u ⊎ ((f : BenchFault) × Stops input (AppendsFront before now) s k away u f)
+      Breaks input (Tells fault before now) s k away u
+      ⊎ ((f : BenchFault) × Stops input (AppendsFront before now) s k away u f)

@@ -31,11 +31,14 @@ Fits End = Unit {0}
 Fits (Whole n) = n ≤ 1024
 Fits Long = Unit {0}
 
--- nothing was left; or the first line was taken with its line feed, and stands in the buffer, or is longer than that
+-- nothing was left; or the first line was taken with its line feed, and stands in the buffer, or is
+-- longer than that
 abbrev pub IsLine : List ℕ → Option (List ℕ) → List ℕ → Line → Type 0
 IsLine bytes rest line End = (bytes ≡ []) × (rest ≡ Some [])
-IsLine bytes rest line (Whole n) = (0 < length bytes) × (n ≤ 1024) × (take n line ≡ line_at bytes) × (rest ≡ Some (drop_through 10 bytes))
-IsLine bytes rest line Long = (1024 < length (line_at bytes)) × (rest ≡ Some (drop_through 10 bytes))
+IsLine bytes rest line (Whole n) = (0 < length bytes) × (n ≤ 1024) × (take n line ≡ line_at bytes)
+    × (rest ≡ Some (drop_through 10 bytes))
+IsLine bytes rest line Long = (1024 < length (line_at bytes))
+    × (rest ≡ Some (drop_through 10 bytes))
 
 -- the front of the buffer is what was seen, whose bytes are counted up to 1,025
 pub record IsCopied (line : List ℕ) (count : ℕ) (seen : List ℕ) : Type 0 where

@@ -49,21 +49,25 @@ is_refused (outcome.Answered key answer) = is_refusal (answer_of answer)
 is_refused (outcome.Failed key fault) = false
 
 module _ {S H : Type 0} (g : Ghosts S) (view : H → View) (size : H → Sizes) where
-  -- a command that failed: what it may have left, that a failure of the disk was counted, and that what this program
-  -- wrote was read
-  pub record FailsAt (r s : Held S) (h k : H) (away : Image) (u : World) (key : List ℕ) (command : Command) (fault : BenchFault) : Type 0 where
+  -- a command that failed: what it may have left, that a failure of the disk was counted, and that
+  -- what this program wrote was read
+  pub record FailsAt (r s : Held S) (h k : H) (away : Image) (u : World) (key : List ℕ)
+      (command : Command) (fault : BenchFault) : Type 0 where
     pub left : LeavesRun g view size r s h k away u key command
     pub disk : fault ≡ Disk → (view h).faults < (view k).faults
-    pub readable : fault ≡ Unreadable → (at : IsAt g view size r h away [] u u) → AreWrittenUnder key at.tables → ⊥
+    pub readable : fault ≡ Unreadable → (at : IsAt g view size r h away [] u u)
+        → AreWrittenUnder key at.tables → ⊥
 
   -- what a request comes to at rest in u, from the registry r and the shelf h to s and k
   abbrev pub ComesTo : Held S → Held S → H → H → Image → World → Asked → Outcome → Type 0
   ComesTo r s h k away u asks outcome.Nothing = (asks ≡ Nothing) × (s ≡ r) × (k ≡ h)
   ComesTo r s h k away u asks (outcome.Wrong key) = (asks ≡ Wrong key.now) × (s ≡ r) × (k ≡ h)
   ComesTo r s h k away u asks (outcome.Answered key answer) =
-      (command : Command) × (asks ≡ Call key.now command) × IsRun g view size s k away u key.now command answer
+      (command : Command) × (asks ≡ Call key.now command)
+      × IsRun g view size s k away u key.now command answer
   ComesTo r s h k away u asks (outcome.Failed key fault) =
-      (command : Command) × (asks ≡ Call key.now command) × FailsAt r s h k away u key.now command fault
+      (command : Command) × (asks ≡ Call key.now command)
+      × FailsAt r s h k away u key.now command fault
 
 -- a bench that failed stays so, any other goes on
 abbrev pub progress_after : Progress → Outcome → Progress

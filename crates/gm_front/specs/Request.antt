@@ -49,7 +49,9 @@ numbered key word n = line (key ++ codes " " ++ word ++ codes " " ++ decimal n)
 -- that of a command that was done, with how far a copy is
 abbrev pub done_line : List ℕ → ℕ → Reply → List ℕ
 done_line key n Plain = numbered key (codes "ok") n
-done_line key n (Copied held total) = line (key ++ codes " ok " ++ decimal n ++ codes " copied " ++ decimal held ++ codes " of " ++ decimal total)
+done_line key n (Copied held total) =
+    line (key ++ codes " ok " ++ decimal n ++ codes " copied " ++ decimal held ++ codes " of "
+    ++ decimal total)
 
 abbrev pub refusal_line : List ℕ → ℕ → List ℕ
 refusal_line key n = numbered key (codes "refused") n

@@ -106,10 +106,11 @@ fn tell<W: Write>(alloc: Global, writer: &mut W, outcome: &Outcome<'_>) -> Resul
     }
 }
 
-/// Answers the lines of an input in turn, each asked of the bench before it is told, and told before the next is read. A
-/// line that names no command is refused without the bench; one without words isn't answered. Asks for a bench in phase
-/// Ready or Failed. `Stopped` where the bench failed at a command, whose line is told. Fails where an answer couldn't be
-/// told or the input be read: what the bench accepted stays accepted.
+/// Answers the lines of an input in turn, each asked of the bench before it is told, and told
+/// before the next is read. A line that names no command is refused without the bench; one without
+/// words isn't answered. Asks for a bench in phase Ready or Failed. `Stopped` where the bench
+/// failed at a command, whose line is told. Fails where an answer couldn't be told or the input be
+/// read: what the bench accepted stays accepted.
 pub fn batch<R: Read, W: Write, S: Alter, H: Shelf>(
     alloc: Global,
     reader: &mut R,

@@ -68,8 +68,9 @@ fn ended(count: usize) -> Line
     if count > 0 { found(count) } else { Line::End }
 }
 
-/// Takes the next line, with its line feed, into a buffer of its own limit; a longer line is taken whole too, and tells only
-/// that it is longer. The last line may lack its line feed. Fails where the reader does; what was read of a line is then gone.
+/// Takes the next line, with its line feed, into a buffer of its own limit; a longer line is taken
+/// whole too, and tells only that it is longer. The last line may lack its line feed. Fails where
+/// the reader does; what was read of a line is then gone.
 pub fn next_line<R: Read>(reader: &mut R, line: &mut [u8; 1024]) -> io::Result<Line>
     ensures line { IfOk result (λ found. IfSome (R.remaining reader.old) (λ bytes.
         IsLine bytes (R.remaining reader.new) line.new found)) }

@@ -1,4 +1,5 @@
-//! What the tests share: images, benches, lines, and batches of them. The expected values are worked out by hand.
+//! What the tests share: images, benches, lines, and batches of them. The expected values are
+//! worked out by hand.
 
 mod faults;
 mod flushes;
@@ -34,8 +35,8 @@ const DONE: BatchEnd = BatchEnd::Ended { refused: false };
 
 const REFUSED: BatchEnd = BatchEnd::Ended { refused: true };
 
-// The tests go over any store and shelf, and these have no clause, so that a proof carries neither what those in memory
-// are made of nor the state of each call.
+// The tests go over any store and shelf, and these have no clause, so that a proof carries neither
+// what those in memory are made of nor the state of each call.
 fn try_open<S: Alter + Drop, H: Shelf + Drop>(
     alloc: Global,
     store: Connection<S>,

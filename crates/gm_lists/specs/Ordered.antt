@@ -36,7 +36,8 @@ Distinct {X} key (x ∷ xs) = ((y : X) → Has xs y → key x ≢ key y) × Dist
 -- with x at its place, and nothing else of its name
 abbrev pub put : {X : Type 0} → (X → List ℕ) → X → List X → List X
 put key x [] = x ∷ []
-put key x (y ∷ ys) = if bytes_eq (key x) (key y) then x ∷ ys else if label_lt (key x) (key y) then x ∷ y ∷ ys else y ∷ put key x ys
+put key x (y ∷ ys) = if bytes_eq (key x) (key y) then x ∷ ys else if label_lt (key x) (key y) then x
+    ∷ y ∷ ys else y ∷ put key x ys
 
 -- with each of these at its place
 abbrev pub put_all : {X : Type 0} → (X → List ℕ) → List X → List X → List X

@@ -37,31 +37,43 @@ abbrev Fills : List Field → Type 0
 Fills [] = Unit {0}
 Fills (f ∷ fs) = (length f.bytes ≡ f.width) × Fills fs
 
-seam : (at w : ℕ) (front p rest : List ℕ) → length front ≡ at → length p ≡ w → take w (drop at (front ++ (p ++ rest))) ≡ p
+seam : (at w : ℕ) (front p rest : List ℕ) → length front ≡ at → length p ≡ w
+    → take w (drop at (front ++ (p ++ rest))) ≡ p
 seam at w front p rest e f = rw (← e, drop-append_seam, ← f) (take-append_seam p rest)
 
-laid : (at : ℕ) (fs : List Field) (front rest : List ℕ) → length front ≡ at → Fills fs → Laid at fs (front ++ (joined fs ++ rest))
+laid : (at : ℕ) (fs : List Field) (front rest : List ℕ) → length front ≡ at → Fills fs
+    → Laid at fs (front ++ (joined fs ++ rest))
 laid at [] front rest e fills = tt
 laid at (f ∷ fs) front rest e fills =
-    let whole : (f.bytes ++ joined fs) ++ rest ≡ f.bytes ++ (joined fs ++ rest) = append_assoc f.bytes (joined fs) rest in
-    let longer : length (front ++ f.bytes) ≡ at + f.width = length-append front f.bytes ∙ ap₂ (λ m n. m + n) e fills.0 in (
-      ap (λ l. take f.width (drop at (front ++ l))) whole ∙ seam at f.width front f.bytes (joined fs ++ rest) e fills.0,
-      subst (Laid (at + f.width) fs) (append_assoc front f.bytes (joined fs ++ rest) ∙ ap (λ l. front ++ l) (sym whole)) (laid (at + f.width) fs (front ++ f.bytes) rest longer fills.1),
+    let whole : (f.bytes ++ joined fs) ++ rest ≡ f.bytes ++ (joined fs ++ rest) =
+    append_assoc f.bytes (joined fs) rest in
+    let longer : length (front ++ f.bytes) ≡ at + f.width =
+    length-append front f.bytes ∙ ap₂ (λ m n. m + n) e fills.0 in (
+      ap (λ l. take f.width (drop at (front ++ l))) whole
+          ∙ seam at f.width front f.bytes (joined fs ++ rest) e fills.0,
+      subst (Laid (at + f.width) fs) (append_assoc front f.bytes (joined fs ++ rest)
+          ∙ ap (λ l. front ++ l) (sym whole))
+          (laid (at + f.width) fs (front ++ f.bytes) rest longer fills.1),
     )
 
 -- what lies at its place is all there is up to the end of the fields
-joined_again : (at : ℕ) (fs : List Field) (b : List ℕ) → Laid at fs b → drop at b ≡ joined fs ++ drop (at + total fs) b
+joined_again : (at : ℕ) (fs : List Field) (b : List ℕ) → Laid at fs b
+    → drop at b ≡ joined fs ++ drop (at + total fs) b
 joined_again at [] b l = ap (λ n. drop n b) (omega arith)
 joined_again at (f ∷ fs) b l =
-    let here : drop at b ≡ f.bytes ++ drop f.width (drop at b) = sym (take-append-drop f.width (drop at b)) ∙ ap (λ p. p ++ drop f.width (drop at b)) l.0 in
+    let here : drop at b ≡ f.bytes ++ drop f.width (drop at b) =
+    sym (take-append-drop f.width (drop at b)) ∙ ap (λ p. p ++ drop f.width (drop at b)) l.0 in
     let past : drop f.width (drop at b) ≡ drop (at + f.width) b = drop-drop f.width at b in
-    let more : drop (at + f.width) b ≡ joined fs ++ drop (at + f.width + total fs) b = joined_again (at + f.width) fs b l.1 in
+    let more : drop (at + f.width) b ≡ joined fs ++ drop (at + f.width + total fs) b =
+    joined_again (at + f.width) fs b l.1 in
     let same : at + f.width + total fs ≡ at + (f.width + total fs) = omega arith in
-    here ∙ ap (λ p. f.bytes ++ p) (past ∙ more ∙ ap (λ n. joined fs ++ drop n b) same) ∙ sym (append_assoc f.bytes (joined fs) _)
+    here ∙ ap (λ p. f.bytes ++ p) (past ∙ more ∙ ap (λ n. joined fs ++ drop n b) same)
+    ∙ sym (append_assoc f.bytes (joined fs) _)
 
 length-joined : (fs : List Field) → Fills fs → length (joined fs) ≡ total fs
 length-joined [] fills = refl
-length-joined (f ∷ fs) fills = length-append f.bytes (joined fs) ∙ ap₂ (λ m n. m + n) fills.0 (length-joined fs fills.1)
+length-joined (f ∷ fs) fills =
+    length-append f.bytes (joined fs) ∙ ap₂ (λ m n. m + n) fills.0 (length-joined fs fills.1)
 
 abbrev u32_of : ℕ → Field
 u32_of n = record { width = 4; bytes = u32_field n }
@@ -78,9 +90,12 @@ name_of field = record { width = 16; bytes = field }
 -- the fields of a metadata, in their order
 abbrev table : Metadata → List Field
 table m =
-    name_of magic ∷ u32_of 4 ∷ name_of (padded m.name) ∷ u32_of m.mid ∷ u32_of m.did ∷ u8_of m.all ∷ u32_of m.genid ∷ u32_of m.syncid
-    ∷ u8_of m.priority ∷ u32_of m.slice ∷ u8_of (balance_code m.balance) ∷ u64_of m.mediasize ∷ u32_of 512 ∷ u64_of m.sync_offset
-    ∷ u64_of (mirror_bits m.mflags) ∷ u64_of (disk_bits m.dflags) ∷ name_of (provider_field m.provider) ∷ u64_of m.provsize ∷ []
+    name_of magic ∷ u32_of 4 ∷ name_of (padded m.name) ∷ u32_of m.mid ∷ u32_of m.did ∷ u8_of m.all
+    ∷ u32_of m.genid ∷ u32_of m.syncid
+    ∷ u8_of m.priority ∷ u32_of m.slice ∷ u8_of (balance_code m.balance) ∷ u64_of m.mediasize
+    ∷ u32_of 512 ∷ u64_of m.sync_offset
+    ∷ u64_of (mirror_bits m.mflags) ∷ u64_of (disk_bits m.dflags)
+    ∷ name_of (provider_field m.provider) ∷ u64_of m.provsize ∷ []
 
 u32_fills : (n : ℕ) → length (u32_field n) ≡ 4
 unfolding u32_field
@@ -100,7 +115,10 @@ pub record Named (m : Metadata) : Type 0 where
   pub provider_fills : length (provider_field m.provider) ≡ 16
 
 pub named : (m : Metadata) → IsMetadata m → Named m
-named m ok = record { name_fills = length-padded m.name ok.name_ok; provider_fills = length-provider_field m.provider ok.provider_ok }
+named m ok = record {
+  name_fills = length-padded m.name ok.name_ok;
+  provider_fills = length-provider_field m.provider ok.provider_ok;
+}
 
 table_fills : (m : Metadata) → Named m → Fills (table m)
 table_fills m ok = (
@@ -131,7 +149,10 @@ table_fills m ok = (
                           u32_fills 512,
                           (
                             u64_fills m.sync_offset,
-                            (u64_fills _, (u64_fills _, (ok.provider_fills, (u64_fills m.provsize, tt)))),
+                            (
+                              u64_fills _,
+                              (u64_fills _, (ok.provider_fills, (u64_fills m.provsize, tt))),
+                            ),
                           ),
                         ),
                       ),
@@ -155,10 +176,13 @@ length-fields : (m : Metadata) → Named m → length (fields m) ≡ 119
 length-fields m ok = ap length (fields_joined m) ∙ length-joined (table m) (table_fills m ok)
 
 -- what begins with the fields and ends with their hash spells the metadata
-spells : (m : Metadata) (b : List ℕ) → length b ≡ 135 → Laid 0 (table m) b → bytes_at 119 16 b ≡ md5 (take 119 b) → Spells m b
+spells : (m : Metadata) (b : List ℕ) → length b ≡ 135 → Laid 0 (table m) b
+    → bytes_at 119 16 b ≡ md5 (take 119 b) → Spells m b
 spells m b n l h =
-    let l1 = l.1 in let l2 = l1.1 in let l3 = l2.1 in let l4 = l3.1 in let l5 = l4.1 in let l6 = l5.1 in let l7 = l6.1 in let l8 = l7.1 in
-    let l9 = l8.1 in let l10 = l9.1 in let l11 = l10.1 in let l12 = l11.1 in let l13 = l12.1 in let l14 = l13.1 in let l15 = l14.1 in
+    let l1 = l.1 in let l2 = l1.1 in let l3 = l2.1 in let l4 = l3.1 in let l5 = l4.1 in
+    let l6 = l5.1 in let l7 = l6.1 in let l8 = l7.1 in
+    let l9 = l8.1 in let l10 = l9.1 in let l11 = l10.1 in let l12 = l11.1 in let l13 = l12.1 in
+    let l14 = l13.1 in let l15 = l14.1 in
     let l16 = l15.1 in let l17 = l16.1 in
     record {
       length_is = n;
@@ -206,7 +230,16 @@ laid_where_spelled m b s = (
                     s.slice_is,
                     (
                       s.balance_is,
-                      (s.mediasize_is, (s.sector_size_is, (s.sync_offset_is, (s.mflags_is, (s.dflags_is, (s.provider_is, (s.provsize_is, tt))))))),
+                      (
+                        s.mediasize_is,
+                        (
+                          s.sector_size_is,
+                          (
+                            s.sync_offset_is,
+                            (s.mflags_is, (s.dflags_is, (s.provider_is, (s.provsize_is, tt)))),
+                          ),
+                        ),
+                      ),
                     ),
                   ),
                 ),
@@ -225,21 +258,32 @@ unfolding spelling
 spelling_spells m ok =
     let n = length-fields m ok in
     let hash = md5 (fields m) in
-    let whole : joined (table m) ++ hash ≡ fields m ++ hash = ap (λ l. l ++ hash) (sym (fields_joined m)) in
-    let at_places : Laid 0 (table m) (fields m ++ hash) = subst (Laid 0 (table m)) whole (laid 0 (table m) [] hash refl (table_fills m ok)) in
-    let front : take 119 (fields m ++ hash) ≡ fields m = rw (← n) (take-append_seam (fields m) hash) in
+    let whole : joined (table m) ++ hash ≡ fields m ++ hash =
+    ap (λ l. l ++ hash) (sym (fields_joined m)) in
+    let at_places : Laid 0 (table m) (fields m ++ hash) =
+    subst (Laid 0 (table m)) whole (laid 0 (table m) [] hash refl (table_fills m ok)) in
+    let front : take 119 (fields m ++ hash) ≡ fields m =
+    rw (← n) (take-append_seam (fields m) hash) in
     let back : drop 119 (fields m ++ hash) ≡ hash = rw (← n) (drop-append_seam (fields m) hash) in
-    let size : length (fields m ++ hash) ≡ 135 = length-append (fields m) hash ∙ ap₂ (λ a b. a + b) n (length-md5 (fields m)) in
-    spells m _ size at_places (ap (take 16) back ∙ (let e : take 16 hash ≡ hash = rw (← length-md5 (fields m)) (take-length hash) in e) ∙ ap md5 (sym front))
+    let size : length (fields m ++ hash) ≡ 135 =
+    length-append (fields m) hash ∙ ap₂ (λ a b. a + b) n (length-md5 (fields m)) in
+    spells m _ size at_places (ap (take 16) back
+    ∙ (let e : take 16 hash ≡ hash = rw (← length-md5 (fields m)) (take-length hash) in
+    e) ∙ ap md5 (sym front))
 
 -- and nothing else is
 pub spelled_once : (m : Metadata) (b : List ℕ) → Spells m b → b ≡ spelling m
 unfolding spelling
 spelled_once m b s =
-    let whole : b ≡ joined (table m) ++ drop 119 b = joined_again 0 (table m) b (laid_where_spelled m b s) in
+    let whole : b ≡ joined (table m) ++ drop 119 b =
+    joined_again 0 (table m) b (laid_where_spelled m b s) in
     let split : b ≡ take 119 b ++ drop 119 b = sym (take-append-drop 119 b) in
-    let rest : drop 119 b ≡ bytes_at 119 16 b = (let k : length (drop 119 b) ≡ 16 = length-drop 119 b ∙ ap (λ k. k - 119) s.length_is in let e : take 16 (drop 119 b) ≡ drop 119 b = rw (← k) (take-length (drop 119 b)) in sym e) in
-    let fields_are : take 119 b ≡ fields m = append_cancel_right (take 119 b) (joined (table m)) (drop 119 b) (sym split ∙ whole) ∙ sym (fields_joined m) in
+    let rest : drop 119 b ≡ bytes_at 119 16 b =
+    (let k : length (drop 119 b) ≡ 16 = length-drop 119 b ∙ ap (λ k. k - 119) s.length_is in
+    let e : take 16 (drop 119 b) ≡ drop 119 b = rw (← k) (take-length (drop 119 b)) in sym e) in
+    let fields_are : take 119 b ≡ fields m =
+    append_cancel_right (take 119 b) (joined (table m)) (drop 119 b) (sym split ∙ whole)
+    ∙ sym (fields_joined m) in
     split ∙ ap₂ (λ x y. x ++ y) fields_are (rest ∙ s.hash_is ∙ ap md5 fields_are)
 
 pub length-spelling : (m : Metadata) → Named m → length (spelling m) ≡ 135
@@ -249,14 +293,18 @@ pub encoded_is_full : (m : Metadata) → Named m → Full (encoded m) m
 unfolding encoded
 encoded_is_full m ok =
     let n = length-spelling m ok in
-    let front : take 135 (spelling m ++ replicate 377 0) ≡ spelling m = rw (← n) (take-append_seam (spelling m) (replicate 377 0)) in
-    let back : drop 135 (spelling m ++ replicate 377 0) ≡ replicate 377 0 = rw (← n) (drop-append_seam (spelling m) (replicate 377 0)) in
+    let front : take 135 (spelling m ++ replicate 377 0) ≡ spelling m =
+    rw (← n) (take-append_seam (spelling m) (replicate 377 0)) in
+    let back : drop 135 (spelling m ++ replicate 377 0) ≡ replicate 377 0 =
+    rw (← n) (drop-append_seam (spelling m) (replicate 377 0)) in
     record { bears = subst (Spells m) (sym front) (spelling_spells m ok); rest_is = back }
 
 pub full_once : (m : Metadata) (x : List ℕ) → Full x m → x ≡ encoded m
 unfolding encoded
-full_once m x f = sym (take-append-drop 135 x) ∙ ap₂ (λ a b. a ++ b) (spelled_once m _ f.bears) f.rest_is
+full_once m x f =
+    sym (take-append-drop 135 x) ∙ ap₂ (λ a b. a ++ b) (spelled_once m _ f.bears) f.rest_is
 
 pub length-encoded : (m : Metadata) → Named m → length (encoded m) ≡ 512
 unfolding encoded
-length-encoded m ok = length-append (spelling m) (replicate 377 0) ∙ ap₂ (λ a b. a + b) (length-spelling m ok) (length-replicate {A = ℕ} 377 0)
+length-encoded m ok = length-append (spelling m) (replicate 377 0)
+    ∙ ap₂ (λ a b. a + b) (length-spelling m ok) (length-replicate {A = ℕ} 377 0)

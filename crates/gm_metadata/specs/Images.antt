@@ -39,12 +39,14 @@ agree x p q (suc k) = agree x p q k && bytes_eq (x p k) (x q k)
 abbrev pub zeros : List ℕ
 zeros = replicate 512 0
 
-tells : (a b : Label) (r : Bool) → same_label a b ≡ r → ((same_label a b ≡ true) × (a ≡ b)) ⊎ ((same_label a b ≡ false) × (a ≢ b))
+tells : (a b : Label) (r : Bool) → same_label a b ≡ r
+    → ((same_label a b ≡ true) × (a ≡ b)) ⊎ ((same_label a b ≡ false) × (a ≢ b))
 tells a b true e = inl (e, (bytes_eq-Decides a b).0 e)
 tells a b false e = inr (e, not_from_Decides (same_label a b) (bytes_eq-Decides a b) e)
 
 -- the test tells whether two labels are one
-pub label_tells : (a b : Label) → ((same_label a b ≡ true) × (a ≡ b)) ⊎ ((same_label a b ≡ false) × (a ≢ b))
+pub label_tells : (a b : Label) → ((same_label a b ≡ true) × (a ≡ b))
+    ⊎ ((same_label a b ≡ false) × (a ≢ b))
 label_tells a b = tells a b (same_label a b) refl
 
 pub label_refl : (a : Label) → same_label a a ≡ true

@@ -1,4 +1,5 @@
--- What a sector says as a function: the form by which code and proofs go. The relations are in `Sector`.
+-- What a sector says as a function: the form by which code and proofs go. The relations are in
+-- `Sector`.
 use Rattle.std.specs.Prelude.{ℕ, Bool, true, not, ◌==◌, nat_lt, List, [], ◌∷◌, ◌++◌, take, replicate, Option, Some, None, Result, Ok, Err, slice_index, if◌then◌else◌}
 use Rattle.std.specs.Str.{bytes_eq}
 use Rattle.std.specs.List.{list_all}
@@ -76,9 +77,13 @@ decode_of x =
 unfoldable pub fields : Metadata → List ℕ
 fields m =
     magic ++ (u32_field 4 ++ (padded m.name ++ (u32_field m.mid ++ (u32_field m.did ++ (m.all ∷ []
-    ++ (u32_field m.genid ++ (u32_field m.syncid ++ (m.priority ∷ [] ++ (u32_field m.slice ++ (balance_code m.balance ∷ []
-    ++ (u64_field m.mediasize ++ (u32_field 512 ++ (u64_field m.sync_offset ++ (u64_field (mirror_bits m.mflags)
-    ++ (u64_field (disk_bits m.dflags) ++ (provider_field m.provider ++ u64_field m.provsize))))))))))))))))
+    ++ (u32_field m.genid
+    ++ (u32_field m.syncid
+    ++ (m.priority ∷ [] ++ (u32_field m.slice ++ (balance_code m.balance ∷ []
+    ++ (u64_field m.mediasize
+    ++ (u32_field 512 ++ (u64_field m.sync_offset ++ (u64_field (mirror_bits m.mflags)
+    ++ (u64_field (disk_bits m.dflags)
+    ++ (provider_field m.provider ++ u64_field m.provsize))))))))))))))))
 
 -- the fields and their hash
 unfoldable pub spelling : Metadata → List ℕ

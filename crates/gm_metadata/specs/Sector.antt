@@ -1,4 +1,5 @@
--- The sector of metadata, GEOM_MIRROR version 4: which bytes say what, and why a sector says nothing.
+-- The sector of metadata, GEOM_MIRROR version 4: which bytes say what, and why a sector says
+-- nothing.
 use Rattle.std.specs.Prelude.{◌≡◌, ◌≢◌, ℕ, ◌≤◌, ◌<◌, ◌^◌, ◌⊎◌, Bool, IsTrue, List, [], ◌∷◌, ◌++◌, length, take, drop, replicate, slice_index, Option, Some, None, IfSome, codes}
 use Rattle.std.specs.Str.{bytes_eq}
 use Rattle.byteorder.specs.Endian.{little_bytes, little_number}

@@ -107,7 +107,8 @@ fn provider_field(provider: &Option<Label>) -> [u8; 16]
     }
 }
 
-/// The one sector that is full with the metadata: 135 bytes of fields and hash, and zeros behind them.
+/// The one sector that is full with the metadata: 135 bytes of fields and hash, and zeros behind
+/// them.
 pub fn encode(metadata: &Metadata) -> [u8; 512]
     ensures full { Full result metadata.now }
     ensures sector { result ≡ encoded metadata.now }

@@ -14,7 +14,8 @@ use std::convert::AsStr;
 use std::fmt;
 use std::marker::Model;
 
-/// A name of 1 to 15 characters of A-Z, a-z, 0-9, `.`, `_` and `-`. In contracts a label is its text.
+/// A name of 1 to 15 characters of A-Z, a-z, 0-9, `.`, `_` and `-`. In contracts a label is its
+/// text.
 #[derive(Clone, Copy, Debug)]
 pub struct Label {
     field: [u8; 16],

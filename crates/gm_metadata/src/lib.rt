@@ -1,7 +1,9 @@
-//! The metadata sector of a mirror's component, as `g_mirror.h` lays it out: what it says, and how it is written.
+//! The metadata sector of a mirror's component, as `g_mirror.h` lays it out: what it says, and how
+//! it is written.
 //!
-//! Begin with `metadata.rt`, the record; then `encoding.rt` and `decoding.rt`, which write and read it exactly.
-//! `label.rt` has the names of mirrors and providers, and `equality.rt` compares two sectors. Nothing here takes memory.
+//! Begin with `metadata.rt`, the record; then `encoding.rt` and `decoding.rt`, which write and read
+//! it exactly. `label.rt` has the names of mirrors and providers, and `equality.rt` compares two
+//! sectors. Nothing here takes memory.
 #![tactic(auto)]
 
 mod balance;

@@ -4,8 +4,8 @@ use crate::balance::Balance;
 use crate::flags::{DiskFlags, MirrorFlags};
 use crate::label::Label;
 
-/// The metadata of a component (`struct g_mirror_metadata` of `g_mirror.h`), without what each sector has alike:
-/// the magic, the version 4, the sector size 512 and the hash.
+/// The metadata of a component (`struct g_mirror_metadata` of `g_mirror.h`), without what each
+/// sector has alike: the magic, the version 4, the sector size 512 and the hash.
 #[derive(Clone, Copy, Debug, PartialEq, Eq)]
 pub struct Metadata {
     /// The mirror's name.

@@ -30,15 +30,18 @@ use Rattle.gm_metadata.proofs.Read.{passes}
 -- a list of bytes passes the test, and what passes it is bytes
 pub are_bytes : (xs : List ℕ) → ((i : ℕ) → get_or xs i 0 < 256) → is_bytes xs ≡ true
 are_bytes [] h = refl
-are_bytes (x ∷ xs) h = and_from (nat_lt x 256) (is_bytes xs) (lt-ltb x 256 (h zero)) (are_bytes xs (λ i. h (suc i)))
+are_bytes (x ∷ xs) h =
+    and_from (nat_lt x 256) (is_bytes xs) (lt-ltb x 256 (h zero)) (are_bytes xs (λ i. h (suc i)))
 
 pub bytes_are : (xs : List ℕ) → is_bytes xs ≡ true → (i : ℕ) → slice_index xs i < 256
 bytes_are [] e i = lit< tt
 bytes_are (x ∷ xs) e zero = ltb-true x 256 (and_parts (nat_lt x 256) (is_bytes xs) e).0
 bytes_are (x ∷ xs) e (suc i) = bytes_are xs (and_parts (nat_lt x 256) (is_bytes xs) e).1 i
 
--- a provider that is taken: it is there, its last sector is bytes that decode, and it is taken under its own name
-pub record IsTaken (size : Option ℕ) (last : Option (List ℕ)) (p : List ℕ) (t : Taken) : Type 0 where
+-- a provider that is taken: it is there, its last sector is bytes that decode, and it is taken
+-- under its own name
+pub record IsTaken (size : Option ℕ) (last : Option (List ℕ)) (p : List ℕ) (t : Taken) :
+    Type 0 where
   pub sectors : ℕ
   pub sector : List ℕ
   pub size_is : size ≡ Some sectors
@@ -48,11 +51,13 @@ pub record IsTaken (size : Option ℕ) (last : Option (List ℕ)) (p : List ℕ)
   pub name : t.provider ≡ p
 
 module _ (p : List ℕ) (t : Taken) where
-  its_name : (r : Result Metadata Reason) → taken_as p r ≡ Some t → (t.provider ≡ p) × (r ≡ Ok t.metadata)
+  its_name : (r : Result Metadata Reason) → taken_as p r ≡ Some t
+      → (t.provider ≡ p) × (r ≡ Ok t.metadata)
   its_name (Ok m) e = (cc, cc)
   its_name (Err reason) e = cc
 
-  its_metadata : (q : Provider) (r : Result Metadata DecodeFault) (m : Metadata) → judged q r ≡ Ok m → r ≡ Ok m
+  its_metadata : (q : Provider) (r : Result Metadata DecodeFault) (m : Metadata) → judged q r ≡ Ok m
+      → r ≡ Ok m
   its_metadata q (Err fault) m e = cc
   its_metadata q (Ok n) m e = elim (cases_Bool (own_name q n)) [
     | inr a ↦ (let f : Err OtherName ≡ Ok m = rw a at e in cc)
@@ -62,7 +67,8 @@ module _ (p : List ℕ) (t : Taken) where
     ]
   ]
 
-  it_is : (n : Option ℕ) (last : Option (List ℕ)) → taken_with p n last ≡ Some t → IsTaken n last p t
+  it_is : (n : Option ℕ) (last : Option (List ℕ)) → taken_with p n last ≡ Some t
+      → IsTaken n last p t
   it_is None last e = cc
   it_is (Some n) None e = cc
   it_is (Some n) (Some sector) e = elim (cases_Bool (is_bytes sector)) [
@@ -71,10 +77,19 @@ module _ (p : List ℕ) (t : Taken) where
         let q : Provider = record { name = p; sectors = n; last = sector } in
         let f : taken_by q ≡ Some t = rw on at e in
         let r = its_name (verdict q) f in
-        record { sectors = n; sector = sector; size_is = refl; last_is = refl; bytes = on; decodes = its_metadata q (decode_of sector) t.metadata r.1; name = r.0 }
+        record {
+          sectors = n;
+          sector = sector;
+          size_is = refl;
+          last_is = refl;
+          bytes = on;
+          decodes = its_metadata q (decode_of sector) t.metadata r.1;
+          name = r.0;
+        }
   ]
 
-pub is_taken : (x : Seen) (p : List ℕ) (t : Taken) → taken x p ≡ Some t → IsTaken (x.size p) (x.last p) p t
+pub is_taken : (x : Seen) (p : List ℕ) (t : Taken) → taken x p ≡ Some t
+    → IsTaken (x.size p) (x.last p) p t
 is_taken x p t e = it_is p t (x.size p) (x.last p) e
 
 -- a provider is taken under its own name
@@ -91,46 +106,60 @@ pub record Fits (m : Metadata) : Type 0 where
   pub slice : m.slice < 2 ^ 32
   pub priority : m.priority < 2 ^ 8
 
-four_bytes : (a b c d : ℕ) → a < 256 → b < 256 → c < 256 → d < 256 → a + 256 * (b + 256 * (c + 256 * (d + 256 * 0))) < 2 ^ 32
+four_bytes : (a b c d : ℕ) → a < 256 → b < 256 → c < 256 → d < 256
+    → a + 256 * (b + 256 * (c + 256 * (d + 256 * 0))) < 2 ^ 32
 four_bytes a b c d f g h i = omega (arith, f, g, h, i)
 
-number_fits : (xs : List ℕ) → ((i : ℕ) → slice_index xs i < 256) → (at : ℕ) → number_at at 4 xs < 2 ^ 32
+number_fits : (xs : List ℕ) → ((i : ℕ) → slice_index xs i < 256) → (at : ℕ)
+    → number_at at 4 xs < 2 ^ 32
 number_fits xs small at =
-    let at_byte : (k : ℕ) → slice_index (drop at xs) k < 256 = λ k. rw get_or-drop (small (at + k)) in
+    let at_byte : (k : ℕ) → slice_index (drop at xs) k < 256 =
+    λ k. rw get_or-drop (small (at + k)) in
     four_bytes _ _ _ _ (at_byte 0) (at_byte 1) (at_byte 2) (at_byte 3)
 
-read_fits : (xs : List ℕ) (m : Metadata) → ((i : ℕ) → slice_index xs i < 256) → decode_of xs ≡ Ok m → Fits m
+read_fits : (xs : List ℕ) (m : Metadata) → ((i : ℕ) → slice_index xs i < 256) → decode_of xs ≡ Ok m
+    → Fits m
 read_fits xs m small e =
     let is = (passes xs m e).1 in
     record {
-      mid = subst (λ (k : ℕ). k < 2 ^ 32) (ap (λ (k : Metadata). k.mid) is) (number_fits xs small 36);
-      did = subst (λ (k : ℕ). k < 2 ^ 32) (ap (λ (k : Metadata). k.did) is) (number_fits xs small 40);
-      genid = subst (λ (k : ℕ). k < 2 ^ 32) (ap (λ (k : Metadata). k.genid) is) (number_fits xs small 45);
-      syncid = subst (λ (k : ℕ). k < 2 ^ 32) (ap (λ (k : Metadata). k.syncid) is) (number_fits xs small 49);
-      slice = subst (λ (k : ℕ). k < 2 ^ 32) (ap (λ (k : Metadata). k.slice) is) (number_fits xs small 54);
+      mid = subst (λ (k : ℕ). k < 2 ^ 32) (ap (λ (k : Metadata). k.mid) is)
+          (number_fits xs small 36);
+      did = subst (λ (k : ℕ). k < 2 ^ 32) (ap (λ (k : Metadata). k.did) is)
+          (number_fits xs small 40);
+      genid = subst (λ (k : ℕ). k < 2 ^ 32) (ap (λ (k : Metadata). k.genid) is)
+          (number_fits xs small 45);
+      syncid = subst (λ (k : ℕ). k < 2 ^ 32) (ap (λ (k : Metadata). k.syncid) is)
+          (number_fits xs small 49);
+      slice = subst (λ (k : ℕ). k < 2 ^ 32) (ap (λ (k : Metadata). k.slice) is)
+          (number_fits xs small 54);
       priority = subst (λ (k : ℕ). k < 2 ^ 8) (ap (λ (k : Metadata). k.priority) is) (small 53);
     }
 
 pub taken_fits : (x : Seen) (p : List ℕ) (t : Taken) → taken x p ≡ Some t → Fits t.metadata
-taken_fits x p t e = let is = is_taken x p t e in read_fits is.sector t.metadata (bytes_are is.sector is.bytes) is.decodes
+taken_fits x p t e = let is = is_taken x p t e in
+    read_fits is.sector t.metadata (bytes_are is.sector is.bytes) is.decodes
 
 -- ---- what is taken was told
 
-pub taken_told : (x : Seen) (p : List ℕ) (t : Taken) → taken x p ≡ Some t → told (x.last p) ≡ Some t.metadata
+pub taken_told : (x : Seen) (p : List ℕ) (t : Taken) → taken x p ≡ Some t
+    → told (x.last p) ≡ Some t.metadata
 taken_told x p t e = let is = is_taken x p t e in rw (is.last_is, is.decodes) refl
 
 -- ---- the members, and the source of them
 
 -- each member is on one of the providers
-pub found_among : (x : Seen) (ps : List (List ℕ)) (k : Member) → Has (found x ps) k → Has ps k.provider
+pub found_among : (x : Seen) (ps : List (List ℕ)) (k : Member) → Has (found x ps) k
+    → Has ps k.provider
 found_among x ps k h =
     let r = Has-map (member (genid_of x ps) (syncid_of x ps)) (all_taken x ps) k h in
     let q = Has-filter_map (taken x) ps r.0 r.1 in
-    let on : k.provider ≡ q.0 = sym (ap (λ (a : Member). a.provider) r.2) ∙ taken_name x q.0 r.0 q.2 in
+    let on : k.provider ≡ q.0 = sym (ap (λ (a : Member). a.provider) r.2)
+    ∙ taken_name x q.0 r.0 q.2 in
     subst (λ (p : List ℕ). Has ps p) (sym on) q.1
 
 -- the first of them is the one so far, or one of them
-first_among : (known : Option Member) (ks : List Member) (b : Member) → first_from known ks ≡ Some b → (known ≡ Some b) ⊎ Has ks b
+first_among : (known : Option Member) (ks : List Member) (b : Member) → first_from known ks ≡ Some b
+    → (known ≡ Some b) ⊎ Has ks b
 first_among known [] b e = inl e
 first_among known (k ∷ ks) b e =
     ⊎_elim
@@ -142,15 +171,18 @@ first_among known (k ∷ ks) b e =
     (first_among (first_of_two known k) ks b e)
 
 -- the source is the first of them
-pub where_is : (x : Seen) (ps : List (List ℕ)) (o : Option Member) (b : Member) → first_where x ps o ≡ Some b → o ≡ Some b
+pub where_is : (x : Seen) (ps : List (List ℕ)) (o : Option Member) (b : Member)
+    → first_where x ps o ≡ Some b → o ≡ Some b
 where_is x ps None b e = e
 where_is x ps (Some k) b e =
     elim (cases_Bool (list_all (is_beside x k.metadata) ps)) [
       | inl t ↦ (let f : Some k ≡ Some b = rw t at e in f)
-      | inr t ↦ (let none : Option Member = None in let f : none ≡ Some b = rw t at e in absurd (let g : ⊥ = cc in g))
+      | inr t ↦ (let none : Option Member = None in let f : none ≡ Some b = rw t at e in
+          absurd (let g : ⊥ = cc in g))
     ]
 
-pub source_found : (x : Seen) (ps : List (List ℕ)) (b : Member) → source_in x ps ≡ Some b → Has (found x ps) b
+pub source_found : (x : Seen) (ps : List (List ℕ)) (b : Member) → source_in x ps ≡ Some b
+    → Has (found x ps) b
 source_found x ps b e =
     ⊎_elim
     (λ (o : None ≡ Some b). absurd (let f : ⊥ = cc in f))
@@ -160,7 +192,8 @@ source_found x ps b e =
 -- ---- what is adoptable
 
 -- a test that is passed there is passed by what is there
-pub passes_there : {X : Type 0} (o : Option X) (test : X → Bool) → is_there_and o test ≡ true → (x : X) × (o ≡ Some x) × (test x ≡ true)
+pub passes_there : {X : Type 0} (o : Option X) (test : X → Bool) → is_there_and o test ≡ true
+    → (x : X) × (o ≡ Some x) × (test x ≡ true)
 passes_there None test e = absurd (let f : ⊥ = cc in f)
 passes_there (Some x) test e = (x, (let o : Some x ≡ Some x = cc in o), e)
 
@@ -172,18 +205,30 @@ pub record Fitting (x : Seen) (n : List ℕ) (ps : List (List ℕ)) (b : Member)
   pub like : (p : List ℕ) → Has ps p → is_like x n b.metadata p ≡ true
   pub room : (p : List ℕ) → Has ps p → has_room x b.metadata p ≡ true
 
-pub fitting : (x : Seen) (n : List ℕ) (ps : List (List ℕ)) → is_adoptable x n ps ≡ true → (b : Member) × Fitting x n ps b
+pub fitting : (x : Seen) (n : List ℕ) (ps : List (List ℕ)) → is_adoptable x n ps ≡ true
+    → (b : Member) × Fitting x n ps b
 fitting x n ps e =
     let parts = and_parts (not (has_twice ps)) _ e in
     let there = passes_there (source_in x ps) _ parts.1 in
     let b : Member = there.0 in
     let both = and_parts (is_whole b.metadata (length ps)) _ there.2 in
-    let each : (p : List ℕ) → Has ps p → (is_like x n b.metadata p ≡ true) × (has_room x b.metadata p ≡ true)
-    = λ p h. and_parts _ _ (all_has (λ q. is_like x n b.metadata q && has_room x b.metadata q) ps both.1 p h) in
-    (b, record { source = there.1; once = parts.0; whole = both.0; like = λ p h. (each p h).0; room = λ p h. (each p h).1 })
+    let each : (p : List ℕ) → Has ps p → (is_like x n b.metadata p ≡ true)
+    × (has_room x b.metadata p ≡ true)
+    = λ p h. and_parts _ _ (all_has (λ q. is_like x n b.metadata q && has_room x b.metadata q) ps
+    both.1 p h) in (
+      b,
+      record {
+        source = there.1;
+        once = parts.0;
+        whole = both.0;
+        like = λ p h. (each p h).0;
+        room = λ p h. (each p h).1;
+      },
+    )
 
 -- there is but one source
-pub fitting_source : (x : Seen) (n : List ℕ) (ps : List (List ℕ)) → is_adoptable x n ps ≡ true → (b : Member) → source_in x ps ≡ Some b → Fitting x n ps b
+pub fitting_source : (x : Seen) (n : List ℕ) (ps : List (List ℕ)) → is_adoptable x n ps ≡ true
+    → (b : Member) → source_in x ps ≡ Some b → Fitting x n ps b
 fitting_source x n ps e b is =
     let f = fitting x n ps e in
     let s : Some f.0 ≡ Some b = sym f.1.source ∙ is in
@@ -191,7 +236,8 @@ fitting_source x n ps e b is =
     subst (λ (a : Member). Fitting x n ps a) same f.1
 
 -- a provider has more sectors than the mirror has data
-pub more_sectors : (x : Seen) (m : Metadata) (p : List ℕ) → has_room x m p ≡ true → (k : ℕ) × (x.size p ≡ Some k) × (data_of m < k)
+pub more_sectors : (x : Seen) (m : Metadata) (p : List ℕ) → has_room x m p ≡ true
+    → (k : ℕ) × (x.size p ≡ Some k) × (data_of m < k)
 more_sectors x m p e =
     let there = passes_there (x.size p) (λ k. nat_lt (data_of m) k) e in
     (there.0, there.1, ltb-true (data_of m) there.0 there.2)
@@ -200,10 +246,12 @@ more_sectors x m p e =
 
 module _ (x : Seen) (n : List ℕ) (ps : List (List ℕ)) (b : Member) where
   -- each component is one of a member
-  pub adopted_from : (k : Component) → Has (adopted x n ps b) k → (a : Member) × Has (found x ps) a × (adopted_component x n b a ≡ k)
+  pub adopted_from : (k : Component) → Has (adopted x n ps b) k
+      → (a : Member) × Has (found x ps) a × (adopted_component x n b a ≡ k)
   adopted_from k h =
       ⊎_elim
-      (λ (i : Has (map (adopted_component x n b) (found x ps)) k). Has-map (adopted_component x n b) (found x ps) k i)
+      (λ (i : Has (map (adopted_component x n b) (found x ps)) k).
+      Has-map (adopted_component x n b) (found x ps) k i)
       (λ (i : ⊥). absurd i)
       (put_all_or provider (map (adopted_component x n b) (found x ps)) [] k h)
 
@@ -214,7 +262,8 @@ module _ (x : Seen) (n : List ℕ) (ps : List (List ℕ)) (b : Member) where
   pub adopted_on : (k : Component) → Has (adopted x n ps b) k → Has ps k.provider
   adopted_on k h =
       let a = adopted_from k h in
-      subst (λ (p : List ℕ). Has ps p) (ap (λ (j : Component). j.provider) a.2) (found_among x ps a.0 a.1)
+      subst (λ (p : List ℕ). Has ps p) (ap (λ (j : Component). j.provider) a.2)
+      (found_among x ps a.0 a.1)
 
   -- they stand in order
   pub Ascends-adopted : Ascends provider (adopted x n ps b)

@@ -49,7 +49,8 @@ found_mids x ps = filter_map (λ p. mid_of (told (x.last p))) ps
 -- two entries of the list tell of one did
 abbrev pub tells_did_twice : Seen → List (List ℕ) → Bool
 tells_did_twice x [] = false
-tells_did_twice x (p ∷ ps) = is_there_and (told (x.last p)) (λ m. list_any (tells_did x m.did) ps) || tells_did_twice x ps
+tells_did_twice x (p ∷ ps) =
+    is_there_and (told (x.last p)) (λ m. list_any (tells_did x m.did) ps) || tells_did_twice x ps
 
 -- ---- the mirror that the providers would be, by tasting
 
@@ -61,7 +62,8 @@ is_bytes sector = list_all (λ b. nat_lt b 256) sector
 abbrev pub taken_with : List ℕ → Option ℕ → Option (List ℕ) → Option Taken
 taken_with p None last = None
 taken_with p (Some n) None = None
-taken_with p (Some n) (Some sector) = if is_bytes sector then taken_by (record { name = p; sectors = n; last = sector }) else None
+taken_with p (Some n) (Some sector) =
+    if is_bytes sector then taken_by (record { name = p; sectors = n; last = sector }) else None
 
 abbrev pub taken : Seen → List ℕ → Option Taken
 taken x p = taken_with p (x.size p) (x.last p)
@@ -82,7 +84,8 @@ found x ps = map (member (genid_of x ps) (syncid_of x ps)) (all_taken x ps)
 
 -- a provider is taken, and tells of the mirror that m tells of
 abbrev pub is_beside : Seen → Metadata → List ℕ → Bool
-is_beside x m p = is_there_and (taken x p) (λ t. same_label t.metadata.name m.name && (t.metadata.mid == m.mid))
+is_beside x m p =
+    is_there_and (taken x p) (λ t. same_label t.metadata.name m.name && (t.metadata.mid == m.mid))
 
 -- the first of the ACTIVE members, where all providers are taken, and in one group
 abbrev pub first_where : Seen → List (List ℕ) → Option Member → Option Member
@@ -101,12 +104,15 @@ data_of m = m.mediasize / 512
 
 -- what the source says fits a mirror with so many components
 abbrev pub is_whole : Metadata → ℕ → Bool
-is_whole m count = (m.mediasize % 512 == 0 && nat_lt 0 (data_of m)) && (nat_le count m.all && nat_le m.all 16)
+is_whole m count =
+    (m.mediasize % 512 == 0 && nat_lt 0 (data_of m)) && (nat_le count m.all && nat_le m.all 16)
 
--- a provider carries the name, tells of the source's mid, genid and mediasize, and has room for the data
+-- a provider carries the name, tells of the source's mid, genid and mediasize, and has room for the
+-- data
 abbrev pub is_like : Seen → List ℕ → Metadata → List ℕ → Bool
 is_like x n m p = is_there_and (taken x p) (λ t. same_label t.metadata.name n
-    && (t.metadata.mid == m.mid && (t.metadata.genid == m.genid && t.metadata.mediasize == m.mediasize)))
+    && (t.metadata.mid == m.mid && (t.metadata.genid == m.genid && t.metadata.mediasize
+    == m.mediasize)))
 
 abbrev pub has_room : Seen → Metadata → List ℕ → Bool
 has_room x m p = is_there_and (x.size p) (λ k. nat_lt (data_of m) k)
@@ -118,11 +124,13 @@ has_twice (p ∷ ps) = list_any (λ q. same_label q p) ps || has_twice ps
 
 abbrev pub is_adoptable : Seen → List ℕ → List (List ℕ) → Bool
 is_adoptable x n ps = not (has_twice ps) && is_there_and (source_in x ps) (λ b.
-    is_whole b.metadata (length ps) && list_all (λ p. is_like x n b.metadata p && has_room x b.metadata p) ps)
+    is_whole b.metadata (length ps) && list_all
+    (λ p. is_like x n b.metadata p && has_room x b.metadata p) ps)
 
 -- ---- what is registered of it
 
--- the mirror: as the source says, which as an ACTIVE member has the genid and the syncid of the group
+-- the mirror: as the source says, which as an ACTIVE member has the genid and the syncid of the
+-- group
 abbrev pub adopted_mirror : List ℕ → Metadata → Mirror
 adopted_mirror n m = record {
   name = n;
@@ -136,22 +144,26 @@ adopted_mirror n m = record {
   flags = m.mflags;
 }
 
--- The offset of a copy is kept, in sectors, where it is a sector's below the end of the data, the member has the syncid
--- of the source b, and its data up to there are the source's.
+-- The offset of a copy is kept, in sectors, where it is a sector's below the end of the data, the
+-- member has the syncid of the source b, and its data up to there are the source's.
 abbrev pub is_borne_out : Seen → Member → Member → Bool
 is_borne_out x b k = (k.metadata.syncid == b.metadata.syncid && k.metadata.sync_offset % 512 == 0)
-    && (nat_lt k.metadata.sync_offset b.metadata.mediasize && x.equal b.provider k.provider (k.metadata.sync_offset / 512))
+    && (nat_lt k.metadata.sync_offset b.metadata.mediasize && x.equal b.provider k.provider
+    (k.metadata.sync_offset / 512))
 
 abbrev pub kept_offset : Seen → Member → Member → ℕ
 kept_offset x b k = if is_borne_out x b k then k.metadata.sync_offset / 512 else 0
 
--- how the data of a member stand: an ACTIVE one is taken at its word where its data are the source's
+-- how the data of a member stand: an ACTIVE one is taken at its word where its data are the
+-- source's
 abbrev pub adopted_disk : Seen → Member → Member → MemberState → Disk
 adopted_disk x b k tasted.Inactive = Inactive
-adopted_disk x b k tasted.Active = if x.equal b.provider k.provider (data_of b.metadata) then InSync else Copying false 0
+adopted_disk x b k tasted.Active =
+    if x.equal b.provider k.provider (data_of b.metadata) then InSync else Copying false 0
 adopted_disk x b k tasted.Broken = Copying k.metadata.dflags.force_sync (kept_offset x b k)
 adopted_disk x b k (tasted.Stale offset) = Copying k.metadata.dflags.force_sync (kept_offset x b k)
-adopted_disk x b k (tasted.Synchronizing offset) = Copying k.metadata.dflags.force_sync (kept_offset x b k)
+adopted_disk x b k (tasted.Synchronizing offset) =
+    Copying k.metadata.dflags.force_sync (kept_offset x b k)
 
 -- an INACTIVE one keeps its syncid
 abbrev pub adopted_syncid : Member → Member → MemberState → ℕ
@@ -161,7 +173,8 @@ adopted_syncid b k tasted.Broken = b.metadata.syncid
 adopted_syncid b k (tasted.Stale offset) = b.metadata.syncid
 adopted_syncid b k (tasted.Synchronizing offset) = b.metadata.syncid
 
--- a component: it keeps its number, its priority and whether its name was hardcoded, and has its provider's size
+-- a component: it keeps its number, its priority and whether its name was hardcoded, and has its
+-- provider's size
 abbrev pub adopted_component : Seen → List ℕ → Member → Member → Component
 adopted_component x n b k = record {
   provider = k.provider;

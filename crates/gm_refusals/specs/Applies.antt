@@ -121,7 +121,9 @@ awaited s c = filter (λ k. is_awaited c k) (members_named s c)
 
 -- none of the options is given
 abbrev pub is_empty : Settings → Bool
-is_empty s = is_none s.balance && is_none s.slice && is_none s.autosync && is_none s.failsync && is_none s.hardcode && is_none s.preference
+is_empty s =
+    is_none s.balance && is_none s.slice && is_none s.autosync && is_none s.failsync && is_none
+    s.hardcode && is_none s.preference
 
 -- a component of a mirror is SYNCHRONIZING
 abbrev pub is_synchronizing : ComponentState → Bool
@@ -142,21 +144,36 @@ abbrev pub applies : Records → Seen → Command → Refusal → Bool
 applies s x c NoMirror = is_none (mirror_named s c)
 applies s x c NameTaken = is_some (mirror_named s c)
 applies s x c MidTaken = list_any (takes_mid x c) s.mirrors
-applies s x c Absent = list_any (λ p. is_none (x.size p)) (looked_at c) || list_any (λ k. not (has_size (x.size k.provider) k.sectors)) (awaited s c)
+applies s x c Absent =
+    list_any (λ p. is_none (x.size p)) (looked_at c) || list_any
+    (λ k. not (has_size (x.size k.provider) k.sectors)) (awaited s c)
 applies s x c ProviderTaken = list_any (λ p. is_some (component_of s p)) (providers_of c)
 applies s x c CarriesMetadata = list_any (λ p. is_bearing x p) (looked_at c)
-applies s x c TooSmall = is_there_and (mirror_named s c) (λ m. list_any (λ p. is_there_and (x.size p) (λ n. nat_lt n (m.data_sectors + 1))) (looked_at c))
-applies s x c NotMember = has_twice (providers_of c) || list_any (λ p. not (list_any (λ k. same_label k.provider p) (members_named s c))) (providers_of c)
+applies s x c TooSmall =
+    is_there_and (mirror_named s c)
+    (λ m. list_any (λ p. is_there_and (x.size p) (λ n. nat_lt n (m.data_sectors + 1)))
+    (looked_at c))
+applies s x c NotMember =
+    has_twice (providers_of c) || list_any
+    (λ p. not (list_any (λ k. same_label k.provider p) (members_named s c))) (providers_of c)
 applies s x c DidTaken = list_any (has_did c) (members_named s c) || finds_did_twice x c
 applies s x c Full = is_there_and (mirror_named s c) (λ m. m.all == 16) || names_too_many c
 applies s x c TooManyMirrors = length s.mirrors == 64
-applies s x c SomeLost = is_there_and (mirror_named s c) (λ m. nat_lt (length (members_named s c)) m.all)
-applies s x c LastActive = list_all (is_on_any (providers_of c)) (filter (λ k. is_active k.disk) (members_named s c))
-applies s x c AlreadyInactive = list_any (λ k. is_on_any (providers_of c) k && is_inactive k.disk) (members_named s c)
-applies s x c NotInactive = list_any (λ k. is_on_any (providers_of c) k && not (is_inactive k.disk)) (members_named s c)
+applies s x c SomeLost =
+    is_there_and (mirror_named s c) (λ m. nat_lt (length (members_named s c)) m.all)
+applies s x c LastActive =
+    list_all (is_on_any (providers_of c)) (filter (λ k. is_active k.disk) (members_named s c))
+applies s x c AlreadyInactive =
+    list_any (λ k. is_on_any (providers_of c) k && is_inactive k.disk) (members_named s c)
+applies s x c NotInactive =
+    list_any (λ k. is_on_any (providers_of c) k && not (is_inactive k.disk)) (members_named s c)
 applies s x c NoneLost = is_there_and (mirror_named s c) (λ m. length (members_named s c) == m.all)
-applies s x c Inactive = list_any (λ k. is_on_any (providers_of c) k && is_inactive k.disk) (members_named s c)
-applies s x c NotSynchronizing = is_there_and (mirror_named s c) (λ m. list_any (λ k. is_on_any (providers_of c) k && not (is_synchronizing (state_by m.flags k.disk))) (members_named s c))
+applies s x c Inactive =
+    list_any (λ k. is_on_any (providers_of c) k && is_inactive k.disk) (members_named s c)
+applies s x c NotSynchronizing =
+    is_there_and (mirror_named s c)
+    (λ m. list_any (λ k. is_on_any (providers_of c) k && not
+    (is_synchronizing (state_by m.flags k.disk))) (members_named s c))
 applies s x c LastSyncid = is_there_and (mirror_named s c) (λ m. m.syncid == 4294967295)
 applies s x c LastGenid = is_there_and (mirror_named s c) (λ m. m.genid == 4294967295)
 applies s x c NothingGiven = gives_nothing c

@@ -51,8 +51,8 @@ pub record IsPartOf (part : Records) (c : Command) (s : Records) : Type 0 where
   pub mids : List ℕ
   pub is : part ≡ part_of s c mids
 
--- The part serves to decide on the command, where this is seen: it has each mirror whose mid is found on images to be
--- adopted.
+-- The part serves to decide on the command, where this is seen: it has each mirror whose mid is
+-- found on images to be adopted.
 pub record IsPartToDecide (part : Records) (x : Seen) (c : Command) (s : Records) : Type 0 where
   pub of : IsPartOf part c s
   pub found : (m : Mirror) → Has s.mirrors m → takes_mid x c m ≡ true → Has part.mirrors m

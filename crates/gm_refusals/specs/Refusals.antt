@@ -43,10 +43,13 @@ number_of_call (ByRules r) = number_of r
 
 -- the refusals that each command may meet
 abbrev pub own : Command → List Refusal
-own (Label new) = NameTaken ∷ MidTaken ∷ Absent ∷ ProviderTaken ∷ CarriesMetadata ∷ TooManyMirrors ∷ WrongSize ∷ []
-own (Insert new) = NoMirror ∷ Absent ∷ ProviderTaken ∷ CarriesMetadata ∷ TooSmall ∷ DidTaken ∷ Full ∷ SomeLost ∷ WrongSize ∷ []
+own (Label new) = NameTaken ∷ MidTaken ∷ Absent ∷ ProviderTaken ∷ CarriesMetadata ∷ TooManyMirrors
+    ∷ WrongSize ∷ []
+own (Insert new) = NoMirror ∷ Absent ∷ ProviderTaken ∷ CarriesMetadata ∷ TooSmall ∷ DidTaken ∷ Full
+    ∷ SomeLost ∷ WrongSize ∷ []
 own (Remove n p) = NoMirror ∷ Absent ∷ NotMember ∷ SomeLost ∷ LastActive ∷ []
-own (Deactivate n p) = NoMirror ∷ Absent ∷ NotMember ∷ LastActive ∷ AlreadyInactive ∷ LastSyncid ∷ []
+own (Deactivate n p) = NoMirror ∷ Absent ∷ NotMember ∷ LastActive ∷ AlreadyInactive ∷ LastSyncid
+    ∷ []
 own (Activate n p) = NoMirror ∷ Absent ∷ NotMember ∷ NotInactive ∷ []
 own (Forget n) = NoMirror ∷ Absent ∷ NoneLost ∷ []
 own (Rebuild n p) = NoMirror ∷ Absent ∷ NotMember ∷ LastActive ∷ Inactive ∷ []
@@ -55,4 +58,5 @@ own (Clear p) = Absent ∷ ProviderTaken ∷ WrongSize ∷ NoMetadata ∷ []
 own (Destroy n) = NoMirror ∷ Absent ∷ []
 own (Lost n ps) = NoMirror ∷ Absent ∷ NotMember ∷ LastActive ∷ LastGenid ∷ []
 own (Advance n p) = NoMirror ∷ Absent ∷ NotMember ∷ Inactive ∷ NotSynchronizing ∷ []
-own (Adopt n ps) = NameTaken ∷ MidTaken ∷ Absent ∷ ProviderTaken ∷ DidTaken ∷ Full ∷ TooManyMirrors ∷ NotAdoptable ∷ WrongSize ∷ []
+own (Adopt n ps) = NameTaken ∷ MidTaken ∷ Absent ∷ ProviderTaken ∷ DidTaken ∷ Full ∷ TooManyMirrors
+    ∷ NotAdoptable ∷ WrongSize ∷ []

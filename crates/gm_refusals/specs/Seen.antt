@@ -3,8 +3,8 @@ use Rattle.std.specs.Prelude.{ℕ, Bool, false, ◌==◌, nat_le, List, Option, 
 use Rattle.gm_refusals.specs.declared.facts.Fact.{Fact}
 use Rattle.gm_refusals.specs.Facts.{size_in, last_in, last_carries, equals_in}
 
--- of each provider that is there its size and its last sector, and whether so many first sectors of a source and of it
--- are equal
+-- of each provider that is there its size and its last sector, and whether so many first sectors of
+-- a source and of it are equal
 pub record Seen : Type 0 where
   pub size : List ℕ → Option ℕ
   pub last : List ℕ → Option (List ℕ)
@@ -12,7 +12,11 @@ pub record Seen : Type 0 where
 
 -- what facts say; they count equal sectors for one source alone
 abbrev pub seen_in : List Fact → Seen
-seen_in facts = record { size = size_in facts; last = last_in facts; equal = λ source p k. nat_le k (equals_in facts p) }
+seen_in facts = record {
+  size = size_in facts;
+  last = last_in facts;
+  equal = λ source p k. nat_le k (equals_in facts p);
+}
 
 -- its last sector carries metadata
 abbrev pub is_bearing : Seen → List ℕ → Bool

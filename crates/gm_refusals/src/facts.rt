@@ -6,21 +6,21 @@ ghost use Rattle.gm_refusals.specs.Facts.{fact_of, size_in, last_in, last_carrie
 use gm_metadata::{Label, carries_metadata};
 use std::marker::Model;
 
-/// A provider that is on the shelf: how many sectors it has, and the last of them. A provider without sectors has zeros
-/// for its last one.
+/// A provider that is on the shelf: how many sectors it has, and the last of them. A provider
+/// without sectors has zeros for its last one.
 #[derive(Clone, Copy, Debug)]
 pub struct Fact {
     pub provider: Label,
     pub sectors: u64,
     pub last: [u8; 512],
-    /// How many of its first sectors equal those of the source that a mirror found on images takes its
-    /// data from, counted up to the data and both lengths; 0 where that isn't asked.
+    /// How many of its first sectors equal those of the source that a mirror found on images takes
+    /// its data from, counted up to the data and both lengths; 0 where that isn't asked.
     pub equal: u64,
 }
 
-/// What the shelf says of the providers that a command needs: those that it looks at, and the components of its mirror
-/// that it waits for.
-/// A provider that is absent has no entry. In contracts these are the entries.
+/// What the shelf says of the providers that a command needs: those that it looks at, and the
+/// components of its mirror that it waits for. A provider that is absent has no entry. In contracts
+/// these are the entries.
 #[derive(Debug, Drop)]
 pub struct Facts {
     entries: Vec<Fact>,

@@ -1,9 +1,11 @@
-//! Why a command is refused: the least of the refusals that apply to it, by the records and what the shelf says.
+//! Why a command is refused: the least of the refusals that apply to it, by the records and what
+//! the shelf says.
 //!
-//! Begin with `refusals.rt`, the refusals and their numbers, and `specs/Applies.antt`, when each applies; `facts.rt` has
-//! what is known of providers. `refusal_tests.rt` says what a command names, and has a test for each refusal;
-//! `found_mirror.rt` says whether a mirror that is found on images can be adopted. `needed_providers.rt` says which
-//! providers a command has to know of, and `asked_mirrors.rt` which mirrors.
+//! Begin with `refusals.rt`, the refusals and their numbers, and `specs/Applies.antt`, when each
+//! applies; `facts.rt` has what is known of providers. `refusal_tests.rt` says what a command
+//! names, and has a test for each refusal; `found_mirror.rt` says whether a mirror that is found on
+//! images can be adopted. `needed_providers.rt` says which providers a command has to know of, and
+//! `asked_mirrors.rt` which mirrors.
 #![tactic(auto)]
 
 mod asked_mirrors;

@@ -320,7 +320,8 @@ fn any_not_synchronizing(
     providers: &[Label],
 ) -> bool
     ensures { result ≡ list_any
-        (λ k. is_on_any providers.now k && not (is_synchronizing (state_by mirror.now.flags k.disk)))
+        (λ k. is_on_any providers.now k
+        && not (is_synchronizing (state_by mirror.now.flags k.disk)))
         (filter (λ k. is_member_of name k) components.now) }
 {
     components.iter().filter(|k| is_member_of(name, k)).any(|k| is_on_any(providers, k)

@@ -5,7 +5,8 @@ ghost use Rattle.gm_refusals.specs.Refusals.{number_of, number_of_call, own};
 
 use gm_commands::Command;
 
-/// Why a command is refused, in the order of the numbers. Where several apply, the least number is answered.
+/// Why a command is refused, in the order of the numbers. Where several apply, the least number is
+/// answered.
 #[derive(Clone, Copy, Debug, PartialEq, Eq)]
 pub enum Refusal {
     /// No mirror has this name.
@@ -14,8 +15,8 @@ pub enum Refusal {
     NameTaken,
     /// A mirror has this mid.
     MidTaken,
-    /// The named provider isn't on the shelf, or a component of the named mirror isn't there with its size; lost ones
-    /// needn't be.
+    /// The named provider isn't on the shelf, or a component of the named mirror isn't there with
+    /// its size; lost ones needn't be.
     Absent,
     /// The provider is a component of some mirror.
     ProviderTaken,
@@ -93,7 +94,8 @@ impl Refusal {
     }
 }
 
-/// Why a call, a command under a key, is refused. Where several apply, the least number is answered.
+/// Why a call, a command under a key, is refused. Where several apply, the least number is
+/// answered.
 #[derive(Clone, Copy, Debug, PartialEq, Eq)]
 pub enum CallRefusal {
     /// The key isn't 1 to 32 characters of A-Z, a-z, 0-9, `.`, `_` and `-`.

@@ -12,25 +12,37 @@ use Rattle.gm_registry.proofs.ReadsInTurn.{tables_stay, tables_refused, nothing_
 
 -- while a store is open, a crash leaves its last commit and nothing else
 abbrev pub IsSettling : {S : Type 0} → Ghosts S → Type 0
-IsSettling {S} g = (s : S) (db : Trees) → IsTrue (g.view s).is_open → g.recovers s db → db ≡ (g.view s).committed
+IsSettling {S} g = (s : S) (db : Trees) → IsTrue (g.view s).is_open → g.recovers s db
+    → db ≡ (g.view s).committed
 
 module _ {S : Type 0} (g : Ghosts S) (settling : IsSettling g) where
   pub saved : (r : Held S) (t : Tables) → of.HasTables g r t → of.HasSaved g r t
   saved r t has = record {
     tables = has;
-    crash = λ db left. subst (λ d. Holds d t) (sym (settling r.store db has.is_open left)) has.tables;
+    crash = λ db left. subst (λ d. Holds d t) (sym (settling r.store db has.is_open left))
+        has.tables;
   }
 
   -- a call that reads, from what is known of it at Ok and at Err
-  pub reads : {X E : Type 0} (old new : Held S) (result : Result X E) → (of.DiskKept g new → OnOk result ((t : Tables) → of.HasTables g old t → of.HasTables g new t)) → of.Refuses g old new result
-      → ((t : Tables) → of.HasTables g old t → of.LeavesNothingNew g old new) → of.WasClean g old new → of.Reads g old new
-  reads old new (Ok x) done refused left clean = record { kept = λ kept t was is. saved new t (done kept t was); left = left; clean = clean }
-  reads old new (Err e) done refused left clean = record { kept = λ kept t was is. saved new t (refused kept t was is); left = left; clean = clean }
+  pub reads : {X E : Type 0} (old new : Held S) (result : Result X E)
+      → (of.DiskKept g new → OnOk result ((t : Tables) → of.HasTables g old t
+      → of.HasTables g new t)) → of.Refuses g old new result
+      → ((t : Tables) → of.HasTables g old t → of.LeavesNothingNew g old new)
+      → of.WasClean g old new → of.Reads g old new
+  reads old new (Ok x) done refused left clean =
+      record { kept = λ kept t was is. saved new t (done kept t was); left = left; clean = clean }
+  reads old new (Err e) done refused left clean =
+      record {
+        kept = λ kept t was is. saved new t (refused kept t was is);
+        left = left;
+        clean = clean;
+      }
 
   -- a read of our tables that was answered, or failed
   pub failed_reads : (old new : Held S) → of.HasFailed g old new → of.Reads g old new
   failed_reads old new failed = record {
-    kept = λ kept t was is. saved new t (tables_refused (state g old) (state g new) t failed kept was is);
+    kept = λ kept t was is. saved new t
+        (tables_refused (state g old) (state g new) t failed kept was is);
     left = λ t was. nothing_new (state g old) (state g new) t failed.left was;
     clean = failed.left.clean;
   }
@@ -43,32 +55,56 @@ module _ {S : Type 0} (g : Ghosts S) (settling : IsSettling g) where
   }
 
   -- a write, from what is known of it
-  pub writes : {X E : Type 0} (old new : Held S) (result : Result X E) (after : Tables → Tables) → (of.DiskKept g new → OnOk result ((t : Tables) → of.HasTables g old t → of.HasTables g new (after t)))
-      → of.Refuses g old new result → ((t : Tables) → of.HasTables g old t → of.MayLeave g old new (after t)) → of.WasClean g old new → of.Writes g old new result after
-  writes old new (Ok x) after done refused left clean = record { done = λ kept t was. saved new (after t) (done kept t was); refused = λ kept. tt; left = left; clean = clean }
-  writes old new (Err e) after done refused left clean = record { done = λ kept. tt; refused = λ kept t was is. saved new t (refused kept t was is); left = left; clean = clean }
+  pub writes : {X E : Type 0} (old new : Held S) (result : Result X E) (after : Tables → Tables)
+      → (of.DiskKept g new → OnOk result ((t : Tables) → of.HasTables g old t
+      → of.HasTables g new (after t)))
+      → of.Refuses g old new result → ((t : Tables) → of.HasTables g old t
+      → of.MayLeave g old new (after t)) → of.WasClean g old new
+      → of.Writes g old new result after
+  writes old new (Ok x) after done refused left clean =
+      record {
+        done = λ kept t was. saved new (after t) (done kept t was);
+        refused = λ kept. tt;
+        left = left;
+        clean = clean;
+      }
+  writes old new (Err e) after done refused left clean =
+      record {
+        done = λ kept. tt;
+        refused = λ kept t was is. saved new t (refused kept t was is);
+        left = left;
+        clean = clean;
+      }
 
 -- an error that is passed on is no Ok
-pub never_ok : {X E : Type 0} (result : Result X E) (P : E → Type 0) (Q : Type 0) → IsErrAnd result P → OnOk result Q
+pub never_ok : {X E : Type 0} (result : Result X E) (P : E → Type 0) (Q : Type 0)
+    → IsErrAnd result P → OnOk result Q
 never_ok (Ok x) P Q none = absurd none
 never_ok (Err e) P Q it = tt
 
 -- a write that was refused before it wrote
-pub unwritten : {S X E : Type 0} (g : Ghosts S) (old new : Held S) (result : Result X E) (P : E → Type 0) (after : Tables → Tables) → IsErrAnd result P → of.Reads g old new → of.Writes g old new result after
+pub unwritten : {S X E : Type 0} (g : Ghosts S) (old new : Held S) (result : Result X E) (P : E
+    → Type 0) (after : Tables → Tables) → IsErrAnd result P → of.Reads g old new
+    → of.Writes g old new result after
 unwritten g old new (Ok x) P after none read = absurd none
 unwritten g old new (Err e) P after err read = record {
   done = λ kept. tt;
   refused = λ kept t was is. read.kept kept t was is;
-  left = λ t was. survives_weaker (state g old) (state g new) _ _ (λ _ db none. absurd none) (read.left t was);
+  left = λ t was. survives_weaker (state g old) (state g new) _ _ (λ _ db none. absurd none)
+      (read.left t was);
   clean = read.clean;
 }
 
 -- a read, and then a write that asks for what the read found
-then_left : {S : Type 0} (g : Ghosts S) (a b c : Held S) (t : Tables) (N : Type 0) (after : Tables) → of.Reads g a b → (of.DiskKept g b → of.HasTables g a t → N × of.HasTables g b t)
-    → (of.HasTables g b t → N → of.MayLeave g b c after) → Survives (state g b) (state g c) (λ _. Unit {0}) → of.HasTables g a t → of.MayLeave g a c after
+then_left : {S : Type 0} (g : Ghosts S) (a b c : Held S) (t : Tables) (N : Type 0) (after : Tables)
+    → of.Reads g a b → (of.DiskKept g b → of.HasTables g a t → N × of.HasTables g b t)
+    → (of.HasTables g b t → N → of.MayLeave g b c after)
+    → Survives (state g b) (state g c) (λ _. Unit {0}) → of.HasTables g a t
+    → of.MayLeave g a c after
 then_left g a b c t N after read found left survives was =
     let first = read.left t was in
-    let all = survives_then (state g a) (state g b) (state g c) (λ _. ⊥) (λ _. Unit {0}) (λ _. Unit {0}) (λ _ db none. absurd none) (λ clean db is. tt) first survives in
+    let all = survives_then (state g a) (state g b) (state g c) (λ _. ⊥) (λ _. Unit {0})
+    (λ _. Unit {0}) (λ _ db none. absurd none) (λ clean db is. tt) first survives in
     record {
       clean = all.clean;
       shield = all.shield;
@@ -79,25 +115,36 @@ then_left g a b c t N after read found left survives was =
           let mid : of.DiskKept g b = omega (arith, survives.clean) in
           let it = found mid was in
           elim ((left it.1 it.0).crash kept db there) [
-            | inl before ↦ elim (first.crash mid db before) [ inl at_first ↦ inl at_first | inr none ↦ absurd none ]
+            | inl before ↦ elim (first.crash mid db before) [
+              | inl at_first ↦ inl at_first
+              | inr none
+                  ↦ absurd none
+            ]
             | inr new ↦ inr new
           ];
     }
 
-module _ {S : Type 0} (g : Ghosts S) (settling : IsSettling g) (a b c : Held S) (N : Tables → Type 0) (after : Tables → Tables) (read : of.Reads g a b)
+module _ {S : Type 0} (g : Ghosts S) (settling : IsSettling g) (a b c : Held S) (N : Tables
+    → Type 0) (after : Tables → Tables) (read : of.Reads g a b)
     (found : of.DiskKept g b → (t : Tables) → of.HasTables g a t → N t × of.HasTables g b t)
-    (left : (t : Tables) → of.HasTables g b t → N t → of.MayLeave g b c (after t)) (survives : Survives (state g b) (state g c) (λ _. Unit {0})) where
+    (left : (t : Tables) → of.HasTables g b t → N t
+    → of.MayLeave g b c (after t)) (survives :
+    Survives (state g b) (state g c) (λ _. Unit {0})) where
   clean_then : of.WasClean g a c
   clean_then = omega (arith, read.clean, survives.clean)
 
-  pub then_writes : {X E : Type 0} (result : Result X E) → (of.DiskKept g c → OnOk result ((t : Tables) → of.HasTables g b t → N t → of.HasTables g c (after t)))
-      → (of.DiskKept g c → OnErr result ((t : Tables) → of.HasTables g b t → N t → of.IsOpen g c → of.HasTables g c t)) → of.Writes g a c result after
+  pub then_writes : {X E : Type 0} (result : Result X E)
+      → (of.DiskKept g c → OnOk result ((t : Tables) → of.HasTables g b t → N t
+      → of.HasTables g c (after t)))
+      → (of.DiskKept g c → OnErr result ((t : Tables) → of.HasTables g b t → N t → of.IsOpen g c
+      → of.HasTables g c t)) → of.Writes g a c result after
   then_writes (Ok x) done refused = record {
     done = λ kept t was.
         let it = found (omega (arith, survives.clean)) t was in
         saved g settling c (after t) (done kept t it.1 it.0);
     refused = λ kept. tt;
-    left = λ t was. then_left g a b c t (N t) (after t) read (λ kept is. found kept t is) (left t) survives was;
+    left = λ t was. then_left g a b c t (N t) (after t) read (λ kept is. found kept t is)
+        (left t) survives was;
     clean = clean_then;
   }
   then_writes (Err e) done refused = record {
@@ -105,6 +152,7 @@ module _ {S : Type 0} (g : Ghosts S) (settling : IsSettling g) (a b c : Held S) 
     refused = λ kept t was is.
         let it = found (omega (arith, survives.clean)) t was in
         saved g settling c t (refused kept t it.1 it.0 is);
-    left = λ t was. then_left g a b c t (N t) (after t) read (λ kept is. found kept t is) (left t) survives was;
+    left = λ t was. then_left g a b c t (N t) (after t) read (λ kept is. found kept t is)
+        (left t) survives was;
     clean = clean_then;
   }

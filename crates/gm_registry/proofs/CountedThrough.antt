@@ -19,17 +19,21 @@ use Rattle.gm_registry.proofs.TextMeanings.{settle}
 use Rattle.gm_registry.proofs.ChangedTables.{settles_all}
 
 -- one command more, under the next number
-more_numbered : (c : CommandRow) (commands : List CommandRow) → c.seq ≡ length commands + 1 → AreNumbered commands → AreNumbered (c ∷ commands)
+more_numbered : (c : CommandRow) (commands : List CommandRow) → c.seq ≡ length commands + 1
+    → AreNumbered commands → AreNumbered (c ∷ commands)
 more_numbered c commands next numbered =
     let is : suc (length commands) ≡ c.seq = omega (arith, next) in
-    subst (λ n. IsPermutation (n ∷ numbers_of (length commands)) (c.seq ∷ map (λ (d : CommandRow). d.seq) commands)) (sym is)
-    (IsPermutation-cons c.seq (numbers_of (length commands)) (map (λ (d : CommandRow). d.seq) commands) numbered)
+    subst (λ n. IsPermutation (n ∷ numbers_of (length commands))
+    (c.seq ∷ map (λ (d : CommandRow). d.seq) commands)) (sym is)
+    (IsPermutation-cons c.seq (numbers_of (length commands))
+    (map (λ (d : CommandRow). d.seq) commands) numbered)
 
 puts_keep : (ks : List Component) (t : Tables) → (with_components ks t).commands ≡ t.commands
 puts_keep [] t = refl
 puts_keep (k ∷ ks) t = puts_keep ks (with_component (component_row k) t)
 
-drops_keep : (names : List (List ℕ)) (t : Tables) → (without_components names t).commands ≡ t.commands
+drops_keep : (names : List (List ℕ)) (t : Tables)
+    → (without_components names t).commands ≡ t.commands
 drops_keep [] t = refl
 drops_keep (name ∷ names) t = drops_keep names (without_component name t)
 
@@ -37,31 +41,45 @@ put_keeps : (m : Option Mirror) (t : Tables) → (with_some_mirror m t).commands
 put_keeps None t = refl
 put_keeps (Some m) t = refl
 
-drop_keeps : (name : Option (List ℕ)) (t : Tables) → (without_some_mirror name t).commands ≡ t.commands
+drop_keeps : (name : Option (List ℕ)) (t : Tables)
+    → (without_some_mirror name t).commands ≡ t.commands
 drop_keeps None t = refl
 drop_keeps (Some name) t = refl
 
 -- records leave the commands
 records_keep : (ch : Changed) (t : Tables) → (with_records ch t).commands ≡ t.commands
 records_keep ch t =
-    puts_keep ch.components _ ∙ (put_keeps ch.mirror _ ∙ (drop_keeps ch.gone_mirror _ ∙ drops_keep ch.gone_components t))
+    puts_keep ch.components _
+    ∙ (put_keeps ch.mirror _ ∙ (drop_keeps ch.gone_mirror _ ∙ drops_keep ch.gone_components t))
 
 -- the numbers go on without a gap
-pub change_numbered : (ch : Changed) (key : List ℕ) (n : ℕ) (words : List ℕ) (t : Tables) → n ≡ count_of t + 1 → AreNumbered t.commands → AreNumbered (with_change ch key n words t).commands
+pub change_numbered : (ch : Changed) (key : List ℕ) (n : ℕ) (words : List ℕ) (t : Tables)
+    → n ≡ count_of t + 1 → AreNumbered t.commands
+    → AreNumbered (with_change ch key n words t).commands
 change_numbered ch key n words t next numbered =
     let same = records_keep ch t in
-    more_numbered (command_row key n words ch.reply) (with_records ch t).commands (next ∙ ap (λ (l : List CommandRow). length l + 1) (sym same)) (subst AreNumbered (sym same) numbered)
+    more_numbered (command_row key n words ch.reply) (with_records ch t).commands
+    (next ∙ ap (λ (l : List CommandRow). length l + 1) (sym same))
+    (subst AreNumbered (sym same) numbered)
 
 -- at the beginning of a transaction the rows are those of the tables
-pub begun_rows : {S : Type 0} (g : store.Ghosts S) (old : Held S) (t : Tables) → SeesTables (state g old) t → IsInside (state g old).committed (state g (record old { in_transaction = true })) t
+pub begun_rows : {S : Type 0} (g : store.Ghosts S) (old : Held S) (t : Tables)
+    → SeesTables (state g old) t
+    → IsInside (state g old).committed (state g (record old { in_transaction = true })) t
 begun_rows g old t was =
-    inside_as registry_schema HasCounted HasRows t t (state g old).committed (state g (record old { in_transaction = true })) (λ counted. counted.rows) (begun registry_schema HasCounted g old t was)
+    inside_as registry_schema HasCounted HasRows t t (state g old).committed
+    (state g (record old { in_transaction = true })) (λ counted. counted.rows)
+    (begun registry_schema HasCounted g old t was)
 
 -- at its end they are counted
-pub counted_inside : (first : Database) (s : State) (t : Tables) → AreNumbered t.commands → IsInside first s t → IsInsideBy registry_schema HasCounted first s t
-counted_inside first s t numbered = inside_as registry_schema HasRows HasCounted t t first s (λ rows. record { rows = rows; numbered = numbered })
+pub counted_inside : (first : Database) (s : State) (t : Tables) → AreNumbered t.commands
+    → IsInside first s t → IsInsideBy registry_schema HasCounted first s t
+counted_inside first s t numbered =
+    inside_as registry_schema HasRows HasCounted t t first s
+    (λ rows. record { rows = rows; numbered = numbered })
 
 -- deleting the intents leaves the numbers
 pub settles_counted : Makes registry_schema HasCounted settle [] settled
 settles_counted s t after text tally has counted h =
-    let made = settles_all s t after text tally has counted.rows h in (made.0, record { rows = made.1; numbered = counted.numbered })
+    let made = settles_all s t after text tally has counted.rows h in
+    (made.0, record { rows = made.1; numbered = counted.numbered })

@@ -32,7 +32,8 @@ last_whole : is_all_of last_command_text 0 (understood registry_schema last_comm
 unfolding understood everything
 last_whole = refl
 
-tables_whole : (t : Table) → is_all_of (query_text t) 0 (understood registry_schema (query_text t)) ≡ true
+tables_whole : (t : Table) → is_all_of (query_text t) 0 (understood registry_schema (query_text t))
+    ≡ true
 unfolding understood everything
 tables_whole About = refl
 tables_whole Mirrors = refl
@@ -72,26 +73,39 @@ tables_safe t db (inl none) = none
 tables_safe t db (inr over) = never (db (tree_of t)) over
 
 -- an error that is told as one of the store
-pub told : (old new : State) (e : Error) → IsReadFault old new e → fault_of e ≡ Store → MoreFaults old.faults new.faults ⊎ IsSome old.step_limit
-told old new e (inl memory) is = absurd (let f : Memory ≡ Store = sym (ap fault_of memory) ∙ is in cc)
+pub told : (old new : State) (e : Error) → IsReadFault old new e → fault_of e ≡ Store
+    → MoreFaults old.faults new.faults ⊎ IsSome old.step_limit
+told old new e (inl memory) is = absurd (let f : Memory ≡ Store = sym (ap fault_of memory) ∙ is in
+    cc)
 told old new e (inr failed) is = failed
 
-module _ (old new : State) (e : Error) (has : old.now.schema ≡ registry_schema) (is_open : IsTrue old.is_open) where
-  pub find_failed : (key : List ℕ) → FailsToQuery find_command_text (Text key ∷ []) old new e → fault_of e ≡ Store → MoreFaults old.faults new.faults ⊎ IsSome old.step_limit
+module _ (old new : State) (e : Error) (has : old.now.schema ≡ registry_schema)
+    (is_open : IsTrue old.is_open) where
+  pub find_failed : (key : List ℕ) → FailsToQuery find_command_text (Text key ∷ []) old new e
+      → fault_of e ≡ Store → MoreFaults old.faults new.faults ⊎ IsSome old.step_limit
   find_failed key fails =
-      told old new e (read_fault old new find_command_text (Text key ∷ []) e registry_schema find_query _ has find_is.command_is find_is.plain find_is.of_tables find_whole (find_typed key) (find_safe key) is_open fails)
+      told old new e (read_fault old new find_command_text (Text key
+      ∷ []) e registry_schema find_query _ has find_is.command_is find_is.plain
+      find_is.of_tables find_whole (find_typed key) (find_safe key) is_open fails)
 
-  pub last_failed : FailsToQuery last_command_text [] old new e → fault_of e ≡ Store → MoreFaults old.faults new.faults ⊎ IsSome old.step_limit
+  pub last_failed : FailsToQuery last_command_text [] old new e → fault_of e ≡ Store
+      → MoreFaults old.faults new.faults ⊎ IsSome old.step_limit
   last_failed fails =
-      told old new e (read_fault old new last_command_text [] e registry_schema last_query _ has last_is.command_is last_is.plain last_is.of_tables last_whole last_typed last_safe is_open fails)
+      told old new e (read_fault old new last_command_text [] e registry_schema last_query _ has
+      last_is.command_is last_is.plain last_is.of_tables last_whole last_typed last_safe is_open
+      fails)
 
-  pub table_failed : (t : Table) → FailsToQuery (query_text t) [] old new e → fault_of e ≡ Store → MoreFaults old.faults new.faults ⊎ IsSome old.step_limit
+  pub table_failed : (t : Table) → FailsToQuery (query_text t) [] old new e → fault_of e ≡ Store
+      → MoreFaults old.faults new.faults ⊎ IsSome old.step_limit
   table_failed t fails =
       let asks = (asked t).1 in
-      told old new e (read_fault old new (query_text t) [] e registry_schema (query_of t) _ has asks.command_is asks.plain asks.of_tables (tables_whole t) (tables_typed t) (tables_safe t) is_open fails)
+      told old new e (read_fault old new (query_text t) [] e registry_schema
+      (query_of t) _ has asks.command_is asks.plain asks.of_tables (tables_whole t)
+      (tables_typed t) (tables_safe t) is_open fails)
 
 -- a failure after a read is one since before it
-pub failed_later : (a b c : State) → HasRead a b → HasCleanDisk b → IsOurs a → IsTrue a.is_open → (IsOurs b → IsTrue b.is_open → MoreFaults b.faults c.faults ⊎ IsSome b.step_limit)
+pub failed_later : (a b c : State) → HasRead a b → HasCleanDisk b → IsOurs a → IsTrue a.is_open
+    → (IsOurs b → IsTrue b.is_open → MoreFaults b.faults c.faults ⊎ IsSome b.step_limit)
     → MoreFaults a.faults c.faults ⊎ IsSome a.step_limit
 failed_later a b c read clean ours is_open failed =
     elim (failed (ours_still a b read clean ours) (read.unchanged clean ours).0.is_open) [

@@ -36,42 +36,60 @@ use Rattle.gm_rows.proofs.RowsSayTables.{text_in, number_in, rows_numbered}
 use Rattle.gm_rows.proofs.WholeRows.{its_columns}
 use Rattle.gm_registry.proofs.Stored.{with_null, intent_whole, command_in, text_is, number_is, at_most, five_picked, typed, present, whole_row, nine_whole}
 
-map_agree : {A B : Type 0} (f g : A → B) (xs : List A) → ((x : A) → Stands xs x → f x ≡ g x) → map f xs ≡ map g xs
+map_agree : {A B : Type 0} (f g : A → B) (xs : List A) → ((x : A) → Stands xs x → f x ≡ g x)
+    → map f xs ≡ map g xs
 map_agree f g [] same = refl
-map_agree f g (x ∷ xs) same = ap (λ y. y ∷ map f xs) (same x (inl refl)) ∙ ap (λ ys. g x ∷ ys) (map_agree f g xs (λ y later. same y (inr later)))
+map_agree f g (x ∷ xs) same =
+    ap (λ y. y ∷ map f xs) (same x (inl refl)) ∙ ap (λ ys. g x ∷ ys)
+    (map_agree f g xs (λ y later. same y (inr later)))
 
 -- records are kept by rows that show them, where what is shown of a row tells the row
-kept_as : {A : Type 0} (part stored back : Row → Row) (values shown : A → Row) → ((x : A) → back (shown x) ≡ values x) → (records : List A) (rows : List Row)
-    → ((row : Row) → Stands rows row → back (stored row) ≡ part row) → IsPermutation (map shown records) (map stored rows) → IsPermutation (map values records) (map part rows)
+kept_as : {A : Type 0} (part stored back : Row → Row) (values shown : A → Row)
+    → ((x : A) → back (shown x) ≡ values x) → (records : List A) (rows : List Row)
+    → ((row : Row) → Stands rows row → back (stored row) ≡ part row)
+    → IsPermutation (map shown records) (map stored rows)
+    → IsPermutation (map values records) (map part rows)
 kept_as part stored back values shown same records rows told are =
-    let mine : map back (map shown records) ≡ map values records = map-map back shown records ∙ (λ i. map (λ x. same x i) records) in
-    let theirs : map back (map stored rows) ≡ map part rows = map-map back stored rows ∙ map_agree (λ row. back (stored row)) part rows told in
+    let mine : map back (map shown records) ≡ map values records =
+    map-map back shown records ∙ (λ i. map (λ x. same x i) records) in
+    let theirs : map back (map stored rows) ≡ map part rows =
+    map-map back stored rows ∙ map_agree (λ row. back (stored row)) part rows told in
     subst₂ IsPermutation mine theirs (IsPermutation-map back _ _ are)
 
 -- what a registry says that was read as a state
-module _ (db : Trees) (sound : IsSound registry_schema db) (s : Records) (ts : List Intent) (about : db 0 ≡ about_values ∷ [])
+module _ (db : Trees) (sound : IsSound registry_schema db) (s : Records) (ts : List Intent)
+    (about : db 0 ≡ about_values ∷ [])
     (rising : HasRisingRowids db) (says : TablesSay db s ts) where
   mirrors_kept : Keeps columns mirror_values (map mirror_row s.mirrors) (db 1)
   mirrors_kept = record {
-    same = subst (λ l. IsPermutation l (map columns (db 1))) (sym (map-map mirror_values mirror_row s.mirrors))
-        (kept_as columns (columns_at (shown_places Mirrors)) (λ row. row) mirror_shown mirror_shown (λ m. refl) s.mirrors (db 1)
+    same = subst (λ l. IsPermutation l (map columns (db 1)))
+        (sym (map-map mirror_values mirror_row s.mirrors))
+        (kept_as columns (columns_at (shown_places Mirrors)) (λ row. row) mirror_shown mirror_shown
+        (λ m. refl) s.mirrors (db 1)
         (nine_whole db sound mirrors (inr (inl refl)) (λ k low. refl) refl refl) says.mirrors);
     keyed = rising.mirrors;
   }
 
   components_kept : Keeps columns component_values (map component_row s.components) (db 4)
   components_kept = record {
-    same = subst (λ l. IsPermutation l (map columns (db 4))) (sym (map-map component_values component_row s.components))
-        (kept_as columns (columns_at (shown_places Components)) (λ row. row) component_shown component_shown (λ m. refl) s.components (db 4)
-        (nine_whole db sound components (inr (inr (inl refl))) (λ k low. refl) refl refl) says.components);
+    same = subst (λ l. IsPermutation l (map columns (db 4)))
+        (sym (map-map component_values component_row s.components))
+        (kept_as columns (columns_at (shown_places Components))
+        (λ row. row) component_shown component_shown (λ m. refl) s.components (db 4)
+        (nine_whole db sound components (inr (inr (inl refl))) (λ k low. refl) refl refl)
+        says.components);
     keyed = rising.components;
   }
 
   intents_kept : Keeps whole intent_values (intent_rows 1 ts) (db 7)
   intents_kept = record {
-    same = kept_as whole (columns_at (shown_places Intents)) with_null intent_values shown_intent (λ i. refl) (intent_rows 1 ts) (db 7)
-        (λ row there. intent_whole row (typed db sound intents (inr (inr (inr (inl refl)))) row there) (present db sound intents (inr (inr (inr (inl refl)))) row there))
-        (subst (λ l. IsPermutation l (map (columns_at (shown_places Intents)) (db 7))) (sym (rows_numbered 1 ts)) says.intents);
+    same = kept_as whole (columns_at (shown_places Intents)) with_null intent_values shown_intent
+        (λ i. refl) (intent_rows 1 ts) (db 7)
+        (λ row there. intent_whole row
+        (typed db sound intents (inr (inr (inr (inl refl)))) row there)
+        (present db sound intents (inr (inr (inr (inl refl)))) row there))
+        (subst (λ l. IsPermutation l (map (columns_at (shown_places Intents)) (db 7)))
+        (sym (rows_numbered 1 ts)) says.intents);
     keyed = rising.intents;
   }
 
@@ -79,7 +97,9 @@ module _ (db : Trees) (sound : IsSound registry_schema db) (s : Records) (ts : L
   has_number : (row : Row) → Stands (db 8) row → column row 2 ≡ Int (pos (number_in (column row 2)))
   has_number row there =
       let number : Row → Value = λ r. column r 2 in
-      let back = stands_permuted (map number (db 8)) (map number_value (numbers_of (length (db 8)))) (column row 2) (IsPermutation-sym _ _ says.numbers) (has_mapped number (db 8) row there) in
+      let back = stands_permuted (map number (db 8)) (map number_value (numbers_of (length (db 8))))
+      (column row 2) (IsPermutation-sym _ _ says.numbers)
+      (has_mapped number (db 8) row there) in
       let from = mapped_from number_value (numbers_of (length (db 8))) (column row 2) back in
       number_is (column row 2) from.0 from.2
 
@@ -87,11 +107,17 @@ module _ (db : Trees) (sound : IsSound registry_schema db) (s : Records) (ts : L
   command_whole row there =
       let listed : Stands registry_schema.tables commands = inr (inr (inr (inr (inl refl)))) in
       let many = whole_row db sound commands listed (λ k low. refl) refl row there in
-      let is : columns_at (count_from 1 5) row ≡ columns row = sym (five_picked row) ∙ its_columns 5 (columns row) many in
-      let suits : are_typed commands.key 0 commands.columns (columns_at (count_from 1 5) row) ≡ true = ap (are_typed commands.key 0 commands.columns) is ∙ typed db sound commands listed row there in
+      let is : columns_at (count_from 1 5) row ≡ columns row =
+      sym (five_picked row) ∙ its_columns 5 (columns row) many in
+      let suits : are_typed commands.key 0 commands.columns (columns_at (count_from 1 5) row)
+      ≡ true = ap (are_typed commands.key 0 commands.columns) is
+      ∙ typed db sound commands listed row there in
       let full = present db sound commands listed row there in
-      let key : column row 1 ≡ Text (text_in (column row 1)) = text_is (column row 1) (and_parts _ _ suits).0 (and_parts _ _ full).0 in
-      let words : column row 3 ≡ Text (text_in (column row 3)) = text_is (column row 3) (and_parts _ _ (and_parts _ _ (and_parts _ _ suits).1).1).0 (and_parts _ _ (and_parts _ _ (and_parts _ _ full).1).1).0 in
+      let key : column row 1 ≡ Text (text_in (column row 1)) =
+      text_is (column row 1) (and_parts _ _ suits).0 (and_parts _ _ full).0 in
+      let words : column row 3 ≡ Text (text_in (column row 3)) =
+      text_is (column row 3) (and_parts _ _ (and_parts _ _ (and_parts _ _ suits).1).1).0
+      (and_parts _ _ (and_parts _ _ (and_parts _ _ full).1).1).0 in
       let seq = has_number row there in
       let limits = says.replies row (has_from (db 8) row there) in
       let copied = number_is (column row 4) limits.0.0 limits.0.1 in
@@ -100,7 +126,10 @@ module _ (db : Trees) (sound : IsSound registry_schema db) (s : Records) (ts : L
 
   commands_kept : Keeps columns command_values (map command_in (db 8)) (db 8)
   commands_kept = record {
-    same = subst (IsPermutation (map command_values (map command_in (db 8)))) (map-map command_values command_in (db 8) ∙ map_agree (λ row. command_values (command_in row)) columns (db 8) command_whole) (IsPermutation-refl _);
+    same = subst (IsPermutation (map command_values (map command_in (db 8))))
+        (map-map command_values command_in (db 8) ∙ map_agree
+        (λ row. command_values (command_in row)) columns (db 8) command_whole)
+        (IsPermutation-refl _);
     keyed = rising.commands;
   }
 
@@ -112,21 +141,38 @@ module _ (db : Trees) (sound : IsSound registry_schema db) (s : Records) (ts : L
   numbered =
       let number : Row → Value = λ row. column row 2 in
       let seq : CommandRow → ℕ = λ c. c.seq in
-      let mine : map number_in (map number_value (numbers_of (length (db 8)))) ≡ numbers_of (length (map command_in (db 8))) = numbers_said _ ∙ ap numbers_of (sym (length-map (db 8) command_in)) in
-      let theirs : map number_in (map number (db 8)) ≡ map seq (map command_in (db 8)) = map-map number_in number (db 8) ∙ sym (map-map seq command_in (db 8)) in
+      let mine : map number_in (map number_value (numbers_of (length (db 8))))
+      ≡ numbers_of (length (map command_in (db 8))) =
+      numbers_said _ ∙ ap numbers_of (sym (length-map (db 8) command_in)) in
+      let theirs : map number_in (map number (db 8)) ≡ map seq (map command_in (db 8)) =
+      map-map number_in number (db 8) ∙ sym (map-map seq command_in (db 8)) in
       subst₂ IsPermutation mine theirs (IsPermutation-map number_in _ _ says.numbers)
 
   in_range : (c : CommandRow) → Has (map command_in (db 8)) c → IsInRange c
   in_range c has =
       let from = mapped_from command_in (db 8) c (stands_from _ c has) in
       let limits = says.replies from.0 (has_from (db 8) from.0 from.1) in
-      subst IsInRange (sym from.2) (at_most 1048576 (column from.0 4) limits.0, at_most 1048576 (column from.0 5) limits.1)
+      subst IsInRange (sym from.2) (
+        at_most 1048576 (column from.0 4) limits.0,
+        at_most 1048576 (column from.0 5) limits.1,
+      )
 
   abbrev tables : Tables
-  tables = record { mirrors = map mirror_row s.mirrors; components = map component_row s.components; intents = intent_rows 1 ts; commands = map command_in (db 8) }
+  tables = record {
+    mirrors = map mirror_row s.mirrors;
+    components = map component_row s.components;
+    intents = intent_rows 1 ts;
+    commands = map command_in (db 8);
+  }
 
   rows : HasRows db tables
-  rows = record { about = about; mirrors = mirrors_kept; components = components_kept; intents = intents_kept; commands = commands_kept }
+  rows = record {
+    about = about;
+    mirrors = mirrors_kept;
+    components = components_kept;
+    intents = intents_kept;
+    commands = commands_kept;
+  }
 
   are_of : AreTablesOf tables s ts
   are_of = record {
@@ -139,7 +185,9 @@ module _ (db : Trees) (sound : IsSound registry_schema db) (s : Records) (ts : L
     count = subst (λ n. n ≤ 100000) (sym (length-map (db 8) command_in)) says.count;
   }
 
-pub read_held : {S : Type 0} (g : Ghosts S) (r : Held S) (s : Records) (ts : List Intent) → of.IsRegistry g r → HasRisingRowids (of.seen g r) → TablesSay (of.seen g r) s ts → of.HasTablesOf g r s ts
+pub read_held : {S : Type 0} (g : Ghosts S) (r : Held S) (s : Records) (ts : List Intent)
+    → of.IsRegistry g r → HasRisingRowids (of.seen g r) → TablesSay (of.seen g r) s ts
+    → of.HasTablesOf g r s ts
 read_held g r s ts is rising says =
     let db = of.stored g r in
     let same : of.seen g r ≡ db = ap (λ (d : Database). d.trees) is.settled in
@@ -152,7 +200,13 @@ read_held g r s ts is rising says =
         autocommit = is.autocommit;
         schema_is = is.schema_is;
         settled = is.settled;
-        tables = record { rows = record { rows = rows db is.sound s ts is.about up told; numbered = numbered db is.sound s ts is.about up told }; sound = is.sound };
+        tables = record {
+          rows = record {
+            rows = rows db is.sound s ts is.about up told;
+            numbered = numbered db is.sound s ts is.about up told;
+          };
+          sound = is.sound;
+        };
       };
       are = are_of db is.sound s ts is.about up told;
     }

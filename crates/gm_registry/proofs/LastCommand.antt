@@ -45,13 +45,16 @@ out_columns : (row : Row) → of_columns (columns row) ≡ out row
 out_columns [] = refl
 out_columns (x ∷ xs) = refl
 
-outs : (db : Trees) (xs : List Row) → map (output last_query) (flat_map (λ r. matches_as Null db [] end ([] ∷ r ∷ [])) xs) ≡ map out xs
+outs : (db : Trees) (xs : List Row)
+    → map (output last_query) (flat_map (λ r. matches_as Null db [] end ([] ∷ r ∷ [])) xs)
+    ≡ map out xs
 outs db [] = refl
 outs db (x ∷ xs) = ap (λ l. out x ∷ l) (outs db xs)
 
 at_most : (a b : ℕ) → is_lt (int_cmp (pos a) (pos b)) ≡ false → b ≤ a
 at_most a b h = elim (cases_Bool (ltb a b)) [
-  | inl low ↦ absurd (true≢false (let e : is_lt (int_cmp (pos a) (pos b)) ≡ true = rw low in sym e ∙ h))
+  | inl low ↦ absurd (true≢false (let e : is_lt (int_cmp (pos a) (pos b)) ≡ true = rw low in
+      sym e ∙ h))
   | inr high ↦ omega (arith, ltb-false a b high)
 ]
 
@@ -64,28 +67,50 @@ sorts_by x y = then-Equal (value_cmp (key y) (key x))
 abbrev lower : Output → Output → Bool
 lower x y = is_lt (value_cmp (key y) (key x))
 
-finish : (t : Tables) (rows : List Row) (ordered : List Output) → IsPermutation (map number_out t.commands) ordered → IsSortedBy lower ordered → rows ≡ take 1 (map (λ (o : Output). o.1) ordered) → IsLastOf t rows
+finish : (t : Tables) (rows : List Row) (ordered : List Output)
+    → IsPermutation (map number_out t.commands) ordered → IsSortedBy lower ordered
+    → rows ≡ take 1 (map (λ (o : Output). o.1) ordered) → IsLastOf t rows
 finish t rows [] among up shows = inl (nothing_found number_out t.commands among, shows)
 finish t rows (o ∷ more) among up shows =
-    let back = stands_permuted (o ∷ more) (map number_out t.commands) o (IsPermutation-sym _ _ among) (inl refl) in
+    let back = stands_permuted (o ∷ more) (map number_out t.commands) o
+    (IsPermutation-sym _ _ among) (inl refl) in
     let from = mapped_from number_out t.commands o back in
     let most : (d : CommandRow) → Has t.commands d → d.seq ≤ from.0.seq = λ d has.
-    let it = Contains-permutation (map number_out t.commands) (o ∷ more) (number_out d) among (contains_had (map number_out t.commands) (number_out d) (has_mapped number_out t.commands d (stands_from t.commands d has))) in
+    let it = Contains-permutation (map number_out t.commands) (o ∷ more) (number_out d) among
+    (contains_had (map number_out t.commands) (number_out d)
+    (has_mapped number_out t.commands d (stands_from t.commands d has))) in
     let far : is_lt (value_cmp (key o) (key (get_or (o ∷ more) it.0 (number_out d)))) ≡ false =
-    sorted_far lower (IsStrictWeakOrder-flip (λ x y. is_lt (value_cmp (key x) (key y))) (ranks_by value_cmp_total key)) (o ∷ more) up 0 it.0 (number_out d) (omega arith) it.1 in
-    at_most from.0.seq d.seq (ap is_lt (sym (value_cmp-Int (pos from.0.seq) (pos d.seq))) ∙ subst₂ (λ x y. is_lt (value_cmp (key x) (key y)) ≡ false) from.2 it.2 far) in
-    inr (from.0, has_from t.commands from.0 from.1, most, shows ∙ ap (λ (x : Output). x.1 ∷ []) from.2)
+    sorted_far lower (IsStrictWeakOrder-flip (λ x y. is_lt (value_cmp (key x) (key y)))
+    (ranks_by value_cmp_total key)) (o ∷ more) up 0 it.0 (number_out d) (omega arith) it.1 in
+    at_most from.0.seq d.seq (ap is_lt (sym (value_cmp-Int (pos from.0.seq) (pos d.seq)))
+    ∙ subst₂ (λ x y. is_lt (value_cmp (key x) (key y)) ≡ false) from.2 it.2 far) in
+    inr (
+      from.0,
+      has_from t.commands from.0 from.1,
+      most,
+      shows ∙ ap (λ (x : Output). x.1 ∷ []) from.2,
+    )
 
-pub lasts : (old new : State) (rows : List Row) (t : Tables) → SeesTables old t → Shown last_command_text [] old new rows → IsLastOf t rows
+pub lasts : (old new : State) (rows : List Row) (t : Tables) → SeesTables old t
+    → Shown last_command_text [] old new rows → IsLastOf t rows
 lasts old new rows t was h =
     let db = old.now.trees in
-    let all = reads_as last_command_text [] old new registry_schema (settled_schema registry_schema HasCounted old t was) _ last_is.command_is last_is.plain last_is.of_tables rows h in
-    let a : IsAnswer last_query db [] rows = subst (λ d. IsAnswer last_query d [] rows) (overlaid db) (all.answer Null) in
-    let kept : a.kept ≡ map out (db 8) = a.distinct ∙ (ap (map (output last_query)) a.grouped ∙ outs db (db 8)) in
-    let stored : map of_columns (map columns (db 8)) ≡ map out (db 8) = map-map of_columns columns (db 8) ∙ (λ i. map (λ row. out_columns row i) (db 8)) in
+    let all = reads_as last_command_text [] old new registry_schema
+    (settled_schema registry_schema HasCounted old t was) _ last_is.command_is last_is.plain
+    last_is.of_tables rows h in
+    let a : IsAnswer last_query db [] rows =
+    subst (λ d. IsAnswer last_query d [] rows) (overlaid db) (all.answer Null) in
+    let kept : a.kept ≡ map out (db 8) =
+    a.distinct ∙ (ap (map (output last_query)) a.grouped ∙ outs db (db 8)) in
+    let stored : map of_columns (map columns (db 8)) ≡ map out (db 8) =
+    map-map of_columns columns (db 8) ∙ (λ i. map (λ row. out_columns row i) (db 8)) in
     let mine : IsPermutation (map number_out t.commands) a.ordered =
-    IsPermutation-trans _ _ _ (subst₂ IsPermutation (map-map of_columns command_values t.commands) (stored ∙ sym kept) (IsPermutation-map of_columns _ _ (settled_rows registry_schema HasCounted old t was).rows.rows.commands.same)) a.same in
-    let up : IsSortedBy lower a.ordered = λ k d i j. sym (ap is_lt (sorts_by (get_or a.ordered (k + 1) d) (get_or a.ordered k d))) ∙ a.sorted k d i j in
+    IsPermutation-trans _ _ _ (subst₂ IsPermutation (map-map of_columns command_values t.commands)
+    (stored ∙ sym kept) (IsPermutation-map of_columns _ _
+    (settled_rows registry_schema HasCounted old t was).rows.rows.commands.same)) a.same in
+    let up : IsSortedBy lower a.ordered =
+    λ k d i j. sym (ap is_lt (sorts_by (get_or a.ordered (k + 1) d) (get_or a.ordered k d)))
+    ∙ a.sorted k d i j in
     finish t rows a.ordered mine up a.shown
 
 below : (n k : ℕ) → Stands (numbers_of n) k → k ≤ n
@@ -102,11 +127,16 @@ some_in [] x h = absurd h
 some_in (y ∷ ys) x h = omega arith
 
 -- numbers without gaps: the greatest says how many there are
-counted : (commands : List CommandRow) → AreNumbered commands → (c : CommandRow) → Has commands c → ((d : CommandRow) → Has commands d → d.seq ≤ c.seq) → c.seq ≡ length commands
+counted : (commands : List CommandRow) → AreNumbered commands → (c : CommandRow) → Has commands c
+    → ((d : CommandRow) → Has commands d → d.seq ≤ c.seq) → c.seq ≡ length commands
 counted commands numbered c has most =
     let seqs = map (λ (d : CommandRow). d.seq) commands in
-    let low : c.seq ≤ length commands = below (length commands) c.seq (stands_permuted seqs (numbers_of (length commands)) c.seq (IsPermutation-sym _ _ numbered) (has_mapped (λ d. d.seq) commands c (stands_from commands c has))) in
-    let top = stands_permuted (numbers_of (length commands)) seqs (length commands) numbered (greatest (length commands) (some_in commands c has)) in
+    let low : c.seq ≤ length commands =
+    below (length commands) c.seq (stands_permuted seqs (numbers_of (length commands)) c.seq
+    (IsPermutation-sym _ _ numbered) (has_mapped (λ d. d.seq) commands c
+    (stands_from commands c has))) in
+    let top = stands_permuted (numbers_of (length commands)) seqs (length commands) numbered
+    (greatest (length commands) (some_in commands c has)) in
     let from = mapped_from (λ (d : CommandRow). d.seq) commands (length commands) top in
     omega (arith, low, most from.0 (has_from commands from.0 from.1), from.2)
 
@@ -120,16 +150,24 @@ number_of a b e = cc
 some_same : (a b : Row) → ◌≡◌ {A = Option Row} (Some a) (Some b) → a ≡ b
 some_same a b e = cc
 
-pub last_number : (t : Tables) (rows : List Row) (row : Row) (n : ℕ) → AreNumbered t.commands → IsLastOf t rows → slice_get rows 0 ≡ Some row → column row 0 ≡ Int (pos n) → n ≡ count_of t
-last_number t rows row n numbered (inl it) first is = absurd (let e = sym (ap (λ l. slice_get l 0) it.1) ∙ first in cc)
+pub last_number : (t : Tables) (rows : List Row) (row : Row) (n : ℕ) → AreNumbered t.commands
+    → IsLastOf t rows → slice_get rows 0 ≡ Some row → column row 0 ≡ Int (pos n) → n ≡ count_of t
+last_number t rows row n numbered (inl it) first is =
+    absurd (let e = sym (ap (λ l. slice_get l 0) it.1) ∙ first in cc)
 last_number t rows row n numbered (inr it) first is =
-    let same : row ≡ Int (pos it.0.seq) ∷ [] = some_same _ _ (sym first ∙ ap (λ l. slice_get l 0) it.3) in
-    sym (number_of it.0.seq n (ap (λ x. column x 0) (sym same) ∙ is)) ∙ counted t.commands numbered it.0 it.1 it.2
+    let same : row ≡ Int (pos it.0.seq) ∷ [] =
+    some_same _ _ (sym first ∙ ap (λ l. slice_get l 0) it.3) in
+    sym (number_of it.0.seq n (ap (λ x. column x 0) (sym same) ∙ is))
+    ∙ counted t.commands numbered it.0 it.1 it.2
 
 -- the row that was found shows a number of at most the number of commands
-pub last_in_range : (t : Tables) (rows : List Row) (row : Row) → AreNumbered t.commands → IsLastOf t rows → slice_get rows 0 ≡ Some row → (n : ℕ) × (n ≤ count_of t) × (column row 0 ≡ Int (pos n))
-last_in_range t rows row numbered (inl it) first = absurd (let e = sym (ap (λ l. slice_get l 0) it.1) ∙ first in cc)
+pub last_in_range : (t : Tables) (rows : List Row) (row : Row) → AreNumbered t.commands
+    → IsLastOf t rows → slice_get rows 0 ≡ Some row
+    → (n : ℕ) × (n ≤ count_of t) × (column row 0 ≡ Int (pos n))
+last_in_range t rows row numbered (inl it) first =
+    absurd (let e = sym (ap (λ l. slice_get l 0) it.1) ∙ first in cc)
 last_in_range t rows row numbered (inr it) first =
-    let same : row ≡ Int (pos it.0.seq) ∷ [] = some_same _ _ (sym first ∙ ap (λ l. slice_get l 0) it.3) in
+    let same : row ≡ Int (pos it.0.seq) ∷ [] =
+    some_same _ _ (sym first ∙ ap (λ l. slice_get l 0) it.3) in
     let is = counted t.commands numbered it.0 it.1 it.2 in
     (it.0.seq, omega (arith, is), ap (λ r. column r 0) same)

@@ -31,23 +31,34 @@ use Rattle.gm_registry.specs.Opening.{IsBlank, IsBlankInside, IsBareInside}
 use Rattle.gm_registry.proofs.TextMeanings.{Defines, about_is, mirrors_is, components_is, intents_is, commands_is, put_about, put_about_is}
 
 -- one CREATE of a table that the text defines
-one_table : (a b : State) (text : List ℕ) (before after : Schema) (table : Table) (count : ℕ) → Defines before after text table → lacks_sequence after ≡ false → a.now.schema ≡ before → ExecutesInside 0 text [] a b (Ok count)
+one_table : (a b : State) (text : List ℕ) (before after : Schema) (table : Table) (count : ℕ)
+    → Defines before after text table → lacks_sequence after ≡ false → a.now.schema ≡ before
+    → ExecutesInside 0 text [] a b (Ok count)
     → Creates before after a.now b.now × Writes a b None CreateTable text [] count
 one_table a b text before after table count it whole has h =
-    creates a b text before after (record table { tree = 0 }) it.table_is it.schema_is whole it.command it.alone it.plain count has h
+    creates a b text before after (record table { tree = 0 }) it.table_is it.schema_is whole
+    it.command it.alone it.plain count has h
 
-pub tables_made : (first : Database) (a b c d e f : State) (k l m n o : ℕ) → IsBlankInside first a → ExecutesInside 0 about_text [] a b (Ok k) → ExecutesInside 0 mirrors_text [] b c (Ok l)
-    → ExecutesInside 0 components_text [] c d (Ok m) → ExecutesInside 0 intents_text [] d e (Ok n) → ExecutesInside 0 commands_text [] e f (Ok o) → IsBareInside first f
+pub tables_made : (first : Database) (a b c d e f : State) (k l m n o : ℕ) → IsBlankInside first a
+    → ExecutesInside 0 about_text [] a b (Ok k) → ExecutesInside 0 mirrors_text [] b c (Ok l)
+    → ExecutesInside 0 components_text [] c d (Ok m) → ExecutesInside 0 intents_text [] d e (Ok n)
+    → ExecutesInside 0 commands_text [] e f (Ok o) → IsBareInside first f
 tables_made first a b c d e f k l m n o was one two three four five =
     let p = one_table a b about_text no_schema with_about about k about_is refl was.schema_is one in
-    let q = one_table b c mirrors_text with_about with_mirrors mirrors l mirrors_is refl p.0.schema_is two in
-    let r = one_table c d components_text with_mirrors with_components components m components_is refl q.0.schema_is three in
-    let s = one_table d e intents_text with_components with_intents intents n intents_is refl r.0.schema_is four in
-    let t = one_table e f commands_text with_intents registry_schema commands o commands_is refl s.0.schema_is five in
+    let q = one_table b c mirrors_text with_about with_mirrors mirrors l mirrors_is refl
+    p.0.schema_is two in
+    let r = one_table c d components_text with_mirrors with_components components m components_is
+    refl q.0.schema_is three in
+    let s = one_table d e intents_text with_components with_intents intents n intents_is refl
+    r.0.schema_is four in
+    let t = one_table e f commands_text with_intents registry_schema commands o commands_is refl
+    s.0.schema_is five in
     record {
       is_open = t.1.shown.is_open;
-      inside = t.1.shown.mode ∙ s.1.shown.mode ∙ r.1.shown.mode ∙ q.1.shown.mode ∙ p.1.shown.mode ∙ was.inside;
-      first_is = five.1.committed_is ∙ four.1.committed_is ∙ three.1.committed_is ∙ two.1.committed_is ∙ one.1.committed_is ∙ was.first_is;
+      inside = t.1.shown.mode ∙ s.1.shown.mode ∙ r.1.shown.mode ∙ q.1.shown.mode ∙ p.1.shown.mode
+          ∙ was.inside;
+      first_is = five.1.committed_is ∙ four.1.committed_is ∙ three.1.committed_is
+          ∙ two.1.committed_is ∙ one.1.committed_is ∙ was.first_is;
       schema_is = t.0.schema_is;
       about = t.0.others.0 ∙ s.0.others.0 ∙ r.0.others.0 ∙ q.0.others.0 ∙ p.0.empty;
       mirrors = t.0.others.1.0 ∙ s.0.others.1.0 ∙ r.0.others.1.0 ∙ q.0.empty;
@@ -57,25 +68,47 @@ tables_made first a b c d e f k l m n o was one two three four five =
     }
 
 -- the row of `about`, whose rowid is given
-puts_about : (s : State) (after : Database) (text : List ℕ) (tally : Tally) → s.now.schema ≡ registry_schema → s.now.trees 0 ≡ []
+puts_about : (s : State) (after : Database) (text : List ℕ) (tally : Tally)
+    → s.now.schema ≡ registry_schema → s.now.trees 0 ≡ []
     → Does s.step_limit (mode_of s) [] s.now text None put_about (Ok (tally, after))
-    → (after.schema ≡ registry_schema) × (after.trees 0 ≡ about_values ∷ []) × AllByRecursion (λ t. t.tree ≢ 0 → after.trees t.tree ≡ s.now.trees t.tree) registry_schema.tables
+    → (after.schema ≡ registry_schema) × (after.trees 0 ≡ about_values ∷ [])
+    × AllByRecursion (λ t. t.tree ≢ 0
+    → after.trees t.tree ≡ s.now.trees t.tree) registry_schema.tables
 puts_about s after text tally has none h =
-    let made = gains registry_schema 0 about refl (lit (Int (pos 1)) ∷ lit Null ∷ lit (Int (pos 1)) ∷ []) 3 [] about_values refl (rw (cast_int (pos 1), cast_null)) s.step_limit (mode_of s) s.now.trees after text tally
-    (subst (λ (schema : Schema). Does s.step_limit (mode_of s) [] (record { schema = schema; trees = s.now.trees }) text None put_about (Ok (tally, after))) has h) in
-    (made.schema_is, made.rows ∙ (ap (put_row made.new) none ∙ ap (λ r. r ∷ []) (made.given refl)), made.tables)
+    let made = gains registry_schema 0 about refl (lit (Int (pos 1)) ∷ lit Null ∷ lit (Int (pos 1))
+    ∷ []) 3 [] about_values refl (rw (cast_int (pos 1), cast_null)) s.step_limit
+    (mode_of s) s.now.trees after text tally
+    (subst (λ (schema : Schema). Does s.step_limit (mode_of s) []
+    (record { schema = schema; trees = s.now.trees }) text None put_about (Ok (tally, after)))
+    has h) in (
+      made.schema_is,
+      made.rows ∙ (ap (put_row made.new) none ∙ ap (λ r. r ∷ []) (made.given refl)),
+      made.tables,
+    )
 
 -- with the row of `about` the tables hold no record
-filled : (first : Database) (old new : State) (count : ℕ) → IsBareInside first old → ExecutesInside 0 put_about_text [] old new (Ok count) → IsInside first new no_tables
+filled : (first : Database) (old new : State) (count : ℕ) → IsBareInside first old
+    → ExecutesInside 0 put_about_text [] old new (Ok count) → IsInside first new no_tables
 filled first old new count was h =
-    let w = runs_as put_about_text [] old new registry_schema was.schema_is put_about put_about_is.command_is put_about_is.plain count h.0 in
-    let made = puts_about old new.now (statement_of put_about_text (understood registry_schema put_about_text)) w.tally was.schema_is was.about w.changed in
+    let w = runs_as put_about_text [] old new registry_schema was.schema_is put_about
+    put_about_is.command_is put_about_is.plain count h.0 in
+    let made = puts_about old new.now (statement_of put_about_text
+    (understood registry_schema put_about_text)) w.tally was.schema_is was.about w.changed in
     let none : HasRows new.now.trees no_tables = record {
       about = made.1;
-      mirrors = subst (Keeps columns mirror_values []) (sym (made.2.1.0 (λ e. let f : 1 ≡ 0 = e in cc) ∙ was.mirrors)) (keeps_none columns mirror_values);
-      components = subst (Keeps columns component_values []) (sym (made.2.1.1.0 (λ e. let f : 4 ≡ 0 = e in cc) ∙ was.components)) (keeps_none columns component_values);
-      intents = subst (Keeps whole intent_values []) (sym (made.2.1.1.1.0 (λ e. let f : 7 ≡ 0 = e in cc) ∙ was.intents)) (keeps_none whole intent_values);
-      commands = subst (Keeps columns command_values []) (sym (made.2.1.1.1.1.0 (λ e. let f : 8 ≡ 0 = e in cc) ∙ was.commands)) (keeps_none columns command_values);
+      mirrors = subst (Keeps columns mirror_values [])
+          (sym (made.2.1.0 (λ e. let f : 1 ≡ 0 = e in cc) ∙ was.mirrors))
+          (keeps_none columns mirror_values);
+      components =
+          subst (Keeps columns component_values [])
+          (sym (made.2.1.1.0 (λ e. let f : 4 ≡ 0 = e in cc) ∙ was.components))
+          (keeps_none columns component_values);
+      intents = subst (Keeps whole intent_values [])
+          (sym (made.2.1.1.1.0 (λ e. let f : 7 ≡ 0 = e in cc) ∙ was.intents))
+          (keeps_none whole intent_values);
+      commands = subst (Keeps columns command_values [])
+          (sym (made.2.1.1.1.1.0 (λ e. let f : 8 ≡ 0 = e in cc) ∙ was.commands))
+          (keeps_none columns command_values);
     } in
     record {
       is_open = w.shown.is_open;
@@ -85,12 +118,20 @@ filled first old new count was h =
       tables = holding registry_schema HasRows new.now no_tables made.0 none w.sound;
     }
 
-pub at_filled : (old new : State) (x : Result ℕ Error) → (IsTrue old.in_transaction → ExecutesInside 0 put_about_text [] old new x) → OnOk x ((first : Database) → IsBareInside first old → IsInside first new no_tables)
+pub at_filled : (old new : State) (x : Result ℕ Error)
+    → (IsTrue old.in_transaction → ExecutesInside 0 put_about_text [] old new x)
+    → OnOk x ((first : Database) → IsBareInside first old → IsInside first new no_tables)
 at_filled old new (Ok count) h = λ first was. filled first old new count was (h (rw was.inside))
 at_filled old new (Err e) h = tt
 
-pub blank_begun : {S : Type 0} (g : store.Ghosts S) (old : Held S) → IsBlank (state g old) → IsBlankInside (state g old).committed (state g (record old { in_transaction = true }))
-blank_begun g old was = record { is_open = was.is_open; inside = refl; first_is = refl; schema_is = was.schema_is }
+pub blank_begun : {S : Type 0} (g : store.Ghosts S) (old : Held S) → IsBlank (state g old)
+    → IsBlankInside (state g old).committed (state g (record old { in_transaction = true }))
+blank_begun g old was = record {
+  is_open = was.is_open;
+  inside = refl;
+  first_is = refl;
+  schema_is = was.schema_is;
+}
 
 pub none_numbered : AreNumbered []
 none_numbered = IsPermutation-refl []

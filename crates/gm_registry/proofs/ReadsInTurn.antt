@@ -26,7 +26,8 @@ pub clean_before : (a b : State) → HasRead a b → HasCleanDisk b → HasClean
 clean_before a b first clean = omega (arith, first.left.clean)
 
 -- what is seen after a read was there before it
-pub carried : (a b : State) (P : Trees → Type 0) → HasRead a b → HasCleanDisk b → (IsOurs b → P b.now.trees) → IsOurs a → P a.now.trees
+pub carried : (a b : State) (P : Trees → Type 0) → HasRead a b → HasCleanDisk b
+    → (IsOurs b → P b.now.trees) → IsOurs a → P a.now.trees
 carried = carried_over IsOurSchema
 
 -- ---- over the tables of a registry
@@ -37,17 +38,23 @@ ours s t was = settled_schema registry_schema HasCounted s t was
 pub counted : (s : State) (t : Tables) → SeesTables s t → HasCounted s.now.trees t
 counted s t was = (settled_rows registry_schema HasCounted s t was).rows
 
-pub tables_stay : (old new : State) (t : Tables) → HasRead old new → HasCleanDisk new → SeesTables old t → SeesTables new t
-tables_stay old new t read clean was = unchanged_has registry_schema HasCounted old new t was (read.unchanged clean (ours old t was))
+pub tables_stay : (old new : State) (t : Tables) → HasRead old new → HasCleanDisk new
+    → SeesTables old t → SeesTables new t
+tables_stay old new t read clean was =
+    unchanged_has registry_schema HasCounted old new t was (read.unchanged clean (ours old t was))
 
-pub tables_refused : (old new : State) (t : Tables) → HasFailed old new → HasCleanDisk new → SeesTables old t → IsTrue new.is_open → SeesTables new t
+pub tables_refused : (old new : State) (t : Tables) → HasFailed old new → HasCleanDisk new
+    → SeesTables old t → IsTrue new.is_open → SeesTables new t
 tables_refused old new t failed clean was is = elim (failed.refused clean (ours old t was) is) [
   | inl same ↦ unchanged_has registry_schema HasCounted old new t was same
-  | inr undone ↦ rolled registry_schema HasCounted old old old new t was refl (kept_itself old) undone is
+  | inr undone ↦ rolled registry_schema HasCounted old old old new t was refl
+      (kept_itself old) undone is
 ]
 
-pub nothing_new : (old new : State) (t : Tables) → Survives old new (λ _. ¬ (IsOurs old)) → SeesTables old t → Survives old new (λ _. ⊥)
-nothing_new old new t left was = survives_weaker old new _ _ (λ _ db none. none (ours old t was)) left
+pub nothing_new : (old new : State) (t : Tables) → Survives old new (λ _. ¬ (IsOurs old))
+    → SeesTables old t → Survives old new (λ _. ⊥)
+nothing_new old new t left was =
+    survives_weaker old new _ _ (λ _ db none. none (ours old t was)) left
 
 -- ---- over whatever rows a registry holds
 
@@ -55,7 +62,8 @@ pub registry_ours : (s : State) → SeesRegistry s → IsOurs s
 registry_ours s was = ap (λ (d : Database). d.schema) was.settled ∙ was.schema_is
 
 pub failed_leaves : (old new : State) → HasFailed old new → SeesRegistry old → LeavesAlone old new
-failed_leaves old new failed was = failed_leaves_over IsOurSchema old new (registry_ours old was) failed
+failed_leaves old new failed was =
+    failed_leaves_over IsOurSchema old new (registry_ours old was) failed
 
 pub read_leaves : (old new : State) → HasRead old new → SeesRegistry old → LeavesAlone old new
 read_leaves old new read was = failed_leaves old new (read_at_most IsOurSchema old new read) was

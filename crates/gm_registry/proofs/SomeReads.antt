@@ -23,16 +23,22 @@ module _ {S : Type 0} (g : Ghosts S) where
 
   pub some_failed : (a b c : Held S) → HaveRead g a b → HasFailed g b c → HasFailed g a c
   some_failed a b c (inl same) second = subst (λ r. HasFailed g r c) same second
-  some_failed a b c (inr first) second = failed_then (state g a) (state g b) (state g c) first second
+  some_failed a b c (inr first) second =
+      failed_then (state g a) (state g b) (state g c) first second
 
   pub some_clean : (a b : Held S) → HaveRead g a b → DiskKept g b → DiskKept g a
   some_clean a b (inl same) clean = subst (DiskKept g) same clean
   some_clean a b (inr first) clean = clean_before (state g a) (state g b) first clean
 
-  pub some_stay : (a b : Held S) (t : Tables) → HaveRead g a b → DiskKept g b → HasTables g a t → HasTables g b t
+  pub some_stay : (a b : Held S) (t : Tables) → HaveRead g a b → DiskKept g b → HasTables g a t
+      → HasTables g b t
   some_stay a b t (inl same) clean was = subst (λ r. HasTables g r t) (sym same) was
   some_stay a b t (inr first) clean was = tables_stay (state g a) (state g b) t first clean was
 
-  pub some_later : (a b c : Held S) → HaveRead g a b → DiskKept g b → IsOurs g a → IsOpen g a → (IsOurs g b → IsOpen g b → StoreFailed g b c) → StoreFailed g a c
-  some_later a b c (inl same) clean ours is_open failed = subst (λ r. (IsOurs g r → IsOpen g r → StoreFailed g r c) → StoreFailed g a c) (sym same) (λ f. f ours is_open) failed
-  some_later a b c (inr first) clean ours is_open failed = failed_later (state g a) (state g b) (state g c) first clean ours is_open failed
+  pub some_later : (a b c : Held S) → HaveRead g a b → DiskKept g b → IsOurs g a → IsOpen g a
+      → (IsOurs g b → IsOpen g b → StoreFailed g b c) → StoreFailed g a c
+  some_later a b c (inl same) clean ours is_open failed =
+      subst (λ r. (IsOurs g r → IsOpen g r → StoreFailed g r c)
+      → StoreFailed g a c) (sym same) (λ f. f ours is_open) failed
+  some_later a b c (inr first) clean ours is_open failed =
+      failed_later (state g a) (state g b) (state g c) first clean ours is_open failed

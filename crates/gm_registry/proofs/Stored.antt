@@ -30,24 +30,32 @@ use Rattle.gm_registry.proofs.Abouts.{only_null}
 
 -- with the NULL in the column for which the rowid stands
 abbrev pub with_null : Row → Row
-with_null vs = column vs 0 ∷ Null ∷ column vs 1 ∷ column vs 2 ∷ column vs 3 ∷ column vs 4 ∷ column vs 5 ∷ []
+with_null vs = column vs 0 ∷ Null ∷ column vs 1 ∷ column vs 2 ∷ column vs 3 ∷ column vs 4
+    ∷ column vs 5 ∷ []
 
 behind_key : (k : ℕ) → 1 ≤ k → is_key (Some 0) k ≡ false
 behind_key k low = ne_eqb 0 k (λ e. omega arith)
 
 -- five values stand behind it
-five_behind : (row vs : Row) → ((k : ℕ) → column row (suc (suc k)) ≡ column vs k) → are_typed (Some 0) 1 (drop 1 intents.columns) vs ≡ true → are_present (Some 0) 1 (drop 1 intents.columns) row ≡ true
+five_behind : (row vs : Row) → ((k : ℕ) → column row (suc (suc k)) ≡ column vs k)
+    → are_typed (Some 0) 1 (drop 1 intents.columns) vs ≡ true
+    → are_present (Some 0) 1 (drop 1 intents.columns) row ≡ true
     → length vs ≡ 5
 five_behind row vs same =
-    as_many (Some 0) row 1 (drop 1 intents.columns) vs behind_key refl (λ k. let two : 1 + 1 + k ≡ suc (suc k) = omega arith in ap (column row) two ∙ same k)
+    as_many (Some 0) row 1 (drop 1 intents.columns) vs behind_key refl
+    (λ k. let two : 1 + 1 + k ≡ suc (suc k) = omega arith in ap (column row) two ∙ same k)
 
-pub intent_whole : (row : Row) → are_typed (Some 0) 0 intents.columns (drop 1 row) ≡ true → are_present (Some 0) 0 intents.columns row ≡ true → with_null (columns_at (shown_places Intents) row) ≡ row
+pub intent_whole : (row : Row) → are_typed (Some 0) 0 intents.columns (drop 1 row) ≡ true
+    → are_present (Some 0) 0 intents.columns row ≡ true
+    → with_null (columns_at (shown_places Intents) row) ≡ row
 intent_whole [] typed present = absurd (omega (arith, five_behind [] [] (λ k. refl) typed present))
-intent_whole (id ∷ []) typed present = absurd (omega (arith, five_behind (id ∷ []) [] (λ k. refl) typed present))
+intent_whole (id ∷ []) typed present =
+    absurd (omega (arith, five_behind (id ∷ []) [] (λ k. refl) typed present))
 intent_whole (id ∷ v ∷ vs) typed present =
     let parts = and_parts (is_null v) (are_typed (Some 0) 1 (drop 1 intents.columns) vs) typed in
     let many = five_behind (id ∷ v ∷ vs) vs (λ k. refl) parts.1 present in
-    ap (λ more. id ∷ Null ∷ more) (its_columns 5 vs many) ∙ ap (λ n. id ∷ n ∷ vs) (sym (only_null v parts.0))
+    ap (λ more. id ∷ Null ∷ more) (its_columns 5 vs many)
+    ∙ ap (λ n. id ∷ n ∷ vs) (sym (only_null v parts.0))
 
 -- ---- rows of commands
 
@@ -71,9 +79,11 @@ pub number_is : (v : Value) (n : ℕ) → v ≡ Int (pos n) → v ≡ Int (pos (
 number_is v n e = e ∙ ap (λ w. Int (pos (number_in w))) (sym e)
 
 pub at_most : (high : ℕ) (v : Value) → IsBetween 0 high v → number_in v ≤ high
-at_most high v it = let e : number_in v ≡ it.0 = ap number_in it.1 in let below = it.3 in omega (arith, e, below)
+at_most high v it = let e : number_in v ≡ it.0 = ap number_in it.1 in let below = it.3 in
+    omega (arith, e, below)
 
-pub five_picked : (row : Row) → columns_at (count_from 0 5) (columns row) ≡ columns_at (count_from 1 5) row
+pub five_picked : (row : Row)
+    → columns_at (count_from 0 5) (columns row) ≡ columns_at (count_from 1 5) row
 five_picked [] = refl
 five_picked (v ∷ row) = refl
 
@@ -84,16 +94,29 @@ behind [] k = refl
 behind (v ∷ row) k = let e : 0 + 1 + k ≡ suc k = omega arith in ap (column (v ∷ row)) e
 
 module _ (db : Trees) (sound : IsSound registry_schema db) where
-  pub typed : (t : Table) → Stands registry_schema.tables t → (row : Row) → Stands (db t.tree) row → are_typed t.key 0 t.columns (drop 1 row) ≡ true
-  typed t listed row there = (and_parts _ _ (keeps_at Datatype registry_schema db t row (sound.obeys.rules Datatype) listed there)).0
+  pub typed : (t : Table) → Stands registry_schema.tables t → (row : Row) → Stands (db t.tree) row
+      → are_typed t.key 0 t.columns (drop 1 row) ≡ true
+  typed t listed row there =
+      (and_parts _ _ (keeps_at Datatype registry_schema db t row
+      (sound.obeys.rules Datatype) listed there)).0
 
-  pub present : (t : Table) → Stands registry_schema.tables t → (row : Row) → Stands (db t.tree) row → are_present t.key 0 t.columns row ≡ true
-  present t listed row there = keeps_at NotNull registry_schema db t row (sound.obeys.rules NotNull) listed there
+  pub present : (t : Table) → Stands registry_schema.tables t → (row : Row) → Stands (db t.tree) row
+      → are_present t.key 0 t.columns row ≡ true
+  present t listed row there =
+      keeps_at NotNull registry_schema db t row (sound.obeys.rules NotNull) listed there
 
   -- of a table without a column for the rowid
-  pub whole_row : (t : Table) → Stands registry_schema.tables t → ((k : ℕ) → 0 ≤ k → is_key t.key k ≡ false) → are_required t.columns ≡ true → (row : Row) → Stands (db t.tree) row → length (columns row) ≡ length t.columns
-  whole_row t listed free must row there = as_many t.key row 0 t.columns (columns row) free must (behind row) (typed t listed row there) (present t listed row there)
+  pub whole_row : (t : Table) → Stands registry_schema.tables t
+      → ((k : ℕ) → 0 ≤ k → is_key t.key k ≡ false) → are_required t.columns ≡ true → (row : Row)
+      → Stands (db t.tree) row → length (columns row) ≡ length t.columns
+  whole_row t listed free must row there =
+      as_many t.key row 0 t.columns (columns row) free must (behind row) (typed t listed row there)
+      (present t listed row there)
 
-  pub nine_whole : (t : Table) → Stands registry_schema.tables t → ((k : ℕ) → 0 ≤ k → is_key t.key k ≡ false) → are_required t.columns ≡ true → length t.columns ≡ 9 → (row : Row) → Stands (db t.tree) row
+  pub nine_whole : (t : Table) → Stands registry_schema.tables t
+      → ((k : ℕ) → 0 ≤ k → is_key t.key k ≡ false) → are_required t.columns ≡ true
+      → length t.columns ≡ 9 → (row : Row) → Stands (db t.tree) row
       → columns_at (shown_places Mirrors) row ≡ columns row
-  nine_whole t listed free must nine row there = sym (nine_picked row) ∙ its_columns 9 (columns row) (whole_row t listed free must row there ∙ nine)
+  nine_whole t listed free must nine row there =
+      sym (nine_picked row) ∙ its_columns 9 (columns row)
+      (whole_row t listed free must row there ∙ nine)

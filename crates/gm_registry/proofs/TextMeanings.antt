@@ -32,23 +32,53 @@ pub record Defines (before after : Schema) (text : List ℕ) (table : Table) : T
 
 pub about_is : Defines no_schema with_about about_text about
 unfolding understood everything
-about_is = record { command = refl; alone = refl; plain = (refl, refl); table_is = refl; schema_is = refl }
+about_is = record {
+  command = refl;
+  alone = refl;
+  plain = (refl, refl);
+  table_is = refl;
+  schema_is = refl;
+}
 
 pub mirrors_is : Defines with_about with_mirrors mirrors_text mirrors
 unfolding understood everything
-mirrors_is = record { command = refl; alone = refl; plain = (refl, refl); table_is = refl; schema_is = refl }
+mirrors_is = record {
+  command = refl;
+  alone = refl;
+  plain = (refl, refl);
+  table_is = refl;
+  schema_is = refl;
+}
 
 pub components_is : Defines with_mirrors with_components components_text components
 unfolding understood everything
-components_is = record { command = refl; alone = refl; plain = (refl, refl); table_is = refl; schema_is = refl }
+components_is = record {
+  command = refl;
+  alone = refl;
+  plain = (refl, refl);
+  table_is = refl;
+  schema_is = refl;
+}
 
 pub intents_is : Defines with_components with_intents intents_text intents
 unfolding understood everything
-intents_is = record { command = refl; alone = refl; plain = (refl, refl); table_is = refl; schema_is = refl }
+intents_is = record {
+  command = refl;
+  alone = refl;
+  plain = (refl, refl);
+  table_is = refl;
+  schema_is = refl;
+}
 
 pub commands_is : Defines with_intents registry_schema commands_text commands
 unfolding understood everything
-commands_is = record { command = refl; alone = refl; plain = (refl, refl); table_is = refl; schema_is = refl }
+commands_is = record {
+  command = refl;
+  alone = refl;
+  plain = (refl, refl);
+  table_is = refl;
+  schema_is = refl;
+}
 
 -- the text is this command, over the registry's schema
 pub record Means (text : List ℕ) (command : Command) : Type 0 where
@@ -64,17 +94,25 @@ put_about_is = record { command_is = refl; plain = (refl, refl) }
 
 -- a row of nine columns behind a rowid that is to be chosen
 abbrev pub nine_terms : List Term
-nine_terms = lit Null ∷ col 0 0 ∷ col 0 1 ∷ col 0 2 ∷ col 0 3 ∷ col 0 4 ∷ col 0 5 ∷ col 0 6 ∷ col 0 7 ∷ col 0 8 ∷ []
+nine_terms = lit Null ∷ col 0 0 ∷ col 0 1 ∷ col 0 2 ∷ col 0 3 ∷ col 0 4 ∷ col 0 5 ∷ col 0 6
+    ∷ col 0 7 ∷ col 0 8 ∷ []
 
 -- the row that stood there under its rowid and key, with the eight other columns of the new one
 abbrev pub updated : List Term
-updated = col 1 0 ∷ col 1 0 ∷ col 1 1 ∷ col 0 12 ∷ col 0 13 ∷ col 0 14 ∷ col 0 15 ∷ col 0 16 ∷ col 0 17 ∷ col 0 18 ∷ col 0 19 ∷ []
+updated = col 1 0 ∷ col 1 0 ∷ col 1 1 ∷ col 0 12 ∷ col 0 13 ∷ col 0 14 ∷ col 0 15 ∷ col 0 16
+    ∷ col 0 17 ∷ col 0 18 ∷ col 0 19 ∷ []
 
 -- puts a row of nine columns in place of the one of its key
 abbrev pub upsert : ℕ → ℕ → Command
 upsert at tree =
     InsertOr at Abort (Values nine_terms 10)
-    (record { target = Some (1 ∷ []); update = Some (record { lets = []; body = scan tree (op2 (Compare Eq Binary) (col 1 0) (col 0 9) ∷ []) updated [] }) } ∷ [])
+    (record {
+      target = Some (1 ∷ []);
+      update = Some (record {
+        lets = [];
+        body = scan tree (op2 (Compare Eq Binary) (col 1 0) (col 0 9) ∷ []) updated [];
+      });
+    } ∷ [])
 
 pub upsert_mirror_is : Means upsert_mirror_text (upsert 1 1)
 unfolding understood everything
@@ -124,7 +162,8 @@ settle_is = record { command_is = refl; plain = (refl, refl) }
 
 -- the text is this query over the tables
 pub record Asks (text : List ℕ) (query : Query) (names : List (List ℕ)) : Type 0 where
-  pub command_is : command_of (understood registry_schema text) ≡ Select (record { lets = []; body = query }) names
+  pub command_is : command_of (understood registry_schema text)
+      ≡ Select (record { lets = []; body = query }) names
   pub plain : IsPlain (understood registry_schema text)
   pub of_tables : reads_listing registry_schema text ≡ false
 
@@ -134,12 +173,15 @@ shown_terms = col 1 2 ∷ col 1 3 ∷ col 1 4 ∷ col 1 5 ∷ []
 abbrev pub find_query : Query
 find_query = scan 8 (by_key ∷ []) shown_terms []
 
-pub find_is : Asks find_command_text find_query (codes "seq" ∷ codes "words" ∷ codes "copied" ∷ codes "of_total" ∷ [])
+pub find_is : Asks find_command_text find_query (codes "seq" ∷ codes "words" ∷ codes "copied"
+    ∷ codes "of_total" ∷ [])
 unfolding understood everything
 find_is = record { command_is = refl; plain = (refl, refl); of_tables = refl }
 
 abbrev pub last_query : Query
-last_query = record (scan 8 [] (col 1 2 ∷ []) ((col 1 2, record { collation = Binary; descending = true }) ∷ [])) { limit = lit (Int (pos 1)) }
+last_query =
+    record (scan 8 [] (col 1 2 ∷ []) ((col 1 2, record { collation = Binary; descending = true })
+    ∷ [])) { limit = lit (Int (pos 1)) }
 
 pub last_is : Asks last_command_text last_query (codes "seq" ∷ [])
 unfolding understood everything

@@ -51,7 +51,8 @@ abbrev over_list : Result Compiled CompileError
 over_list = if_select (compiled listing_schema load_texts_text)
 
 record IsTextsQuery : Type 0 where
-  pub command_is : command_of over_list ≡ Select (record { lets = []; body = texts_query }) (codes "rowid" ∷ codes "sql" ∷ [])
+  pub command_is : command_of over_list ≡ Select (record { lets = []; body = texts_query })
+      (codes "rowid" ∷ codes "sql" ∷ [])
   pub plain : IsPlain over_list
 
 texts_query_is : IsTextsQuery
@@ -63,9 +64,11 @@ pub ours_shows : ShowsList registry_schema
 unfolding everything
 ours_shows = refl
 
-understood_there : (schema : Schema) → ShowsList schema → understood schema load_texts_text ≡ over_list
+understood_there : (schema : Schema) → ShowsList schema
+    → understood schema load_texts_text ≡ over_list
 unfolding understood
-understood_there schema shows = ap (λ (b : Bool). if b then over_list else compiled schema load_texts_text) shows
+understood_there schema shows =
+    ap (λ (b : Bool). if b then over_list else compiled schema load_texts_text) shows
 
 pub plain_list : (schema : Schema) → ShowsList schema → IsPlain (understood schema load_texts_text)
 plain_list schema shows = subst IsPlain (sym (understood_there schema shows)) texts_query_is.plain
@@ -87,18 +90,23 @@ two_again : (db : Trees) → map (columns_at two) (listed db) ≡ listed db
 two_again db = map-map (columns_at two) _ _
 
 -- the query shows what is listed
-pub lists : (old new : State) (rows : List Row) → ShowsList old.now.schema → Shown load_texts_text [] old new rows → IsPermutation (listed old.now.trees) rows
+pub lists : (old new : State) (rows : List Row) → ShowsList old.now.schema
+    → Shown load_texts_text [] old new rows → IsPermutation (listed old.now.trees) rows
 unfolding Shown
 lists old new rows shows h =
     let known = sym h.1.is ∙ understood_there old.now.schema shows in
     let bare = subst IsPlain (sym known) texts_query_is.plain in
     let it = rw (bare.0, bare.1) at h.2 in
     let source = subst (λ b. IsSourceOf b old.now it.0) shows it.1 in
-    let reads = subst (λ k. Reads k it.0 [] rows) (ap command_of known ∙ texts_query_is.command_is) it.2 in
-    let a : IsAnswer texts_query it.0.trees [] rows = subst (λ d. IsAnswer texts_query d [] rows) (overlaid it.0.trees) (reads.answer Null) in
+    let reads = subst (λ k. Reads k it.0 [] rows) (ap command_of known ∙ texts_query_is.command_is)
+    it.2 in
+    let a : IsAnswer texts_query it.0.trees [] rows =
+    subst (λ d. IsAnswer texts_query d [] rows) (overlaid it.0.trees) (reads.answer Null) in
     let got = found 0 (col 1 0 ∷ col 1 5 ∷ []) [] it.0.trees [] rows has_text a in
-    let kept = filter_agree (λ (r : Row). holds ([] ∷ r ∷ []) has_text) (λ row. not (is_null (column row 5))) (λ row. some_value (column row 5)) (it.0.trees 0) in
-    subst (λ l. IsPermutation (map (λ (row : Row). column row 0 ∷ column row 5 ∷ []) l) rows) (kept ∙ ap (filter (λ (row : Row). not (is_null (column row 5)))) source.1) got
+    let kept = filter_agree (λ (r : Row). holds ([] ∷ r ∷ []) has_text)
+    (λ row. not (is_null (column row 5))) (λ row. some_value (column row 5)) (it.0.trees 0) in
+    subst (λ l. IsPermutation (map (λ (row : Row). column row 0 ∷ column row 5 ∷ []) l) rows)
+    (kept ∙ ap (filter (λ (row : Row). not (is_null (column row 5)))) source.1) got
 
 -- ---- five rows that are among others
 
@@ -110,24 +118,35 @@ module _ {A : Type 0} where
   -- one is taken out
   taken : (xs : List A) (x : A) → Has xs x → (rest : List A) × IsPermutation xs (x ∷ rest)
   taken [] x h = absurd h
-  taken (y ∷ ys) x (inl same) = (ys, subst (λ z. IsPermutation (y ∷ ys) (z ∷ ys)) same (IsPermutation-refl (y ∷ ys)))
+  taken (y ∷ ys) x (inl same) =
+      (ys, subst (λ z. IsPermutation (y ∷ ys) (z ∷ ys)) same (IsPermutation-refl (y ∷ ys)))
   taken (y ∷ ys) x (inr h) =
-      let it = taken ys x h in
-      (y ∷ it.0, IsPermutation-trans (y ∷ ys) (y ∷ x ∷ it.0) (x ∷ y ∷ it.0) (IsPermutation-cons y ys (x ∷ it.0) it.1) (IsPermutation-swap (y ∷ x ∷ it.0) (x ∷ y ∷ it.0) 0 1 (omega arith) (omega arith) refl))
+      let it = taken ys x h in (
+        y ∷ it.0,
+        IsPermutation-trans (y ∷ ys) (y ∷ x ∷ it.0) (x ∷ y ∷ it.0)
+            (IsPermutation-cons y ys (x ∷ it.0) it.1)
+            (IsPermutation-swap (y ∷ x ∷ it.0) (x ∷ y ∷ it.0) 0 1 (omega arith) (omega arith) refl),
+      )
 
   -- as many rows as there are, among which each stands, are all of them
-  covers : (xs rows : List A) → AllDiffer xs → ((x : A) → Has xs x → Has rows x) → length rows ≡ length xs → IsPermutation xs rows
+  covers : (xs rows : List A) → AllDiffer xs → ((x : A) → Has xs x → Has rows x)
+      → length rows ≡ length xs → IsPermutation xs rows
   covers [] [] differ there many = IsPermutation-refl []
   covers [] (row ∷ rows) differ there many = absurd (omega (arith, many))
   covers (x ∷ xs) rows differ there many =
       let it = taken rows x (there x (inl refl)) in
-      let fewer : length it.0 ≡ length xs = omega (arith, many, length_permutation rows (x ∷ it.0) it.1) in
+      let fewer : length it.0 ≡ length xs =
+      omega (arith, many, length_permutation rows (x ∷ it.0) it.1) in
       let others : (y : A) → Has xs y → Has it.0 y = λ y h.
-      ⊎_elim (λ (s : x ≡ y). absurd (differ.0 (subst (Has xs) (sym s) h))) (λ (k : Has it.0 y). k) (Has-permutation rows (x ∷ it.0) y it.1 (there y (inr h))) in
-      IsPermutation-trans (x ∷ xs) (x ∷ it.0) rows (IsPermutation-cons x xs it.0 (covers xs it.0 differ.1 others fewer)) (IsPermutation-sym rows (x ∷ it.0) it.1)
+      ⊎_elim (λ (s : x ≡ y). absurd (differ.0 (subst (Has xs) (sym s) h))) (λ (k : Has it.0 y). k)
+      (Has-permutation rows (x ∷ it.0) y it.1 (there y (inr h))) in
+      IsPermutation-trans (x ∷ xs) (x ∷ it.0) rows
+      (IsPermutation-cons x xs it.0 (covers xs it.0 differ.1 others fewer))
+      (IsPermutation-sym rows (x ∷ it.0) it.1)
 
 same_number : (m n : ℕ) (a b : List ℕ) → under_number m a ≡ under_number n b → m ≡ n
-same_number m n a b e = let first : ◌≡◌ {A = Value} (Int (pos m)) (Int (pos n)) = ap (λ row. column row 0) e in cc
+same_number m n a b e =
+    let first : ◌≡◌ {A = Value} (Int (pos m)) (Int (pos n)) = ap (λ row. column row 0) e in cc
 
 abbrev row_of : ℕ × List ℕ → Row
 row_of p = under_number p.0 p.1
@@ -138,22 +157,31 @@ Rise n [] = Unit {0}
 Rise n (p ∷ ps) = (n < p.0) × Rise p.0 ps
 
 -- a text stands not among those under greater numbers
-not_above : (n : ℕ) (text : List ℕ) (m : ℕ) (ps : List (ℕ × List ℕ)) → n ≤ m → Rise m ps → ¬ (Has (map row_of ps) (under_number n text))
+not_above : (n : ℕ) (text : List ℕ) (m : ℕ) (ps : List (ℕ × List ℕ)) → n ≤ m → Rise m ps
+    → ¬ (Has (map row_of ps) (under_number n text))
 not_above n text m [] low up h = h
-not_above n text m (p ∷ ps) low up (inl same) = let e = same_number p.0 n p.1 text same in omega (arith, e, low, up.0)
-not_above n text m (p ∷ ps) low up (inr later) = not_above n text p.0 ps (omega (arith, low, up.0)) up.1 later
+not_above n text m (p ∷ ps) low up (inl same) = let e = same_number p.0 n p.1 text same in
+    omega (arith, e, low, up.0)
+not_above n text m (p ∷ ps) low up (inr later) =
+    not_above n text p.0 ps (omega (arith, low, up.0)) up.1 later
 
 differ_by_number : (n : ℕ) (ps : List (ℕ × List ℕ)) → Rise n ps → AllDiffer (map row_of ps)
 differ_by_number n [] up = tt
-differ_by_number n (p ∷ ps) up = (not_above p.0 p.1 p.0 ps (omega arith) up.1, differ_by_number p.0 ps up.1)
+differ_by_number n (p ∷ ps) up =
+    (not_above p.0 p.1 p.0 ps (omega arith) up.1, differ_by_number p.0 ps up.1)
 
 abbrev five : List (ℕ × List ℕ)
-five = (1, about_text) ∷ (2, mirrors_text) ∷ (5, components_text) ∷ (8, intents_text) ∷ (9, commands_text) ∷ []
+five = (1, about_text) ∷ (2, mirrors_text) ∷ (5, components_text) ∷ (8, intents_text)
+    ∷ (9, commands_text) ∷ []
 
 all_differ : AllDiffer our_tables
-all_differ = differ_by_number 0 five (omega arith, (omega arith, (omega arith, (omega arith, (omega arith, tt)))))
+all_differ = differ_by_number 0 five (
+  omega arith,
+  (omega arith, (omega arith, (omega arith, (omega arith, tt)))),
+)
 
-pub all_five : (rows : List Row) → length rows ≡ 5 → AllStand rows our_tables → IsPermutation our_tables rows
+pub all_five : (rows : List Row) → length rows ≡ 5 → AllStand rows our_tables
+    → IsPermutation our_tables rows
 all_five rows many all = covers our_tables rows all_differ there many
   where
     there : (x : Row) → Has our_tables x → Has rows x
@@ -164,19 +192,41 @@ all_five rows many all = covers our_tables rows all_differ there many
     there x (inr (inr (inr (inr (inl same))))) = subst (Has rows) same all.1.1.1.1
     there x (inr (inr (inr (inr (inr none))))) = absurd none
 
-pub five_stand : (rows : List Row) → IsPermutation our_tables rows → (length rows ≡ 5) × AllStand rows our_tables
+pub five_stand : (rows : List Row) → IsPermutation our_tables rows
+    → (length rows ≡ 5) × AllStand rows our_tables
 five_stand rows same =
-    let stands : (x : Row) → Has our_tables x → Has rows x = λ x. Has-permutation our_tables rows x same in
-    (length_permutation our_tables rows same, (stands _ (inl refl), (stands _ (inr (inl refl)), (stands _ (inr (inr (inl refl))), (stands _ (inr (inr (inr (inl refl)))), stands _ (inr (inr (inr (inr (inl refl))))))))))
+    let stands : (x : Row) → Has our_tables x → Has rows x =
+    λ x. Has-permutation our_tables rows x same in (
+      length_permutation our_tables rows same,
+      (
+        stands _ (inl refl),
+        (
+          stands _ (inr (inl refl)),
+          (
+            stands _ (inr (inr (inl refl))),
+            (
+              stands _ (inr (inr (inr (inl refl)))),
+              stands _ (inr (inr (inr (inr (inl refl))))),
+            ),
+          ),
+        ),
+      ),
+    )
 
 -- rows that were shown show our texts exactly where the store lists them
-pub ours_listed : (db : Trees) (rows : List Row) → IsPermutation (listed db) rows → IsPermutation our_tables (map (columns_at two) rows) → ListsOurs db
+pub ours_listed : (db : Trees) (rows : List Row) → IsPermutation (listed db) rows
+    → IsPermutation our_tables (map (columns_at two) rows) → ListsOurs db
 ours_listed db rows shown ours =
-    IsPermutation-trans our_tables (map (columns_at two) rows) (listed db) ours (IsPermutation-sym _ _ (subst (λ l. IsPermutation l (map (columns_at two) rows)) (two_again db) (IsPermutation-map (columns_at two) _ _ shown)))
+    IsPermutation-trans our_tables (map (columns_at two) rows) (listed db) ours
+    (IsPermutation-sym _ _ (subst (λ l. IsPermutation l (map (columns_at two) rows))
+    (two_again db) (IsPermutation-map (columns_at two) _ _ shown)))
 
-pub ours_shown : (db : Trees) (rows : List Row) → IsPermutation (listed db) rows → ListsOurs db → IsPermutation our_tables (map (columns_at two) rows)
+pub ours_shown : (db : Trees) (rows : List Row) → IsPermutation (listed db) rows → ListsOurs db
+    → IsPermutation our_tables (map (columns_at two) rows)
 ours_shown db rows shown lists =
-    IsPermutation-trans our_tables (listed db) (map (columns_at two) rows) lists (subst (λ l. IsPermutation l (map (columns_at two) rows)) (two_again db) (IsPermutation-map (columns_at two) _ _ shown))
+    IsPermutation-trans our_tables (listed db) (map (columns_at two) rows) lists
+    (subst (λ l. IsPermutation l (map (columns_at two) rows)) (two_again db)
+    (IsPermutation-map (columns_at two) _ _ shown))
 
 -- ---- reads of the list
 
@@ -184,7 +234,9 @@ pub ours_known : (schema : Schema) → IsOurSchema schema → ShowsList schema
 ours_known schema ours = subst ShowsList (sym ours) ours_shows
 
 -- what is known to list our texts is no store of somebody else's
-pub not_foreign : (old new : State) → (HasCleanDisk new → ShowsList old.now.schema → ListsOurs old.now.trees) → HasFailed old new → ¬ (ListsOurs old.now.trees) → HasFailedOver ShowsList old new
+pub not_foreign : (old new : State)
+    → (HasCleanDisk new → ShowsList old.now.schema → ListsOurs old.now.trees) → HasFailed old new
+    → ¬ (ListsOurs old.now.trees) → HasFailedOver ShowsList old new
 not_foreign old new tells failed other = record {
   refused = λ clean shows is. absurd (other (tells clean shows));
   left = survives_weaker old new _ _ (λ clean db _ shows. other (tells clean shows)) failed.left;

@@ -57,16 +57,26 @@ with_intents more t = record t { intents = more ++ t.intents }
 -- the tables with the records of a change: what is gone goes first
 abbrev pub with_records : Changed → Tables → Tables
 with_records ch t =
-    with_components ch.components (with_some_mirror ch.mirror (without_some_mirror ch.gone_mirror (without_components ch.gone_components t)))
+    with_components ch.components (with_some_mirror ch.mirror
+    (without_some_mirror ch.gone_mirror (without_components ch.gone_components t)))
 
 -- the row of a command under its key
 abbrev pub command_row : List ℕ → ℕ → List ℕ → Reply → CommandRow
-command_row key number words reply = record { call_key = key; seq = number; words = words; copied = copied_of reply; of_total = total_of reply }
+command_row key number words reply =
+    record {
+      call_key = key;
+      seq = number;
+      words = words;
+      copied = copied_of reply;
+      of_total = total_of reply;
+    }
 
--- the tables with the change: its records, its intents, numbered from 1, and the command under its key
+-- the tables with the change: its records, its intents, numbered from 1, and the command under its
+-- key
 abbrev pub with_change : Changed → List ℕ → ℕ → List ℕ → Tables → Tables
 with_change ch key number words t =
-    with_command (command_row key number words ch.reply) (with_intents (intent_rows 1 ch.intents) (with_records ch t))
+    with_command (command_row key number words ch.reply)
+    (with_intents (intent_rows 1 ch.intents) (with_records ch t))
 
 -- the same under the next number
 abbrev pub with_accepted : Changed → List ℕ → List ℕ → Tables → Tables

@@ -16,8 +16,10 @@ use Rattle.gm_registry.specs.declared.components_by_key.Key.TheVariants.{Provide
 
 -- what each key asks by
 abbrev pub key_text : Key → List ℕ
-key_text Provider = codes "SELECT prov, mirror, did, syncid, priority, sync_offset, dflags, hard, provsize FROM components WHERE prov = ?1"
-key_text Mirror = codes "SELECT prov, mirror, did, syncid, priority, sync_offset, dflags, hard, provsize FROM components WHERE mirror = ?1"
+key_text Provider =
+    codes "SELECT prov, mirror, did, syncid, priority, sync_offset, dflags, hard, provsize FROM components WHERE prov = ?1"
+key_text Mirror =
+    codes "SELECT prov, mirror, did, syncid, priority, sync_offset, dflags, hard, provsize FROM components WHERE mirror = ?1"
 
 -- the stored column that it tests
 abbrev pub key_column : Key → ℕ
@@ -30,7 +32,9 @@ row_is_under key label row = equal Binary (column row (key_column key)) (Text la
 
 -- the rows that the query of the key may show for the label
 abbrev pub AreUnder : Trees → Key → List ℕ → List Row → Type 0
-AreUnder db key label rows = IsPermutation (map (columns_at (shown_places Components)) (filter (row_is_under key label) (db 4))) rows
+AreUnder db key label rows =
+    IsPermutation (map (columns_at (shown_places Components))
+    (filter (row_is_under key label) (db 4))) rows
 
 -- the component is on this provider, or of this mirror
 abbrev pub is_under : Key → List ℕ → Component → Bool

@@ -15,7 +15,8 @@ use Rattle.gm_rows.specs.Texts.{about_text, mirrors_text, components_text, inten
 
 -- the objects that have a text, as sqlite_schema shows them: each by its number and its text
 abbrev pub listed : Trees → List Row
-listed db = map (λ row. column row 0 ∷ column row 5 ∷ []) (filter (λ row. not (is_null (column row 5))) (put_all [] (map shown (db catalog_tree))))
+listed db = map (λ row. column row 0 ∷ column row 5 ∷ [])
+    (filter (λ row. not (is_null (column row 5))) (put_all [] (map shown (db catalog_tree))))
 
 -- a text under its number
 abbrev pub under_number : ℕ → List ℕ → Row
@@ -23,7 +24,9 @@ under_number number text = Int (pos number) ∷ Text text ∷ []
 
 -- the tables of a registry
 abbrev pub our_tables : List Row
-our_tables = under_number 1 about_text ∷ under_number 2 mirrors_text ∷ under_number 5 components_text ∷ under_number 8 intents_text ∷ under_number 9 commands_text ∷ []
+our_tables = under_number 1 about_text ∷ under_number 2 mirrors_text
+    ∷ under_number 5 components_text ∷ under_number 8 intents_text ∷ under_number 9 commands_text
+    ∷ []
 
 -- each of these rows stands among those
 abbrev pub AllStand : List Row → List Row → Type 0

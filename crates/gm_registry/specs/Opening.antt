@@ -48,7 +48,8 @@ one_one = Int (pos 1) ∷ Int (pos 1) ∷ []
 abbrev pub IsOfSchema1 : Trees → Type 0
 IsOfSchema1 db = map about_numbers (db 0) ≡ one_one ∷ []
 
--- an opening takes such a store: one without tables, or one that lists those of a registry, with the one record of `about`
+-- an opening takes such a store: one without tables, or one that lists those of a registry, with
+-- the one record of `about`
 abbrev pub IsOpenable : Trees → Type 0
 IsOpenable db = IsEmpty db ⊎ (IsSound registry_schema db × ListsOurs db × IsOfSchema1 db)
 

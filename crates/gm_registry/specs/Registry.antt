@@ -72,7 +72,8 @@ module _ {S : Type 0} (g : Ghosts S) where
   abbrev pub LeavesNothingNew : Held S → Held S → Type 0
   LeavesNothingNew old new = Survives (state g old) (state g new) (λ _. ⊥)
 
-  -- what is stored stays while it is open, and a crash finds only what it could find before the call
+  -- what is stored stays while it is open, and a crash finds only what it could find before the
+  -- call
   abbrev pub LeavesAlone : Held S → Held S → Type 0
   LeavesAlone old new = rows.LeavesAlone (state g old) (state g new)
 
@@ -96,15 +97,16 @@ module _ {S : Type 0} (g : Ghosts S) where
 
   -- the disk failed or refused a call, or a query may take only so many steps
   abbrev pub StoreFailed : Held S → Held S → Type 0
-  StoreFailed old new = MoreFaults (state g old).faults (state g new).faults ⊎ IsSome (state g old).step_limit
+  StoreFailed old new = MoreFaults (state g old).faults (state g new).faults
+      ⊎ IsSome (state g old).step_limit
 
   -- it has these tables, and a crash now leaves them and nothing else
   pub record HasSaved (r : Held S) (t : Tables) : Type 0 where
     pub tables : HasTables r t
     pub crash : CrashLeavesOnly r t
 
-  -- A call that writes nothing, at each of its exits: the tables are as before while it is open, and a crash finds
-  -- nothing new.
+  -- A call that writes nothing, at each of its exits: the tables are as before while it is open,
+  -- and a crash finds nothing new.
   pub record Reads (old new : Held S) : Type 0 where
     pub kept : DiskKept new → (t : Tables) → HasTables old t → IsOpen new → HasSaved new t
     pub left : (t : Tables) → HasTables old t → LeavesNothingNew old new
@@ -113,17 +115,22 @@ module _ {S : Type 0} (g : Ghosts S) where
   module _ {X E : Type 0} (old new : Held S) (result : Result X E) where
     -- at Err the tables are as before, while it is open
     abbrev pub Refuses : Type 0
-    Refuses = DiskKept new → OnErr result ((t : Tables) → HasTables old t → IsOpen new → HasTables new t)
+    Refuses = DiskKept new → OnErr result ((t : Tables) → HasTables old t → IsOpen new
+        → HasTables new t)
 
     -- within a transaction, at Ok it makes these of the tables
     abbrev pub MakesInside : (Tables → Tables) → Type 0
     MakesInside after =
-        DiskKept new → OnOk result ((first : Database) (t : Tables) → IsInside first (state g old) t → IsInside first (state g new) (after t))
+        DiskKept new → OnOk result ((first : Database) (t : Tables) → IsInside first (state g old) t
+        → IsInside first (state g new) (after t))
 
-    -- A call that makes these of the tables: at Ok they are saved, at Err the tables are as before while it is open, and
-    -- at each of its exits a crash finds what it could find before, or what the call makes.
+    -- A call that makes these of the tables: at Ok they are saved, at Err the tables are as before
+    -- while it is open, and at each of its exits a crash finds what it could find before, or what
+    -- the call makes.
     pub record Writes (after : Tables → Tables) : Type 0 where
-      pub done : DiskKept new → OnOk result ((t : Tables) → HasTables old t → HasSaved new (after t))
-      pub refused : DiskKept new → OnErr result ((t : Tables) → HasTables old t → IsOpen new → HasSaved new t)
+      pub done : DiskKept new → OnOk result ((t : Tables) → HasTables old t
+          → HasSaved new (after t))
+      pub refused : DiskKept new → OnErr result ((t : Tables) → HasTables old t → IsOpen new
+          → HasSaved new t)
       pub left : (t : Tables) → HasTables old t → MayLeave old new (after t)
       pub clean : WasClean old new

@@ -10,10 +10,12 @@ use Rattle.gm_state.specs.Rows.{Tables, CommandRow}
 
 -- the reply that the two numbers of a row say
 abbrev pub reply_in : ℕ → ℕ → Reply
-reply_in copied of_total = if (copied == 0) && (of_total == 0) then Plain else Copied copied of_total
+reply_in copied of_total =
+    if (copied == 0) && (of_total == 0) then Plain else Copied copied of_total
 
 -- a command stands under this key, with this number, these words and this reply
-pub record IsKept (t : Tables) (key : List ℕ) (number : ℕ) (words : List ℕ) (reply : Reply) : Type 0 where
+pub record IsKept (t : Tables) (key : List ℕ) (number : ℕ) (words : List ℕ) (reply : Reply) :
+    Type 0 where
   pub row : CommandRow
   pub has : Has t.commands row
   pub key_is : row.call_key ≡ key
@@ -51,4 +53,5 @@ reply_values c = Int (pos c.seq) ∷ Text c.words ∷ Int (pos c.copied) ∷ Int
 abbrev pub IsLastOf : Tables → List Row → Type 0
 IsLastOf t rows =
     ((t.commands ≡ []) × (rows ≡ []))
-    ⊎ ((c : CommandRow) × Has t.commands c × ((d : CommandRow) → Has t.commands d → d.seq ≤ c.seq) × (rows ≡ (Int (pos c.seq) ∷ []) ∷ []))
+    ⊎ ((c : CommandRow) × Has t.commands c × ((d : CommandRow) → Has t.commands d → d.seq ≤ c.seq)
+    × (rows ≡ (Int (pos c.seq) ∷ []) ∷ []))

@@ -53,7 +53,8 @@ fn put_some_mirror<S: Alter>(
     Ok(())
 }
 
-/// Writes the records of a change. A component refers to its mirror: it goes before it, and comes after it.
+/// Writes the records of a change. A component refers to its mirror: it goes before it, and comes
+/// after it.
 fn put_records<S: Alter>(tx: &mut Transaction<'_, S>, change: &Change) -> Result<(), Error>
     ensures same_reference { tx.new.conn.ghost_name ≡ tx.old.conn.ghost_name }
     ensures put { MakesInside S.Store tx.old.conn.now tx.new.conn.now result
@@ -123,8 +124,8 @@ fn is_in_range(reply: Reply) -> bool
     }
 }
 
-/// Accepts a change under the next number. `Store` where as many commands as may be were accepted already, or where
-/// the numbers of the reply are out of range: nothing is written then.
+/// Accepts a change under the next number. `Store` where as many commands as may be were accepted
+/// already, or where the numbers of the reply are out of range: nothing is written then.
 pub(crate) fn accept_on<S: Alter>(
     conn: &mut Connection<S>,
     change: &Change,

@@ -1,4 +1,5 @@
-//! The table of accepted commands: written inside a transaction, read by the key or from the end of its numbers.
+//! The table of accepted commands: written inside a transaction, read by the key or from the end of
+//! its numbers.
 
 ghost use Rattle.std.specs.Prelude.{◌≡◌};
 ghost use Rattle.gm_registry.specs.Changes.{with_command, command_row};

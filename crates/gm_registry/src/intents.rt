@@ -1,4 +1,5 @@
-//! The table of intents: written inside a transaction, numbered from 1 in their order, and emptied in one of its own.
+//! The table of intents: written inside a transaction, numbered from 1 in their order, and emptied
+//! in one of its own.
 
 ghost use Rattle.std.specs.Prelude.{◌≡◌, [], ◌∷◌};
 ghost use Rattle.gm_state.specs.Rows.{intent_row, intent_rows};

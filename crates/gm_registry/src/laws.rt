@@ -23,8 +23,8 @@ pub fn one_reading()
     one_row();
 }
 
-/// With a change the tables hold the rows of the records with the change, its intents before those that were pending,
-/// and the command under its key.
+/// With a change the tables hold the rows of the records with the change, its intents before those
+/// that were pending, and the command under its key.
 pub fn change_holds()
     ensures records { (ch : Changed) (key words : List ℕ) (s : Records) (t : Tables) → IsState s
         → HoldState s t → HoldState (changed_by ch s) (with_accepted ch key words t) }
@@ -35,22 +35,25 @@ pub fn change_holds()
         ≡ command_row key (length t.commands + 1) words ch.reply ∷ t.commands }
 {}
 
-/// A registry that has tables has them saved: a crash between two calls leaves them and nothing else.
+/// A registry that has tables has them saved: a crash between two calls leaves them and nothing
+/// else.
 pub fn tables_are_saved<S: Alter>()
     ensures { (r : Held S) (t : Tables) → HasTables S.Store r t → HasSaved S.Store r t }
 {}
 
-/// A registry that was only read, as `load` reads it, has tables: those of the state and the intents that `load` tells.
-/// That the rowids rise in each table is asked for: a read tells none but those of `intents`, and `sqlite` keeps its
-/// tables so, but no clause of a connection says it. A registry that has tables has rowids that rise.
+/// A registry that was only read, as `load` reads it, has tables: those of the state and the
+/// intents that `load` tells. That the rowids rise in each table is asked for: a read tells none
+/// but those of `intents`, and `sqlite` keeps its tables so, but no clause of a connection says it.
+/// A registry that has tables has rowids that rise.
 pub fn what_is_read_is_held<S: Alter>()
     ensures { (r : Held S) (s : Records) (ts : List Intent) → IsRegistry S.Store r
         → HasRisingRowids (seen S.Store r) → TablesSay (seen S.Store r) s ts
         → HasTablesOf S.Store r s ts }
 {}
 
-/// The rowids rise in each table of a registry whose store isn't broken, as `sqlite` has it: no call of it has failed so that
-/// it can't go on. Of an open connection that holds, but no clause says it.
+/// The rowids rise in each table of a registry whose store isn't broken, as `sqlite` has it: no
+/// call of it has failed so that it can't go on. Of an open connection that holds, but no clause
+/// says it.
 pub fn unbroken_rowids_rise<S: Alter>()
     ensures { (r : Held S) → IsRegistry S.Store r → IsUnbroken S.Store r
         → HasRisingRowids (seen S.Store r) }

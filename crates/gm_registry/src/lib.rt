@@ -1,8 +1,9 @@
-//! The registry: five tables of SQLite that hold the records of a state, the intents that are pending and the commands
-//! that were accepted.
+//! The registry: five tables of SQLite that hold the records of a state, the intents that are
+//! pending and the commands that were accepted.
 //!
-//! Begin with `registry.rt`, the calls, and `specs/Registry.antt`, the words that their contracts say; then
-//! `specs/Changes.antt`, what a command makes of the tables. What the rows of a table say stands in `gm_rows`.
+//! Begin with `registry.rt`, the calls, and `specs/Registry.antt`, the words that their contracts
+//! say; then `specs/Changes.antt`, what a command makes of the tables. What the rows of a table say
+//! stands in `gm_rows`.
 #![tactic(auto)]
 
 mod accept;

@@ -43,8 +43,9 @@ pub(crate) fn load_on<S: Alter>(
 }
 
 impl<S: Alter> Registry<S> {
-    /// The state and the pending intents, in their order. `Unreadable` exactly where the tables aren't those of a state
-    /// with intents that are readable for it; `Memory`, `Store` as of any call.
+    /// The state and the pending intents, in their order. `Unreadable` exactly where the tables
+    /// aren't those of a state with intents that are readable for it; `Memory`, `Store` as of any
+    /// call.
     pub fn load(&mut self, alloc: Global) -> Result<(State, Vec<Intent>), StoreFault>
         ensures says { DiskKept S.Store self.new
             → IfOk result (λ r. IsRegistry S.Store self.old

@@ -70,8 +70,8 @@ fn shows_text(rows: &[Row], number: u64, text: &str) -> bool
     false
 }
 
-/// Whether the rows show the texts of the five tables. The numbers between them are those of the indexes that their keys
-/// make.
+/// Whether the rows show the texts of the five tables. The numbers between them are those of the
+/// indexes that their keys make.
 fn show_all_texts(rows: &[Row]) -> bool
     ensures { IsTrue result ↔ AllStand (map (columns_at two) rows.now) our_tables }
 {

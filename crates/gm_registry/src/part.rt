@@ -63,7 +63,8 @@ fn owns_one(components: &[Component], mirror: &Mirror) -> bool
     components.iter().any(|k| k.mirror == mirror.name)
 }
 
-/// Whether the command calls for the mirror, or one of the components on named providers is its own.
+/// Whether the command calls for the mirror, or one of the components on named providers is its
+/// own.
 fn is_asked(command: &Command, mids: &[u32], named: &[Component], mirror: &Mirror) -> bool
     ensures { result ≡ is_asked_by command.now mids.now named.now mirror.now }
 {
@@ -153,10 +154,10 @@ fn part_on<S: Alter>(
 }
 
 impl<S: Alter> Registry<S> {
-    /// The part of the records that a command asks for, after some further mids, and how many mirrors there are. It
-    /// reads all mirrors, of which the rules allow 64, and components by their keys alone. `Unreadable` only where
-    /// the rows of mirrors and components aren't those of a state, though it doesn't see each such row; `Memory`,
-    /// `Store` as of any call.
+    /// The part of the records that a command asks for, after some further mids, and how many
+    /// mirrors there are. It reads all mirrors, of which the rules allow 64, and components by
+    /// their keys alone. `Unreadable` only where the rows of mirrors and components aren't those of
+    /// a state, though it doesn't see each such row; `Memory`, `Store` as of any call.
     pub fn part(
         &mut self,
         alloc: Global,

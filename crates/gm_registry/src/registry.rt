@@ -46,8 +46,9 @@ pub struct OpenFault<S: Alter> {
 }
 
 impl<S: Alter> Registry<S> {
-    /// Takes the registry of a store, or makes one where the store has no table. `Unreadable` where the texts of its
-    /// tables aren't those of a registry, or where `about` isn't the one record (1, 1).
+    /// Takes the registry of a store, or makes one where the store has no table. `Unreadable` where
+    /// the texts of its tables aren't those of a registry, or where `about` isn't the one record
+    /// (1, 1).
     pub fn open(mut store: Connection<S>) -> Result<Registry<S>, OpenFault<S>>
         requires { store.in_transaction ≡ false }
         ensures made { IsOpen S.Store store → IsEmpty (stored S.Store store)
@@ -94,8 +95,8 @@ impl<S: Alter> Registry<S> {
         self.conn
     }
 
-    /// The number, the words and the reply of the command under a key. `Memory`, `Store` as of any call; `Unreadable`
-    /// where the row isn't one that this crate writes.
+    /// The number, the words and the reply of the command under a key. `Memory`, `Store` as of any
+    /// call; `Unreadable` where the row isn't one that this crate writes.
     pub fn reply_of(&mut self, key: &str) -> Result<Option<(u64, String, Reply)>, StoreFault>
         ensures found { DiskKept S.Store self.new
             → IfOk result (λ found. (t : Tables) → HasTables S.Store self.old t
@@ -130,8 +131,9 @@ impl<S: Alter> Registry<S> {
         Ok(u64::from(accepted_on(&mut self.conn)?))
     }
 
-    /// Writes a change, its intents and its key in one transaction, and answers the command's number. `Store` before
-    /// anything is written where 100,000 commands were accepted already, or the numbers of the reply are out of range.
+    /// Writes a change, its intents and its key in one transaction, and answers the command's
+    /// number. `Store` before anything is written where 100,000 commands were accepted already, or
+    /// the numbers of the reply are out of range.
     pub fn accept(&mut self, change: &Change, key: &str, words: &str) -> Result<u64, StoreFault>
         ensures number { DiskKept S.Store self.new
             → IfOk result (λ n. (t : Tables) → HasTables S.Store self.old t → n ≡ count_of t + 1) }

@@ -1,4 +1,5 @@
-//! Each statement once over memory, with values worked out by hand, and stores that hold something else.
+//! Each statement once over memory, with values worked out by hand, and stores that hold something
+//! else.
 
 mod counting;
 mod loading;

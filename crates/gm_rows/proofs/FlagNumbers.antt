@@ -12,4 +12,10 @@ pub mirror_bits_low : (f : MirrorFlags) → mirror_bits f ≤ 3
 mirror_bits_low f = omega (arith, bit_low f.no_autosync 1, bit_low f.no_failsync 2)
 
 pub disk_bits_low : (f : DiskFlags) → disk_bits f ≤ 15
-disk_bits_low f = omega (arith, bit_low f.dirty 1, bit_low f.synchronizing 2, bit_low f.force_sync 4, bit_low f.inactive 8)
+disk_bits_low f = omega (
+  arith,
+  bit_low f.dirty 1,
+  bit_low f.synchronizing 2,
+  bit_low f.force_sync 4,
+  bit_low f.inactive 8,
+)

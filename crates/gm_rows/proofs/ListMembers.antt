@@ -15,5 +15,7 @@ stands_from [] x h = absurd h
 stands_from (y ∷ ys) x (inl same) = inl (sym same)
 stands_from (y ∷ ys) x (inr later) = inr (stands_from ys x later)
 
-pub stands_permuted : {X : Type 0} (xs ys : List X) (x : X) → IsPermutation xs ys → Stands xs x → Stands ys x
-stands_permuted xs ys x same h = has_contained ys x (Contains-permutation xs ys x same (contains_had xs x h))
+pub stands_permuted : {X : Type 0} (xs ys : List X) (x : X) → IsPermutation xs ys → Stands xs x
+    → Stands ys x
+stands_permuted xs ys x same h =
+    has_contained ys x (Contains-permutation xs ys x same (contains_had xs x h))

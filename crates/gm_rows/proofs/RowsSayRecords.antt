@@ -14,32 +14,43 @@ use Rattle.gm_rows.specs.Says.{mirror_shown, component_shown, intent_shown}
 use Rattle.gm_rows.proofs.ReorderedValues.{unmapped, same_records, all_moved, numbered_map}
 
 -- one mirror has a row, and one component
-pub one_mirror : (a b : Mirror) → (mirror_row a ≡ mirror_row b → a ≡ b) → mirror_shown a ≡ mirror_shown b → a ≡ b
+pub one_mirror : (a b : Mirror) → (mirror_row a ≡ mirror_row b → a ≡ b)
+    → mirror_shown a ≡ mirror_shown b → a ≡ b
 one_mirror a b one same = one (cc)
 
-pub one_component : (a b : Component) → (component_row a ≡ component_row b → a ≡ b) → component_shown a ≡ component_shown b → a ≡ b
+pub one_component : (a b : Component) → (component_row a ≡ component_row b → a ≡ b)
+    → component_shown a ≡ component_shown b → a ≡ b
 one_component a b one same = one (cc)
 
 -- records in another order say the rows that they were read from
-pub says_these : {A : Type 0} (f : A → Row) (rows : List Row) (read state : List A) → map (columns_at nine) rows ≡ numbered (λ _ x. f x) 1 read → IsPermutation read state → IsPermutation (map f state) (map (columns_at nine) rows)
+pub says_these : {A : Type 0} (f : A → Row) (rows : List Row) (read state : List A)
+    → map (columns_at nine) rows ≡ numbered (λ _ x. f x) 1 read → IsPermutation read state
+    → IsPermutation (map f state) (map (columns_at nine) rows)
 says_these f rows read state is same =
-    subst (IsPermutation (map f state)) (sym (is ∙ numbered_map f 1 read)) (IsPermutation-map f state read (IsPermutation-sym read state same))
+    subst (IsPermutation (map f state)) (sym (is ∙ numbered_map f 1 read))
+    (IsPermutation-map f state read (IsPermutation-sym read state same))
 
 -- no list of values is that of the rows, so they say no records
-pub none_said : {A : Type 0} (f : A → Row) (P : A → Type 0) (rows : List Row) → ((list : List A) → All P list → map (columns_at nine) rows ≡ numbered (λ _ x. f x) 1 list → ⊥)
-    → (state : List A) → ((x : A) → Has state x → P x) → IsPermutation (map f state) (map (columns_at nine) rows) → ⊥
+pub none_said : {A : Type 0} (f : A → Row) (P : A → Type 0) (rows : List Row)
+    → ((list : List A) → All P list → map (columns_at nine) rows ≡ numbered (λ _ x. f x) 1 list → ⊥)
+    → (state : List A) → ((x : A) → Has state x → P x)
+    → IsPermutation (map f state) (map (columns_at nine) rows) → ⊥
 none_said f P rows none state each same =
     let it = unmapped f state (map (columns_at nine) rows) same in
     none it.0 (all_moved P state it.0 it.1 each) (sym it.2 ∙ sym (numbered_map f 1 it.0))
 
 -- records of the rows are those that were read, in another order
-pub read_said : {A : Type 0} (f : A → Row) → ((a b : A) → f a ≡ f b → a ≡ b) → (rows : List Row) (read state : List A) → map (columns_at nine) rows ≡ numbered (λ _ x. f x) 1 read
+pub read_said : {A : Type 0} (f : A → Row) → ((a b : A) → f a ≡ f b → a ≡ b)
+    → (rows : List Row) (read state : List A)
+    → map (columns_at nine) rows ≡ numbered (λ _ x. f x) 1 read
     → IsPermutation (map f state) (map (columns_at nine) rows) → IsPermutation read state
 read_said f inj rows read state is same =
-    IsPermutation-sym state read (same_records f inj state read (subst (IsPermutation (map f state)) (is ∙ numbered_map f 1 read) same))
+    IsPermutation-sym state read (same_records f inj state read
+    (subst (IsPermutation (map f state)) (is ∙ numbered_map f 1 read) same))
 
 -- what an error that is passed on says
-pub passed_on : {T E : Type 0} (r : Result T E) (P Q : E → Type 0) → ((e : E) → P e → Q e) → IsErrAnd r P → IfErr r Q
+pub passed_on : {T E : Type 0} (r : Result T E) (P Q : E → Type 0) → ((e : E) → P e → Q e)
+    → IsErrAnd r P → IfErr r Q
 passed_on (Ok t) P Q f h = tt
 passed_on (Err e) P Q f h = f e h
 
@@ -60,7 +71,8 @@ one_intent n (Copy from to first end) (Copy from' to' first' end') e =
     let h : end ≡ end' = cc in
     cc
 
-pub one_list : (n : ℕ) (xs ys : List Intent) → numbered intent_shown n xs ≡ numbered intent_shown n ys → xs ≡ ys
+pub one_list : (n : ℕ) (xs ys : List Intent)
+    → numbered intent_shown n xs ≡ numbered intent_shown n ys → xs ≡ ys
 one_list n [] [] e = refl
 one_list n [] (y ∷ ys) e = cc
 one_list n (x ∷ xs) [] e = cc

@@ -38,68 +38,124 @@ number_in (Int (pos n)) = n
 number_in _ = 0
 
 -- what is shown of records, from what is kept of them
-module _ {A : Type 0} (part pick stored : Row → Row) (values shown : A → Row) (picks : (row : Row) → pick (part row) ≡ stored row) (shows : (x : A) → pick (values x) ≡ shown x) where
-  shows_records : (records : List A) (rows kept : List Row) → Keeps part values records kept → IsPermutation (map stored kept) rows → IsPermutation (map shown records) rows
+module _ {A : Type 0} (part pick stored : Row → Row) (values shown : A → Row) (picks : (row : Row)
+    → pick (part row) ≡ stored row) (shows : (x : A) → pick (values x) ≡ shown x) where
+  shows_records : (records : List A) (rows kept : List Row) → Keeps part values records kept
+      → IsPermutation (map stored kept) rows → IsPermutation (map shown records) rows
   shows_records records rows kept keeps are =
-      let mine : map pick (map values records) ≡ map shown records = map-map pick values records ∙ (λ i. map (λ x. shows x i) records) in
-      let theirs : map pick (map part kept) ≡ map stored kept = map-map pick part kept ∙ (λ i. map (λ row. picks row i) kept) in
-      IsPermutation-trans _ _ _ (subst₂ IsPermutation mine theirs (IsPermutation-map pick _ _ keeps.same)) are
+      let mine : map pick (map values records) ≡ map shown records =
+      map-map pick values records ∙ (λ i. map (λ x. shows x i) records) in
+      let theirs : map pick (map part kept) ≡ map stored kept =
+      map-map pick part kept ∙ (λ i. map (λ row. picks row i) kept) in
+      IsPermutation-trans _ _ _ (subst₂ IsPermutation mine theirs
+      (IsPermutation-map pick _ _ keeps.same)) are
 
 -- columns that are read again
-pub again_shown : {A : Type 0} (again : Row → Row) (shown : A → Row) → ((x : A) → again (shown x) ≡ shown x) → (records : List A) (rows : List Row) → IsPermutation (map shown records) rows
+pub again_shown : {A : Type 0} (again : Row → Row) (shown : A → Row)
+    → ((x : A) → again (shown x) ≡ shown x) → (records : List A) (rows : List Row)
+    → IsPermutation (map shown records) rows
     → IsPermutation (map shown records) (map again rows)
 again_shown again shown same records rows are =
-    subst (λ l. IsPermutation l (map again rows)) (map-map again shown records ∙ (λ i. map (λ x. same x i) records)) (IsPermutation-map again _ _ are)
+    subst (λ l. IsPermutation l (map again rows))
+    (map-map again shown records ∙ (λ i. map (λ x. same x i) records))
+    (IsPermutation-map again _ _ are)
 
-pub nine_picked : (row : Row) → columns_at nine (columns row) ≡ columns_at (shown_places Mirrors) row
+pub nine_picked : (row : Row)
+    → columns_at nine (columns row) ≡ columns_at (shown_places Mirrors) row
 nine_picked [] = refl
 nine_picked (x ∷ row) = refl
 
 -- ---- mirrors and components
 
-pub mirrors_shown : (db : Trees) (t : Tables) (rows : List Row) → HasRows db t → IsShown db Mirrors rows → IsPermutation (map mirror_values t.mirrors) (map (columns_at nine) rows)
+pub mirrors_shown : (db : Trees) (t : Tables) (rows : List Row) → HasRows db t
+    → IsShown db Mirrors rows
+    → IsPermutation (map mirror_values t.mirrors) (map (columns_at nine) rows)
 mirrors_shown db t rows has are =
     again_shown (columns_at nine) mirror_values (λ m. refl) t.mirrors rows
-    (shows_records columns (columns_at nine) (columns_at (shown_places Mirrors)) mirror_values mirror_values nine_picked (λ m. refl) t.mirrors rows (db 1) has.mirrors are)
+    (shows_records columns (columns_at nine) (columns_at (shown_places Mirrors)) mirror_values
+    mirror_values nine_picked (λ m. refl) t.mirrors rows (db 1) has.mirrors are)
 
 -- rows that show what is kept of some components
-pub components_shown : (ks : List ComponentRow) (kept rows : List Row) → Keeps columns component_values ks kept → IsPermutation (map (columns_at (shown_places Components)) kept) rows → IsPermutation (map component_values ks) (map (columns_at nine) rows)
+pub components_shown : (ks : List ComponentRow) (kept rows : List Row)
+    → Keeps columns component_values ks kept
+    → IsPermutation (map (columns_at (shown_places Components)) kept) rows
+    → IsPermutation (map component_values ks) (map (columns_at nine) rows)
 components_shown ks kept rows has are =
     again_shown (columns_at nine) component_values (λ k. refl) ks rows
-    (shows_records columns (columns_at nine) (columns_at (shown_places Components)) component_values component_values nine_picked (λ k. refl) ks rows kept has are)
+    (shows_records columns (columns_at nine) (columns_at (shown_places Components)) component_values
+    component_values nine_picked (λ k. refl) ks rows kept has are)
 
 -- the records of a state are those whose rows are kept
-pub said : {A B : Type 0} (row_of : A → B) (values : B → Row) (state : List A) (kept : List B) (rows : List Row) → IsPermutation (map values kept) rows → IsPermutation (map row_of state) kept
+pub said : {A B : Type 0} (row_of : A → B) (values : B
+    → Row) (state : List A) (kept : List B) (rows : List Row) → IsPermutation (map values kept) rows
+    → IsPermutation (map row_of state) kept
     → IsPermutation (map (λ x. values (row_of x)) state) rows
 said row_of values state kept rows are same =
-    IsPermutation-trans _ _ _ (subst (λ l. IsPermutation l (map values kept)) (map-map values row_of state) (IsPermutation-map values _ _ same)) are
+    IsPermutation-trans _ _ _ (subst (λ l. IsPermutation l (map values kept))
+    (map-map values row_of state) (IsPermutation-map values _ _ same)) are
 
-kept_of : {A B : Type 0} (row_of : A → B) (values : B → Row) → ((a b : B) → values a ≡ values b → a ≡ b) → (state : List A) (kept : List B) (rows : List Row) → IsPermutation (map values kept) rows
-    → IsPermutation (map (λ x. values (row_of x)) state) rows → IsPermutation (map row_of state) kept
+kept_of : {A B : Type 0} (row_of : A → B) (values : B → Row)
+    → ((a b : B) → values a ≡ values b → a ≡ b) → (state : List A) (kept : List B) (rows : List Row)
+    → IsPermutation (map values kept) rows
+    → IsPermutation (map (λ x. values (row_of x)) state) rows
+    → IsPermutation (map row_of state) kept
 kept_of row_of values inj state kept rows are same =
     same_records values inj (map row_of state) kept
-    (subst (λ l. IsPermutation l (map values kept)) (sym (map-map values row_of state)) (IsPermutation-trans _ _ _ same (IsPermutation-sym _ _ are)))
+    (subst (λ l. IsPermutation l (map values kept)) (sym (map-map values row_of state))
+    (IsPermutation-trans _ _ _ same (IsPermutation-sym _ _ are)))
 
 one_mirror_row : (a b : MirrorRow) → mirror_values a ≡ mirror_values b → a ≡ b
-one_mirror_row a b e = ap (λ (row : Row). let x : MirrorRow = record { name = text_in (column row 0); mid = number_in (column row 1); total = number_in (column row 2); genid = number_in (column row 3); syncid = number_in (column row 4); slice = number_in (column row 5); balance = number_in (column row 6); mediasize = number_in (column row 7); mflags = number_in (column row 8) } in x) e
+one_mirror_row a b e =
+    ap (λ (row : Row). let x : MirrorRow = record {
+      name = text_in (column row 0);
+      mid = number_in (column row 1);
+      total = number_in (column row 2);
+      genid =
+          number_in (column row 3);
+      syncid = number_in (column row 4);
+      slice = number_in (column row 5);
+      balance = number_in (column row 6);
+      mediasize = number_in (column row 7);
+      mflags =
+          number_in (column row 8);
+    } in x) e
 
 one_component_row : (a b : ComponentRow) → component_values a ≡ component_values b → a ≡ b
-one_component_row a b e = ap (λ (row : Row). let x : ComponentRow = record { prov = text_in (column row 0); mirror = text_in (column row 1); did = number_in (column row 2); syncid = number_in (column row 3); priority = number_in (column row 4); sync_offset = number_in (column row 5); dflags = number_in (column row 6); hard = number_in (column row 7); provsize = number_in (column row 8) } in x) e
+one_component_row a b e =
+    ap (λ (row : Row). let x : ComponentRow = record {
+      prov = text_in (column row 0);
+      mirror = text_in (column row 1);
+      did = number_in (column row 2);
+      syncid =
+          number_in (column row 3);
+      priority = number_in (column row 4);
+      sync_offset =
+          number_in (column row 5);
+      dflags = number_in (column row 6);
+      hard = number_in (column row 7);
+      provsize = number_in (column row 8);
+    } in x) e
 
 -- ---- intents
 
-intent_picked : (row : Row) → columns_at (shown_places Intents) (whole row) ≡ columns_at (shown_places Intents) row
+intent_picked : (row : Row) → columns_at (shown_places Intents) (whole row)
+    ≡ columns_at (shown_places Intents) row
 intent_picked row = refl
 
-intents_shown : (db : Trees) (t : Tables) (f : Fetched) → HasRows db t → AreShown db f → IsPermutation (map shown_intent t.intents) f.intents.items
+intents_shown : (db : Trees) (t : Tables) (f : Fetched) → HasRows db t → AreShown db f
+    → IsPermutation (map shown_intent t.intents) f.intents.items
 intents_shown db t f has are =
-    shows_records whole (columns_at (shown_places Intents)) (columns_at (shown_places Intents)) intent_values shown_intent intent_picked (λ i. refl) t.intents f.intents.items (db 7) has.intents are.intents
+    shows_records whole (columns_at (shown_places Intents))
+    (columns_at (shown_places Intents)) intent_values shown_intent intent_picked
+    (λ i. refl) t.intents f.intents.items (db 7) has.intents are.intents
 
-pub rows_numbered : (n : ℕ) (ts : List Intent) → map shown_intent (intent_rows n ts) ≡ numbered intent_shown n ts
+pub rows_numbered : (n : ℕ) (ts : List Intent)
+    → map shown_intent (intent_rows n ts) ≡ numbered intent_shown n ts
 rows_numbered n [] = refl
 rows_numbered n (t ∷ ts) = ap (λ more. intent_shown n t ∷ more) (rows_numbered (n + 1) ts)
 
-read_again : (n : ℕ) (ts : List Intent) → map (columns_at six) (numbered intent_shown n ts) ≡ numbered intent_shown n ts
+read_again : (n : ℕ) (ts : List Intent)
+    → map (columns_at six) (numbered intent_shown n ts) ≡ numbered intent_shown n ts
 read_again n [] = refl
 read_again n (t ∷ ts) = ap (λ more. intent_shown n t ∷ more) (read_again (n + 1) ts)
 
@@ -109,19 +165,38 @@ first_is_number n (Clear p) = refl
 first_is_number n (Copy source target first end) = refl
 
 one_intent_row : (a b : IntentRow) → shown_intent a ≡ shown_intent b → a ≡ b
-one_intent_row a b e = ap (λ (row : Row). let x : IntentRow = record { ord = number_in (column row 0); kind = number_in (column row 1); prov = text_in (column row 2); source = text_in (column row 3); first_sector = number_in (column row 4); end_sector = number_in (column row 5) } in x) e
+one_intent_row a b e =
+    ap (λ (row : Row). let x : IntentRow = record {
+      ord = number_in (column row 0);
+      kind = number_in (column row 1);
+      prov = text_in (column row 2);
+      source = text_in (column row 3);
+      first_sector = number_in (column row 4);
+      end_sector = number_in (column row 5);
+    } in x) e
 
-intents_said : (db : Trees) (t : Tables) (f : Fetched) (ts : List Intent) → HasRows db t → AreShown db f → IsPermutation (intent_rows 1 ts) t.intents → map (columns_at six) f.intents.items ≡ numbered intent_shown 1 ts
+intents_said : (db : Trees) (t : Tables) (f : Fetched) (ts : List Intent) → HasRows db t
+    → AreShown db f → IsPermutation (intent_rows 1 ts) t.intents
+    → map (columns_at six) f.intents.items ≡ numbered intent_shown 1 ts
 intents_said db t f ts has are same =
-    let kept : IsPermutation (numbered intent_shown 1 ts) (map shown_intent t.intents) = subst (λ l. IsPermutation l (map shown_intent t.intents)) (rows_numbered 1 ts) (IsPermutation-map shown_intent _ _ same) in
-    let rows : f.intents.items ≡ numbered intent_shown 1 ts = one_order intent_shown first_is_number f.intents.items ts (IsPermutation-trans _ _ _ kept (intents_shown db t f has are)) are.in_order in
+    let kept : IsPermutation (numbered intent_shown 1 ts) (map shown_intent t.intents) =
+    subst (λ l. IsPermutation l (map shown_intent t.intents)) (rows_numbered 1 ts)
+    (IsPermutation-map shown_intent _ _ same) in
+    let rows : f.intents.items ≡ numbered intent_shown 1 ts =
+    one_order intent_shown first_is_number f.intents.items ts
+    (IsPermutation-trans _ _ _ kept (intents_shown db t f has are)) are.in_order in
     ap (map (columns_at six)) rows ∙ read_again 1 ts
 
-intents_kept : (db : Trees) (t : Tables) (f : Fetched) (ts : List Intent) → HasRows db t → AreShown db f → map (columns_at six) f.intents.items ≡ numbered intent_shown 1 ts → IsPermutation (intent_rows 1 ts) t.intents
+intents_kept : (db : Trees) (t : Tables) (f : Fetched) (ts : List Intent) → HasRows db t
+    → AreShown db f → map (columns_at six) f.intents.items ≡ numbered intent_shown 1 ts
+    → IsPermutation (intent_rows 1 ts) t.intents
 intents_kept db t f ts has are is =
-    let shown = again_shown (columns_at six) shown_intent (λ i. refl) t.intents f.intents.items (intents_shown db t f has are) in
-    let these : map (columns_at six) f.intents.items ≡ map shown_intent (intent_rows 1 ts) = is ∙ sym (rows_numbered 1 ts) in
-    same_records shown_intent one_intent_row (intent_rows 1 ts) t.intents (IsPermutation-sym _ _ (subst (IsPermutation (map shown_intent t.intents)) these shown))
+    let shown = again_shown (columns_at six) shown_intent (λ i. refl) t.intents f.intents.items
+    (intents_shown db t f has are) in
+    let these : map (columns_at six) f.intents.items ≡ map shown_intent (intent_rows 1 ts) =
+    is ∙ sym (rows_numbered 1 ts) in
+    same_records shown_intent one_intent_row (intent_rows 1 ts) t.intents
+    (IsPermutation-sym _ _ (subst (IsPermutation (map shown_intent t.intents)) these shown))
 
 -- ---- commands
 
@@ -129,39 +204,52 @@ intents_kept db t f ts has are is =
 abbrev shown_command : CommandRow → Row
 shown_command c = Int (pos c.seq) ∷ Int (pos c.copied) ∷ Int (pos c.of_total) ∷ []
 
-command_picked : (row : Row) → columns_at (1 ∷ 3 ∷ 4 ∷ []) (columns row) ≡ columns_at (shown_places Commands) row
+command_picked : (row : Row)
+    → columns_at (1 ∷ 3 ∷ 4 ∷ []) (columns row) ≡ columns_at (shown_places Commands) row
 command_picked [] = refl
 command_picked (x ∷ row) = refl
 
-commands_shown : (db : Trees) (t : Tables) (f : Fetched) → HasRows db t → AreShown db f → IsPermutation (map shown_command t.commands) f.commands.items
+commands_shown : (db : Trees) (t : Tables) (f : Fetched) → HasRows db t → AreShown db f
+    → IsPermutation (map shown_command t.commands) f.commands.items
 commands_shown db t f has are =
-    shows_records columns (columns_at (1 ∷ 3 ∷ 4 ∷ [])) (columns_at (shown_places Commands)) command_values shown_command command_picked (λ c. refl) t.commands f.commands.items (db 8) has.commands are.commands
+    shows_records columns (columns_at (1 ∷ 3 ∷ 4 ∷ []))
+    (columns_at (shown_places Commands)) command_values shown_command command_picked
+    (λ c. refl) t.commands f.commands.items (db 8) has.commands are.commands
 
 has_mapped : {A B : Type 0} (f : A → B) (xs : List A) (x : A) → Has xs x → Has (map f xs) (f x)
 has_mapped f [] x h = absurd h
 has_mapped f (y ∷ xs) x (inl same) = inl (ap f same)
 has_mapped f (y ∷ xs) x (inr later) = inr (has_mapped f xs x later)
 
-mapped_from : {A B : Type 0} (f : A → B) (xs : List A) (y : B) → Has (map f xs) y → (x : A) × Has xs x × (f x ≡ y)
+mapped_from : {A B : Type 0} (f : A → B) (xs : List A) (y : B) → Has (map f xs) y
+    → (x : A) × Has xs x × (f x ≡ y)
 mapped_from f [] y h = absurd h
 mapped_from f (x ∷ xs) y (inl same) = (x, inl refl, same)
 mapped_from f (x ∷ xs) y (inr later) = let it = mapped_from f xs y later in (it.0, inr it.1, it.2)
 
-as_many : (t : Tables) (f : Fetched) → IsPermutation (map shown_command t.commands) f.commands.items → length f.commands.items ≡ length t.commands
+as_many : (t : Tables) (f : Fetched) → IsPermutation (map shown_command t.commands) f.commands.items
+    → length f.commands.items ≡ length t.commands
 as_many t f are = length_permutation _ _ are ∙ length-map t.commands shown_command
 
-commands_said : (t : Tables) (f : Fetched) → IsPermutation (map shown_command t.commands) f.commands.items → IsInOrder f.commands.items → AreNumbered t.commands
-    → ((c : CommandRow) → Has t.commands c → IsInRange c) → length t.commands ≤ 100000 → AreCommands f.commands.items
+commands_said : (t : Tables) (f : Fetched)
+    → IsPermutation (map shown_command t.commands) f.commands.items → IsInOrder f.commands.items
+    → AreNumbered t.commands
+    → ((c : CommandRow) → Has t.commands c → IsInRange c) → length t.commands ≤ 100000
+    → AreCommands f.commands.items
 commands_said t f are up numbers range few =
     let seq : CommandRow → ℕ = λ c. c.seq in
     let rest : CommandRow → Row = λ c. Int (pos c.copied) ∷ Int (pos c.of_total) ∷ [] in
-    let values = subst (IsPermutation (map number_value (numbers_of (length t.commands)))) (map-map number_value seq t.commands) (IsPermutation-map number_value _ _ numbers) in
-    let it = in_their_order (λ (c : CommandRow). Int (pos c.seq)) rest t.commands f.commands.items values are up in
+    let values = subst (IsPermutation (map number_value (numbers_of (length t.commands))))
+    (map-map number_value seq t.commands) (IsPermutation-map number_value _ _ numbers) in
+    let it = in_their_order (λ (c : CommandRow). Int (pos c.seq)) rest t.commands f.commands.items
+    values are up in
     let many = as_many t f are in
     record {
       count = omega (arith, many, few);
-      each = subst (AreCommandsFrom 1) (sym it.2) (commands_from (λ (c : CommandRow). Int (pos c.seq)) rest 1 it.0 (λ c has.
-          let limits = range c (Has-permutation it.0 t.commands c (IsPermutation-sym _ _ it.1) has) in
+      each = subst (AreCommandsFrom 1) (sym it.2)
+          (commands_from (λ (c : CommandRow). Int (pos c.seq)) rest 1 it.0 (λ c has.
+          let limits =
+          range c (Has-permutation it.0 t.commands c (IsPermutation-sym _ _ it.1) has) in
           ((c.copied, refl, omega arith, limits.0), (c.of_total, refl, omega arith, limits.1))));
     }
 
@@ -171,42 +259,59 @@ at_most high n it = let e : n ≡ it.0 = same n it.0 it.1 in omega (arith, e, it
     same : (a b : ℕ) → ◌≡◌ {A = Value} (Int (pos a)) (Int (pos b)) → a ≡ b
     same a b e = cc
 
-commands_kept : (t : Tables) (f : Fetched) → IsPermutation (map shown_command t.commands) f.commands.items → AreCommands f.commands.items → (c : CommandRow) → Has t.commands c → IsInRange c
+commands_kept : (t : Tables) (f : Fetched)
+    → IsPermutation (map shown_command t.commands) f.commands.items → AreCommands f.commands.items
+    → (c : CommandRow) → Has t.commands c → IsInRange c
 commands_kept t f are says c has =
-    let it = any_command 1 f.commands.items (shown_command c) says.each (Has-permutation (map shown_command t.commands) f.commands.items (shown_command c) are (has_mapped shown_command t.commands c has)) in
+    let it = any_command 1 f.commands.items (shown_command c) says.each
+    (Has-permutation (map shown_command t.commands) f.commands.items (shown_command c) are
+    (has_mapped shown_command t.commands c has)) in
     (at_most 1048576 c.copied it.1.copied, at_most 1048576 c.of_total it.1.total)
 
 -- ---- all tables
 
-about_said : (db : Trees) (t : Tables) (f : Fetched) → HasRows db t → AreShown db f → IsAbout f.about.items
+about_said : (db : Trees) (t : Tables) (f : Fetched) → HasRows db t → AreShown db f
+    → IsAbout f.about.items
 about_said db t f has are =
-    let shown : IsPermutation ((Int (pos 1) ∷ Int (pos 1) ∷ []) ∷ []) f.about.items = subst (λ l. IsPermutation (map (columns_at (shown_places About)) l) f.about.items) has.about are.about in
+    let shown : IsPermutation ((Int (pos 1) ∷ Int (pos 1) ∷ []) ∷ []) f.about.items =
+    subst (λ l. IsPermutation (map (columns_at (shown_places About)) l) f.about.items) has.about
+    are.about in
     ap (map (columns_at two)) (one_permutation (Int (pos 1) ∷ Int (pos 1) ∷ []) f.about.items shown)
 
 -- tables that are those of a state say it
-pub says_tables : (db : Trees) (t : Tables) (f : Fetched) (s : Records) (ts : List Intent) → HasCounted db t → AreShown db f → AreTablesOf t s ts → Say f s ts
+pub says_tables : (db : Trees) (t : Tables) (f : Fetched) (s : Records) (ts : List Intent)
+    → HasCounted db t → AreShown db f → AreTablesOf t s ts → Say f s ts
 says_tables db t f s ts has are of = record {
   about = about_said db t f has.rows are;
   records = record {
     state = of.state;
-    mirrors_are = said mirror_row mirror_values s.mirrors t.mirrors _ (mirrors_shown db t f.mirrors.items has.rows are.mirrors) of.mirrors;
-    components_are = said component_row component_values s.components t.components _ (components_shown t.components (db 4) f.components.items has.rows.components are.components) of.components;
+    mirrors_are = said mirror_row mirror_values s.mirrors t.mirrors _
+        (mirrors_shown db t f.mirrors.items has.rows are.mirrors) of.mirrors;
+    components_are = said component_row component_values s.components t.components _
+        (components_shown t.components (db 4) f.components.items has.rows.components are.components)
+        of.components;
   };
   intents = intents_said db t f ts has.rows are of.intents;
   readable = of.readable;
-  commands = commands_said t f (commands_shown db t f has.rows are) are.commands_in_order has.numbered of.commands of.count;
+  commands = commands_said t f (commands_shown db t f has.rows are) are.commands_in_order
+      has.numbered of.commands of.count;
 }
 
 -- and tables that say a state are its
-pub tables_said : (db : Trees) (t : Tables) (f : Fetched) (s : Records) (ts : List Intent) → HasCounted db t → AreShown db f → Say f s ts → AreTablesOf t s ts
+pub tables_said : (db : Trees) (t : Tables) (f : Fetched) (s : Records) (ts : List Intent)
+    → HasCounted db t → AreShown db f → Say f s ts → AreTablesOf t s ts
 tables_said db t f s ts has are says =
     let commands = commands_shown db t f has.rows are in
     let many = as_many t f commands in
     let count = says.commands.count in
     record {
       state = says.records.state;
-      mirrors = kept_of mirror_row mirror_values one_mirror_row s.mirrors t.mirrors _ (mirrors_shown db t f.mirrors.items has.rows are.mirrors) says.records.mirrors_are;
-      components = kept_of component_row component_values one_component_row s.components t.components _ (components_shown t.components (db 4) f.components.items has.rows.components are.components) says.records.components_are;
+      mirrors = kept_of mirror_row mirror_values one_mirror_row s.mirrors t.mirrors _
+          (mirrors_shown db t f.mirrors.items has.rows are.mirrors) says.records.mirrors_are;
+      components =
+          kept_of component_row component_values one_component_row s.components t.components _
+          (components_shown t.components (db 4) f.components.items has.rows.components
+          are.components) says.records.components_are;
       intents = intents_kept db t f ts has.rows are says.intents;
       readable = says.readable;
       commands = commands_kept t f commands says.commands;
@@ -215,65 +320,96 @@ tables_said db t f s ts has are says =
 
 -- ---- whatever the tables were to hold
 
-nine_again : (row : Row) → columns_at nine (columns_at (shown_places Mirrors) row) ≡ columns_at (shown_places Mirrors) row
+nine_again : (row : Row) → columns_at nine (columns_at (shown_places Mirrors) row)
+    ≡ columns_at (shown_places Mirrors) row
 nine_again row = refl
 
-six_again : (row : Row) → columns_at six (columns_at (shown_places Intents) row) ≡ columns_at (shown_places Intents) row
+six_again : (row : Row) → columns_at six (columns_at (shown_places Intents) row)
+    ≡ columns_at (shown_places Intents) row
 six_again row = refl
 
-two_again : (row : Row) → columns_at two (columns_at (shown_places About) row) ≡ columns_at (shown_places About) row
+two_again : (row : Row) → columns_at two (columns_at (shown_places About) row)
+    ≡ columns_at (shown_places About) row
 two_again row = refl
 
 -- the numbers of the commands that are kept
-numbers_told : (db : Trees) (f : Fetched) → length f.commands.items ≡ length (db 8) → AreShown db f → AreCommandsFrom 1 f.commands.items
-    → IsPermutation (map number_value (numbers_of (length (db 8)))) (map (λ (row : Row). column row 2) (db 8))
+numbers_told : (db : Trees) (f : Fetched) → length f.commands.items ≡ length (db 8) → AreShown db f
+    → AreCommandsFrom 1 f.commands.items
+    → IsPermutation (map number_value (numbers_of (length (db 8))))
+    (map (λ (row : Row). column row 2) (db 8))
 numbers_told db f many are each =
     let rows = f.commands.items in
     let first : Row → Value = λ row. column row 0 in
     let kept : IsPermutation (map (λ (row : Row). column row 2) (db 8)) (map first rows) =
-    subst (λ l. IsPermutation l (map first rows)) (map-map first (columns_at (shown_places Commands)) (db 8)) (IsPermutation-map first _ _ are.commands) in
+    subst (λ l. IsPermutation l (map first rows))
+    (map-map first (columns_at (shown_places Commands)) (db 8))
+    (IsPermutation-map first _ _ are.commands) in
     let counted = IsPermutation-map number_value _ _ (counted_up (length (db 8))) in
-    let shown : map first rows ≡ map number_value (count_from 1 (length (db 8))) = numbers_shown 1 rows each ∙ ap (λ k. map number_value (count_from 1 k)) many in
-    IsPermutation-trans _ _ _ counted (IsPermutation-sym _ _ (subst (IsPermutation (map (λ (row : Row). column row 2) (db 8))) shown kept))
+    let shown : map first rows ≡ map number_value (count_from 1 (length (db 8))) =
+    numbers_shown 1 rows each ∙ ap (λ k. map number_value (count_from 1 k)) many in
+    IsPermutation-trans _ _ _ counted
+    (IsPermutation-sym _ _ (subst (IsPermutation (map (λ (row : Row). column row 2) (db 8)))
+    shown kept))
 
 -- rows that say something say tables that do
-pub any_tables : (db : Trees) (f : Fetched) (s : Records) (ts : List Intent) → AreShown db f → Say f s ts → TablesSay db s ts
+pub any_tables : (db : Trees) (f : Fetched) (s : Records) (ts : List Intent) → AreShown db f
+    → Say f s ts → TablesSay db s ts
 any_tables db f s ts are says =
     let one : List Row = (Int (pos 1) ∷ Int (pos 1) ∷ []) ∷ [] in
     let about : IsPermutation (map (columns_at (shown_places About)) (db 0)) one =
-    subst (IsPermutation (map (columns_at (shown_places About)) (db 0))) says.about (again_shown (columns_at two) (columns_at (shown_places About)) two_again (db 0) f.about.items are.about) in
-    let mirrors = again_shown (columns_at nine) (columns_at (shown_places Mirrors)) nine_again (db 1) f.mirrors.items are.mirrors in
-    let components = again_shown (columns_at nine) (columns_at (shown_places Components)) nine_again (db 4) f.components.items are.components in
-    let intents = again_shown (columns_at six) (columns_at (shown_places Intents)) six_again (db 7) f.intents.items are.intents in
+    subst (IsPermutation (map (columns_at (shown_places About)) (db 0))) says.about
+    (again_shown (columns_at two) (columns_at (shown_places About)) two_again
+    (db 0) f.about.items are.about) in
+    let mirrors = again_shown (columns_at nine) (columns_at (shown_places Mirrors)) nine_again
+    (db 1) f.mirrors.items are.mirrors in
+    let components = again_shown (columns_at nine) (columns_at (shown_places Components)) nine_again
+    (db 4) f.components.items are.components in
+    let intents = again_shown (columns_at six) (columns_at (shown_places Intents)) six_again
+    (db 7) f.intents.items are.intents in
     let stored = columns_at (shown_places Commands) in
-    let many : length f.commands.items ≡ length (db 8) = length_permutation _ _ are.commands ∙ length-map (db 8) stored in
+    let many : length f.commands.items ≡ length (db 8) =
+    length_permutation _ _ are.commands ∙ length-map (db 8) stored in
     record {
       state = says.records.state;
       about = one_permutation (Int (pos 1) ∷ Int (pos 1) ∷ []) _ (IsPermutation-sym _ _ about);
       mirrors = IsPermutation-trans _ _ _ says.records.mirrors_are (IsPermutation-sym _ _ mirrors);
-      components = IsPermutation-trans _ _ _ says.records.components_are (IsPermutation-sym _ _ components);
-      intents = IsPermutation-sym _ _ (subst (IsPermutation (map (columns_at (shown_places Intents)) (db 7))) says.intents intents);
+      components = IsPermutation-trans _ _ _ says.records.components_are
+          (IsPermutation-sym _ _ components);
+      intents = IsPermutation-sym _ _
+          (subst (IsPermutation (map (columns_at (shown_places Intents)) (db 7))) says.intents
+          intents);
       readable = says.readable;
       count = subst (λ n. n ≤ 100000) many says.commands.count;
       numbers = numbers_told db f many are says.commands.each;
       replies = λ row has.
-          let it = any_command 1 f.commands.items (stored row) says.commands.each (Has-permutation (map stored (db 8)) f.commands.items (stored row) are.commands (has_mapped stored (db 8) row has)) in
+          let it = any_command 1 f.commands.items (stored row) says.commands.each
+          (Has-permutation (map stored (db 8)) f.commands.items (stored row) are.commands
+          (has_mapped stored (db 8) row has)) in
           (it.1.copied, it.1.total);
     }
 
 -- and tables that say something are shown by rows that do
-pub any_rows : (db : Trees) (f : Fetched) (s : Records) (ts : List Intent) → AreShown db f → TablesSay db s ts → Say f s ts
+pub any_rows : (db : Trees) (f : Fetched) (s : Records) (ts : List Intent) → AreShown db f
+    → TablesSay db s ts → Say f s ts
 any_rows db f s ts are of =
     let one : List Row = (Int (pos 1) ∷ Int (pos 1) ∷ []) ∷ [] in
-    let about : f.about.items ≡ one = one_permutation (Int (pos 1) ∷ Int (pos 1) ∷ []) f.about.items (subst (λ l. IsPermutation l f.about.items) of.about are.about) in
-    let mirrors = again_shown (columns_at nine) (columns_at (shown_places Mirrors)) nine_again (db 1) f.mirrors.items are.mirrors in
-    let components = again_shown (columns_at nine) (columns_at (shown_places Components)) nine_again (db 4) f.components.items are.components in
-    let intents : f.intents.items ≡ numbered intent_shown 1 ts = one_order intent_shown first_is_number f.intents.items ts (IsPermutation-trans _ _ _ of.intents are.intents) are.in_order in
+    let about : f.about.items ≡ one =
+    one_permutation (Int (pos 1) ∷ Int (pos 1) ∷ []) f.about.items
+    (subst (λ l. IsPermutation l f.about.items) of.about are.about) in
+    let mirrors = again_shown (columns_at nine) (columns_at (shown_places Mirrors)) nine_again
+    (db 1) f.mirrors.items are.mirrors in
+    let components = again_shown (columns_at nine) (columns_at (shown_places Components)) nine_again
+    (db 4) f.components.items are.components in
+    let intents : f.intents.items ≡ numbered intent_shown 1 ts =
+    one_order intent_shown first_is_number f.intents.items ts
+    (IsPermutation-trans _ _ _ of.intents are.intents) are.in_order in
     let stored = columns_at (shown_places Commands) in
-    let many : length f.commands.items ≡ length (db 8) = length_permutation _ _ are.commands ∙ length-map (db 8) stored in
+    let many : length f.commands.items ≡ length (db 8) =
+    length_permutation _ _ are.commands ∙ length-map (db 8) stored in
     let number : Row → Value = λ row. column row 2 in
     let rest : Row → Row = λ row. column row 4 ∷ column row 5 ∷ [] in
-    let order = in_their_order number rest (db 8) f.commands.items of.numbers are.commands are.commands_in_order in
+    let order = in_their_order number rest (db 8) f.commands.items of.numbers are.commands
+    are.commands_in_order in
     record {
       about = ap (map (columns_at two)) about;
       records = record {
@@ -285,6 +421,9 @@ any_rows db f s ts are of =
       readable = of.readable;
       commands = record {
         count = subst (λ n. n ≤ 100000) (sym many) of.count;
-        each = subst (AreCommandsFrom 1) (sym order.2) (commands_from number rest 1 order.0 (λ row has. of.replies row (Has-permutation order.0 (db 8) row (IsPermutation-sym _ _ order.1) has)));
+        each = subst (AreCommandsFrom 1) (sym order.2)
+            (commands_from number rest 1 order.0
+            (λ row has. of.replies row (Has-permutation order.0 (db 8) row
+            (IsPermutation-sym _ _ order.1) has)));
       };
     }

@@ -36,7 +36,9 @@ module _ (s : Records) (state : IsState s) where
       let home = state.homes k has in
       let m = home.0 in
       let rules = state.each m home.1 in
-      let mine : Has (members s.components m.name) k = filter-Has (λ (j : Component). same_label j.mirror m.name) s.components k has (same_from k.mirror m.name (sym home.2)) in
+      let mine : Has (members s.components m.name) k =
+      filter-Has (λ (j : Component). same_label j.mirror m.name) s.components k has
+      (same_from k.mirror m.name (sym home.2)) in
       let fits = rules.fits in
       let behind = rules.syncids k mine in
       let below = rules.held k mine in
@@ -53,13 +55,15 @@ module _ (s : Records) (state : IsState s) where
   label_of : (k : Component) → Has s.components k → IsTrue (is_label k.provider)
   label_of k has = (component_value k has).fits.provider
 
-  named_label : (p : List ℕ) (o : Option Component) → component_of s p ≡ o → o ≢ None → IsTrue (is_label p)
+  named_label : (p : List ℕ) (o : Option Component) → component_of s p ≡ o → o ≢ None
+      → IsTrue (is_label p)
   named_label p None is some = absurd (some refl)
   named_label p (Some k) is some =
       let it = component_named s p k is in
       subst (λ n. IsTrue (is_label n)) it.1 (label_of k it.0)
 
-  of_label : (m : Mirror) (k : Component) (p : List ℕ) → IsOf s m k → k.provider ≡ p → IsTrue (is_label p)
+  of_label : (m : Mirror) (k : Component) (p : List ℕ) → IsOf s m k → k.provider ≡ p
+      → IsTrue (is_label p)
   of_label m k p of is = subst (λ n. IsTrue (is_label n)) is (label_of k (member_is s m k of).0)
 
   pub intent_value : (t : Intent) → IsReadable s t → IsIntentValue t
@@ -68,5 +72,9 @@ module _ (s : Records) (state : IsState s) where
   intent_value (Copy source target first end) w =
       let few = few_sectors w.mirror w.to_is.mirror in
       let ordered = w.ordered in
-      let within = w.within in
-      (of_label w.mirror w.from source w.from_is w.source_is, of_label w.mirror w.to target w.to_is w.target_is, omega (arith, ordered, within, few), omega (arith, within, few))
+      let within = w.within in (
+        of_label w.mirror w.from source w.from_is w.source_is,
+        of_label w.mirror w.to target w.to_is w.target_is,
+        omega (arith, ordered, within, few),
+        omega (arith, within, few),
+      )

@@ -12,9 +12,12 @@ use Rattle.gm_rows.specs.declared.fetched.Table.TheVariants.{About, Mirrors, Com
 -- what each table is asked by; intents and commands come in order of their numbers
 abbrev pub query_text : Table → List ℕ
 query_text About = codes "SELECT one, schema_no FROM about"
-query_text Mirrors = codes "SELECT name, mid, total, genid, syncid, slice, balance, mediasize, mflags FROM mirrors"
-query_text Components = codes "SELECT prov, mirror, did, syncid, priority, sync_offset, dflags, hard, provsize FROM components"
-query_text Intents = codes "SELECT ord, kind, prov, source, first_sector, end_sector FROM intents ORDER BY ord"
+query_text Mirrors =
+    codes "SELECT name, mid, total, genid, syncid, slice, balance, mediasize, mflags FROM mirrors"
+query_text Components =
+    codes "SELECT prov, mirror, did, syncid, priority, sync_offset, dflags, hard, provsize FROM components"
+query_text Intents =
+    codes "SELECT ord, kind, prov, source, first_sector, end_sector FROM intents ORDER BY ord"
 query_text Commands = codes "SELECT seq, copied, of_total FROM commands ORDER BY seq"
 
 -- where each table is kept
@@ -35,7 +38,8 @@ shown_places Commands = 2 ∷ 4 ∷ 5 ∷ []
 
 -- the rows that the query of a table may show
 abbrev pub IsShown : Trees → Table → List Row → Type 0
-IsShown db table rows = IsPermutation (map (columns_at (shown_places table)) (db (tree_of table))) rows
+IsShown db table rows =
+    IsPermutation (map (columns_at (shown_places table)) (db (tree_of table))) rows
 
 -- its rows bear numbers, by which they come
 abbrev pub IsNumbered : Table → Type 0

@@ -23,7 +23,8 @@ pub record AreRecordsOf (t : Tables) (s : Records) : Type 0 where
   pub state : IsState s
   pub rows : HoldState s t
 
--- The tables are those of a state with these intents pending, which are numbered from 1 in their order.
+-- The tables are those of a state with these intents pending, which are numbered from 1 in their
+-- order.
 pub record AreTablesOf (t : Tables) (s : Records) (ts : List Intent) : Type 0 where
   pub state : IsState s
   pub mirrors : IsPermutation (map mirror_row s.mirrors) t.mirrors

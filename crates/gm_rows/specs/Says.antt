@@ -1,4 +1,5 @@
--- The form that code goes by: what the rows that are shown of the tables say. `ReadableTables` defines readable tables.
+-- The form that code goes by: what the rows that are shown of the tables say. `ReadableTables`
+-- defines readable tables.
 use Rattle.std.specs.Prelude.{◌≡◌, ◌≤◌, ◌+◌, ℕ, List, [], ◌∷◌, length, map, pos}
 use Rattle.std.specs.List.Sorted.{IsPermutation}
 use Rattle.sqlite.specs.Order.{Row, column}
@@ -59,7 +60,8 @@ pub record AreCommands (rows : List Row) : Type 0 where
 pub record SayState (mirrors components : List Row) (s : Records) : Type 0 where
   pub state : IsState s
   pub mirrors_are : IsPermutation (map mirror_shown s.mirrors) (map (columns_at nine) mirrors)
-  pub components_are : IsPermutation (map component_shown s.components) (map (columns_at nine) components)
+  pub components_are : IsPermutation (map component_shown s.components)
+      (map (columns_at nine) components)
 
 -- all rows say a state, and intents that are readable for it, in their order
 pub record Say (f : Fetched) (s : Records) (ts : List Intent) : Type 0 where
@@ -69,15 +71,21 @@ pub record Say (f : Fetched) (s : Records) (ts : List Intent) : Type 0 where
   pub readable : AreReadable s ts
   pub commands : AreCommands f.commands.items
 
--- The tables, whatever they were to hold, are those of a state and of intents that are readable for it: their columns say
--- just these records, the commands count from 1 without gaps, and the numbers of replies are in range.
+-- The tables, whatever they were to hold, are those of a state and of intents that are readable for
+-- it: their columns say just these records, the commands count from 1 without gaps, and the numbers
+-- of replies are in range.
 pub record TablesSay (db : Trees) (s : Records) (ts : List Intent) : Type 0 where
   pub state : IsState s
   pub about : map (columns_at (shown_places About)) (db 0) ≡ (Int (pos 1) ∷ Int (pos 1) ∷ []) ∷ []
-  pub mirrors : IsPermutation (map mirror_shown s.mirrors) (map (columns_at (shown_places Mirrors)) (db 1))
-  pub components : IsPermutation (map component_shown s.components) (map (columns_at (shown_places Components)) (db 4))
-  pub intents : IsPermutation (numbered intent_shown 1 ts) (map (columns_at (shown_places Intents)) (db 7))
+  pub mirrors : IsPermutation (map mirror_shown s.mirrors)
+      (map (columns_at (shown_places Mirrors)) (db 1))
+  pub components : IsPermutation (map component_shown s.components)
+      (map (columns_at (shown_places Components)) (db 4))
+  pub intents : IsPermutation (numbered intent_shown 1 ts)
+      (map (columns_at (shown_places Intents)) (db 7))
   pub readable : AreReadable s ts
   pub count : length (db 8) ≤ 100000
-  pub numbers : IsPermutation (map number_value (numbers_of (length (db 8)))) (map (λ row. column row 2) (db 8))
-  pub replies : (row : Row) → Has (db 8) row → IsBetween 0 1048576 (column row 4) × IsBetween 0 1048576 (column row 5)
+  pub numbers : IsPermutation (map number_value (numbers_of (length (db 8))))
+      (map (λ row. column row 2) (db 8))
+  pub replies : (row : Row) → Has (db 8) row
+      → IsBetween 0 1048576 (column row 4) × IsBetween 0 1048576 (column row 5)

@@ -16,7 +16,14 @@ use Rattle.sqlite_schema.specs.declared.schema.Index.{Index}
 
 -- a column of a STRICT table that takes values of its type alone
 abbrev column : List ℕ → Kind → Bool → Column
-column name kind not_null = record { name = name; kind = kind; is_strict = true; not_null = not_null; default = Null; collation = Binary }
+column name kind not_null = record {
+  name = name;
+  kind = kind;
+  is_strict = true;
+  not_null = not_null;
+  default = Null;
+  collation = Binary;
+}
 
 -- a number that is always there
 abbrev number : List ℕ → Column
@@ -50,7 +57,9 @@ abbrev pub mirrors : Table
 mirrors = record {
   name = codes "mirrors";
   tree = 1;
-  columns = text (codes "name") ∷ number (codes "mid") ∷ number (codes "total") ∷ number (codes "genid") ∷ number (codes "syncid") ∷ number (codes "slice") ∷ number (codes "balance") ∷ number (codes "mediasize") ∷ number (codes "mflags") ∷ [];
+  columns = text (codes "name") ∷ number (codes "mid") ∷ number (codes "total")
+      ∷ number (codes "genid") ∷ number (codes "syncid") ∷ number (codes "slice")
+      ∷ number (codes "balance") ∷ number (codes "mediasize") ∷ number (codes "mflags") ∷ [];
   key = None;
   primary = 1 ∷ [];
   uniques = (1 ∷ []) ∷ (2 ∷ []) ∷ [];
@@ -66,13 +75,23 @@ abbrev pub components : Table
 components = record {
   name = codes "components";
   tree = 4;
-  columns = text (codes "prov") ∷ text (codes "mirror") ∷ number (codes "did") ∷ number (codes "syncid") ∷ number (codes "priority") ∷ number (codes "sync_offset") ∷ number (codes "dflags") ∷ number (codes "hard") ∷ number (codes "provsize") ∷ [];
+  columns = text (codes "prov") ∷ text (codes "mirror") ∷ number (codes "did")
+      ∷ number (codes "syncid") ∷ number (codes "priority") ∷ number (codes "sync_offset")
+      ∷ number (codes "dflags") ∷ number (codes "hard") ∷ number (codes "provsize") ∷ [];
   key = None;
   primary = 1 ∷ [];
   uniques = (1 ∷ []) ∷ (2 ∷ 3 ∷ []) ∷ [];
   orders = plain ∷ plain ∷ [];
   checks = [];
-  references = (record { columns = 2 ∷ []; parent = codes "mirrors"; parent_columns = codes "name" ∷ []; on_delete = NoAction; on_update = NoAction; is_deferred = false }) ∷ [];
+  references =
+      (record {
+        columns = 2 ∷ [];
+        parent = codes "mirrors";
+        parent_columns = codes "name" ∷ [];
+        on_delete = NoAction;
+        on_update = NoAction;
+        is_deferred = false;
+      }) ∷ [];
   computed = [];
   stamps = record { places = []; terms = []; formats = [] };
   is_counted = false;
@@ -82,7 +101,8 @@ abbrev pub intents : Table
 intents = record {
   name = codes "intents";
   tree = 7;
-  columns = row_number (codes "ord") ∷ number (codes "kind") ∷ text (codes "prov") ∷ text (codes "source") ∷ number (codes "first_sector") ∷ number (codes "end_sector") ∷ [];
+  columns = row_number (codes "ord") ∷ number (codes "kind") ∷ text (codes "prov")
+      ∷ text (codes "source") ∷ number (codes "first_sector") ∷ number (codes "end_sector") ∷ [];
   key = Some 0;
   primary = 0 ∷ [];
   uniques = [];
@@ -98,7 +118,8 @@ abbrev pub commands : Table
 commands = record {
   name = codes "commands";
   tree = 8;
-  columns = text (codes "call_key") ∷ number (codes "seq") ∷ text (codes "words") ∷ number (codes "copied") ∷ number (codes "of_total") ∷ [];
+  columns = text (codes "call_key") ∷ number (codes "seq") ∷ text (codes "words")
+      ∷ number (codes "copied") ∷ number (codes "of_total") ∷ [];
   key = None;
   primary = 1 ∷ [];
   uniques = (1 ∷ []) ∷ (2 ∷ []) ∷ [];
@@ -111,22 +132,64 @@ commands = record {
 }
 
 abbrev pub mirrors_by_name : Index
-mirrors_by_name = record { name = codes "sqlite_autoindex_mirrors_1"; tree = 2; table = 1; columns = 1 ∷ []; order = plain; is_unique = true }
+mirrors_by_name = record {
+  name = codes "sqlite_autoindex_mirrors_1";
+  tree = 2;
+  table = 1;
+  columns = 1 ∷ [];
+  order = plain;
+  is_unique = true;
+}
 
 abbrev pub mirrors_by_mid : Index
-mirrors_by_mid = record { name = codes "sqlite_autoindex_mirrors_2"; tree = 3; table = 1; columns = 2 ∷ []; order = plain; is_unique = true }
+mirrors_by_mid = record {
+  name = codes "sqlite_autoindex_mirrors_2";
+  tree = 3;
+  table = 1;
+  columns = 2 ∷ [];
+  order = plain;
+  is_unique = true;
+}
 
 abbrev pub components_by_prov : Index
-components_by_prov = record { name = codes "sqlite_autoindex_components_1"; tree = 5; table = 4; columns = 1 ∷ []; order = plain; is_unique = true }
+components_by_prov = record {
+  name = codes "sqlite_autoindex_components_1";
+  tree = 5;
+  table = 4;
+  columns = 1 ∷ [];
+  order = plain;
+  is_unique = true;
+}
 
 abbrev pub components_by_did : Index
-components_by_did = record { name = codes "sqlite_autoindex_components_2"; tree = 6; table = 4; columns = 2 ∷ 3 ∷ []; order = plain; is_unique = true }
+components_by_did = record {
+  name = codes "sqlite_autoindex_components_2";
+  tree = 6;
+  table = 4;
+  columns = 2 ∷ 3 ∷ [];
+  order = plain;
+  is_unique = true;
+}
 
 abbrev pub commands_by_key : Index
-commands_by_key = record { name = codes "sqlite_autoindex_commands_1"; tree = 9; table = 8; columns = 1 ∷ []; order = plain; is_unique = true }
+commands_by_key = record {
+  name = codes "sqlite_autoindex_commands_1";
+  tree = 9;
+  table = 8;
+  columns = 1 ∷ [];
+  order = plain;
+  is_unique = true;
+}
 
 abbrev pub commands_by_seq : Index
-commands_by_seq = record { name = codes "sqlite_autoindex_commands_2"; tree = 10; table = 8; columns = 2 ∷ []; order = plain; is_unique = true }
+commands_by_seq = record {
+  name = codes "sqlite_autoindex_commands_2";
+  tree = 10;
+  table = 8;
+  columns = 2 ∷ [];
+  order = plain;
+  is_unique = true;
+}
 
 abbrev pub no_schema : Schema
 no_schema = record { tables = []; indexes = []; views = [] }
@@ -135,13 +198,30 @@ abbrev pub with_about : Schema
 with_about = record { tables = about ∷ []; indexes = []; views = [] }
 
 abbrev pub with_mirrors : Schema
-with_mirrors = record { tables = about ∷ mirrors ∷ []; indexes = mirrors_by_name ∷ mirrors_by_mid ∷ []; views = [] }
+with_mirrors = record {
+  tables = about ∷ mirrors ∷ [];
+  indexes = mirrors_by_name ∷ mirrors_by_mid ∷ [];
+  views = [];
+}
 
 abbrev pub with_components : Schema
-with_components = record { tables = about ∷ mirrors ∷ components ∷ []; indexes = mirrors_by_name ∷ mirrors_by_mid ∷ components_by_prov ∷ components_by_did ∷ []; views = [] }
+with_components = record {
+  tables = about ∷ mirrors ∷ components ∷ [];
+  indexes = mirrors_by_name ∷ mirrors_by_mid ∷ components_by_prov ∷ components_by_did ∷ [];
+  views = [];
+}
 
 abbrev pub with_intents : Schema
-with_intents = record { tables = about ∷ mirrors ∷ components ∷ intents ∷ []; indexes = mirrors_by_name ∷ mirrors_by_mid ∷ components_by_prov ∷ components_by_did ∷ []; views = [] }
+with_intents = record {
+  tables = about ∷ mirrors ∷ components ∷ intents ∷ [];
+  indexes = mirrors_by_name ∷ mirrors_by_mid ∷ components_by_prov ∷ components_by_did ∷ [];
+  views = [];
+}
 
 abbrev pub registry_schema : Schema
-registry_schema = record { tables = about ∷ mirrors ∷ components ∷ intents ∷ commands ∷ []; indexes = mirrors_by_name ∷ mirrors_by_mid ∷ components_by_prov ∷ components_by_did ∷ commands_by_key ∷ commands_by_seq ∷ []; views = [] }
+registry_schema = record {
+  tables = about ∷ mirrors ∷ components ∷ intents ∷ commands ∷ [];
+  indexes = mirrors_by_name ∷ mirrors_by_mid ∷ components_by_prov ∷ components_by_did
+      ∷ commands_by_key ∷ commands_by_seq ∷ [];
+  views = [];
+}

@@ -28,7 +28,8 @@ numbers_of (suc n) = suc n ∷ numbers_of n
 
 -- their numbers count from 1 without gaps
 abbrev pub AreNumbered : List CommandRow → Type 0
-AreNumbered commands = IsPermutation (numbers_of (length commands)) (map (λ (c : CommandRow). c.seq) commands)
+AreNumbered commands =
+    IsPermutation (numbers_of (length commands)) (map (λ (c : CommandRow). c.seq) commands)
 
 -- the rows are those of the tables, whose commands count without gaps
 pub record HasCounted (db : Trees) (t : Tables) : Type 0 where
@@ -54,7 +55,8 @@ no_tables = record { mirrors = []; components = []; intents = []; commands = [] 
 abbrev pub IsEmpty : Trees → Type 0
 IsEmpty db = IsSound no_schema db
 
--- an open connection outside a transaction, over the tables of a registry and the one record of `about`, whatever else they hold
+-- an open connection outside a transaction, over the tables of a registry and the one record of
+-- `about`, whatever else they hold
 pub record SeesRegistry (s : State) : Type 0 where
   pub is_open : IsTrue s.is_open
   pub autocommit : s.in_transaction ≡ false

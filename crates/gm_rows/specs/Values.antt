@@ -1,4 +1,5 @@
--- The form that code goes by: what a query shows of rows, and the records that values of the code can say.
+-- The form that code goes by: what a query shows of rows, and the records that values of the code
+-- can say.
 use Rattle.std.specs.Prelude.{true, false, ◌≡◌, ◌+◌, ◌<◌, ◌^◌, ℕ, IsTrue, List, [], ◌∷◌, map, pos}
 use Rattle.std.specs.List.{list_any}
 use Rattle.gm_state.specs.Readable.{is_copy_to, is_meta_of}
@@ -29,7 +30,8 @@ nine = 0 ∷ 1 ∷ 2 ∷ 3 ∷ 4 ∷ 5 ∷ 6 ∷ 7 ∷ 8 ∷ []
 
 -- what is shown of a row of `intents`: its columns in the order of the table's text
 abbrev pub shown_intent : IntentRow → Row
-shown_intent i = Int (pos i.ord) ∷ Int (pos i.kind) ∷ Text i.prov ∷ Text i.source ∷ Int (pos i.first_sector) ∷ Int (pos i.end_sector) ∷ []
+shown_intent i = Int (pos i.ord) ∷ Int (pos i.kind) ∷ Text i.prov ∷ Text i.source
+    ∷ Int (pos i.first_sector) ∷ Int (pos i.end_sector) ∷ []
 
 -- the row begins with this number, kind and provider
 pub record AreFirst (row : Row) (number kind : ℕ) (provider : List ℕ) : Type 0 where
@@ -55,7 +57,8 @@ pub record IsComponentValue (k : Component) : Type 0 where
 abbrev pub IsIntentValue : Intent → Type 0
 IsIntentValue (Meta p) = IsTrue (is_label p)
 IsIntentValue (Clear p) = IsTrue (is_label p)
-IsIntentValue (Copy source target first end) = IsTrue (is_label source) × IsTrue (is_label target) × (first < 2 ^ 32) × (end < 2 ^ 32)
+IsIntentValue (Copy source target first end) =
+    IsTrue (is_label source) × IsTrue (is_label target) × (first < 2 ^ 32) × (end < 2 ^ 32)
 
 -- the rows of records that are numbered from n, each by its number
 abbrev pub numbered : {A : Type 0} → (ℕ → A → Row) → ℕ → List A → List Row

@@ -16,7 +16,8 @@ pub enum Table {
 }
 
 impl Table {
-    /// The query that shows all its rows: of intents and commands by their numbers, else in any order.
+    /// The query that shows all its rows: of intents and commands by their numbers, else in any
+    /// order.
     pub fn query(self) -> &'static str
         ensures { result.now ≡ query_text self }
     {

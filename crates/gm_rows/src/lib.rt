@@ -1,10 +1,12 @@
-//! The rows of a registry's five tables: what they say of mirrors, components, intents and commands, and how records are
-//! written into them. No connection is opened here.
+//! The rows of a registry's five tables: what they say of mirrors, components, intents and
+//! commands, and how records are written into them. No connection is opened here.
 //!
-//! Begin with `schema.rt`, the texts that make the tables, and `specs/Tables.antt`, what a store holds as four tables.
-//! `read_column.rt` and `write_column.rt` have the values of one column, `read_record.rt` reads a record from a row, and
-//! `shown.rt` the records of many. `fetched.rt` is what the queries of whole tables show, `said_state.rt` which state that
-//! says, if any; `specs/ReadableTables.antt` says which tables are readable. `fault.rt` has the faults of a store.
+//! Begin with `schema.rt`, the texts that make the tables, and `specs/Tables.antt`, what a store
+//! holds as four tables. `read_column.rt` and `write_column.rt` have the values of one column,
+//! `read_record.rt` reads a record from a row, and `shown.rt` the records of many. `fetched.rt` is
+//! what the queries of whole tables show, `said_state.rt` which state that says, if any;
+//! `specs/ReadableTables.antt` says which tables are readable. `fault.rt` has the faults of a
+//! store.
 #![tactic(auto)]
 
 mod fault;

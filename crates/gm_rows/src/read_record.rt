@@ -21,7 +21,8 @@ use gm_metadata::Label;
 use gm_state::{Component, Disk, Intent, Mirror};
 use sqlite::Row;
 
-/// The mirror of a row of `mirrors`, whose columns are shown in their order; `None` where the values are of no mirror.
+/// The mirror of a row of `mirrors`, whose columns are shown in their order; `None` where the
+/// values are of no mirror.
 pub fn read_mirror(row: &Row) -> Option<Mirror>
     ensures some { IfSome result (λ m. columns_at nine row.now ≡ mirror_values (mirror_row m)) }
     ensures none { IfNone result ((m : Mirror) → IsMirrorValue m
@@ -53,8 +54,8 @@ fn read_disk(row: &Row) -> Option<Disk>
     Disk::from_flags(flags, held)
 }
 
-/// The component of a row of `components`, whose columns are shown in their order; `None` where the values are of no
-/// component.
+/// The component of a row of `components`, whose columns are shown in their order; `None` where the
+/// values are of no component.
 pub fn read_component(row: &Row) -> Option<Component>
     ensures some { IfSome result (λ k. columns_at nine row.now ≡ component_values
         (component_row k)) }
@@ -101,8 +102,8 @@ fn read_kind(row: &Row, kind: u32, provider: Label) -> Option<Intent>
     }
 }
 
-/// The intent of a row of `intents`, whose columns are shown in their order, where it has this number; `None` where it
-/// has another, or the values are of no intent.
+/// The intent of a row of `intents`, whose columns are shown in their order, where it has this
+/// number; `None` where it has another, or the values are of no intent.
 pub fn read_intent(row: &Row, number: u64) -> Option<Intent>
     ensures some { IfSome result (λ i. columns_at six row.now ≡ shown_intent
         (intent_row number i)) }

@@ -1,4 +1,5 @@
-//! The texts that make the five tables, as the store keeps them and the sqlite3 command line shows them.
+//! The texts that make the five tables, as the store keeps them and the sqlite3 command line shows
+//! them.
 
 pub const ABOUT: &str =
     "CREATE TABLE about(one INTEGER PRIMARY KEY CHECK (one = 1), schema_no INTEGER NOT NULL) STRICT";

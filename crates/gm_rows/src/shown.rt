@@ -15,7 +15,8 @@ use std::alloc::Global;
 
 /// A record that a query shows as a row, the nth of them by the number n.
 pub trait Shown: Copy {
-    // The columns that are read, what they hold for the record of a number, and whether a value of the code can be it.
+    // The columns that are read, what they hold for the record of a number, and whether a value of
+    // the code can be it.
     ghost places: { List ℕ };
 
     ghost values: { ℕ → Self → Row };

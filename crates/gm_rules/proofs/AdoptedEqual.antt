@@ -15,10 +15,13 @@ use Rattle.gm_refusals.specs.Adoptable.{data_of, is_borne_out, kept_offset, adop
 -- a provider agrees with itself
 pub agree_itself : (x : Image) (p : List ℕ) (k : ℕ) → agree x p p k ≡ true
 agree_itself x p zero = refl
-agree_itself x p (suc k) = and_from (agree x p p k) (bytes_eq (x p k) (x p k)) (agree_itself x p k) ((bytes_eq-Decides (x p k) (x p k)).1 refl)
+agree_itself x p (suc k) =
+    and_from (agree x p p k) (bytes_eq (x p k) (x p k)) (agree_itself x p k)
+    ((bytes_eq-Decides (x p k) (x p k)).1 refl)
 
 -- two that agree hold the same there
-pub agree_holds : (x : Image) (p q : List ℕ) (k : ℕ) → agree x p q k ≡ true → (i : ℕ) → i < k → x q i ≡ x p i
+pub agree_holds : (x : Image) (p q : List ℕ) (k : ℕ) → agree x p q k ≡ true → (i : ℕ) → i < k
+    → x q i ≡ x p i
 agree_holds x p q zero e i l = absurd (omega arith)
 agree_holds x p q (suc k) e i l =
     let both = and_parts (agree x p q k) (bytes_eq (x p k) (x q k)) e in
@@ -36,36 +39,52 @@ whole_below a b e f l = omega (arith, e, f, l)
 
 module _ (x : Seen) (b k : Member) where
   -- the offset that is kept ends before the data, and the data up to there are the source's
-  pub kept_below : b.metadata.mediasize % 512 ≡ 0 → 0 < data_of b.metadata → kept_offset x b k < data_of b.metadata
+  pub kept_below : b.metadata.mediasize % 512 ≡ 0 → 0 < data_of b.metadata
+      → kept_offset x b k < data_of b.metadata
   kept_below even some =
       elim (cases_Bool (is_borne_out x b k)) [
         | inr off ↦ rw off some
         | inl on ↦
-            let parts = and_parts (k.metadata.syncid == b.metadata.syncid && k.metadata.sync_offset % 512 == 0) _ on in
-            let first = and_parts (k.metadata.syncid == b.metadata.syncid) (k.metadata.sync_offset % 512 == 0) parts.0 in
-            let second = and_parts (nat_lt k.metadata.sync_offset b.metadata.mediasize) (x.equal b.provider k.provider (k.metadata.sync_offset / 512)) parts.1 in
-            rw on (whole_below k.metadata.sync_offset b.metadata.mediasize (eqb-true (k.metadata.sync_offset % 512) 0 first.1) even (ltb-true k.metadata.sync_offset b.metadata.mediasize second.0))
+            let parts = and_parts (k.metadata.syncid
+            == b.metadata.syncid && k.metadata.sync_offset % 512 == 0) _ on in
+            let first = and_parts (k.metadata.syncid == b.metadata.syncid)
+            (k.metadata.sync_offset % 512 == 0) parts.0 in
+            let second = and_parts (nat_lt k.metadata.sync_offset b.metadata.mediasize)
+            (x.equal b.provider k.provider (k.metadata.sync_offset / 512)) parts.1 in
+            rw on (whole_below k.metadata.sync_offset b.metadata.mediasize
+            (eqb-true (k.metadata.sync_offset % 512) 0 first.1) even
+            (ltb-true k.metadata.sync_offset b.metadata.mediasize second.0))
       ]
 
-  kept_equal : (i : ℕ) → i < kept_offset x b k → x.equal b.provider k.provider (kept_offset x b k) ≡ true
+  kept_equal : (i : ℕ) → i < kept_offset x b k
+      → x.equal b.provider k.provider (kept_offset x b k) ≡ true
   kept_equal i l =
       elim (cases_Bool (is_borne_out x b k)) [
         | inr off ↦ (let none : i < 0 = rw off at l in absurd (omega arith))
         | inl on ↦
-            let parts = and_parts (k.metadata.syncid == b.metadata.syncid && k.metadata.sync_offset % 512 == 0) _ on in
-            rw on ((and_parts (nat_lt k.metadata.sync_offset b.metadata.mediasize) (x.equal b.provider k.provider (k.metadata.sync_offset / 512)) parts.1).1)
+            let parts = and_parts (k.metadata.syncid
+            == b.metadata.syncid && k.metadata.sync_offset % 512 == 0) _ on in
+            rw on ((and_parts (nat_lt k.metadata.sync_offset b.metadata.mediasize)
+            (x.equal b.provider k.provider (k.metadata.sync_offset / 512)) parts.1).1)
       ]
 
-  pub held_below : (s : MemberState) → b.metadata.mediasize % 512 ≡ 0 → 0 < data_of b.metadata → held_of (adopted_disk x b k s) < data_of b.metadata
+  pub held_below : (s : MemberState) → b.metadata.mediasize % 512 ≡ 0 → 0 < data_of b.metadata
+      → held_of (adopted_disk x b k s) < data_of b.metadata
   held_below tasted.Inactive even some = some
   held_below tasted.Active even some =
-      elim (cases_Bool (x.equal b.provider k.provider (data_of b.metadata))) [ inl e ↦ rw e some | inr e ↦ rw e some ]
+      elim (cases_Bool (x.equal b.provider k.provider (data_of b.metadata))) [
+        | inl e
+            ↦ rw e some
+        | inr e ↦ rw e some
+      ]
   held_below tasted.Broken even some = kept_below even some
   held_below (tasted.Stale offset) even some = kept_below even some
   held_below (tasted.Synchronizing offset) even some = kept_below even some
 
   -- what it is said to hold is the source's
-  pub held_equal : (s : MemberState) (i : ℕ) → i < held_by (adopted_disk x b k s) (data_of b.metadata) → x.equal b.provider k.provider (held_by (adopted_disk x b k s) (data_of b.metadata)) ≡ true
+  pub held_equal : (s : MemberState) (i : ℕ)
+      → i < held_by (adopted_disk x b k s) (data_of b.metadata)
+      → x.equal b.provider k.provider (held_by (adopted_disk x b k s) (data_of b.metadata)) ≡ true
   held_equal tasted.Inactive i l = absurd (omega arith)
   held_equal tasted.Active i l =
       elim (cases_Bool (x.equal b.provider k.provider (data_of b.metadata))) [
@@ -77,14 +96,16 @@ module _ (x : Seen) (b k : Member) where
   held_equal (tasted.Synchronizing offset) i l = kept_equal i l
 
   -- its syncid: the source's, but for an INACTIVE one
-  pub syncid_within : (s : MemberState) → k.metadata.syncid ≤ b.metadata.syncid → adopted_syncid b k s ≤ b.metadata.syncid
+  pub syncid_within : (s : MemberState) → k.metadata.syncid ≤ b.metadata.syncid
+      → adopted_syncid b k s ≤ b.metadata.syncid
   syncid_within tasted.Inactive l = l
   syncid_within tasted.Active l = omega arith
   syncid_within tasted.Broken l = omega arith
   syncid_within (tasted.Stale offset) l = omega arith
   syncid_within (tasted.Synchronizing offset) l = omega arith
 
-  pub syncid_current : (s : MemberState) → adopted_disk x b k s ≢ Inactive → adopted_syncid b k s ≡ b.metadata.syncid
+  pub syncid_current : (s : MemberState) → adopted_disk x b k s ≢ Inactive
+      → adopted_syncid b k s ≡ b.metadata.syncid
   syncid_current tasted.Inactive n = absurd (n refl)
   syncid_current tasted.Active n = refl
   syncid_current tasted.Broken n = refl

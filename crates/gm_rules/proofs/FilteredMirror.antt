@@ -1,5 +1,5 @@
--- A command that drops components of its mirror: the mirror has another record, and the components that stay are as they
--- were.
+-- A command that drops components of its mirror: the mirror has another record, and the components
+-- that stay are as they were.
 use Rattle.std.proofs.Common.{◌≡◌, ◌≢◌, ◌∙◌, inl, inr, ℕ, ◌<◌, ◌≤◌, ◌+◌, Bool, true, false, refl, sym, ap, subst, arith, List, Some, filter, length, IsTrue}
 use Rattle.std.specs.Prelude.{IsSomeAnd}
 use Rattle.std.proofs.lemmas.Bool.{cases_Bool}
@@ -29,7 +29,8 @@ use Rattle.gm_rules.proofs.PlanOfStep.{ArePlain, Serves, has}
 use Rattle.gm_rules.proofs.StepOfMirror.{Turns, Writes, IsOne}
 
 -- the last sector of q is cleared: q has a component that goes, and is there
-pub record IsCleared (u : World) (ks : List Component) (stays : Component → Bool) (ts : List Intent) (q : List ℕ) : Type 0 where
+pub record IsCleared (u : World) (ks : List Component) (stays : Component
+    → Bool) (ts : List Intent) (q : List ℕ) : Type 0 where
   pub component : Component
   pub mine : Has ks component
   pub on : component.provider ≡ q
@@ -37,10 +38,13 @@ pub record IsCleared (u : World) (ks : List Component) (stays : Component → Bo
   pub there : present u component.provider ≡ Some component.sectors
   pub written : Has ts (Clear q)
 
--- What the command makes of mirror m and its components: m' of it, and of them those that stay; and what it has written.
-pub record Filters (u : World) (c : Command) (m m' : Mirror) (stays : Component → Bool) (ts : List Intent) : Type 0 where
+-- What the command makes of mirror m and its components: m' of it, and of them those that stay; and
+-- what it has written.
+pub record Filters (u : World) (c : Command) (m m' : Mirror) (stays : Component
+    → Bool) (ts : List Intent) : Type 0 where
   pub here : Has u.state.mirrors m
-  pub there : (k : Component) → Has (members u.state.components m.name) k → stays k ≡ true → present u k.provider ≡ Some k.sectors
+  pub there : (k : Component) → Has (members u.state.components m.name) k → stays k ≡ true
+      → present u k.provider ≡ Some k.sectors
   pub same_name : m'.name ≡ m.name
   pub same_mid : m'.mid ≡ m.mid
   pub same_data : m'.data_sectors ≡ m.data_sectors
@@ -49,15 +53,20 @@ pub record Filters (u : World) (c : Command) (m m' : Mirror) (stays : Component 
   pub fits : MirrorFits m'
   pub all : m'.all ≤ 16
   pub room : length (filter stays (members u.state.components m.name)) ≤ m'.all
-  pub active : (k : Component) × Has (members u.state.components m.name) k × (k.disk ≡ InSync) × (stays k ≡ true)
+  pub active : (k : Component) × Has (members u.state.components m.name) k × (k.disk ≡ InSync)
+      × (stays k ≡ true)
   pub named : name_of c ≡ Some m.name
-  pub cleared : (q : List ℕ) → clears u.state c q ≡ true → IsCleared u (members u.state.components m.name) stays ts q
+  pub cleared : (q : List ℕ) → clears u.state c q ≡ true
+      → IsCleared u (members u.state.components m.name) stays ts q
   pub reply : ReplyFits (reply_to c u.state)
-  pub each : (t : Intent) → Has ts t → IsOne u u.shelf (filter stays (members u.state.components m.name)) (clears u.state c) t
-  pub metas : (k : Component) → Has (filter stays (members u.state.components m.name)) k → Has ts (Meta k.provider)
+  pub each : (t : Intent) → Has ts t
+      → IsOne u u.shelf (filter stays (members u.state.components m.name)) (clears u.state c) t
+  pub metas : (k : Component) → Has (filter stays (members u.state.components m.name)) k
+      → Has ts (Meta k.provider)
   pub plain : ArePlain ts
 
-module _ (u : World) (key : List ℕ) (c : Command) (m m' : Mirror) (stays : Component → Bool) (ts : List Intent) (sound : Sound u) (a : Filters u c m m' stays ts) where
+module _ (u : World) (key : List ℕ) (c : Command) (m m' : Mirror) (stays : Component
+    → Bool) (ts : List Intent) (sound : Sound u) (a : Filters u c m m' stays ts) where
   abbrev old : List Component
   old = members u.state.components m.name
 
@@ -93,7 +102,8 @@ module _ (u : World) (key : List ℕ) (c : Command) (m m' : Mirror) (stays : Com
   }
 
   -- the components of other mirrors stay
-  theirs : (n : List ℕ) → n ≢ m.name → (j : Component) → Has (members u.state.components n) j → stays j ≡ true
+  theirs : (n : List ℕ) → n ≢ m.name → (j : Component) → Has (members u.state.components n) j
+      → stays j ≡ true
   theirs n d j i =
       let r = Has-filter (λ (c : Component). same_label c.mirror n) u.state.components j i in
       a.alone j r.0 (λ e. d (sym (same_is j.mirror n r.1) ∙ e))
@@ -105,7 +115,8 @@ module _ (u : World) (key : List ℕ) (c : Command) (m m' : Mirror) (stays : Com
     same_data = a.same_data;
     in_order = Ascends-filter stays provider u.state.components sound.state.components_in_order;
     mine = filter_swap (λ (c : Component). same_label c.mirror m.name) stays u.state.components;
-    others = λ n d. filter_swap (λ (c : Component). same_label c.mirror n) stays u.state.components ∙ filter_id stays (members u.state.components n) (theirs n d);
+    others = λ n d. filter_swap (λ (c : Component). same_label c.mirror n) stays u.state.components
+        ∙ filter_id stays (members u.state.components n) (theirs n d);
     rules = rules';
   }
 
@@ -117,8 +128,11 @@ module _ (u : World) (key : List ℕ) (c : Command) (m m' : Mirror) (stays : Com
         | inr e ↦ e
         | inl e ↦
             let gone = a.cleared j.provider e in
-            let k = Has-filter (λ (c : Component). same_label c.mirror m.name) u.state.components gone.component gone.mine in
-            let same : gone.component ≡ j = one provider u.state.components sound.state.components_in_order gone.component j k.0 r.0 gone.on in
+            let k = Has-filter (λ (c : Component). same_label c.mirror m.name) u.state.components
+            gone.component gone.mine in
+            let same : gone.component ≡ j =
+            one provider u.state.components sound.state.components_in_order gone.component j k.0
+            r.0 gone.on in
             not_both (stays j) r.1 (sym (ap stays same) ∙ gone.goes)
       ]
 
@@ -139,12 +153,18 @@ module _ (u : World) (key : List ℕ) (c : Command) (m m' : Mirror) (stays : Com
     copied = λ q j e. refl;
   }
 
-  has_sectors : (j : Component) → Has old j → present u j.provider ≡ Some j.sectors → IsSomeAnd (present u j.provider) (λ x. 0 < x)
-  has_sectors j o e = some_and (present u j.provider) j.sectors (λ x. 0 < x) e (let b : m.data_sectors + 1 ≤ j.sectors = rules.sizes j o in omega arith)
+  has_sectors : (j : Component) → Has old j → present u j.provider ≡ Some j.sectors
+      → IsSomeAnd (present u j.provider) (λ x. 0 < x)
+  has_sectors j o e =
+      some_and (present u j.provider) j.sectors (λ x. 0 < x) e
+      (let b : m.data_sectors + 1 ≤ j.sectors = rules.sizes j o in omega arith)
 
   -- what holds of the provider of a component that is there holds of what is cleared
-  of_cleared : (P : List ℕ → Type 0) → ((k : Component) → Has old k → present u k.provider ≡ Some k.sectors → P k.provider) → (q : List ℕ) → clears u.state c q ≡ true → P q
-  of_cleared P h q e = let gone = a.cleared q e in subst P gone.on (h gone.component gone.mine gone.there)
+  of_cleared : (P : List ℕ → Type 0)
+      → ((k : Component) → Has old k → present u k.provider ≡ Some k.sectors → P k.provider)
+      → (q : List ℕ) → clears u.state c q ≡ true → P q
+  of_cleared P h q e = let gone = a.cleared q e in
+      subst P gone.on (h gone.component gone.mine gone.there)
 
   serves : Serves u c m' ks
   serves = record {
@@ -155,7 +175,10 @@ module _ (u : World) (key : List ℕ) (c : Command) (m m' : Mirror) (stays : Com
     reply = a.reply;
   }
 
-  pub filtered_has : s ≡ after (seen_of u) c u.state → ts ≡ intents_of c u.state s → ((w : World) → NewData u c w) → ((w : World) → WereBare c u w)
+  pub filtered_has : s ≡ after (seen_of u) c u.state → ts ≡ intents_of c u.state s
+      → ((w : World) → NewData u c w) → ((w : World) → WereBare c u w)
       → IsGood u.state (seen_of u) c → CanAnswer u key c → HasPlan u key c
   filtered_has is are new bare good answer =
-      has u key c m' ks (u.holds m.name) s ts sound turns writes (adjusts_were u m m' comps ks sound a.here adjusts) a.plain serves answer is are good (new _) (bare _)
+      has u key c m' ks (u.holds m.name) s ts sound turns writes
+      (adjusts_were u m m' comps ks sound a.here adjusts) a.plain serves answer is are good
+      (new _) (bare _)

@@ -32,13 +32,26 @@ use Rattle.gm_rules.proofs.StepOfMirror.{Turns, Writes, Were, IsOne}
 
 -- a record whose name no mirror has
 nobody : Mirror
-nobody = record { name = []; mid = 0; all = 0; genid = 0; syncid = 0; slice = 0; balance = balances.None; data_sectors = 0; flags = record { no_autosync = false; no_failsync = false } }
+nobody = record {
+  name = [];
+  mid = 0;
+  all = 0;
+  genid = 0;
+  syncid = 0;
+  slice = 0;
+  balance = balances.None;
+  data_sectors = 0;
+  flags =
+      record { no_autosync = false; no_failsync = false };
+}
 
 no_name : nobody.name ≡ []
 unfolding nobody
 no_name = refl
 
-module _ (u : World) (key p : List ℕ) (sound : Sound u) (fresh : (k : Component) → Has u.state.components k → same_label k.provider p ≡ false) (sectors : ℕ) (size : present u p ≡ Some sectors) (some : 0 < sectors) where
+module _ (u : World) (key p : List ℕ) (sound : Sound u) (fresh : (k : Component)
+    → Has u.state.components k → same_label k.provider p ≡ false) (sectors : ℕ)
+    (size : present u p ≡ Some sectors) (some : 0 < sectors) where
   abbrev gone : List ℕ → Bool
   gone q = same_label p q
 
@@ -48,7 +61,9 @@ module _ (u : World) (key p : List ℕ) (sound : Sound u) (fresh : (k : Componen
       true≢false (sym label ∙ ap is_label (e ∙ no_name))
 
   none : members u.state.components nobody.name ≡ []
-  none = no_members u.state.components nobody.name (λ k h. differ k.mirror nobody.name (λ e. let home = sound.state.homes k h in has_name home.0 home.1 (home.2 ∙ e)))
+  none = no_members u.state.components nobody.name
+      (λ k h. differ k.mirror nobody.name (λ e. let home = sound.state.homes k h in
+      has_name home.0 home.1 (home.2 ∙ e)))
 
   turns : Turns u u.shelf nobody [] gone (u.holds nobody.name) u.state
   turns = record {
@@ -57,7 +72,8 @@ module _ (u : World) (key p : List ℕ) (sound : Sound u) (fresh : (k : Componen
     mine = none;
     others = λ n d. refl;
     there = λ k h. absurd h;
-    cleared = λ k h. differ p k.provider (λ e. not_both (same_label k.provider p) (same_from k.provider p (sym e)) (fresh k h));
+    cleared = λ k h. differ p k.provider
+        (λ e. not_both (same_label k.provider p) (same_from k.provider p (sym e)) (fresh k h));
     below = λ k h. absurd h;
     last = λ q j e. refl;
     untouched = λ q e j. refl;
@@ -85,22 +101,32 @@ module _ (u : World) (key p : List ℕ) (sound : Sound u) (fresh : (k : Componen
   serves label = record {
     named = λ k h. absurd h;
     written = λ k h. absurd h;
-    cleared = λ q e. subst (λ (x : List ℕ). IsSomeAnd (present u x) (λ y. 0 < y)) (same_is p q e) (some_and (present u p) sectors (λ y. 0 < y) size some);
+    cleared = λ q e. subst (λ (x : List ℕ). IsSomeAnd (present u x) (λ y. 0 < y)) (same_is p q e)
+        (some_and (present u p) sectors (λ y. 0 < y) size some);
     labels = λ q e. subst (λ (x : List ℕ). IsTrue (is_label x)) (same_is p q e) label;
     reply = tt;
   }
 
-  clear_plan : IsGood u.state (seen_of u) (commands.Clear p) → CanAnswer u key (commands.Clear p) → HasPlan u key (commands.Clear p)
+  clear_plan : IsGood u.state (seen_of u) (commands.Clear p) → CanAnswer u key (commands.Clear p)
+      → HasPlan u key (commands.Clear p)
   clear_plan good answer =
-      has u key (commands.Clear p) nobody [] (u.holds nobody.name) u.state (Clear p ∷ []) sound turns writes were (one_plain (Clear p) tt [] (λ t h. absurd h)) (serves answer.fits) answer
+      has u key (commands.Clear p) nobody [] (u.holds nobody.name) u.state
+      (Clear p ∷ []) sound turns writes were (one_plain (Clear p) tt [] (λ t h. absurd h))
+      (serves answer.fits) answer
       refl refl good tt tt
 
-pub clear_has : (u : World) (key p : List ℕ) → Sound u → CanAnswer u key (commands.Clear p) → IsGood u.state (seen_of u) (commands.Clear p) → HasPlan u key (commands.Clear p)
+pub clear_has : (u : World) (key p : List ℕ) → Sound u → CanAnswer u key (commands.Clear p)
+    → IsGood u.state (seen_of u) (commands.Clear p) → HasPlan u key (commands.Clear p)
 clear_has u key p sound answer good =
-    let absent = or_parts (list_any (λ q. is_none (present u q)) (p ∷ [])) _ (good refusals.Absent (inl refl)) in
+    let absent = or_parts (list_any (λ q. is_none (present u q)) (p ∷ [])) _
+    (good refusals.Absent (inl refl)) in
     let size = there_from (present u p) (any_one (λ q. is_none (present u q)) p absent.0) in
-    let wrong : is_there_and (present u p) has_wrong_size ≡ false = any_one (λ q. is_there_and (present u q) has_wrong_size) p (good refusals.WrongSize (inr (inr (inl refl)))) in
+    let wrong : is_there_and (present u p) has_wrong_size ≡ false =
+    any_one (λ q. is_there_and (present u q) has_wrong_size) p
+    (good refusals.WrongSize (inr (inr (inl refl)))) in
     let range = right_size size.0 (fails_there (present u p) size.0 has_wrong_size size.1 wrong) in
     let big : 2 ≤ size.0 = range.0 in
-    let fresh = new_name u.state p (none_from (component_of u.state p) (any_one (λ q. is_some (component_of u.state q)) p (good refusals.ProviderTaken (inr (inl refl))))) in
+    let fresh = new_name u.state p (none_from (component_of u.state p)
+    (any_one (λ q. is_some (component_of u.state q)) p
+    (good refusals.ProviderTaken (inr (inl refl))))) in
     clear_plan u key p sound fresh size.0 size.1 (omega arith) good answer

@@ -27,7 +27,9 @@ use Rattle.gm_rules.proofs.PlanOfStep.{Serves, has}
 use Rattle.gm_rules.proofs.RuledOut.{by_name, each_there, clears_has, clears_are, clears_plain}
 use Rattle.gm_rules.proofs.StepOfMirror.{Turns, Writes, Were}
 
-module _ (u : World) (key : List ℕ) (m : Mirror) (sound : Sound u) (here : Has u.state.mirrors m) (there : (k : Component) → Has (members u.state.components m.name) k → present u k.provider ≡ Some k.sectors) where
+module _ (u : World) (key : List ℕ) (m : Mirror) (sound : Sound u) (here : Has u.state.mirrors m)
+    (there : (k : Component) → Has (members u.state.components m.name) k
+    → present u k.provider ≡ Some k.sectors) where
   abbrev old : List Component
   old = members u.state.components m.name
 
@@ -38,15 +40,21 @@ module _ (u : World) (key : List ℕ) (m : Mirror) (sound : Sound u) (here : Has
   is_other a = not (same_label a.name m.name)
 
   abbrev s : Records
-  s = record { mirrors = without name m.name u.state.mirrors; components = filter stays u.state.components }
+  s = record {
+    mirrors = without name m.name u.state.mirrors;
+    components = filter stays u.state.components;
+  }
 
   abbrev gone : List ℕ → Bool
   gone q = list_any (λ k. same_label k.provider q) old
 
   other_name : (a : Mirror) → Has s.mirrors a → (a.name ≢ m.name) × Has u.state.mirrors a
   other_name a h =
-      let r = Has-filter is_other u.state.mirrors a h in
-      (λ e. not_both (same_label a.name m.name) (same_from a.name m.name e) (not-true (same_label a.name m.name) r.1), r.0)
+      let r = Has-filter is_other u.state.mirrors a h in (
+        λ e. not_both (same_label a.name m.name) (same_from a.name m.name e)
+            (not-true (same_label a.name m.name) r.1),
+        r.0,
+      )
 
   -- the components of other mirrors stay
   others : (n : List ℕ) → n ≢ m.name → members s.components n ≡ members u.state.components n
@@ -57,19 +65,28 @@ module _ (u : World) (key : List ℕ) (m : Mirror) (sound : Sound u) (here : Has
       ap not (differ k.mirror m.name (λ e. d (sym (same_is k.mirror n r.1) ∙ e))))
 
   none : members s.components m.name ≡ []
-  none = no_members s.components m.name (λ k h. not-true (same_label k.mirror m.name) (Has-filter stays u.state.components k h).1)
+  none = no_members s.components m.name
+      (λ k h. not-true (same_label k.mirror m.name) (Has-filter stays u.state.components k h).1)
 
   state : IsState s
   state = record {
     mirrors_in_order = Ascends-filter is_other name u.state.mirrors sound.state.mirrors_in_order;
-    components_in_order = Ascends-filter stays provider u.state.components sound.state.components_in_order;
-    count = (let a : length s.mirrors ≤ length u.state.mirrors = length-filter_le is_other u.state.mirrors in let b : length u.state.mirrors ≤ 64 = sound.state.count in omega arith);
-    each = λ a h. let o = other_name a h in subst (λ (l : List Component). IsMirror a l) (sym (others a.name o.0)) (sound.state.each a o.1);
+    components_in_order =
+        Ascends-filter stays provider u.state.components sound.state.components_in_order;
+    count = (let a : length s.mirrors ≤ length u.state.mirrors = length-filter_le is_other
+        u.state.mirrors in let b : length u.state.mirrors ≤ 64 = sound.state.count in omega arith);
+    each = λ a h. let o = other_name a h in
+        subst (λ (l : List Component). IsMirror a l) (sym (others a.name o.0))
+        (sound.state.each a o.1);
     mids = λ a b h k e. sound.state.mids a b (other_name a h).1 (other_name b k).1 e;
     homes = λ k h.
         let r = Has-filter stays u.state.components k h in
-        let home = sound.state.homes k r.0 in
-        (home.0, filter-Has is_other u.state.mirrors home.0 home.1 (ap not (ap (λ (n : List ℕ). same_label n m.name) home.2) ∙ r.1), home.2);
+        let home = sound.state.homes k r.0 in (
+          home.0,
+          filter-Has is_other u.state.mirrors home.0 home.1
+              (ap not (ap (λ (n : List ℕ). same_label n m.name) home.2) ∙ r.1),
+          home.2,
+        );
   }
 
   -- what stays isn't cleared: a provider is one component's
@@ -80,9 +97,14 @@ module _ (u : World) (key : List ℕ) (m : Mirror) (sound : Sound u) (here : Has
         | inr e ↦ e
         | inl e ↦
             let some = some_any (λ (j : Component). same_label j.provider k.provider) old e in
-            let q = Has-filter (λ (j : Component). same_label j.mirror m.name) u.state.components some.0 some.1 in
-            let same : some.0 ≡ k = one provider u.state.components sound.state.components_in_order some.0 k q.0 r.0 (same_is some.0.provider k.provider some.2) in
-            not_both (same_label k.mirror m.name) (sym (ap (λ (j : Component). same_label j.mirror m.name) same) ∙ q.1) (not-true (same_label k.mirror m.name) r.1)
+            let q = Has-filter (λ (j : Component). same_label j.mirror m.name) u.state.components
+            some.0 some.1 in
+            let same : some.0 ≡ k =
+            one provider u.state.components sound.state.components_in_order some.0 k q.0 r.0
+            (same_is some.0.provider k.provider some.2) in
+            not_both (same_label k.mirror m.name)
+            (sym (ap (λ (j : Component). same_label j.mirror m.name) same) ∙ q.1)
+            (not-true (same_label k.mirror m.name) r.1)
       ]
 
   turns : Turns u u.shelf m [] gone (u.holds m.name) s
@@ -100,42 +122,55 @@ module _ (u : World) (key : List ℕ) (m : Mirror) (sound : Sound u) (here : Has
 
   writes : Writes u u.shelf m [] gone (clears_of old)
   writes = record {
-    each = clears_are u gone [] old (λ k h. any_from (λ j. same_label j.provider k.provider) old k h (same_refl k.provider));
+    each = clears_are u gone [] old (λ k h. any_from (λ j. same_label j.provider k.provider) old k h
+        (same_refl k.provider));
     metas = λ k h. absurd h;
     clears = λ q e.
         let some = some_any (λ (k : Component). same_label k.provider q) old e in
-        subst (λ (x : List ℕ). Has (clears_of old) (Clear x)) (same_is some.0.provider q some.2) (clears_has old some.0 some.1);
+        subst (λ (x : List ℕ). Has (clears_of old) (Clear x)) (same_is some.0.provider q some.2)
+        (clears_has old some.0 some.1);
     copied = λ q j e. refl;
   }
 
   were : Were u m [] (u.holds m.name)
   were = record {
     list_stays = λ a h e i. refl;
-    size_stays = λ a h e. ap (λ (x : Mirror). x.data_sectors) (one name u.state.mirrors sound.state.mirrors_in_order a m h here e);
+    size_stays = λ a h e. ap (λ (x : Mirror). x.data_sectors)
+        (one name u.state.mirrors sound.state.mirrors_in_order a m h here e);
   }
 
   rules : IsMirror m old
   rules = sound.state.each m here
 
   -- what is cleared is a component of the mirror
-  of_old : (P : List ℕ → Type 0) → ((k : Component) → Has old k → P k.provider) → (q : List ℕ) → gone q ≡ true → P q
-  of_old P each q e = let some = some_any (λ (k : Component). same_label k.provider q) old e in subst P (same_is some.0.provider q some.2) (each some.0 some.1)
+  of_old : (P : List ℕ → Type 0) → ((k : Component) → Has old k → P k.provider) → (q : List ℕ)
+      → gone q ≡ true → P q
+  of_old P each q e = let some = some_any (λ (k : Component). same_label k.provider q) old e in
+      subst P (same_is some.0.provider q some.2) (each some.0 some.1)
 
   serves : Serves u (Destroy m.name) m []
   serves = record {
     named = λ k h. absurd h;
     written = λ k h. absurd h;
-    cleared = of_old (λ q. IsSomeAnd (present u q) (λ x. 0 < x)) (λ k h. some_and (present u k.provider) k.sectors (λ x. 0 < x) (there k h) (let b : m.data_sectors + 1 ≤ k.sectors = rules.sizes k h in omega arith));
+    cleared = of_old (λ q. IsSomeAnd (present u q) (λ x. 0 < x))
+        (λ k h. some_and (present u k.provider) k.sectors (λ x. 0 < x) (there k h)
+        (let b : m.data_sectors + 1 ≤ k.sectors = rules.sizes k h in omega arith));
     labels = of_old (λ q. IsTrue (is_label q)) (λ k h. (rules.members_fit k h).provider);
     reply = tt;
   }
 
-  pub destroy_plan : IsGood u.state (seen_of u) (Destroy m.name) → CanAnswer u key (Destroy m.name) → HasPlan u key (Destroy m.name)
+  pub destroy_plan : IsGood u.state (seen_of u) (Destroy m.name) → CanAnswer u key (Destroy m.name)
+      → HasPlan u key (Destroy m.name)
   destroy_plan good answer =
-      has u key (Destroy m.name) m [] (u.holds m.name) s (clears_of old) sound turns writes were (clears_plain old) serves answer
+      has u key (Destroy m.name) m [] (u.holds m.name) s (clears_of old) sound turns writes were
+      (clears_plain old) serves answer
       refl refl good tt tt
 
-pub destroy_has : (u : World) (key n : List ℕ) → Sound u → CanAnswer u key (Destroy n) → IsGood u.state (seen_of u) (Destroy n) → HasPlan u key (Destroy n)
+pub destroy_has : (u : World) (key n : List ℕ) → Sound u → CanAnswer u key (Destroy n)
+    → IsGood u.state (seen_of u) (Destroy n) → HasPlan u key (Destroy n)
 destroy_has u key n sound answer good =
-    by_name u.state n (λ a. CanAnswer u key (Destroy a) → IsGood u.state (seen_of u) (Destroy a) → HasPlan u key (Destroy a)) (good refusals.NoMirror (inl refl))
-    (λ m here found answer good. destroy_plan u key m sound here (each_there u [] (members u.state.components m.name) (good refusals.Absent (inr (inl refl)))) good answer) answer good
+    by_name u.state n (λ a. CanAnswer u key (Destroy a) → IsGood u.state (seen_of u) (Destroy a)
+    → HasPlan u key (Destroy a)) (good refusals.NoMirror (inl refl))
+    (λ m here found answer good. destroy_plan u key m sound here
+    (each_there u [] (members u.state.components m.name)
+    (good refusals.Absent (inr (inl refl)))) good answer) answer good

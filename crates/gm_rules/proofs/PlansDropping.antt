@@ -32,9 +32,11 @@ use Rattle.gm_rules.proofs.StepOfMirror.{IsOne}
 
 -- ---- remove
 
-pub remove_has : (u : World) (key n p : List ℕ) → Sound u → CanAnswer u key (Remove n p) → IsGood u.state (seen_of u) (Remove n p) → HasPlan u key (Remove n p)
+pub remove_has : (u : World) (key n p : List ℕ) → Sound u → CanAnswer u key (Remove n p)
+    → IsGood u.state (seen_of u) (Remove n p) → HasPlan u key (Remove n p)
 remove_has u key n p sound answer good =
-    by_name u.state n (λ a. CanAnswer u key (Remove a p) → IsGood u.state (seen_of u) (Remove a p) → HasPlan u key (Remove a p)) (good refusals.NoMirror (inl refl))
+    by_name u.state n (λ a. CanAnswer u key (Remove a p) → IsGood u.state (seen_of u) (Remove a p)
+    → HasPlan u key (Remove a p)) (good refusals.NoMirror (inl refl))
     (λ m here found answer good.
     let old : List Component = members u.state.components m.name in
     let rules : IsMirror m old = sound.state.each m here in
@@ -49,7 +51,8 @@ remove_has u key n p sound answer good =
     let gone : List ℕ → Bool = λ q. same_label p q in
     let k : Component = can.member.0 in
     let goes : stays k ≡ false = ap not (same_from k.provider p can.member.2) in
-    filtered_has u key (Remove m.name p) m (record m { all = m.all - 1 }) stays (Clear p ∷ metas ks) sound (record {
+    filtered_has u key (Remove m.name p) m (record m { all = m.all - 1 }) stays
+    (Clear p ∷ metas ks) sound (record {
       here = here;
       there = λ j i e. can.there j i;
       same_name = refl;
@@ -57,10 +60,22 @@ remove_has u key n p sound answer good =
       same_data = refl;
       same_syncid = refl;
       alone = λ j i d. ap not (differ j.provider p (not_on u m p sound.state can j i d));
-      fits = record { name = rules.fits.name; mid = rules.fits.mid; genid = rules.fits.genid; syncid = rules.fits.syncid; slice = rules.fits.slice };
+      fits = record {
+        name = rules.fits.name;
+        mid = rules.fits.mid;
+        genid = rules.fits.genid;
+        syncid = rules.fits.syncid;
+        slice = rules.fits.slice;
+      };
       all = (let r : m.all ≤ 16 = rules.all in omega arith);
-      room = (let a : length ks + 1 ≤ length old = length-filter_lt stays old k can.member.1 goes in let b : length old ≤ m.all = rules.room in omega arith);
-      active = (can.active.0, can.active.1, can.active.2, ap not (differ can.active.0.provider p can.active.3));
+      room = (let a : length ks + 1 ≤ length old = length-filter_lt stays old k can.member.1 goes in
+          let b : length old ≤ m.all = rules.room in omega arith);
+      active = (
+        can.active.0,
+        can.active.1,
+        can.active.2,
+        ap not (differ can.active.0.provider p can.active.3),
+      );
       named = refl;
       cleared = λ q e. record {
         component = k;
@@ -71,33 +86,49 @@ remove_has u key n p sound answer good =
         written = inl (ap Clear (same_is p q e));
       };
       reply = tt;
-      each = λ t h. ⊎_elim (λ (e : Clear p ≡ t). subst (λ (x : Intent). IsOne u u.shelf ks gone x) e (same_refl p)) (λ (i : Has (metas ks) t). metas_are u gone ks ks (λ j i. i) t i) h;
+      each = λ t h. ⊎_elim (λ (e : Clear p ≡ t). subst (λ (x : Intent). IsOne u u.shelf ks gone x) e
+          (same_refl p)) (λ (i : Has (metas ks) t). metas_are u gone ks ks (λ j i. i) t i) h;
       metas = λ j i. inr (metas_has ks j i);
       plain = one_plain (Clear p) tt (metas ks) (metas_plain ks);
-    }) (rw found refl) (ap (λ (js : List Component). Clear p ∷ metas js) (filter_swap stays (λ (j : Component). same_label j.mirror m.name) u.state.components))
+    }) (rw found refl) (ap (λ (js : List Component). Clear p ∷ metas js)
+    (filter_swap stays (λ (j : Component). same_label j.mirror m.name) u.state.components))
     (λ w. tt) (λ w. tt) good answer) answer good
 
 -- ---- lost
 
--- where each of the providers is a component's of the mirror, a component of another one is on none of them
-others_stay : (u : World) (m : Mirror) (ps : List (List ℕ)) → Sound u → (has_twice ps || list_any (λ p. not (list_any (λ k. same_label k.provider p) (members u.state.components m.name))) ps) ≡ false
+-- where each of the providers is a component's of the mirror, a component of another one is on none
+-- of them
+others_stay : (u : World) (m : Mirror) (ps : List (List ℕ)) → Sound u
+    → (has_twice ps || list_any
+    (λ p. not (list_any (λ k. same_label k.provider p) (members u.state.components m.name))) ps)
+    ≡ false
     → (j : Component) → Has u.state.components j → j.mirror ≢ m.name → not (is_on_any ps j) ≡ true
 others_stay u m ps sound e j h d =
     let old : List Component = members u.state.components m.name in
-    let each = (or_parts (has_twice ps) (list_any (λ p. not (list_any (λ (k : Component). same_label k.provider p) old)) ps) e).1 in
+    let each = (or_parts (has_twice ps)
+    (list_any (λ p. not (list_any (λ (k : Component). same_label k.provider p) old)) ps) e).1 in
     elim (cases_Bool (is_on_any ps j)) [
       | inr off ↦ ap not off
       | inl on ↦
           let p = some_any (λ p. same_label j.provider p) ps on in
-          let k = some_any (λ (k : Component). same_label k.provider p.0) old (not-false _ (none_any (λ p. not (list_any (λ (k : Component). same_label k.provider p) old)) ps each p.0 p.1)) in
-          let r = Has-filter (λ (c : Component). same_label c.mirror m.name) u.state.components k.0 k.1 in
-          let same : k.0 ≡ j = one provider u.state.components sound.state.components_in_order k.0 j r.0 h (same_is k.0.provider p.0 k.2 ∙ sym (same_is j.provider p.0 p.2)) in
+          let k = some_any (λ (k : Component). same_label k.provider p.0) old
+          (not-false _
+          (none_any (λ p. not (list_any (λ (k : Component). same_label k.provider p) old)) ps
+          each p.0 p.1)) in
+          let r = Has-filter (λ (c : Component). same_label c.mirror m.name) u.state.components k.0
+          k.1 in
+          let same : k.0 ≡ j =
+          one provider u.state.components sound.state.components_in_order k.0 j r.0 h
+          (same_is k.0.provider p.0 k.2 ∙ sym (same_is j.provider p.0 p.2)) in
           absurd (d (sym (ap (λ (c : Component). c.mirror) same) ∙ same_is k.0.mirror m.name r.1))
     ]
 
-pub lost_has : (u : World) (key n : List ℕ) (ps : List (List ℕ)) → Sound u → CanAnswer u key (Lost n ps) → IsGood u.state (seen_of u) (Lost n ps) → HasPlan u key (Lost n ps)
+pub lost_has : (u : World) (key n : List ℕ) (ps : List (List ℕ)) → Sound u
+    → CanAnswer u key (Lost n ps) → IsGood u.state (seen_of u) (Lost n ps)
+    → HasPlan u key (Lost n ps)
 lost_has u key n ps sound answer good =
-    by_name u.state n (λ a. CanAnswer u key (Lost a ps) → IsGood u.state (seen_of u) (Lost a ps) → HasPlan u key (Lost a ps)) (good refusals.NoMirror (inl refl))
+    by_name u.state n (λ a. CanAnswer u key (Lost a ps) → IsGood u.state (seen_of u) (Lost a ps)
+    → HasPlan u key (Lost a ps)) (good refusals.NoMirror (inl refl))
     (λ m here found answer good.
     let old : List Component = members u.state.components m.name in
     let rules : IsMirror m old = sound.state.each m here in
@@ -105,9 +136,13 @@ lost_has u key n ps sound answer good =
     let ks : List Component = filter stays old in
     let gone : List ℕ → Bool = λ q. false in
     let active = active_left old ps (good refusals.LastActive (inr (inr (inr (inl refl))))) in
-    let small : m.genid < 4294967295 = one_more_loss u.state m.name m sound.state found (good refusals.LastGenid (inr (inr (inr (inr (inl refl)))))) in
-    let left : filter stays u.state.components ≡ without_all provider ps u.state.components = sym (without_all-filter ps u.state.components) in
-    filtered_has u key (Lost m.name ps) m (record m { genid = m.genid + 1 }) stays (metas ks) sound (record {
+    let small : m.genid < 4294967295 =
+    one_more_loss u.state m.name m sound.state found
+    (good refusals.LastGenid (inr (inr (inr (inr (inl refl)))))) in
+    let left : filter stays u.state.components ≡ without_all provider ps u.state.components =
+    sym (without_all-filter ps u.state.components) in
+    filtered_has u key (Lost m.name ps) m (record m { genid = m.genid + 1 }) stays (metas ks) sound
+    (record {
       here = here;
       there = awaited_there u [] stays old (good refusals.Absent (inr (inl refl)));
       same_name = refl;
@@ -115,9 +150,16 @@ lost_has u key n ps sound answer good =
       same_data = refl;
       same_syncid = refl;
       alone = others_stay u m ps sound (good refusals.NotMember (inr (inr (inl refl))));
-      fits = record { name = rules.fits.name; mid = rules.fits.mid; genid = omega arith; syncid = rules.fits.syncid; slice = rules.fits.slice };
+      fits = record {
+        name = rules.fits.name;
+        mid = rules.fits.mid;
+        genid = omega arith;
+        syncid = rules.fits.syncid;
+        slice = rules.fits.slice;
+      };
       all = rules.all;
-      room = (let a : length ks ≤ length old = length-filter_le stays old in let b : length old ≤ m.all = rules.room in omega arith);
+      room = (let a : length ks ≤ length old = length-filter_le stays old in
+          let b : length old ≤ m.all = rules.room in omega arith);
       active = (active.0, active.1, active.2, ap not active.3);
       named = refl;
       cleared = λ q e. not_both false e refl;
@@ -125,5 +167,7 @@ lost_has u key n ps sound answer good =
       each = metas_are u gone ks ks (λ j i. i);
       metas = metas_has ks;
       plain = metas_plain ks;
-    }) (rw (found, left) refl) (ap metas (filter_swap stays (λ (j : Component). same_label j.mirror m.name) u.state.components))
+    }) (rw (found, left) refl)
+    (ap metas (filter_swap stays (λ (j : Component). same_label j.mirror m.name)
+    u.state.components))
     (λ w. tt) (λ w. tt) good answer) answer good

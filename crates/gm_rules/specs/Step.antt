@@ -33,13 +33,18 @@ pub record Bad (u : World) (c : Command) (r : Refusal) : Type 0 where
   pub listed : Has (own c) r
   pub met : applies u.state (seen_of u) c r ≡ true
 
--- sector j of q is the last one of a component after the command, or of a provider that is cleared, or the command copies it
+-- sector j of q is the last one of a component after the command, or of a provider that is cleared,
+-- or the command copies it
 abbrev pub is_changed : World → Command → World → List ℕ → ℕ → Bool
-is_changed u c w q j = list_any (λ k. same_label k.provider q && k.sectors == j + 1) w.state.components || ((clears u.state c q && is_last (u.size q) j) || fills u.state c q j)
+is_changed u c w q j =
+    list_any (λ k. same_label k.provider q && k.sectors == j + 1) w.state.components ||
+    ((clears u.state c q && is_last (u.size q) j) || fills u.state c q j)
 
--- the data list of a new mirror: the first sectors of its provider, or of the source that it is adopted from
+-- the data list of a new mirror: the first sectors of its provider, or of the source that it is
+-- adopted from
 abbrev pub NewData : World → Command → World → Type 0
-NewData u (commands.Label new) w = (i : ℕ) → i + 1 < unwrap_or (u.size new.provider) 0 → w.holds new.name i ≡ u.shelf new.provider i
+NewData u (commands.Label new) w = (i : ℕ) → i + 1 < unwrap_or (u.size new.provider) 0
+    → w.holds new.name i ≡ u.shelf new.provider i
 NewData u (commands.Insert new) w = Unit {0}
 NewData u (commands.Remove n p) w = Unit {0}
 NewData u (commands.Deactivate n p) w = Unit {0}
@@ -51,7 +56,8 @@ NewData u (commands.Clear p) w = Unit {0}
 NewData u (commands.Destroy n) w = Unit {0}
 NewData u (commands.Lost n ps) w = Unit {0}
 NewData u (commands.Advance n p) w = Unit {0}
-NewData u (commands.Adopt n ps) w = (b : Member) → source_in (seen_of u) ps ≡ Some b → (i : ℕ) → i < data_of b.metadata → w.holds n i ≡ u.shelf b.provider i
+NewData u (commands.Adopt n ps) w = (b : Member) → source_in (seen_of u) ps ≡ Some b → (i : ℕ)
+    → i < data_of b.metadata → w.holds n i ≡ u.shelf b.provider i
 
 -- the answer that the command's key keeps from now on
 abbrev pub answer : World → List ℕ → Command → Reply → Answered
@@ -67,9 +73,12 @@ pub record Step (u : World) (key : List ℕ) (c : Command) (w : World) (r : Repl
   pub there : (q : List ℕ) → w.there q ≡ u.there q
   pub holds : (m : Mirror) → Has u.state.mirrors m → (i : ℕ) → w.holds m.name i ≡ u.holds m.name i
   pub new : NewData u c w
-  pub held : (m : Mirror) (k : Component) → IsOf w.state m k → Below w.shelf (w.holds m.name) k.provider (held_by k.disk m.data_sectors)
-  pub full : (m : Mirror) (k : Component) → IsOf w.state m k → w.shelf k.provider (k.sectors - 1) ≡ encoded (metadata m k)
-  pub cleared : (q : List ℕ) (j : ℕ) → clears u.state c q ≡ true → is_last (u.size q) j ≡ true → w.shelf q j ≡ zeros
+  pub held : (m : Mirror) (k : Component) → IsOf w.state m k
+      → Below w.shelf (w.holds m.name) k.provider (held_by k.disk m.data_sectors)
+  pub full : (m : Mirror) (k : Component) → IsOf w.state m k
+      → w.shelf k.provider (k.sectors - 1) ≡ encoded (metadata m k)
+  pub cleared : (q : List ℕ) (j : ℕ) → clears u.state c q ≡ true → is_last (u.size q) j ≡ true
+      → w.shelf q j ≡ zeros
   pub others : (q : List ℕ) (j : ℕ) → is_changed u c w q j ≡ false → w.shelf q j ≡ u.shelf q j
 
 -- the key is free and there is room for one more answer; the command is what words can say
@@ -81,7 +90,8 @@ pub record CanAnswer (u : World) (key : List ℕ) (c : Command) : Type 0 where
 
 -- the last sector of a component that is new bears nothing before the command
 abbrev pub NewAreBare : World → World → Type 0
-NewAreBare u w = (k : Component) → Has w.state.components k → component_of u.state k.provider ≡ None → (d : Metadata) → Bears (u.shelf k.provider (k.sectors - 1)) d → ⊥
+NewAreBare u w = (k : Component) → Has w.state.components k → component_of u.state k.provider ≡ None
+    → (d : Metadata) → Bears (u.shelf k.provider (k.sectors - 1)) d → ⊥
 
 -- a provider that label or insert makes a component bore nothing before
 abbrev pub WereBare : Command → World → World → Type 0
@@ -93,11 +103,13 @@ WereBare _ u w = Unit {0}
 abbrev pub IsOwn : Records → Command → List ℕ → Type 0
 IsOwn s c p = (k : Component) × Has (members_named s c) k × (k.provider ≡ p)
 
--- The intents ts carry out the command's step from u to w: they name every sector that it changes and say what w holds there,
--- no source of a copy is a place, data come before claims, and what was claimed on the way stays true. A registry that
--- keeps them can be read again, what they read and write is there, they write metadata of the command's mirror alone,
--- and what they copy is the data of the mirror.
-pub record Plan (u : World) (key : List ℕ) (c : Command) (ts : List Intent) (w : World) : Type 0 where
+-- The intents ts carry out the command's step from u to w: they name every sector that it changes
+-- and say what w holds there, no source of a copy is a place, data come before claims, and what was
+-- claimed on the way stays true. A registry that keeps them can be read again, what they read and
+-- write is there, they write metadata of the command's mirror alone, and what they copy is the data
+-- of the mirror.
+pub record Plan (u : World) (key : List ℕ) (c : Command) (ts : List Intent) (w : World) :
+    Type 0 where
   pub step : Step u key c w (reply_to c u.state)
   pub sound : Sound w
   pub redo : IsRedo w.state u.size ts u.shelf w.shelf

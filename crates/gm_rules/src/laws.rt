@@ -1,4 +1,5 @@
-//! What the rules promise of each command that nothing refuses: a law, the contract of a function that does nothing.
+//! What the rules promise of each command that nothing refuses: a law, the contract of a function
+//! that does nothing.
 
 ghost use Rattle.std.specs.Prelude.{ℕ, List};
 ghost use Rattle.gm_state.specs.World.{World, Sound};

@@ -1,9 +1,10 @@
-//! The rules of the commands: each that nothing refuses has a plan, whose intents lead every image to the step of the
-//! abstract bench.
+//! The rules of the commands: each that nothing refuses has a plan, whose intents lead every image
+//! to the step of the abstract bench.
 //!
-//! `specs/Step.antt` says what the step of a world is, and what a plan is; `specs/AbstractCalls.antt` what the abstract bench
-//! answers to calls. `laws.rt` says that every command has a plan. When a command is refused stands in `gm_refusals`, and
-//! what it changes in `gm_changes`; both can be taken from here.
+//! `specs/Step.antt` says what the step of a world is, and what a plan is;
+//! `specs/AbstractCalls.antt` what the abstract bench answers to calls. `laws.rt` says that every
+//! command has a plan. When a command is refused stands in `gm_refusals`, and what it changes in
+//! `gm_changes`; both can be taken from here.
 #![tactic(auto)]
 
 mod laws;

@@ -6,7 +6,11 @@ use Rattle.gm_shelf.specs.Disk.{View, IsPut, Elapses, IsQuiet, AreReads, IsWrite
 
 -- nothing is done
 pub elapses_itself : (v : View) → Elapses v v
-elapses_itself v = record { later = omega arith; nothing_else = λ t x le left. inl left; keeps = λ t x le left. left }
+elapses_itself v = record {
+  later = omega arith;
+  nothing_else = λ t x le left. inl left;
+  keeps = λ t x le left. left;
+}
 
 pub quiet_itself : (v : View) → IsQuiet v v
 quiet_itself v = record { seen = λ q j. refl; crash = λ x left. left; time = elapses_itself v }
@@ -15,19 +19,22 @@ pub reads_itself : (v : View) → AreReads v v
 reads_itself v = record { quiet = quiet_itself v; kept = λ x left. left }
 
 -- time that goes on twice: what may be left in between was left before, or may be left still
-pub elapses_then : (a b c : View) → ((t : ℕ) (x : Image) → t ≤ a.moment → b.may_leave x → a.left_since t x ⊎ c.may_leave x) → Elapses a b → Elapses b c → Elapses a c
+pub elapses_then : (a b c : View) → ((t : ℕ) (x : Image) → t ≤ a.moment → b.may_leave x
+    → a.left_since t x ⊎ c.may_leave x) → Elapses a b → Elapses b c → Elapses a c
 elapses_then a b c between one two = record {
   later = omega (arith, one.later, two.later);
   nothing_else = λ t x le left.
       ⊎_elim
-      (λ (was : b.left_since t x). ⊎_elim (λ (first : a.left_since t x). inl first) (λ (mid : b.may_leave x). between t x le mid) (one.nothing_else t x le was))
+      (λ (was : b.left_since t x). ⊎_elim (λ (first : a.left_since t x). inl first)
+      (λ (mid : b.may_leave x). between t x le mid) (one.nothing_else t x le was))
       (λ (now : c.may_leave x). inr now)
       (two.nothing_else t x (omega (arith, le, one.later)) left);
   keeps = λ t x le left. two.keeps t x (omega (arith, le, one.later)) (one.keeps t x le left);
 }
 
 -- after a quiet call a crash leaves nothing that wasn't left before
-counted_before : (a b : View) → IsLawful a → IsQuiet a b → (c : Image → Type 0) (t : ℕ) (x : Image) → t ≤ a.moment → b.may_leave x → a.left_since t x ⊎ c x
+counted_before : (a b : View) → IsLawful a → IsQuiet a b → (c : Image → Type 0) (t : ℕ) (x : Image)
+    → t ≤ a.moment → b.may_leave x → a.left_since t x ⊎ c x
 counted_before a b lawful quiet c t x le mid = inl (lawful.counts_now t x le (quiet.crash x mid))
 
 pub quiet_then : (a b c : View) → IsLawful a → IsQuiet a b → IsQuiet b c → IsQuiet a c
@@ -49,7 +56,8 @@ reads_then a b c one two = record {
 }
 
 -- an image of any moment of quiet calls was left before them
-pub quiet_moment : (a b : View) → IsLawful a → IsQuiet a b → (x : Image) → b.left_since a.moment x → a.may_leave x
+pub quiet_moment : (a b : View) → IsLawful a → IsQuiet a b → (x : Image) → b.left_since a.moment x
+    → a.may_leave x
 quiet_moment a b lawful quiet x left =
     ⊎_elim
     (λ (was : a.left_since a.moment x). lawful.only_now x was)
@@ -57,7 +65,8 @@ quiet_moment a b lawful quiet x left =
     (quiet.time.nothing_else a.moment x (omega arith) left)
 
 -- a write after quiet calls
-pub quiet_then_write : (p : Label) (i : ℕ) (s : List ℕ) (a b c : View) → IsLawful a → IsQuiet a b → IsWrite p i s b c → IsWrite p i s a c
+pub quiet_then_write : (p : Label) (i : ℕ) (s : List ℕ) (a b c : View) → IsLawful a → IsQuiet a b
+    → IsWrite p i s b c → IsWrite p i s a c
 quiet_then_write p i s a b c lawful one two = record {
   seen = λ q j.
       ⊎_elim
@@ -69,12 +78,18 @@ quiet_then_write p i s a b c lawful one two = record {
 }
 
 -- reads after a write
-pub write_then_reads : (p : Label) (i : ℕ) (s : List ℕ) (a b c : View) → IsWrite p i s a b → AreReads b c → IsWrite p i s a c
+pub write_then_reads : (p : Label) (i : ℕ) (s : List ℕ) (a b c : View) → IsWrite p i s a b
+    → AreReads b c → IsWrite p i s a c
 write_then_reads p i s a b c one two = record {
   seen = λ q j.
       ⊎_elim
       (λ (e : b.seen q j ≡ a.seen q j). inl (two.quiet.seen q j ∙ e))
-      (λ (new : IsPut p i s q j (b.seen q j)). inr (record { provider = new.provider; place = new.place; value = two.quiet.seen q j ∙ new.value }))
+      (λ (new : IsPut p i s q j (b.seen q j)).
+      inr (record {
+        provider = new.provider;
+        place = new.place;
+        value = two.quiet.seen q j ∙ new.value;
+      }))
       (one.seen q j);
   crash = λ x left. one.crash x (two.quiet.crash x left);
   time = elapses_then a b c (λ t x le mid. inr (two.kept x mid)) one.time two.quiet.time;

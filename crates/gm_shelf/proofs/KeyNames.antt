@@ -16,7 +16,9 @@ pub same_key : (a b : List ℕ) → Decides (eq_by_cmp (slice_cmp nat_cmp) a b) 
 same_key a b = rw (← texts_ties a b) (bytes_eq-Decides a b)
 
 -- sizes that are known just where the list has the name
-pub names_are : (sizes : Sizes) (names : List (List ℕ)) → IsAscending names → ((q : List ℕ) → is_some (sizes q) ≡ is_member (eq_by_cmp (slice_cmp nat_cmp)) names q) → AreNames sizes names
+pub names_are : (sizes : Sizes) (names : List (List ℕ)) → IsAscending names
+    → ((q : List ℕ) → is_some (sizes q) ≡ is_member (eq_by_cmp (slice_cmp nat_cmp)) names q)
+    → AreNames sizes names
 names_are sizes names ascending found = record {
   ascending = ascending;
   there = λ p.
@@ -24,6 +26,7 @@ names_are sizes names ascending found = record {
       ((λ listed. found p ∙ told.1 listed), (λ some. told.0 (sym (found p) ∙ some)));
 }
 
-pub is_some-option_map : {A B : Type 0} (f : A → B) (o : Option A) → is_some (option_map f o) ≡ is_some o
+pub is_some-option_map : {A B : Type 0} (f : A → B) (o : Option A)
+    → is_some (option_map f o) ≡ is_some o
 is_some-option_map f None = refl
 is_some-option_map f (Some x) = refl

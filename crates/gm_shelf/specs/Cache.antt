@@ -33,5 +33,7 @@ IsOutside (Some n) j = n ≤ j
 pub record IsCache (history : List Event) (disks : Disks) : Type 0 where
   pub sizes : (q : Label) → size_in disks q ≡ size_after history q
   pub sectors : (q : Label) (j : ℕ) → held_in disks q j ≡ seen_after history q j
-  pub never_synced : (q : Label) (j : ℕ) → IsOutside (size_after history q) j → synced_after history q j ≡ []
-  pub never_written : (q : Label) (j : ℕ) → IsOutside (size_after history q) j → written_after history q j ≡ []
+  pub never_synced : (q : Label) (j : ℕ) → IsOutside (size_after history q) j
+      → synced_after history q j ≡ []
+  pub never_written : (q : Label) (j : ℕ) → IsOutside (size_after history q) j
+      → written_after history q j ≡ []

@@ -1,4 +1,5 @@
--- A shelf as contracts see it, and what its calls may do to what it holds and to what a crash may leave.
+-- A shelf as contracts see it, and what its calls may do to what it holds and to what a crash may
+-- leave.
 use Rattle.std.specs.Prelude.{◌≡◌, ◌≤◌, ◌<◌, ◌⊎◌, ◌↔◌, ◌+◌, ◌-◌, ◌&&◌, ℕ, List, [], Result, Err, IsSome, Contains, length, slice_index_or, nat_le, nat_lt, if◌then◌else◌}
 use Rattle.std.specs.Ordering.{nat_cmp}
 use Rattle.std.specs.Cmp.Lexicographic.{slice_cmp}
@@ -22,7 +23,8 @@ pub record IsPut (p : Label) (i : ℕ) (s : List ℕ) (q : Label) (j : ℕ) (v :
   pub place : j ≡ i
   pub value : v ≡ s
 
--- a write that may have failed: the one sector holds what it held or the new value, every other what it held
+-- a write that may have failed: the one sector holds what it held or the new value, every other
+-- what it held
 abbrev pub Torn : Label → ℕ → List ℕ → Image → Image → Type 0
 Torn p i s old new = (q : Label) (j : ℕ) → (new q j ≡ old q j) ⊎ IsPut p i s q j (new q j)
 
@@ -30,13 +32,16 @@ Torn p i s old new = (q : Label) (j : ℕ) → (new q j ≡ old q j) ⊎ IsPut p
 abbrev pub From : (Image → Type 0) → (Image → Type 0) → Type 0
 From old step = (d : Image) × old d × step d
 
--- time goes on: a crash since t might have left what it might have left before, or what it may leave now
+-- time goes on: a crash since t might have left what it might have left before, or what it may
+-- leave now
 pub record Elapses (old new : View) : Type 0 where
   pub later : old.moment ≤ new.moment
-  pub nothing_else : (t : ℕ) (x : Image) → t ≤ old.moment → new.left_since t x → old.left_since t x ⊎ new.may_leave x
+  pub nothing_else : (t : ℕ) (x : Image) → t ≤ old.moment → new.left_since t x
+      → old.left_since t x ⊎ new.may_leave x
   pub keeps : (t : ℕ) (x : Image) → t ≤ old.moment → old.left_since t x → new.left_since t x
 
--- a read, or a sync that failed: a read gives what it gave, and a crash leaves nothing that it couldn't leave before
+-- a read, or a sync that failed: a read gives what it gave, and a crash leaves nothing that it
+-- couldn't leave before
 pub record IsQuiet (old new : View) : Type 0 where
   pub seen : Same new.seen old.seen
   pub crash : (x : Image) → new.may_leave x → old.may_leave x
@@ -64,22 +69,28 @@ IsRun p first x run = (k : ℕ) → k < length run → sector_of run k ≡ x p (
 -- the image with this run laid over it, from that sector on
 abbrev pub put_run : Label → ℕ → List (List ℕ) → Image → Image
 put_run p first run x q j =
-    if same_label q p && (nat_le first j && nat_lt j (first + length run)) then sector_of run (j - first) else x q j
+    if same_label q p && (nat_le first j && nat_lt j (first + length run)) then sector_of run
+    (j - first) else x q j
 
 -- the value is the one that the run has for this sector
 abbrev pub IsPutByRun : Label → ℕ → List (List ℕ) → Label → ℕ → List ℕ → Type 0
-IsPutByRun p first run q j v = (k : ℕ) × (k < length run) × IsPut p (first + k) (sector_of run k) q j v
+IsPutByRun p first run q j v = (k : ℕ) × (k < length run)
+    × IsPut p (first + k) (sector_of run k) q j v
 
--- a write of a run that may have failed: each sector, chosen by itself, holds what it held or what the run has for it
+-- a write of a run that may have failed: each sector, chosen by itself, holds what it held or what
+-- the run has for it
 abbrev pub TornRun : Label → ℕ → List (List ℕ) → Image → Image → Type 0
-TornRun p first run old new = (q : Label) (j : ℕ) → (new q j ≡ old q j) ⊎ IsPutByRun p first run q j (new q j)
+TornRun p first run old new = (q : Label) (j : ℕ)
+    → (new q j ≡ old q j) ⊎ IsPutByRun p first run q j (new q j)
 
--- a write of a run, also one that failed: so torn is what is seen, and what a crash leaves, now or at any moment since
+-- a write of a run, also one that failed: so torn is what is seen, and what a crash leaves, now or
+-- at any moment since
 pub record IsRunWrite (p : Label) (first : ℕ) (run : List (List ℕ)) (old new : View) : Type 0 where
   pub seen : TornRun p first run old.seen new.seen
   pub crash : (x : Image) → new.may_leave x → From old.may_leave (λ d. TornRun p first run d x)
   pub later : old.moment ≤ new.moment
-  pub since : (t : ℕ) (x : Image) → t ≤ old.moment → new.left_since t x → old.left_since t x ⊎ From old.may_leave (λ d. TornRun p first run d x)
+  pub since : (t : ℕ) (x : Image) → t ≤ old.moment → new.left_since t x
+      → old.left_since t x ⊎ From old.may_leave (λ d. TornRun p first run d x)
   pub keeps : (t : ℕ) (x : Image) → t ≤ old.moment → old.left_since t x → new.left_since t x
 
 -- a sync that succeeded fixes what the provider holds

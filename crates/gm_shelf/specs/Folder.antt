@@ -1,4 +1,5 @@
--- A folder of image files as contracts see it: sizes and failures, and nothing of what a file holds.
+-- A folder of image files as contracts see it: sizes and failures, and nothing of what a file
+-- holds.
 use Rattle.std.specs.Prelude.{⊤, ℕ, Bool, List, [], ◌/◌, ◌==◌, ◌&&◌, filter, not}
 use Rattle.std.specs.List.{list_any}
 use Rattle.std.specs.Option.{option_map}
@@ -16,7 +17,8 @@ sectors_of images p = option_map (λ image. image.length / 512) (get (slice_cmp 
 
 -- the image is one of these files
 abbrev pub is_one_of : List FileId → ImageFile → Bool
-is_one_of files image = list_any (λ file. (file.device == image.file.device) && (file.inode == image.file.inode)) files
+is_one_of files image =
+    list_any (λ file. (file.device == image.file.device) && (file.inode == image.file.inode)) files
 
 -- these images, each with its name, but those that are one of these files
 abbrev pub images_but : List FileId → List (List ℕ × ImageFile) → List (List ℕ × ImageFile)
@@ -24,4 +26,10 @@ images_but files = filter (λ named. not (is_one_of files named.1))
 
 -- nothing is known of what is held or left: any image may be left, now or since any moment
 abbrev pub unknown : ℕ → View
-unknown failures = record { seen = λ p i. []; may_leave = λ x. ⊤; moment = 0; left_since = λ t x. ⊤; faults = failures }
+unknown failures = record {
+  seen = λ p i. [];
+  may_leave = λ x. ⊤;
+  moment = 0;
+  left_since = λ t x. ⊤;
+  faults = failures;
+}

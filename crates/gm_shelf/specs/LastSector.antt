@@ -10,16 +10,18 @@ pub record OldOrNew (p : Label) (i : ℕ) (s : List ℕ) (old new : View) : Type
   pub seen : Torn p i s old.seen new.seen
   pub left : (x : Image) → new.may_leave x → From old.may_leave (λ d. Torn p i s d x)
   pub later : old.moment ≤ new.moment
-  pub since : (t : ℕ) (x : Image) → t ≤ old.moment → new.left_since t x → old.left_since t x ⊎ From old.may_leave (λ d. Torn p i s d x)
+  pub since : (t : ℕ) (x : Image) → t ≤ old.moment → new.left_since t x
+      → old.left_since t x ⊎ From old.may_leave (λ d. Torn p i s d x)
 
--- the sector is new, in what a read gives and in each image that a crash may leave, every other is as it was,
--- and nothing of the provider is unsynced
+-- the sector is new, in what a read gives and in each image that a crash may leave, every other is
+-- as it was, and nothing of the provider is unsynced
 pub record IsDone (p : Label) (i : ℕ) (s : List ℕ) (old new : View) : Type 0 where
   pub seen : Same new.seen (put p i s old.seen)
   pub left : (x : Image) → new.may_leave x → From old.may_leave (λ d. Same x (put p i s d))
   pub fixed : (x : Image) → new.may_leave x → (j : ℕ) → x p j ≡ new.seen p j
 
--- one write, then one sync where the write was done, and nothing else; the answer is that of the last of them
+-- one write, then one sync where the write was done, and nothing else; the answer is that of the
+-- last of them
 pub record WritesThenSyncs {S : Type 0} (write_gives sync_gives : Answer → S → S → Type 0)
     (answer : Answer) (old new : S) : Type 0 where
   pub between : S

@@ -84,7 +84,8 @@ fn choice_at(pick: &[u32], n: usize) -> u32
     pick.get(n).copied().unwrap_or(0)
 }
 
-// How many picks are taken after one sector more: one for each unsynced sector, while there are some.
+// How many picks are taken after one sector more: one for each unsynced sector, while there are
+// some.
 fn taken_after(taken: usize, is_unsynced: bool, picks: usize) -> usize
     ensures { (n : ℕ) → taken ≡ min n picks →
         result ≡ min (n + (if is_unsynced then 1 else 0)) picks }

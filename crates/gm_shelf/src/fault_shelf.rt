@@ -36,8 +36,8 @@ impl<H: Shelf> FaultShelf<H> {
     }
 
     /// Every read, write and sync from the nth on, counted from 1, fails before it acts for want of
-    /// memory: the count of failures stands at its last value, so that none is told as the device's.
-    /// An nth of 0 is as one of 1.
+    /// memory: the count of failures stands at its last value, so that none is told as the
+    /// device's. An nth of 0 is as one of 1.
     pub fn starve_from(inner: H, nth: u64) -> FaultShelf<H>
         ensures inner { inner_of result ≡ inner }
         ensures passing { passing_of result ≡ nth - 1 }

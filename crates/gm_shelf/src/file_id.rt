@@ -3,8 +3,8 @@
 use std::fs::Metadata;
 use std::os::unix::fs::MetadataExt;
 
-/// A file as the system knows it, by its device and inode: the same for every path that leads to it, and for no other
-/// file while it is there.
+/// A file as the system knows it, by its device and inode: the same for every path that leads to
+/// it, and for no other file while it is there.
 #[derive(Clone, Copy, Debug, PartialEq, Eq, PartialOrd, Ord)]
 pub struct FileId {
     device: u64,

@@ -56,8 +56,8 @@ impl<R: Files<File = File> + AllocGlobal + Clone + Drop> FileShelf<R> {
         leave_out(&mut self.images, files);
     }
 
-    /// Opens those images of a folder that have these names, to be read alone: every write fails. No other entry
-    /// of the folder is looked at. Fails where there is no such folder.
+    /// Opens those images of a folder that have these names, to be read alone: every write fails.
+    /// No other entry of the folder is looked at. Fails where there is no such folder.
     pub fn look_at(rt: &R, folder: &str, names: &[Label]) -> io::Result<FileShelf<R>>
         ensures folder { IfOk result (λ shelf. folder_of shelf ≡ folder.now) }
         ensures no_failures { IfOk result (λ shelf. failures_of shelf ≡ 0) }

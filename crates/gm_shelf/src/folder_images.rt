@@ -68,8 +68,8 @@ fn check_apart(alloc: Global, images: &Images) -> io::Result<()> {
     Ok(())
 }
 
-/// The images of a folder. Fails where the folder can't be listed, where an entry can't be looked at, and where two names
-/// are one file.
+/// The images of a folder. Fails where the folder can't be listed, where an entry can't be looked
+/// at, and where two names are one file.
 pub(crate) fn images_in<R: Files + AllocGlobal + Clone + Drop>(
     rt: &R,
     folder: &str,
@@ -105,8 +105,9 @@ fn image_named<R: Files + AllocGlobal>(
     }
 }
 
-/// The images of a folder that have these names; no other entry is looked at. Fails where there is no such folder, where
-/// one of the entries can't be looked at, and where two of the names are one file.
+/// The images of a folder that have these names; no other entry is looked at. Fails where there is
+/// no such folder, where one of the entries can't be looked at, and where two of the names are one
+/// file.
 pub(crate) fn images_named<R: Files + AllocGlobal>(
     rt: &R,
     folder: &str,

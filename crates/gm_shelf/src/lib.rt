@@ -1,12 +1,12 @@
 //! Providers of 512-byte sectors, as disks are: what a read gives, what a crash may leave, and when
 //! a call fails.
 //!
-//! Begin with `shelf.rt`, the trait `Shelf` and its law; `fault.rt` has the four faults and when each
-//! comes. `last_sector.rt` writes a last sector so that it is old or new at every moment.
-//! Three shelves keep to the law: `file_shelf.rt` is a folder of image files, of whose contents nothing is
-//! claimed (`folder_images.rt` lists them, `open_files.rt` opens them, and `file_id.rt` tells which file a
-//! file is); `mem_shelf.rt` is a disk in memory, of which `crash_image.rt` makes the images that a crash may
-//! leave; and `fault_shelf.rt` makes the calls of another shelf fail.
+//! Begin with `shelf.rt`, the trait `Shelf` and its law; `fault.rt` has the four faults and when
+//! each comes. `last_sector.rt` writes a last sector so that it is old or new at every moment.
+//! Three shelves keep to the law: `file_shelf.rt` is a folder of image files, of whose contents
+//! nothing is claimed (`folder_images.rt` lists them, `open_files.rt` opens them, and `file_id.rt`
+//! tells which file a file is); `mem_shelf.rt` is a disk in memory, of which `crash_image.rt` makes
+//! the images that a crash may leave; and `fault_shelf.rt` makes the calls of another shelf fail.
 #![tactic(auto)]
 
 mod contents;

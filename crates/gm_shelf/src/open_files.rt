@@ -63,8 +63,8 @@ impl<R: Files<File = File> + AllocGlobal + Clone + Drop> OpenFiles<R> {
         })
     }
 
-    // The file is looked at before it is opened, since to open what isn't one may wait for ever, and again once it is
-    // open, since it may have changed its place meanwhile.
+    // The file is looked at before it is opened, since to open what isn't one may wait for ever,
+    // and again once it is open, since it may have changed its place meanwhile.
     fn open(&self, name: Label, image: ImageFile) -> io::Result<File> {
         let folder = self.folder.as_str();
         let path = format!(in self.rt.alloc(); "{folder}/{name}")?;
@@ -77,8 +77,8 @@ impl<R: Files<File = File> + AllocGlobal + Clone + Drop> OpenFiles<R> {
         Ok(file)
     }
 
-    /// Acts on the file of an image, which is opened at its first use and kept, until a look finds that it is none any
-    /// more. Where too many are open, another one is closed.
+    /// Acts on the file of an image, which is opened at its first use and kept, until a look finds
+    /// that it is none any more. Where too many are open, another one is closed.
     pub(crate) fn with<F: FnOnce(&File) -> io::Result<()>>(
         &mut self,
         name: Label,
@@ -104,8 +104,8 @@ impl<R: Files<File = File> + AllocGlobal + Clone + Drop> OpenFiles<R> {
         act(self.opened.entry(name)?.or_insert(file))
     }
 
-    /// Writes through what the file of an image holds. One that is open was looked at when it was written, and isn't
-    /// looked at again.
+    /// Writes through what the file of an image holds. One that is open was looked at when it was
+    /// written, and isn't looked at again.
     pub(crate) fn sync(&mut self, name: Label, image: ImageFile) -> io::Result<()>
         ensures { self.new.folder ≡ self.old.folder }
     {

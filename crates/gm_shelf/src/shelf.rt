@@ -15,8 +15,8 @@ use std::alloc::AllocError;
 /// sync or with any value that was written since; each sector is chosen by itself. What is said of
 /// contents holds of a shelf that is honest.
 ///
-/// Failures of the device are counted, one for each call that answers `Device`. A shelf whose counter
-/// stands at its last value answers `Memory` in its place.
+/// Failures of the device are counted, one for each call that answers `Device`. A shelf whose
+/// counter stands at its last value answers `Memory` in its place.
 pub trait Shelf {
     /// The laws on contents hold of it.
     ghost honest: { Self → Type 0 };
@@ -27,8 +27,8 @@ pub trait Shelf {
     /// How many sectors each provider has.
     ghost size: { Self → Sizes };
 
-    /// What else its reads do: the shelf before, provider, place, answer, what `out` holds, the shelf
-    /// after.
+    /// What else its reads do: the shelf before, provider, place, answer, what `out` holds, the
+    /// shelf after.
     ghost read_gives: { Self → Label → ℕ → Answer → List ℕ → Self → Type 0 };
 
     /// What else its writes do: the shelf before, provider, place, sector, answer, the shelf after.
@@ -64,8 +64,8 @@ pub trait Shelf {
             (view self.old).faults < (view self.new).faults }
         ensures gives { read_gives self.old provider place result out.new self.new };
 
-    /// Writes the sector at this place. After a fault a read gives the old or the new value, the same
-    /// one until the next write.
+    /// Writes the sector at this place. After a fault a read gives the old or the new value, the
+    /// same one until the next write.
     fn write(&mut self, provider: Label, place: u64, sector: &[u8; 512]) -> Result<(), ShelfFault>
         ensures written { honest self.old → OnOk result
             (Same (view self.new).seen (put provider place sector.now (view self.old).seen)) }
@@ -82,9 +82,9 @@ pub trait Shelf {
             (view self.old).faults < (view self.new).faults }
         ensures gives { write_gives self.old provider place sector.now result self.new };
 
-    /// Reads a run of sectors, from this one on. It changes nothing of what is held or left, also where
-    /// it fails; after a fault `out` holds anything. A run that goes past the end is `Range`, and of an
-    /// empty one that doesn't nothing is read.
+    /// Reads a run of sectors, from this one on. It changes nothing of what is held or left, also
+    /// where it fails; after a fault `out` holds anything. A run that goes past the end is `Range`,
+    /// and of an empty one that doesn't nothing is read.
     fn read_run(
         &mut self,
         provider: Label,
@@ -118,9 +118,9 @@ pub trait Shelf {
         Ok(())
     }
 
-    /// Writes a run of sectors, from this one on. After a fault a read gives of each, by itself, the old
-    /// or the new value, the same one until the next write. A run that goes past the end is `Range`, and
-    /// of an empty one that doesn't nothing is written.
+    /// Writes a run of sectors, from this one on. After a fault a read gives of each, by itself,
+    /// the old or the new value, the same one until the next write. A run that goes past the end is
+    /// `Range`, and of an empty one that doesn't nothing is written.
     fn write_run(
         &mut self,
         provider: Label,
@@ -153,8 +153,8 @@ pub trait Shelf {
         Ok(())
     }
 
-    /// Fixes what the provider holds: after it a crash leaves that. After a sync that failed a crash
-    /// leaves nothing but what it could leave before.
+    /// Fixes what the provider holds: after it a crash leaves that. After a sync that failed a
+    /// crash leaves nothing but what it could leave before.
     fn sync(&mut self, provider: Label) -> Result<(), ShelfFault>
         ensures fixed { honest self.old →
             OnOk result (IsFixed provider (view self.old) (view self.new)) }

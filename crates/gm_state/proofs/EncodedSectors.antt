@@ -16,12 +16,14 @@ use Rattle.gm_state.specs.Intents.{IsOf}
 use Rattle.gm_state.specs.Lookups.{metadata, held_of}
 use Rattle.gm_state.specs.Records.{Records, IsState, IsMirror, members}
 
-provider_fits : (h : Bool) (p : List ℕ) → IsTrue (is_label p) → IfSome (if h then Some p else None) (λ n. IsTrue (is_label n))
+provider_fits : (h : Bool) (p : List ℕ) → IsTrue (is_label p)
+    → IfSome (if h then Some p else None) (λ n. IsTrue (is_label n))
 provider_fits true p e = e
 provider_fits false p e = tt
 
 -- what the rules let a component's metadata be fits a sector
-metadata_fits : (s : Records) (m : Mirror) (k : Component) → IsState s → IsOf s m k → IsMetadata (metadata m k)
+metadata_fits : (s : Records) (m : Mirror) (k : Component) → IsState s → IsOf s m k
+    → IsMetadata (metadata m k)
 metadata_fits s m k state of =
     let r : IsMirror m (members s.components m.name) = state.each m of.mirror in
     let kf = r.members_fit k of.component in
@@ -47,15 +49,20 @@ metadata_fits s m k state of =
     }
 
 -- the last sector of a component bears its metadata alone
-pub bears_one : (s : Records) (m : Mirror) (k : Component) → IsState s → IsOf s m k → (x : List ℕ) → x ≡ encoded (metadata m k) → (d : Metadata) → IsMetadata d → Bears x d → d ≡ metadata m k
+pub bears_one : (s : Records) (m : Mirror) (k : Component) → IsState s → IsOf s m k → (x : List ℕ)
+    → x ≡ encoded (metadata m k) → (d : Metadata) → IsMetadata d → Bears x d → d ≡ metadata m k
 bears_one s m k state of x is d ok bears =
     let fits : IsMetadata (metadata m k) = metadata_fits s m k state of in
-    let own : Bears x (metadata m k) = subst (λ (y : List ℕ). Bears y (metadata m k)) (sym is) (encoded_is_full (metadata m k) (named (metadata m k) fits)).bears in
+    let own : Bears x (metadata m k) =
+    subst (λ (y : List ℕ). Bears y (metadata m k)) (sym is)
+    (encoded_is_full (metadata m k) (named (metadata m k) fits)).bears in
     spelled_by_one d (metadata m k) (take 135 x) ok fits bears own
 
 -- what bears metadata carries them
 pub bears_carries : (x : List ℕ) (d : Metadata) → Bears x d → carries x ≡ true
-bears_carries x d bears = (bytes_eq-Decides (take 16 x) magic).1 (sym (front_of_front 16 135 x (lit≤ tt)) ∙ bears.magic_is)
+bears_carries x d bears =
+    (bytes_eq-Decides (take 16 x) magic).1 (sym (front_of_front 16 135 x (lit≤ tt))
+    ∙ bears.magic_is)
 
 zeros_carry_nothing : carries zeros ≡ false
 unfolding magic

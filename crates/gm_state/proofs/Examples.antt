@@ -17,18 +17,26 @@ use Rattle.gm_commands.proofs.OneCommand.{apart}
 use Rattle.gm_state.proofs.TestsTellRules.{is_state_tells, is_state_from}
 
 -- what holds of a.img and b.img holds of each component
-each : (P : Mirror → Component → Type 0) → P gm0 a_img → P gm0 b_img → (m : Mirror) (k : Component) → IsOf records m k → P m k
+each : (P : Mirror → Component → Type 0) → P gm0 a_img → P gm0 b_img → (m : Mirror) (k : Component)
+    → IsOf records m k → P m k
 each P a b m k o = ⊎_elim (λ (e : gm0 ≡ m). at m e o.component) (λ (h : ⊥). absurd h) o.mirror
   where
     at : (m : Mirror) → gm0 ≡ m → Has (members records.components m.name) k → P m k
     at m e h = subst (λ (x : Mirror). Has (members records.components x.name) k → P x k) e
-        (λ g. ⊎_elim (λ (f : a_img ≡ k). subst (λ (x : Component). P gm0 x) f a) (λ (r : (b_img ≡ k) ⊎ ⊥). ⊎_elim (λ (f : b_img ≡ k). subst (λ (x : Component). P gm0 x) f b) (λ (z : ⊥). absurd z) r) g) h
+        (λ g. ⊎_elim (λ (f : a_img ≡ k). subst (λ (x : Component). P gm0 x) f a)
+        (λ (r : (b_img ≡ k) ⊎ ⊥). ⊎_elim (λ (f : b_img ≡ k).
+        subst (λ (x : Component). P gm0 x) f b) (λ (z : ⊥). absurd z) r) g) h
 
 answers_fit : (a : Answered) → Has (cleared 1 ∷ []) a → AnswerFits a
-answers_fit a h = ⊎_elim (λ (e : cleared 1 ≡ a). subst (λ (x : Answered). AnswerFits x) e (record { key = refl; command = refl; reply = tt })) (λ (z : ⊥). absurd z) h
+answers_fit a h =
+    ⊎_elim (λ (e : cleared 1 ≡ a). subst (λ (x : Answered). AnswerFits x) e
+    (record { key = refl; command = refl; reply = tt })) (λ (z : ⊥). absurd z) h
 
-answers_apart : (a b : Answered) → Has (cleared 1 ∷ []) a → Has (cleared 1 ∷ []) b → a.key ≡ b.key → a ≡ b
-answers_apart a b h k e = ⊎_elim (λ (p : cleared 1 ≡ a). ⊎_elim (λ (q : cleared 1 ≡ b). sym p ∙ q) (λ (z : ⊥). absurd z) k) (λ (z : ⊥). absurd z) h
+answers_apart : (a b : Answered) → Has (cleared 1 ∷ []) a → Has (cleared 1 ∷ []) b → a.key ≡ b.key
+    → a ≡ b
+answers_apart a b h k e =
+    ⊎_elim (λ (p : cleared 1 ≡ a). ⊎_elim (λ (q : cleared 1 ≡ b). sym p ∙ q)
+    (λ (z : ⊥). absurd z) k) (λ (z : ⊥). absurd z) h
 
 before : (i k : ℕ) → i < k → (i == k) ≡ false
 before i k l = ne_eqb i k (λ (e : i ≡ k). omega arith)
@@ -50,7 +58,8 @@ example_sound = record {
   };
   sizes = each (λ m k. example.size k.provider ≡ Some k.sectors) refl refl;
   full = each (λ m k. example.shelf k.provider (k.sectors - 1) ≡ encoded (metadata m k)) refl refl;
-  whole = each (λ m k. Below example.shelf (example.holds m.name) k.provider (held_by k.disk m.data_sectors)) whole_a part_of_b;
+  whole = each (λ m k. Below example.shelf (example.holds m.name) k.provider
+      (held_by k.disk m.data_sectors)) whole_a part_of_b;
 }
 
 pub crowded_not : Sound crowded → ⊥
@@ -95,7 +104,13 @@ pending_not r = apart 1 0 refl (ap length r.intents)
 
 -- b.img goes away and comes back as it was
 pub without_b_sound : Sound without_b
-without_b_sound = record { state = example_sound.state; answers = example_sound.answers; sizes = example_sound.sizes; full = example_sound.full; whole = example_sound.whole }
+without_b_sound = record {
+  state = example_sound.state;
+  answers = example_sound.answers;
+  sizes = example_sound.sizes;
+  full = example_sound.full;
+  whole = example_sound.whole;
+}
 
 pub without_b_hides : present without_b (codes "b.img") ≡ None
 without_b_hides = refl
@@ -105,8 +120,12 @@ without_b_shows p there i =
     elim (label_tells p (codes "a.img")) [
       | inl a ↦ rw a.0 refl
       | inr other ↦ elim (label_tells p (codes "b.img")) [
-        | inl b ↦ (let h : is_some (present without_b p) ≡ false = rw b.0 refl in absurd (true≢false (sym there ∙ h)))
-        | inr neither ↦ (let h : is_some (present without_b p) ≡ false = rw (neither.0, other.0) refl in absurd (true≢false (sym there ∙ h)))
+        | inl b ↦ (let h : is_some (present without_b p) ≡ false = rw b.0 refl in
+            absurd (true≢false (sym there ∙ h)))
+        | inr neither ↦ (let h : is_some (present without_b p) ≡ false = rw (
+          neither.0,
+          other.0,
+        ) refl in absurd (true≢false (sym there ∙ h)))
       ]
     ]
 

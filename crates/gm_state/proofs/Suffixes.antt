@@ -7,12 +7,14 @@ use Rattle.gm_state.specs.Readable.{AreOrdered}
 use Rattle.gm_state.specs.Readable.{IsBefore}
 
 -- the first of what is left
-pub next_is : {A : Type 0} (xs : List A) (i : ℕ) (x : A) → i < length xs → x ≡ get_or xs i x → drop i xs ≡ x ∷ drop (i + 1) xs
+pub next_is : {A : Type 0} (xs : List A) (i : ℕ) (x : A) → i < length xs → x ≡ get_or xs i x
+    → drop i xs ≡ x ∷ drop (i + 1) xs
 next_is xs i x low is = rw add-one (drop-cons xs i x low ∙ ap (λ y. y ∷ drop (suc i) xs) (sym is))
 
 -- ---- the order of intents
 
-pub ordered_from : (t : Intent) (ts : List Intent) → IsBefore t ts → AreOrdered ts → AreOrdered (t ∷ ts)
+pub ordered_from : (t : Intent) (ts : List Intent) → IsBefore t ts → AreOrdered ts
+    → AreOrdered (t ∷ ts)
 ordered_from (Meta p) ts b rest = (b, rest)
 ordered_from (Clear p) ts b rest = rest
 ordered_from (Copy source target first end) ts b rest = (b, rest)
@@ -32,8 +34,10 @@ ordered_rest (Copy source target first end) ts all = all.1
 abbrev pub Each : {A : Type 0} → (A → Type 0) → List A → Type 0
 Each {A} P xs = (x : A) → Has xs x → P x
 
-pub each_from : {A : Type 0} (P : A → Type 0) (x : A) (xs : List A) → P x → Each P xs → Each P (x ∷ xs)
-each_from P x xs p rest = λ y has. ⊎_elim (λ (s : x ≡ y). subst P s p) (λ (h : Has xs y). rest y h) has
+pub each_from : {A : Type 0} (P : A → Type 0) (x : A) (xs : List A) → P x → Each P xs
+    → Each P (x ∷ xs)
+each_from P x xs p rest =
+    λ y has. ⊎_elim (λ (s : x ≡ y). subst P s p) (λ (h : Has xs y). rest y h) has
 
 pub each_first : {A : Type 0} (P : A → Type 0) (x : A) (xs : List A) → Each P (x ∷ xs) → P x
 each_first P x xs all = all x (inl refl)
@@ -48,8 +52,13 @@ pub record IsLeft {A : Type 0} (x : A) (all rest : List A) : Type 0 where
   pub there : Has rest x → Has all x
   pub back : Has all x → Has rest x
 
-pub passed_over : {A : Type 0} (x y : A) (all rest : List A) → ¬ (y ≡ x) → IsLeft x all (y ∷ rest) → IsLeft x all rest
-passed_over x y all rest other left = record { there = λ h. left.there (inr h); back = λ h. ⊎_elim (λ (s : y ≡ x). absurd (other s)) (λ (k : Has rest x). k) (left.back h) }
+pub passed_over : {A : Type 0} (x y : A) (all rest : List A) → ¬ (y ≡ x) → IsLeft x all (y ∷ rest)
+    → IsLeft x all rest
+passed_over x y all rest other left =
+    record {
+      there = λ h. left.there (inr h);
+      back = λ h. ⊎_elim (λ (s : y ≡ x). absurd (other s)) (λ (k : Has rest x). k) (left.back h);
+    }
 
 pub none_left : {A : Type 0} (xs : List A) (i : ℕ) → length xs ≤ i → drop i xs ≡ []
 none_left [] zero h = refl

@@ -18,9 +18,20 @@ is_inactive (Copying forced held) = false
 
 -- the disk flags of g_mirror.h: 0, 8, and 2 or 6
 abbrev pub disk_flags : Disk → DiskFlags
-disk_flags InSync = record { dirty = false; synchronizing = false; force_sync = false; inactive = false }
-disk_flags Inactive = record { dirty = false; synchronizing = false; force_sync = false; inactive = true }
-disk_flags (Copying forced held) = record { dirty = false; synchronizing = true; force_sync = forced; inactive = false }
+disk_flags InSync = record {
+  dirty = false;
+  synchronizing = false;
+  force_sync = false;
+  inactive = false;
+}
+disk_flags Inactive = record {
+  dirty = false;
+  synchronizing = false;
+  force_sync = false;
+  inactive = true;
+}
+disk_flags (Copying forced held) =
+    record { dirty = false; synchronizing = true; force_sync = forced; inactive = false }
 
 -- the sync_offset in sectors: 0 unless SYNCHRONIZING is set
 abbrev pub held_of : Disk → ℕ

@@ -22,7 +22,8 @@ copies (Meta p) q j = false
 copies (Clear p) q j = false
 copies (Copy source target first end) q j = same_label target q && (nat_le first j && nat_lt j end)
 
--- the intent names sector j of provider q: the last one for Meta and Clear, those from first to end - 1 of the target for Copy
+-- the intent names sector j of provider q: the last one for Meta and Clear, those from first to end
+-- - 1 of the target for Copy
 abbrev pub names : Sizes → Intent → List ℕ → ℕ → Bool
 names size (Meta p) q j = same_label p q && is_last (size q) j
 names size (Clear p) q j = same_label p q && is_last (size q) j
@@ -52,44 +53,53 @@ pub record IsOf (s : Records) (m : Mirror) (k : Component) : Type 0 where
 -- what sector j holds by the intent, where the records are s and the shelf holds w:
 -- the component's metadata, zeros, or the source's sector
 abbrev pub Says : Records → Image → Intent → ℕ → List ℕ → Type 0
-Says s w (Meta p) j x = (m : Mirror) × (k : Component) × IsOf s m k × (k.provider ≡ p) × (x ≡ encoded (metadata m k))
+Says s w (Meta p) j x = (m : Mirror) × (k : Component) × IsOf s m k × (k.provider ≡ p)
+    × (x ≡ encoded (metadata m k))
 Says s w (Clear p) j x = x ≡ zeros
 Says s w (Copy source target first end) j x = x ≡ w source j
 
 -- in w each place holds what its intent says
 abbrev pub AllSay : Records → Sizes → List Intent → Image → Type 0
-AllSay s size ts w = (t : Intent) → Has ts t → (q : List ℕ) (j : ℕ) → names size t q j ≡ true → Says s w t j (w q j)
+AllSay s size ts w = (t : Intent) → Has ts t → (q : List ℕ) (j : ℕ) → names size t q j ≡ true
+    → Says s w t j (w q j)
 
 -- the source of a copy is there, and none of the sectors that it lends is a place
 abbrev pub Lends : Sizes → List Intent → Intent → Type 0
-Lends size ts (Copy source target first end) = IsSome (size source) × ((j : ℕ) → first ≤ j → j < end → is_place size ts source j ≡ false)
+Lends size ts (Copy source target first end) =
+    IsSome (size source) × ((j : ℕ) → first ≤ j → j < end → is_place size ts source j ≡ false)
 Lends size ts _ = Unit {0}
 
 -- on the providers that are there the images agree but for the places
 abbrev pub Agrees : Sizes → List Intent → Image → Image → Type 0
-Agrees size ts x w = (q : List ℕ) → IsSome (size q) → (j : ℕ) → is_place size ts q j ≡ false → x q j ≡ w q j
+Agrees size ts x w = (q : List ℕ) → IsSome (size q) → (j : ℕ) → is_place size ts q j ≡ false
+    → x q j ≡ w q j
 
 -- each component that an intent reads or writes is there, with its registered size
 abbrev pub AreThere : Records → List Intent → Sizes → Type 0
-AreThere s ts size = (m : Mirror) (k : Component) → IsOf s m k → list_any (touches k.provider) ts ≡ true → size k.provider ≡ Some k.sectors
+AreThere s ts size = (m : Mirror) (k : Component) → IsOf s m k
+    → list_any (touches k.provider) ts ≡ true → size k.provider ≡ Some k.sectors
 
 -- each provider that the intent reads or writes is there, with the sectors that it names
 abbrev pub IsAtHand : Sizes → Intent → Type 0
 IsAtHand size (Meta p) = IsSomeAnd (size p) (λ n. 0 < n)
 IsAtHand size (Clear p) = IsSomeAnd (size p) (λ n. 0 < n)
-IsAtHand size (Copy source target first end) = IsSomeAnd (size source) (λ n. end ≤ n) × IsSomeAnd (size target) (λ n. end ≤ n)
+IsAtHand size (Copy source target first end) =
+    IsSomeAnd (size source) (λ n. end ≤ n) × IsSomeAnd (size target) (λ n. end ≤ n)
 
--- on the providers that are there w is the image that the intents lead to from x, where the records are s
+-- on the providers that are there w is the image that the intents lead to from x, where the records
+-- are s
 pub record IsRedo (s : Records) (size : Sizes) (ts : List Intent) (x w : Image) : Type 0 where
   pub says : AllSay s size ts w
   pub lends : (t : Intent) → Has ts t → Lends size ts t
   pub agrees : Agrees size ts x w
 
--- data before claim: behind a write of a provider's last sector no intent copies to that provider, and no copy reaches a last sector
+-- data before claim: behind a write of a provider's last sector no intent copies to that provider,
+-- and no copy reaches a last sector
 abbrev pub InOrder : Sizes → List Intent → Type 0
 InOrder size [] = Unit {0}
 InOrder size (t ∷ ts) =
-    ((q : List ℕ) (j : ℕ) → is_last (size q) j ≡ true → names size t q j ≡ true → (i : ℕ) → any_copies ts q i ≡ false)
+    ((q : List ℕ) (j : ℕ) → is_last (size q) j ≡ true → names size t q j ≡ true → (i : ℕ)
+    → any_copies ts q i ≡ false)
     × ((q : List ℕ) (j : ℕ) → copies t q j ≡ true → is_last (size q) j ≡ false)
     × InOrder size ts
 

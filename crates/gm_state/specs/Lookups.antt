@@ -37,7 +37,8 @@ metadata m k = record {
 
 -- what is said of a component and its mirror, where the provider is a component
 abbrev pub at_component : {X : Type 0} → Records → List ℕ → (Mirror → Component → X) → Option X
-at_component s provider f = option_and_then (λ k. option_map (λ m. f m k) (mirror_of s k.mirror)) (component_of s provider)
+at_component s provider f =
+    option_and_then (λ k. option_map (λ m. f m k) (mirror_of s k.mirror)) (component_of s provider)
 
 -- the metadata of the component on this provider
 abbrev pub metadata_of : Records → List ℕ → Option Metadata

@@ -28,7 +28,8 @@ is_meta_of p (Meta q) = same_label q p
 is_meta_of p (Clear q) = false
 is_meta_of p (Copy source target first end) = false
 
--- the data of a component are copied from another ACTIVE one of its mirror, within the mirror's data
+-- the data of a component are copied from another ACTIVE one of its mirror, within the mirror's
+-- data
 pub record IsCopyWithin (s : Records) (source target : List ℕ) (first end : ℕ) : Type 0 where
   pub mirror : Mirror
   pub to : Component
@@ -53,7 +54,8 @@ abbrev pub AreOrdered : List Intent → Type 0
 AreOrdered [] = Unit {0}
 AreOrdered (Meta p ∷ ts) = (list_any (is_copy_to p) ts ≡ false) × AreOrdered ts
 AreOrdered (Clear p ∷ ts) = AreOrdered ts
-AreOrdered (Copy source target first end ∷ ts) = (list_any (is_meta_of target) ts ≡ true) × AreOrdered ts
+AreOrdered (Copy source target first end ∷ ts) =
+    (list_any (is_meta_of target) ts ≡ true) × AreOrdered ts
 
 -- The intents are readable for the state.
 pub record AreReadable (s : Records) (ts : List Intent) : Type 0 where

@@ -60,10 +60,12 @@ pub record IsState (s : Records) : Type 0 where
   pub count : length s.mirrors ≤ 64
   pub each : (m : Mirror) → Has s.mirrors m → IsMirror m (members s.components m.name)
   pub mids : (a b : Mirror) → Has s.mirrors a → Has s.mirrors b → a.mid ≡ b.mid → a ≡ b
-  pub homes : (k : Component) → Has s.components k → (m : Mirror) × Has s.mirrors m × (m.name ≡ k.mirror)
+  pub homes : (k : Component) → Has s.components k
+      → (m : Mirror) × Has s.mirrors m × (m.name ≡ k.mirror)
 
 -- s is a state, and has just these records, which were given in any order
-pub record IsStateOf (mirrors : List Mirror) (components : List Component) (s : Records) : Type 0 where
+pub record IsStateOf (mirrors : List Mirror) (components : List Component) (s : Records) :
+    Type 0 where
   pub state : IsState s
   pub mirrors_are : IsPermutation mirrors s.mirrors
   pub components_are : IsPermutation components s.components

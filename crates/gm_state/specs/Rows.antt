@@ -86,9 +86,24 @@ component_row k = record {
 
 -- kind 1 is Meta, 2 Clear, 3 Copy; only a copy has a source and sectors
 abbrev pub intent_row : ℕ → Intent → IntentRow
-intent_row n (Meta p) = record { ord = n; kind = 1; prov = p; source = []; first_sector = 0; end_sector = 0 }
-intent_row n (Clear p) = record { ord = n; kind = 2; prov = p; source = []; first_sector = 0; end_sector = 0 }
-intent_row n (Copy from to first end) = record { ord = n; kind = 3; prov = to; source = from; first_sector = first; end_sector = end }
+intent_row n (Meta p) = record {
+  ord = n;
+  kind = 1;
+  prov = p;
+  source = [];
+  first_sector = 0;
+  end_sector = 0;
+}
+intent_row n (Clear p) = record {
+  ord = n;
+  kind = 2;
+  prov = p;
+  source = [];
+  first_sector = 0;
+  end_sector = 0;
+}
+intent_row n (Copy from to first end) =
+    record { ord = n; kind = 3; prov = to; source = from; first_sector = first; end_sector = end }
 
 -- the rows of intents, which count from n
 abbrev pub intent_rows : ℕ → List Intent → List IntentRow
@@ -105,9 +120,16 @@ total_of (Copied held total) = total
 
 -- the key, its number, the canonical words, and the two numbers of the reply
 abbrev pub answer_row : Answered → CommandRow
-answer_row a = record { call_key = a.key; seq = a.number; words = words_of a.command; copied = copied_of a.reply; of_total = total_of a.reply }
+answer_row a = record {
+  call_key = a.key;
+  seq = a.number;
+  words = words_of a.command;
+  copied = copied_of a.reply;
+  of_total = total_of a.reply;
+}
 
--- Beside intents, the tables hold one row for each mirror, component and answered key of the world, in some order.
+-- Beside intents, the tables hold one row for each mirror, component and answered key of the world,
+-- in some order.
 pub record HoldRecords (w : World) (t : Tables) : Type 0 where
   pub mirrors : IsPermutation (map mirror_row w.state.mirrors) t.mirrors
   pub components : IsPermutation (map component_row w.state.components) t.components

@@ -12,11 +12,13 @@ use Rattle.gm_state.specs.declared.states.MirrorState.TheVariants.{Complete, Deg
 use Rattle.gm_state.specs.Records.{Records}
 use Rattle.gm_state.specs.Lookups.{at_component, is_active}
 
--- INACTIVE; else ACTIVE where SYNCHRONIZING is clear; else STALE under NOAUTOSYNC without FORCE_SYNC; else SYNCHRONIZING
+-- INACTIVE; else ACTIVE where SYNCHRONIZING is clear; else STALE under NOAUTOSYNC without
+-- FORCE_SYNC; else SYNCHRONIZING
 abbrev pub state_by : MirrorFlags → Disk → ComponentState
 state_by flags disks.Inactive = Inactive
 state_by flags disks.InSync = Active
-state_by flags (disks.Copying forced held) = if flags.no_autosync && not forced then Stale else Synchronizing
+state_by flags (disks.Copying forced held) =
+    if flags.no_autosync && not forced then Stale else Synchronizing
 
 -- the state of the component on this provider
 abbrev pub component_state : Records → List ℕ → Option ComponentState

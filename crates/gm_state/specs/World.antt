@@ -26,8 +26,9 @@ pub record Answered : Type 0 where
   pub number : ℕ
   pub reply : Reply
 
--- the records, the data of each mirror by its name and the sector's number, the answered keys with the newest first,
--- what each provider holds and how many sectors it has, also while it is away, and which are there
+-- the records, the data of each mirror by its name and the sector's number, the answered keys with
+-- the newest first, what each provider holds and how many sectors it has, also while it is away,
+-- and which are there
 pub record World : Type 0 where
   pub state : Records
   pub holds : List ℕ → ℕ → List ℕ
@@ -70,16 +71,20 @@ pub record AreAnswers (answers : List Answered) : Type 0 where
   pub numbers : AreNumbered answers
   pub keys : (a b : Answered) → Has answers a → Has answers b → a.key ≡ b.key → a ≡ b
 
--- The rules hold, each component has its registered size, its last sector says its metadata, and its data are what
--- its record says: an ACTIVE one is whole, one that is being copied to holds the list below its offset.
+-- The rules hold, each component has its registered size, its last sector says its metadata, and
+-- its data are what its record says: an ACTIVE one is whole, one that is being copied to holds the
+-- list below its offset.
 pub record Sound (w : World) : Type 0 where
   pub state : IsState w.state
   pub answers : AreAnswers w.answered
   pub sizes : (m : Mirror) (k : Component) → IsOf w.state m k → w.size k.provider ≡ Some k.sectors
-  pub full : (m : Mirror) (k : Component) → IsOf w.state m k → w.shelf k.provider (k.sectors - 1) ≡ encoded (metadata m k)
-  pub whole : (m : Mirror) (k : Component) → IsOf w.state m k → Below w.shelf (w.holds m.name) k.provider (held_by k.disk m.data_sectors)
+  pub full : (m : Mirror) (k : Component) → IsOf w.state m k
+      → w.shelf k.provider (k.sectors - 1) ≡ encoded (metadata m k)
+  pub whole : (m : Mirror) (k : Component) → IsOf w.state m k
+      → Below w.shelf (w.holds m.name) k.provider (held_by k.disk m.data_sectors)
 
--- how many data sectors metadata claim to hold: all of the mirror's, or those below the offset of a copy
+-- how many data sectors metadata claim to hold: all of the mirror's, or those below the offset of a
+-- copy
 abbrev pub claimed : Mirror → Metadata → ℕ
 claimed m d = if d.dflags.synchronizing then d.sync_offset / 512 else m.data_sectors
 
@@ -88,23 +93,29 @@ abbrev pub has_syncid : Option Mirror → ℕ → Bool
 has_syncid None n = false
 has_syncid (Some m) n = m.syncid == n
 
--- the data of a mirror that an image with this syncid claims on the way from u to w: those after where it has the syncid of
--- after, else those before
+-- the data of a mirror that an image with this syncid claims on the way from u to w: those after
+-- where it has the syncid of after, else those before
 abbrev pub data_at : World → World → List ℕ → ℕ → ℕ → List ℕ
-data_at u w name syncid i = if has_syncid (mirror_of w.state name) syncid then w.holds name i else u.holds name i
+data_at u w name syncid i =
+    if has_syncid (mirror_of w.state name) syncid then w.holds name i else u.holds name i
 
--- On the way from u to w no image of a component of u claims a sector that it lacks: where its last sector bears metadata of
--- its mirror, with neither INACTIVE nor DIRTY.
+-- On the way from u to w no image of a component of u claims a sector that it lacks: where its last
+-- sector bears metadata of its mirror, with neither INACTIVE nor DIRTY.
 abbrev pub Claims : World → World → Image → Type 0
 Claims u w x =
-    (m : Mirror) (k : Component) (d : Metadata) → IsOf u.state m k → IsMetadata d → Bears (x k.provider (k.sectors - 1)) d
-    → d.name ≡ m.name → d.mid ≡ m.mid → d.dflags.inactive ≡ false → d.dflags.dirty ≡ false → Below x (data_at u w m.name d.syncid) k.provider (claimed m d)
+    (m : Mirror) (k : Component) (d : Metadata) → IsOf u.state m k → IsMetadata d
+    → Bears (x k.provider (k.sectors - 1)) d
+    → d.name ≡ m.name → d.mid ≡ m.mid → d.dflags.inactive ≡ false → d.dflags.dirty ≡ false
+    → Below x (data_at u w m.name d.syncid) k.provider (claimed m d)
 
 -- The same of the components that w has and u hasn't: they claim of w's data.
 abbrev pub NewClaims : World → World → Image → Type 0
 NewClaims u w x =
-    (m : Mirror) (k : Component) (d : Metadata) → IsOf w.state m k → component_of u.state k.provider ≡ None → IsMetadata d → Bears (x k.provider (k.sectors - 1)) d
-    → d.name ≡ m.name → d.mid ≡ m.mid → d.dflags.inactive ≡ false → d.dflags.dirty ≡ false → Below x (w.holds m.name) k.provider (claimed m d)
+    (m : Mirror) (k : Component) (d : Metadata) → IsOf w.state m k
+    → component_of u.state k.provider ≡ None → IsMetadata d
+    → Bears (x k.provider (k.sectors - 1)) d
+    → d.name ≡ m.name → d.mid ≡ m.mid → d.dflags.inactive ≡ false → d.dflags.dirty ≡ false
+    → Below x (w.holds m.name) k.provider (claimed m d)
 
 -- what is copied to a component of u is its mirror's data, and the mirror stays, with the same data
 abbrev pub CopiesData : World → World → List Intent → Type 0

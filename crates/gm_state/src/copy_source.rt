@@ -52,8 +52,9 @@ fn name_of(component: Option<Component>) -> Option<Label>
     Some(component?.provider)
 }
 
-/// The source of a copy to the target: the ACTIVE component of its mirror other than itself with the greatest
-/// priority, among equals the one with the least name. `None` where there is none, or the target is no component.
+/// The source of a copy to the target: the ACTIVE component of its mirror other than itself with
+/// the greatest priority, among equals the one with the least name. `None` where there is none, or
+/// the target is no component.
 pub fn source(state: &State, target: Label) -> Option<Label>
     ensures best { IsSource state.now target result }
     ensures value { result ≡ source_of state.now target }

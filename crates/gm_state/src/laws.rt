@@ -39,14 +39,15 @@ pub fn one_reply()
         → copied_of a ≡ copied_of b → total_of a ≡ total_of b → a ≡ b }
 {}
 
-/// In a sound world no component claims a sector that it lacks, in any image that is the world's on its providers.
+/// In a sound world no component claims a sector that it lacks, in any image that is the world's on
+/// its providers.
 pub fn sound_claims()
     ensures { (w : World) (x : Image) → Sound w → SameThere w.size x w.shelf
         → Claims w w x }
 {}
 
-/// What soundness says of data: an ACTIVE component has all of its mirror's, and one that is being copied to has
-/// those below its offset.
+/// What soundness says of data: an ACTIVE component has all of its mirror's, and one that is being
+/// copied to has those below its offset.
 pub fn sound_data()
     ensures active { (w : World) (m : Mirror) (k : Component) → Sound w → IsOf w.state m k
         → k.disk ≡ InSync → Whole w m k.provider }

@@ -1,10 +1,11 @@
 //! What the bench keeps of mirrors and components, and what can be said of the records.
 //!
-//! Begin with `records.rt`, the data, and `specs/Records.antt`, the rules of a state. Then `state.rt`, which holds records
-//! by these rules; `component_metadata.rt`, what their metadata say, `states.rt`, their named states, and
-//! `copy_source.rt`, which component a copy is taken from. `intents.rt` has what a command has written and answers, and
-//! `readable_intents.rt` which intents may be pending. `specs/World.antt` is the abstract bench, and `laws.rt` what holds
-//! of it all.
+//! Begin with `records.rt`, the data, and `specs/Records.antt`, the rules of a state. Then
+//! `state.rt`, which holds records by these rules; `component_metadata.rt`, what their metadata
+//! say, `states.rt`, their named states, and `copy_source.rt`, which component a copy is taken
+//! from. `intents.rt` has what a command has written and answers, and `readable_intents.rt` which
+//! intents may be pending. `specs/World.antt` is the abstract bench, and `laws.rt` what holds of it
+//! all.
 #![tactic(auto)]
 
 mod component_metadata;

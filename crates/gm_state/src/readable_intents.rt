@@ -13,7 +13,8 @@ use crate::records::{Component, Mirror};
 use crate::state::State;
 use gm_metadata::Label;
 
-/// Whether sectors of the mirror's data, up to this end, can be copied from one component to the other.
+/// Whether sectors of the mirror's data, up to this end, can be copied from one component to the
+/// other.
 fn lends(mirror: &Mirror, from: &Component, to: &Component, first: u32, end: u32) -> bool
     ensures { IsTrue result ↔ ((from.now.mirror ≡ to.now.mirror)
         × (from.now.provider ≢ to.now.provider) × (from.now.disk ≡ InSync) × (first ≤ end)

@@ -8,7 +8,8 @@ pub struct Mirror {
     pub name: Label,
     /// The mirror's number, handed in with the command that made it.
     pub mid: u32,
-    /// How many components it has when it is complete, 1 to 16: those that were lost count until they are forgotten.
+    /// How many components it has when it is complete, 1 to 16: those that were lost count until
+    /// they are forgotten.
     pub all: u8,
     /// Counts the times that components were lost.
     pub genid: u32,
@@ -29,7 +30,8 @@ pub enum Disk {
     InSync,
     /// INACTIVE alone: it takes no part.
     Inactive,
-    /// SYNCHRONIZING, with FORCE_SYNC where it is forced: the first `held` sectors of the data are copied.
+    /// SYNCHRONIZING, with FORCE_SYNC where it is forced: the first `held` sectors of the data are
+    /// copied.
     Copying { forced: bool, held: u32 },
 }
 
@@ -73,8 +75,8 @@ impl Disk {
         }
     }
 
-    /// How the data stand where the sector has these flags, and an offset of so many sectors; `None` where no
-    /// component has both.
+    /// How the data stand where the sector has these flags, and an offset of so many sectors;
+    /// `None` where no component has both.
     pub fn from_flags(flags: DiskFlags, held: u32) -> Option<Disk>
         ensures some { IfSome result (λ d. (disk_flags d ≡ flags) × (held_of d ≡ held)) }
         ensures none { IfNone result ((d : Disk) → disk_flags d ≡ flags → held_of d ≡ held → ⊥) }

@@ -14,8 +14,8 @@ use gm_metadata::Label;
 use std::alloc::{AllocError, Global};
 use std::marker::Model;
 
-/// The records of the bench, by whose rules each of these holds. In contracts it is the two lists, each in byte
-/// order of names.
+/// The records of the bench, by whose rules each of these holds. In contracts it is the two lists,
+/// each in byte order of names.
 #[derive(Clone, Debug, Drop)]
 pub struct State {
     mirrors: Vec<Mirror>,

@@ -14,11 +14,13 @@ GoesFirst a b =
 -- of those with P the ACTIVE one that goes first; none where none is ACTIVE
 abbrev pub IsFirst : (Member → Type 0) → Option Member → Type 0
 IsFirst P None = (x : Member) → P x → is_active x.state ≡ true → ⊥
-IsFirst P (Some b) = P b × (is_active b.state ≡ true) × ((x : Member) → P x → is_active x.state ≡ true → GoesFirst b x)
+IsFirst P (Some b) = P b × (is_active b.state ≡ true) × ((x : Member) → P x
+    → is_active x.state ≡ true → GoesFirst b x)
 
 -- r names the source of the group's data
 abbrev pub IsSource : Group → Option (List ℕ) → Type 0
-IsSource g r = (o : Option Member) × IsFirst (Has g.members.items) o × (r ≡ option_map (λ x. x.provider) o)
+IsSource g r = (o : Option Member) × IsFirst (Has g.members.items) o
+    × (r ≡ option_map (λ x. x.provider) o)
 
 -- ---- the same as a function, which texts and code go by
 

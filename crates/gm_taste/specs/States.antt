@@ -6,7 +6,8 @@ use Rattle.gm_taste.specs.declared.tasted.MemberState.TheVariants.{Inactive, Bro
 
 -- it lacks data from this offset on: STALE under NOAUTOSYNC without FORCE_SYNC, else SYNCHRONIZING
 abbrev pub behind : Metadata → ℕ → MemberState
-behind m offset = if m.mflags.no_autosync && not m.dflags.force_sync then Stale offset else Synchronizing offset
+behind m offset =
+    if m.mflags.no_autosync && not m.dflags.force_sync then Stale offset else Synchronizing offset
 
 -- by its own bits, in a group with this genid and syncid
 abbrev pub state_of : ℕ → ℕ → Metadata → MemberState

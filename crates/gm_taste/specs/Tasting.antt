@@ -1,4 +1,5 @@
--- How groups are made, as functions: the form by which code and proofs go. The relation is in `Tasted`.
+-- How groups are made, as functions: the form by which code and proofs go. The relation is in
+-- `Tasted`.
 use Rattle.std.specs.Prelude.{◌≡◌, ℕ, Bool, true, ◌&&◌, ◌||◌, ◌==◌, nat_lt, List, [], ◌∷◌, filter, map, Option, Some, None, Result, Ok, Err, if◌then◌else◌}
 use Rattle.gm_metadata.specs.Images.{same_label}
 use Rattle.gm_metadata.specs.declared.metadata.Metadata.{Metadata}
@@ -39,7 +40,8 @@ same_key a b = same_label a.name b.name && (a.mid == b.mid)
 -- with the key at its place, once
 abbrev pub put_key : Key → List Key → List Key
 put_key x [] = x ∷ []
-put_key x (y ∷ ys) = if key_lt y x then y ∷ put_key x ys else (if same_key y x then y ∷ ys else x ∷ y ∷ ys)
+put_key x (y ∷ ys) =
+    if key_lt y x then y ∷ put_key x ys else (if same_key y x then y ∷ ys else x ∷ y ∷ ys)
 
 -- what tells the mirror of a taken provider, or of a group
 abbrev pub key_in : Taken → Key
@@ -59,7 +61,8 @@ is_of k t = same_label t.metadata.name k.name && (t.metadata.mid == k.mid)
 -- the greatest of n and the numbers of those that are meant
 abbrev pub raised : (Taken → Bool) → (Taken → ℕ) → ℕ → List Taken → ℕ
 raised meant number n [] = n
-raised meant number n (t ∷ ts) = raised meant number (if meant t && nat_lt n (number t) then number t else n) ts
+raised meant number n (t ∷ ts) =
+    raised meant number (if meant t && nat_lt n (number t) then number t else n) ts
 
 abbrev pub genid_in : List Taken → ℕ
 genid_in own = raised (λ t. true) (λ t. t.metadata.genid) 0 own
@@ -68,7 +71,11 @@ abbrev pub syncid_in : ℕ → List Taken → ℕ
 syncid_in genid own = raised (λ t. t.metadata.genid == genid) (λ t. t.metadata.syncid) 0 own
 
 abbrev pub member : ℕ → ℕ → Taken → Member
-member genid syncid t = record { provider = t.provider; metadata = t.metadata; state = state_of genid syncid t.metadata }
+member genid syncid t = record {
+  provider = t.provider;
+  metadata = t.metadata;
+  state = state_of genid syncid t.metadata;
+}
 
 -- the group of this key, made of the taken
 pub record Made (taken : List Taken) (k : Key) (g : Group) : Type 0 where

@@ -25,7 +25,9 @@ own_size p m = m.provsize == 0 || m.provsize == p.sectors * 512
 -- what was read is taken where it names this provider or none, and tells its size or none
 abbrev pub judged : Provider → Result Metadata DecodeFault → Result Metadata Reason
 judged p (Err fault) = Err (Decode fault)
-judged p (Ok m) = if not (own_name p m) then Err OtherName else (if not (own_size p m) then Err OtherSize else Ok m)
+judged p (Ok m) =
+    if not (own_name p m) then Err OtherName else
+    (if not (own_size p m) then Err OtherSize else Ok m)
 
 -- what the provider's last sector is taken to say, or the first reason to leave the provider out
 abbrev pub verdict : Provider → Result Metadata Reason

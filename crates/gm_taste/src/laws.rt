@@ -8,7 +8,8 @@ ghost use Rattle.gm_taste.specs.declared.tasted.Reason.{Reason};
 ghost use Rattle.gm_taste.specs.Tasted.{IsTasted, SameProviders, seen};
 ghost use Rattle.gm_taste.specs.Verdicts.{of_metadata, verdict};
 
-/// What is told of providers goes by their set: of the same providers, in whatever order, the same is told.
+/// What is told of providers goes by their set: of the same providers, in whatever order, the same
+/// is told.
 pub fn one_tasting()
     ensures groups { (ps qs : List Provider) (t u : Tasted) → SameProviders ps qs
         → IsTasted ps t → IsTasted qs u → map seen t.groups.items ≡ map seen u.groups.items }

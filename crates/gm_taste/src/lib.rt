@@ -1,8 +1,9 @@
 //! What images say by themselves: which mirrors the last sectors of providers tell of.
 //!
-//! Begin with `provider.rt` and `tasted.rt`, what goes in and what comes out, and `specs/Tasted.antt`, what it is.
-//! Then `member_states.rt`, which looks at one provider; `groups.rt` and `tasting.rt`, at all of them; and `sources.rt`, which
-//! names the member of a group that its data are taken from.
+//! Begin with `provider.rt` and `tasted.rt`, what goes in and what comes out, and
+//! `specs/Tasted.antt`, what it is. Then `member_states.rt`, which looks at one provider;
+//! `groups.rt` and `tasting.rt`, at all of them; and `sources.rt`, which names the member of a
+//! group that its data are taken from.
 #![tactic(auto)]
 
 mod groups;

@@ -22,8 +22,8 @@ fn takes_place(known: &Option<Member>, member: &Member) -> bool
     }
 }
 
-/// The one of the two that data are rather taken from: the member where it is ACTIVE and goes before the one that is
-/// known so far, or none is.
+/// The one of the two that data are rather taken from: the member where it is ACTIVE and goes
+/// before the one that is known so far, or none is.
 pub fn first_of_two(known: Option<Member>, member: &Member) -> Option<Member>
     ensures { result ≡ first_of_two known member.now }
 {
@@ -53,8 +53,8 @@ fn name_of(member: &Option<Member>) -> Option<Label>
     }
 }
 
-/// The member of a group whose data are the mirror's: the ACTIVE one with the greatest priority, among equals the one with
-/// the least name. `None` where none is ACTIVE.
+/// The member of a group whose data are the mirror's: the ACTIVE one with the greatest priority,
+/// among equals the one with the least name. `None` where none is ACTIVE.
 pub fn source_of(group: &Group) -> Option<Label>
     ensures value { result ≡ source_of group.now }
     ensures source { IsSource group.now result }

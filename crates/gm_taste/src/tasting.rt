@@ -11,7 +11,8 @@ use crate::provider::Provider;
 use crate::tasted::{LeftOut, Tasted};
 use std::alloc::{AllocError, Global};
 
-/// The provider where it is taken: its last sector decodes, and names this provider or none, and its size or none.
+/// The provider where it is taken: its last sector decodes, and names this provider or none, and
+/// its size or none.
 pub fn taken_by(provider: &Provider) -> Option<Taken>
     ensures { result ≡ taken_by provider.now }
 {
@@ -48,8 +49,8 @@ fn left_in(alloc: Global, providers: &[Provider]) -> Result<Vec<LeftOut>, AllocE
     providers.iter().filter_map(|p| left_by(p)).collect(alloc)
 }
 
-/// The mirrors that the last sectors of these providers tell of, and why providers tell of none. It is the same for
-/// every order in which providers are handed in.
+/// The mirrors that the last sectors of these providers tell of, and why providers tell of none. It
+/// is the same for every order in which providers are handed in.
 ///
 /// No two of them have one name: of others nothing is promised but that an answer comes.
 pub fn taste(alloc: Global, providers: &[Provider]) -> Result<Tasted, AllocError>

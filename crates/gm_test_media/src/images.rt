@@ -15,7 +15,8 @@ pub fn label(text: &str) -> Result<Label, Fail> {
     Ok(Label::new(text).ok_or("no label")?)
 }
 
-/// So many sectors of data, each with its number from 1 on in each byte, and a last one, which says this.
+/// So many sectors of data, each with its number from 1 on in each byte, and a last one, which says
+/// this.
 pub fn image(alloc: Global, data_sectors: u8, last: [u8; 512]) -> Result<Vec<[u8; 512]>, Fail> {
     let mut sectors = Vec::new(alloc);
     for place in 0..data_sectors {

@@ -4,6 +4,8 @@ use Rattle.std.specs.Prelude.{fold}
 use Rattle.std.proofs.lemmas.List.{take_more}
 use Rattle.std.proofs.lemmas.List.Sums.{fold-append}
 
-pub fold_more : {A B : Type 0} (f : B → A → B) (a : B) (xs : List A) (i : ℕ) (d : A) (now : B) → i < length xs
+pub fold_more : {A B : Type 0} (f : B → A → B) (a : B) (xs : List A) (i : ℕ) (d : A) (now : B)
+    → i < length xs
     → now ≡ f (fold f a (take i xs)) (get_or xs i d) → now ≡ fold f a (take (i + 1) xs)
-fold_more f a xs i d now here step = step ∙ sym (ap (fold f a) (take_more xs i d here) ∙ fold-append f a (take i xs) _)
+fold_more f a xs i d now here step =
+    step ∙ sym (ap (fold f a) (take_more xs i d here) ∙ fold-append f a (take i xs) _)

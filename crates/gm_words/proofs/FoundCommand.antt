@@ -25,7 +25,8 @@ AreFound rows (t ∷ rest) = (first_of t.0 rows ≡ Some t.1) × AreFound rows r
 
 -- the command's own words pass, and these texts are found
 pub record Finds (command : App) (said : List Said) (texts : List (Text × Text)) : Type 0 where
-  pub passes : leaf_fault (leaf command) (ended (leaf command) said) (said_fault (leaf command) begun said) ≡ []
+  pub passes : leaf_fault (leaf command) (ended (leaf command) said)
+      (said_fault (leaf command) begun said) ≡ []
   pub are : AreFound (found command said) texts
 
 -- the names that tell a component, by their ids

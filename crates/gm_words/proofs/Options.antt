@@ -1,4 +1,5 @@
--- What clap's walk makes of an option that may be left out, in front of the rest of a command's own words.
+-- What clap's walk makes of an option that may be left out, in front of the rest of a command's own
+-- words.
 use Rattle.std.proofs.Common.{◌≡◌, ◌∙◌, ◌&&◌, Bool, true, false, not, refl, sym, ap, ap₂, subst, List, [], ◌∷◌, ◌++◌, Option, Some, None, append-nil, append_assoc, inl, inr, map}
 use Rattle.std.specs.Prelude.{⊤, IfSome, codes, fold, if◌then◌else◌}
 use Rattle.std.specs.List.{list_all}
@@ -57,15 +58,23 @@ pub record Ends (s : Shape) (w : Walk) (said : List Said) (rows : List Row) : Ty
 pub record IsOption (s : Shape) (id : Text) (words : Text → List Said) : Type 0 where
   pub after : Text → Held → Held
   pub walks : (value : Text) (h : Held) (rest : List Said)
-      → fold (said_walked s.rules) (walk_from h) (words value ++ rest) ≡ fold (said_walked s.rules) (walk_from (after value h)) rest
-  pub passes : (value : Text) (h : Held) (rest : List Said) → settle_fault s.rules s.args_override_self h ≡ [] → has_row id (settled s.rules h).rows ≡ false
-      → said_fault s (walk_from h) (words value ++ rest) ≡ said_fault s (walk_from (after value h)) rest
-  pub settles : (value : Text) (h : Held) → has_row id (settled s.rules h).rows ≡ false → settle_fault s.rules s.args_override_self (after value h) ≡ []
-  pub rows : (value : Text) (h : Held) → (settled s.rules (after value h)).rows ≡ added id value (settled s.rules h).rows
+      → fold (said_walked s.rules) (walk_from h) (words value ++ rest)
+      ≡ fold (said_walked s.rules) (walk_from (after value h)) rest
+  pub passes : (value : Text) (h : Held) (rest : List Said)
+      → settle_fault s.rules s.args_override_self h ≡ []
+      → has_row id (settled s.rules h).rows ≡ false
+      → said_fault s (walk_from h) (words value ++ rest)
+      ≡ said_fault s (walk_from (after value h)) rest
+  pub settles : (value : Text) (h : Held) → has_row id (settled s.rules h).rows ≡ false
+      → settle_fault s.rules s.args_override_self (after value h) ≡ []
+  pub rows : (value : Text) (h : Held)
+      → (settled s.rules (after value h)).rows ≡ added id value (settled s.rules h).rows
 
 -- one option with its value, in front of the rest
-one_step : (s : Shape) (id : Text) (words : Text → List Said) → IsOption s id words → (value : Text) (h : Held) (rows : List Row) → Stands s h rows → has_row id rows ≡ false
-    → (rest : List Said) (end : List Row) → ((h' : Held) → Stands s h' (rows ++ row id value ∷ []) → Ends s (walk_from h') rest end)
+one_step : (s : Shape) (id : Text) (words : Text → List Said) → IsOption s id words
+    → (value : Text) (h : Held) (rows : List Row) → Stands s h rows → has_row id rows ≡ false
+    → (rest : List Said) (end : List Row)
+    → ((h' : Held) → Stands s h' (rows ++ row id value ∷ []) → Ends s (walk_from h') rest end)
     → Ends s (walk_from h) (words value ++ rest) end
 one_step s id words is value h rows stands new rest end next =
     let here : has_row id (settled s.rules h).rows ≡ false = ap (has_row id) stands.are ∙ new in
@@ -75,7 +84,8 @@ one_step s id words is value h rows stands new rest end next =
     } in
     let ends = next (is.after value h) after in
     record {
-      passes = ap₂ (leaf_fault s) (is.walks value h rest) (is.passes value h rest stands.passes here) ∙ ends.passes;
+      passes = ap₂ (leaf_fault s) (is.walks value h rest)
+          (is.passes value h rest stands.passes here) ∙ ends.passes;
       are = ap (λ (w : Walk). finished s.rules w.held) (is.walks value h rest) ∙ ends.are;
     }
 
@@ -89,7 +99,8 @@ AreOptions s (slot ∷ rest) = IsOption s slot.id slot.words × AreOptions s res
 -- no two of them are one
 abbrev pub are_distinct : List Slot → Bool
 are_distinct [] = true
-are_distinct (slot ∷ rest) = list_all (λ other. not (bytes_eq slot.id other.id)) rest && are_distinct rest
+are_distinct (slot ∷ rest) =
+    list_all (λ other. not (bytes_eq slot.id other.id)) rest && are_distinct rest
 
 -- none of them was met
 abbrev pub AreNew : List Row → List Slot → Type 0
@@ -104,35 +115,45 @@ pub all_new : (slots : List Slot) → AreNew [] slots
 all_new [] = tt
 all_new (slot ∷ rest) = (refl, all_new rest)
 
-still_new : (id value : Text) (rows : List Row) (slots : List Slot) → list_all (λ other. not (bytes_eq id other.id)) slots ≡ true
+still_new : (id value : Text) (rows : List Row) (slots : List Slot)
+    → list_all (λ other. not (bytes_eq id other.id)) slots ≡ true
     → AreNew rows slots → AreNew (rows ++ row id value ∷ []) slots
 still_new id value rows [] others new = tt
 still_new id value rows (slot ∷ rest) others new =
     let parts = both (not (bytes_eq id slot.id)) _ others in
     let there : has_row slot.id (rows ++ row id value ∷ []) ≡ false =
-    list_any-append (λ r. bytes_eq r.id slot.id) rows (row id value ∷ []) ∙ or_from _ _ new.0 (or_from _ _ (not_so _ parts.0) refl) in
+    list_any-append (λ r. bytes_eq r.id slot.id) rows (row id value ∷ [])
+    ∙ or_from _ _ new.0 (or_from _ _ (not_so _ parts.0) refl) in
     (there, still_new id value rows rest parts.1 new.1)
 
 -- the options with their values, in front of the rest
 pub options_step : (s : Shape) (slots : List Slot) → AreOptions s slots → are_distinct slots ≡ true
     → (h : Held) (rows : List Row) → Stands s h rows → AreNew rows slots
-    → (rest : List Said) (end : List Row) → ((h' : Held) → Stands s h' (rows ++ found_in slots) → Ends s (walk_from h') rest end)
+    → (rest : List Said) (end : List Row)
+    → ((h' : Held) → Stands s h' (rows ++ found_in slots) → Ends s (walk_from h') rest end)
     → Ends s (walk_from h) (said_in slots rest) end
-options_step s [] are distinct h rows stands new rest end next = next h (subst (Stands s h) (sym (append-nil rows)) stands)
+options_step s [] are distinct h rows stands new rest end next =
+    next h (subst (Stands s h) (sym (append-nil rows)) stands)
 options_step s (slot ∷ slots) are distinct h rows stands new rest end next =
-    by slot.value next (λ h' rows' here unmet more. options_step s slots are.1 parts.1 h' rows' here unmet rest end more)
+    by slot.value next (λ h' rows' here unmet more.
+    options_step s slots are.1 parts.1 h' rows' here unmet rest end more)
   where
-    parts : (list_all (λ other. not (bytes_eq slot.id other.id)) slots ≡ true) × (are_distinct slots ≡ true)
+    parts : (list_all (λ other. not (bytes_eq slot.id other.id)) slots ≡ true)
+        × (are_distinct slots ≡ true)
     parts = both _ _ distinct
 
-    by : (value : Option Text) → ((h' : Held) → Stands s h' (rows ++ (given_rows slot.id value ++ found_in slots)) → Ends s (walk_from h') rest end)
+    by : (value : Option Text)
+        → ((h' : Held) → Stands s h' (rows ++ (given_rows slot.id value ++ found_in slots))
+        → Ends s (walk_from h') rest end)
         → ((h' : Held) (rows' : List Row) → Stands s h' rows' → AreNew rows' slots
-        → ((h'' : Held) → Stands s h'' (rows' ++ found_in slots) → Ends s (walk_from h'') rest end) → Ends s (walk_from h') (said_in slots rest) end)
+        → ((h'' : Held) → Stands s h'' (rows' ++ found_in slots) → Ends s (walk_from h'') rest end)
+        → Ends s (walk_from h') (said_in slots rest) end)
         → Ends s (walk_from h) (given_words slot.words value ++ said_in slots rest) end
     by None next others = others h rows stands new.1 next
     by (Some value) next others =
         one_step s slot.id slot.words are.0 value h rows stands new.0 (said_in slots rest) end
-        (λ h' here. others h' (rows ++ row slot.id value ∷ []) here (still_new slot.id value rows slots parts.0 new.1)
+        (λ h' here. others h' (rows ++ row slot.id value ∷ []) here
+        (still_new slot.id value rows slots parts.0 new.1)
         (λ h'' there. next h'' (simp append_assoc at there)))
 
 -- ---- what is found of an option
@@ -144,16 +165,20 @@ first_given (Some value) other = Some value
 -- its value, where it is given
 abbrev pub value_at : Text → List Slot → Option Text
 value_at id [] = None
-value_at id (slot ∷ rest) = if bytes_eq slot.id id then first_given slot.value (value_at id rest) else value_at id rest
+value_at id (slot ∷ rest) =
+    if bytes_eq slot.id id then first_given slot.value (value_at id rest) else value_at id rest
 
 pub first_in : (id : Text) (slots : List Slot) → first_of id (found_in slots) ≡ value_at id slots
 first_in id [] = refl
 first_in id (slot ∷ rest) = by slot.value (first_in id rest)
   where
     by : (value : Option Text) → first_of id (found_in rest) ≡ value_at id rest
-        → first_of id (given_rows slot.id value ++ found_in rest) ≡ (if bytes_eq slot.id id then first_given value (value_at id rest) else value_at id rest)
+        → first_of id (given_rows slot.id value ++ found_in rest)
+        ≡ (if bytes_eq slot.id id then first_given value (value_at id rest) else value_at id
+        rest)
     by None e = elim (cases_Bool (bytes_eq slot.id id)) [ inl is ↦ rw is e | inr is ↦ rw is e ]
-    by (Some value) e = elim (cases_Bool (bytes_eq slot.id id)) [ inl is ↦ rw is refl | inr is ↦ rw is e ]
+    by (Some value) e =
+        elim (cases_Bool (bytes_eq slot.id id)) [ inl is ↦ rw is refl | inr is ↦ rw is e ]
 
 pub given_or_none : (value : Option Text) → first_given value None ≡ value
 given_or_none None = refl
@@ -161,20 +186,27 @@ given_or_none (Some value) = refl
 
 -- a name behind the options is found as one more of them
 pub found_more : (slots : List Slot) (id value : Text) (words : Text → List Said)
-    → found_in slots ++ row id value ∷ [] ≡ found_in (slots ++ record { id = id; words = words; value = Some value } ∷ [])
+    → found_in slots ++ row id value
+    ∷ [] ≡ found_in (slots ++ record { id = id; words = words; value = Some value } ∷ [])
 found_more [] id value words = refl
 found_more (slot ∷ rest) id value words =
-    let whole : (given_rows slot.id slot.value ++ found_in rest) ++ row id value ∷ [] ≡ given_rows slot.id slot.value ++ (found_in rest ++ row id value ∷ []) = simp append_assoc in
-    whole ∙ ap (λ (rows : List Row). given_rows slot.id slot.value ++ rows) (found_more rest id value words)
+    let whole : (given_rows slot.id slot.value ++ found_in rest) ++ row id value
+    ∷ [] ≡ given_rows slot.id slot.value ++ (found_in rest ++ row id value ∷ []) =
+    simp append_assoc in
+    whole ∙ ap (λ (rows : List Row). given_rows slot.id slot.value ++ rows)
+    (found_more rest id value words)
 
 -- nothing, where it is none of them
-pub none_in : (id : Text) (slots : List Slot) → list_all (λ slot. not (bytes_eq slot.id id)) slots ≡ true → has_row id (found_in slots) ≡ false
+pub none_in : (id : Text) (slots : List Slot)
+    → list_all (λ slot. not (bytes_eq slot.id id)) slots ≡ true
+    → has_row id (found_in slots) ≡ false
 none_in id [] others = refl
 none_in id (slot ∷ rest) others =
     let parts = both (not (bytes_eq slot.id id)) _ others in
     by slot.value (not_so _ parts.0) (none_in id rest parts.1)
   where
-    by : (value : Option Text) → bytes_eq slot.id id ≡ false → has_row id (found_in rest) ≡ false → has_row id (given_rows slot.id value ++ found_in rest) ≡ false
+    by : (value : Option Text) → bytes_eq slot.id id ≡ false → has_row id (found_in rest) ≡ false
+        → has_row id (given_rows slot.id value ++ found_in rest) ≡ false
     by None other none = none
     by (Some value) other none = or_from _ _ other none
 
@@ -192,7 +224,8 @@ abbrev pub after_apart : Shape → Text → Text → Held → Held
 after_apart s id value h = record (settled s.rules h) { pending = Some (id, value ∷ []) }
 
 abbrev pub after_attached : Shape → Text → Text → Held → Held
-after_attached s id value h = record (settled s.rules h) { rows = added id value (settled s.rules h).rows }
+after_attached s id value h =
+    record (settled s.rules h) { rows = added id value (settled s.rules h).rows }
 
 abbrev pub held_fault : Shape → Held → Kinds
 held_fault s h = settle_fault s.rules s.args_override_self h
@@ -203,19 +236,28 @@ use_again s id h = or_else (repeat_fault false id (settled s.rules h).rows) []
 -- what is computed at a command and an option that are written out
 pub record IsApart (s : Shape) (id : Text) : Type 0 where
   pub walks : (value : Text) (h : Held) (rest : List Said)
-      → fold (said_walked s.rules) (walk_from h) (apart id value ++ rest) ≡ fold (said_walked s.rules) (walk_from (after_apart s id value h)) rest
-  pub fails : (value : Text) (h : Held) (rest : List Said) → said_fault s (walk_from h) (apart id value ++ rest)
-      ≡ or_else (or_else (held_fault s h) []) (said_fault s (walk_from (after_apart s id value h)) rest)
-  pub settles : (value : Text) (h : Held) → held_fault s (after_apart s id value h) ≡ use_again s id h
-  pub rows : (value : Text) (h : Held) → (settled s.rules (after_apart s id value h)).rows ≡ added id value (settled s.rules h).rows
+      → fold (said_walked s.rules) (walk_from h) (apart id value ++ rest)
+      ≡ fold (said_walked s.rules) (walk_from (after_apart s id value h)) rest
+  pub fails : (value : Text) (h : Held) (rest : List Said)
+      → said_fault s (walk_from h) (apart id value ++ rest)
+      ≡ or_else (or_else (held_fault s h) [])
+      (said_fault s (walk_from (after_apart s id value h)) rest)
+  pub settles : (value : Text) (h : Held)
+      → held_fault s (after_apart s id value h) ≡ use_again s id h
+  pub rows : (value : Text) (h : Held)
+      → (settled s.rules (after_apart s id value h)).rows ≡ added id value (settled s.rules h).rows
 
 pub record IsAttached (s : Shape) (id : Text) : Type 0 where
   pub walks : (value : Text) (h : Held) (rest : List Said)
-      → fold (said_walked s.rules) (walk_from h) (attached id value ++ rest) ≡ fold (said_walked s.rules) (walk_from (after_attached s id value h)) rest
-  pub fails : (value : Text) (h : Held) (rest : List Said) → said_fault s (walk_from h) (attached id value ++ rest)
-      ≡ or_else (or_else (or_else (held_fault s h) (use_again s id h)) []) (said_fault s (walk_from (after_attached s id value h)) rest)
+      → fold (said_walked s.rules) (walk_from h) (attached id value ++ rest)
+      ≡ fold (said_walked s.rules) (walk_from (after_attached s id value h)) rest
+  pub fails : (value : Text) (h : Held) (rest : List Said)
+      → said_fault s (walk_from h) (attached id value ++ rest)
+      ≡ or_else (or_else (or_else (held_fault s h) (use_again s id h)) [])
+      (said_fault s (walk_from (after_attached s id value h)) rest)
 
-pub first_use : (s : Shape) (id : Text) (h : Held) → has_row id (settled s.rules h).rows ≡ false → use_again s id h ≡ []
+pub first_use : (s : Shape) (id : Text) (h : Held) → has_row id (settled s.rules h).rows ≡ false
+    → use_again s id h ≡ []
 first_use s id h new = rw new refl
 
 pub apart_option : (s : Shape) (id : Text) → IsApart s id → IsOption s id (apart id)
@@ -231,7 +273,8 @@ pub attached_option : (s : Shape) (id : Text) → IsAttached s id → IsOption s
 attached_option s id is = record {
   after = after_attached s id;
   walks = is.walks;
-  passes = λ value h rest settled new. is.fails value h rest ∙ rw (settled, first_use s id h new) refl;
+  passes = λ value h rest settled new. is.fails value h rest
+      ∙ rw (settled, first_use s id h new) refl;
   settles = λ value h new. refl;
   rows = λ value h. refl;
 }
@@ -239,19 +282,27 @@ attached_option s id is = record {
 -- ---- the end of the words
 
 -- an option that takes one value begins anew with each
-pub begins : {A : Type 0} (pending : Bool) (more one : A) → (if pending && false then more else one) ≡ one
+pub begins : {A : Type 0} (pending : Bool) (more one : A)
+    → (if pending && false then more else one) ≡ one
 begins true more one = refl
 begins false more one = refl
 
 -- a command without defaults takes its words, where the walk ends so
-pub ends_by : (s : Shape) → list_all (λ a. is_empty a.defaults) s.rules ≡ true → (w : Walk) (said : List Said) (h : Held) (end : List Row)
-    → (fold (said_walked s.rules) w said).held ≡ h → said_fault s w said ≡ [] → held_fault s h ≡ [] → (settled s.rules h).rows ≡ end → check_fault s end false ≡ []
+pub ends_by : (s : Shape) → list_all (λ a. is_empty a.defaults) s.rules ≡ true
+    → (w : Walk) (said : List Said) (h : Held) (end : List Row)
+    → (fold (said_walked s.rules) w said).held ≡ h → said_fault s w said ≡ [] → held_fault s h ≡ []
+    → (settled s.rules h).rows ≡ end → check_fault s end false ≡ []
     → Ends s w said end
 ends_by s none w said h end is passes settles rows checked =
-    let late : Held → Kinds = λ g. or_else (held_fault s g) (or_else (defaults_fault (settled s.rules g).rows s.rules) (check_fault s (finished s.rules g) false)) in
-    let whole : finished s.rules h ≡ end = no_defaults s.rules (settled s.rules h).rows none ∙ rows in
+    let late : Held
+    → Kinds = λ g. or_else (held_fault s g)
+    (or_else (defaults_fault (settled s.rules g).rows s.rules)
+    (check_fault s (finished s.rules g) false)) in
+    let whole : finished s.rules h ≡ end = no_defaults s.rules (settled s.rules h).rows none
+    ∙ rows in
     let last : late h ≡ [] =
-    ap₂ or_else settles (ap₂ or_else (no_defaults_fault s.rules (settled s.rules h).rows none) (ap (λ (r : List Row). check_fault s r false) whole ∙ checked)) in
+    ap₂ or_else settles (ap₂ or_else (no_defaults_fault s.rules (settled s.rules h).rows none)
+    (ap (λ (r : List Row). check_fault s r false) whole ∙ checked)) in
     record {
       passes = ap₂ or_else passes (ap late is) ∙ last;
       are = ap (finished s.rules) is ∙ whole;
@@ -259,10 +310,13 @@ ends_by s none w said h end is passes settles rows checked =
 
 -- ---- the options as words
 
-pub said_told : (said rest : List Said) (words more : List Text) → map text_of said ≡ words → map text_of rest ≡ more → map text_of (said ++ rest) ≡ words ++ more
-said_told said rest words more first others = map-append text_of said rest ∙ ap₂ (λ (a b : List Text). a ++ b) first others
+pub said_told : (said rest : List Said) (words more : List Text) → map text_of said ≡ words
+    → map text_of rest ≡ more → map text_of (said ++ rest) ≡ words ++ more
+said_told said rest words more first others =
+    map-append text_of said rest ∙ ap₂ (λ (a b : List Text). a ++ b) first others
 
 -- no value begins with a hyphen
-pub plain_more : (id : Text) (value : Option Text) (rest : List Said) → IfSome value IsNoFlag → ArePlain rest → ArePlain (given_words (apart id) value ++ rest)
+pub plain_more : (id : Text) (value : Option Text) (rest : List Said) → IfSome value IsNoFlag
+    → ArePlain rest → ArePlain (given_words (apart id) value ++ rest)
 plain_more id None rest free plain_rest = plain_rest
 plain_more id (Some value) rest free plain_rest = (tt, (free, plain_rest))

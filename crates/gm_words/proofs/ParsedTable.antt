@@ -22,7 +22,8 @@ pub table_is_free : is_simple_and_free table ≡ true
 unfolding clap_on_literals name names optional possible wanted
 table_is_free = refl
 
-pub none_at_ok : {X : Type 0} (kinds : Kinds) (r : Result X Error) → FailsBy kinds r → IfOk r (λ m. kinds ≡ [])
+pub none_at_ok : {X : Type 0} (kinds : Kinds) (r : Result X Error) → FailsBy kinds r
+    → IfOk r (λ m. kinds ≡ [])
 none_at_ok kinds (Ok x) h = h
 none_at_ok kinds (Err e) h = tt
 
@@ -30,31 +31,37 @@ some_at : (kinds : Kinds) (e : Error) → HasKind kinds e → kind_of e ≢ OutO
 some_at kinds e (inl memory) other = absurd (other memory)
 some_at kinds e (inr among) other = λ none. subst (IsAmong (kind_of e)) none among
 
-pub some_at_err : {X : Type 0} (kinds : Kinds) (r : Result X Error) → FailsBy kinds r → IfErr r (λ e. kind_of e ≢ OutOfMemory → kinds ≢ [])
+pub some_at_err : {X : Type 0} (kinds : Kinds) (r : Result X Error) → FailsBy kinds r
+    → IfErr r (λ e. kind_of e ≢ OutOfMemory → kinds ≢ [])
 some_at_err kinds (Ok x) h = tt
 some_at_err kinds (Err e) h = some_at kinds e h
 
 -- what was found, as an option of a text behind a reference
-pub found_as : (o : Option (Bor (List ℕ))) (f : Option (List ℕ)) → option_map (λ s. s.now) o ≡ f → MatchOption o (f ≡ None) (λ s. f ≡ Some s.now)
+pub found_as : (o : Option (Bor (List ℕ))) (f : Option (List ℕ)) → option_map (λ s. s.now) o ≡ f
+    → MatchOption o (f ≡ None) (λ s. f ≡ Some s.now)
 found_as None f e = sym e
 found_as (Some s) f e = sym e
 
 -- ---- the command that words spell, by what clap makes of them
 
-pub spelled_by : (words : List Text) (m : ArgMatches) → fault_of table words ≡ [] → subcommand_rows_of m ≡ subcommand_of table words
+pub spelled_by : (words : List Text) (m : ArgMatches) → fault_of table words ≡ []
+    → subcommand_rows_of m ≡ subcommand_of table words
     → spelled words ≡ option_and_then (λ p. command_of p.0 p.1) (subcommand_rows_of m)
 unfolding spelled
 spelled_by words m none rows = ap₂ taken none (sym rows)
 
-none_taken : (faults : Kinds) (found : Option (Text × List Row)) → faults ≢ [] → taken faults found ≡ None
+none_taken : (faults : Kinds) (found : Option (Text × List Row)) → faults ≢ []
+    → taken faults found ≡ None
 none_taken [] found some = absurd (some refl)
 none_taken (k ∷ ks) found some =
-    ap (λ (b : Bool). if b then option_and_then (λ p. command_of p.0 p.1) found else None) (nonzero (length (k ∷ ks)) (omega arith))
+    ap (λ (b : Bool). if b then option_and_then (λ p. command_of p.0 p.1) found else None)
+    (nonzero (length (k ∷ ks)) (omega arith))
 
 pub spelled_none : (words : List Text) → fault_of table words ≢ [] → spelled words ≡ None
 unfolding spelled
 spelled_none words some = none_taken (fault_of table words) (subcommand_of table words) some
 
-pub answered : {E : Type 0} (s : Option Command) (r : Result Command E) → s ≡ result_ok r → MatchResult r (λ c. s ≡ Some c) (λ _. s ≡ None)
+pub answered : {E : Type 0} (s : Option Command) (r : Result Command E) → s ≡ result_ok r
+    → MatchResult r (λ c. s ≡ Some c) (λ _. s ≡ None)
 answered s (Ok c) e = e
 answered s (Err w) e = e

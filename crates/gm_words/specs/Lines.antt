@@ -31,7 +31,8 @@ name_where holds name = if holds then name ∷ [] else []
 
 -- the names of the flags that are set
 abbrev pub mirror_flag_names : MirrorFlags → List (List ℕ)
-mirror_flag_names f = name_where f.no_autosync (codes "NOAUTOSYNC") ++ name_where f.no_failsync (codes "NOFAILSYNC")
+mirror_flag_names f = name_where f.no_autosync (codes "NOAUTOSYNC")
+    ++ name_where f.no_failsync (codes "NOFAILSYNC")
 
 abbrev pub disk_flag_names : DiskFlags → List (List ℕ)
 disk_flag_names f =

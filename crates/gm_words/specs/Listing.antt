@@ -32,7 +32,8 @@ setting_lines m =
 
 -- the lines of a mirror with these components
 abbrev pub mirror_lines : Mirror → List Component → List ℕ
-mirror_lines m ks = standing_lines m ks ++ setting_lines m ++ number (codes "Components") (length ks)
+mirror_lines m ks = standing_lines m ks ++ setting_lines m
+    ++ number (codes "Components") (length ks)
 
 -- the lines of a component
 abbrev pub component_lines : Mirror → Component → List ℕ

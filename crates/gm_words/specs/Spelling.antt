@@ -33,7 +33,8 @@ o >>= f = option_and_then f o
 unfoldable pub number_below : ℕ → Text → Option ℕ
 number_below bound text =
     let digits = without_leading_plus text in
-    if is_numeral digits && nat_lt (digits_value 10 digits) bound then Some (digits_value 10 digits) else None
+    if is_numeral digits && nat_lt (digits_value 10 digits) bound then Some
+    (digits_value 10 digits) else None
 
 unfoldable pub slice_in : Text → Option ℕ
 slice_in text = do
@@ -41,7 +42,8 @@ slice_in text = do
   if bytes == 0 then None else Some bytes
 
 unfoldable pub switch_in : Text → Option Bool
-switch_in text = if bytes_eq text (codes "on") then Some true else if bytes_eq text (codes "off") then Some false else None
+switch_in text = if bytes_eq text (codes "on") then Some true else if bytes_eq text
+    (codes "off") then Some false else None
 
 unfoldable pub balance_in : Text → Option BalanceWord
 balance_in text =
@@ -117,7 +119,16 @@ label_of rows = do
   slice ← slice_at (codes "slice") rows
   flags ← flags_at rows
   hardcoded ← switch_at (codes "hardcode") rows
-  Some (Label (record { name = names.name; provider = names.provider; mid = mid; did = did; balance = balance; slice = slice; flags = flags; hardcoded = hardcoded }))
+  Some (Label (record {
+    name = names.name;
+    provider = names.provider;
+    mid = mid;
+    did = did;
+    balance = balance;
+    slice = slice;
+    flags = flags;
+    hardcoded = hardcoded;
+  }))
 
 unfoldable pub insert_of : List Row → Option Command
 insert_of rows = do
@@ -125,7 +136,13 @@ insert_of rows = do
   did ← number_at (codes "did") rows
   priority ← priority_at (codes "priority") rows
   hardcoded ← switch_at (codes "hardcode") rows
-  Some (Insert (record { name = names.name; provider = names.provider; did = did; priority = priority; hardcoded = hardcoded }))
+  Some (Insert (record {
+    name = names.name;
+    provider = names.provider;
+    did = did;
+    priority = priority;
+    hardcoded = hardcoded;
+  }))
 
 unfoldable pub settings_at : List Row → Option Settings
 settings_at rows = do
@@ -135,7 +152,14 @@ settings_at rows = do
   failsync ← if_given switch_in (first_of (codes "failsync") rows)
   hardcode ← if_given switch_in (first_of (codes "hardcode") rows)
   preference ← preference_in (first_of (codes "prov") rows) (first_of (codes "priority") rows)
-  Some (record { balance = balance; slice = slice; autosync = autosync; failsync = failsync; hardcode = hardcode; preference = preference })
+  Some (record {
+    balance = balance;
+    slice = slice;
+    autosync = autosync;
+    failsync = failsync;
+    hardcode = hardcode;
+    preference = preference;
+  })
 
 unfoldable pub configure_of : List Row → Option Command
 configure_of rows = do
@@ -156,7 +180,8 @@ several_of command rows = option_map (λ names. command names.name names.provide
 
 -- a command on a component
 abbrev pub of_component : (Text → Text → Command) → List Row → Option Command
-of_component command rows = option_map (λ names. command names.name names.provider) (component_at rows)
+of_component command rows =
+    option_map (λ names. command names.name names.provider) (component_at rows)
 
 -- a command on a mirror
 abbrev pub of_mirror : (Text → Command) → List Row → Option Command
@@ -215,7 +240,8 @@ HasNoFlags (Deactivate name provider) = IsNoFlag name × IsNoFlag provider
 HasNoFlags (Activate name provider) = IsNoFlag name × IsNoFlag provider
 HasNoFlags (Forget name) = IsNoFlag name
 HasNoFlags (Rebuild name provider) = IsNoFlag name × IsNoFlag provider
-HasNoFlags (Configure name settings) = IsNoFlag name × IfSome settings.preference (λ p. IsNoFlag p.provider)
+HasNoFlags (Configure name settings) =
+    IsNoFlag name × IfSome settings.preference (λ p. IsNoFlag p.provider)
 HasNoFlags (Clear provider) = IsNoFlag provider
 HasNoFlags (Destroy name) = IsNoFlag name
 HasNoFlags (Lost name providers) = IsNoFlag name × All IsNoFlag providers
@@ -225,16 +251,20 @@ HasNoFlags (Adopt name providers) = IsNoFlag name × All IsNoFlag providers
 -- the options of configure with the provider behind `=`
 abbrev pub guarded_preference : Option Preference → List Text
 guarded_preference None = []
-guarded_preference (Some p) = (codes "--prov=" ++ p.provider) ∷ codes "--priority" ∷ decimal p.priority ∷ []
+guarded_preference (Some p) = (codes "--prov=" ++ p.provider) ∷ codes "--priority"
+    ∷ decimal p.priority ∷ []
 
 abbrev pub guarded_settings : Settings → List Text
-guarded_settings settings = setting_words (record settings { preference = None }) ++ guarded_preference settings.preference
+guarded_settings settings = setting_words (record settings { preference = None })
+    ++ guarded_preference settings.preference
 
 -- the canonical words with `--` before the names, and `=` before the provider of a preference
 abbrev pub guarded_words : Command → List Text
 guarded_words (Label new) =
-    codes "label" ∷ number_words new.mid new.did (balance_name (balance_of_word new.balance)) new.slice
-    ++ switch_words (on_where (not new.flags.no_autosync)) (on_where (not new.flags.no_failsync)) (on_where new.hardcoded)
+    codes "label" ∷ number_words new.mid new.did (balance_name (balance_of_word new.balance))
+    new.slice
+    ++ switch_words (on_where (not new.flags.no_autosync)) (on_where (not new.flags.no_failsync))
+    (on_where new.hardcoded)
     ++ codes "--" ∷ new.name ∷ new.provider ∷ []
 guarded_words (Insert new) =
     codes "insert" ∷ codes "--did" ∷ decimal new.did ∷ codes "--priority" ∷ decimal new.priority
@@ -244,7 +274,8 @@ guarded_words (Deactivate name provider) = codes "deactivate" ∷ codes "--" ∷
 guarded_words (Activate name provider) = codes "activate" ∷ codes "--" ∷ name ∷ provider ∷ []
 guarded_words (Forget name) = codes "forget" ∷ codes "--" ∷ name ∷ []
 guarded_words (Rebuild name provider) = codes "rebuild" ∷ codes "--" ∷ name ∷ provider ∷ []
-guarded_words (Configure name settings) = codes "configure" ∷ guarded_settings settings ++ codes "--" ∷ name ∷ []
+guarded_words (Configure name settings) =
+    codes "configure" ∷ guarded_settings settings ++ codes "--" ∷ name ∷ []
 guarded_words (Clear provider) = codes "clear" ∷ codes "--" ∷ provider ∷ []
 guarded_words (Destroy name) = codes "destroy" ∷ codes "--" ∷ name ∷ []
 guarded_words (Lost name providers) = codes "lost" ∷ codes "--" ∷ name ∷ providers

@@ -20,7 +20,8 @@ progress Synchronizing held all = codes " " ++ decimal held ++ codes " of " ++ d
 -- the line of a component, in this state
 abbrev pub state_line : Component → ComponentState → ℕ → List ℕ
 state_line k state all =
-    line (codes "  " ++ left_in_15 k.provider ++ codes " " ++ component_state_name state ++ progress state (held_of k.disk) all)
+    line (codes "  " ++ left_in_15 k.provider ++ codes " " ++ component_state_name state
+    ++ progress state (held_of k.disk) all)
 
 abbrev pub component_line : Mirror → Component → List ℕ
 component_line m k = state_line k (state_by m.flags k.disk) m.data_sectors
@@ -28,7 +29,8 @@ component_line m k = state_line k (state_by m.flags k.disk) m.data_sectors
 -- the line of a mirror with these components
 abbrev pub mirror_line : Mirror → List Component → List ℕ
 mirror_line m ks =
-    line (left_in_15 m.name ++ codes " " ++ mirror_state_name (state_among m ks) ++ codes " " ++ decimal (active_count ks)
+    line (left_in_15 m.name ++ codes " " ++ mirror_state_name (state_among m ks) ++ codes " "
+    ++ decimal (active_count ks)
     ++ codes "/" ++ decimal m.all)
 
 -- a mirror, and below it its components

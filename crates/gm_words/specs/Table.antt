@@ -1,4 +1,5 @@
--- The table of the commands' words, as clap has it: the options and the names of each, all of them texts.
+-- The table of the commands' words, as clap has it: the options and the names of each, all of them
+-- texts.
 use Rattle.std.specs.Prelude.{[], ◌∷◌, List, Some, codes, fold, true}
 use Rattle.clap.specs.Walk.{Rule, Text}
 use Rattle.clap.specs.Simple.{App, new_app, new_rule, on_top, with_rule, with_subcommand}
@@ -18,7 +19,11 @@ wanted id = record (new_rule id) { long = Some id; required = true; action = Som
 
 -- an option that has this value where it isn't given
 unfoldable pub optional : Text → Text → Rule
-optional id other = record (new_rule id) { long = Some id; action = Some Set; defaults = other ∷ [] }
+optional id other = record (new_rule id) {
+  long = Some id;
+  action = Some Set;
+  defaults = other ∷ [];
+}
 
 -- an option that may be left out, and has no value then
 unfoldable pub possible : Text → Rule
@@ -45,7 +50,10 @@ abbrev pub on_component : Text → App
 on_component command = with_provider (on_mirror command)
 
 abbrev pub label : App
-label = with_provider (with_mirror (with_rule (with_rule (with_rule (with_rule (with_rule (with_rule (with_rule (new_app (codes "label"))
+label = with_provider
+    (with_mirror
+    (with_rule (with_rule
+    (with_rule (with_rule (with_rule (with_rule (with_rule (new_app (codes "label"))
     (wanted (codes "mid")))
     (wanted (codes "did")))
     (optional (codes "balance") (codes "load")))
@@ -61,7 +69,9 @@ insert = with_provider (with_mirror (with_rule (with_rule (with_rule (new_app (c
     (optional (codes "hardcode") (codes "off"))))
 
 abbrev pub configure : App
-configure = with_mirror (with_rule (with_rule (with_rule (with_rule (with_rule (with_rule (with_rule (new_app (codes "configure"))
+configure = with_mirror
+    (with_rule (with_rule
+    (with_rule (with_rule (with_rule (with_rule (with_rule (new_app (codes "configure"))
     (possible (codes "balance")))
     (possible (codes "slice")))
     (possible (codes "autosync")))
@@ -76,13 +86,21 @@ on_several word = with_rule (on_mirror word) (names (codes "prov"))
 
 -- one of these, and no words that ask for help
 abbrev pub commands : App
-commands = on_top (λ s. record s { no_binary_name = true; disable_help_flag = true; disable_help_subcommand = true; subcommand_required = true }) (new_app (codes "gmbench"))
+commands = on_top (λ s. record s {
+  no_binary_name = true;
+  disable_help_flag = true;
+  disable_help_subcommand = true;
+  subcommand_required = true;
+}) (new_app (codes "gmbench"))
 
 -- the commands, in their order
 abbrev pub subcommands : List App
-subcommands = label ∷ insert ∷ on_component (codes "remove") ∷ on_component (codes "deactivate") ∷ on_component (codes "activate")
-    ∷ on_mirror (codes "forget") ∷ on_component (codes "rebuild") ∷ configure ∷ on_provider (codes "clear")
-    ∷ on_mirror (codes "destroy") ∷ on_several (codes "lost") ∷ on_component (codes "advance") ∷ on_several (codes "adopt") ∷ []
+subcommands = label ∷ insert ∷ on_component (codes "remove") ∷ on_component (codes "deactivate")
+    ∷ on_component (codes "activate")
+    ∷ on_mirror (codes "forget") ∷ on_component (codes "rebuild") ∷ configure
+    ∷ on_provider (codes "clear")
+    ∷ on_mirror (codes "destroy") ∷ on_several (codes "lost") ∷ on_component (codes "advance")
+    ∷ on_several (codes "adopt") ∷ []
 
 abbrev pub table : App
 table = fold (λ above more. with_subcommand above more.top) commands subcommands

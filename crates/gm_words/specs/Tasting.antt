@@ -18,7 +18,8 @@ use Rattle.gm_words.specs.Lines.{line, field, left_in_15}
 
 -- how many sectors of how many, both told in bytes
 abbrev pub sectors_of : ℕ → ℕ → List ℕ
-sectors_of offset mediasize = codes " " ++ decimal (offset / 512) ++ codes " of " ++ decimal (mediasize / 512)
+sectors_of offset mediasize = codes " " ++ decimal (offset / 512) ++ codes " of "
+    ++ decimal (mediasize / 512)
 
 -- of a member that is to be filled
 abbrev pub filled : MemberState → ℕ → List ℕ
@@ -30,7 +31,8 @@ filled Active mediasize = []
 
 abbrev pub member_line : Member → List ℕ
 member_line x =
-    line (codes "  " ++ left_in_15 x.provider ++ codes " " ++ member_state_name x.state ++ filled x.state x.metadata.mediasize)
+    line (codes "  " ++ left_in_15 x.provider ++ codes " " ++ member_state_name x.state
+    ++ filled x.state x.metadata.mediasize)
 
 -- a number behind its name
 abbrev pub named_number : List ℕ → ℕ → List ℕ
@@ -38,7 +40,8 @@ named_number name value = codes " " ++ name ++ codes " " ++ decimal value
 
 abbrev pub group_line : Group → List ℕ
 group_line g =
-    line (left_in_15 g.name ++ named_number (codes "mid") g.mid ++ named_number (codes "genid") g.genid
+    line (left_in_15 g.name ++ named_number (codes "mid") g.mid
+    ++ named_number (codes "genid") g.genid
     ++ named_number (codes "syncid") g.syncid)
 
 -- the member that the data are taken from, or (none), which is no name
@@ -56,7 +59,8 @@ groups_text (g ∷ gs) = flat_map group_block (g ∷ gs)
 
 -- why an image is left out
 abbrev pub reason_text : Reason → List ℕ
-reason_text (Decode fault) = if is_magic fault then codes "no metadata" else codes "fault " ++ decimal (fault_number fault)
+reason_text (Decode fault) = if is_magic fault then codes "no metadata" else codes "fault "
+    ++ decimal (fault_number fault)
 reason_text OtherName = codes "names another image"
 reason_text OtherSize = codes "tells another size"
 

@@ -1,5 +1,5 @@
-//! The table of the commands' words, for clap. `COMMANDS` has the commands, each with its kind, and beside each kind stand
-//! the words that its commands take, in the order in which clap has them.
+//! The table of the commands' words, for clap. `COMMANDS` has the commands, each with its kind, and
+//! beside each kind stand the words that its commands take, in the order in which clap has them.
 
 ghost use Rattle.std.specs.Prelude.{◌≡◌, IfOk, false};
 ghost use Rattle.clap.specs.Words.{app_of, new_app, rule_of, with_rule, with_subcommand};
@@ -25,8 +25,8 @@ enum Word {
     Possible(&'static str),
 }
 
-// What commands are alike in: three have words of their own, the others the names of a mirror, of a provider, of a
-// component, or of a mirror and one or more providers.
+// What commands are alike in: three have words of their own, the others the names of a mirror, of a
+// provider, of a component, or of a mirror and one or more providers.
 #[derive(Clone, Copy)]
 enum Kind {
     Label,

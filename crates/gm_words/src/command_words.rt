@@ -147,7 +147,8 @@ fn providers_at(
     }
 }
 
-// The value of an option that may be left out: `Some(None)` where it was, `None` where it is none of its kind.
+// The value of an option that may be left out: `Some(None)` where it was, `None` where it is none
+// of its kind.
 #[tactic(auto, unfolding(crate::specs::Spelling::slice_in))]
 fn given_slice(matches: &ArgMatches<'_>, id: &str) -> Option<Option<Slice>>
     ensures { result ≡ if_given slice_in (first_of id.now (rows_of (found_of matches.now))) }
@@ -381,8 +382,9 @@ fn command_found(alloc: Global, matches: &ArgMatches<'_>) -> Result<Option<Comma
     }
 }
 
-/// The command that words spell: the command's own, its options, each with its value, and the names, in any order that
-/// clap takes. Numbers are decimal. An `AllocError` is for want of memory alone.
+/// The command that words spell: the command's own, its options, each with its value, and the
+/// names, in any order that clap takes. Numbers are decimal. An `AllocError` is for want of memory
+/// alone.
 pub fn read_words(alloc: Global, words: &[&str]) -> Result<Result<Command, WordsFault>, AllocError>
     ensures { IfOk result (λ r. MatchResult r (λ c. spelled (texts words.now) ≡ Some c)
         (λ _. spelled (texts words.now) ≡ None)) }

@@ -66,8 +66,8 @@ fn metadata_text(alloc: Global, m: &Metadata, hash: &[u8]) -> Result<String, All
     Ok(text)
 }
 
-/// What a sector says, in 19 lines, or the line `fault N` where it doesn't decode. The lines are this project's own, after
-/// `gmirror dump`.
+/// What a sector says, in 19 lines, or the line `fault N` where it doesn't decode. The lines are
+/// this project's own, after `gmirror dump`.
 pub fn dump_text(alloc: Global, sector: &[u8; 512]) -> Result<String, AllocError>
     ensures { IfOk result (λ text. string_bytes text ≡ dump_text sector.now) }
 {

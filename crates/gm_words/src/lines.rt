@@ -40,7 +40,8 @@ fn push_name_where(
     holds: bool,
     name: &'static str,
 ) -> Result<(), AllocError>
-    ensures { OnOk result (texts names.new.items ≡ texts names.old.items ++ name_where holds name.now) }
+    ensures { OnOk result
+        (texts names.new.items ≡ texts names.old.items ++ name_where holds name.now) }
 {
     if holds {
         names.push(name)?;

@@ -1,4 +1,5 @@
-//! The text of a status: how the mirrors stand, a line each, and below it a line for each component.
+//! The text of a status: how the mirrors stand, a line each, and below it a line for each
+//! component.
 
 ghost use Rattle.std.specs.Prelude.{◌≡◌, ◌++◌, ◌==◌, IfOk, OnOk, if◌then◌else◌};
 ghost use Rattle.std.specs.String.{string_bytes};
@@ -17,7 +18,8 @@ fn push_progress(
     held: u32,
     all: u32,
 ) -> Result<(), AllocError>
-    ensures { OnOk result (string_bytes text.new ≡ string_bytes text.old ++ progress state held all) }
+    ensures { OnOk result
+        (string_bytes text.new ≡ string_bytes text.old ++ progress state held all) }
 {
     match state {
         ComponentState::Active | ComponentState::Inactive => Ok(()),
@@ -90,8 +92,8 @@ fn push_block(text: &mut String, mirror: &Mirror, members: &[Component]) -> Resu
     Ok(())
 }
 
-/// How each mirror stands, in byte order of names, and below it each of its components; `no mirrors` where there is none.
-/// The form is this project's own, after `gmirror status`.
+/// How each mirror stands, in byte order of names, and below it each of its components; `no
+/// mirrors` where there is none. The form is this project's own, after `gmirror status`.
 pub fn status_text(alloc: Global, state: &State) -> Result<String, AllocError>
     ensures { IfOk result (λ text. string_bytes text ≡ status_text state.now) }
 {

@@ -34,7 +34,8 @@ fn push_filled(text: &mut String, state: MemberState, mediasize: u64) -> Result<
 
 // Appends the line of a member.
 fn push_member_line(text: &mut String, member: &Member) -> Result<(), AllocError>
-    ensures { OnOk result (string_bytes text.new ≡ string_bytes text.old ++ member_line member.now) }
+    ensures { OnOk result
+        (string_bytes text.new ≡ string_bytes text.old ++ member_line member.now) }
 {
     let state = member.state;
     let state_name = state.name();
@@ -139,8 +140,9 @@ fn groups_text(alloc: Global, groups: &[Group]) -> Result<String, AllocError>
     Ok(text)
 }
 
-/// What the last sectors of images tell: each mirror, below it its members and the one that its data are taken from, and
-/// last the images that are left out. `no mirrors` where there is none. The form is this project's own.
+/// What the last sectors of images tell: each mirror, below it its members and the one that its
+/// data are taken from, and last the images that are left out. `no mirrors` where there is none.
+/// The form is this project's own.
 pub fn tasting_text(alloc: Global, tasted: &Tasted) -> Result<String, AllocError>
     ensures { IfOk result (λ text. string_bytes text ≡ tasting_text tasted.now) }
 {

@@ -28,7 +28,8 @@ names_text names = flat_map line names
 -- an audit that lists these: damage was found where there is any
 abbrev pub IsAudited : List (List ℕ) → Report → Type 0
 IsAudited names report =
-    (report.status ≡ (if length names == 0 then Done else Refused)) × (string_bytes report.text ≡ names_text names)
+    (report.status ≡ (if length names == 0 then Done else Refused))
+    × (string_bytes report.text ≡ names_text names)
 
 -- what was tasted: damage was found where an image is left out for metadata that it carries
 abbrev pub IsTasting : Tasted → Report → Type 0

@@ -1,4 +1,5 @@
-//! The command `audit`, which lists the components that images no longer show as they are registered.
+//! The command `audit`, which lists the components that images no longer show as they are
+//! registered.
 
 ghost use Rattle.std.specs.Prelude.{◌≡◌, IfOk};
 ghost use Rattle.std.specs.String.{string_bytes};

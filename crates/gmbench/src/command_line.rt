@@ -239,8 +239,8 @@ fn at_bench_of<'a>(work: Work, matches: &ArgMatches<'a>) -> Job<'a> {
     }
 }
 
-/// The job that the words ask for, without the program's own name. An `Err` is clap's: the text to print, or of the
-/// kind `OutOfMemory`.
+/// The job that the words ask for, without the program's own name. An `Err` is clap's: the text to
+/// print, or of the kind `OutOfMemory`.
 pub fn job_of<'a>(alloc: Global, words: &'a [&'a str]) -> Result<Job<'a>, Error> {
     if words.is_empty() {
         return Ok(Job::Introduce);

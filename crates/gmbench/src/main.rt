@@ -1,9 +1,11 @@
-//! The program: words in, lines and an exit status out. `program.rt` is all of it; `main` hands it the real streams, once
-//! `stack.rt` has seen to it that there is stack enough, and `streams.rt` that there are three streams.
+//! The program: words in, lines and an exit status out. `program.rt` is all of it; `main` hands it
+//! the real streams, once `stack.rt` has seen to it that there is stack enough, and `streams.rt`
+//! that there are three streams.
 //!
-//! `command_line.rt` has the program's own words. What is done at a bench, by `bench_command.rt`, is done in the folder and
-//! with the registry that `place.rt` opens and closes; `recover.rt`, `show.rt`, `audit.rt` and `batch.rt` have the commands.
-//! `taste.rt` has the one that looks at a folder without a registry.
+//! `command_line.rt` has the program's own words. What is done at a bench, by `bench_command.rt`,
+//! is done in the folder and with the registry that `place.rt` opens and closes; `recover.rt`,
+//! `show.rt`, `audit.rt` and `batch.rt` have the commands. `taste.rt` has the one that looks at a
+//! folder without a registry.
 #![tactic(auto)]
 
 mod audit;

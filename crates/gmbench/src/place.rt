@@ -1,5 +1,5 @@
-//! Where work at a bench is done: a folder of images, which is held meanwhile, and a registry, which is opened and closed
-//! again.
+//! Where work at a bench is done: a folder of images, which is held meanwhile, and a registry,
+//! which is opened and closed again.
 
 ghost use Rattle.std.specs.Prelude.{◌≡◌, IfOk};
 ghost use Rattle.gm_rows.specs.Faults.{fault_of};
@@ -33,7 +33,8 @@ struct HeldFolder {
 }
 
 impl HeldFolder {
-    // The lock is on the folder itself. A folder that can't be locked isn't held, for whatever reason.
+    // The lock is on the folder itself. A folder that can't be locked isn't held, for whatever
+    // reason.
     fn hold(rt: &HostRuntime, folder: &str) -> io::Result<HeldFolder> {
         if !fs::metadata(rt, folder)?.is_dir() {
             return Err(io::Error::from(ErrorKind::NotADirectory));
@@ -54,7 +55,8 @@ fn store_fault(error: Error) -> BenchFault
     }
 }
 
-// The files of a registry that is there: its own, by whatever path it is named, and those that SQLite puts beside it.
+// The files of a registry that is there: its own, by whatever path it is named, and those that
+// SQLite puts beside it.
 fn registry_files(rt: &HostRuntime, registry: &str) -> io::Result<Vec<FileId>> {
     let real = fs::canonicalize(rt, registry)?;
     let mut files = Vec::new(rt.alloc());
@@ -70,7 +72,8 @@ fn registry_files(rt: &HostRuntime, registry: &str) -> io::Result<Vec<FileId>> {
     Ok(files)
 }
 
-// Leaves the files of a registry that is open out of the images among which they may lie. To open it took none of them away.
+// Leaves the files of a registry that is open out of the images among which they may lie. To open
+// it took none of them away.
 fn leave_out_registry(
     rt: &HostRuntime,
     registry: &str,
@@ -86,7 +89,8 @@ fn leave_out_registry(
     }
 }
 
-// Opens a bench, which carries out what is pending, has the work done at it, and gives its store back with the report.
+// Opens a bench, which carries out what is pending, has the work done at it, and gives its store
+// back with the report.
 fn at_bench<S: Alter + Drop, H: Shelf + Drop, I: Read, O: Write>(
     alloc: Global,
     store: Connection<S>,
@@ -144,8 +148,9 @@ fn report_of<I: Read, O: Write>(
     at_files(rt.alloc(), store, shelf, work, input, output)
 }
 
-/// Opens the bench of a place, which carries out what is pending, has the work done at it, and closes its store, so that
-/// the registry's file alone holds everything. Then it prints the text of the report.
+/// Opens the bench of a place, which carries out what is pending, has the work done at it, and
+/// closes its store, so that the registry's file alone holds everything. Then it prints the text of
+/// the report.
 pub fn work_at<I: Read, O: Write>(
     rt: &HostRuntime,
     place: Place<'_>,

@@ -109,8 +109,8 @@ fn run<I: Read, O: Write, E: Write>(
 
 /// Runs the program on its words, without its own name, and answers how it ends.
 ///
-/// A batch takes its commands from `input`. Lines go to `output`; faults, and complaints about the words, go to
-/// `complaints`.
+/// A batch takes its commands from `input`. Lines go to `output`; faults, and complaints about the
+/// words, go to `complaints`.
 pub fn program<I, O, E>(
     rt: &HostRuntime,
     words: &[&str],

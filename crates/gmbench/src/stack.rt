@@ -7,9 +7,10 @@ use std::os::unix::fs::FileExt;
 // How many pages of 4 KiB are taken: more than twice what any command needs.
 const PAGES: usize = 128;
 
-/// Takes the stack that the program needs, which stays taken. A system lets a stack grow as it is used, and may refuse that
-/// once the heap has come near a limit: so where there is too little, the process ends here, by a signal, and not in
-/// the middle of a command. Fails where no file can be opened.
+/// Takes the stack that the program needs, which stays taken. A system lets a stack grow as it is
+/// used, and may refuse that once the heap has come near a limit: so where there is too little, the
+/// process ends here, by a signal, and not in the middle of a command. Fails where no file can be
+/// opened.
 #[inline(never)]
 pub fn take_stack(rt: &HostRuntime) -> io::Result<()> {
     let mut room = [[0; 4096]; PAGES];

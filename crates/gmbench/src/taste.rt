@@ -1,5 +1,5 @@
-//! The command `taste`, which says what the images of a folder tell by themselves. No registry is opened, and nothing is
-//! written or held.
+//! The command `taste`, which says what the images of a folder tell by themselves. No registry is
+//! opened, and nothing is written or held.
 
 ghost use Rattle.std.specs.Prelude.{◌≡◌, IfOk};
 ghost use Rattle.std.specs.List.{list_any};

@@ -27,9 +27,11 @@ abbrev pub is_all_of : List ℕ → ℕ → Result Compiled CompileError → Boo
 is_all_of sql count (Ok c) = leb (length sql) c.tail && eqb count (length c.names)
 is_all_of sql count (Err e) = false
 
--- what a query of known text can fail of: want of memory, a failure of the disk, or the limit on steps
+-- what a query of known text can fail of: want of memory, a failure of the disk, or the limit on
+-- steps
 abbrev pub IsReadFault : State → State → Error → Type 0
-IsReadFault old new e = (e ≡ SqliteFailure code.OutOfMemory) ⊎ (MoreFaults old.faults new.faults ⊎ IsSome old.step_limit)
+IsReadFault old new e = (e ≡ SqliteFailure code.OutOfMemory)
+    ⊎ (MoreFaults old.faults new.faults ⊎ IsSome old.step_limit)
 
 both : (a b : Bool) → a && b ≡ true → (a ≡ true) × (b ≡ true)
 both true b e = (refl, e)
@@ -44,28 +46,46 @@ module _ (old new : State) (sql : List ℕ) (params : Row) (e : Error) where
   store_failed is_open (Broken, is, more, rolled, tells) = absurd (true≢false (sym is_open ∙ more))
   store_failed is_open (Unstorable, is, more, rolled, tells) = absurd more
 
-  never_misread : IsPlain (understood old.now.schema sql) → is_all_of sql (length params) (understood old.now.schema sql) ≡ true → IsNoStatement old sql params e → ⊥
+  never_misread : IsPlain (understood old.now.schema sql)
+      → is_all_of sql (length params) (understood old.now.schema sql) ≡ true
+      → IsNoStatement old sql params e → ⊥
   never_misread plain all (inl (fault, is, told)) = subst IsPlain is plain
-  never_misread plain all (inr (c, is, inl short)) = short.0 (leb-true (length sql) c.tail (both _ _ (subst (λ r. is_all_of sql (length params) r ≡ true) is all)).0)
-  never_misread plain all (inr (c, is, inr (inl count))) = count.0 (eqb-true (length params) (length c.names) (both _ _ (subst (λ r. is_all_of sql (length params) r ≡ true) is all)).1)
+  never_misread plain all (inr (c, is, inl short)) =
+      short.0 (leb-true (length sql) c.tail
+      (both _ _ (subst (λ r. is_all_of sql (length params) r ≡ true) is all)).0)
+  never_misread plain all (inr (c, is, inr (inl count))) =
+      count.0 (eqb-true (length params) (length c.names)
+      (both _ _ (subst (λ r. is_all_of sql (length params) r ≡ true) is all)).1)
   never_misread plain all (inr (c, is, inr (inr formats))) = formats.0 (subst IsPlain is plain).1
 
-  module _ (schema : Schema) (query : Query) (names : List (List ℕ)) (has : old.now.schema ≡ schema) (command_is : command_of (understood schema sql) ≡ Select (record { lets = []; body = query }) names)
-      (plain : IsPlain (understood schema sql)) (of_tables : reads_listing schema sql ≡ false) (all : is_all_of sql (length params) (understood schema sql) ≡ true)
-      (typed : accepts_program schema [] query params ≡ true) (safe : (db : Trees) → QueryOverflows query db params → ⊥) where
-    refuses : RefusesToRead old.step_limit (Select (record { lets = []; body = query }) names) old.now params e → IsReadFault old new e
-    refuses (inl (is, ill)) = absurd (true≢false (sym (subst (λ s. accepts_program s [] query params ≡ true) (sym has) typed) ∙ ill))
+  module _ (schema : Schema) (query : Query) (names : List (List ℕ)) (has : old.now.schema ≡ schema)
+      (command_is : command_of (understood schema sql)
+      ≡ Select (record { lets = []; body = query }) names)
+      (plain : IsPlain (understood schema sql)) (of_tables : reads_listing schema sql ≡ false)
+      (all : is_all_of sql (length params) (understood schema sql) ≡ true)
+      (typed : accepts_program schema [] query params ≡ true) (safe : (db : Trees)
+      → QueryOverflows query db params → ⊥) where
+    refuses : RefusesToRead old.step_limit (Select (record { lets = []; body = query }) names)
+        old.now params e → IsReadFault old new e
+    refuses (inl (is, ill)) =
+        absurd (true≢false
+        (sym (subst (λ s. accepts_program s [] query params ≡ true) (sym has) typed) ∙ ill))
     refuses (inr (inl (is, over))) = absurd (safe _ over)
     refuses (inr (inr (is, some))) = inr (inr some)
 
     pub read_fault : IsTrue old.is_open → FailsToQuery sql params old new e → IsReadFault old new e
     unfolding FailsToQuery IsNotRun
     read_fault is_open (inl (inl none)) =
-        absurd (never_misread (subst (λ s. IsPlain (understood s sql)) (sym has) plain) (subst (λ s. is_all_of sql (length params) (understood s sql) ≡ true) (sym has) all) none.0)
+        absurd (never_misread (subst (λ s. IsPlain (understood s sql)) (sym has) plain)
+        (subst (λ s. is_all_of sql (length params) (understood s sql) ≡ true) (sym has) all)
+        none.0)
     read_fault is_open (inl (inr fails)) = store_failed is_open fails
     read_fault is_open (inr (c, it, h)) =
         let known = sym it.is ∙ ap (λ s. understood s sql) has in
         let bare = subst IsPlain (sym known) plain in
         let shown = rw (bare.0, bare.1, append-nil params) at h in
-        let db : shown.0 ≡ old.now = subst (λ b. IsSourceOf b old.now shown.0) (ap (λ s. reads_listing s sql) has ∙ of_tables) shown.1 in
-        refuses (subst₂ (λ k d. RefusesToRead old.step_limit k d params e) (ap command_of known ∙ command_is) db shown.2)
+        let db : shown.0 ≡ old.now =
+        subst (λ b. IsSourceOf b old.now shown.0) (ap (λ s. reads_listing s sql) has
+        ∙ of_tables) shown.1 in
+        refuses (subst₂ (λ k d. RefusesToRead old.step_limit k d params e)
+        (ap command_of known ∙ command_is) db shown.2)

@@ -53,15 +53,19 @@ use Rattle.sqlite_rows.proofs.Keyed.{left_are, just_one, one_row, same_value_cmp
 use Rattle.sqlite_rows.proofs.ValueLemmas.{equal_text, ints_equal, ints_differ, cast_null, cast_int}
 use Rattle.sqlite_rows.proofs.Bags.{has_key}
 
--- the table has one row with these values in place of those that have its key, and each other table is as it was
-pub record Replaces (schema : Schema) (table : Table) (key : List ℕ) (db after : Database) (values : Row) : Type 0 where
+-- the table has one row with these values in place of those that have its key, and each other table
+-- is as it was
+pub record Replaces (schema : Schema) (table : Table) (key : List ℕ) (db after : Database)
+    (values : Row) : Type 0 where
   pub schema_is : after.schema ≡ schema
   pub new : Row
   pub values_are : drop 1 new ≡ values
   pub keyed : IsTrue (is_int (rowid new))
   pub fresh : is_taken (filter (λ r. not (has_key key r)) (db.trees table.tree)) new ≡ false
-  pub rows : after.trees table.tree ≡ put_row new (filter (λ r. not (has_key key r)) (db.trees table.tree))
-  pub tables : AllByRecursion (λ t. t.tree ≢ table.tree → after.trees t.tree ≡ db.trees t.tree) schema.tables
+  pub rows : after.trees table.tree ≡ put_row new
+      (filter (λ r. not (has_key key r)) (db.trees table.tree))
+  pub tables : AllByRecursion (λ t. t.tree ≢ table.tree
+      → after.trees t.tree ≡ db.trees t.tree) schema.tables
 
 alone_true : (b : Bool) → b && true ≡ true → IsTrue b
 alone_true true e = refl
@@ -77,40 +81,73 @@ not_both true false h e = refl
 not_both false b h e = absurd (true≢false (sym e))
 
 -- where a table's key is a text in its first column, guarded by the index
-module _ (schema : Schema) (table : Table) (listed : Has schema.tables table) (index : Index) (guarded : Has schema.indexes index) (guards_it : guards index table ≡ true)
+module _ (schema : Schema) (table : Table) (listed : Has schema.tables table) (index : Index)
+    (guarded : Has schema.indexes index) (guards_it : guards index table ≡ true)
     (at_first : index.columns ≡ 1 ∷ []) (in_order : index.order ≡ plain) where
   -- no row beside the new one has its key
-  others_differ : (next : Trees) (new : Row) (left : List Row) (key : List ℕ) → Fits schema next → next table.tree ≡ put_row new left → are_fresh left (new ∷ []) ≡ true
-      → IsTrue (is_int (rowid new)) → AllByRecursion (λ r. IsTrue (is_int (rowid r))) left → column new 1 ≡ Text key → (r : Row) → Has left r → has_key key r ≡ false
+  others_differ : (next : Trees) (new : Row) (left : List Row) (key : List ℕ) → Fits schema next
+      → next table.tree ≡ put_row new left → are_fresh left (new ∷ []) ≡ true
+      → IsTrue (is_int (rowid new)) → AllByRecursion (λ r. IsTrue (is_int (rowid r))) left
+      → column new 1 ≡ Text key → (r : Row) → Has left r → has_key key r ≡ false
   unfolding first_key
   others_differ next new left key fits rows fresh int ints is r has =
-      let all = keeps_at Unique schema next table new (fits.rules Unique (λ e. let f = e in cc)) listed (subst (λ l. Has l new) (sym rows) (has_put new left)) in
-      let alone : clashes index.order index.columns (next table.tree) new ≡ false = not_both (guards index table) _ (test_has (λ i. not (guards i table && clashes i.order i.columns (next table.tree) new)) schema.indexes index all guarded) guards_it in
-      let here : list_any (λ other. agree plain (1 ∷ []) other (1 ∷ []) new && differ (rowid other) (rowid new)) (next table.tree) ≡ false =
-      subst (λ o. clashes o (1 ∷ []) (next table.tree) new ≡ false) in_order (subst (λ cs. clashes index.order cs (next table.tree) new ≡ false) at_first alone) in
-      let apart : is_eq (value_cmp (rowid r) (rowid new)) ≡ false = false_from_ne_true _ (λ same. true≢false (sym (some_from (λ x. is_eq (value_cmp (rowid x) (rowid new))) left r has same) ∙ fresh_alone _ fresh)) in
+      let all = keeps_at Unique schema next table new (fits.rules Unique (λ e. let f = e in
+      cc)) listed (subst (λ l. Has l new) (sym rows) (has_put new left)) in
+      let alone : clashes index.order index.columns (next table.tree) new ≡ false =
+      not_both (guards index table) _
+      (test_has (λ i. not (guards i table && clashes i.order i.columns (next table.tree) new))
+      schema.indexes index all guarded) guards_it in
+      let here : list_any (λ other. agree plain (1 ∷ []) other (1 ∷ []) new && differ (rowid other)
+      (rowid new)) (next table.tree) ≡ false =
+      subst (λ o. clashes o (1 ∷ []) (next table.tree) new ≡ false) in_order
+      (subst (λ cs. clashes index.order cs (next table.tree) new ≡ false) at_first alone) in
+      let apart : is_eq (value_cmp (rowid r) (rowid new)) ≡ false =
+      false_from_ne_true _
+      (λ same. true≢false
+      (sym (some_from (λ x. is_eq (value_cmp (rowid x) (rowid new))) left r has same)
+      ∙ fresh_alone _ fresh)) in
       false_from_ne_true _ (λ shares.
-      let there : Has (next table.tree) r = subst (λ l. Has l r) (sym rows) (put_all_keeps (new ∷ []) left r fresh has) in
-      let agrees : agree plain (1 ∷ []) r (1 ∷ []) new ≡ true = and_from _ _ (ap (equal Binary (column r 1)) is ∙ shares) refl in
-      true≢false (sym (some_from (λ other. agree plain (1 ∷ []) other (1 ∷ []) new && differ (rowid other) (rowid new)) (next table.tree) r there
-      (and_from _ _ agrees (ints_differ (rowid r) (rowid new) (all_has (λ x. IsTrue (is_int (rowid x))) left r ints has) int apart))) ∙ here))
+      let there : Has (next table.tree) r =
+      subst (λ l. Has l r) (sym rows) (put_all_keeps (new ∷ []) left r fresh has) in
+      let agrees : agree plain (1 ∷ []) r (1 ∷ []) new ≡ true =
+      and_from _ _ (ap (equal Binary (column r 1)) is ∙ shares) refl in
+      true≢false (sym
+      (some_from (λ other. agree plain (1 ∷ []) other (1 ∷ []) new && differ (rowid other)
+      (rowid new)) (next table.tree) r there
+      (and_from _ _ agrees (ints_differ (rowid r) (rowid new)
+      (all_has (λ x. IsTrue (is_int (rowid x))) left r ints has) int apart))) ∙ here))
 
   abbrev over : Trees → Database
   over db = record { schema = schema; trees = db }
 
   -- the row that was put stands in place of each of its key
-  pub settles : (db next : Trees) (p : Row → Bool) (key : List ℕ) (rest : Row) (id : ℤ) → IsShaped shape.Table (db table.tree) → ((r : Row) → Has (db table.tree) r → p r ≡ true → has_key key r ≡ true)
-      → next table.tree ≡ put_row (Int id ∷ Text key ∷ rest) (filter (λ r. not (p r)) (db table.tree)) → are_fresh (filter (λ r. not (p r)) (db table.tree)) ((Int id ∷ Text key ∷ rest) ∷ []) ≡ true → Fits schema next
-      → AllByRecursion (λ t. t.tree ≢ table.tree → next t.tree ≡ db t.tree) schema.tables → Replaces schema table key (over db) (over next) (Text key ∷ rest)
+  pub settles : (db next : Trees) (p : Row → Bool) (key : List ℕ) (rest : Row) (id : ℤ)
+      → IsShaped shape.Table (db table.tree)
+      → ((r : Row) → Has (db table.tree) r → p r ≡ true → has_key key r ≡ true)
+      → next table.tree ≡ put_row (Int id ∷ Text key ∷ rest)
+      (filter (λ r. not (p r)) (db table.tree))
+      → are_fresh (filter (λ r. not (p r)) (db table.tree)) ((Int id ∷ Text key ∷ rest) ∷ [])
+      ≡ true → Fits schema next
+      → AllByRecursion (λ t. t.tree ≢ table.tree → next t.tree ≡ db t.tree) schema.tables
+      → Replaces schema table key (over db) (over next) (Text key ∷ rest)
   settles db next p key rest id keyed named rows fresh fits tables =
       let new : Row = Int id ∷ Text key ∷ rest in
       let left = filter (λ r. not (p r)) (db table.tree) in
       let ints = (IsShaped-filter shape.Table (λ r. not (p r)) (db table.tree) keyed).1 in
       let stays = others_differ next new left key fits rows fresh refl ints refl in
-      let agrees : (r : Row) → Has (db table.tree) r → (b : Bool) → p r ≡ b → p r ≡ has_key key r = λ r has b is.
-      elim b as (λ b. p r ≡ b → p r ≡ has_key key r) [ true ↦ (λ yes. yes ∙ sym (named r has yes)) | false ↦ (λ not_it. not_it ∙ sym (stays r (has_kept (λ x. not (p x)) (db table.tree) r has (ap not not_it)))) ] is in
-      let same : left ≡ filter (λ r. not (has_key key r)) (db table.tree) = filter_same (λ r. not (p r)) (λ r. not (has_key key r)) (db table.tree)
-      (all_from (λ r. not (p r) ≡ not (has_key key r)) (db table.tree) (λ r has. ap not (agrees r has (p r) refl))) in
+      let agrees : (r : Row) → Has (db table.tree) r → (b : Bool) → p r ≡ b
+      → p r ≡ has_key key r = λ r has b is.
+      elim b as (λ b. p r ≡ b → p r ≡ has_key key r) [
+        | true
+            ↦ (λ yes. yes ∙ sym (named r has yes))
+        | false
+            ↦ (λ not_it. not_it
+            ∙ sym (stays r (has_kept (λ x. not (p x)) (db table.tree) r has (ap not not_it))))
+      ] is in
+      let same : left ≡ filter (λ r. not (has_key key r)) (db table.tree) =
+      filter_same (λ r. not (p r)) (λ r. not (has_key key r)) (db table.tree)
+      (all_from (λ r. not (p r) ≡ not (has_key key r)) (db table.tree)
+      (λ r has. ap not (agrees r has (p r) refl))) in
       record {
         schema_is = refl;
         new = new;
@@ -121,10 +158,18 @@ module _ (schema : Schema) (table : Table) (listed : Has schema.tables table) (i
         tables = tables;
       }
 
-  module _ (limit : Option ℕ) (mode : Mode) (idle : (olds news : List Row) → works schema mode.keys 0 table.tree olds news ≡ []) (uncounted : table.is_counted ≡ false)
-      (key : List ℕ) (rest params : Row) (typed : cast_all table.columns (Text key ∷ rest) ≡ Text key ∷ rest) where
+  module _ (limit : Option ℕ) (mode : Mode) (idle : (olds news : List Row)
+      → works schema mode.keys 0 table.tree olds news ≡ []) (uncounted : table.is_counted ≡ false)
+      (key : List ℕ) (rest params : Row) (typed : cast_all table.columns (Text key ∷ rest)
+      ≡ Text key ∷ rest) where
     abbrev task : Task
-    task = record { limit = limit; keys = mode.keys; schema = schema; table = table; params = params }
+    task = record {
+      limit = limit;
+      keys = mode.keys;
+      schema = schema;
+      table = table;
+      params = params;
+    }
 
     abbrev row_at : ℤ → Row
     row_at id = Int id ∷ Text key ∷ rest
@@ -133,100 +178,171 @@ module _ (schema : Schema) (table : Table) (listed : Has schema.tables table) (i
     typed_at id = λ i. cast_int id i ∷ typed i
 
     -- no row of the key was there
-    pub put_new : (db : Trees) (id : ℤ) (one : Written) → IsShaped shape.Table (db table.tree) → Puts task (row_at id) db (Ok one) → Replaces schema table key (over db) (over one.trees) (Text key ∷ rest)
+    pub put_new : (db : Trees) (id : ℤ) (one : Written) → IsShaped shape.Table (db table.tree)
+        → Puts task (row_at id) db (Ok one)
+        → Replaces schema table key (over db) (over one.trees) (Text key ∷ rest)
     put_new db id one keyed h =
         let w = went h in
         let edit = edit_of db table [] Given 0 (row_at id ∷ []) in
         let it = one_step schema mode.keys db w.0 edit (idle (taken_by db edit) edit.news) w.1 in
-        let all : filter (λ r. not false) (db table.tree) ≡ db table.tree = filter_all (λ r. not false) (db table.tree) (all_of (λ r. not false ≡ true) (λ r. refl) (db table.tree)) in
+        let all : filter (λ r. not false) (db table.tree) ≡ db table.tree =
+        filter_all (λ r. not false) (db table.tree)
+        (all_of (λ r. not false ≡ true) (λ r. refl) (db table.tree)) in
         let trees : w.0 ≡ one.trees = ap (λ (x : Written). x.trees) (sym (same_value w.2)) in
         subst (λ t. Replaces schema table key (over db) (over t) (Text key ∷ rest)) trees
         (settles db w.0 (λ r. false) key rest id keyed (λ r has no. absurd (true≢false (sym no)))
-        (it.rows ∙ ap₂ put_row (typed_at id) (sym all)) (subst (λ l. are_fresh l (row_at id ∷ []) ≡ true) (sym all) (subst (λ n. are_fresh (db table.tree) (n ∷ []) ≡ true) (typed_at id) it.fresh)) it.fits it.tables)
+        (it.rows ∙ ap₂ put_row (typed_at id) (sym all))
+        (subst (λ l. are_fresh l (row_at id ∷ []) ≡ true) (sym all)
+        (subst (λ n. are_fresh (db table.tree) (n ∷ []) ≡ true) (typed_at id) it.fresh)) it.fits
+        it.tables)
 
-    module _ (k : ℕ) (project : List Term) (at_there : (there : Value) (more : Row) → column (params ++ there ∷ more) k ≡ there)
-        (projected : (there : Value) (id : ℤ) (r : Row) → eval_all project ((params ++ there ∷ shown table (row_at id)) ∷ r ∷ []) ≡ column r 0 ∷ column r 0 ∷ column r 1 ∷ rest)
-        (only : (new r : Row) → conflicts (Some (1 ∷ [])) schema.indexes table new r ≡ true → equal Binary (column r 1) (column new 1) ≡ true) where
+    module _ (k : ℕ) (project : List Term) (at_there : (there : Value) (more : Row)
+        → column (params ++ there ∷ more) k ≡ there)
+        (projected : (there : Value) (id : ℤ) (r : Row)
+        → eval_all project ((params ++ there ∷ shown table (row_at id)) ∷ r ∷ []) ≡ column r 0
+        ∷ column r 0 ∷ column r 1 ∷ rest)
+        (only : (new r : Row) → conflicts (Some (1 ∷ [])) schema.indexes table new r ≡ true
+        → equal Binary (column r 1) (column new 1) ≡ true) where
       abbrev test : Term
       test = op2 (Compare Eq Binary) (col 1 0) (col 0 k)
 
       abbrev clause : Upsert
-      clause = record { target = Some (1 ∷ []); update = Some (record { lets = []; body = scan table.tree (test ∷ []) project [] }) }
+      clause = record {
+        target = Some (1 ∷ []);
+        update = Some (record { lets = []; body = scan table.tree (test ∷ []) project [] });
+      }
 
       -- what the update makes of a row
       abbrev after : Row → Row
       after r = column r 0 ∷ column r 0 ∷ column r 1 ∷ rest
 
       -- the row of the key is written over
-      pub put_over : (db : Trees) (id : ℤ) (was : Row) (one : Written) → IsShaped shape.Table (db table.tree) → Has (db table.tree) was → conflicts (Some (1 ∷ [])) schema.indexes table (row_at id) was ≡ true
-          → Updates task (record { lets = []; body = scan table.tree (test ∷ []) project [] }) (params ++ rowid was ∷ shown table (row_at id)) db (Ok one)
+      pub put_over : (db : Trees) (id : ℤ) (was : Row) (one : Written)
+          → IsShaped shape.Table (db table.tree) → Has (db table.tree) was
+          → conflicts (Some (1 ∷ [])) schema.indexes table (row_at id) was ≡ true
+          → Updates task (record { lets = []; body = scan table.tree (test ∷ []) project [] })
+          (params ++ rowid was ∷ shown table (row_at id)) db (Ok one)
           → Replaces schema table key (over db) (over one.trees) (Text key ∷ rest)
       put_over db id was one keyed has clashes_it h =
           let rows = db table.tree in
           let given = params ++ rowid was ∷ shown table (row_at id) in
           let p : Row → Bool = λ r. equal Binary (rowid r) (rowid was) in
           let asked = went h in
-          let a : IsAnswer (scan table.tree (test ∷ []) project []) db given asked.0 = subst (λ t. IsAnswer (scan table.tree (test ∷ []) project []) t given asked.0) (overlaid db) (asked.1.answer Null) in
-          let int_was : IsTrue (is_int (rowid was)) = all_has (λ x. IsTrue (is_int (rowid x))) rows was keyed.1 has in
-          let key_is : column was 1 ≡ Text key = equal_text (column was 1) key (only (row_at id) was clashes_it) in
+          let a : IsAnswer (scan table.tree (test ∷ []) project []) db given asked.0 =
+          subst (λ t. IsAnswer (scan table.tree (test ∷ []) project []) t given asked.0)
+          (overlaid db) (asked.1.answer Null) in
+          let int_was : IsTrue (is_int (rowid was)) =
+          all_has (λ x. IsTrue (is_int (rowid x))) rows was keyed.1 has in
+          let key_is : column was 1 ≡ Text key =
+          equal_text (column was 1) key (only (row_at id) was clashes_it) in
           let names : (r : Row) → Has rows r → p r ≡ true → r ≡ was = λ r here is.
-          one_row rows keyed r was here has (ap (λ v. is_eq (value_cmp (rowid r) v)) (sym (int_is (rowid was) int_was)) ∙ (sym (ints_equal (rowid r) (rowid was) (all_has (λ x. IsTrue (is_int (rowid x))) rows r keyed.1 here) int_was) ∙ is)) in
-          let mine : p was ≡ true = ints_equal (rowid was) (rowid was) int_was int_was ∙ ap is_eq (same_value_cmp (rowid was)) in
+          one_row rows keyed r was here has (ap (λ v. is_eq (value_cmp (rowid r) v))
+          (sym (int_is (rowid was) int_was))
+          ∙ (sym (ints_equal (rowid r) (rowid was)
+          (all_has (λ x. IsTrue (is_int (rowid x))) rows r keyed.1 here) int_was) ∙ is)) in
+          let mine : p was ≡ true = ints_equal (rowid was) (rowid was) int_was int_was
+          ∙ ap is_eq (same_value_cmp (rowid was)) in
           let just : filter p rows ≡ was ∷ [] = just_one p was rows keyed.0 has mine names in
-          let tests : filter (λ r. holds (given ∷ r ∷ []) test) rows ≡ filter p rows = filter_agree (λ r. holds (given ∷ r ∷ []) test) p (λ r. ap (equal Binary (rowid r)) (at_there (rowid was) (shown table (row_at id)))) rows in
-          let one_found : map (λ r. eval_all project (given ∷ r ∷ [])) (filter (λ r. holds (given ∷ r ∷ []) test) rows) ≡ after was ∷ [] =
-          ap (map (λ r. eval_all project (given ∷ r ∷ []))) (tests ∙ just) ∙ ap (λ x. x ∷ []) (projected (rowid was) id was) in
-          let shows : asked.0 ≡ after was ∷ [] = one_permutation (after was) asked.0 (subst (λ l. IsPermutation l asked.0) one_found (found table.tree project [] db given asked.0 test a)) in
+          let tests : filter (λ r. holds (given ∷ r ∷ []) test) rows ≡ filter p rows =
+          filter_agree (λ r. holds (given ∷ r ∷ []) test) p
+          (λ r. ap (equal Binary (rowid r)) (at_there (rowid was) (shown table (row_at id))))
+          rows in
+          let one_found : map (λ r. eval_all project (given ∷ r ∷ []))
+          (filter (λ r. holds (given ∷ r ∷ []) test) rows) ≡ after was ∷ [] =
+          ap (map (λ r. eval_all project (given ∷ r ∷ []))) (tests ∙ just)
+          ∙ ap (λ x. x ∷ []) (projected (rowid was) id was) in
+          let shows : asked.0 ≡ after was ∷ [] =
+          one_permutation (after was) asked.0
+          (subst (λ l. IsPermutation l asked.0) one_found
+          (found table.tree project [] db given asked.0 test a)) in
           let w = went asked.2 in
-          let it = subst (λ l. Applies schema mode.keys db (edit_of db table (ids_of l) Given 1 l) w.0) shows
-          (one_step schema mode.keys db w.0 (edit_of db table (ids_of asked.0) Given 1 asked.0) (idle _ _) w.1) in
-          let new_is : cast_row table (column was 0 ∷ column was 1 ∷ rest) ≡ row_at (id_in (rowid was)) =
-          ap₂ (λ v u. cast_row table (v ∷ u ∷ rest)) (int_is (rowid was) int_was) key_is ∙ typed_at (id_in (rowid was)) in
+          let it = subst (λ l. Applies schema mode.keys db (edit_of db table (ids_of l) Given 1 l)
+          w.0) shows
+          (one_step schema mode.keys db w.0 (edit_of db table (ids_of asked.0) Given 1 asked.0)
+          (idle _ _) w.1) in
+          let new_is : cast_row table (column was 0 ∷ column was 1 ∷ rest)
+          ≡ row_at (id_in (rowid was)) =
+          ap₂ (λ v u. cast_row table (v ∷ u ∷ rest)) (int_is (rowid was) int_was) key_is
+          ∙ typed_at (id_in (rowid was)) in
           let left : without_all rows (ids_of (after was ∷ [])) ≡ filter (λ r. not (p r)) rows =
-          left_are rows keyed p after (λ r. refl) (after was ∷ []) (subst (λ l. IsPermutation (map after l) (after was ∷ [])) (sym just) (IsPermutation-refl (after was ∷ []))) in
+          left_are rows keyed p after (λ r. refl) (after was ∷ [])
+          (subst (λ l. IsPermutation (map after l) (after was ∷ [])) (sym just)
+          (IsPermutation-refl (after was ∷ []))) in
           let trees : w.0 ≡ one.trees = ap (λ (x : Written). x.trees) (sym (same_value w.2)) in
-          let fresh : are_fresh (filter (λ r. not (p r)) rows) (row_at (id_in (rowid was)) ∷ []) ≡ true = subst (λ l. are_fresh l (row_at (id_in (rowid was)) ∷ []) ≡ true) left
-          (subst (λ n. are_fresh (without_all rows (ids_of (after was ∷ []))) (n ∷ []) ≡ true) new_is it.fresh) in
+          let fresh : are_fresh (filter (λ r. not (p r)) rows) (row_at (id_in (rowid was)) ∷ [])
+          ≡ true = subst (λ l. are_fresh l (row_at (id_in (rowid was)) ∷ []) ≡ true) left
+          (subst (λ n. are_fresh (without_all rows (ids_of (after was ∷ []))) (n ∷ []) ≡ true)
+          new_is it.fresh) in
           subst (λ t. Replaces schema table key (over db) (over t) (Text key ∷ rest)) trees
-          (settles db w.0 p key rest (id_in (rowid was)) keyed (λ r here is. ap (has_key key) (names r here is) ∙ only (row_at id) was clashes_it)
+          (settles db w.0 p key rest (id_in (rowid was)) keyed
+          (λ r here is. ap (has_key key) (names r here is) ∙ only (row_at id) was clashes_it)
           (it.rows ∙ ap₂ put_row new_is left) fresh it.fits it.tables)
 
-      clears_new : (db : Trees) (id : ℤ) (one : Written) (found : List Row) → Clears task Abort (row_at id) db found (Ok one) → Puts task (row_at id) db (Ok one)
+      clears_new : (db : Trees) (id : ℤ) (one : Written) (found : List Row)
+          → Clears task Abort (row_at id) db found (Ok one) → Puts task (row_at id) db (Ok one)
       clears_new db id one [] h = h
       clears_new db id one (x ∷ more) h = h
 
-      met : (db : Trees) (id : ℤ) (one : Written) (found : List Row) → IsShaped shape.Table (db table.tree) → AreConflicts (Some (1 ∷ [])) schema.indexes table (db table.tree) (row_at id) found
-          → Meets task (Upserts task Abort (row_at id) db []) (row_at id) db clause found (Ok one) → Replaces schema table key (over db) (over one.trees) (Text key ∷ rest)
+      met : (db : Trees) (id : ℤ) (one : Written) (found : List Row)
+          → IsShaped shape.Table (db table.tree)
+          → AreConflicts (Some (1 ∷ [])) schema.indexes table (db table.tree) (row_at id) found
+          → Meets task (Upserts task Abort (row_at id) db []) (row_at id) db clause found (Ok one)
+          → Replaces schema table key (over db) (over one.trees) (Text key ∷ rest)
       met db id one [] keyed are h = put_new db id one keyed (clears_new db id one h.0 h.2)
       met db id one (there ∷ more) keyed are h =
           let it = are.sound there (inl refl) in
-          put_over db id it.0 one keyed it.1 it.2 (subst (λ (x : Row). Updates task (record { lets = []; body = scan table.tree (test ∷ []) project [] }) (params ++ rowid x ∷ shown table (row_at id)) db (Ok one)) it.3 h)
+          put_over db id it.0 one keyed it.1 it.2
+          (subst (λ (x : Row). Updates task (record {
+            lets = [];
+            body = scan table.tree (test ∷ []) project [];
+          }) (params ++ rowid x
+          ∷ shown table (row_at id)) db (Ok one)) it.3 h)
 
-      judged : (db : Trees) (id : ℤ) (one : Written) (verdict : Option Refusal) → IsShaped shape.Table (db table.tree) → Judged task Abort (clause ∷ []) (row_at id) db verdict (Ok one)
+      judged : (db : Trees) (id : ℤ) (one : Written) (verdict : Option Refusal)
+          → IsShaped shape.Table (db table.tree)
+          → Judged task Abort (clause ∷ []) (row_at id) db verdict (Ok one)
           → Replaces schema table key (over db) (over one.trees) (Text key ∷ rest)
       judged db id one None keyed h = met db id one h.0 keyed h.1 h.2
       judged db id one (Some why) keyed h = absurd (let e = h in cc)
 
-      tried : (db : Trees) (id : ℤ) (one : Written) → IsShaped shape.Table (db table.tree) → Tries task Abort (clause ∷ []) (row_at id) db (Ok one) → Replaces schema table key (over db) (over one.trees) (Text key ∷ rest)
+      tried : (db : Trees) (id : ℤ) (one : Written) → IsShaped shape.Table (db table.tree)
+          → Tries task Abort (clause ∷ []) (row_at id) db (Ok one)
+          → Replaces schema table key (over db) (over one.trees) (Text key ∷ rest)
       tried db id one keyed (inl unfit) = absurd (let e = unfit.1 in cc)
       tried db id one keyed (inr it) = judged db id one it.0 keyed it.2
 
-      module _ (at width : ℕ) (terms : List Term) (source : value_rows (stamped table params) width (length terms / width) terms ≡ (Null ∷ Text key ∷ rest) ∷ []) where
-        new_is : (db : Trees) (top : ℤ) → with_rowid (rowids_for table top) (db table.tree) (cast_row table (Null ∷ Text key ∷ rest)) ≡ row_at (next_rowid (db table.tree))
-        new_is db top = ap₂ (λ ids row. with_rowid ids (db table.tree) row) (ap (λ b. cond b (Above top) Chosen) uncounted) (λ i. cast_null i ∷ typed i)
+      module _ (at width : ℕ) (terms : List Term) (source :
+          value_rows (stamped table params) width (length terms / width) terms
+          ≡ (Null ∷ Text key ∷ rest) ∷ []) where
+        new_is : (db : Trees) (top : ℤ)
+            → with_rowid (rowids_for table top) (db table.tree)
+            (cast_row table (Null ∷ Text key ∷ rest)) ≡ row_at (next_rowid (db table.tree))
+        new_is db top = ap₂ (λ ids row. with_rowid ids (db table.tree) row)
+            (ap (λ b. cond b (Above top) Chosen) uncounted) (λ i. cast_null i ∷ typed i)
 
-        pub upserts : (db : Trees) (done : Database) (tally : Tally) → IsShaped shape.Table (db table.tree)
-            → OnRows task mode None (InsertOr at Abort (Values terms width) (clause ∷ [])) db (Ok (tally, done)) → Replaces schema table key (over db) done (Text key ∷ rest)
+        pub upserts : (db : Trees) (done : Database) (tally : Tally)
+            → IsShaped shape.Table (db table.tree)
+            → OnRows task mode None (InsertOr at Abort (Values terms width) (clause ∷ [])) db
+            (Ok (tally, done)) → Replaces schema table key (over db) done (Text key ∷ rest)
         upserts db done tally keyed h =
             let made = went h in
-            let now : over made.0.trees ≡ done = ap (λ (p : Tally × Database). p.1) (sym (same_value (went (went made.2).2).2)) in
+            let now : over made.0.trees ≡ done =
+            ap (λ (p : Tally × Database). p.1) (sym (same_value (went (went made.2).2).2)) in
             let sourced = went made.1 in
             let counter = went sourced.2 in
             let trying = went counter.2 in
             let counted = went trying.2 in
-            let kept : Ok counted.0 ≡ Ok trying.0.0.trees = if_not _ _ _ (counts_none _ uncounted _ _) counted.1 in
-            let trees : trying.0.0.trees ≡ made.0.trees = sym (ap (λ (it : Written). it.trees) (same_value counted.2) ∙ same_value kept) in
-            let each = went (subst (λ rows. TriesEach task Abort (clause ∷ []) rows (count_of counter.0) (nothing db) (Ok trying.0)) (sourced.1.1 ∙ source) trying.1) in
-            let it = tried db (next_rowid (db table.tree)) each.0 keyed (subst (λ n. Tries task Abort (clause ∷ []) n db (Ok each.0)) (new_is db (count_of counter.0)) each.1) in
-            let last : each.0.trees ≡ trying.0.0.trees = ap (λ (p : Written × ℤ). p.0.trees) (sym (same_value each.2)) in
-            subst (λ d. Replaces schema table key (over db) d (Text key ∷ rest)) (ap over (last ∙ trees) ∙ now) it
+            let kept : Ok counted.0 ≡ Ok trying.0.0.trees =
+            if_not _ _ _ (counts_none _ uncounted _ _) counted.1 in
+            let trees : trying.0.0.trees ≡ made.0.trees =
+            sym (ap (λ (it : Written). it.trees) (same_value counted.2) ∙ same_value kept) in
+            let each = went
+            (subst (λ rows. TriesEach task Abort (clause ∷ []) rows (count_of counter.0)
+            (nothing db) (Ok trying.0)) (sourced.1.1 ∙ source) trying.1) in
+            let it = tried db (next_rowid (db table.tree)) each.0 keyed
+            (subst (λ n. Tries task Abort (clause ∷ []) n db (Ok each.0))
+            (new_is db (count_of counter.0)) each.1) in
+            let last : each.0.trees ≡ trying.0.0.trees =
+            ap (λ (p : Written × ℤ). p.0.trees) (sym (same_value each.2)) in
+            subst (λ d. Replaces schema table key (over db) d (Text key ∷ rest))
+            (ap over (last ∙ trees) ∙ now) it

@@ -64,7 +64,8 @@ fn is_over<S: Alter + Drop, H: Shelf + Drop>(
     must_say(&mut shelf, "b.img", Some(metadata(2, 2, SYNCHRONIZING)?))
 }
 
-// One adoption of images that differ, whose shelf stops from its nth call on; whether the stop came.
+// One adoption of images that differ, whose shelf stops from its nth call on; whether the stop
+// came.
 fn stop_at<S: Alter + Drop>(alloc: Global, store: Connection<S>, nth: u64) -> Result<bool, Fail> {
     let mut bench = open(alloc, store, FaultShelf::stop_from(differing(alloc)?, nth))?;
     let adopt = adopts(alloc, "gm0", &["a.img", "b.img"])?;

@@ -57,8 +57,8 @@ fn two_commands<S: Alter + Drop>(
     Ok(store)
 }
 
-// What b.img says of itself before anything is opened again: nothing more than before, or that it is in sync, and then
-// it holds the data.
+// What b.img says of itself before anything is opened again: nothing more than before, or that it
+// is in sync, and then it holds the data.
 fn claims_what_it_holds<H: Shelf>(shelf: &mut H) -> Result<(), Fail> {
     let last = sector(shelf, "b.img", 3)?;
     if last == encode(&metadata(2, 2, IN_SYNC)?) {

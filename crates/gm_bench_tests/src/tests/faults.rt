@@ -1,5 +1,5 @@
-//! A shelf that stops, since its device failed or memory is wanting: the call that meets the stop says which, every
-//! later one does nothing, and both media stay.
+//! A shelf that stops, since its device failed or memory is wanting: the call that meets the stop
+//! says which, every later one does nothing, and both media stay.
 
 use super::stops::{Played, check, play};
 use crate::support::{
@@ -121,7 +121,8 @@ fn stop_at<S: Alter + Drop>(
     })
 }
 
-// Two runs with the same stop, of which one goes on with calls that are closed; whether the stop came.
+// Two runs with the same stop, of which one goes on with calls that are closed; whether the stop
+// came.
 fn leaves_the_same<S: Alter + Drop>(
     alloc: Global,
     mut plain: Left<S>,

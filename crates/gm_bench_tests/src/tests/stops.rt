@@ -1,5 +1,5 @@
-//! A script of all commands that stops at each of its calls in turn, and what an opening then finds, against a model
-//! that is written down.
+//! A script of all commands that stops at each of its calls in turn, and what an opening then
+//! finds, against a model that is written down.
 
 use crate::support::{
     FORCED, IN_SYNC, INACTIVE, NO_FLAGS, SPLIT, SYNCHRONIZING, activates, advances, clears,
@@ -95,8 +95,9 @@ struct Second {
     flags: DiskFlags,
 }
 
-// What there is after some commands of the script: how many components the mirror counts, 0 where there is none, its
-// counts of losses and of syncs, whether it is set otherwise, and its second component.
+// What there is after some commands of the script: how many components the mirror counts, 0 where
+// there is none, its counts of losses and of syncs, whether it is set otherwise, and its second
+// component.
 #[derive(Clone, Copy)]
 struct Model {
     all: u8,
@@ -309,8 +310,8 @@ fn is_taken<S: Alter, H: Shelf>(
     Ok(false)
 }
 
-// How many commands of the script were accepted, of which so many were answered: perhaps the one that comes next, and
-// none behind it.
+// How many commands of the script were accepted, of which so many were answered: perhaps the one
+// that comes next, and none behind it.
 fn accepted<S: Alter, H: Shelf>(
     alloc: Global,
     bench: &mut Bench<S, H>,
@@ -358,7 +359,8 @@ fn step<S: Alter, H: Shelf>(
     }
 }
 
-// So many calls of the script, after so many commands of it that were done before, as far as none fails.
+// So many calls of the script, after so many commands of it that were done before, as far as none
+// fails.
 pub(super) fn play<S: Alter, H: Shelf>(
     alloc: Global,
     bench: &mut Bench<S, H>,
@@ -404,7 +406,8 @@ pub(super) fn check<S: Alter + Drop, H: Shelf + Drop>(
     Ok(redone)
 }
 
-// A script that is closed after so many calls; the opening carries out what was accepted and not settled.
+// A script that is closed after so many calls; the opening carries out what was accepted and not
+// settled.
 fn closes_after<S: Alter + Drop, H: Shelf + Drop>(
     alloc: Global,
     store: Connection<S>,
@@ -473,7 +476,8 @@ fn stop_at_each(alloc: Global, picks: &[u32]) -> Result<(), Fail> {
     must(ended, "no run ended")
 }
 
-// A crash leaves of each unsynced sector what was synced, the first that was written since, or the last.
+// A crash leaves of each unsynced sector what was synced, the first that was written since, or the
+// last.
 #[test]
 fn a_crash_to_what_was_synced_loses_no_command(rt: HostRuntime) -> Result<(), Fail> {
     stop_at_each(rt.alloc(), &[0; 8])

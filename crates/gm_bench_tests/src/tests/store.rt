@@ -1,5 +1,5 @@
-//! The script over a store of two files, of which one stops at each of its calls in turn, and what is found when both
-//! media are opened again.
+//! The script over a store of two files, of which one stops at each of its calls in turn, and what
+//! is found when both media are opened again.
 
 use super::faults::must_be_closed;
 use super::stops::{Played, must_go_on, play};

@@ -39,7 +39,8 @@ fn fault_of(stop: Stop) -> u8 {
     }
 }
 
-// The first lines, of which only the first has an answer and none asks the bench, and the last, which names no command.
+// The first lines, of which only the first has an answer and none asks the bench, and the last,
+// which names no command.
 const BEFORE: &str = "k/0\n\n  \n";
 
 const BEHIND: &str = "k5 paint gm0";
@@ -74,7 +75,8 @@ pub(super) fn told_after(alloc: Global, accepted: u64) -> Result<String, Fail> {
     Ok(text)
 }
 
-// What it is answered where the bench fails at the command at this place, by the fault of this number.
+// What it is answered where the bench fails at the command at this place, by the fault of this
+// number.
 fn told_up_to(alloc: Global, place: u64, fault: u8) -> Result<String, Fail> {
     let mut text = String::from_str(alloc, "? refused 1\n")?;
     for number in 1..=place {
@@ -85,7 +87,8 @@ fn told_up_to(alloc: Global, place: u64, fault: u8) -> Result<String, Fail> {
     Ok(text)
 }
 
-// Whether this was told by a script that failed at the command at this place, which left the lines behind it.
+// Whether this was told by a script that failed at the command at this place, which left the lines
+// behind it.
 fn is_stopped_at(alloc: Global, told: &Told, place: u64, fault: u8) -> Result<bool, Fail> {
     let expected = told_up_to(alloc, place, fault)?;
     let left = script(alloc, Some(place as usize))?.len();
@@ -160,8 +163,8 @@ fn plays<S: Alter + Drop, H: Shelf + Drop>(
     Ok((done, store, shelf))
 }
 
-// The same lines again, to a bench that was opened since: what was answered is repeated, and the command at which the
-// first bench failed may have been accepted.
+// The same lines again, to a bench that was opened since: what was answered is repeated, and the
+// command at which the first bench failed may have been accepted.
 pub(super) fn goes_on<S: Alter, H: Shelf>(
     alloc: Global,
     bench: &mut Bench<S, H>,

@@ -28,8 +28,8 @@ impl<'a> Write for Counted<'a> {
     }
 }
 
-// Gives lines a byte at a time. Where the first byte of a line or the end of the input is asked for, it keeps how much of
-// the answers is flushed.
+// Gives lines a byte at a time. Where the first byte of a line or the end of the input is asked
+// for, it keeps how much of the answers is flushed.
 #[derive(Drop)]
 struct Watching<'a> {
     rest: &'a [u8],
@@ -54,8 +54,8 @@ impl<'a> Read for Watching<'a> {
     }
 }
 
-// What is flushed before each of seven lines, and at the end of the input: an `ok` and a `repeated` of one number have 8
-// and 14 bytes, and a refusal of `?` with one digit has 12.
+// What is flushed before each of seven lines, and at the end of the input: an `ok` and a `repeated`
+// of one number have 8 and 14 bytes, and a refusal of `?` with one digit has 12.
 const FLUSHED: [usize; 8] = [0, 0, 8, 8, 22, 34, 46, 54];
 
 fn is_flushed<S: Alter + Drop, H: Shelf + Drop>(

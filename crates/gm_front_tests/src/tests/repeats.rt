@@ -7,7 +7,8 @@ use sqlite::{Alter, Connection};
 use std::alloc::Global;
 use std::test::Fail;
 
-// The label once more, also with its options in another order, other commands under its key, and none.
+// The label once more, also with its options in another order, other commands under its key, and
+// none.
 const AGAIN: &str = "k1 label --mid 7 --did 1 gm0 a.img
 k1 label --did 1 --mid 7 --slice 4096 gm0 a.img
 k1 destroy gm0

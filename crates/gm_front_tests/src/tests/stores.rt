@@ -1,5 +1,5 @@
-//! A bench over a store of two files: which bytes a batch leaves as they are, and a batch whose store stops at each of its
-//! calls in turn.
+//! A bench over a store of two files: which bytes a batch leaves as they are, and a batch whose
+//! store stops at each of its calls in turn.
 
 use super::faults::{done_of, goes_on, is_closed, script};
 use super::{DONE, LABEL, REFUSED, Told, answers, tell, try_open};
@@ -175,8 +175,8 @@ fn what_is_repeated_or_refused_changes_no_byte(rt: HostRuntime) -> Result<(), Fa
     must_be_the_same(&mut once, &mut twice)
 }
 
-// A script whose store stops there, and then the same lines over the media that are left; how many commands were answered
-// as done.
+// A script whose store stops there, and then the same lines over the media that are left; how many
+// commands were answered as done.
 fn stop_at(alloc: Global, from: &Media, calls: Calls, and_more: bool) -> Result<u64, Fail> {
     let (done, media) = run(alloc, from, calls, Job::Play { and_more })?;
     run(alloc, &media, ALL, Job::GoOn { done })?;

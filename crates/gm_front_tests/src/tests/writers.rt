@@ -10,8 +10,8 @@ use std::alloc::Global;
 use std::io::{self, ErrorKind, Write};
 use std::test::Fail;
 
-// Takes so many bytes at a time and in all, and is flushed so often. It may be interrupted before each write. What is
-// full fails, or takes nothing.
+// Takes so many bytes at a time and in all, and is flushed so often. It may be interrupted before
+// each write. What is full fails, or takes nothing.
 #[derive(Drop)]
 struct Narrow {
     text: Vec<u8>,
@@ -70,7 +70,8 @@ const LAST_TOLD_AGAIN: &str = "k1 repeated 1\nk2 ok 2\n";
 
 const BOTH_TOLD_AGAIN: &str = "k1 repeated 1\nk2 repeated 2\n";
 
-// A batch of two lines, which is to end so with so much told, and with these bytes of its input left.
+// A batch of two lines, which is to end so with so much told, and with these bytes of its input
+// left.
 fn tells<S: Alter, H: Shelf>(
     alloc: Global,
     bench: &mut Bench<S, H>,

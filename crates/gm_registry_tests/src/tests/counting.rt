@@ -10,8 +10,8 @@ use sqlite_value::row::Row;
 use std::alloc::{AllocError, Global};
 use std::test::Fail;
 
-// A store, and how many times a row was put into one of its tables or deleted from one. The entries of its indexes
-// aren't counted.
+// A store, and how many times a row was put into one of its tables or deleted from one. The entries
+// of its indexes aren't counted.
 #[derive(Drop)]
 struct Counted<S: Alter> {
     store: S,
@@ -192,7 +192,8 @@ fn nothing(alloc: Global) -> Result<Connection<Counted<MemStore>>, Fail> {
     }
 }
 
-// How many rows a new registry writes for the first `accepted` calls, of which the first `settled` are settled.
+// How many rows a new registry writes for the first `accepted` calls, of which the first `settled`
+// are settled.
 fn written(alloc: Global, calls: &[Call], accepted: usize, settled: usize) -> Result<u64, Fail> {
     let mut registry = open(nothing(alloc)?)?;
     for at in 0..accepted {
@@ -205,7 +206,8 @@ fn written(alloc: Global, calls: &[Call], accepted: usize, settled: usize) -> Re
     Ok(registry.close().into_store().rows)
 }
 
-// How many rows one call writes, where those before it are settled: two runs differ in that call alone.
+// How many rows one call writes, where those before it are settled: two runs differ in that call
+// alone.
 fn written_by(alloc: Global, calls: &[Call], at: usize) -> Result<u64, Fail> {
     let after = at.checked_add(1).ok_or("no such call")?;
     let with = written(alloc, calls, after, at)?;
@@ -232,7 +234,8 @@ fn named_by(calls: &[Call], at: usize) -> Result<u64, Fail> {
 #[test]
 fn an_accept_writes_the_rows_that_its_change_names(rt: HostRuntime) -> Result<(), Fail> {
     let calls = calls(rt.alloc())?;
-    // A mirror, a component, an intent and the command; in the second an intent more, of the component that was there.
+    // A mirror, a component, an intent and the command; in the second an intent more, of the
+    // component that was there.
     for (at, rows) in [(1, 4), (2, 5)] {
         assert_eq!(rt; written_by(rt.alloc(), &calls, at)?, rows, "call {at}");
         assert_eq!(rt; named_by(&calls, at)?, rows, "call {at}");

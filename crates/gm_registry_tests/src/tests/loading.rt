@@ -10,7 +10,8 @@ use sqlite::{Alter, Connection};
 use std::alloc::Global;
 use std::test::Fail;
 
-// gm0 with three components, of which one is copied to; gm1 with one; gm2 with three, of which one takes no part.
+// gm0 with three components, of which one is copied to; gm1 with one; gm2 with three, of which one
+// takes no part.
 pub(super) const ROWS: &str =
     "INSERT INTO mirrors VALUES ('gm2', 9, 16, 4294967295, 2, 1, 4, 512, 3);
 INSERT INTO mirrors VALUES ('gm0', 7, 3, 0, 1, 4096, 2, 1536, 2);

@@ -1,4 +1,5 @@
-//! A store of two files, of which one stops at each of its calls in turn, and what is found when it is opened again.
+//! A store of two files, of which one stops at each of its calls in turn, and what is found when it
+//! is opened again.
 
 use super::{accept, accepted, inserts, labels, loads, number, settle};
 use gm_changes::Change;
@@ -135,7 +136,8 @@ fn perform<S: Alter + Drop>(
     }
 }
 
-// The same on files; they come back with whether they stopped. No other function owns a store of two files.
+// The same on files; they come back with whether they stopped. No other function owns a store of
+// two files.
 fn perform_on_files<D: Disk + Drop>(
     alloc: Global,
     files: Files<D>,
@@ -236,7 +238,8 @@ fn check(alloc: Global, left: &StoreBytes, before: u64, reached: Reached) -> Res
     is_between(found, before, reached)
 }
 
-// One run with a stop, and whether it came; the files are checked as they read and as a crash leaves them.
+// One run with a stop, and whether it came; the files are checked as they read and as a crash
+// leaves them.
 fn stop_at(alloc: Global, from: &StoreBytes, before: u64, calls: Calls) -> Result<bool, Fail> {
     let (change, key) = if before == 0 {
         (labels(alloc)?, "k1")

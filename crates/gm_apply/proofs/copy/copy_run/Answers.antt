@@ -11,28 +11,36 @@ use Rattle.gm_apply.proofs.copy.copy_run.Goals as goal
 -- two reads, one after another
 module _ (old one two : View) (first : IsQuiet old one) (second : IsQuiet one two) where
   read_twice : (place : Places) (w : Image) → IsUnderWay place w old two
-  read_twice place w = going_quiet place w old one two (going_quiet place w old old one (going_start place w old) first) second
+  read_twice place w =
+      going_quiet place w old one two (going_quiet place w old old one
+      (going_start place w old) first) second
 
   same_twice : Same two.seen old.seen
   same_twice q j = second.seen q j ∙ first.seen q j
 
-  run_before : (p : List ℕ) (a : ℕ) (run : List (List ℕ)) → IsRun p a one.seen run → IsRun p a old.seen run
+  run_before : (p : List ℕ) (a : ℕ) (run : List (List ℕ)) → IsRun p a one.seen run
+      → IsRun p a old.seen run
   run_before p a run read k few = read k few ∙ first.seen p (a + k)
 
 pub returns-in_err-read_run-clause-under_way : goal.returns-in_err-read_run-clause-under_way
 returns-in_err-read_run-clause-under_way g c h =
     let view = g.H.Shelf.view in
-    let place = copies (Copy c.args.source c.args.target c.args.first (c.args.first + c.args.sectors)) in
+    let place = copies (Copy c.args.source c.args.target c.args.first
+    (c.args.first + c.args.sectors)) in
     let w = λ (q : List ℕ) (j : ℕ). (view c.args.shelf.now).seen c.args.source j in
-    going_quiet place w (view c.args.shelf.now) (view c.args.shelf.now) (view c.read_run.new.self) (going_start place w (view c.args.shelf.now)) (c.read_run.ensures.quiet h)
+    going_quiet place w (view c.args.shelf.now) (view c.args.shelf.now) (view c.read_run.new.self)
+    (going_start place w (view c.args.shelf.now)) (c.read_run.ensures.quiet h)
 
 pub returns-in_err-read_run-2-clause-under_way : goal.returns-in_err-read_run-2-clause-under_way
 returns-in_err-read_run-2-clause-under_way g c h =
     let view = g.H.Shelf.view in
-    read_twice (view c.args.shelf.now) (view c.read_run.new.self) (view c.read_run-2.new.self) (c.read_run.ensures.quiet h) (c.read_run-2.ensures.quiet (c.read_run.ensures.honest h))
-    (copies (Copy c.args.source c.args.target c.args.first (c.args.first + c.args.sectors))) (λ q j. (view c.args.shelf.now).seen c.args.source j)
+    read_twice (view c.args.shelf.now) (view c.read_run.new.self) (view c.read_run-2.new.self)
+    (c.read_run.ensures.quiet h) (c.read_run-2.ensures.quiet (c.read_run.ensures.honest h))
+    (copies (Copy c.args.source c.args.target c.args.first (c.args.first + c.args.sectors)))
+    (λ q j. (view c.args.shelf.now).seen c.args.source j)
 
-pub returns-in_err-write_changes-clause-under_way : goal.returns-in_err-write_changes-clause-under_way
+pub returns-in_err-write_changes-clause-under_way :
+    goal.returns-in_err-write_changes-clause-under_way
 returns-in_err-write_changes-clause-under_way g c h =
     let view = g.H.Shelf.view in
     let one = c.read_run.ensures.honest h in
@@ -40,9 +48,14 @@ returns-in_err-write_changes-clause-under_way g c h =
     let mid = view c.read_run.new.self in
     let now = view c.read_run-2.new.self in
     let long : length c.read_run-2.new.out ≡ c.args.sectors = search rules in
-    run_going c.args.source c.args.target c.args.first c.args.sectors old now (view c.write_changes.new.shelf) c.read_run-2.new.out long
-    (run_before old mid now (c.read_run.ensures.quiet h) (c.read_run-2.ensures.quiet one) c.args.source c.args.first c.read_run-2.new.out (c.in_ok-read_run-2.ensures.bytes one))
-    (read_twice old mid now (c.read_run.ensures.quiet h) (c.read_run-2.ensures.quiet one) (copies (Copy c.args.source c.args.target c.args.first (c.args.first + c.args.sectors))) (λ q j. old.seen c.args.source j))
+    run_going c.args.source c.args.target c.args.first c.args.sectors old now
+    (view c.write_changes.new.shelf) c.read_run-2.new.out long
+    (run_before old mid now (c.read_run.ensures.quiet h)
+    (c.read_run-2.ensures.quiet one) c.args.source c.args.first c.read_run-2.new.out
+    (c.in_ok-read_run-2.ensures.bytes one))
+    (read_twice old mid now (c.read_run.ensures.quiet h) (c.read_run-2.ensures.quiet one)
+    (copies (Copy c.args.source c.args.target c.args.first (c.args.first + c.args.sectors)))
+    (λ q j. old.seen c.args.source j))
     (c.write_changes.ensures.law (c.read_run-2.ensures.honest one))
 
 pub returns-clause-under_way : goal.returns-clause-under_way
@@ -53,9 +66,14 @@ returns-clause-under_way g c h =
     let mid = view c.read_run.new.self in
     let now = view c.read_run-2.new.self in
     let long : length c.read_run-2.new.out ≡ c.args.sectors = search rules in
-    run_going c.args.source c.args.target c.args.first c.args.sectors old now (view c.write_changes.new.shelf) c.read_run-2.new.out long
-    (run_before old mid now (c.read_run.ensures.quiet h) (c.read_run-2.ensures.quiet one) c.args.source c.args.first c.read_run-2.new.out (c.in_ok-read_run-2.ensures.bytes one))
-    (read_twice old mid now (c.read_run.ensures.quiet h) (c.read_run-2.ensures.quiet one) (copies (Copy c.args.source c.args.target c.args.first (c.args.first + c.args.sectors))) (λ q j. old.seen c.args.source j))
+    run_going c.args.source c.args.target c.args.first c.args.sectors old now
+    (view c.write_changes.new.shelf) c.read_run-2.new.out long
+    (run_before old mid now (c.read_run.ensures.quiet h)
+    (c.read_run-2.ensures.quiet one) c.args.source c.args.first c.read_run-2.new.out
+    (c.in_ok-read_run-2.ensures.bytes one))
+    (read_twice old mid now (c.read_run.ensures.quiet h) (c.read_run-2.ensures.quiet one)
+    (copies (Copy c.args.source c.args.target c.args.first (c.args.first + c.args.sectors)))
+    (λ q j. old.seen c.args.source j))
     (c.write_changes.ensures.law (c.read_run-2.ensures.honest one))
 
 pub returns-clause-done : goal.returns-clause-done
@@ -66,8 +84,14 @@ returns-clause-done g c h =
     let mid = view c.read_run.new.self in
     let now = view c.read_run-2.new.self in
     let long : length c.read_run-2.new.out ≡ c.args.sectors = search rules in
-    let same : Same now.seen old.seen = same_twice old mid now (c.read_run.ensures.quiet h) (c.read_run-2.ensures.quiet one) in
-    let held : IsRun c.args.target c.args.first now.seen c.read_run.new.out = λ k few. c.in_ok-read_run.ensures.bytes h k few ∙ sym (same c.args.target (c.args.first + k)) in
-    run_copied c.args.source c.args.target c.args.first c.args.sectors old now (view c.write_changes.new.shelf) c.read_run-2.new.out long
-    (run_before old mid now (c.read_run.ensures.quiet h) (c.read_run-2.ensures.quiet one) c.args.source c.args.first c.read_run-2.new.out (c.in_ok-read_run-2.ensures.bytes one))
+    let same : Same now.seen old.seen =
+    same_twice old mid now (c.read_run.ensures.quiet h) (c.read_run-2.ensures.quiet one) in
+    let held : IsRun c.args.target c.args.first now.seen c.read_run.new.out =
+    λ k few. c.in_ok-read_run.ensures.bytes h k few
+    ∙ sym (same c.args.target (c.args.first + k)) in
+    run_copied c.args.source c.args.target c.args.first c.args.sectors old now
+    (view c.write_changes.new.shelf) c.read_run-2.new.out long
+    (run_before old mid now (c.read_run.ensures.quiet h)
+    (c.read_run-2.ensures.quiet one) c.args.source c.args.first c.read_run-2.new.out
+    (c.in_ok-read_run-2.ensures.bytes one))
     same (c.in_ok-write_changes.ensures.written (c.read_run-2.ensures.honest one) held)

@@ -14,8 +14,12 @@ returns-in_err-copy_run-clause-under_way g c h =
     let place = c.loop-place.place in
     let n = c.min-sectors.result in
     let fits : place + n ≤ c.args.end = search rules in
-    going_trans (copies (Copy c.args.source c.args.target c.args.first c.args.end)) (λ q j. old.seen c.args.source j) (copies (Copy c.args.source c.args.target place (place + n))) (λ q j. mid.seen c.args.source j)
-    (run_told c.args.source c.args.target c.args.first c.args.end place n inv.low old mid (inv.seen h) fits)
+    going_trans (copies (Copy c.args.source c.args.target c.args.first c.args.end))
+    (λ q j. old.seen c.args.source j)
+    (copies (Copy c.args.source c.args.target place (place + n)))
+    (λ q j. mid.seen c.args.source j)
+    (run_told c.args.source c.args.target c.args.first c.args.end place n inv.low old mid
+    (inv.seen h) fits)
     old mid (view c.copy_run.new.shelf) (inv.going h) (c.copy_run.ensures.under_way (inv.honest h))
 
 pub loop-place-preserved : goal.loop-place-preserved
@@ -34,9 +38,16 @@ loop-place-preserved g c =
       honest = λ h. c.copy_run.ensures.honest (inv.honest h);
       size = c.copy_run.ensures.size ∙ inv.size;
       going = λ h.
-          going_trans (copies (Copy c.args.source c.args.target c.args.first c.args.end)) (λ q j. old.seen c.args.source j) (copies (Copy c.args.source c.args.target place (place + n))) (λ q j. mid.seen c.args.source j)
-          (run_told c.args.source c.args.target c.args.first c.args.end place n inv.low old mid (inv.seen h) fits)
-          old mid (view c.copy_run.new.shelf) (inv.going h) (c.copy_run.ensures.under_way (inv.honest h));
+          going_trans (copies (Copy c.args.source c.args.target c.args.first c.args.end))
+          (λ q j. old.seen c.args.source j)
+          (copies (Copy c.args.source c.args.target place (place + n)))
+          (λ q j. mid.seen c.args.source j)
+          (run_told c.args.source c.args.target c.args.first c.args.end place n inv.low old mid
+          (inv.seen h) fits)
+          old mid (view c.copy_run.new.shelf) (inv.going h)
+          (c.copy_run.ensures.under_way (inv.honest h));
       seen = λ h.
-          run_seen c.args.source c.args.target c.args.first c.args.end place n inv.low old mid (inv.seen h) (view c.copy_run.new.shelf).seen (c.in_ok-copy_run.ensures.done (inv.honest h));
+          run_seen c.args.source c.args.target c.args.first c.args.end place n inv.low old mid
+          (inv.seen h) (view c.copy_run.new.shelf).seen
+          (c.in_ok-copy_run.ensures.done (inv.honest h));
     }

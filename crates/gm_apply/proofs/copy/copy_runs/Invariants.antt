@@ -15,8 +15,13 @@ invariant-loop-place g l =
       count : old.faults ≤ (H.view l.shelf).faults;
       honest : H.honest l.fn.shelf → H.honest l.shelf;
       size : H.size l.shelf ≡ H.size l.fn.shelf;
-      going : H.honest l.fn.shelf → IsUnderWay (copies (Copy l.source l.target l.first l.end)) (λ q j. old.seen l.source j) old (H.view l.shelf);
-      seen : H.honest l.fn.shelf → Same (H.view l.shelf).seen (with_places (copies (Copy l.source l.target l.first l.place)) (λ q j. old.seen l.source j) old.seen);
+      going : H.honest l.fn.shelf
+          → IsUnderWay (copies (Copy l.source l.target l.first l.end))
+          (λ q j. old.seen l.source j) old (H.view l.shelf);
+      seen : H.honest l.fn.shelf
+          → Same (H.view l.shelf).seen
+          (with_places (copies (Copy l.source l.target l.first l.place))
+          (λ q j. old.seen l.source j) old.seen);
     }
 
 abbrev pub decreases-loop-place : goal.decreases-loop-place

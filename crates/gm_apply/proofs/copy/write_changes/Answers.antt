@@ -10,29 +10,37 @@ pub returns-in_err-write_stretch-clause-law : goal.returns-in_err-write_stretch-
 returns-in_err-write_stretch-clause-law g c h =
     let view = g.H.Shelf.view in
     let inv = c.loop-index.invariant in
-    stretch_law c.args.target c.args.first c.args.run.now c.loop-index.from (c.loop-index.index - c.loop-index.from) (omega (arith, inv.behind))
-    (view c.args.shelf.now) (view c.loop-index.shelf) (view c.write_stretch.new.shelf) (inv.law h) (c.write_stretch.ensures.law (inv.honest h))
+    stretch_law c.args.target c.args.first c.args.run.now c.loop-index.from
+    (c.loop-index.index - c.loop-index.from) (omega (arith, inv.behind))
+    (view c.args.shelf.now) (view c.loop-index.shelf) (view c.write_stretch.new.shelf) (inv.law h)
+    (c.write_stretch.ensures.law (inv.honest h))
 
 pub returns-in_err-write_stretch-2-clause-law : goal.returns-in_err-write_stretch-2-clause-law
 returns-in_err-write_stretch-2-clause-law g c h =
     let view = g.H.Shelf.view in
     let inv = c.loop-index.invariant in
-    stretch_law c.args.target c.args.first c.args.run.now c.loop-index.from (length c.args.run.now - c.loop-index.from) (omega (arith, inv.behind))
-    (view c.args.shelf.now) (view c.loop-index.shelf) (view c.write_stretch-2.new.shelf) (inv.law h) (c.write_stretch-2.ensures.law (inv.honest h))
+    stretch_law c.args.target c.args.first c.args.run.now c.loop-index.from
+    (length c.args.run.now - c.loop-index.from) (omega (arith, inv.behind))
+    (view c.args.shelf.now) (view c.loop-index.shelf) (view c.write_stretch-2.new.shelf) (inv.law h)
+    (c.write_stretch-2.ensures.law (inv.honest h))
 
 pub returns-clause-law : goal.returns-clause-law
 returns-clause-law g c h =
     let view = g.H.Shelf.view in
     let inv = c.loop-index.invariant in
-    stretch_law c.args.target c.args.first c.args.run.now c.loop-index.from (length c.args.run.now - c.loop-index.from) (omega (arith, inv.behind))
-    (view c.args.shelf.now) (view c.loop-index.shelf) (view c.write_stretch-2.new.shelf) (inv.law h) (c.write_stretch-2.ensures.law (inv.honest h))
+    stretch_law c.args.target c.args.first c.args.run.now c.loop-index.from
+    (length c.args.run.now - c.loop-index.from) (omega (arith, inv.behind))
+    (view c.args.shelf.now) (view c.loop-index.shelf) (view c.write_stretch-2.new.shelf) (inv.law h)
+    (c.write_stretch-2.ensures.law (inv.honest h))
 
 pub returns-clause-written : goal.returns-clause-written
 returns-clause-written g c h held =
     let view = g.H.Shelf.view in
     let inv = c.loop-index.invariant in
     rest_seen c.args.target c.args.first c.args.run.now c.loop-index.from
-    (view c.args.shelf.now).seen (view c.loop-index.shelf).seen (view c.write_stretch-2.new.shelf).seen (omega (arith, inv.behind)) (inv.seen h held) (c.in_ok-write_stretch-2.ensures.written (inv.honest h))
+    (view c.args.shelf.now).seen (view c.loop-index.shelf).seen
+    (view c.write_stretch-2.new.shelf).seen (omega (arith, inv.behind)) (inv.seen h held)
+    (c.in_ok-write_stretch-2.ensures.written (inv.honest h))
 
 pub loop-index-preserved : goal.loop-index-preserved
 loop-index-preserved g c =
@@ -41,19 +49,28 @@ loop-index-preserved g c =
     let old = view c.args.shelf.now in
     elim c.if-same.branch [
       | then-same+in_ok-write_stretch w ↦
-          let whole : c.loop-index.from + (c.loop-index.index - c.loop-index.from) ≡ c.loop-index.index = omega (arith, inv.behind) in
-          let equal : sector_of c.args.held.now c.loop-index.index ≡ sector_of c.args.run.now c.loop-index.index = search rules in
+          let whole : c.loop-index.from + (c.loop-index.index - c.loop-index.from)
+          ≡ c.loop-index.index = omega (arith, inv.behind) in
+          let equal : sector_of c.args.held.now c.loop-index.index
+          ≡ sector_of c.args.run.now c.loop-index.index = search rules in
           rw (w.shelf-is, w.from-is) (record {
             behind = omega arith;
             count = omega (arith, inv.count, w.write_stretch.ensures.count);
             honest = λ h. w.write_stretch.ensures.honest (inv.honest h);
             size = w.write_stretch.ensures.size ∙ inv.size;
-            law = λ h. stretch_law c.args.target c.args.first c.args.run.now c.loop-index.from (c.loop-index.index - c.loop-index.from) (omega (arith, inv.behind))
-                old (view c.loop-index.shelf) (view w.write_stretch.new.shelf) (inv.law h) (w.write_stretch.ensures.law (inv.honest h));
-            seen = λ h held. put_same c.args.target c.args.first c.args.run.now old.seen (view w.write_stretch.new.shelf).seen c.loop-index.index (sym equal ∙ held c.loop-index.index (omega (arith, c.requires.lengths)))
-                (subst (λ (n : ℕ). Same (view w.write_stretch.new.shelf).seen (put_upto c.args.target c.args.first c.args.run.now n old.seen)) whole
-                (stretch_seen c.args.target c.args.first c.args.run.now c.loop-index.from (c.loop-index.index - c.loop-index.from) (omega (arith, inv.behind))
-                old.seen (view c.loop-index.shelf).seen (view w.write_stretch.new.shelf).seen (inv.seen h held) (w.in_ok-write_stretch.ensures.written (inv.honest h))));
+            law = λ h. stretch_law c.args.target c.args.first c.args.run.now c.loop-index.from
+                (c.loop-index.index - c.loop-index.from) (omega (arith, inv.behind))
+                old (view c.loop-index.shelf) (view w.write_stretch.new.shelf) (inv.law h)
+                (w.write_stretch.ensures.law (inv.honest h));
+            seen = λ h held. put_same c.args.target c.args.first c.args.run.now old.seen
+                (view w.write_stretch.new.shelf).seen c.loop-index.index
+                (sym equal ∙ held c.loop-index.index (omega (arith, c.requires.lengths)))
+                (subst (λ (n : ℕ). Same (view w.write_stretch.new.shelf).seen
+                (put_upto c.args.target c.args.first c.args.run.now n old.seen)) whole
+                (stretch_seen c.args.target c.args.first c.args.run.now c.loop-index.from
+                (c.loop-index.index - c.loop-index.from) (omega (arith, inv.behind))
+                old.seen (view c.loop-index.shelf).seen (view w.write_stretch.new.shelf).seen
+                (inv.seen h held) (w.in_ok-write_stretch.ensures.written (inv.honest h))));
           })
       | else-same w ↦ rw (w.shelf-is, w.from-is) (record {
         behind = omega (arith, inv.behind);

@@ -14,5 +14,6 @@ invariant-loop-index g l =
       honest : H.honest l.fn.shelf → H.honest l.shelf;
       size : H.size l.shelf ≡ H.size l.fn.shelf;
       law : H.honest l.fn.shelf → IsRunWrite l.target l.first l.run old (H.view l.shelf);
-      seen : H.honest l.fn.shelf → IsRun l.target l.first old.seen l.held → Same (H.view l.shelf).seen (put_upto l.target l.first l.run l.from old.seen);
+      seen : H.honest l.fn.shelf → IsRun l.target l.first old.seen l.held
+          → Same (H.view l.shelf).seen (put_upto l.target l.first l.run l.from old.seen);
     }

@@ -14,7 +14,8 @@ returns-then-equal-sectors-clause-equal g c h =
     let sectors = c.min-sectors.result in
     let equal = c.in_ok-equal.equal in
     part_counted old source provider place sectors equal (inv.equal h)
-    (same_part old mid source provider place sectors equal (inv.reads h).quiet.seen (c.in_ok-equal.ensures.equal (inv.honest h)))
+    (same_part old mid source provider place sectors equal (inv.reads h).quiet.seen
+    (c.in_ok-equal.ensures.equal (inv.honest h)))
     c.args.reach c.if-equal-sectors.true
 
 pub loop-place-preserved : goal.loop-place-preserved
@@ -27,7 +28,11 @@ loop-place-preserved g c =
     let place = c.loop-place.place in
     let sectors = c.min-sectors.result in
     let equal = c.in_ok-equal.equal in
-    let whole : equal ≡ sectors = omega (arith, c.in_ok-equal.ensures.within, c.if-equal-sectors.false) in
+    let whole : equal ≡ sectors = omega (
+      arith,
+      c.in_ok-equal.ensures.within,
+      c.if-equal-sectors.false,
+    ) in
     record {
       within = omega arith;
       count = omega (arith, inv.count, c.compare_run.ensures.count);
@@ -37,11 +42,13 @@ loop-place-preserved g c =
       equal = λ h.
           subst (λ (n : ℕ). AreEqualBelow old source provider (place + n)) whole
           (equal_part old source provider place sectors equal (inv.equal h)
-          (same_part old mid source provider place sectors equal (inv.reads h).quiet.seen (c.in_ok-equal.ensures.equal (inv.honest h))));
+          (same_part old mid source provider place sectors equal (inv.reads h).quiet.seen
+          (c.in_ok-equal.ensures.equal (inv.honest h))));
     }
 
 pub returns-clause-equal : goal.returns-clause-equal
 returns-clause-equal g c h =
     let inv = c.loop-place.invariant in
-    counted (g.H.Shelf.view c.args.shelf.now).seen c.args.source c.args.provider c.args.reach c.loop-place.place (inv.equal h)
+    counted (g.H.Shelf.view c.args.shelf.now).seen c.args.source c.args.provider c.args.reach
+    c.loop-place.place (inv.equal h)
     (λ few. absurd (omega (arith, few, c.loop-place-test.false)))

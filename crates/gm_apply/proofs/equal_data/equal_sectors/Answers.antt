@@ -11,5 +11,7 @@ returns-then-eq-clause-equal g c h =
     let source = c.args.source in
     let provider = c.args.provider in
     let reach : ℕ = reach_of size source provider c.args.limit in
-    let same : provider ≡ source = (bytes_eq-Decides provider source).0 (sym c.eq.ensures ∙ c.if-eq.true) in
-    subst (λ (n : ℕ). CountsEqual seen source provider reach n) (sym c.reach_of-reach.ensures) (itself_counted seen source provider reach same)
+    let same : provider ≡ source =
+    (bytes_eq-Decides provider source).0 (sym c.eq.ensures ∙ c.if-eq.true) in
+    subst (λ (n : ℕ). CountsEqual seen source provider reach n) (sym c.reach_of-reach.ensures)
+    (itself_counted seen source provider reach same)

@@ -19,16 +19,39 @@ loop-intent-preserved g c =
       sizes = c.apply_one.ensures.size ∙ inv.sizes;
       redone = λ h w redo.
           let so_far = inv.redone h w redo in
-          index_redone c.args.state.now (size c.loop-intent.shelf) (size c.args.shelf.now) inv.sizes c.args.intents.now c.loop-intent.intent-index c.intent-item.result c.intent-item.is w (view c.args.shelf.now) (view c.loop-intent.shelf) (view c.apply_one.new.shelf) (omega arith) so_far
-          (c.in_ok-apply_one.ensures.done (inv.honest h) w (index_says c.args.state.now (size c.loop-intent.shelf) (size c.args.shelf.now) inv.sizes c.args.intents.now c.loop-intent.intent-index c.intent-item.result c.intent-item.is w (view c.args.shelf.now) (view c.loop-intent.shelf) (view c.apply_one.new.shelf) (omega arith) so_far redo));
+          index_redone c.args.state.now (size c.loop-intent.shelf)
+          (size c.args.shelf.now) inv.sizes c.args.intents.now c.loop-intent.intent-index
+          c.intent-item.result c.intent-item.is w (view c.args.shelf.now)
+          (view c.loop-intent.shelf) (view c.apply_one.new.shelf) (omega arith) so_far
+          (c.in_ok-apply_one.ensures.done (inv.honest h) w
+          (index_says c.args.state.now (size c.loop-intent.shelf)
+          (size c.args.shelf.now) inv.sizes c.args.intents.now c.loop-intent.intent-index
+          c.intent-item.result c.intent-item.is w (view c.args.shelf.now)
+          (view c.loop-intent.shelf) (view c.apply_one.new.shelf) (omega arith) so_far redo));
       moments = λ h w redo.
           let so_far = inv.redone h w redo in
-          index_moments c.args.state.now (size c.loop-intent.shelf) (size c.args.shelf.now) inv.sizes c.args.intents.now c.loop-intent.intent-index c.intent-item.result c.intent-item.is w (view c.args.shelf.now) (view c.loop-intent.shelf) (view c.apply_one.new.shelf) (omega arith) so_far (inv.moments h w redo)
-          (c.apply_one.ensures.moments (inv.honest h) w (index_says c.args.state.now (size c.loop-intent.shelf) (size c.args.shelf.now) inv.sizes c.args.intents.now c.loop-intent.intent-index c.intent-item.result c.intent-item.is w (view c.args.shelf.now) (view c.loop-intent.shelf) (view c.apply_one.new.shelf) (omega arith) so_far redo));
-      others = λ h. keeps_trans (is_written c.args.state.now (size c.args.shelf.now) c.args.intents.now) (view c.args.shelf.now) (view c.loop-intent.shelf) (view c.apply_one.new.shelf) (inv.others h)
-          (keeps_within (writes c.args.state.now (size c.args.shelf.now) c.intent-item.result) (is_written c.args.state.now (size c.args.shelf.now) c.args.intents.now) (view c.loop-intent.shelf) (view c.apply_one.new.shelf)
-          (written_by c.args.state.now (size c.args.shelf.now) c.args.intents.now c.intent-item.result (has_index c.args.intents.now c.loop-intent.intent-index c.intent-item.result c.intent-item.is (omega arith)))
-          (subst (λ (z : Sizes). KeepsOthers (writes c.args.state.now z c.intent-item.result) (view c.loop-intent.shelf) (view c.apply_one.new.shelf)) inv.sizes (c.apply_one.ensures.others (inv.honest h))));
+          index_moments c.args.state.now (size c.loop-intent.shelf)
+          (size c.args.shelf.now) inv.sizes c.args.intents.now c.loop-intent.intent-index
+          c.intent-item.result c.intent-item.is w (view c.args.shelf.now)
+          (view c.loop-intent.shelf) (view c.apply_one.new.shelf) (omega arith) so_far
+          (inv.moments h w redo)
+          (c.apply_one.ensures.moments (inv.honest h) w
+          (index_says c.args.state.now (size c.loop-intent.shelf)
+          (size c.args.shelf.now) inv.sizes c.args.intents.now c.loop-intent.intent-index
+          c.intent-item.result c.intent-item.is w (view c.args.shelf.now)
+          (view c.loop-intent.shelf) (view c.apply_one.new.shelf) (omega arith) so_far redo));
+      others = λ h. keeps_trans (is_written c.args.state.now
+          (size c.args.shelf.now) c.args.intents.now) (view c.args.shelf.now)
+          (view c.loop-intent.shelf) (view c.apply_one.new.shelf) (inv.others h)
+          (keeps_within (writes c.args.state.now (size c.args.shelf.now) c.intent-item.result)
+          (is_written c.args.state.now (size c.args.shelf.now) c.args.intents.now)
+          (view c.loop-intent.shelf) (view c.apply_one.new.shelf)
+          (written_by c.args.state.now (size c.args.shelf.now) c.args.intents.now
+          c.intent-item.result (has_index c.args.intents.now c.loop-intent.intent-index
+          c.intent-item.result c.intent-item.is (omega arith)))
+          (subst (λ (z : Sizes). KeepsOthers (writes c.args.state.now z c.intent-item.result)
+          (view c.loop-intent.shelf) (view c.apply_one.new.shelf)) inv.sizes
+          (c.apply_one.ensures.others (inv.honest h))));
     }
 
 pub returns-in_err-apply_one-clause-moments : goal.returns-in_err-apply_one-clause-moments
@@ -37,28 +60,42 @@ returns-in_err-apply_one-clause-moments g c h w redo =
     let view = g.H.Shelf.view in
     let size = g.H.Shelf.size in
     let so_far = inv.redone h w redo in
-    index_moments c.args.state.now (size c.loop-intent.shelf) (size c.args.shelf.now) inv.sizes c.args.intents.now c.loop-intent.intent-index c.intent-item.result c.intent-item.is w (view c.args.shelf.now) (view c.loop-intent.shelf) (view c.apply_one.new.shelf) (omega arith) so_far (inv.moments h w redo)
-    (c.apply_one.ensures.moments (inv.honest h) w (index_says c.args.state.now (size c.loop-intent.shelf) (size c.args.shelf.now) inv.sizes c.args.intents.now c.loop-intent.intent-index c.intent-item.result c.intent-item.is w (view c.args.shelf.now) (view c.loop-intent.shelf) (view c.apply_one.new.shelf) (omega arith) so_far redo))
+    index_moments c.args.state.now (size c.loop-intent.shelf)
+    (size c.args.shelf.now) inv.sizes c.args.intents.now c.loop-intent.intent-index
+    c.intent-item.result c.intent-item.is w (view c.args.shelf.now) (view c.loop-intent.shelf)
+    (view c.apply_one.new.shelf) (omega arith) so_far (inv.moments h w redo)
+    (c.apply_one.ensures.moments (inv.honest h) w
+    (index_says c.args.state.now (size c.loop-intent.shelf)
+    (size c.args.shelf.now) inv.sizes c.args.intents.now c.loop-intent.intent-index
+    c.intent-item.result c.intent-item.is w (view c.args.shelf.now) (view c.loop-intent.shelf)
+    (view c.apply_one.new.shelf) (omega arith) so_far redo))
 
 pub returns-clause-done : goal.returns-clause-done
 returns-clause-done g c h w redo =
     let inv = c.loop-intent.invariant in
     let view = g.H.Shelf.view in
-    subst (λ (l : List Intent). PlacesAreNew (is_place (g.H.Shelf.size c.args.shelf.now) l) w (view c.args.shelf.now) (view c.loop-intent.shelf)) (take_all c.loop-intent.intent-index c.args.intents.now (omega arith)) (inv.redone h w redo)
+    subst (λ (l : List Intent). PlacesAreNew (is_place (g.H.Shelf.size c.args.shelf.now) l) w
+    (view c.args.shelf.now) (view c.loop-intent.shelf))
+    (take_all c.loop-intent.intent-index c.args.intents.now (omega arith)) (inv.redone h w redo)
 
 pub returns-in_err-apply_one-clause-absent : goal.returns-in_err-apply_one-clause-absent
 returns-in_err-apply_one-clause-absent g c e =
-    let here : LacksProvider (g.H.Shelf.size c.loop-intent.shelf) c.intent-item.result = search rules in (
+    let here : LacksProvider (g.H.Shelf.size c.loop-intent.shelf) c.intent-item.result =
+    search rules in (
       c.intent-item.result,
-      has_index c.args.intents.now c.loop-intent.intent-index c.intent-item.result c.intent-item.is (omega arith),
-      subst (λ (z : Sizes). LacksProvider z c.intent-item.result) c.loop-intent.invariant.sizes here,
+      has_index c.args.intents.now c.loop-intent.intent-index c.intent-item.result c.intent-item.is
+          (omega arith),
+      subst (λ (z : Sizes). LacksProvider z c.intent-item.result) c.loop-intent.invariant.sizes
+          here,
     )
 
 pub returns-in_err-apply_one-clause-range : goal.returns-in_err-apply_one-clause-range
 returns-in_err-apply_one-clause-range g c e =
-    let here : LacksSector (g.H.Shelf.size c.loop-intent.shelf) c.intent-item.result = search rules in (
+    let here : LacksSector (g.H.Shelf.size c.loop-intent.shelf) c.intent-item.result =
+    search rules in (
       c.intent-item.result,
-      has_index c.args.intents.now c.loop-intent.intent-index c.intent-item.result c.intent-item.is (omega arith),
+      has_index c.args.intents.now c.loop-intent.intent-index c.intent-item.result c.intent-item.is
+          (omega arith),
       subst (λ (z : Sizes). LacksSector z c.intent-item.result) c.loop-intent.invariant.sizes here,
     )
 
@@ -67,7 +104,15 @@ returns-in_err-apply_one-clause-others g c h =
     let inv = c.loop-intent.invariant in
     let view = g.H.Shelf.view in
     let size = g.H.Shelf.size in
-    keeps_trans (is_written c.args.state.now (size c.args.shelf.now) c.args.intents.now) (view c.args.shelf.now) (view c.loop-intent.shelf) (view c.apply_one.new.shelf) (inv.others h)
-    (keeps_within (writes c.args.state.now (size c.args.shelf.now) c.intent-item.result) (is_written c.args.state.now (size c.args.shelf.now) c.args.intents.now) (view c.loop-intent.shelf) (view c.apply_one.new.shelf)
-    (written_by c.args.state.now (size c.args.shelf.now) c.args.intents.now c.intent-item.result (has_index c.args.intents.now c.loop-intent.intent-index c.intent-item.result c.intent-item.is (omega arith)))
-    (subst (λ (z : Sizes). KeepsOthers (writes c.args.state.now z c.intent-item.result) (view c.loop-intent.shelf) (view c.apply_one.new.shelf)) inv.sizes (c.apply_one.ensures.others (inv.honest h))))
+    keeps_trans (is_written c.args.state.now (size c.args.shelf.now) c.args.intents.now)
+    (view c.args.shelf.now) (view c.loop-intent.shelf) (view c.apply_one.new.shelf)
+    (inv.others h)
+    (keeps_within (writes c.args.state.now (size c.args.shelf.now) c.intent-item.result)
+    (is_written c.args.state.now (size c.args.shelf.now) c.args.intents.now)
+    (view c.loop-intent.shelf) (view c.apply_one.new.shelf)
+    (written_by c.args.state.now (size c.args.shelf.now) c.args.intents.now c.intent-item.result
+    (has_index c.args.intents.now c.loop-intent.intent-index c.intent-item.result
+    c.intent-item.is (omega arith)))
+    (subst (λ (z : Sizes). KeepsOthers (writes c.args.state.now z c.intent-item.result)
+    (view c.loop-intent.shelf) (view c.apply_one.new.shelf)) inv.sizes
+    (c.apply_one.ensures.others (inv.honest h))))

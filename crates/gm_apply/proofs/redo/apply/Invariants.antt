@@ -14,7 +14,11 @@ invariant-loop-intent g l =
       count : old.faults ≤ (H.view l.shelf).faults;
       honest : H.honest l.fn.shelf → H.honest l.shelf;
       sizes : H.size l.shelf ≡ H.size l.fn.shelf;
-      redone : H.honest l.fn.shelf → (w : Image) → IsRedo l.fn.state size l.intents old.seen w → PlacesAreNew (is_place size (take l.intent-index l.intents)) w old (H.view l.shelf);
-      moments : H.honest l.fn.shelf → (w : Image) → IsRedo l.fn.state size l.intents old.seen w → CrashLeaves old (H.view l.shelf) (λ x. From old.may_leave (λ d. IsPartlyDone size l.intents w d x));
-      others : H.honest l.fn.shelf → KeepsOthers (is_written l.fn.state size l.intents) old (H.view l.shelf);
+      redone : H.honest l.fn.shelf → (w : Image) → IsRedo l.fn.state size l.intents old.seen w
+          → PlacesAreNew (is_place size (take l.intent-index l.intents)) w old (H.view l.shelf);
+      moments : H.honest l.fn.shelf → (w : Image) → IsRedo l.fn.state size l.intents old.seen w
+          → CrashLeaves old (H.view l.shelf)
+          (λ x. From old.may_leave (λ d. IsPartlyDone size l.intents w d x));
+      others : H.honest l.fn.shelf
+          → KeepsOthers (is_written l.fn.state size l.intents) old (H.view l.shelf);
     }

@@ -14,8 +14,10 @@ loop-component-preserved-then-branch g c =
     let i = c.loop-component.component-index in
     let k = c.component-item.result in
     let all = c.components-component-items.ensures in
-    let low : i < length s.components = subst (λ (l : List Component). i < length l) all.value c.loop-component-test.true in
-    let is : k ≡ get_or s.components i k = c.component-item.is ∙ ap (λ (l : List Component). get_or l i k) all.value in
+    let low : i < length s.components =
+    subst (λ (l : List Component). i < length l) all.value c.loop-component-test.true in
+    let is : k ≡ get_or s.components i k =
+    c.component-item.is ∙ ap (λ (l : List Component). get_or l i k) all.value in
     let home = home_of s all.state k (has_item s.components i k low is) in
     record {
       honest = λ h. c.is_as_registered.ensures.honest (inv.honest h);
@@ -24,8 +26,11 @@ loop-component-preserved-then-branch g c =
       reads = λ h. reads_then _ _ _ (inv.reads h) (c.is_as_registered.ensures.reads (inv.honest h));
       listed = λ h.
           let told = c.in_ok-is_as_registered.ensures.told (inv.honest h) all.state home.0 home.1 in
-          let same = as_before size (g.H.Shelf.size c.loop-component.shelf) seen (g.H.Shelf.view c.loop-component.shelf).seen home.0 k inv.sizes (inv.reads h).quiet.seen in
-          passed s all.state size seen i k low is c.loop-component.names.items (inv.listed h) home.0 home.1 (same.0 (told.0 c.if-branch.true));
+          let same = as_before size (g.H.Shelf.size c.loop-component.shelf) seen
+          (g.H.Shelf.view c.loop-component.shelf).seen home.0 k inv.sizes
+          (inv.reads h).quiet.seen in
+          passed s all.state size seen i k low is c.loop-component.names.items
+          (inv.listed h) home.0 home.1 (same.0 (told.0 c.if-branch.true));
     }
 
 pub loop-component-preserved : goal.loop-component-preserved
@@ -37,8 +42,10 @@ loop-component-preserved g c =
     let i = c.loop-component.component-index in
     let k = c.component-item.result in
     let all = c.components-component-items.ensures in
-    let low : i < length s.components = subst (λ (l : List Component). i < length l) all.value c.loop-component-test.true in
-    let is : k ≡ get_or s.components i k = c.component-item.is ∙ ap (λ (l : List Component). get_or l i k) all.value in
+    let low : i < length s.components =
+    subst (λ (l : List Component). i < length l) all.value c.loop-component-test.true in
+    let is : k ≡ get_or s.components i k =
+    c.component-item.is ∙ ap (λ (l : List Component). get_or l i k) all.value in
     let home = home_of s all.state k (has_item s.components i k low is) in
     record {
       honest = λ h. c.is_as_registered.ensures.honest (inv.honest h);
@@ -47,14 +54,24 @@ loop-component-preserved g c =
       reads = λ h. reads_then _ _ _ (inv.reads h) (c.is_as_registered.ensures.reads (inv.honest h));
       listed = λ h.
           let told = c.in_ok-is_as_registered.ensures.told (inv.honest h) all.state home.0 home.1 in
-          let same = as_before size (g.H.Shelf.size c.loop-component.shelf) seen (g.H.Shelf.view c.loop-component.shelf).seen home.0 k inv.sizes (inv.reads h).quiet.seen in
-          let amiss : IsAsRegistered size seen home.0 k → ⊥ = λ a. (let both : true ≡ false = sym (told.1 (same.1 a)) ∙ c.if-branch.false in cc) in
-          subst (λ names. SoFar s size seen (take (i + 1) s.components) names) (sym c.in-Ok.ensures.items)
-          (listed s all.state size seen i k low is c.loop-component.names.items (inv.listed h) home.0 home.1 amiss);
+          let same = as_before size (g.H.Shelf.size c.loop-component.shelf) seen
+          (g.H.Shelf.view c.loop-component.shelf).seen home.0 k inv.sizes
+          (inv.reads h).quiet.seen in
+          let amiss : IsAsRegistered size seen home.0 k
+          → ⊥ = λ a. (let both : true ≡ false = sym (told.1 (same.1 a)) ∙ c.if-branch.false in
+          cc) in
+          subst (λ names. SoFar s size seen (take (i + 1) s.components) names)
+          (sym c.in-Ok.ensures.items)
+          (listed s all.state size seen i k low is c.loop-component.names.items
+          (inv.listed h) home.0 home.1 amiss);
     }
 
 pub returns-clause-audit : goal.returns-clause-audit
 returns-clause-audit g c h =
     let s = c.args.state.now in
-    let high : length s.components ≤ c.loop-component.component-index = subst (λ (l : List Component). length l ≤ c.loop-component.component-index) c.components-component-items.ensures.value c.loop-component-test.false in
-    all_looked_at s (g.H.Shelf.size c.args.shelf.now) (g.H.Shelf.view c.args.shelf.now).seen c.loop-component.component-index c.loop-component.names.items high (c.loop-component.invariant.listed h)
+    let high : length s.components ≤ c.loop-component.component-index =
+    subst (λ (l : List Component). length l ≤ c.loop-component.component-index)
+    c.components-component-items.ensures.value c.loop-component-test.false in
+    all_looked_at s (g.H.Shelf.size c.args.shelf.now) (g.H.Shelf.view c.args.shelf.now).seen
+    c.loop-component.component-index c.loop-component.names.items high
+    (c.loop-component.invariant.listed h)

@@ -12,5 +12,7 @@ invariant-loop-component g l =
       sizes : H.size l.shelf ≡ H.size l.fn.shelf;
       count : old.faults ≤ (H.view l.shelf).faults;
       reads : H.honest l.fn.shelf → AreReads old (H.view l.shelf);
-      listed : H.honest l.fn.shelf → SoFar l.fn.state (H.size l.fn.shelf) old.seen (take l.component-index l.fn.state.components) l.names.items;
+      listed : H.honest l.fn.shelf
+          → SoFar l.fn.state (H.size l.fn.shelf) old.seen
+          (take l.component-index l.fn.state.components) l.names.items;
     }

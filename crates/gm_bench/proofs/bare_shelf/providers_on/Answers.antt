@@ -20,7 +20,9 @@ loop-name-preserved g c =
     let names = c.deref-name-items.result.now in
     let i = c.loop-name.name-index in
     let name = c.name-item.result in
-    let are : AreNames size names = subst (λ (l : List (List ℕ)). AreNames size l) (sym c.deref-name-items.ensures.value) c.in-Ok.ensures in
+    let are : AreNames size names =
+    subst (λ (l : List (List ℕ)). AreNames size l) (sym c.deref-name-items.ensures.value)
+    c.in-Ok.ensures in
     record {
       honest = λ h. c.fact_of.ensures.honest (inv.honest h);
       sizes = c.fact_of.ensures.size ∙ inv.sizes;
@@ -28,16 +30,25 @@ loop-name-preserved g c =
       reads = λ h. reads_then _ _ _ (inv.reads h) (c.fact_of.ensures.reads (inv.honest h));
       shown = λ h. elim c.match-branch-2.branch [
         | in-None w ↦
-            let gone : size name ≡ None = subst (λ (z : Sizes). z name ≡ None) inv.sizes (absent_found c.in_ok-fact_of.field-0 mid was None name w.in-None.is (c.in_ok-fact_of.ensures.fact (inv.honest h))) in
+            let gone : size name ≡ None =
+            subst (λ (z : Sizes). z name ≡ None) inv.sizes
+            (absent_found c.in_ok-fact_of.field-0 mid was None name w.in-None.is
+            (c.in_ok-fact_of.ensures.fact (inv.honest h))) in
             absurd (not_absent size seen names are i name c.loop-name-test.true c.name-item.is gone)
         | in-Some+in-Ok-push w ↦
             let f = w.in-Some.fact in
-            let found = fact_found c.in_ok-fact_of.field-0 f mid was None name w.in-Some.is (c.in_ok-fact_of.ensures.fact (inv.honest h)) in
-            let fact : IsFact size seen None f = moved size mid seen was None f inv.sizes (inv.reads h).quiet.seen found.0 in
-            let more : c.match-branch-2.providers.items ≡ c.loop-name.providers.items ++ provider_of f ∷ [] =
-            ap (λ v. v.items) w.providers-is ∙ (w.in-Ok-push.ensures.items ∙ ap (λ (p : Provider). c.loop-name.providers.items ++ p ∷ []) w.provider_of.ensures) in
+            let found = fact_found c.in_ok-fact_of.field-0 f mid was None name w.in-Some.is
+            (c.in_ok-fact_of.ensures.fact (inv.honest h)) in
+            let fact : IsFact size seen None f =
+            moved size mid seen was None f inv.sizes (inv.reads h).quiet.seen found.0 in
+            let more : c.match-branch-2.providers.items ≡ c.loop-name.providers.items
+            ++ provider_of f ∷ [] =
+            ap (λ v. v.items) w.providers-is ∙ (w.in-Ok-push.ensures.items
+            ∙ ap (λ (p : Provider). c.loop-name.providers.items ++ p
+            ∷ []) w.provider_of.ensures) in
             subst (λ (l : List Provider). ShownSoFar size seen (take (i + 1) names) l) (sym more)
-            (shown_more size seen names are i name f c.loop-name.providers.items c.loop-name-test.true c.name-item.is fact found.1 (inv.shown h))
+            (shown_more size seen names are i name f c.loop-name.providers.items
+            c.loop-name-test.true c.name-item.is fact found.1 (inv.shown h))
       ];
     }
 
@@ -45,5 +56,8 @@ pub returns-clause-shown : goal.returns-clause-shown
 returns-clause-shown g c h =
     let size = g.H.Shelf.size c.args.shelf.now in
     let names = c.deref-name-items.result.now in
-    let are : AreNames size names = subst (λ (l : List (List ℕ)). AreNames size l) (sym c.deref-name-items.ensures.value) c.in-Ok.ensures in
-    all_shown size (g.H.Shelf.view c.args.shelf.now).seen names are c.loop-name.name-index c.loop-name.providers.items c.loop-name-test.false (c.loop-name.invariant.shown h)
+    let are : AreNames size names =
+    subst (λ (l : List (List ℕ)). AreNames size l) (sym c.deref-name-items.ensures.value)
+    c.in-Ok.ensures in
+    all_shown size (g.H.Shelf.view c.args.shelf.now).seen names are c.loop-name.name-index
+    c.loop-name.providers.items c.loop-name-test.false (c.loop-name.invariant.shown h)

@@ -12,5 +12,7 @@ invariant-loop-name g l =
       sizes : H.size l.shelf ≡ H.size l.fn.shelf;
       count : old.faults ≤ (H.view l.shelf).faults;
       reads : H.honest l.fn.shelf → AreReads old (H.view l.shelf);
-      shown : H.honest l.fn.shelf → ShownSoFar (H.size l.fn.shelf) old.seen (take l.name-index l.name-items) l.providers.items;
+      shown : H.honest l.fn.shelf
+          → ShownSoFar (H.size l.fn.shelf) old.seen (take l.name-index l.name-items)
+          l.providers.items;
     }

@@ -20,34 +20,55 @@ loop-name-preserved g c =
     let name = c.name-item.result in
     elim c.match-branch-2.branch [
       | in-Some+in-Ok w ↦
-          let more : c.match-branch-2.entries.items ≡ c.loop-name.entries.items ++ w.in-Some.fact ∷ [] = ap (λ v. v.items) w.entries-is ∙ w.in-Ok.ensures.items in
-          let fact : g.H.Shelf.honest c.args.shelf.now → IsFact size seen against w.in-Some.fact × (w.in-Some.fact.provider ≡ name) = λ h. (
-          let it = fact_found c.in_ok-fact_of.field-0 w.in-Some.fact mid was against name w.in-Some.is (c.in_ok-fact_of.ensures.fact (inv.honest h)) in
-          (moved size mid seen was against w.in-Some.fact inv.sizes (inv.reads h).quiet.seen it.0, it.1)) in
+          let more : c.match-branch-2.entries.items ≡ c.loop-name.entries.items ++ w.in-Some.fact
+          ∷ [] = ap (λ v. v.items) w.entries-is ∙ w.in-Ok.ensures.items in
+          let fact : g.H.Shelf.honest c.args.shelf.now
+          → IsFact size seen against w.in-Some.fact × (w.in-Some.fact.provider ≡ name) = λ h. (
+          let it = fact_found c.in_ok-fact_of.field-0 w.in-Some.fact mid was against name
+          w.in-Some.is (c.in_ok-fact_of.ensures.fact (inv.honest h)) in (
+            moved size mid seen was against w.in-Some.fact inv.sizes (inv.reads h).quiet.seen it.0,
+            it.1,
+          )) in
           record {
             honest = λ h. c.fact_of.ensures.honest (inv.honest h);
             sizes = c.fact_of.ensures.size ∙ inv.sizes;
             count = omega (arith, inv.count, c.fact_of.ensures.count);
             reads = λ h. reads_then _ _ _ (inv.reads h) (c.fact_of.ensures.reads (inv.honest h));
-            facts = λ h f has. (elim (has_either c.loop-name.entries.items w.in-Some.fact f (subst (λ (l : List Fact). Has l f) more has)) [
-              | inl old ↦ inv.facts h f old
-              | inr new ↦ subst (IsFact size seen against) new (fact h).0
-            ]);
-            covered = λ h q has. covered_more c.loop-name.entries.items c.match-branch-2.entries.items size c.args.names.now c.loop-name.name-index name (omega arith) c.name-item.is
-                (λ f k. subst (λ (l : List Fact). Has l f) (sym more) (has_left c.loop-name.entries.items w.in-Some.fact f k))
-                (inr (w.in-Some.fact, subst (λ (l : List Fact). Has l w.in-Some.fact) (sym more) (has_last c.loop-name.entries.items w.in-Some.fact), (fact h).1)) (inv.covered h) q has;
+            facts = λ h f has.
+                (elim (has_either c.loop-name.entries.items w.in-Some.fact f
+                (subst (λ (l : List Fact). Has l f) more has)) [
+                  | inl old ↦ inv.facts h f old
+                  | inr new ↦ subst (IsFact size seen against) new (fact h).0
+                ]);
+            covered = λ h q has. covered_more c.loop-name.entries.items
+                c.match-branch-2.entries.items size c.args.names.now c.loop-name.name-index name
+                (omega arith) c.name-item.is
+                (λ f k. subst (λ (l : List Fact). Has l f) (sym more)
+                (has_left c.loop-name.entries.items w.in-Some.fact f k))
+                (inr (
+                  w.in-Some.fact,
+                  subst (λ (l : List Fact). Has l w.in-Some.fact) (sym more)
+                      (has_last c.loop-name.entries.items w.in-Some.fact),
+                  (fact h).1,
+                ))
+                (inv.covered h) q has;
           }
       | in-None w ↦
-          let more : c.match-branch-2.entries.items ≡ c.loop-name.entries.items = ap (λ v. v.items) w.entries-is in
+          let more : c.match-branch-2.entries.items ≡ c.loop-name.entries.items =
+          ap (λ v. v.items) w.entries-is in
           record {
             honest = λ h. c.fact_of.ensures.honest (inv.honest h);
             sizes = c.fact_of.ensures.size ∙ inv.sizes;
             count = omega (arith, inv.count, c.fact_of.ensures.count);
             reads = λ h. reads_then _ _ _ (inv.reads h) (c.fact_of.ensures.reads (inv.honest h));
             facts = λ h f has. inv.facts h f (subst (λ (l : List Fact). Has l f) more has);
-            covered = λ h q has. covered_more c.loop-name.entries.items c.match-branch-2.entries.items size c.args.names.now c.loop-name.name-index name (omega arith) c.name-item.is
+            covered = λ h q has. covered_more c.loop-name.entries.items
+                c.match-branch-2.entries.items size c.args.names.now c.loop-name.name-index name
+                (omega arith) c.name-item.is
                 (λ f k. subst (λ (l : List Fact). Has l f) (sym more) k)
-                (inl (subst (λ (z : Sizes). z name ≡ None) inv.sizes (absent_found c.in_ok-fact_of.field-0 mid was against name w.in-None.is (c.in_ok-fact_of.ensures.fact (inv.honest h))))) (inv.covered h) q has;
+                (inl (subst (λ (z : Sizes). z name ≡ None) inv.sizes
+                (absent_found c.in_ok-fact_of.field-0 mid was against name w.in-None.is
+                (c.in_ok-fact_of.ensures.fact (inv.honest h))))) (inv.covered h) q has;
           }
     ]
 
@@ -57,6 +78,8 @@ returns-clause-tell g c h q has =
     let size = g.H.Shelf.size c.args.shelf.now in
     let against = c.args.against.now in
     let seen = (g.H.Shelf.view c.args.shelf.now).seen in
-    let all : take c.loop-name.name-index c.args.names.now ≡ c.args.names.now = take_all c.loop-name.name-index c.args.names.now (omega arith) in
+    let all : take c.loop-name.name-index c.args.names.now ≡ c.args.names.now =
+    take_all c.loop-name.name-index c.args.names.now (omega arith) in
     let covered = inv.covered h q (subst (λ (l : List (List ℕ)). Has l q) (sym all) has) in
-    subst (λ (l : List Fact). Tell l size seen against q) (sym c.new.ensures) (tell c.loop-name.entries.items size seen against q (inv.facts h) covered)
+    subst (λ (l : List Fact). Tell l size seen against q) (sym c.new.ensures)
+    (tell c.loop-name.entries.items size seen against q (inv.facts h) covered)

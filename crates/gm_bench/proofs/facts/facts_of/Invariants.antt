@@ -15,6 +15,8 @@ invariant-loop-name g l =
       sizes : H.size l.shelf ≡ H.size l.fn.shelf;
       count : old.faults ≤ (H.view l.shelf).faults;
       reads : H.honest l.fn.shelf → AreReads old (H.view l.shelf);
-      facts : H.honest l.fn.shelf → (f : Fact) → Has l.entries.items f → IsFact (H.size l.fn.shelf) old.seen l.against f;
-      covered : H.honest l.fn.shelf → (q : List ℕ) → Has (take l.name-index l.names) q → IsCovered l.entries.items (H.size l.fn.shelf) q;
+      facts : H.honest l.fn.shelf → (f : Fact) → Has l.entries.items f
+          → IsFact (H.size l.fn.shelf) old.seen l.against f;
+      covered : H.honest l.fn.shelf → (q : List ℕ) → Has (take l.name-index l.names) q
+          → IsCovered l.entries.items (H.size l.fn.shelf) q;
     }

@@ -10,6 +10,7 @@ adopted-requires-clause-data c =
     let b = c.in-Some.source in
     let from = sym c.adopt_source.ensures ∙ c.in-Some.is in
     let among = found_among x ps b (source_found x ps b from) in
-    let room = more_sectors x b.metadata b.provider ((fitting_source x c.args.name ps c.requires.adoptable b from).room b.provider among) in
+    let room = more_sectors x b.metadata b.provider
+    ((fitting_source x c.args.name ps c.requires.adoptable b from).room b.provider among) in
     let fits : room.0 < 2 ^ 32 = c.requires.sizes b.provider among room.0 room.1 in
     omega (arith, room.2)

@@ -3,7 +3,10 @@ use Rattle.gm_refusals.proofs.NothingApplies.{some_from, fits_32, label_size}
 use Rattle.gm_changes.proofs.decision.change_of.Goals as goal
 
 pub sectors_of-sectors-requires-clause-there : goal.sectors_of-sectors-requires-clause-there
-sectors_of-sectors-requires-clause-there c = some_from _ (label_size c.args.part.now (seen_in c.args.facts.now) _ _ c.in-Label.is c.requires).0
+sectors_of-sectors-requires-clause-there c =
+    some_from _ (label_size c.args.part.now (seen_in c.args.facts.now) _ _ c.in-Label.is
+    c.requires).0
 
 pub sectors_of-sectors-requires-clause-fits : goal.sectors_of-sectors-requires-clause-fits
-sectors_of-sectors-requires-clause-fits c = fits_32 _ (label_size c.args.part.now (seen_in c.args.facts.now) _ _ c.in-Label.is c.requires).1
+sectors_of-sectors-requires-clause-fits c =
+    fits_32 _ (label_size c.args.part.now (seen_in c.args.facts.now) _ _ c.in-Label.is c.requires).1

@@ -6,14 +6,18 @@ use Rattle.gm_changes.proofs.MadeOfPart.{lost_made}
 use Rattle.gm_changes.proofs.lost.lose.Goals as goal
 
 pub unwrap-mirror-requires : goal.unwrap-mirror-requires
-unwrap-mirror-requires c = rw c.mirror.ensures.value (some_from _ (c.requires refusals.NoMirror (inl refl) refl))
+unwrap-mirror-requires c =
+    rw c.mirror.ensures.value (some_from _ (c.requires refusals.NoMirror (inl refl) refl))
 
 pub lost-requires : goal.lost-requires
 lost-requires c =
-    one_more_loss c.args.part.now c.args.name _ c.mirror.ensures.state (sym c.mirror.ensures.value ∙ c.unwrap-mirror.ensures)
+    one_more_loss c.args.part.now c.args.name _ c.mirror.ensures.state
+    (sym c.mirror.ensures.value ∙ c.unwrap-mirror.ensures)
     (c.requires refusals.LastGenid (inr (inr (inr (inr (inl refl))))) refl)
 
 pub returns : goal.returns
 returns c =
-    lost_made c.args.part.now (seen_in c.args.facts.now) c.args.name c.args.providers.now _ _ _ (sym c.mirror.ensures.value ∙ c.unwrap-mirror.ensures)
-    (sym (c.deref.ensures.value ∙ c.in_ok-members.ensures.value)) (rw c.as_slice.ensures.value at c.in_ok-lost.ensures)
+    lost_made c.args.part.now (seen_in c.args.facts.now) c.args.name c.args.providers.now _ _ _
+    (sym c.mirror.ensures.value ∙ c.unwrap-mirror.ensures)
+    (sym (c.deref.ensures.value ∙ c.in_ok-members.ensures.value))
+    (rw c.as_slice.ensures.value at c.in_ok-lost.ensures)

@@ -7,9 +7,11 @@ use Rattle.gm_changes.proofs.rebuild.rebuild.Goals as goal
 
 pub unwrap-component-requires : goal.unwrap-component-requires
 unwrap-component-requires c =
-    rw c.component.ensures.value (member_found c.args.part.now c.args.name c.args.provider (c.requires refusals.NotMember (inr (inr (inl refl))) refl))
+    rw c.component.ensures.value (member_found c.args.part.now c.args.name c.args.provider
+    (c.requires refusals.NotMember (inr (inr (inl refl))) refl))
 
 pub returns : goal.returns
 returns c =
     rebuild_made c.args.part.now (seen_in c.args.facts.now) c.args.name c.args.provider _ _
-    (sym c.component.ensures.value ∙ c.unwrap-component.ensures) (rw c.rebuilt.ensures at c.in_ok-replaced.ensures)
+    (sym c.component.ensures.value ∙ c.unwrap-component.ensures)
+    (rw c.rebuilt.ensures at c.in_ok-replaced.ensures)

@@ -10,8 +10,12 @@ loop-provider-init c = refl
 
 pub loop-provider-preserved : goal.loop-provider-preserved
 loop-provider-preserved c =
-    list_all_more is_label c.args.providers.now c.loop-provider.provider-index c.provider-item.result c.loop-provider-test.true
-    ∙ and_from _ _ c.loop-provider.invariant (ap is_label (sym c.provider-item.is) ∙ c.as_bytes.ensures.label)
+    list_all_more is_label c.args.providers.now c.loop-provider.provider-index
+    c.provider-item.result c.loop-provider-test.true
+    ∙ and_from _ _ c.loop-provider.invariant (ap is_label (sym c.provider-item.is)
+    ∙ c.as_bytes.ensures.label)
 
 pub returns : goal.returns
-returns c = ap (list_all is_label) (sym (take_all c.loop-provider.provider-index c.args.providers.now c.loop-provider-test.false)) ∙ c.loop-provider.invariant
+returns c = ap (list_all is_label)
+    (sym (take_all c.loop-provider.provider-index c.args.providers.now c.loop-provider-test.false))
+    ∙ c.loop-provider.invariant

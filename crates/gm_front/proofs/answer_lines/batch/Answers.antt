@@ -28,12 +28,14 @@ pub returns-then-eq-clause-does : goal.returns-then-eq-clause-does
 returns-then-eq-clause-does g c = λ honest kept away u at.
     let is_end : c.in-Ok.found ≡ End = search rules in
     let so = c.loop.invariant.going.does honest kept away u at in
-    finished g.S.Store g.H.Shelf.view g.H.Shelf.size _ _ _ _ _ _ _ away u _ c.next_line.new.line so (rw is_end at c.in-Ok.ensures.line)
+    finished g.S.Store g.H.Shelf.view g.H.Shelf.size _ _ _ _ _ _ _ away u _ c.next_line.new.line so
+    (rw is_end at c.in-Ok.ensures.line)
 
 pub returns-in_default-request_at-clause-does : goal.returns-in_default-request_at-clause-does
 returns-in_default-request_at-clause-does g c = λ honest kept away u at.
     let so = c.loop.invariant.going.does honest kept away u at in
-    inl (broken g.S.Store g.H.Shelf.view g.H.Shelf.size _ _ _ _ _ _ away u _ (AppendsFront _ _) so (front_all _ _ _ so.told))
+    inl (broken g.S.Store g.H.Shelf.view g.H.Shelf.size _ _ _ _ _ _ away u _ (AppendsFront _ _) so
+    (front_all _ _ _ so.told))
 
 pub returns-clause-does : goal.returns-clause-does
 returns-clause-does g c = λ honest kept away u at.
@@ -44,23 +46,42 @@ pub returns-in-Err-clause-does : goal.returns-in-Err-clause-does
 returns-in-Err-clause-does g c = λ honest kept away u at.
     let some : c.in-Ok.found ≢ End = search rules in
     let going = c.loop.invariant.going in
-    let so = going.does honest (kept_before g.S.Store g.H.Shelf.view g.H.Shelf.size c.loop.bench.media.registry c.ask-outcome.new.bench.media.registry c.ask-outcome.ensures.clean kept) away u at in
-    let comes = comes_so g.S.Store g.H.Shelf.view g.H.Shelf.size c.loop.bench.media.registry c.ask-outcome.new.bench.media.registry c.loop.bench.media.shelf c.ask-outcome.new.bench.media.shelf away (asked_of c.in-Ok-request_at.request) (asked_at c.next_line.new.line c.in-Ok.found)
-    c.ask-outcome.result c.in-Ok-request_at.ensures (c.ask-outcome.ensures.comes (going.stays honest) kept away) in
-    told_in_part g.S.Store g.H.Shelf.view g.H.Shelf.size _ _ _ _ _ _ _ _ _ _ away u _ c.next_line.new.line c.in-Ok.found c.ask-outcome.result _ so c.in-Ok.ensures.line some comes
+    let so = going.does honest
+    (kept_before g.S.Store g.H.Shelf.view g.H.Shelf.size c.loop.bench.media.registry
+    c.ask-outcome.new.bench.media.registry c.ask-outcome.ensures.clean kept) away u at in
+    let comes = comes_so g.S.Store g.H.Shelf.view g.H.Shelf.size c.loop.bench.media.registry
+    c.ask-outcome.new.bench.media.registry c.loop.bench.media.shelf
+    c.ask-outcome.new.bench.media.shelf away (asked_of c.in-Ok-request_at.request)
+    (asked_at c.next_line.new.line c.in-Ok.found)
+    c.ask-outcome.result c.in-Ok-request_at.ensures
+    (c.ask-outcome.ensures.comes (going.stays honest) kept away) in
+    told_in_part g.S.Store g.H.Shelf.view g.H.Shelf.size _ _ _ _ _ _ _ _ _ _ away u _
+    c.next_line.new.line c.in-Ok.found c.ask-outcome.result _ so c.in-Ok.ensures.line some comes
     c.in-Err.ensures.fault c.in-Err.ensures.front
 
 pub returns-in-Failed-clause-does : goal.returns-in-Failed-clause-does
 returns-in-Failed-clause-does g c = λ honest kept away u at.
     let some : c.in-Ok.found ≢ End = search rules in
     let going = c.loop.invariant.going in
-    let so = going.does honest (kept_before g.S.Store g.H.Shelf.view g.H.Shelf.size c.loop.bench.media.registry c.ask-outcome.new.bench.media.registry c.ask-outcome.ensures.clean kept) away u at in
-    let comes = comes_so g.S.Store g.H.Shelf.view g.H.Shelf.size c.loop.bench.media.registry c.ask-outcome.new.bench.media.registry c.loop.bench.media.shelf c.ask-outcome.new.bench.media.shelf away (asked_of c.in-Ok-request_at.request) (asked_at c.next_line.new.line c.in-Ok.found)
-    c.ask-outcome.result c.in-Ok-request_at.ensures (c.ask-outcome.ensures.comes (going.stays honest) kept away) in
-    let failed = comes_to g.S.Store g.H.Shelf.view g.H.Shelf.size c.loop.bench.media.registry c.ask-outcome.new.bench.media.registry c.loop.bench.media.shelf c.ask-outcome.new.bench.media.shelf away (asked_at c.next_line.new.line c.in-Ok.found) c.ask-outcome.result _ c.in-Failed.is comes in
-    let told = told_wholly g.S.Store g.H.Shelf.view g.H.Shelf.size _ _ _ _ _ _ _ _ _ away u _ c.next_line.new.line c.in-Ok.found c.in-Failed.field-0 c.in-Failed.fault so c.in-Ok.ensures.line some failed
+    let so = going.does honest
+    (kept_before g.S.Store g.H.Shelf.view g.H.Shelf.size c.loop.bench.media.registry
+    c.ask-outcome.new.bench.media.registry c.ask-outcome.ensures.clean kept) away u at in
+    let comes = comes_so g.S.Store g.H.Shelf.view g.H.Shelf.size c.loop.bench.media.registry
+    c.ask-outcome.new.bench.media.registry c.loop.bench.media.shelf
+    c.ask-outcome.new.bench.media.shelf away (asked_of c.in-Ok-request_at.request)
+    (asked_at c.next_line.new.line c.in-Ok.found)
+    c.ask-outcome.result c.in-Ok-request_at.ensures
+    (c.ask-outcome.ensures.comes (going.stays honest) kept away) in
+    let failed = comes_to g.S.Store g.H.Shelf.view g.H.Shelf.size c.loop.bench.media.registry
+    c.ask-outcome.new.bench.media.registry c.loop.bench.media.shelf
+    c.ask-outcome.new.bench.media.shelf away (asked_at c.next_line.new.line c.in-Ok.found)
+    c.ask-outcome.result _ c.in-Failed.is comes in
+    let told = told_wholly g.S.Store g.H.Shelf.view g.H.Shelf.size _ _ _ _ _ _ _ _ _ away u _
+    c.next_line.new.line c.in-Ok.found c.in-Failed.field-0 c.in-Failed.fault so
+    c.in-Ok.ensures.line some failed
     _ c.ask-outcome.result c.in-Failed.is c.in_default-tell.ensures.ok in
-    stopped g.S.Store g.H.Shelf.view g.H.Shelf.size _ _ _ _ _ _ _ _ _ away u _ c.next_line.new.line c.in-Ok.found c.in-Failed.field-0 c.in-Failed.fault so c.in-Ok.ensures.line some failed
+    stopped g.S.Store g.H.Shelf.view g.H.Shelf.size _ _ _ _ _ _ _ _ _ away u _ c.next_line.new.line
+    c.in-Ok.found c.in-Failed.field-0 c.in-Failed.fault so c.in-Ok.ensures.line some failed
     (Appends (g.W.Write.contents c.args.writer.now) (g.W.Write.contents c.tell.new.writer)) told
 
 pub loop-preserved : goal.loop-preserved
@@ -75,13 +96,22 @@ loop-preserved g c =
         stays = λ honest. asked.honest (going.stays honest);
         sizes = asked.size ∙ going.sizes;
         does = λ honest kept away u at.
-            let so = going.does honest (kept_before g.S.Store g.H.Shelf.view g.H.Shelf.size c.loop.bench.media.registry c.ask-outcome.new.bench.media.registry asked.clean kept) away u at in
-            let comes = comes_so g.S.Store g.H.Shelf.view g.H.Shelf.size c.loop.bench.media.registry c.ask-outcome.new.bench.media.registry c.loop.bench.media.shelf c.ask-outcome.new.bench.media.shelf away (asked_of c.in-Ok-request_at.request) (asked_at c.next_line.new.line c.in-Ok.found)
-            c.ask-outcome.result c.in-Ok-request_at.ensures (asked.comes (going.stays honest) kept away) in
-            one_more g.S.Store g.H.Shelf.view g.H.Shelf.size _ _ _ _ _ _ _ _ _ away u _ c.next_line.new.line c.in-Ok.found c.ask-outcome.result so c.in-Ok.ensures.line some comes
+            let so = going.does honest
+            (kept_before g.S.Store g.H.Shelf.view g.H.Shelf.size c.loop.bench.media.registry
+            c.ask-outcome.new.bench.media.registry asked.clean kept) away u at in
+            let comes = comes_so g.S.Store g.H.Shelf.view g.H.Shelf.size c.loop.bench.media.registry
+            c.ask-outcome.new.bench.media.registry c.loop.bench.media.shelf
+            c.ask-outcome.new.bench.media.shelf away (asked_of c.in-Ok-request_at.request)
+            (asked_at c.next_line.new.line c.in-Ok.found)
+            c.ask-outcome.result c.in-Ok-request_at.ensures
+            (asked.comes (going.stays honest) kept away) in
+            one_more g.S.Store g.H.Shelf.view g.H.Shelf.size _ _ _ _ _ _ _ _ _ away u _
+            c.next_line.new.line c.in-Ok.found c.ask-outcome.result so c.in-Ok.ensures.line some
+            comes
             _ _ c.is_refused_after-refused.ensures on c.in_default-tell.ensures.ok;
       };
       progress = asked.progress ∙ (stays_at _ c.ask-outcome.result on ∙ c.loop.invariant.progress);
       redone = asked.redone ∙ c.loop.invariant.redone;
-      closed = λ failed. asked.closed (c.loop.invariant.progress ∙ failed) ∙ c.loop.invariant.closed failed;
+      closed = λ failed. asked.closed (c.loop.invariant.progress ∙ failed)
+          ∙ c.loop.invariant.closed failed;
     }

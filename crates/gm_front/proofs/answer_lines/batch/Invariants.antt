@@ -5,8 +5,10 @@ use Rattle.gm_front.proofs.answer_lines.batch.Given as goal
 
 abbrev pub invariant-loop : goal.invariant-loop
 invariant-loop g l = record {
-  going : Going g.S.Store g.H.Shelf.view g.H.Shelf.size g.H.Shelf.honest (g.R.Read.remaining l.fn.reader) (g.R.Read.remaining l.reader)
-      (g.W.Write.contents l.fn.writer) (g.W.Write.contents l.writer) l.fn.bench.media.registry l.bench.media.registry l.fn.bench.media.shelf l.bench.media.shelf l.refused;
+  going : Going g.S.Store g.H.Shelf.view g.H.Shelf.size g.H.Shelf.honest
+      (g.R.Read.remaining l.fn.reader) (g.R.Read.remaining l.reader)
+      (g.W.Write.contents l.fn.writer) (g.W.Write.contents l.writer) l.fn.bench.media.registry
+      l.bench.media.registry l.fn.bench.media.shelf l.bench.media.shelf l.refused;
   progress : l.bench.progress ≡ l.fn.bench.progress;
   redone : l.bench.redone ≡ l.fn.bench.redone;
   closed : l.fn.bench.progress ≡ Failed → l.bench ≡ l.fn.bench;

@@ -7,6 +7,7 @@ pub loop-at-preserved : goal.loop-at-preserved
 loop-at-preserved g c =
     let bytes = c.args.bytes.now in
     let at = c.loop-at.at in
-    let whole : take (length bytes - at) (drop at bytes) ≡ drop at bytes = take_all _ _ (rw length-drop (omega arith)) in
+    let whole : take (length bytes - at) (drop at bytes) ≡ drop at bytes =
+    take_all _ _ (rw length-drop (omega arith)) in
     let some = rw whole at c.in-Some.ensures.some.2 in
     record { within = search rules; told = more_appended _ _ _ _ _ _ c.loop-at.invariant.told some }

@@ -2,4 +2,5 @@ use Rattle.gm_front.specs.Input.{Begins}
 use Rattle.gm_front.proofs.lines.next_line.Given as goal
 
 abbrev pub invariant-loop : goal.invariant-loop
-invariant-loop g l = Begins (g.R.Read.remaining l.fn.reader) (g.R.Read.remaining l.reader) l.line l.count
+invariant-loop g l =
+    Begins (g.R.Read.remaining l.fn.reader) (g.R.Read.remaining l.reader) l.line l.count

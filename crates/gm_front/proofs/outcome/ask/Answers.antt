@@ -9,6 +9,7 @@ returns-in-Err-clause-comes g c = λ honest kept away u at. (
   record {
     left = c.in-Err.ensures.leaves honest kept away u at;
     disk = λ is. c.in-Err.ensures.disk honest kept (ap Err is) away u at;
-    readable = λ is found written. c.in-Err.ensures.readable honest kept (ap Err is) away u found written;
+    readable = λ is found written. c.in-Err.ensures.readable honest kept
+        (ap Err is) away u found written;
   },
 )

@@ -9,6 +9,8 @@ returns c =
     let source = c.filter.ensures.source in
     map_from_collect _ c.collect.ensures.ran
     (YieldsList-from_filter _ (λ (piece : List ℕ). not (length piece == 0))
-    (YieldsList-from_str_split 32 c.args.text.now (lit< tt) (ap split_text source ∙ c.split.ensures.text)
-    (ap split_has_more source ∙ c.split.ensures.has_more) (ap split_pattern source ∙ c.split.ensures.pattern))
+    (YieldsList-from_str_split 32 c.args.text.now (lit< tt)
+    (ap split_text source ∙ c.split.ensures.text)
+    (ap split_has_more source ∙ c.split.ensures.has_more)
+    (ap split_pattern source ∙ c.split.ensures.pattern))
     c.filter.ensures.closure (λ x r q k. search (rules, tests)))

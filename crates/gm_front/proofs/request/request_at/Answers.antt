@@ -10,8 +10,10 @@ returns-in_ok-pieces-in-Ok c =
     let text = take c.in-Whole.count c.args.line.now in
     let short : IsShort text = short_front _ _ (rw c.in-Whole.is at c.requires) in
     let whole = asked_text text short c.in-Ok.ensures.cases.1 in
-    let cut = ap texts c.deref.ensures.value ∙ c.in_ok-pieces-in-Ok.ensures ∙ ap pieces c.in-Ok.ensures.cases.0 in
-    IfOk-weaker c.request_of.result _ _ (λ request e. rw c.in-Whole.is (e ∙ ap asked_by cut ∙ sym whole)) c.request_of.ensures
+    let cut = ap texts c.deref.ensures.value ∙ c.in_ok-pieces-in-Ok.ensures
+    ∙ ap pieces c.in-Ok.ensures.cases.0 in
+    IfOk-weaker c.request_of.result _ _
+    (λ request e. rw c.in-Whole.is (e ∙ ap asked_by cut ∙ sym whole)) c.request_of.ensures
 
 pub returns-in-Err : goal.returns-in-Err
 returns-in-Err c =

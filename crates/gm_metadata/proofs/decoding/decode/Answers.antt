@@ -13,4 +13,5 @@ pub returns-clause-fault : goal.returns-clause-fault
 returns-clause-fault c = cause_in _ _ c.told-sector c.read.ensures
 
 pub returns-clause-only_fault : goal.returns-clause-only_fault
-returns-clause-only_fault c = only_cause _ _ c.told-sector c.read.ensures (cause_in _ _ c.told-sector c.read.ensures)
+returns-clause-only_fault c =
+    only_cause _ _ c.told-sector c.read.ensures (cause_in _ _ c.told-sector c.read.ensures)

@@ -36,9 +36,11 @@ sector c =
     (next _ _ _ _ _ c.push_u32.ensures.bytes refl
     (next _ _ _ _ _ c.push.ensures.bytes magic_bytes c.new-draft.ensures.bytes)))))))))))))))))
     ∙ fields_appended m in
-    let hash : c.digest-digest.result ≡ md5 (fields m) = c.digest-digest.ensures ∙ ap md5 (c.written.ensures ∙ all) in
+    let hash : c.digest-digest.result ≡ md5 (fields m) =
+    c.digest-digest.ensures ∙ ap md5 (c.written.ensures ∙ all) in
     let n : length c.push-4.new.self ≡ 135 = omega arith in
-    ended _ _ _ _ _ _ _ all c.push-4.ensures.bytes hash (c.whole.ensures ∙ ap (λ k. c.push-4.new.self ++ replicate (512 - k) 0) n)
+    ended _ _ _ _ _ _ _ all c.push-4.ensures.bytes hash
+    (c.whole.ensures ∙ ap (λ k. c.push-4.new.self ++ replicate (512 - k) 0) n)
 
 pub returns-clause-sector : goal.returns-clause-sector
 returns-clause-sector c = sector c
@@ -46,7 +48,9 @@ returns-clause-sector c = sector c
 pub returns-clause-full : goal.returns-clause-full
 returns-clause-full c =
     let m = c.args.metadata.now in
-    let name : length (padded m.name) ≡ 16 = search (rules, ap length (sym c.to_field.ensures.value)) in
-    let provider : length (provider_field m.provider) ≡ 16 = search (rules, ap length (sym c.provider_field.ensures)) in
+    let name : length (padded m.name) ≡ 16 =
+    search (rules, ap length (sym c.to_field.ensures.value)) in
+    let provider : length (provider_field m.provider) ≡ 16 =
+    search (rules, ap length (sym c.provider_field.ensures)) in
     let fills : Named m = record { name_fills = name; provider_fills = provider } in
     subst (λ (x : List ℕ). Full x m) (sym (sector c)) (encoded_is_full m fills)

@@ -11,5 +11,6 @@ loop-at-preserved c =
     record {
       within = omega arith;
       whole = omega arith;
-      same = take-add at 64 a ∙ ap₂ (λ (x y : List ℕ). x ++ y) c.loop-at.invariant.same block ∙ sym (take-add at 64 b);
+      same = take-add at 64 a ∙ ap₂ (λ (x y : List ℕ). x ++ y) c.loop-at.invariant.same block
+          ∙ sym (take-add at 64 b);
     }

@@ -5,4 +5,6 @@ use Rattle.gm_refusals.proofs.refusal_tests.is_unfit.Goals as goal
 
 pub returns-in-Adopt : goal.returns-in-Adopt
 returns-in-Adopt c =
-    rw c.in-Adopt.is (ap not (c.is_adoptable.ensures ∙ ap (is_adoptable (seen_in c.args.facts.now) c.in-Adopt.name) c.as_slice.ensures.value))
+    rw c.in-Adopt.is
+    (ap not (c.is_adoptable.ensures
+    ∙ ap (is_adoptable (seen_in c.args.facts.now) c.in-Adopt.name) c.as_slice.ensures.value))

@@ -16,10 +16,14 @@ returns-in_err-write_change-clause-writes g c =
     let end = c.write_change.new.conn in
     let result = c.from_residual-in_err-write_change.result in
     let number = c.in_ok-count.count + 1 in
-    then_writes g.S.Store g.met.S.Store.settled c.args.conn.now mid end (λ (t : Tables). number ≡ count_of t + 1)
+    then_writes g.S.Store g.met.S.Store.settled c.args.conn.now mid end
+    (λ (t : Tables). number ≡ count_of t + 1)
     (with_accepted c.args.change.now c.args.key.now c.args.words.now) c.accepted_on.ensures.reads
-    (λ clean t was. let it = c.in_ok-count.ensures.count clean t was in (omega (arith, it.0), it.1.tables))
-    (λ t is n. subst (λ (k : ℕ). MayLeave g.S.Store mid end (with_change c.args.change.now c.args.key.now k c.args.words.now t)) n (c.write_change.ensures.left t is n))
+    (λ clean t was. let it = c.in_ok-count.ensures.count clean t was in
+    (omega (arith, it.0), it.1.tables))
+    (λ t is n. subst (λ (k : ℕ). MayLeave g.S.Store mid end
+    (with_change c.args.change.now c.args.key.now k c.args.words.now t)) n
+    (c.write_change.ensures.left t is n))
     c.write_change.ensures.survives result
     (λ clean. never_ok result _ _ c.from_residual-in_err-write_change.ensures.1)
     (λ clean. on_err result _ (c.in_err-write_change.ensures.refused clean))
@@ -29,18 +33,27 @@ returns-clause-writes g c =
     let mid = c.accepted_on.new.conn in
     let end = c.write_change.new.conn in
     let number = c.in_ok-count.count + 1 in
-    then_writes g.S.Store g.met.S.Store.settled c.args.conn.now mid end (λ (t : Tables). number ≡ count_of t + 1)
+    then_writes g.S.Store g.met.S.Store.settled c.args.conn.now mid end
+    (λ (t : Tables). number ≡ count_of t + 1)
     (with_accepted c.args.change.now c.args.key.now c.args.words.now) c.accepted_on.ensures.reads
-    (λ clean t was. let it = c.in_ok-count.ensures.count clean t was in (omega (arith, it.0), it.1.tables))
-    (λ t is n. subst (λ (k : ℕ). MayLeave g.S.Store mid end (with_change c.args.change.now c.args.key.now k c.args.words.now t)) n (c.write_change.ensures.left t is n))
+    (λ clean t was. let it = c.in_ok-count.ensures.count clean t was in
+    (omega (arith, it.0), it.1.tables))
+    (λ t is n. subst (λ (k : ℕ). MayLeave g.S.Store mid end
+    (with_change c.args.change.now c.args.key.now k c.args.words.now t)) n
+    (c.write_change.ensures.left t is n))
     c.write_change.ensures.survives (Ok c.from.result)
-    (λ clean t is n. subst (λ (k : ℕ). HasTables g.S.Store end (with_change c.args.change.now c.args.key.now k c.args.words.now t)) n (c.in_ok-write_change.ensures.done clean t is n))
+    (λ clean t is n. subst (λ (k : ℕ). HasTables g.S.Store end
+    (with_change c.args.change.now c.args.key.now k c.args.words.now t)) n
+    (c.in_ok-write_change.ensures.done clean t is n))
     (λ clean. tt)
 
 pub returns-clause-key : goal.returns-clause-key
 returns-clause-key g c clean t was =
-    let it = c.in_ok-count.ensures.count (omega (arith, c.write_change.ensures.survives.clean)) t was in
+    let it = c.in_ok-count.ensures.count (omega (arith, c.write_change.ensures.survives.clean)) t
+    was in
     let after = c.in_ok-write_change.ensures.done clean t it.1.tables (omega (arith, it.0)) in
-    others_apart (state g.S.Store c.write_change.new.conn).committed.trees (with_change c.args.change.now c.args.key.now (c.in_ok-count.count + 1) c.args.words.now t)
-    (command_row c.args.key.now (c.in_ok-count.count + 1) c.args.words.now c.args.change.now.reply) t.commands after.tables
+    others_apart (state g.S.Store c.write_change.new.conn).committed.trees
+    (with_change c.args.change.now c.args.key.now (c.in_ok-count.count + 1) c.args.words.now t)
+    (command_row c.args.key.now (c.in_ok-count.count + 1) c.args.words.now c.args.change.now.reply)
+    t.commands after.tables
     (commands_with c.args.change.now c.args.key.now (c.in_ok-count.count + 1) c.args.words.now t)

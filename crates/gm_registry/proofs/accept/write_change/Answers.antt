@@ -24,7 +24,9 @@ returns-in_err-put_change-clause-refused g c clean =
     let late : HasCleanDisk (state g.S.Store end) = rw (sym same) at clean in
     let early : HasCleanDisk mid = omega (arith, c.drop-tx.ensures.survives.clean) in
     on_err c.from_residual.result _ (λ t was next is_open.
-    rw same at (rolled registry_schema HasCounted old start mid (state g.S.Store end) t was (rw c.transaction-tx.ensures.begun) (c.put_change.ensures.kept early) (c.drop-tx.ensures.undone late) (rw (sym same) at is_open)))
+    rw same at (rolled registry_schema HasCounted old start mid (state g.S.Store end) t was
+    (rw c.transaction-tx.ensures.begun) (c.put_change.ensures.kept early)
+    (c.drop-tx.ensures.undone late) (rw (sym same) at is_open)))
 
 pub returns-clause-done : goal.returns-clause-done
 returns-clause-done g c clean =
@@ -35,12 +37,21 @@ returns-clause-done g c clean =
     let end : Held _ = c.commit.new.self.0 in
     let same : end ≡ c.conn-2-1.given.0 = search rules in
     let late : HasCleanDisk (state g.S.Store end) = rw (sym same) at clean in
-    let early : HasCleanDisk (state g.S.Store mid) = omega (arith, c.commit.ensures.survives.clean) in
-    over_ok c.commit.result Tables _ (λ t. under_ok c.commit.result (SeesTables (state g.S.Store old) t) _ (λ was. under_ok c.commit.result (c.args.number ≡ count_of t + 1) _ (λ next.
-    let inside = c.in_ok-put_change.ensures.put early first t (subst (λ h. IsInside first (state g.S.Store h) t) (sym c.transaction-tx.ensures.begun) (begun_rows g.S.Store old t was)) in
-    let numbered = change_numbered c.args.change.now c.args.key.now c.args.number c.args.words.now t next was.tables.rows.numbered in
+    let early : HasCleanDisk (state g.S.Store mid) =
+    omega (arith, c.commit.ensures.survives.clean) in
+    over_ok c.commit.result Tables _ (λ t. under_ok c.commit.result
+    (SeesTables (state g.S.Store old) t) _
+    (λ was. under_ok c.commit.result (c.args.number ≡ count_of t + 1) _ (λ next.
+    let inside = c.in_ok-put_change.ensures.put early first t
+    (subst (λ h. IsInside first (state g.S.Store h) t) (sym c.transaction-tx.ensures.begun)
+    (begun_rows g.S.Store old t was)) in
+    let numbered = change_numbered c.args.change.now c.args.key.now c.args.number c.args.words.now t
+    next was.tables.rows.numbered in
     subst (λ h. OnOk c.commit.result (SeesTables (state g.S.Store h) (change t))) same
-    (committed registry_schema HasCounted first (state g.S.Store mid) (state g.S.Store end) _ c.commit.result (counted_inside first (state g.S.Store mid) (change t) numbered inside) (c.commit.ensures.ok late)))))
+    (committed registry_schema HasCounted first (state g.S.Store mid)
+    (state g.S.Store end) _ c.commit.result
+    (counted_inside first (state g.S.Store mid) (change t) numbered inside)
+    (c.commit.ensures.ok late)))))
 
 pub returns-clause-left : goal.returns-clause-left
 returns-clause-left g c t was next =
@@ -52,13 +63,20 @@ returns-clause-left g c t was next =
     let P = λ (trees : Trees). Holds trees (change t) in
     let end : Held _ = c.commit.new.self.0 in
     let same : end ≡ c.conn-2-1.given.0 = search rules in
-    let numbered = change_numbered c.args.change.now c.args.key.now c.args.number c.args.words.now t next was.tables.rows.numbered in
-    let inside = λ (clean : HasCleanDisk (state g.S.Store mid)). counted_inside first (state g.S.Store mid) (change t) numbered
-    (c.in_ok-put_change.ensures.put clean first t (subst (λ h. IsInside first (state g.S.Store h) t) (sym begin) (begun_rows g.S.Store old t was))) in
+    let numbered = change_numbered c.args.change.now c.args.key.now c.args.number c.args.words.now t
+    next was.tables.rows.numbered in
+    let inside = λ (clean : HasCleanDisk (state g.S.Store mid)).
+    counted_inside first (state g.S.Store mid) (change t) numbered
+    (c.in_ok-put_change.ensures.put clean first t
+    (subst (λ h. IsInside first (state g.S.Store h) t) (sym begin)
+    (begun_rows g.S.Store old t was))) in
     subst (λ h. Survives (state g.S.Store old) (state g.S.Store h) P) same
-    (survives_then (state g.S.Store old) (state g.S.Store mid) (state g.S.Store end) (λ _. ⊥) _ P (λ _ db none. absurd none)
-    (λ clean db is. subst P (sym is) (inside (omega (arith, c.commit.ensures.survives.clean))).tables)
-    (survives_begin g.S.Store old (state g.S.Store mid) _ (rw begin at c.put_change.ensures.survives)) c.commit.ensures.survives)
+    (survives_then (state g.S.Store old) (state g.S.Store mid) (state g.S.Store end) (λ _. ⊥) _ P
+    (λ _ db none. absurd none)
+    (λ clean db is. subst P (sym is)
+    (inside (omega (arith, c.commit.ensures.survives.clean))).tables)
+    (survives_begin g.S.Store old (state g.S.Store mid) _
+    (rw begin at c.put_change.ensures.survives)) c.commit.ensures.survives)
 
 pub returns-clause-survives : goal.returns-clause-survives
 returns-clause-survives g c =
@@ -67,8 +85,11 @@ returns-clause-survives g c =
     let end : Held _ = c.commit.new.self.0 in
     let same : end ≡ c.conn-2-1.given.0 = search rules in
     subst (λ h. Survives (state g.S.Store old) (state g.S.Store h) (λ _. Unit {0})) same
-    (survives_then (state g.S.Store old) (state g.S.Store mid) (state g.S.Store end) (λ _. ⊥) _ (λ _. Unit {0}) (λ _ db none. absurd none) (λ clean db is. tt)
-    (survives_begin g.S.Store old (state g.S.Store mid) _ (rw c.transaction-tx.ensures.begun at c.put_change.ensures.survives)) c.commit.ensures.survives)
+    (survives_then (state g.S.Store old) (state g.S.Store mid) (state g.S.Store end) (λ _. ⊥) _
+    (λ _. Unit {0}) (λ _ db none. absurd none) (λ clean db is. tt)
+    (survives_begin g.S.Store old (state g.S.Store mid) _
+    (rw c.transaction-tx.ensures.begun at c.put_change.ensures.survives))
+    c.commit.ensures.survives)
 
 pub returns-clause-refused : goal.returns-clause-refused
 returns-clause-refused g c clean =
@@ -81,10 +102,19 @@ returns-clause-refused g c clean =
     let end : Held _ = c.commit.new.self.0 in
     let same : end ≡ c.conn-2-1.given.0 = search rules in
     let late : HasCleanDisk (state g.S.Store end) = rw (sym same) at clean in
-    let early : HasCleanDisk (state g.S.Store mid) = omega (arith, c.commit.ensures.survives.clean) in
-    over_err c.commit.result Tables _ (λ t. under_err c.commit.result (SeesTables (state g.S.Store old) t) _ (λ was. under_err c.commit.result (c.args.number ≡ count_of t + 1) _ (λ next.
-    let numbered = change_numbered c.args.change.now c.args.key.now c.args.number c.args.words.now t next was.tables.rows.numbered in
+    let early : HasCleanDisk (state g.S.Store mid) =
+    omega (arith, c.commit.ensures.survives.clean) in
+    over_err c.commit.result Tables _ (λ t. under_err c.commit.result
+    (SeesTables (state g.S.Store old) t) _
+    (λ was. under_err c.commit.result (c.args.number ≡ count_of t + 1) _ (λ next.
+    let numbered = change_numbered c.args.change.now c.args.key.now c.args.number c.args.words.now t
+    next was.tables.rows.numbered in
     let inside = counted_inside first (state g.S.Store mid) (change t) numbered
-    (c.in_ok-put_change.ensures.put early first t (subst (λ h. IsInside first (state g.S.Store h) t) (sym begin) (begun_rows g.S.Store old t was))) in
-    subst (λ h. OnErr c.commit.result (IsTrue (state g.S.Store h).is_open → SeesTables (state g.S.Store h) t)) same
-    (not_committed registry_schema HasCounted first (state g.S.Store old) start (state g.S.Store mid) (state g.S.Store end) t _ c.commit.result was (rw begin) (c.in_ok-put_change.ensures.kept early) inside (c.commit.ensures.err late)))))
+    (c.in_ok-put_change.ensures.put early first t
+    (subst (λ h. IsInside first (state g.S.Store h) t) (sym begin)
+    (begun_rows g.S.Store old t was))) in
+    subst (λ h. OnErr c.commit.result (IsTrue (state g.S.Store h).is_open
+    → SeesTables (state g.S.Store h) t)) same
+    (not_committed registry_schema HasCounted first (state g.S.Store old) start
+    (state g.S.Store mid) (state g.S.Store end) t _ c.commit.result was (rw begin)
+    (c.in_ok-put_change.ensures.kept early) inside (c.commit.ensures.err late)))))

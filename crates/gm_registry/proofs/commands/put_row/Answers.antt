@@ -12,10 +12,27 @@ use Rattle.gm_registry.proofs.commands.put_row.Goals as goal
 
 pub returns-clause-put : goal.returns-clause-put
 returns-clause-put g c clean =
-    let row : CommandRow = record { call_key = c.args.key.now; seq = c.args.number; words = c.args.words.now; copied = c.args.copied; of_total = c.args.of_total } in
-    at_inside registry_schema HasRows put_command_text (command_values row) _ put_command_is.command_is put_command_is.plain (λ old new text count h. h) (with_command row) (puts_command row)
-    (state g.S.Store c.args.tx.now.conn.now) (state g.S.Store c.execute.new.self.conn.now) c.execute.result
-    (rw (c.params-to_sql.ensures, c.params-to_sql-2.ensures, c.params-to_sql-3.ensures, c.params-to_sql-4.ensures, c.params-to_sql-5.ensures) at (c.execute.ensures.runs clean))
+    let row : CommandRow = record {
+      call_key = c.args.key.now;
+      seq = c.args.number;
+      words = c.args.words.now;
+      copied = c.args.copied;
+      of_total = c.args.of_total;
+    } in
+    at_inside registry_schema HasRows put_command_text
+    (command_values row) _ put_command_is.command_is put_command_is.plain
+    (λ old new text count h. h) (with_command row) (puts_command row)
+    (state g.S.Store c.args.tx.now.conn.now) (state g.S.Store c.execute.new.self.conn.now)
+    c.execute.result
+    (rw (
+      c.params-to_sql.ensures,
+      c.params-to_sql-2.ensures,
+      c.params-to_sql-3.ensures,
+      c.params-to_sql-4.ensures,
+      c.params-to_sql-5.ensures,
+    ) at (c.execute.ensures.runs clean))
 
 pub returns-clause-kept : goal.returns-clause-kept
-returns-clause-kept g c clean = keeps_held g.S.Store c.args.tx.now.conn.now c.execute.new.self.conn.now _ _ c.execute.result (c.execute.ensures.runs clean) c.execute.ensures.ended
+returns-clause-kept g c clean =
+    keeps_held g.S.Store c.args.tx.now.conn.now c.execute.new.self.conn.now _ _ c.execute.result
+    (c.execute.ensures.runs clean) c.execute.ensures.ended

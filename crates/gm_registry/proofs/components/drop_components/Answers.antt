@@ -14,10 +14,17 @@ drops-preserved g c =
     let new = state g.S.Store c.drop_component.new.tx.conn.now in
     let so = c.drops.invariant in (
       c.in_ok-drop_component.ensures.same_reference ∙ so.0,
-      goes_on registry_schema HasRows old mid new (without_components (take c.drops.provider-index c.args.providers.now)) (without_component c.provider-item.result) _ so.1 c.drop_component.ensures.survives c.drop_component.ensures.kept c.in_ok-drop_component.ensures.put
-          (λ r. one_more without_component without_components (λ t. refl) (λ x xs t. refl) c.args.providers.now c.drops.provider-index c.provider-item.result r c.drops-test.true c.provider-item.is),
+      goes_on registry_schema HasRows old mid new
+          (without_components (take c.drops.provider-index c.args.providers.now))
+          (without_component c.provider-item.result) _ so.1 c.drop_component.ensures.survives
+          c.drop_component.ensures.kept c.in_ok-drop_component.ensures.put
+          (λ r. one_more without_component without_components (λ t. refl)
+          (λ x xs t. refl) c.args.providers.now c.drops.provider-index c.provider-item.result r
+          c.drops-test.true c.provider-item.is),
     )
 
 pub returns-clause-put : goal.returns-clause-put
 returns-clause-put g c clean first t was =
-    subst (λ all. IsInside first (state g.S.Store c.drops.tx.conn.now) (without_components all t)) (take_all c.drops.provider-index c.args.providers.now c.drops-test.false) (c.drops.invariant.1.put clean first t was)
+    subst (λ all. IsInside first (state g.S.Store c.drops.tx.conn.now) (without_components all t))
+    (take_all c.drops.provider-index c.args.providers.now c.drops-test.false)
+    (c.drops.invariant.1.put clean first t was)

@@ -9,4 +9,5 @@ use Rattle.gm_registry.proofs.components.drop_components.Given as goal
 abbrev pub invariant-drops : goal.invariant-drops
 invariant-drops g l =
     (l.tx.conn.ghost_name ≡ l.fn.tx.conn.ghost_name)
-    × SoFar registry_schema HasRows (state g.S.Store l.fn.tx.conn.now) (state g.S.Store l.tx.conn.now) (without_components (take l.provider-index l.providers))
+    × SoFar registry_schema HasRows (state g.S.Store l.fn.tx.conn.now)
+    (state g.S.Store l.tx.conn.now) (without_components (take l.provider-index l.providers))

@@ -16,8 +16,11 @@ use Rattle.gm_registry.proofs.components.put_component.Goals as goal
 pub returns-clause-put : goal.returns-clause-put
 returns-clause-put g c clean =
     let row = component_row c.args.component in
-    at_inside registry_schema HasRows upsert_component_text (component_values row) _ upsert_component_is.command_is upsert_component_is.plain (λ old new text count h. h) (with_component row) (upserts_component row)
-    (state g.S.Store c.args.tx.now.conn.now) (state g.S.Store c.execute.new.self.conn.now) c.execute.result
+    at_inside registry_schema HasRows upsert_component_text
+    (component_values row) _ upsert_component_is.command_is upsert_component_is.plain
+    (λ old new text count h. h) (with_component row) (upserts_component row)
+    (state g.S.Store c.args.tx.now.conn.now) (state g.S.Store c.execute.new.self.conn.now)
+    c.execute.result
     (rw (
       c.params-to_sql.ensures,
       c.params-to_sql-2.ensures,
@@ -33,7 +36,8 @@ returns-clause-put g c clean =
       c.from.ensures,
       c.bytes_in.ensures.value,
       c.held.ensures,
-      to_z_pos w64 (512 * held_of c.args.component.disk) (omega (arith, c.bytes_in.ensures.fits, c.held.ensures)),
+      to_z_pos w64 (512 * held_of c.args.component.disk)
+          (omega (arith, c.bytes_in.ensures.fits, c.held.ensures)),
       c.disk_number.ensures,
       c.flags.ensures,
       c.truth_number.ensures,
@@ -42,4 +46,6 @@ returns-clause-put g c clean =
     ) at (c.execute.ensures.runs clean))
 
 pub returns-clause-kept : goal.returns-clause-kept
-returns-clause-kept g c clean = keeps_held g.S.Store c.args.tx.now.conn.now c.execute.new.self.conn.now _ _ c.execute.result (c.execute.ensures.runs clean) c.execute.ensures.ended
+returns-clause-kept g c clean =
+    keeps_held g.S.Store c.args.tx.now.conn.now c.execute.new.self.conn.now _ _ c.execute.result
+    (c.execute.ensures.runs clean) c.execute.ensures.ended

@@ -9,4 +9,5 @@ use Rattle.gm_registry.proofs.components.put_components.Given as goal
 abbrev pub invariant-puts : goal.invariant-puts
 invariant-puts g l =
     (l.tx.conn.ghost_name ≡ l.fn.tx.conn.ghost_name)
-    × SoFar registry_schema HasRows (state g.S.Store l.fn.tx.conn.now) (state g.S.Store l.tx.conn.now) (with_components (take l.component-index l.components))
+    × SoFar registry_schema HasRows (state g.S.Store l.fn.tx.conn.now)
+    (state g.S.Store l.tx.conn.now) (with_components (take l.component-index l.components))

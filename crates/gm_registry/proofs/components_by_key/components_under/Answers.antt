@@ -15,42 +15,62 @@ use Rattle.gm_registry.proofs.components_by_key.components_under.Goals as goal
 pub labels-init : goal.labels-init
 labels-init g c = record {
   read = inl refl;
-  found = λ _ t s _ _. subst (IsPermutation []) (sym c.new-all.ensures.items) (IsPermutation-refl []);
+  found = λ _ t s _ _. subst (IsPermutation []) (sym c.new-all.ensures.items)
+      (IsPermutation-refl []);
 }
 
 pub returns-in_err-some-clause-unreadable : goal.returns-in_err-some-clause-unreadable
 returns-in_err-some-clause-unreadable g c clean =
-    let early = failed_clean (state g.S.Store c.labels.conn) (state g.S.Store c.components_with.new.conn) c.in_err-some.ensures.failed clean in
+    let early = failed_clean (state g.S.Store c.labels.conn)
+    (state g.S.Store c.components_with.new.conn) c.in_err-some.ensures.failed clean in
     passed_on c.from_residual.result _ _ (λ e same is t s was of.
-    c.in_err-some.ensures.unreadable clean (sym same ∙ is) t s (some_stay g.S.Store c.args.conn.now c.labels.conn t c.labels.invariant.read early was) of) c.from_residual.ensures.1
+    c.in_err-some.ensures.unreadable clean (sym same ∙ is) t s
+    (some_stay g.S.Store c.args.conn.now c.labels.conn t c.labels.invariant.read early was) of)
+    c.from_residual.ensures.1
 
 pub returns-in_err-some-clause-failed : goal.returns-in_err-some-clause-failed
 returns-in_err-some-clause-failed g c =
-    on_err c.from_residual.result _ (some_failed g.S.Store c.args.conn.now c.labels.conn c.components_with.new.conn c.labels.invariant.read c.in_err-some.ensures.failed)
+    on_err c.from_residual.result _
+    (some_failed g.S.Store c.args.conn.now c.labels.conn c.components_with.new.conn
+    c.labels.invariant.read c.in_err-some.ensures.failed)
 
 pub returns-in_err-some-clause-store : goal.returns-in_err-some-clause-store
 returns-in_err-some-clause-store g c clean =
-    let early = failed_clean (state g.S.Store c.labels.conn) (state g.S.Store c.components_with.new.conn) c.in_err-some.ensures.failed clean in
+    let early = failed_clean (state g.S.Store c.labels.conn)
+    (state g.S.Store c.components_with.new.conn) c.in_err-some.ensures.failed clean in
     passed_on c.from_residual.result _ _ (λ e same is ours is_open.
-    some_later g.S.Store c.args.conn.now c.labels.conn c.components_with.new.conn c.labels.invariant.read early ours is_open (c.in_err-some.ensures.store clean (sym same ∙ is))) c.from_residual.ensures.1
+    some_later g.S.Store c.args.conn.now c.labels.conn c.components_with.new.conn
+    c.labels.invariant.read early ours is_open
+    (c.in_err-some.ensures.store clean (sym same ∙ is))) c.from_residual.ensures.1
 
-pub returns-in_err-extend_from_slice-clause-failed : goal.returns-in_err-extend_from_slice-clause-failed
+pub returns-in_err-extend_from_slice-clause-failed :
+    goal.returns-in_err-extend_from_slice-clause-failed
 returns-in_err-extend_from_slice-clause-failed g c =
     on_err c.from_residual-in_err-extend_from_slice.result _
-    (read_at_most IsOurSchema (state g.S.Store c.args.conn.now) (state g.S.Store c.components_with.new.conn) (some_then g.S.Store c.args.conn.now c.labels.conn c.components_with.new.conn c.labels.invariant.read c.in_ok-some.ensures.read))
+    (read_at_most IsOurSchema (state g.S.Store c.args.conn.now)
+    (state g.S.Store c.components_with.new.conn)
+    (some_then g.S.Store c.args.conn.now c.labels.conn c.components_with.new.conn
+    c.labels.invariant.read c.in_ok-some.ensures.read))
 
 pub labels-preserved : goal.labels-preserved
 labels-preserved g c =
     let before = c.labels.invariant in
     record {
-      read = inr (some_then g.S.Store c.args.conn.now c.labels.conn c.components_with.new.conn before.read c.in_ok-some.ensures.read);
+      read = inr (some_then g.S.Store c.args.conn.now c.labels.conn c.components_with.new.conn
+          before.read c.in_ok-some.ensures.read);
       found = λ clean t s was of.
-          let early = clean_before (state g.S.Store c.labels.conn) (state g.S.Store c.components_with.new.conn) c.in_ok-some.ensures.read clean in
-          let some = c.in_ok-some.ensures.found clean t s (some_stay g.S.Store c.args.conn.now c.labels.conn t before.read early was) of in
-          let both = one_more (under c.args.key s.components) c.args.labels.now c.labels.label-index c.label-item.result c.labels.all.items c.in_ok-some.some.items c.labels-test.true c.label-item.is (before.found early t s was of) some in
+          let early = clean_before (state g.S.Store c.labels.conn)
+          (state g.S.Store c.components_with.new.conn) c.in_ok-some.ensures.read clean in
+          let some = c.in_ok-some.ensures.found clean t s
+          (some_stay g.S.Store c.args.conn.now c.labels.conn t before.read early was) of in
+          let both = one_more (under c.args.key s.components) c.args.labels.now c.labels.label-index
+          c.label-item.result c.labels.all.items c.in_ok-some.some.items c.labels-test.true
+          c.label-item.is (before.found early t s was of) some in
           rw (c.in_ok-extend_from_slice.ensures.items, c.deref.ensures.value) both;
     }
 
 pub returns-clause-found : goal.returns-clause-found
 returns-clause-found g c clean t s was of =
-    subst (λ all. IsPermutation (flat_map (under c.args.key s.components) all) c.labels.all.items) (take_all c.labels.label-index c.args.labels.now c.labels-test.false) (c.labels.invariant.found clean t s was of)
+    subst (λ all. IsPermutation (flat_map (under c.args.key s.components) all) c.labels.all.items)
+    (take_all c.labels.label-index c.args.labels.now c.labels-test.false)
+    (c.labels.invariant.found clean t s was of)

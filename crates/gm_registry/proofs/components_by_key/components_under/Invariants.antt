@@ -10,6 +10,8 @@ use Rattle.gm_registry.proofs.components_by_key.components_under.Given as goal
 abbrev pub invariant-labels : goal.invariant-labels
 invariant-labels g l = record {
   read : HaveRead g.S.Store l.fn.conn l.conn;
-  found : DiskKept g.S.Store l.conn → (t : Tables) (s : Records) → HasTables g.S.Store l.fn.conn t → AreRecordsOf t s
-      → IsPermutation (flat_map (under l.key s.components) (take l.label-index l.labels)) l.all.items;
+  found : DiskKept g.S.Store l.conn → (t : Tables) (s : Records) → HasTables g.S.Store l.fn.conn t
+      → AreRecordsOf t s
+      → IsPermutation (flat_map (under l.key s.components) (take l.label-index l.labels))
+      l.all.items;
 }

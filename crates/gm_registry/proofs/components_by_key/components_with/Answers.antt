@@ -13,16 +13,24 @@ pub returns-clause-found : goal.returns-clause-found
 returns-clause-found g c clean =
     let old = state g.S.Store c.args.conn.now in
     if_ok c.read_all.result _ _ (λ ks is t s was of.
-    components_read old.now.trees t s (counted old t was).rows of c.args.key c.args.label c.in_ok-rows.rows.items ks.items (subst (λ label. AreUnder old.now.trees c.args.key label c.in_ok-rows.rows.items) c.as_str.ensures.text (c.in_ok-rows.ensures.rows clean (ours old t was)))
+    components_read old.now.trees t s (counted old t was).rows of c.args.key c.args.label
+    c.in_ok-rows.rows.items ks.items
+    (subst (λ label. AreUnder old.now.trees c.args.key label c.in_ok-rows.rows.items)
+    c.as_str.ensures.text (c.in_ok-rows.ensures.rows clean (ours old t was)))
     (ap (map (columns_at nine)) (sym c.deref.ensures.value) ∙ is)) c.read_all.ensures.read
 
 pub returns-clause-unreadable : goal.returns-clause-unreadable
 returns-clause-unreadable g c clean =
     let old = state g.S.Store c.args.conn.now in
     if_err c.read_all.result _ _ (λ e none is t s was of.
-    no_components old.now.trees t s (counted old t was).rows of c.args.key c.args.label c.in_ok-rows.rows.items (subst (λ label. AreUnder old.now.trees c.args.key label c.in_ok-rows.rows.items) c.as_str.ensures.text (c.in_ok-rows.ensures.rows clean (ours old t was)))
-    (λ list all same. none is list all (ap (map (columns_at nine)) c.deref.ensures.value ∙ same))) c.read_all.ensures.unreadable
+    no_components old.now.trees t s (counted old t was).rows of c.args.key c.args.label
+    c.in_ok-rows.rows.items
+    (subst (λ label. AreUnder old.now.trees c.args.key label c.in_ok-rows.rows.items)
+    c.as_str.ensures.text (c.in_ok-rows.ensures.rows clean (ours old t was)))
+    (λ list all same. none is list all (ap (map (columns_at nine)) c.deref.ensures.value ∙ same)))
+    c.read_all.ensures.unreadable
 
 pub returns-clause-failed : goal.returns-clause-failed
 returns-clause-failed g c =
-    on_err c.read_all.result _ (read_at_most IsOurSchema (state g.S.Store c.args.conn.now) (state g.S.Store c.rows_under.new.conn) c.in_ok-rows.ensures.read)
+    on_err c.read_all.result _ (read_at_most IsOurSchema (state g.S.Store c.args.conn.now)
+    (state g.S.Store c.rows_under.new.conn) c.in_ok-rows.ensures.read)

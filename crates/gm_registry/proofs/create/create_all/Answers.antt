@@ -22,12 +22,19 @@ returns-clause-made g c clean =
     let end : Held _ = c.commit.new.self.0 in
     let same : end ≡ c.conn-2-1.given.0 = search rules in
     let late : HasCleanDisk (state g.S.Store end) = rw (sym same) at clean in
-    let early : HasCleanDisk (state g.S.Store mid) = omega (arith, c.commit.ensures.survives.clean) in
-    let earlier : HasCleanDisk (state g.S.Store c.create_tables.new.tx.conn.now) = omega (arith, early, c.put_about.ensures.survives.clean) in
+    let early : HasCleanDisk (state g.S.Store mid) =
+    omega (arith, c.commit.ensures.survives.clean) in
+    let earlier : HasCleanDisk (state g.S.Store c.create_tables.new.tx.conn.now) =
+    omega (arith, early, c.put_about.ensures.survives.clean) in
     under_ok c.commit.result (IsBlank (state g.S.Store old)) _ (λ was.
-    let bare = c.in_ok-create_tables.ensures.made earlier first (subst (λ h. IsBlankInside first (state g.S.Store h)) (sym c.transaction-tx.ensures.begun) (blank_begun g.S.Store old was)) in
+    let bare = c.in_ok-create_tables.ensures.made earlier first
+    (subst (λ h. IsBlankInside first (state g.S.Store h)) (sym c.transaction-tx.ensures.begun)
+    (blank_begun g.S.Store old was)) in
     subst (λ h. OnOk c.commit.result (SeesTables (state g.S.Store h) no_tables)) same
-    (committed registry_schema HasCounted first (state g.S.Store mid) (state g.S.Store end) no_tables c.commit.result (counted_inside first (state g.S.Store mid) no_tables none_numbered (c.in_ok-put_about.ensures.made early first bare)) (c.commit.ensures.ok late)))
+    (committed registry_schema HasCounted first (state g.S.Store mid)
+    (state g.S.Store end) no_tables c.commit.result
+    (counted_inside first (state g.S.Store mid) no_tables none_numbered
+    (c.in_ok-put_about.ensures.made early first bare)) (c.commit.ensures.ok late)))
 
 pub returns-clause-left : goal.returns-clause-left
 returns-clause-left g c was =
@@ -39,12 +46,22 @@ returns-clause-left g c was =
     let same : end ≡ c.conn-2-1.given.0 = search rules in
     let begin = c.transaction-tx.ensures.begun in
     let P = λ (trees : Trees). Holds trees no_tables in
-    let inside : HasCleanDisk (state g.S.Store mid) → IsInsideBy registry_schema HasCounted first (state g.S.Store mid) no_tables = λ early.
-    let earlier : HasCleanDisk (state g.S.Store one) = omega (arith, early, c.put_about.ensures.survives.clean) in
+    let inside : HasCleanDisk (state g.S.Store mid)
+    → IsInsideBy registry_schema HasCounted first (state g.S.Store mid) no_tables = λ early.
+    let earlier : HasCleanDisk (state g.S.Store one) =
+    omega (arith, early, c.put_about.ensures.survives.clean) in
     counted_inside first (state g.S.Store mid) no_tables none_numbered
-    (c.in_ok-put_about.ensures.made early first (c.in_ok-create_tables.ensures.made earlier first (subst (λ h. IsBlankInside first (state g.S.Store h)) (sym begin) (blank_begun g.S.Store old was)))) in
+    (c.in_ok-put_about.ensures.made early first
+    (c.in_ok-create_tables.ensures.made earlier first
+    (subst (λ h. IsBlankInside first (state g.S.Store h)) (sym begin)
+    (blank_begun g.S.Store old was)))) in
     subst (λ h. Survives (state g.S.Store old) (state g.S.Store h) P) same
-    (survives_then (state g.S.Store old) (state g.S.Store mid) (state g.S.Store end) (λ _. ⊥) _ P (λ _ db none. absurd none)
-    (λ clean db is. subst P (sym is) (inside (omega (arith, c.commit.ensures.survives.clean))).tables)
-    (survives_then (state g.S.Store old) (state g.S.Store one) (state g.S.Store mid) (λ _. ⊥) (λ _. ⊥) (λ _. ⊥) (λ _ db none. none) (λ _ db none. none)
-    (survives_begin g.S.Store old (state g.S.Store one) _ (rw begin at c.create_tables.ensures.survives)) c.put_about.ensures.survives) c.commit.ensures.survives)
+    (survives_then (state g.S.Store old) (state g.S.Store mid) (state g.S.Store end) (λ _. ⊥) _ P
+    (λ _ db none. absurd none)
+    (λ clean db is. subst P (sym is)
+    (inside (omega (arith, c.commit.ensures.survives.clean))).tables)
+    (survives_then (state g.S.Store old) (state g.S.Store one) (state g.S.Store mid) (λ _. ⊥)
+    (λ _. ⊥) (λ _. ⊥) (λ _ db none. none) (λ _ db none. none)
+    (survives_begin g.S.Store old (state g.S.Store one) _
+    (rw begin at c.create_tables.ensures.survives)) c.put_about.ensures.survives)
+    c.commit.ensures.survives)

@@ -15,14 +15,22 @@ puts-preserved g c =
     let mid = state g.S.Store c.puts.tx.conn.now in
     let new = state g.S.Store c.put_intent.new.tx.conn.now in
     let so = c.puts.invariant in
-    let next : c.in-Some.next ≡ c.puts.intent-index + 1 = omega (arith, c.in-Some.ensures, so.1) in (
+    let next : c.in-Some.next ≡ c.puts.intent-index + 1 =
+    omega (arith, c.in-Some.ensures, so.1) in (
       c.in_ok-put_intent.ensures.same_reference ∙ so.0,
       next,
-      goes_as registry_schema HasRows old mid new (with_intents (intent_rows 1 (take c.puts.intent-index c.args.intents.now))) (with_intents (intent_row c.in-Some.next c.intent-item.result ∷ [])) _
-          so.2 c.put_intent.ensures.survives c.put_intent.ensures.kept c.in_ok-put_intent.ensures.put
-          (λ at t. behind at new c.args.intents.now c.puts.intent-index c.in-Some.next c.intent-item.result t c.puts-test.true c.intent-item.is next),
+      goes_as registry_schema HasRows old mid new
+          (with_intents (intent_rows 1 (take c.puts.intent-index c.args.intents.now)))
+          (with_intents (intent_row c.in-Some.next c.intent-item.result ∷ [])) _
+          so.2 c.put_intent.ensures.survives c.put_intent.ensures.kept
+          c.in_ok-put_intent.ensures.put
+          (λ at t. behind at new c.args.intents.now c.puts.intent-index c.in-Some.next
+          c.intent-item.result t c.puts-test.true c.intent-item.is next),
     )
 
 pub returns-clause-put : goal.returns-clause-put
 returns-clause-put g c clean at t was =
-    subst (λ all. IsInside at (state g.S.Store c.puts.tx.conn.now) (with_intents (intent_rows 1 all) t)) (take_all c.puts.intent-index c.args.intents.now c.puts-test.false) (c.puts.invariant.2.put clean at t was)
+    subst (λ all. IsInside at (state g.S.Store c.puts.tx.conn.now)
+    (with_intents (intent_rows 1 all) t))
+    (take_all c.puts.intent-index c.args.intents.now c.puts-test.false)
+    (c.puts.invariant.2.put clean at t was)

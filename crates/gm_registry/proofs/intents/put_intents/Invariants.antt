@@ -10,4 +10,6 @@ use Rattle.gm_registry.proofs.intents.put_intents.Given as goal
 abbrev pub invariant-puts : goal.invariant-puts
 invariant-puts g l =
     (l.tx.conn.ghost_name ≡ l.fn.tx.conn.ghost_name) × (l.ord ≡ l.intent-index)
-    × SoFar registry_schema HasRows (state g.S.Store l.fn.tx.conn.now) (state g.S.Store l.tx.conn.now) (with_intents (intent_rows 1 (take l.intent-index l.intents)))
+    × SoFar registry_schema HasRows (state g.S.Store l.fn.tx.conn.now)
+    (state g.S.Store l.tx.conn.now)
+    (with_intents (intent_rows 1 (take l.intent-index l.intents)))

@@ -12,10 +12,29 @@ use Rattle.gm_registry.proofs.intents.put_row.Goals as goal
 
 pub returns-clause-put : goal.returns-clause-put
 returns-clause-put g c clean =
-    let row : IntentRow = record { ord = c.args.ord; kind = c.args.kind; prov = c.args.provider.now; source = c.args.source.now; first_sector = c.args.first; end_sector = c.args.end } in
-    at_inside registry_schema HasRows put_intent_text (intent_params row) _ put_intent_is.command_is put_intent_is.plain (λ old new text count h. h) (with_intents (row ∷ [])) (puts_intent row)
-    (state g.S.Store c.args.tx.now.conn.now) (state g.S.Store c.execute.new.self.conn.now) c.execute.result
-    (rw (c.params-to_sql.ensures, c.params-to_sql-2.ensures, c.params-to_sql-3.ensures, c.params-to_sql-4.ensures, c.params-to_sql-5.ensures, c.params-to_sql-6.ensures) at (c.execute.ensures.runs clean))
+    let row : IntentRow = record {
+      ord = c.args.ord;
+      kind = c.args.kind;
+      prov = c.args.provider.now;
+      source = c.args.source.now;
+      first_sector = c.args.first;
+      end_sector = c.args.end;
+    } in
+    at_inside registry_schema HasRows put_intent_text (intent_params row) _ put_intent_is.command_is
+    put_intent_is.plain (λ old new text count h. h) (with_intents (row ∷ [])) (puts_intent row)
+    (state g.S.Store c.args.tx.now.conn.now) (state g.S.Store c.execute.new.self.conn.now)
+    c.execute.result
+    (rw (
+      c.params-to_sql.ensures,
+      c.params-to_sql-2.ensures,
+      c.params-to_sql-3.ensures,
+      c.params-to_sql-4.ensures,
+      c.params-to_sql-5.ensures,
+      c.params-to_sql-6.ensures,
+    ) at
+    (c.execute.ensures.runs clean))
 
 pub returns-clause-kept : goal.returns-clause-kept
-returns-clause-kept g c clean = keeps_held g.S.Store c.args.tx.now.conn.now c.execute.new.self.conn.now _ _ c.execute.result (c.execute.ensures.runs clean) c.execute.ensures.ended
+returns-clause-kept g c clean =
+    keeps_held g.S.Store c.args.tx.now.conn.now c.execute.new.self.conn.now _ _ c.execute.result
+    (c.execute.ensures.runs clean) c.execute.ensures.ended

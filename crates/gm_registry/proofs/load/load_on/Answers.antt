@@ -10,31 +10,44 @@ returns-clause-loaded g c clean =
     let old = state g.S.Store c.args.conn.now in
     let new = state g.S.Store c.fetch.new.conn in
     if_ok c.judge.result _ _ (λ r says t was. (
-      tables_said old.now.trees t c.in_ok-fetched.fetched r.0 r.1.items (counted old t was) (c.in_ok-fetched.ensures.rows clean (ours old t was)) says,
-      saved g.S.Store g.met.S.Store.settled c.fetch.new.conn t (tables_stay old new t c.in_ok-fetched.ensures.read clean was),
+      tables_said old.now.trees t c.in_ok-fetched.fetched r.0 r.1.items (counted old t was)
+          (c.in_ok-fetched.ensures.rows clean (ours old t was)) says,
+      saved g.S.Store g.met.S.Store.settled c.fetch.new.conn t
+          (tables_stay old new t c.in_ok-fetched.ensures.read clean was),
     )) c.judge.ensures.says
 
 pub returns-clause-unreadable : goal.returns-clause-unreadable
 returns-clause-unreadable g c clean =
     let old = state g.S.Store c.args.conn.now in
     if_err c.judge.result _ _ (λ e none is t s ts was of.
-    none is s ts (says_tables old.now.trees t c.in_ok-fetched.fetched s ts (counted old t was) (c.in_ok-fetched.ensures.rows clean (ours old t was)) of)) c.judge.ensures.unreadable
+    none is s ts (says_tables old.now.trees t c.in_ok-fetched.fetched s ts (counted old t was)
+    (c.in_ok-fetched.ensures.rows clean (ours old t was)) of)) c.judge.ensures.unreadable
 
 pub returns-clause-reads : goal.returns-clause-reads
-returns-clause-reads g c = answered_reads g.S.Store g.met.S.Store.settled c.args.conn.now c.fetch.new.conn c.in_ok-fetched.ensures.read
+returns-clause-reads g c =
+    answered_reads g.S.Store g.met.S.Store.settled c.args.conn.now c.fetch.new.conn
+    c.in_ok-fetched.ensures.read
 
 pub returns-in_err-fetched-clause-reads : goal.returns-in_err-fetched-clause-reads
-returns-in_err-fetched-clause-reads g c = failed_reads g.S.Store g.met.S.Store.settled c.args.conn.now c.fetch.new.conn c.in_err-fetched.ensures.failed
+returns-in_err-fetched-clause-reads g c =
+    failed_reads g.S.Store g.met.S.Store.settled c.args.conn.now c.fetch.new.conn
+    c.in_err-fetched.ensures.failed
 
 pub returns-clause-untouched : goal.returns-clause-untouched
-returns-clause-untouched g c = read_leaves (state g.S.Store c.args.conn.now) (state g.S.Store c.fetch.new.conn) c.in_ok-fetched.ensures.read
+returns-clause-untouched g c =
+    read_leaves (state g.S.Store c.args.conn.now) (state g.S.Store c.fetch.new.conn)
+    c.in_ok-fetched.ensures.read
 
 pub returns-clause-says : goal.returns-clause-says
 returns-clause-says g c clean =
     let old = state g.S.Store c.args.conn.now in
-    if_ok c.judge.result _ _ (λ r says was. any_tables old.now.trees c.in_ok-fetched.fetched r.0 r.1.items (c.in_ok-fetched.ensures.rows clean (registry_ours old was)) says) c.judge.ensures.says
+    if_ok c.judge.result _ _
+    (λ r says was. any_tables old.now.trees c.in_ok-fetched.fetched r.0 r.1.items
+    (c.in_ok-fetched.ensures.rows clean (registry_ours old was)) says) c.judge.ensures.says
 
 pub returns-clause-silent : goal.returns-clause-silent
 returns-clause-silent g c clean =
     let old = state g.S.Store c.args.conn.now in
-    if_err c.judge.result _ _ (λ e none is s ts was of. none is s ts (any_rows old.now.trees c.in_ok-fetched.fetched s ts (c.in_ok-fetched.ensures.rows clean (registry_ours old was)) of)) c.judge.ensures.unreadable
+    if_err c.judge.result _ _ (λ e none is s ts was of.
+    none is s ts (any_rows old.now.trees c.in_ok-fetched.fetched s ts
+    (c.in_ok-fetched.ensures.rows clean (registry_ours old was)) of)) c.judge.ensures.unreadable

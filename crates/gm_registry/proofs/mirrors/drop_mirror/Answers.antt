@@ -12,9 +12,14 @@ use Rattle.gm_registry.proofs.mirrors.drop_mirror.Goals as goal
 
 pub returns-clause-put : goal.returns-clause-put
 returns-clause-put g c clean =
-    at_inside registry_schema HasRows drop_mirror_text (Text c.args.name ∷ []) _ drop_mirror_is.command_is drop_mirror_is.plain (λ old new text count h. h) (without_mirror c.args.name) (drops_mirror c.args.name)
-    (state g.S.Store c.args.tx.now.conn.now) (state g.S.Store c.execute.new.self.conn.now) c.execute.result
+    at_inside registry_schema HasRows drop_mirror_text (Text c.args.name
+    ∷ []) _ drop_mirror_is.command_is drop_mirror_is.plain (λ old new text count h. h)
+    (without_mirror c.args.name) (drops_mirror c.args.name)
+    (state g.S.Store c.args.tx.now.conn.now) (state g.S.Store c.execute.new.self.conn.now)
+    c.execute.result
     (rw (c.params-to_sql.ensures, c.as_str.ensures.text) at (c.execute.ensures.runs clean))
 
 pub returns-clause-kept : goal.returns-clause-kept
-returns-clause-kept g c clean = keeps_held g.S.Store c.args.tx.now.conn.now c.execute.new.self.conn.now _ _ c.execute.result (c.execute.ensures.runs clean) c.execute.ensures.ended
+returns-clause-kept g c clean =
+    keeps_held g.S.Store c.args.tx.now.conn.now c.execute.new.self.conn.now _ _ c.execute.result
+    (c.execute.ensures.runs clean) c.execute.ensures.ended

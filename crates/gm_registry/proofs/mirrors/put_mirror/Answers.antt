@@ -15,8 +15,11 @@ use Rattle.gm_registry.proofs.mirrors.put_mirror.Goals as goal
 pub returns-clause-put : goal.returns-clause-put
 returns-clause-put g c clean =
     let row = mirror_row c.args.mirror in
-    at_inside registry_schema HasRows upsert_mirror_text (mirror_values row) _ upsert_mirror_is.command_is upsert_mirror_is.plain (λ old new text count h. h) (with_mirror row) (upserts_mirror row)
-    (state g.S.Store c.args.tx.now.conn.now) (state g.S.Store c.execute.new.self.conn.now) c.execute.result
+    at_inside registry_schema HasRows upsert_mirror_text
+    (mirror_values row) _ upsert_mirror_is.command_is upsert_mirror_is.plain
+    (λ old new text count h. h) (with_mirror row) (upserts_mirror row)
+    (state g.S.Store c.args.tx.now.conn.now) (state g.S.Store c.execute.new.self.conn.now)
+    c.execute.result
     (rw (
       c.params-to_sql.ensures,
       c.params-to_sql-2.ensures,
@@ -36,4 +39,6 @@ returns-clause-put g c clean =
     ) at (c.execute.ensures.runs clean))
 
 pub returns-clause-kept : goal.returns-clause-kept
-returns-clause-kept g c clean = keeps_held g.S.Store c.args.tx.now.conn.now c.execute.new.self.conn.now _ _ c.execute.result (c.execute.ensures.runs clean) c.execute.ensures.ended
+returns-clause-kept g c clean =
+    keeps_held g.S.Store c.args.tx.now.conn.now c.execute.new.self.conn.now _ _ c.execute.result
+    (c.execute.ensures.runs clean) c.execute.ensures.ended

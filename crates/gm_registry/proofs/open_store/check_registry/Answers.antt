@@ -19,40 +19,52 @@ never e = cc
 
 pub returns-in_err-texts-clause-failed : goal.returns-in_err-texts-clause-failed
 returns-in_err-texts-clause-failed g c =
-    failed_closer ShowsList IsOurSchema ours_known (state g.S.Store c.args.conn.now) (state g.S.Store c.load_texts.new.conn) c.in_err-texts.ensures.failed
+    failed_closer ShowsList IsOurSchema ours_known (state g.S.Store c.args.conn.now)
+    (state g.S.Store c.load_texts.new.conn) c.in_err-texts.ensures.failed
 
 pub returns-then-not-are_texts-clause-unreadable : goal.returns-then-not-are_texts-clause-unreadable
 returns-then-not-are_texts-clause-unreadable g c clean is ours lists about =
     let s0 = state g.S.Store c.args.conn.now in
-    let shown = ours_shown s0.now.trees c.in_ok-texts.texts.items (c.in_ok-texts.ensures.rows clean (ours_known _ ours)) lists in
-    never (sym c.if-not-are_texts.true ∙ c.are_texts.ensures.1 (subst (λ (rows : List Row). IsPermutation our_tables (map (columns_at two) rows)) (sym c.deref.ensures.value) shown))
+    let shown = ours_shown s0.now.trees c.in_ok-texts.texts.items
+    (c.in_ok-texts.ensures.rows clean (ours_known _ ours)) lists in
+    never (sym c.if-not-are_texts.true ∙ c.are_texts.ensures.1
+    (subst (λ (rows : List Row). IsPermutation our_tables (map (columns_at two) rows))
+    (sym c.deref.ensures.value) shown))
 
 pub returns-then-not-are_texts-clause-failed : goal.returns-then-not-are_texts-clause-failed
 returns-then-not-are_texts-clause-failed g c =
     let s0 = state g.S.Store c.args.conn.now in
     let s1 = state g.S.Store c.load_texts.new.conn in
-    failed_closer ShowsList IsOurSchema ours_known s0 s1 (read_at_most ShowsList s0 s1 c.in_ok-texts.ensures.read)
+    failed_closer ShowsList IsOurSchema ours_known s0 s1
+    (read_at_most ShowsList s0 s1 c.in_ok-texts.ensures.read)
 
 pub returns-then-not-are_texts-clause-foreign : goal.returns-then-not-are_texts-clause-foreign
 returns-then-not-are_texts-clause-foreign g c other =
-    read_at_most ShowsList (state g.S.Store c.args.conn.now) (state g.S.Store c.load_texts.new.conn) c.in_ok-texts.ensures.read
+    read_at_most ShowsList (state g.S.Store c.args.conn.now)
+    (state g.S.Store c.load_texts.new.conn) c.in_ok-texts.ensures.read
 
 pub returns-in_err-about-clause-failed : goal.returns-in_err-about-clause-failed
 returns-in_err-about-clause-failed g c =
     let s0 = state g.S.Store c.args.conn.now in
     let s1 = state g.S.Store c.load_texts.new.conn in
-    failed_then s0 s1 (state g.S.Store c.rows_of.new.conn) (known_closer ShowsList IsOurSchema ours_known s0 s1 c.in_ok-texts.ensures.read) c.in_err-about.ensures.failed
+    failed_then s0 s1 (state g.S.Store c.rows_of.new.conn)
+    (known_closer ShowsList IsOurSchema ours_known s0 s1 c.in_ok-texts.ensures.read)
+    c.in_err-about.ensures.failed
 
 pub returns-in_err-about-clause-foreign : goal.returns-in_err-about-clause-foreign
 returns-in_err-about-clause-foreign g c =
     let s0 = state g.S.Store c.args.conn.now in
     let s1 = state g.S.Store c.load_texts.new.conn in
     let s2 = state g.S.Store c.rows_of.new.conn in
-    let failed = failed_then s0 s1 s2 (known_closer ShowsList IsOurSchema ours_known s0 s1 c.in_ok-texts.ensures.read) c.in_err-about.ensures.failed in
-    let ours = subst (λ (rows : List Row). IsPermutation our_tables (map (columns_at two) rows)) c.deref.ensures.value (c.are_texts.ensures.0 c.if-not-are_texts.false) in
+    let failed =
+    failed_then s0 s1 s2 (known_closer ShowsList IsOurSchema ours_known s0 s1
+    c.in_ok-texts.ensures.read) c.in_err-about.ensures.failed in
+    let ours = subst (λ (rows : List Row). IsPermutation our_tables (map (columns_at two) rows))
+    c.deref.ensures.value (c.are_texts.ensures.0 c.if-not-are_texts.false) in
     not_foreign s0 s2 (λ clean shows.
     let early : HasCleanDisk s1 = omega (arith, c.in_err-about.ensures.failed.left.clean, clean) in
-    ours_listed s0.now.trees c.in_ok-texts.texts.items (c.in_ok-texts.ensures.rows early shows) ours) failed
+    ours_listed s0.now.trees c.in_ok-texts.texts.items
+    (c.in_ok-texts.ensures.rows early shows) ours) failed
 
 pub returns-then-not-is_about-clause-unreadable : goal.returns-then-not-is_about-clause-unreadable
 returns-then-not-is_about-clause-unreadable g c clean is ours lists about =
@@ -60,33 +72,45 @@ returns-then-not-is_about-clause-unreadable g c clean is ours lists about =
     let s1 = state g.S.Store c.load_texts.new.conn in
     let early : HasCleanDisk s1 = omega (arith, c.in_ok-about.ensures.read.left.clean, clean) in
     let first = known_closer ShowsList IsOurSchema ours_known s0 s1 c.in_ok-texts.ensures.read in
-    let shown : IsShown s0.now.trees About c.in_ok-about.about.items = carried s0 s1 (λ db. IsShown db About c.in_ok-about.about.items) first early (c.in_ok-about.ensures.rows clean) ours in
-    never (sym c.if-not-is_about.true ∙ c.is_about.ensures.1 (subst IsAbout (sym c.deref-2.ensures.value) (about_shown s0.now.trees c.in_ok-about.about.items shown about)))
+    let shown : IsShown s0.now.trees About c.in_ok-about.about.items =
+    carried s0 s1 (λ db. IsShown db About c.in_ok-about.about.items) first early
+    (c.in_ok-about.ensures.rows clean) ours in
+    never (sym c.if-not-is_about.true ∙ c.is_about.ensures.1
+    (subst IsAbout (sym c.deref-2.ensures.value)
+    (about_shown s0.now.trees c.in_ok-about.about.items shown about)))
 
 pub returns-then-not-is_about-clause-failed : goal.returns-then-not-is_about-clause-failed
 returns-then-not-is_about-clause-failed g c =
     let s0 = state g.S.Store c.args.conn.now in
     let s1 = state g.S.Store c.load_texts.new.conn in
     let s2 = state g.S.Store c.rows_of.new.conn in
-    read_at_most IsOurSchema s0 s2 (read_then s0 s1 s2 (known_closer ShowsList IsOurSchema ours_known s0 s1 c.in_ok-texts.ensures.read) c.in_ok-about.ensures.read)
+    read_at_most IsOurSchema s0 s2
+    (read_then s0 s1 s2 (known_closer ShowsList IsOurSchema ours_known s0 s1
+    c.in_ok-texts.ensures.read) c.in_ok-about.ensures.read)
 
 pub returns-then-not-is_about-clause-foreign : goal.returns-then-not-is_about-clause-foreign
 returns-then-not-is_about-clause-foreign g c =
     let s0 = state g.S.Store c.args.conn.now in
     let s1 = state g.S.Store c.load_texts.new.conn in
     let s2 = state g.S.Store c.rows_of.new.conn in
-    let both = read_then s0 s1 s2 (known_closer ShowsList IsOurSchema ours_known s0 s1 c.in_ok-texts.ensures.read) c.in_ok-about.ensures.read in
-    let ours = subst (λ (rows : List Row). IsPermutation our_tables (map (columns_at two) rows)) c.deref.ensures.value (c.are_texts.ensures.0 c.if-not-are_texts.false) in
+    let both = read_then s0 s1 s2
+    (known_closer ShowsList IsOurSchema ours_known s0 s1 c.in_ok-texts.ensures.read)
+    c.in_ok-about.ensures.read in
+    let ours = subst (λ (rows : List Row). IsPermutation our_tables (map (columns_at two) rows))
+    c.deref.ensures.value (c.are_texts.ensures.0 c.if-not-are_texts.false) in
     not_foreign s0 s2 (λ clean shows.
     let early : HasCleanDisk s1 = omega (arith, c.in_ok-about.ensures.read.left.clean, clean) in
-    ours_listed s0.now.trees c.in_ok-texts.texts.items (c.in_ok-texts.ensures.rows early shows) ours) (read_at_most IsOurSchema s0 s2 both)
+    ours_listed s0.now.trees c.in_ok-texts.texts.items
+    (c.in_ok-texts.ensures.rows early shows) ours) (read_at_most IsOurSchema s0 s2 both)
 
 pub returns-clause-texts : goal.returns-clause-texts
 returns-clause-texts g c clean shows =
     let s0 = state g.S.Store c.args.conn.now in
-    let early : HasCleanDisk (state g.S.Store c.load_texts.new.conn) = omega (arith, c.in_ok-about.ensures.read.left.clean, clean) in
+    let early : HasCleanDisk (state g.S.Store c.load_texts.new.conn) =
+    omega (arith, c.in_ok-about.ensures.read.left.clean, clean) in
     ours_listed s0.now.trees c.in_ok-texts.texts.items (c.in_ok-texts.ensures.rows early shows)
-    (subst (λ (rows : List Row). IsPermutation our_tables (map (columns_at two) rows)) c.deref.ensures.value (c.are_texts.ensures.0 c.if-not-are_texts.false))
+    (subst (λ (rows : List Row). IsPermutation our_tables (map (columns_at two) rows))
+    c.deref.ensures.value (c.are_texts.ensures.0 c.if-not-are_texts.false))
 
 pub returns-clause-about : goal.returns-clause-about
 returns-clause-about g c clean ours =
@@ -94,29 +118,40 @@ returns-clause-about g c clean ours =
     let s1 = state g.S.Store c.load_texts.new.conn in
     let early : HasCleanDisk s1 = omega (arith, c.in_ok-about.ensures.read.left.clean, clean) in
     let first = known_closer ShowsList IsOurSchema ours_known s0 s1 c.in_ok-texts.ensures.read in
-    let shown : IsShown s0.now.trees About c.in_ok-about.about.items = carried s0 s1 (λ db. IsShown db About c.in_ok-about.about.items) first early (c.in_ok-about.ensures.rows clean) ours in
-    about_told s0.now.trees c.in_ok-about.about.items shown (subst IsAbout c.deref-2.ensures.value (c.is_about.ensures.0 c.if-not-is_about.false))
+    let shown : IsShown s0.now.trees About c.in_ok-about.about.items =
+    carried s0 s1 (λ db. IsShown db About c.in_ok-about.about.items) first early
+    (c.in_ok-about.ensures.rows clean) ours in
+    about_told s0.now.trees c.in_ok-about.about.items shown
+    (subst IsAbout c.deref-2.ensures.value (c.is_about.ensures.0 c.if-not-is_about.false))
 
 pub returns-clause-read : goal.returns-clause-read
 returns-clause-read g c =
     let s0 = state g.S.Store c.args.conn.now in
     let s1 = state g.S.Store c.load_texts.new.conn in
-    read_then s0 s1 (state g.S.Store c.rows_of.new.conn) (known_closer ShowsList IsOurSchema ours_known s0 s1 c.in_ok-texts.ensures.read) c.in_ok-about.ensures.read
+    read_then s0 s1 (state g.S.Store c.rows_of.new.conn)
+    (known_closer ShowsList IsOurSchema ours_known s0 s1 c.in_ok-texts.ensures.read)
+    c.in_ok-about.ensures.read
 
 pub returns-clause-failed : goal.returns-clause-failed
 returns-clause-failed g c =
     let s0 = state g.S.Store c.args.conn.now in
     let s1 = state g.S.Store c.load_texts.new.conn in
     let s2 = state g.S.Store c.rows_of.new.conn in
-    read_at_most IsOurSchema s0 s2 (read_then s0 s1 s2 (known_closer ShowsList IsOurSchema ours_known s0 s1 c.in_ok-texts.ensures.read) c.in_ok-about.ensures.read)
+    read_at_most IsOurSchema s0 s2
+    (read_then s0 s1 s2 (known_closer ShowsList IsOurSchema ours_known s0 s1
+    c.in_ok-texts.ensures.read) c.in_ok-about.ensures.read)
 
 pub returns-clause-foreign : goal.returns-clause-foreign
 returns-clause-foreign g c =
     let s0 = state g.S.Store c.args.conn.now in
     let s1 = state g.S.Store c.load_texts.new.conn in
     let s2 = state g.S.Store c.rows_of.new.conn in
-    let both = read_then s0 s1 s2 (known_closer ShowsList IsOurSchema ours_known s0 s1 c.in_ok-texts.ensures.read) c.in_ok-about.ensures.read in
-    let ours = subst (λ (rows : List Row). IsPermutation our_tables (map (columns_at two) rows)) c.deref.ensures.value (c.are_texts.ensures.0 c.if-not-are_texts.false) in
+    let both = read_then s0 s1 s2
+    (known_closer ShowsList IsOurSchema ours_known s0 s1 c.in_ok-texts.ensures.read)
+    c.in_ok-about.ensures.read in
+    let ours = subst (λ (rows : List Row). IsPermutation our_tables (map (columns_at two) rows))
+    c.deref.ensures.value (c.are_texts.ensures.0 c.if-not-are_texts.false) in
     not_foreign s0 s2 (λ clean shows.
     let early : HasCleanDisk s1 = omega (arith, c.in_ok-about.ensures.read.left.clean, clean) in
-    ours_listed s0.now.trees c.in_ok-texts.texts.items (c.in_ok-texts.ensures.rows early shows) ours) (read_at_most IsOurSchema s0 s2 both)
+    ours_listed s0.now.trees c.in_ok-texts.texts.items
+    (c.in_ok-texts.ensures.rows early shows) ours) (read_at_most IsOurSchema s0 s2 both)

@@ -7,12 +7,18 @@ use Rattle.gm_registry.proofs.Texts.{plain_list, lists}
 use Rattle.gm_registry.proofs.open_store.load_texts.Goals as goal
 
 pub returns-in-Ok-clause-rows : goal.returns-in-Ok-clause-rows
-returns-in-Ok-clause-rows g c clean shows = lists (state g.S.Store c.args.conn.now) (state g.S.Store c.query_all.new.self) c.in-Ok.rows.items shows (c.in-Ok.ensures.ok clean)
+returns-in-Ok-clause-rows g c clean shows =
+    lists (state g.S.Store c.args.conn.now) (state g.S.Store c.query_all.new.self)
+    c.in-Ok.rows.items shows (c.in-Ok.ensures.ok clean)
 
 pub returns-in-Ok-clause-read : goal.returns-in-Ok-clause-read
 returns-in-Ok-clause-read g c =
-    read_by ShowsList load_texts_text [] plain_list (state g.S.Store c.args.conn.now) (state g.S.Store c.query_all.new.self) c.in-Ok.rows.items c.in-Ok.ensures.ok c.query_all.ensures.survives
+    read_by ShowsList load_texts_text [] plain_list (state g.S.Store c.args.conn.now)
+    (state g.S.Store c.query_all.new.self) c.in-Ok.rows.items c.in-Ok.ensures.ok
+    c.query_all.ensures.survives
 
 pub returns-in-Err-clause-failed : goal.returns-in-Err-clause-failed
 returns-in-Err-clause-failed g c =
-    failed_by ShowsList load_texts_text [] plain_list (state g.S.Store c.args.conn.now) (state g.S.Store c.query_all.new.self) c.in-Err.error c.in-Err.ensures.err c.query_all.ensures.survives
+    failed_by ShowsList load_texts_text [] plain_list (state g.S.Store c.args.conn.now)
+    (state g.S.Store c.query_all.new.self) c.in-Err.error c.in-Err.ensures.err
+    c.query_all.ensures.survives

@@ -6,4 +6,6 @@ use Rattle.gm_registry.proofs.open_store.shows_text.Given as goal
 
 -- it is left to see the rows behind
 abbrev pub invariant-rows : goal.invariant-rows
-invariant-rows l = IsLeft (under_number l.number l.text) (map (columns_at two) l.rows) (map (columns_at two) (drop l.row-index l.rows))
+invariant-rows l =
+    IsLeft (under_number l.number l.text) (map (columns_at two) l.rows)
+    (map (columns_at two) (drop l.row-index l.rows))

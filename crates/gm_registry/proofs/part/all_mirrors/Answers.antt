@@ -12,16 +12,20 @@ pub returns-clause-all : goal.returns-clause-all
 returns-clause-all g c clean =
     let old = state g.S.Store c.args.conn.now in
     if_ok c.read_all.result _ _ (λ ms is t s was of.
-    mirrors_read old.now.trees t s (counted old t was).rows of c.in_ok-rows.rows.items ms.items (c.in_ok-rows.ensures.rows clean (ours old t was))
+    mirrors_read old.now.trees t s (counted old t was).rows of c.in_ok-rows.rows.items ms.items
+    (c.in_ok-rows.ensures.rows clean (ours old t was))
     (ap (map (columns_at nine)) (sym c.deref.ensures.value) ∙ is)) c.read_all.ensures.read
 
 pub returns-clause-unreadable : goal.returns-clause-unreadable
 returns-clause-unreadable g c clean =
     let old = state g.S.Store c.args.conn.now in
     if_err c.read_all.result _ _ (λ e none is t s was of.
-    no_mirrors old.now.trees t s (counted old t was).rows of c.in_ok-rows.rows.items (c.in_ok-rows.ensures.rows clean (ours old t was))
-    (λ list all same. none is list all (ap (map (columns_at nine)) c.deref.ensures.value ∙ same))) c.read_all.ensures.unreadable
+    no_mirrors old.now.trees t s (counted old t was).rows of c.in_ok-rows.rows.items
+    (c.in_ok-rows.ensures.rows clean (ours old t was))
+    (λ list all same. none is list all (ap (map (columns_at nine)) c.deref.ensures.value ∙ same)))
+    c.read_all.ensures.unreadable
 
 pub returns-clause-failed : goal.returns-clause-failed
 returns-clause-failed g c =
-    on_err c.read_all.result _ (read_at_most IsOurSchema (state g.S.Store c.args.conn.now) (state g.S.Store c.rows_of.new.conn) c.in_ok-rows.ensures.read)
+    on_err c.read_all.result _ (read_at_most IsOurSchema (state g.S.Store c.args.conn.now)
+    (state g.S.Store c.rows_of.new.conn) c.in_ok-rows.ensures.read)

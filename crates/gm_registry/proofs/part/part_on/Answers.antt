@@ -12,12 +12,16 @@ returns-in-Some-clause-part g c clean t s was of =
     let mids = c.args.mids.now in
     let asked = c.in_ok-asked.asked in
     let are = c.in_ok-asked.ensures.asked clean t s was of in
-    let mine = is_part s command mids of.state asked.mirrors.items asked.components.items (c.a_part_is_a_state.ensures s command mids of.state) are.mirrors are.components in (
+    let mine = is_part s command mids of.state asked.mirrors.items asked.components.items
+    (c.a_part_is_a_state.ensures s command mids of.state) are.mirrors are.components in (
       record {
-        state = same_state asked.mirrors.items asked.components.items c.in-Some.state (part_of s command mids) c.in-Some.ensures.some mine;
+        state = same_state asked.mirrors.items asked.components.items c.in-Some.state
+            (part_of s command mids) c.in-Some.ensures.some mine;
         mirrors = are.count;
       },
-      saved g.S.Store g.met.S.Store.settled c.read_asked.new.conn t (tables_stay (state g.S.Store c.args.conn.now) (state g.S.Store c.read_asked.new.conn) t c.in_ok-asked.ensures.read clean was),
+      saved g.S.Store g.met.S.Store.settled c.read_asked.new.conn t
+          (tables_stay (state g.S.Store c.args.conn.now) (state g.S.Store c.read_asked.new.conn) t
+          c.in_ok-asked.ensures.read clean was),
     )
 
 pub returns-in-None-clause-unreadable : goal.returns-in-None-clause-unreadable
@@ -26,4 +30,6 @@ returns-in-None-clause-unreadable g c clean is t s was of =
     let mids = c.args.mids.now in
     let asked = c.in_ok-asked.asked in
     let are = c.in_ok-asked.ensures.asked clean t s was of in
-    c.in-None.ensures.none (part_of s command mids) (is_part s command mids of.state asked.mirrors.items asked.components.items (c.a_part_is_a_state.ensures s command mids of.state) are.mirrors are.components)
+    c.in-None.ensures.none (part_of s command mids)
+    (is_part s command mids of.state asked.mirrors.items asked.components.items
+    (c.a_part_is_a_state.ensures s command mids of.state) are.mirrors are.components)

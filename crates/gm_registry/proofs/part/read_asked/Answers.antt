@@ -20,49 +20,68 @@ pub returns-in_err-named-clause-unreadable : goal.returns-in_err-named-clause-un
 returns-in_err-named-clause-unreadable g c clean =
     let old = state g.S.Store c.args.conn.now in
     let mid = state g.S.Store c.all_mirrors.new.conn in
-    let early = failed_clean mid (state g.S.Store c.components_under.new.conn) c.in_err-named.ensures.failed clean in
+    let early = failed_clean mid (state g.S.Store c.components_under.new.conn)
+    c.in_err-named.ensures.failed clean in
     passed_on c.from_residual-in_err-named.result _ _ (λ e same is t s was of.
-    c.in_err-named.ensures.unreadable clean (sym same ∙ is) t s (tables_stay old mid t c.in_ok-all.ensures.read early was) of) c.from_residual-in_err-named.ensures.1
+    c.in_err-named.ensures.unreadable clean (sym same ∙ is) t s
+    (tables_stay old mid t c.in_ok-all.ensures.read early was) of)
+    c.from_residual-in_err-named.ensures.1
 
 pub returns-in_err-named-clause-failed : goal.returns-in_err-named-clause-failed
 returns-in_err-named-clause-failed g c =
     on_err c.from_residual-in_err-named.result _
-    (failed_then (state g.S.Store c.args.conn.now) (state g.S.Store c.all_mirrors.new.conn) (state g.S.Store c.components_under.new.conn) c.in_ok-all.ensures.read c.in_err-named.ensures.failed)
+    (failed_then (state g.S.Store c.args.conn.now) (state g.S.Store c.all_mirrors.new.conn)
+    (state g.S.Store c.components_under.new.conn) c.in_ok-all.ensures.read
+    c.in_err-named.ensures.failed)
 
 pub returns-in_err-mirrors-clause-failed : goal.returns-in_err-mirrors-clause-failed
 returns-in_err-mirrors-clause-failed g c =
     on_err c.from_residual-in_err-mirrors.result _
-    (read_at_most IsOurSchema (state g.S.Store c.args.conn.now) (state g.S.Store c.components_under.new.conn) (then_some g.S.Store c.args.conn.now c.all_mirrors.new.conn c.components_under.new.conn c.in_ok-all.ensures.read c.in_ok-named.ensures.read))
+    (read_at_most IsOurSchema (state g.S.Store c.args.conn.now)
+    (state g.S.Store c.components_under.new.conn)
+    (then_some g.S.Store c.args.conn.now c.all_mirrors.new.conn c.components_under.new.conn
+    c.in_ok-all.ensures.read c.in_ok-named.ensures.read))
 
 pub returns-in_err-names-clause-failed : goal.returns-in_err-names-clause-failed
 returns-in_err-names-clause-failed g c =
     on_err c.from_residual-in_err-names.result _
-    (read_at_most IsOurSchema (state g.S.Store c.args.conn.now) (state g.S.Store c.components_under.new.conn) (then_some g.S.Store c.args.conn.now c.all_mirrors.new.conn c.components_under.new.conn c.in_ok-all.ensures.read c.in_ok-named.ensures.read))
+    (read_at_most IsOurSchema (state g.S.Store c.args.conn.now)
+    (state g.S.Store c.components_under.new.conn)
+    (then_some g.S.Store c.args.conn.now c.all_mirrors.new.conn c.components_under.new.conn
+    c.in_ok-all.ensures.read c.in_ok-named.ensures.read))
 
 pub returns-in_err-components-clause-unreadable : goal.returns-in_err-components-clause-unreadable
 returns-in_err-components-clause-unreadable g c clean =
     let old = state g.S.Store c.args.conn.now in
     let mid = state g.S.Store c.components_under.new.conn in
-    let both = then_some g.S.Store c.args.conn.now c.all_mirrors.new.conn c.components_under.new.conn c.in_ok-all.ensures.read c.in_ok-named.ensures.read in
-    let early = failed_clean mid (state g.S.Store c.components_under-2.new.conn) c.in_err-components.ensures.failed clean in
+    let both = then_some g.S.Store c.args.conn.now c.all_mirrors.new.conn
+    c.components_under.new.conn c.in_ok-all.ensures.read c.in_ok-named.ensures.read in
+    let early = failed_clean mid (state g.S.Store c.components_under-2.new.conn)
+    c.in_err-components.ensures.failed clean in
     passed_on c.from_residual-in_err-components.result _ _ (λ e same is t s was of.
-    c.in_err-components.ensures.unreadable clean (sym same ∙ is) t s (tables_stay old mid t both early was) of) c.from_residual-in_err-components.ensures.1
+    c.in_err-components.ensures.unreadable clean (sym same ∙ is) t s
+    (tables_stay old mid t both early was) of) c.from_residual-in_err-components.ensures.1
 
 pub returns-in_err-components-clause-failed : goal.returns-in_err-components-clause-failed
 returns-in_err-components-clause-failed g c =
-    let both = then_some g.S.Store c.args.conn.now c.all_mirrors.new.conn c.components_under.new.conn c.in_ok-all.ensures.read c.in_ok-named.ensures.read in
+    let both = then_some g.S.Store c.args.conn.now c.all_mirrors.new.conn
+    c.components_under.new.conn c.in_ok-all.ensures.read c.in_ok-named.ensures.read in
     on_err c.from_residual-in_err-components.result _
-    (failed_then (state g.S.Store c.args.conn.now) (state g.S.Store c.components_under.new.conn) (state g.S.Store c.components_under-2.new.conn) both c.in_err-components.ensures.failed)
+    (failed_then (state g.S.Store c.args.conn.now) (state g.S.Store c.components_under.new.conn)
+    (state g.S.Store c.components_under-2.new.conn) both c.in_err-components.ensures.failed)
 
 pub returns-in_err-components-clause-store : goal.returns-in_err-components-clause-store
 returns-in_err-components-clause-store g c clean =
     let old = state g.S.Store c.args.conn.now in
     let mid = state g.S.Store c.components_under.new.conn in
     let new = state g.S.Store c.components_under-2.new.conn in
-    let both = then_some g.S.Store c.args.conn.now c.all_mirrors.new.conn c.components_under.new.conn c.in_ok-all.ensures.read c.in_ok-named.ensures.read in
+    let both = then_some g.S.Store c.args.conn.now c.all_mirrors.new.conn
+    c.components_under.new.conn c.in_ok-all.ensures.read c.in_ok-named.ensures.read in
     let early = failed_clean mid new c.in_err-components.ensures.failed clean in
     passed_on c.from_residual-in_err-components.result _ _ (λ e same is ours is_open.
-    failed_later old mid new both early ours is_open (c.in_err-components.ensures.store clean (sym same ∙ is))) c.from_residual-in_err-components.ensures.1
+    failed_later old mid new both early ours is_open
+    (c.in_err-components.ensures.store clean (sym same ∙ is)))
+    c.from_residual-in_err-components.ensures.1
 
 pub returns-in_err-named-clause-store : goal.returns-in_err-named-clause-store
 returns-in_err-named-clause-store g c clean =
@@ -71,32 +90,57 @@ returns-in_err-named-clause-store g c clean =
     let new = state g.S.Store c.components_under.new.conn in
     let early = failed_clean mid new c.in_err-named.ensures.failed clean in
     passed_on c.from_residual-in_err-named.result _ _ (λ e same is ours is_open.
-    failed_later old mid new c.in_ok-all.ensures.read early ours is_open (c.in_err-named.ensures.store clean (sym same ∙ is))) c.from_residual-in_err-named.ensures.1
+    failed_later old mid new c.in_ok-all.ensures.read early ours is_open
+    (c.in_err-named.ensures.store clean (sym same ∙ is))) c.from_residual-in_err-named.ensures.1
 
 pub returns-clause-asked : goal.returns-clause-asked
 returns-clause-asked g c clean t s was of =
     let command = c.args.command.now in
     let mids = c.args.mids.now in
     let mirrors = c.in_ok-mirrors.mirrors.items in
-    let clean2 = some_clean g.S.Store c.components_under.new.conn c.components_under-2.new.conn c.in_ok-components.ensures.read clean in
-    let clean1 = some_clean g.S.Store c.all_mirrors.new.conn c.components_under.new.conn c.in_ok-named.ensures.read clean2 in
-    let at1 = tables_stay (state g.S.Store c.args.conn.now) (state g.S.Store c.all_mirrors.new.conn) t c.in_ok-all.ensures.read clean1 was in
-    let at2 = some_stay g.S.Store c.all_mirrors.new.conn c.components_under.new.conn t c.in_ok-named.ensures.read clean2 at1 in
+    let clean2 = some_clean g.S.Store c.components_under.new.conn c.components_under-2.new.conn
+    c.in_ok-components.ensures.read clean in
+    let clean1 = some_clean g.S.Store c.all_mirrors.new.conn c.components_under.new.conn
+    c.in_ok-named.ensures.read clean2 in
+    let at1 = tables_stay (state g.S.Store c.args.conn.now)
+    (state g.S.Store c.all_mirrors.new.conn) t c.in_ok-all.ensures.read clean1 was in
+    let at2 = some_stay g.S.Store c.all_mirrors.new.conn c.components_under.new.conn t
+    c.in_ok-named.ensures.read clean2 at1 in
     let all = c.in_ok-all.ensures.all clean1 t s was of in
-    let on = subst (λ ps. IsPermutation (flat_map (under Provider s.components) ps) c.in_ok-named.named.items) c.providers_of.ensures (c.in_ok-named.ensures.found clean2 t s at1 of) in
-    let mirrors_are : mirrors ≡ filter (is_asked_by command mids c.in_ok-named.named.items) c.in_ok-all.all.items =
-    c.in_ok-mirrors.ensures ∙ (λ i. filter (is_asked_by command mids (c.deref.ensures.value i)) (c.deref-2.ensures.value i)) in
-    let mine = subst (IsPermutation (part_of s command mids).mirrors) (sym mirrors_are) (mirrors_asked s command mids of.state c.in_ok-named.named.items on c.in_ok-all.all.items all) in
-    let names_are : c.deref-4.result.now ≡ map name mirrors = c.deref-4.ensures.value ∙ (c.in_ok-names.ensures ∙ ap (map name) c.deref-3.ensures.value) in
-    let found = subst (λ (ns : List (List ℕ)). IsPermutation (flat_map (under Mirror s.components) ns) c.in_ok-components.components.items) names_are (c.in_ok-components.ensures.found clean t s at2 of) in
+    let on = subst (λ ps. IsPermutation (flat_map (under Provider s.components) ps)
+    c.in_ok-named.named.items) c.providers_of.ensures
+    (c.in_ok-named.ensures.found clean2 t s at1 of) in
+    let mirrors_are : mirrors ≡ filter (is_asked_by command mids c.in_ok-named.named.items)
+    c.in_ok-all.all.items =
+    c.in_ok-mirrors.ensures
+    ∙ (λ i. filter (is_asked_by command mids (c.deref.ensures.value i))
+    (c.deref-2.ensures.value i)) in
+    let mine = subst (IsPermutation (part_of s command mids).mirrors) (sym mirrors_are)
+    (mirrors_asked s command mids of.state c.in_ok-named.named.items on c.in_ok-all.all.items
+    all) in
+    let names_are : c.deref-4.result.now ≡ map name mirrors =
+    c.deref-4.ensures.value ∙ (c.in_ok-names.ensures ∙ ap (map name) c.deref-3.ensures.value) in
+    let found = subst (λ (ns : List (List ℕ)). IsPermutation
+    (flat_map (under Mirror s.components) ns) c.in_ok-components.components.items) names_are
+    (c.in_ok-components.ensures.found clean t s at2 of) in
     let many = length_permutation s.mirrors c.in_ok-all.all.items all in
     record {
       mirrors = mine;
-      components = components_asked s command mids of.state mirrors c.in_ok-components.components.items mine found;
-      count = omega (arith, many, c.len-count.ensures, c.deref-2.ensures.len, ap length c.deref-2.ensures.value);
+      components =
+          components_asked s command mids of.state mirrors c.in_ok-components.components.items mine
+          found;
+      count = omega (
+        arith,
+        many,
+        c.len-count.ensures,
+        c.deref-2.ensures.len,
+        ap length c.deref-2.ensures.value,
+      );
     }
 
 pub returns-clause-read : goal.returns-clause-read
 returns-clause-read g c =
-    let both = then_some g.S.Store c.args.conn.now c.all_mirrors.new.conn c.components_under.new.conn c.in_ok-all.ensures.read c.in_ok-named.ensures.read in
-    then_some g.S.Store c.args.conn.now c.components_under.new.conn c.components_under-2.new.conn both c.in_ok-components.ensures.read
+    let both = then_some g.S.Store c.args.conn.now c.all_mirrors.new.conn
+    c.components_under.new.conn c.in_ok-all.ensures.read c.in_ok-named.ensures.read in
+    then_some g.S.Store c.args.conn.now c.components_under.new.conn c.components_under-2.new.conn
+    both c.in_ok-components.ensures.read

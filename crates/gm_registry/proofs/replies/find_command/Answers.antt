@@ -16,7 +16,11 @@ pub returns-clause-rows : goal.returns-clause-rows
 returns-clause-rows g c clean =
     let old = state g.S.Store c.args.conn.now in
     let new = state g.S.Store c.query_all.new.self in
-    if_ok c.query_all.result _ _ (λ rows h t was. (finds old new c.args.key.now rows.items t was h, shown_has registry_schema HasCounted find_command_text (Text c.args.key.now ∷ []) old new rows.items t was find_is.plain h))
+    if_ok c.query_all.result _ _ (λ rows h t was. (
+      finds old new c.args.key.now rows.items t was h,
+      shown_has registry_schema HasCounted find_command_text (Text c.args.key.now
+          ∷ []) old new rows.items t was find_is.plain h,
+    ))
     (rw (c.params-to_sql.ensures) at (c.query_all.ensures.ok clean))
 
 pub returns-clause-reads : goal.returns-clause-reads
@@ -24,13 +28,17 @@ returns-clause-reads g c =
     let old = state g.S.Store c.args.conn.now in
     let new = state g.S.Store c.query_all.new.self in
     reads g.S.Store g.met.S.Store.settled c.args.conn.now c.query_all.new.self c.query_all.result
-    (λ clean. shown_ok registry_schema HasCounted (λ rows. rows.items) find_command_text _ old new c.query_all.result find_is.plain (c.query_all.ensures.ok clean))
-    (λ clean. asked_has registry_schema HasCounted find_command_text _ old new c.query_all.result (c.query_all.ensures.err clean))
-    (λ t was. asks_only registry_schema HasCounted find_command_text _ old new t was find_is.plain c.query_all.ensures.survives) c.query_all.ensures.survives.clean
+    (λ clean. shown_ok registry_schema HasCounted (λ rows. rows.items) find_command_text _ old new
+    c.query_all.result find_is.plain (c.query_all.ensures.ok clean))
+    (λ clean. asked_has registry_schema HasCounted find_command_text _ old new c.query_all.result
+    (c.query_all.ensures.err clean))
+    (λ t was. asks_only registry_schema HasCounted find_command_text _ old new t was find_is.plain
+    c.query_all.ensures.survives) c.query_all.ensures.survives.clean
 
 pub returns-clause-store : goal.returns-clause-store
 returns-clause-store g c clean =
     let old = state g.S.Store c.args.conn.now in
     let new = state g.S.Store c.query_all.new.self in
-    if_err c.query_all.result _ _ (λ e fails is t was. find_failed old new e (ours old t was) was.is_open c.args.key.now fails is)
+    if_err c.query_all.result _ _ (λ e fails is t was.
+    find_failed old new e (ours old t was) was.is_open c.args.key.now fails is)
     (rw (c.params-to_sql.ensures) at (c.query_all.ensures.err clean))

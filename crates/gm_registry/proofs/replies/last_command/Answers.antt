@@ -15,7 +15,11 @@ pub returns-clause-rows : goal.returns-clause-rows
 returns-clause-rows g c clean =
     let old = state g.S.Store c.args.conn.now in
     let new = state g.S.Store c.query_all.new.self in
-    if_ok c.query_all.result _ _ (λ rows h t was. (lasts old new rows.items t was h, shown_has registry_schema HasCounted last_command_text [] old new rows.items t was last_is.plain h))
+    if_ok c.query_all.result _ _ (λ rows h t was. (
+      lasts old new rows.items t was h,
+      shown_has registry_schema HasCounted last_command_text [] old new rows.items t was
+          last_is.plain h,
+    ))
     (c.query_all.ensures.ok clean)
 
 pub returns-clause-reads : goal.returns-clause-reads
@@ -23,13 +27,17 @@ returns-clause-reads g c =
     let old = state g.S.Store c.args.conn.now in
     let new = state g.S.Store c.query_all.new.self in
     reads g.S.Store g.met.S.Store.settled c.args.conn.now c.query_all.new.self c.query_all.result
-    (λ clean. shown_ok registry_schema HasCounted (λ rows. rows.items) last_command_text _ old new c.query_all.result last_is.plain (c.query_all.ensures.ok clean))
-    (λ clean. asked_has registry_schema HasCounted last_command_text _ old new c.query_all.result (c.query_all.ensures.err clean))
-    (λ t was. asks_only registry_schema HasCounted last_command_text _ old new t was last_is.plain c.query_all.ensures.survives) c.query_all.ensures.survives.clean
+    (λ clean. shown_ok registry_schema HasCounted (λ rows. rows.items) last_command_text _ old new
+    c.query_all.result last_is.plain (c.query_all.ensures.ok clean))
+    (λ clean. asked_has registry_schema HasCounted last_command_text _ old new c.query_all.result
+    (c.query_all.ensures.err clean))
+    (λ t was. asks_only registry_schema HasCounted last_command_text _ old new t was last_is.plain
+    c.query_all.ensures.survives) c.query_all.ensures.survives.clean
 
 pub returns-clause-store : goal.returns-clause-store
 returns-clause-store g c clean =
     let old = state g.S.Store c.args.conn.now in
     let new = state g.S.Store c.query_all.new.self in
-    if_err c.query_all.result _ _ (λ e fails is t was. last_failed old new e (ours old t was) was.is_open fails is)
+    if_err c.query_all.result _ _ (λ e fails is t was.
+    last_failed old new e (ours old t was) was.is_open fails is)
     (c.query_all.ensures.err clean)

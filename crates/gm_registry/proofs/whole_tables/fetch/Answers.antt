@@ -11,7 +11,8 @@ returns-in_err-mirrors-clause-failed g c =
     let s0 = state g.S.Store c.args.conn.now in
     let s1 = state g.S.Store c.rows_of.new.conn in
     let s2 = state g.S.Store c.rows_of-2.new.conn in
-    on_err c.from_residual-in_err-mirrors.result _ (failed_then s0 s1 s2 c.in_ok-about.ensures.read c.in_err-mirrors.ensures.failed)
+    on_err c.from_residual-in_err-mirrors.result _
+    (failed_then s0 s1 s2 c.in_ok-about.ensures.read c.in_err-mirrors.ensures.failed)
 
 pub returns-in_err-components-clause-failed : goal.returns-in_err-components-clause-failed
 returns-in_err-components-clause-failed g c =
@@ -20,7 +21,8 @@ returns-in_err-components-clause-failed g c =
     let s2 = state g.S.Store c.rows_of-2.new.conn in
     let s3 = state g.S.Store c.rows_of-3.new.conn in
     let first = read_then s0 s1 s2 c.in_ok-about.ensures.read c.in_ok-mirrors.ensures.read in
-    on_err c.from_residual-in_err-components.result _ (failed_then s0 s2 s3 first c.in_err-components.ensures.failed)
+    on_err c.from_residual-in_err-components.result _
+    (failed_then s0 s2 s3 first c.in_err-components.ensures.failed)
 
 pub returns-in_err-intents-clause-failed : goal.returns-in_err-intents-clause-failed
 returns-in_err-intents-clause-failed g c =
@@ -31,7 +33,8 @@ returns-in_err-intents-clause-failed g c =
     let s4 = state g.S.Store c.rows_of-4.new.conn in
     let first = read_then s0 s1 s2 c.in_ok-about.ensures.read c.in_ok-mirrors.ensures.read in
     let second = read_then s0 s2 s3 first c.in_ok-components.ensures.read in
-    on_err c.from_residual-in_err-intents.result _ (failed_then s0 s3 s4 second c.in_err-intents.ensures.failed)
+    on_err c.from_residual-in_err-intents.result _
+    (failed_then s0 s3 s4 second c.in_err-intents.ensures.failed)
 
 pub returns-in_err-commands-clause-failed : goal.returns-in_err-commands-clause-failed
 returns-in_err-commands-clause-failed g c =
@@ -44,7 +47,8 @@ returns-in_err-commands-clause-failed g c =
     let first = read_then s0 s1 s2 c.in_ok-about.ensures.read c.in_ok-mirrors.ensures.read in
     let second = read_then s0 s2 s3 first c.in_ok-components.ensures.read in
     let third = read_then s0 s3 s4 second c.in_ok-intents.ensures.read in
-    on_err c.from_residual-in_err-commands.result _ (failed_then s0 s4 s5 third c.in_err-commands.ensures.failed)
+    on_err c.from_residual-in_err-commands.result _
+    (failed_then s0 s4 s5 third c.in_err-commands.ensures.failed)
 
 pub returns-clause-read : goal.returns-clause-read
 returns-clause-read g c =
@@ -76,10 +80,18 @@ returns-clause-rows g c clean ours =
     let clean1 = clean_before s1 s2 c.in_ok-mirrors.ensures.read clean2 in
     record {
       about = c.in_ok-about.ensures.rows clean1 ours;
-      mirrors = carried s0 s1 (λ db. IsShown db Mirrors c.in_ok-mirrors.mirrors.items) c.in_ok-about.ensures.read clean1 (c.in_ok-mirrors.ensures.rows clean2) ours;
-      components = carried s0 s2 (λ db. IsShown db Components c.in_ok-components.components.items) first clean2 (c.in_ok-components.ensures.rows clean3) ours;
-      intents = carried s0 s3 (λ db. IsShown db Intents c.in_ok-intents.intents.items) second clean3 (c.in_ok-intents.ensures.rows clean4) ours;
-      in_order = carried s0 s3 (λ db. IsInOrder c.in_ok-intents.intents.items) second clean3 (c.in_ok-intents.ensures.in_order (inl refl) clean4) ours;
-      commands = carried s0 s4 (λ db. IsShown db Commands c.in_ok-commands.commands.items) third clean4 (c.in_ok-commands.ensures.rows clean) ours;
-      commands_in_order = carried s0 s4 (λ db. IsInOrder c.in_ok-commands.commands.items) third clean4 (c.in_ok-commands.ensures.in_order (inr refl) clean) ours;
+      mirrors = carried s0 s1 (λ db. IsShown db Mirrors c.in_ok-mirrors.mirrors.items)
+          c.in_ok-about.ensures.read clean1 (c.in_ok-mirrors.ensures.rows clean2) ours;
+      components =
+          carried s0 s2 (λ db. IsShown db Components c.in_ok-components.components.items) first
+          clean2 (c.in_ok-components.ensures.rows clean3) ours;
+      intents = carried s0 s3 (λ db. IsShown db Intents c.in_ok-intents.intents.items) second clean3
+          (c.in_ok-intents.ensures.rows clean4) ours;
+      in_order = carried s0 s3 (λ db. IsInOrder c.in_ok-intents.intents.items) second clean3
+          (c.in_ok-intents.ensures.in_order (inl refl) clean4) ours;
+      commands = carried s0 s4 (λ db. IsShown db Commands c.in_ok-commands.commands.items) third
+          clean4 (c.in_ok-commands.ensures.rows clean) ours;
+      commands_in_order =
+          carried s0 s4 (λ db. IsInOrder c.in_ok-commands.commands.items) third clean4
+          (c.in_ok-commands.ensures.in_order (inr refl) clean) ours;
     }

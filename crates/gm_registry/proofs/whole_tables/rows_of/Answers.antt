@@ -10,15 +10,23 @@ use Rattle.gm_registry.proofs.whole_tables.rows_of.Goals as goal
 
 pub returns-in-Ok-clause-rows : goal.returns-in-Ok-clause-rows
 returns-in-Ok-clause-rows g c clean ours =
-    shows c.args.table (state g.S.Store c.args.conn.now) (state g.S.Store c.query_all.new.self) c.in-Ok.rows.items ours (rw c.query.ensures at (c.in-Ok.ensures.ok clean))
+    shows c.args.table (state g.S.Store c.args.conn.now)
+    (state g.S.Store c.query_all.new.self) c.in-Ok.rows.items ours
+    (rw c.query.ensures at (c.in-Ok.ensures.ok clean))
 
 pub returns-in-Ok-clause-read : goal.returns-in-Ok-clause-read
 returns-in-Ok-clause-read g c =
-    read c.args.table (state g.S.Store c.args.conn.now) (state g.S.Store c.query_all.new.self) c.in-Ok.rows.items (λ clean. rw c.query.ensures at (c.in-Ok.ensures.ok clean)) (rw c.query.ensures at c.query_all.ensures.survives)
+    read c.args.table (state g.S.Store c.args.conn.now)
+    (state g.S.Store c.query_all.new.self) c.in-Ok.rows.items
+    (λ clean. rw c.query.ensures at (c.in-Ok.ensures.ok clean))
+    (rw c.query.ensures at c.query_all.ensures.survives)
 
 pub returns-in-Err-clause-failed : goal.returns-in-Err-clause-failed
 returns-in-Err-clause-failed g c =
-    failed c.args.table (state g.S.Store c.args.conn.now) (state g.S.Store c.query_all.new.self) c.in-Err.error (λ clean. rw c.query.ensures at (c.in-Err.ensures.err clean)) (rw c.query.ensures at c.query_all.ensures.survives)
+    failed c.args.table (state g.S.Store c.args.conn.now)
+    (state g.S.Store c.query_all.new.self) c.in-Err.error
+    (λ clean. rw c.query.ensures at (c.in-Err.ensures.err clean))
+    (rw c.query.ensures at c.query_all.ensures.survives)
 
 pub returns-in-Ok-clause-in_order : goal.returns-in-Ok-clause-in_order
 returns-in-Ok-clause-in_order g c by_number clean ours =
@@ -26,10 +34,16 @@ returns-in-Ok-clause-in_order g c by_number clean ours =
     let new = state g.S.Store c.query_all.new.self in
     let shown = rw c.query.ensures at (c.in-Ok.ensures.ok clean) in
     elim by_number [
-      | inl is ↦ in_order 7 0 (2 ∷ 3 ∷ 4 ∷ 5 ∷ 6 ∷ []) old.now.trees c.in-Ok.rows.items (answers Intents old new c.in-Ok.rows.items ours (subst (λ t. Shown (query_text t) [] old new c.in-Ok.rows.items) is shown))
-      | inr is ↦ in_order 8 2 (4 ∷ 5 ∷ []) old.now.trees c.in-Ok.rows.items (answers Commands old new c.in-Ok.rows.items ours (subst (λ t. Shown (query_text t) [] old new c.in-Ok.rows.items) is shown))
+      | inl is ↦ in_order 7 0 (2 ∷ 3 ∷ 4 ∷ 5 ∷ 6 ∷ []) old.now.trees c.in-Ok.rows.items
+          (answers Intents old new c.in-Ok.rows.items ours
+          (subst (λ t. Shown (query_text t) [] old new c.in-Ok.rows.items) is shown))
+      | inr is ↦ in_order 8 2 (4 ∷ 5 ∷ []) old.now.trees c.in-Ok.rows.items
+          (answers Commands old new c.in-Ok.rows.items ours
+          (subst (λ t. Shown (query_text t) [] old new c.in-Ok.rows.items) is shown))
     ]
 
 pub returns-in-Err-clause-store : goal.returns-in-Err-clause-store
 returns-in-Err-clause-store g c clean is ours is_open =
-    table_failed (state g.S.Store c.args.conn.now) (state g.S.Store c.query_all.new.self) c.in-Err.error ours is_open c.args.table (rw c.query.ensures at (c.in-Err.ensures.err clean)) (sym c.from.ensures ∙ is)
+    table_failed (state g.S.Store c.args.conn.now) (state g.S.Store c.query_all.new.self)
+    c.in-Err.error ours is_open c.args.table
+    (rw c.query.ensures at (c.in-Err.ensures.err clean)) (sym c.from.ensures ∙ is)

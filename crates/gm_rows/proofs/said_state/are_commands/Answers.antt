@@ -10,15 +10,21 @@ pub returns-then-not-is_command : goal.returns-then-not-is_command
 returns-then-not-is_command c = (
   never,
   λ all.
-      let next = next_is c.args.rows.now c.rows.index c.index-rows-index.result c.rows-test.true c.index-rows-index.is in
-      let here = (subst (AreCommandsFrom (c.rows.index + 1)) next (c.rows.invariant.needed all.each)).0 in
+      let next = next_is c.args.rows.now c.rows.index c.index-rows-index.result c.rows-test.true
+      c.index-rows-index.is in
+      let here = (subst (AreCommandsFrom (c.rows.index + 1)) next
+      (c.rows.invariant.needed all.each)).0 in
       sym c.if-not-is_command.true ∙ c.is_command.ensures.1 here,
 )
 
 pub rows-preserved : goal.rows-preserved
 rows-preserved c =
-    let next = next_is c.args.rows.now c.rows.index c.index-rows-index.result c.rows-test.true c.index-rows-index.is in
+    let next = next_is c.args.rows.now c.rows.index c.index-rows-index.result c.rows-test.true
+    c.index-rows-index.is in
     record {
-      enough = λ rest. c.rows.invariant.enough (subst (AreCommandsFrom (c.rows.index + 1)) (sym next) (c.is_command.ensures.0 c.if-not-is_command.false, rest));
-      needed = λ all. (subst (AreCommandsFrom (c.rows.index + 1)) next (c.rows.invariant.needed all)).1;
+      enough = λ rest. c.rows.invariant.enough
+          (subst (AreCommandsFrom (c.rows.index + 1)) (sym next)
+          (c.is_command.ensures.0 c.if-not-is_command.false, rest));
+      needed = λ all. (subst (AreCommandsFrom (c.rows.index + 1)) next
+          (c.rows.invariant.needed all)).1;
     }

@@ -3,4 +3,9 @@ use Rattle.gm_rows.specs.Values.{columns_at, numbered}
 use Rattle.gm_rows.proofs.shown.read_all.Given as goal
 
 abbrev pub invariant-rows : goal.invariant-rows
-invariant-rows g l = record { read : map (columns_at g.T.Shown.places) (take l.index l.rows) ≡ numbered g.T.Shown.values 1 l.list.items; count : length l.list.items ≡ l.index }
+invariant-rows g l =
+    record {
+      read : map (columns_at g.T.Shown.places) (take l.index l.rows)
+          ≡ numbered g.T.Shown.values 1 l.list.items;
+      count : length l.list.items ≡ l.index;
+    }

@@ -6,4 +6,9 @@ use Rattle.gm_state.proofs.readable_intents.are_each_readable.Given as goal
 -- it is left to see the intents behind
 abbrev pub invariant-intents : goal.invariant-intents
 invariant-intents l =
-    record { enough : Each (IsReadable l.state) (drop l.intent-index l.intents) → Each (IsReadable l.state) l.intents; needed : Each (IsReadable l.state) l.intents → Each (IsReadable l.state) (drop l.intent-index l.intents) }
+    record {
+      enough : Each (IsReadable l.state) (drop l.intent-index l.intents)
+          → Each (IsReadable l.state) l.intents;
+      needed : Each (IsReadable l.state) l.intents
+          → Each (IsReadable l.state) (drop l.intent-index l.intents);
+    }

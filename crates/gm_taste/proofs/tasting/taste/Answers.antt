@@ -13,10 +13,17 @@ use Rattle.gm_taste.proofs.tasting.taste.Goals as goal
 pub returns : goal.returns
 returns c =
     let os = c.sort_unstable_by_key.new.self.items in
-    let perm : IsPermutation c.args.providers.now os = subst (λ (xs : List Provider). IsPermutation xs os) c.in_ok-ordered.ensures.items c.sort_unstable_by_key.ensures.permutation in
-    let taken : c.deref-3.result.now ≡ filter_map taken_by os = c.deref-3.ensures.value ∙ (c.in_ok-taken.ensures ∙ ap (filter_map taken_by) c.deref.ensures.value) in
+    let perm : IsPermutation c.args.providers.now os =
+    subst (λ (xs : List Provider). IsPermutation xs os) c.in_ok-ordered.ensures.items
+    c.sort_unstable_by_key.ensures.permutation in
+    let taken : c.deref-3.result.now ≡ filter_map taken_by os =
+    c.deref-3.ensures.value
+    ∙ (c.in_ok-taken.ensures ∙ ap (filter_map taken_by) c.deref.ensures.value) in
     tasted c.args.providers.now os _ perm
-    (c.sort_unstable_by_key.ensures.sorted (λ (p : Provider). p.name) (answers_always _ _ _ (λ f a r g h. search rules)))
-    (subst (λ (ts : List Taken). map key_of c.in_ok-groups.groups.items ≡ keys_from [] ts) taken c.in_ok-groups.ensures.keys)
-    (subst (λ (ts : List Taken). (g : Group) → Has c.in_ok-groups.groups.items g → Made ts (key_of g) g) taken c.in_ok-groups.ensures.made)
+    (c.sort_unstable_by_key.ensures.sorted (λ (p : Provider). p.name)
+    (answers_always _ _ _ (λ f a r g h. search rules)))
+    (subst (λ (ts : List Taken). map key_of c.in_ok-groups.groups.items ≡ keys_from [] ts) taken
+    c.in_ok-groups.ensures.keys)
+    (subst (λ (ts : List Taken). (g : Group) → Has c.in_ok-groups.groups.items g
+    → Made ts (key_of g) g) taken c.in_ok-groups.ensures.made)
     (c.in_ok-left.ensures ∙ ap (filter_map left_by) c.deref-2.ensures.value)

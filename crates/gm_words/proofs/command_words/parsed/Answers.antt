@@ -9,16 +9,20 @@ pub returns-clause-taken : goal.returns-clause-taken
 returns-clause-taken c =
     let e = c.in_ok-table.ensures in
     let words = texts c.args.words.now in
-    none_at_ok _ _ (subst (λ (a : App). FailsBy (fault_of a words) c.try_get_matches_from.result) e (c.try_get_matches_from.ensures.kinds (ap is_simple_and_free e ∙ table_is_free)))
+    none_at_ok _ _ (subst (λ (a : App). FailsBy (fault_of a words) c.try_get_matches_from.result) e
+    (c.try_get_matches_from.ensures.kinds (ap is_simple_and_free e ∙ table_is_free)))
 
 pub returns-clause-rows : goal.returns-clause-rows
 returns-clause-rows c =
     let e = c.in_ok-table.ensures in
     let words = texts c.args.words.now in
-    IfOk-weaker c.try_get_matches_from.result _ _ (λ m h. (h (ap is_simple e ∙ table_is_simple)).1 ∙ ap (λ (a : App). subcommand_of a words) e) c.try_get_matches_from.ensures.matches
+    IfOk-weaker c.try_get_matches_from.result _ _
+    (λ m h. (h (ap is_simple e ∙ table_is_simple)).1
+    ∙ ap (λ (a : App). subcommand_of a words) e) c.try_get_matches_from.ensures.matches
 
 pub returns-clause-refused : goal.returns-clause-refused
 returns-clause-refused c =
     let e = c.in_ok-table.ensures in
     let words = texts c.args.words.now in
-    some_at_err _ _ (subst (λ (a : App). FailsBy (fault_of a words) c.try_get_matches_from.result) e (c.try_get_matches_from.ensures.kinds (ap is_simple_and_free e ∙ table_is_free)))
+    some_at_err _ _ (subst (λ (a : App). FailsBy (fault_of a words) c.try_get_matches_from.result) e
+    (c.try_get_matches_from.ensures.kinds (ap is_simple_and_free e ∙ table_is_free)))

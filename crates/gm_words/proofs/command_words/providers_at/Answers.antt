@@ -10,7 +10,9 @@ pub returns-in-Some : goal.returns-in-Some
 unfolding providers_at
 returns-in-Some c =
     let strs = c.get_strs.ensures ∙ raw_values-rows (found_of c.args.matches.now) c.args.id.now in
-    IfOk-weaker c.providers.result _ _ (λ r e. e ∙ sym (ap (λ o. o >>= providers_in) (strs_some _ _ _ strs c.in-Some.is))) c.providers.ensures
+    IfOk-weaker c.providers.result _ _
+    (λ r e. e ∙ sym (ap (λ o. o >>= providers_in) (strs_some _ _ _ strs c.in-Some.is)))
+    c.providers.ensures
 
 pub returns-in-None : goal.returns-in-None
 unfolding providers_at

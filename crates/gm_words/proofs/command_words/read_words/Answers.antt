@@ -12,4 +12,6 @@ returns-in-Ok c =
 -- another error than want of memory tells a fault of the words
 pub returns : goal.returns
 returns c =
-    spelled_none (texts c.args.words.now) (c.in-Err.ensures.refused (λ memory. c.in_default.not-OutOfMemory (c.kind.ensures ∙ memory)))
+    spelled_none (texts c.args.words.now)
+    (c.in-Err.ensures.refused (λ memory. c.in_default.not-OutOfMemory
+    (c.kind.ensures ∙ memory)))

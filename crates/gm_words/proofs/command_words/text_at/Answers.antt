@@ -5,4 +5,5 @@ use Rattle.gm_words.proofs.ParsedTable.{found_as}
 use Rattle.gm_words.proofs.command_words.text_at.Goals as goal
 
 pub returns : goal.returns
-returns c = found_as _ _ (c.get_str.ensures ∙ first_value-rows (found_of c.args.matches.now) c.args.id.now)
+returns c = found_as _ _ (c.get_str.ensures ∙ first_value-rows
+    (found_of c.args.matches.now) c.args.id.now)

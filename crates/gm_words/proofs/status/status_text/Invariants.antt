@@ -6,4 +6,5 @@ use Rattle.gm_words.proofs.status.status_text.Given as goal
 
 abbrev pub invariant-loop-mirror : goal.invariant-loop-mirror
 invariant-loop-mirror l =
-    string_bytes l.text ≡ flat_map (λ m. block m (members l.fn.state.components m.name)) (take l.mirror-index l.fn.state.mirrors)
+    string_bytes l.text ≡ flat_map (λ m. block m (members l.fn.state.components m.name))
+    (take l.mirror-index l.fn.state.mirrors)

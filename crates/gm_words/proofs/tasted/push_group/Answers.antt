@@ -11,7 +11,10 @@ loop-member-preserved c =
     let i = c.loop-member.member-index in
     let x = c.member-item.result in
     let all = c.deref-member-items.ensures.value in
-    let low : i < length members = subst (λ (l : List Member). i < length l) all c.loop-member-test.true in
-    let is : x ≡ get_or members i x = c.member-item.is ∙ ap (λ (l : List Member). get_or l i x) all in
-    grown member_line members i x (string_bytes c.args.text.now ++ group_line c.args.group.now) (string_bytes c.loop-member.text) (string_bytes c.push_member_line.new.text)
+    let low : i < length members =
+    subst (λ (l : List Member). i < length l) all c.loop-member-test.true in
+    let is : x ≡ get_or members i x =
+    c.member-item.is ∙ ap (λ (l : List Member). get_or l i x) all in
+    grown member_line members i x (string_bytes c.args.text.now ++ group_line c.args.group.now)
+    (string_bytes c.loop-member.text) (string_bytes c.push_member_line.new.text)
     low is c.loop-member.invariant c.in_ok-push_member_line.ensures

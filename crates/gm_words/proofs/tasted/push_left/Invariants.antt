@@ -5,4 +5,5 @@ use Rattle.gm_words.specs.Tasting.{left_line}
 use Rattle.gm_words.proofs.tasted.push_left.Given as goal
 
 abbrev pub invariant-loop-x : goal.invariant-loop-x
-invariant-loop-x l = string_bytes l.text ≡ (string_bytes l.fn.text ++ line (codes "left out:")) ++ flat_map left_line (take l.x-index l.left)
+invariant-loop-x l = string_bytes l.text ≡ (string_bytes l.fn.text ++ line (codes "left out:"))
+    ++ flat_map left_line (take l.x-index l.left)

@@ -19,18 +19,33 @@ returns-in-Ok-clause-does g c h work is =
     let after = c.apply.new.self.shelf in
     let hands : c.deref.result.now ≡ c.in-Pending.work.intents.items = c.deref.ensures.value in
     let does : ApplyDoes g.S.Store view size r shelf after c.in-Pending.work = λ away u w at.
-    let at1 = subst (λ (ts : List Intent). IsAt g.S.Store view size r shelf away ts u w) (sym hands) at.at in
-    let it = c.in-Ok.ensures.done h away u w at1 (subst (λ (ts : List Intent). Cover c.in-Pending.work.part w.state ts) (sym hands) at.cover) in
-    let at2 = subst (λ (k : Held g.row.S.Denot). IsAt g.S.Store view size k after away c.deref.result.now u w) c.apply.ensures.registry it.0 in
-    (record { at = subst (λ (ts : List Intent). IsAt g.S.Store view size r after away ts u w) hands at2; cover = at.cover }, it.1) in
-    let same : c.in-Pending.work ≡ work = pending_work c.in-Pending.work work (sym c.in-Pending.is ∙ c.replace.ensures.value ∙ is) in
-    subst (λ (x : Work). (Applied c.in-Pending.work ≡ Applied x) × ApplyDoes g.S.Store view size r shelf after x) same (refl, does)
+    let at1 = subst (λ (ts : List Intent). IsAt g.S.Store view size r shelf away ts u w)
+    (sym hands) at.at in
+    let it = c.in-Ok.ensures.done h away u w at1
+    (subst (λ (ts : List Intent). Cover c.in-Pending.work.part w.state ts)
+    (sym hands) at.cover) in
+    let at2 = subst (λ (k : Held g.row.S.Denot).
+    IsAt g.S.Store view size k after away c.deref.result.now u w) c.apply.ensures.registry
+    it.0 in (
+      record {
+        at = subst (λ (ts : List Intent). IsAt g.S.Store view size r after away ts u w) hands
+            at2;
+        cover = at.cover;
+      },
+      it.1,
+    ) in
+    let same : c.in-Pending.work ≡ work =
+    pending_work c.in-Pending.work work (sym c.in-Pending.is ∙ c.replace.ensures.value ∙ is) in
+    subst (λ (x : Work). (Applied c.in-Pending.work ≡ Applied x)
+    × ApplyDoes g.S.Store view size r shelf after x) same (refl, does)
 
 pub returns-in-Pending-clause-disk : goal.returns-in-Pending-clause-disk
 returns-in-Pending-clause-disk g c told work is hand =
     let size = g.H.Shelf.size c.args.self.now.media.shelf in
     let hands : c.deref.result.now ≡ c.in-Pending.work.intents.items = c.deref.ensures.value in
-    let same : c.in-Pending.work ≡ work = pending_work c.in-Pending.work work (sym c.in-Pending.is ∙ c.replace.ensures.value ∙ is) in
-    let here : AreAtHand size c.in-Pending.work.intents.items = subst (λ (x : Work). AreAtHand size x.intents.items) (sym same) hand in
+    let same : c.in-Pending.work ≡ work =
+    pending_work c.in-Pending.work work (sym c.in-Pending.is ∙ c.replace.ensures.value ∙ is) in
+    let here : AreAtHand size c.in-Pending.work.intents.items =
+    subst (λ (x : Work). AreAtHand size x.intents.items) (sym same) hand in
     let fault : c.in-Err.fault ≡ Disk = cc in
     c.in-Err.ensures.disk (subst (AreAtHand size) (sym hands) here) (ap Err fault)

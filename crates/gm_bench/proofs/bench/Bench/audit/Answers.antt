@@ -18,13 +18,17 @@ returns-in-Ok-clause-looks g c h clean = c.in-Ok.ensures.looks h clean
 pub returns-in-Ok-clause-leaves : goal.returns-in-Ok-clause-leaves
 returns-in-Ok-clause-leaves g c h clean =
     let shelf = c.args.self.now.media.shelf in
-    look_leaves g.S.Store g.H.Shelf.view g.H.Shelf.size c.args.self.now.media.registry c.audit.new.self.registry
-    shelf c.audit.new.self.shelf (c.audit.ensures.reads h).quiet g.met.S.Store.settled (g.met.H.Shelf.lawful shelf h) clean
+    look_leaves g.S.Store g.H.Shelf.view g.H.Shelf.size c.args.self.now.media.registry
+    c.audit.new.self.registry
+    shelf c.audit.new.self.shelf (c.audit.ensures.reads h).quiet g.met.S.Store.settled
+    (g.met.H.Shelf.lawful shelf h) clean
     c.audit.ensures.store
 
 pub returns-in-Err-clause-leaves : goal.returns-in-Err-clause-leaves
 returns-in-Err-clause-leaves g c h clean =
     let shelf = c.args.self.now.media.shelf in
-    look_leaves g.S.Store g.H.Shelf.view g.H.Shelf.size c.args.self.now.media.registry c.audit.new.self.registry
-    shelf c.audit.new.self.shelf (c.audit.ensures.reads h).quiet g.met.S.Store.settled (g.met.H.Shelf.lawful shelf h) clean
+    look_leaves g.S.Store g.H.Shelf.view g.H.Shelf.size c.args.self.now.media.registry
+    c.audit.new.self.registry
+    shelf c.audit.new.self.shelf (c.audit.ensures.reads h).quiet g.met.S.Store.settled
+    (g.met.H.Shelf.lawful shelf h) clean
     c.audit.ensures.store

@@ -11,8 +11,11 @@ returns-in-Ok-settle-clause-does g c h clean work is away u w at =
     let size = g.H.Shelf.size in
     let done = c.in-Ok.ensures.does h work is in
     let it = done.1 away u w at in
-    let at1 = subst (λ (r : Held g.row.S.Denot). IsAtWork g.S.Store view size r c.apply.new.self.media.shelf away work u w) (sym c.apply.ensures.registry) it.0 in
-    subst (λ (k : g.row.H.Denot). IsAt g.S.Store view size c.settle.new.self.media.registry k away [] w w) (sym c.settle.ensures.shelf)
+    let at1 = subst (λ (r : Held g.row.S.Denot).
+    IsAtWork g.S.Store view size r c.apply.new.self.media.shelf away work u w)
+    (sym c.apply.ensures.registry) it.0 in
+    subst (λ (k : g.row.H.Denot). IsAt g.S.Store view size c.settle.new.self.media.registry k away
+    [] w w) (sym c.settle.ensures.shelf)
     ((c.in-Ok-settle.ensures.does (c.apply.ensures.honest h) clean work done.0).1 away u w at1 it.1)
 
 pub returns-in-Ok-settle-clause-leaves : goal.returns-in-Ok-settle-clause-leaves
@@ -25,11 +28,17 @@ returns-in-Ok-settle-clause-leaves g c h clean work is away u w at =
     let after = c.apply.new.self.media.shelf in
     let done = c.in-Ok.ensures.does h work is in
     let it = done.1 away u w at in
-    let at1 = subst (λ (x : Held g.row.S.Denot). IsAtWork g.S.Store view size x after away work u w) (sym c.apply.ensures.registry) it.0 in
-    let first = subst (λ (x : Held g.row.S.Denot). LeavesOnly g.S.Store view size r x shelf after away u w) (sym c.apply.ensures.registry) (c.apply.ensures.leaves h work is away u w at) in
-    let second = c.settle.ensures.leaves (c.apply.ensures.honest h) clean work done.0 away u w at1 it.1 in
-    subst (λ (k : g.row.H.Denot). LeavesOnly g.S.Store view size r c.settle.new.self.media.registry shelf k away u w) (sym c.settle.ensures.shelf)
-    (then_only g.S.Store view size r mid c.settle.new.self.media.registry shelf after after away u w refl c.apply.ensures.size first second)
+    let at1 = subst (λ (x : Held g.row.S.Denot). IsAtWork g.S.Store view size x after away work u w)
+    (sym c.apply.ensures.registry) it.0 in
+    let first = subst (λ (x : Held g.row.S.Denot).
+    LeavesOnly g.S.Store view size r x shelf after away u w) (sym c.apply.ensures.registry)
+    (c.apply.ensures.leaves h work is away u w at) in
+    let second = c.settle.ensures.leaves (c.apply.ensures.honest h) clean work done.0 away u w at1
+    it.1 in
+    subst (λ (k : g.row.H.Denot). LeavesOnly g.S.Store view size r c.settle.new.self.media.registry
+    shelf k away u w) (sym c.settle.ensures.shelf)
+    (then_only g.S.Store view size r mid c.settle.new.self.media.registry shelf after after away u w
+    refl c.apply.ensures.size first second)
 
 pub returns-in-Err-settle-clause-leaves : goal.returns-in-Err-settle-clause-leaves
 returns-in-Err-settle-clause-leaves g c h clean work is away u w at =
@@ -41,15 +50,23 @@ returns-in-Err-settle-clause-leaves g c h clean work is away u w at =
     let after = c.apply.new.self.media.shelf in
     let done = c.in-Ok.ensures.does h work is in
     let it = done.1 away u w at in
-    let at1 = subst (λ (x : Held g.row.S.Denot). IsAtWork g.S.Store view size x after away work u w) (sym c.apply.ensures.registry) it.0 in
-    let first = subst (λ (x : Held g.row.S.Denot). LeavesOnly g.S.Store view size r x shelf after away u w) (sym c.apply.ensures.registry) (c.apply.ensures.leaves h work is away u w at) in
-    let second = c.settle.ensures.leaves (c.apply.ensures.honest h) clean work done.0 away u w at1 it.1 in
-    subst (λ (k : g.row.H.Denot). LeavesOnly g.S.Store view size r c.settle.new.self.media.registry shelf k away u w) (sym c.settle.ensures.shelf)
-    (then_only g.S.Store view size r mid c.settle.new.self.media.registry shelf after after away u w refl c.apply.ensures.size first second)
+    let at1 = subst (λ (x : Held g.row.S.Denot). IsAtWork g.S.Store view size x after away work u w)
+    (sym c.apply.ensures.registry) it.0 in
+    let first = subst (λ (x : Held g.row.S.Denot).
+    LeavesOnly g.S.Store view size r x shelf after away u w) (sym c.apply.ensures.registry)
+    (c.apply.ensures.leaves h work is away u w at) in
+    let second = c.settle.ensures.leaves (c.apply.ensures.honest h) clean work done.0 away u w at1
+    it.1 in
+    subst (λ (k : g.row.H.Denot). LeavesOnly g.S.Store view size r c.settle.new.self.media.registry
+    shelf k away u w) (sym c.settle.ensures.shelf)
+    (then_only g.S.Store view size r mid c.settle.new.self.media.registry shelf after after away u w
+    refl c.apply.ensures.size first second)
 
 pub returns-in-Err-clause-leaves : goal.returns-in-Err-clause-leaves
 returns-in-Err-clause-leaves g c h clean work is away u w at =
-    subst (λ (x : Held g.row.S.Denot). LeavesOnly g.S.Store g.H.Shelf.view g.H.Shelf.size c.args.self.now.media.registry x c.args.self.now.media.shelf c.apply.new.self.media.shelf away u w) (sym c.apply.ensures.registry)
+    subst (λ (x : Held g.row.S.Denot). LeavesOnly g.S.Store g.H.Shelf.view g.H.Shelf.size
+    c.args.self.now.media.registry x c.args.self.now.media.shelf c.apply.new.self.media.shelf
+    away u w) (sym c.apply.ensures.registry)
     (c.apply.ensures.leaves h work is away u w at)
 
 pub returns-in-Err-settle-clause-disk : goal.returns-in-Err-settle-clause-disk

@@ -14,31 +14,41 @@ returns-in-Failed-clause-leaves g c h clean =
 
 pub returns-in-Ok-Some-clause-looks : goal.returns-in-Ok-Some-clause-looks
 returns-in-Ok-Some-clause-looks g c h clean =
-    look_does g.S.Store g.H.Shelf.view g.H.Shelf.size c.args.self.now.media.registry c.args.self.now.media.registry
-    c.args.self.now.media.shelf c.fact_of.new.shelf (c.fact_of.ensures.reads h).quiet (λ t has. has) c.fact_of.ensures.size
+    look_does g.S.Store g.H.Shelf.view g.H.Shelf.size c.args.self.now.media.registry
+    c.args.self.now.media.registry
+    c.args.self.now.media.shelf c.fact_of.new.shelf (c.fact_of.ensures.reads h).quiet
+    (λ t has. has) c.fact_of.ensures.size
 
 pub returns-in-Ok-Some-clause-leaves : goal.returns-in-Ok-Some-clause-leaves
 returns-in-Ok-Some-clause-leaves g c h clean =
     let shelf = c.args.self.now.media.shelf in
-    look_leaves g.S.Store g.H.Shelf.view g.H.Shelf.size c.args.self.now.media.registry c.args.self.now.media.registry
-    shelf c.fact_of.new.shelf (c.fact_of.ensures.reads h).quiet g.met.S.Store.settled (g.met.H.Shelf.lawful shelf h) clean
+    look_leaves g.S.Store g.H.Shelf.view g.H.Shelf.size c.args.self.now.media.registry
+    c.args.self.now.media.registry
+    shelf c.fact_of.new.shelf (c.fact_of.ensures.reads h).quiet g.met.S.Store.settled
+    (g.met.H.Shelf.lawful shelf h) clean
     (reads_none g.S.Store g.met.S.Store.settled c.args.self.now.media.registry)
 
 pub returns-in-Ok-clause-looks : goal.returns-in-Ok-clause-looks
 returns-in-Ok-clause-looks g c h clean =
-    look_does g.S.Store g.H.Shelf.view g.H.Shelf.size c.args.self.now.media.registry c.args.self.now.media.registry
-    c.args.self.now.media.shelf c.fact_of.new.shelf (c.fact_of.ensures.reads h).quiet (λ t has. has) c.fact_of.ensures.size
+    look_does g.S.Store g.H.Shelf.view g.H.Shelf.size c.args.self.now.media.registry
+    c.args.self.now.media.registry
+    c.args.self.now.media.shelf c.fact_of.new.shelf (c.fact_of.ensures.reads h).quiet
+    (λ t has. has) c.fact_of.ensures.size
 
 pub returns-in-Ok-clause-leaves : goal.returns-in-Ok-clause-leaves
 returns-in-Ok-clause-leaves g c h clean =
     let shelf = c.args.self.now.media.shelf in
-    look_leaves g.S.Store g.H.Shelf.view g.H.Shelf.size c.args.self.now.media.registry c.args.self.now.media.registry
-    shelf c.fact_of.new.shelf (c.fact_of.ensures.reads h).quiet g.met.S.Store.settled (g.met.H.Shelf.lawful shelf h) clean
+    look_leaves g.S.Store g.H.Shelf.view g.H.Shelf.size c.args.self.now.media.registry
+    c.args.self.now.media.registry
+    shelf c.fact_of.new.shelf (c.fact_of.ensures.reads h).quiet g.met.S.Store.settled
+    (g.met.H.Shelf.lawful shelf h) clean
     (reads_none g.S.Store g.met.S.Store.settled c.args.self.now.media.registry)
 
 pub returns-in-Err-clause-leaves : goal.returns-in-Err-clause-leaves
 returns-in-Err-clause-leaves g c h clean =
     let shelf = c.args.self.now.media.shelf in
-    look_leaves g.S.Store g.H.Shelf.view g.H.Shelf.size c.args.self.now.media.registry c.args.self.now.media.registry
-    shelf c.fact_of.new.shelf (c.fact_of.ensures.reads h).quiet g.met.S.Store.settled (g.met.H.Shelf.lawful shelf h) clean
+    look_leaves g.S.Store g.H.Shelf.view g.H.Shelf.size c.args.self.now.media.registry
+    c.args.self.now.media.registry
+    shelf c.fact_of.new.shelf (c.fact_of.ensures.reads h).quiet g.met.S.Store.settled
+    (g.met.H.Shelf.lawful shelf h) clean
     (reads_none g.S.Store g.met.S.Store.settled c.args.self.now.media.registry)

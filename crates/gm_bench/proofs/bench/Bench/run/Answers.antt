@@ -9,56 +9,117 @@ use Rattle.gm_bench.specs.Phases.{phase_after}
 
 pub returns-in-Ok-carry_out-clause-answers : goal.returns-in-Ok-carry_out-clause-answers
 returns-in-Ok-carry_out-clause-answers g c h clean =
-    let mid : DiskKept g.S.Store c.accept.new.self.media.registry = omega (arith, clean, c.carry_out.ensures.clean) in
+    let mid : DiskKept g.S.Store c.accept.new.self.media.registry =
+    omega (arith, clean, c.carry_out.ensures.clean) in
     let told = c.in-Ok.ensures.answers h mid in
     let pending = sym c.phase.ensures ∙ c.in-Pending.is in
-    carried_answers g.S.Store g.H.Shelf.view g.H.Shelf.size c.args.self.now.media.registry c.accept.new.self.media.registry c.args.self.now.media.shelf c.accept.new.self.media.shelf c.args.key.now c.args.command.now c.in-Ok.answer c.accept.new.self.progress told pending c.carry_out.new.self.media.registry c.carry_out.new.self.media.shelf
-    (c.in-Ok-carry_out.ensures.does (c.accept.ensures.honest h) clean (work g.S.Store g.H.Shelf.view g.H.Shelf.size c.args.self.now.media.registry c.accept.new.self.media.registry c.args.self.now.media.shelf c.accept.new.self.media.shelf c.args.key.now c.args.command.now c.in-Ok.answer c.accept.new.self.progress told pending) (is_work g.S.Store g.H.Shelf.view g.H.Shelf.size c.args.self.now.media.registry c.accept.new.self.media.registry c.args.self.now.media.shelf c.accept.new.self.media.shelf c.args.key.now c.args.command.now c.in-Ok.answer c.accept.new.self.progress told pending))
+    carried_answers g.S.Store g.H.Shelf.view g.H.Shelf.size c.args.self.now.media.registry
+    c.accept.new.self.media.registry c.args.self.now.media.shelf c.accept.new.self.media.shelf
+    c.args.key.now c.args.command.now c.in-Ok.answer c.accept.new.self.progress told pending
+    c.carry_out.new.self.media.registry c.carry_out.new.self.media.shelf
+    (c.in-Ok-carry_out.ensures.does (c.accept.ensures.honest h) clean
+    (work g.S.Store g.H.Shelf.view g.H.Shelf.size c.args.self.now.media.registry
+    c.accept.new.self.media.registry c.args.self.now.media.shelf c.accept.new.self.media.shelf
+    c.args.key.now c.args.command.now c.in-Ok.answer c.accept.new.self.progress told pending)
+    (is_work g.S.Store g.H.Shelf.view g.H.Shelf.size c.args.self.now.media.registry
+    c.accept.new.self.media.registry c.args.self.now.media.shelf c.accept.new.self.media.shelf
+    c.args.key.now c.args.command.now c.in-Ok.answer c.accept.new.self.progress told pending))
 
 pub returns-in-Ok-carry_out-clause-leaves : goal.returns-in-Ok-carry_out-clause-leaves
 returns-in-Ok-carry_out-clause-leaves g c h clean =
-    let mid : DiskKept g.S.Store c.accept.new.self.media.registry = omega (arith, clean, c.carry_out.ensures.clean) in
+    let mid : DiskKept g.S.Store c.accept.new.self.media.registry =
+    omega (arith, clean, c.carry_out.ensures.clean) in
     let told = c.in-Ok.ensures.answers h mid in
     let pending = sym c.phase.ensures ∙ c.in-Pending.is in
-    carried_leaves g.S.Store g.H.Shelf.view g.H.Shelf.size c.args.self.now.media.registry c.accept.new.self.media.registry c.args.self.now.media.shelf c.accept.new.self.media.shelf c.args.key.now c.args.command.now c.in-Ok.answer c.accept.new.self.progress told pending c.carry_out.new.self.media.registry c.carry_out.new.self.media.shelf c.accept.ensures.size (c.accept.ensures.leaves h mid)
-    (c.carry_out.ensures.leaves (c.accept.ensures.honest h) clean (work g.S.Store g.H.Shelf.view g.H.Shelf.size c.args.self.now.media.registry c.accept.new.self.media.registry c.args.self.now.media.shelf c.accept.new.self.media.shelf c.args.key.now c.args.command.now c.in-Ok.answer c.accept.new.self.progress told pending) (is_work g.S.Store g.H.Shelf.view g.H.Shelf.size c.args.self.now.media.registry c.accept.new.self.media.registry c.args.self.now.media.shelf c.accept.new.self.media.shelf c.args.key.now c.args.command.now c.in-Ok.answer c.accept.new.self.progress told pending))
+    carried_leaves g.S.Store g.H.Shelf.view g.H.Shelf.size c.args.self.now.media.registry
+    c.accept.new.self.media.registry c.args.self.now.media.shelf c.accept.new.self.media.shelf
+    c.args.key.now c.args.command.now c.in-Ok.answer c.accept.new.self.progress told pending
+    c.carry_out.new.self.media.registry c.carry_out.new.self.media.shelf c.accept.ensures.size
+    (c.accept.ensures.leaves h mid)
+    (c.carry_out.ensures.leaves (c.accept.ensures.honest h) clean
+    (work g.S.Store g.H.Shelf.view g.H.Shelf.size c.args.self.now.media.registry
+    c.accept.new.self.media.registry c.args.self.now.media.shelf c.accept.new.self.media.shelf
+    c.args.key.now c.args.command.now c.in-Ok.answer c.accept.new.self.progress told pending)
+    (is_work g.S.Store g.H.Shelf.view g.H.Shelf.size c.args.self.now.media.registry
+    c.accept.new.self.media.registry c.args.self.now.media.shelf c.accept.new.self.media.shelf
+    c.args.key.now c.args.command.now c.in-Ok.answer c.accept.new.self.progress told pending))
 
 pub returns-in-Err-carry_out-clause-leaves : goal.returns-in-Err-carry_out-clause-leaves
 returns-in-Err-carry_out-clause-leaves g c h clean =
-    let mid : DiskKept g.S.Store c.accept.new.self.media.registry = omega (arith, clean, c.carry_out.ensures.clean) in
+    let mid : DiskKept g.S.Store c.accept.new.self.media.registry =
+    omega (arith, clean, c.carry_out.ensures.clean) in
     let told = c.in-Ok.ensures.answers h mid in
     let pending = sym c.phase.ensures ∙ c.in-Pending.is in
-    carried_leaves g.S.Store g.H.Shelf.view g.H.Shelf.size c.args.self.now.media.registry c.accept.new.self.media.registry c.args.self.now.media.shelf c.accept.new.self.media.shelf c.args.key.now c.args.command.now c.in-Ok.answer c.accept.new.self.progress told pending c.carry_out.new.self.media.registry c.carry_out.new.self.media.shelf c.accept.ensures.size (c.accept.ensures.leaves h mid)
-    (c.carry_out.ensures.leaves (c.accept.ensures.honest h) clean (work g.S.Store g.H.Shelf.view g.H.Shelf.size c.args.self.now.media.registry c.accept.new.self.media.registry c.args.self.now.media.shelf c.accept.new.self.media.shelf c.args.key.now c.args.command.now c.in-Ok.answer c.accept.new.self.progress told pending) (is_work g.S.Store g.H.Shelf.view g.H.Shelf.size c.args.self.now.media.registry c.accept.new.self.media.registry c.args.self.now.media.shelf c.accept.new.self.media.shelf c.args.key.now c.args.command.now c.in-Ok.answer c.accept.new.self.progress told pending))
+    carried_leaves g.S.Store g.H.Shelf.view g.H.Shelf.size c.args.self.now.media.registry
+    c.accept.new.self.media.registry c.args.self.now.media.shelf c.accept.new.self.media.shelf
+    c.args.key.now c.args.command.now c.in-Ok.answer c.accept.new.self.progress told pending
+    c.carry_out.new.self.media.registry c.carry_out.new.self.media.shelf c.accept.ensures.size
+    (c.accept.ensures.leaves h mid)
+    (c.carry_out.ensures.leaves (c.accept.ensures.honest h) clean
+    (work g.S.Store g.H.Shelf.view g.H.Shelf.size c.args.self.now.media.registry
+    c.accept.new.self.media.registry c.args.self.now.media.shelf c.accept.new.self.media.shelf
+    c.args.key.now c.args.command.now c.in-Ok.answer c.accept.new.self.progress told pending)
+    (is_work g.S.Store g.H.Shelf.view g.H.Shelf.size c.args.self.now.media.registry
+    c.accept.new.self.media.registry c.args.self.now.media.shelf c.accept.new.self.media.shelf
+    c.args.key.now c.args.command.now c.in-Ok.answer c.accept.new.self.progress told pending))
 
 pub returns-in_default-clause-answers : goal.returns-in_default-clause-answers
 returns-in_default-clause-answers g c h clean =
-    rest_answers g.S.Store g.H.Shelf.view g.H.Shelf.size c.args.self.now.media.registry c.accept.new.self.media.registry c.args.self.now.media.shelf c.accept.new.self.media.shelf c.args.key.now c.args.command.now c.in-Ok.answer c.accept.new.self.progress (c.in-Ok.ensures.answers h clean)
-    (not_pending c.in-Ok.answer c.accept.new.self.progress c.in-Ok.ensures.phase (λ e. c.in_default.not-Pending (c.phase.ensures ∙ e)))
+    rest_answers g.S.Store g.H.Shelf.view g.H.Shelf.size c.args.self.now.media.registry
+    c.accept.new.self.media.registry c.args.self.now.media.shelf c.accept.new.self.media.shelf
+    c.args.key.now c.args.command.now c.in-Ok.answer c.accept.new.self.progress
+    (c.in-Ok.ensures.answers h clean)
+    (not_pending c.in-Ok.answer c.accept.new.self.progress c.in-Ok.ensures.phase
+    (λ e. c.in_default.not-Pending (c.phase.ensures ∙ e)))
 
 pub returns-in_default-clause-ready : goal.returns-in_default-clause-ready
-returns-in_default-clause-ready g c =
-    (c.in-Ok.ensures.ready, not_pending c.in-Ok.answer c.accept.new.self.progress c.in-Ok.ensures.phase (λ e. c.in_default.not-Pending (c.phase.ensures ∙ e)))
+returns-in_default-clause-ready g c = (
+  c.in-Ok.ensures.ready,
+  not_pending c.in-Ok.answer c.accept.new.self.progress c.in-Ok.ensures.phase
+      (λ e. c.in_default.not-Pending (c.phase.ensures ∙ e)),
+)
 
 pub returns-in_default-clause-leaves : goal.returns-in_default-clause-leaves
 returns-in_default-clause-leaves g c h clean away u at =
-    record { registry = c.accept.new.self.media.registry; shelf = c.accept.new.self.media.shelf; sizes = c.accept.ensures.size; accepting = c.accept.ensures.leaves h clean away u at; carrying = inl (refl, refl) }
+    record {
+      registry = c.accept.new.self.media.registry;
+      shelf = c.accept.new.self.media.shelf;
+      sizes = c.accept.ensures.size;
+      accepting = c.accept.ensures.leaves h clean away u at;
+      carrying = inl (refl, refl);
+    }
 
 pub returns-in-Err-clause-leaves : goal.returns-in-Err-clause-leaves
 returns-in-Err-clause-leaves g c h clean away u at =
-    record { registry = c.accept.new.self.media.registry; shelf = c.accept.new.self.media.shelf; sizes = c.accept.ensures.size; accepting = c.accept.ensures.leaves h clean away u at; carrying = inl (refl, refl) }
+    record {
+      registry = c.accept.new.self.media.registry;
+      shelf = c.accept.new.self.media.shelf;
+      sizes = c.accept.ensures.size;
+      accepting = c.accept.ensures.leaves h clean away u at;
+      carrying = inl (refl, refl);
+    }
 
 pub returns-in-Err-carry_out-clause-disk : goal.returns-in-Err-carry_out-clause-disk
 returns-in-Err-carry_out-clause-disk g c h clean told away u at =
     let view = g.H.Shelf.view in
-    let mid : DiskKept g.S.Store c.accept.new.self.media.registry = omega (arith, clean, c.carry_out.ensures.clean) in
+    let mid : DiskKept g.S.Store c.accept.new.self.media.registry =
+    omega (arith, clean, c.carry_out.ensures.clean) in
     let answers = c.in-Ok.ensures.answers h mid in
     let pending = sym c.phase.ensures ∙ c.in-Pending.is in
     let fault : c.in-Err-carry_out.fault ≡ Disk = cc in
-    let left = done g.S.Store view g.H.Shelf.size c.args.self.now.media.registry c.accept.new.self.media.registry c.args.self.now.media.shelf c.accept.new.self.media.shelf c.args.key.now c.args.command.now c.in-Ok.answer c.accept.new.self.progress answers pending away u at in
-    let more : (view c.accept.new.self.media.shelf).faults < (view c.carry_out.new.self.media.shelf).faults = c.in-Err-carry_out.ensures.disk (ap Err fault)
-    (work g.S.Store view g.H.Shelf.size c.args.self.now.media.registry c.accept.new.self.media.registry c.args.self.now.media.shelf c.accept.new.self.media.shelf c.args.key.now c.args.command.now c.in-Ok.answer c.accept.new.self.progress answers pending)
-    (is_work g.S.Store view g.H.Shelf.size c.args.self.now.media.registry c.accept.new.self.media.registry c.args.self.now.media.shelf c.accept.new.self.media.shelf c.args.key.now c.args.command.now c.in-Ok.answer c.accept.new.self.progress answers pending)
+    let left = done g.S.Store view g.H.Shelf.size c.args.self.now.media.registry
+    c.accept.new.self.media.registry c.args.self.now.media.shelf c.accept.new.self.media.shelf
+    c.args.key.now c.args.command.now c.in-Ok.answer c.accept.new.self.progress answers pending
+    away u at in
+    let more : (view c.accept.new.self.media.shelf).faults
+    < (view c.carry_out.new.self.media.shelf).faults =
+    c.in-Err-carry_out.ensures.disk (ap Err fault)
+    (work g.S.Store view g.H.Shelf.size c.args.self.now.media.registry
+    c.accept.new.self.media.registry c.args.self.now.media.shelf c.accept.new.self.media.shelf
+    c.args.key.now c.args.command.now c.in-Ok.answer c.accept.new.self.progress answers pending)
+    (is_work g.S.Store view g.H.Shelf.size c.args.self.now.media.registry
+    c.accept.new.self.media.registry c.args.self.now.media.shelf c.accept.new.self.media.shelf
+    c.args.key.now c.args.command.now c.in-Ok.answer c.accept.new.self.progress answers pending)
     left.at.at.at_hand in
     omega (arith, c.accept.ensures.count, more)
 
@@ -69,6 +130,7 @@ returns-in-Err-clause-disk g c h clean told away u at =
 
 pub returns-in-Ok-carry_out-clause-undone : goal.returns-in-Ok-carry_out-clause-undone
 returns-in-Ok-carry_out-clause-undone g c clean undone =
-    let pending : phase_after c.in-Ok.answer ≡ phase.Pending = sym c.in-Ok.ensures.phase ∙ (sym c.phase.ensures ∙ c.in-Pending.is) in
+    let pending : phase_after c.in-Ok.answer ≡ phase.Pending =
+    sym c.in-Ok.ensures.phase ∙ (sym c.phase.ensures ∙ c.in-Pending.is) in
     let none : ⊥ = cc in
     absurd none

@@ -6,13 +6,17 @@ use Rattle.gm_bench.proofs.media.Media.accept.Goals as goal
 
 pub returns-then-not-is_key-clause-leaves : goal.returns-then-not-is_key-clause-leaves
 returns-then-not-is_key-clause-leaves g c h clean away u at =
-    unstepped_same g.S.Store g.H.Shelf.view g.H.Shelf.size c.args.self.now.registry c.args.self.now.shelf away u at (g.met.H.Shelf.lawful c.args.self.now.shelf h)
-    c.args.key.now c.args.command.now (saved g.S.Store g.met.S.Store.settled c.args.self.now.registry at.tables at.has).crash
+    unstepped_same g.S.Store g.H.Shelf.view g.H.Shelf.size c.args.self.now.registry
+    c.args.self.now.shelf away u at (g.met.H.Shelf.lawful c.args.self.now.shelf h)
+    c.args.key.now c.args.command.now
+    (saved g.S.Store g.met.S.Store.settled c.args.self.now.registry at.tables at.has).crash
 
 pub returns-in-Err-clause-leaves : goal.returns-in-Err-clause-leaves
 returns-in-Err-clause-leaves g c h clean away u at =
-    unstepped_same g.S.Store g.H.Shelf.view g.H.Shelf.size c.args.self.now.registry c.args.self.now.shelf away u at (g.met.H.Shelf.lawful c.args.self.now.shelf h)
-    c.args.key.now c.args.command.now (saved g.S.Store g.met.S.Store.settled c.args.self.now.registry at.tables at.has).crash
+    unstepped_same g.S.Store g.H.Shelf.view g.H.Shelf.size c.args.self.now.registry
+    c.args.self.now.shelf away u at (g.met.H.Shelf.lawful c.args.self.now.shelf h)
+    c.args.key.now c.args.command.now
+    (saved g.S.Store g.met.S.Store.settled c.args.self.now.registry at.tables at.has).crash
 
 pub returns-in-Ok-clause-readable : goal.returns-in-Ok-clause-readable
 returns-in-Ok-clause-readable g c h clean is away u at written =
@@ -20,4 +24,5 @@ returns-in-Ok-clause-readable g c h clean is away u at written =
     c.answer.ensures.readable h clean is away u key_ok c.in-Ok.ensures.fits at written
 
 pub returns-then-not-is_key-clause-undone : goal.returns-then-not-is_key-clause-undone
-returns-then-not-is_key-clause-undone g c clean undone = reads_none g.S.Store g.met.S.Store.settled c.args.self.now.registry
+returns-then-not-is_key-clause-undone g c clean undone =
+    reads_none g.S.Store g.met.S.Store.settled c.args.self.now.registry

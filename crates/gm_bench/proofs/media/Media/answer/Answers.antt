@@ -12,39 +12,67 @@ use Rattle.gm_bench.proofs.media.Media.answer.Goals as goal
 
 pub returns-then-eq-clause-leaves : goal.returns-then-eq-clause-leaves
 returns-then-eq-clause-leaves g c h clean away u words key_ok fits at =
-    unstepped g.S.Store g.H.Shelf.view g.H.Shelf.size c.args.self.now.registry c.args.self.now.shelf c.args.self.now.shelf away u at (g.met.H.Shelf.lawful c.args.self.now.shelf h) (quiet_itself (g.H.Shelf.view c.args.self.now.shelf)) refl
-    c.reply_of.new.self c.args.key.now c.args.command.now (saved g.S.Store g.met.S.Store.settled c.args.self.now.registry at.tables at.has).crash clean (c.reply_of.ensures.reads.left at.tables at.has)
+    unstepped g.S.Store g.H.Shelf.view g.H.Shelf.size c.args.self.now.registry c.args.self.now.shelf
+    c.args.self.now.shelf away u at (g.met.H.Shelf.lawful c.args.self.now.shelf h)
+    (quiet_itself (g.H.Shelf.view c.args.self.now.shelf)) refl
+    c.reply_of.new.self c.args.key.now c.args.command.now
+    (saved g.S.Store g.met.S.Store.settled c.args.self.now.registry at.tables at.has).crash
+    clean (c.reply_of.ensures.reads.left at.tables at.has)
 
 pub returns-in-Ok-Some-clause-leaves : goal.returns-in-Ok-Some-clause-leaves
 returns-in-Ok-Some-clause-leaves g c h clean away u words key_ok fits at =
-    unstepped g.S.Store g.H.Shelf.view g.H.Shelf.size c.args.self.now.registry c.args.self.now.shelf c.args.self.now.shelf away u at (g.met.H.Shelf.lawful c.args.self.now.shelf h) (quiet_itself (g.H.Shelf.view c.args.self.now.shelf)) refl
-    c.reply_of.new.self c.args.key.now c.args.command.now (saved g.S.Store g.met.S.Store.settled c.args.self.now.registry at.tables at.has).crash clean (c.reply_of.ensures.reads.left at.tables at.has)
+    unstepped g.S.Store g.H.Shelf.view g.H.Shelf.size c.args.self.now.registry c.args.self.now.shelf
+    c.args.self.now.shelf away u at (g.met.H.Shelf.lawful c.args.self.now.shelf h)
+    (quiet_itself (g.H.Shelf.view c.args.self.now.shelf)) refl
+    c.reply_of.new.self c.args.key.now c.args.command.now
+    (saved g.S.Store g.met.S.Store.settled c.args.self.now.registry at.tables at.has).crash
+    clean (c.reply_of.ensures.reads.left at.tables at.has)
 
 pub returns-clause-leaves : goal.returns-clause-leaves
 returns-clause-leaves g c h clean away u words key_ok fits at =
-    unstepped g.S.Store g.H.Shelf.view g.H.Shelf.size c.args.self.now.registry c.args.self.now.shelf c.args.self.now.shelf away u at (g.met.H.Shelf.lawful c.args.self.now.shelf h) (quiet_itself (g.H.Shelf.view c.args.self.now.shelf)) refl
-    c.reply_of.new.self c.args.key.now c.args.command.now (saved g.S.Store g.met.S.Store.settled c.args.self.now.registry at.tables at.has).crash clean (c.reply_of.ensures.reads.left at.tables at.has)
+    unstepped g.S.Store g.H.Shelf.view g.H.Shelf.size c.args.self.now.registry c.args.self.now.shelf
+    c.args.self.now.shelf away u at (g.met.H.Shelf.lawful c.args.self.now.shelf h)
+    (quiet_itself (g.H.Shelf.view c.args.self.now.shelf)) refl
+    c.reply_of.new.self c.args.key.now c.args.command.now
+    (saved g.S.Store g.met.S.Store.settled c.args.self.now.registry at.tables at.has).crash
+    clean (c.reply_of.ensures.reads.left at.tables at.has)
 
 pub returns-in-Ok-None-clause-leaves : goal.returns-in-Ok-None-clause-leaves
 returns-in-Ok-None-clause-leaves g c h clean away u words key_ok fits at =
-    let asked : DiskKept g.S.Store c.reply_of.new.self = omega (arith, clean, c.decide.ensures.clean) in
+    let asked : DiskKept g.S.Store c.reply_of.new.self =
+    omega (arith, clean, c.decide.ensures.clean) in
     let lawful = g.met.H.Shelf.lawful c.args.self.now.shelf h in
     let f = c.in-Ok-None.ensures.found asked at.tables at.has in
-    let free : IsFree at.tables c.args.key.now = subst (λ o. MatchOption o (IsFree at.tables c.args.key.now) (λ it. IsKept at.tables c.args.key.now it.0 (string_bytes it.1) it.2)) c.in-Ok-None.field-0-is f.0 in
+    let free : IsFree at.tables c.args.key.now =
+    subst (λ o. MatchOption o (IsFree at.tables c.args.key.now)
+    (λ it. IsKept at.tables c.args.key.now it.0 (string_bytes it.1) it.2))
+    c.in-Ok-None.field-0-is f.0 in
     let quiet = quiet_itself (g.H.Shelf.view c.args.self.now.shelf) in
-    let at1 = still g.S.Store g.H.Shelf.view g.H.Shelf.size c.args.self.now.registry c.args.self.now.shelf c.args.self.now.shelf away u at lawful quiet refl c.reply_of.new.self f.1.tables in
-    then_step g.S.Store g.H.Shelf.view g.H.Shelf.size c.args.self.now.registry c.args.self.now.shelf c.args.self.now.shelf away u at lawful quiet refl c.reply_of.new.self c.decide.new.self.registry c.decide.new.self.shelf c.args.key.now c.args.command.now
-    (c.decide.ensures.reads h).quiet (saved g.S.Store g.met.S.Store.settled c.args.self.now.registry at.tables at.has).crash (c.decide.ensures.leaves h clean away u words key_ok fits at1 free)
+    let at1 = still g.S.Store g.H.Shelf.view g.H.Shelf.size c.args.self.now.registry
+    c.args.self.now.shelf c.args.self.now.shelf away u at lawful quiet refl c.reply_of.new.self
+    f.1.tables in
+    then_step g.S.Store g.H.Shelf.view g.H.Shelf.size c.args.self.now.registry c.args.self.now.shelf
+    c.args.self.now.shelf away u at lawful quiet refl c.reply_of.new.self
+    c.decide.new.self.registry c.decide.new.self.shelf c.args.key.now c.args.command.now
+    (c.decide.ensures.reads h).quiet
+    (saved g.S.Store g.met.S.Store.settled c.args.self.now.registry at.tables at.has).crash
+    (c.decide.ensures.leaves h clean away u words key_ok fits at1 free)
 
 pub returns-in-Ok-None-clause-done : goal.returns-in-Ok-None-clause-done
 returns-in-Ok-None-clause-done g c h clean =
     ok_then _ _ (λ a answered away u words key_ok fits at. (
-    let asked : DiskKept g.S.Store c.reply_of.new.self = omega (arith, clean, c.decide.ensures.clean) in
+    let asked : DiskKept g.S.Store c.reply_of.new.self =
+    omega (arith, clean, c.decide.ensures.clean) in
     let lawful = g.met.H.Shelf.lawful c.args.self.now.shelf h in
     let f = c.in-Ok-None.ensures.found asked at.tables at.has in
-    let free : IsFree at.tables c.args.key.now = subst (λ o. MatchOption o (IsFree at.tables c.args.key.now) (λ it. IsKept at.tables c.args.key.now it.0 (string_bytes it.1) it.2)) c.in-Ok-None.field-0-is f.0 in
+    let free : IsFree at.tables c.args.key.now =
+    subst (λ o. MatchOption o (IsFree at.tables c.args.key.now)
+    (λ it. IsKept at.tables c.args.key.now it.0 (string_bytes it.1) it.2))
+    c.in-Ok-None.field-0-is f.0 in
     let quiet = quiet_itself (g.H.Shelf.view c.args.self.now.shelf) in
-    let at1 = still g.S.Store g.H.Shelf.view g.H.Shelf.size c.args.self.now.registry c.args.self.now.shelf c.args.self.now.shelf away u at lawful quiet refl c.reply_of.new.self f.1.tables in
+    let at1 = still g.S.Store g.H.Shelf.view g.H.Shelf.size c.args.self.now.registry
+    c.args.self.now.shelf c.args.self.now.shelf away u at lawful quiet refl c.reply_of.new.self
+    f.1.tables in
     answered away u words key_ok fits at1 free)) c.decide.result (c.decide.ensures.done h clean)
 
 pub returns-then-eq-clause-done : goal.returns-then-eq-clause-done
@@ -52,40 +80,80 @@ returns-then-eq-clause-done g c h clean away u words key_ok fits at =
     let lawful = g.met.H.Shelf.lawful c.args.self.now.shelf h in
     let l = (at.leads (g.H.Shelf.view c.args.self.now.shelf).seen lawful.holds_now).0 in
     let f = c.in-Ok-Some.ensures.found clean at.tables at.has in
-    let row : IsKept at.tables c.args.key.now c.in-Ok-Some.number (string_bytes c.in-Ok-Some.kept) c.in-Ok-Some.reply = subst (λ o. MatchOption o (IsFree at.tables c.args.key.now) (λ it. IsKept at.tables c.args.key.now it.0 (string_bytes it.1) it.2)) c.in-Ok-Some.field-0-is f.0 in
-    let a = kept_answer u at.tables l.sound l.records c.args.key.now c.args.command.now c.in-Ok-Some.number (string_bytes c.in-Ok-Some.kept) c.in-Ok-Some.reply row in
-    let here = still g.S.Store g.H.Shelf.view g.H.Shelf.size c.args.self.now.registry c.args.self.now.shelf c.args.self.now.shelf away u at lawful (quiet_itself (g.H.Shelf.view c.args.self.now.shelf)) refl c.reply_of.new.self f.1.tables in
-    let same : string_bytes c.in-Ok-Some.kept ≡ c.args.words.now = sym c.as_str.ensures.value ∙ same_is c.as_str.result.now c.args.words.now (sym c.eq.ensures ∙ c.if-eq.true) in
-    (subst₂ (λ (n : ℕ) r. run.Calls u (record { key = c.args.key.now; command = c.args.command.now }) u (run.Repeated n r)) a.3 a.5 (same_again u at.tables l.sound l.records c.args.key.now c.args.command.now key_ok a.0 a.1 a.2 fits (a.4 ∙ (same ∙ words))), here)
+    let row : IsKept at.tables c.args.key.now c.in-Ok-Some.number
+    (string_bytes c.in-Ok-Some.kept) c.in-Ok-Some.reply =
+    subst (λ o. MatchOption o (IsFree at.tables c.args.key.now)
+    (λ it. IsKept at.tables c.args.key.now it.0 (string_bytes it.1) it.2))
+    c.in-Ok-Some.field-0-is f.0 in
+    let a = kept_answer u at.tables l.sound l.records c.args.key.now c.args.command.now
+    c.in-Ok-Some.number (string_bytes c.in-Ok-Some.kept) c.in-Ok-Some.reply row in
+    let here = still g.S.Store g.H.Shelf.view g.H.Shelf.size c.args.self.now.registry
+    c.args.self.now.shelf c.args.self.now.shelf away u at lawful
+    (quiet_itself (g.H.Shelf.view c.args.self.now.shelf)) refl c.reply_of.new.self f.1.tables in
+    let same : string_bytes c.in-Ok-Some.kept ≡ c.args.words.now =
+    sym c.as_str.ensures.value ∙ same_is c.as_str.result.now c.args.words.now
+    (sym c.eq.ensures ∙ c.if-eq.true) in (
+      subst₂ (λ (n : ℕ) r. run.Calls u (record {
+        key = c.args.key.now;
+        command = c.args.command.now;
+      }) u (run.Repeated n r)) a.3 a.5
+          (same_again u at.tables l.sound l.records c.args.key.now c.args.command.now key_ok a.0 a.1
+          a.2 fits (a.4 ∙ (same ∙ words))),
+      here,
+    )
 
 pub returns-in-Ok-Some-clause-done : goal.returns-in-Ok-Some-clause-done
 returns-in-Ok-Some-clause-done g c h clean away u words key_ok fits at =
     let lawful = g.met.H.Shelf.lawful c.args.self.now.shelf h in
     let l = (at.leads (g.H.Shelf.view c.args.self.now.shelf).seen lawful.holds_now).0 in
     let f = c.in-Ok-Some.ensures.found clean at.tables at.has in
-    let row : IsKept at.tables c.args.key.now c.in-Ok-Some.number (string_bytes c.in-Ok-Some.kept) c.in-Ok-Some.reply = subst (λ o. MatchOption o (IsFree at.tables c.args.key.now) (λ it. IsKept at.tables c.args.key.now it.0 (string_bytes it.1) it.2)) c.in-Ok-Some.field-0-is f.0 in
-    let a = kept_answer u at.tables l.sound l.records c.args.key.now c.args.command.now c.in-Ok-Some.number (string_bytes c.in-Ok-Some.kept) c.in-Ok-Some.reply row in
-    let here = still g.S.Store g.H.Shelf.view g.H.Shelf.size c.args.self.now.registry c.args.self.now.shelf c.args.self.now.shelf away u at lawful (quiet_itself (g.H.Shelf.view c.args.self.now.shelf)) refl c.reply_of.new.self f.1.tables in
-    let other : string_bytes c.in-Ok-Some.kept ≢ c.args.words.now = λ e. true≢false (sym (same_from c.as_str.result.now c.args.words.now (c.as_str.ensures.value ∙ e)) ∙ (sym c.eq.ensures ∙ c.if-eq.false)) in
-    (other_command u at.tables l.sound l.records c.args.key.now c.args.command.now key_ok a.0 a.1 a.2 (λ e. other (sym a.4 ∙ (e ∙ sym words))), here)
+    let row : IsKept at.tables c.args.key.now c.in-Ok-Some.number
+    (string_bytes c.in-Ok-Some.kept) c.in-Ok-Some.reply =
+    subst (λ o. MatchOption o (IsFree at.tables c.args.key.now)
+    (λ it. IsKept at.tables c.args.key.now it.0 (string_bytes it.1) it.2))
+    c.in-Ok-Some.field-0-is f.0 in
+    let a = kept_answer u at.tables l.sound l.records c.args.key.now c.args.command.now
+    c.in-Ok-Some.number (string_bytes c.in-Ok-Some.kept) c.in-Ok-Some.reply row in
+    let here = still g.S.Store g.H.Shelf.view g.H.Shelf.size c.args.self.now.registry
+    c.args.self.now.shelf c.args.self.now.shelf away u at lawful
+    (quiet_itself (g.H.Shelf.view c.args.self.now.shelf)) refl c.reply_of.new.self f.1.tables in
+    let other : string_bytes c.in-Ok-Some.kept ≢ c.args.words.now =
+    λ e. true≢false
+    (sym (same_from c.as_str.result.now c.args.words.now (c.as_str.ensures.value ∙ e))
+    ∙ (sym c.eq.ensures ∙ c.if-eq.false)) in (
+      other_command u at.tables l.sound l.records c.args.key.now c.args.command.now key_ok a.0 a.1
+          a.2 (λ e. other (sym a.4 ∙ (e ∙ sym words))),
+      here,
+    )
 
 pub returns-in-Ok-None-clause-readable : goal.returns-in-Ok-None-clause-readable
 returns-in-Ok-None-clause-readable g c h clean is away u key_ok fits at written =
-    let asked : DiskKept g.S.Store c.reply_of.new.self = omega (arith, clean, c.decide.ensures.clean) in
+    let asked : DiskKept g.S.Store c.reply_of.new.self =
+    omega (arith, clean, c.decide.ensures.clean) in
     let lawful = g.met.H.Shelf.lawful c.args.self.now.shelf h in
     let f = c.in-Ok-None.ensures.found asked at.tables at.has in
-    let free : IsFree at.tables c.args.key.now = subst (λ o. MatchOption o (IsFree at.tables c.args.key.now) (λ it. IsKept at.tables c.args.key.now it.0 (string_bytes it.1) it.2)) c.in-Ok-None.field-0-is f.0 in
+    let free : IsFree at.tables c.args.key.now =
+    subst (λ o. MatchOption o (IsFree at.tables c.args.key.now)
+    (λ it. IsKept at.tables c.args.key.now it.0 (string_bytes it.1) it.2))
+    c.in-Ok-None.field-0-is f.0 in
     let quiet = quiet_itself (g.H.Shelf.view c.args.self.now.shelf) in
-    let at1 = still g.S.Store g.H.Shelf.view g.H.Shelf.size c.args.self.now.registry c.args.self.now.shelf c.args.self.now.shelf away u at lawful quiet refl c.reply_of.new.self f.1.tables in
+    let at1 = still g.S.Store g.H.Shelf.view g.H.Shelf.size c.args.self.now.registry
+    c.args.self.now.shelf c.args.self.now.shelf away u at lawful quiet refl c.reply_of.new.self
+    f.1.tables in
     c.decide.ensures.readable h clean is away u key_ok fits at1 free
 
 pub returns-in-Ok-None-clause-kept : goal.returns-in-Ok-None-clause-kept
 returns-in-Ok-None-clause-kept g c clean is t has =
-    let asked : DiskKept g.S.Store c.reply_of.new.self = omega (arith, clean, c.decide.ensures.clean) in
+    let asked : DiskKept g.S.Store c.reply_of.new.self =
+    omega (arith, clean, c.decide.ensures.clean) in
     let found = c.in-Ok-None.ensures.found asked t has in
-    nothing_then g.S.Store c.args.self.now.registry c.reply_of.new.self c.decide.new.self.registry (c.reply_of.ensures.reads.left t has) (c.decide.ensures.kept clean is t found.1.tables)
+    nothing_then g.S.Store c.args.self.now.registry c.reply_of.new.self c.decide.new.self.registry
+    (c.reply_of.ensures.reads.left t has) (c.decide.ensures.kept clean is t found.1.tables)
 
 pub returns-in-Ok-None-clause-undone : goal.returns-in-Ok-None-clause-undone
 returns-in-Ok-None-clause-undone g c clean =
-    let asked : DiskKept g.S.Store c.reply_of.new.self = omega (arith, clean, c.decide.ensures.clean) in
-    ok_then _ _ (λ a reads undone. reads_then g.S.Store c.args.self.now.registry c.reply_of.new.self c.decide.new.self.registry (λ t has. (c.in-Ok-None.ensures.found asked t has).1.tables) c.reply_of.ensures.reads (reads undone)) c.decide.result (c.decide.ensures.undone clean)
+    let asked : DiskKept g.S.Store c.reply_of.new.self =
+    omega (arith, clean, c.decide.ensures.clean) in
+    ok_then _ _ (λ a reads undone. reads_then g.S.Store c.args.self.now.registry c.reply_of.new.self
+    c.decide.new.self.registry (λ t has. (c.in-Ok-None.ensures.found asked t has).1.tables)
+    c.reply_of.ensures.reads (reads undone)) c.decide.result (c.decide.ensures.undone clean)

@@ -7,28 +7,46 @@ use Rattle.gm_bench.proofs.media.Media.apply.Goals as goal
 
 pub returns-in-Ok-clause-moments : goal.returns-in-Ok-clause-moments
 returns-in-Ok-clause-moments g c h away u w at cover =
-    moments g.S.Store g.H.Shelf.view g.H.Shelf.size c.args.self.now.registry c.args.self.now.shelf c.apply.new.shelf away c.args.intents.now u w at (g.met.H.Shelf.lawful c.args.self.now.shelf h) c.args.part.now cover (c.apply.ensures.moments h)
+    moments g.S.Store g.H.Shelf.view g.H.Shelf.size c.args.self.now.registry c.args.self.now.shelf
+    c.apply.new.shelf away c.args.intents.now u w at
+    (g.met.H.Shelf.lawful c.args.self.now.shelf h) c.args.part.now cover
+    (c.apply.ensures.moments h)
 
 pub returns-in-Err-clause-moments : goal.returns-in-Err-clause-moments
 returns-in-Err-clause-moments g c h away u w at cover =
-    moments g.S.Store g.H.Shelf.view g.H.Shelf.size c.args.self.now.registry c.args.self.now.shelf c.apply.new.shelf away c.args.intents.now u w at (g.met.H.Shelf.lawful c.args.self.now.shelf h) c.args.part.now cover (c.apply.ensures.moments h)
+    moments g.S.Store g.H.Shelf.view g.H.Shelf.size c.args.self.now.registry c.args.self.now.shelf
+    c.apply.new.shelf away c.args.intents.now u w at
+    (g.met.H.Shelf.lawful c.args.self.now.shelf h) c.args.part.now cover
+    (c.apply.ensures.moments h)
 
 pub returns-in-Ok-clause-leaves : goal.returns-in-Ok-clause-leaves
 returns-in-Ok-clause-leaves g c h away u w at cover =
-    leaves g.S.Store g.H.Shelf.view g.H.Shelf.size c.args.self.now.registry c.args.self.now.shelf c.apply.new.shelf away c.args.intents.now u w at (g.met.H.Shelf.lawful c.args.self.now.shelf h) c.args.part.now cover (c.apply.ensures.moments h)
-    (g.met.H.Shelf.lawful c.apply.new.shelf (c.apply.ensures.honest h)) (saved g.S.Store g.met.S.Store.settled c.args.self.now.registry at.tables at.has).crash
+    leaves g.S.Store g.H.Shelf.view g.H.Shelf.size c.args.self.now.registry c.args.self.now.shelf
+    c.apply.new.shelf away c.args.intents.now u w at
+    (g.met.H.Shelf.lawful c.args.self.now.shelf h) c.args.part.now cover
+    (c.apply.ensures.moments h)
+    (g.met.H.Shelf.lawful c.apply.new.shelf (c.apply.ensures.honest h))
+    (saved g.S.Store g.met.S.Store.settled c.args.self.now.registry at.tables at.has).crash
 
 pub returns-in-Err-clause-leaves : goal.returns-in-Err-clause-leaves
 returns-in-Err-clause-leaves g c h away u w at cover =
-    leaves g.S.Store g.H.Shelf.view g.H.Shelf.size c.args.self.now.registry c.args.self.now.shelf c.apply.new.shelf away c.args.intents.now u w at (g.met.H.Shelf.lawful c.args.self.now.shelf h) c.args.part.now cover (c.apply.ensures.moments h)
-    (g.met.H.Shelf.lawful c.apply.new.shelf (c.apply.ensures.honest h)) (saved g.S.Store g.met.S.Store.settled c.args.self.now.registry at.tables at.has).crash
+    leaves g.S.Store g.H.Shelf.view g.H.Shelf.size c.args.self.now.registry c.args.self.now.shelf
+    c.apply.new.shelf away c.args.intents.now u w at
+    (g.met.H.Shelf.lawful c.args.self.now.shelf h) c.args.part.now cover
+    (c.apply.ensures.moments h)
+    (g.met.H.Shelf.lawful c.apply.new.shelf (c.apply.ensures.honest h))
+    (saved g.S.Store g.met.S.Store.settled c.args.self.now.registry at.tables at.has).crash
 
 pub returns-in-Ok-clause-done : goal.returns-in-Ok-clause-done
 returns-in-Ok-clause-done g c h away u w at cover =
     let lawful = g.met.H.Shelf.lawful c.args.self.now.shelf h in
     let after = g.met.H.Shelf.lawful c.apply.new.shelf (c.apply.ensures.honest h) in (
-      carried g.S.Store g.H.Shelf.view g.H.Shelf.size c.args.self.now.registry c.args.self.now.shelf c.apply.new.shelf away c.args.intents.now u w at lawful c.args.part.now cover (c.apply.ensures.moments h) after c.apply.ensures.size,
-      ended g.S.Store g.H.Shelf.view g.H.Shelf.size c.args.self.now.registry c.args.self.now.shelf c.apply.new.shelf away c.args.intents.now u w at lawful c.args.part.now cover (c.apply.ensures.moments h) after c.apply.ensures.size (c.in-Ok.ensures.done h),
+      carried g.S.Store g.H.Shelf.view g.H.Shelf.size c.args.self.now.registry c.args.self.now.shelf
+          c.apply.new.shelf away c.args.intents.now u w at lawful c.args.part.now cover
+          (c.apply.ensures.moments h) after c.apply.ensures.size,
+      ended g.S.Store g.H.Shelf.view g.H.Shelf.size c.args.self.now.registry c.args.self.now.shelf
+          c.apply.new.shelf away c.args.intents.now u w at lawful c.args.part.now cover
+          (c.apply.ensures.moments h) after c.apply.ensures.size (c.in-Ok.ensures.done h),
     )
 
 pub returns-in-Err-clause-disk : goal.returns-in-Err-clause-disk
@@ -36,6 +54,8 @@ returns-in-Err-clause-disk g c hand is =
     let fault : c.of_shelf.result ≡ Disk = cc in
     let size = g.H.Shelf.size c.args.self.now.shelf in
     of_disk c.in-Err.fault _ (sym c.of_shelf.ensures.value ∙ fault)
-    (λ e. let it = c.in-Err.ensures.absent (ap Err e) in not_lacking_provider size it.0 (hand it.0 it.1) it.2)
-    (λ e. let it = c.in-Err.ensures.range (ap Err e) in not_lacking_sector size it.0 (hand it.0 it.1) it.2)
+    (λ e. let it = c.in-Err.ensures.absent (ap Err e) in
+    not_lacking_provider size it.0 (hand it.0 it.1) it.2)
+    (λ e. let it = c.in-Err.ensures.range (ap Err e) in
+    not_lacking_sector size it.0 (hand it.0 it.1) it.2)
     (λ e. c.in-Err.ensures.device (ap Err e))

@@ -19,4 +19,5 @@ returns-clause-readable g c h clean is away u key at can =
     let known = c.in-Ok.ensures.known h clean away u at in
     let l = (at.leads (view shelf).seen (g.met.H.Shelf.lawful shelf h).holds_now).0 in
     let fault : c.in-Err-decide_on.fault ≡ Unreadable = cc in
-    c.in-Err-decide_on.ensures.readable (ap Err fault) u key l.sound can known.0.part known.0.mirrors known.0.facts
+    c.in-Err-decide_on.ensures.readable (ap Err fault) u key l.sound can known.0.part
+    known.0.mirrors known.0.facts

@@ -7,42 +7,67 @@ use Rattle.gm_bench.proofs.Present.{at_hand}
 
 pub returns-in-Some-clause-leaves : goal.returns-in-Some-clause-leaves
 returns-in-Some-clause-leaves g c h clean away u w at same =
-    still_only g.S.Store g.H.Shelf.view g.H.Shelf.size c.args.self.now.registry c.args.self.now.shelf away at.tables c.args.intents.now u w (saved g.S.Store g.met.S.Store.settled c.args.self.now.registry at.tables at.has).crash (g.met.H.Shelf.lawful c.args.self.now.shelf h) at.leads
+    still_only g.S.Store g.H.Shelf.view g.H.Shelf.size c.args.self.now.registry
+    c.args.self.now.shelf away at.tables c.args.intents.now u w
+    (saved g.S.Store g.met.S.Store.settled c.args.self.now.registry at.tables at.has).crash
+    (g.met.H.Shelf.lawful c.args.self.now.shelf h) at.leads
 
 pub returns-in-Some-clause-moments : goal.returns-in-Some-clause-moments
-returns-in-Some-clause-moments g c h away u w at same = λ x l. at.leads x ((g.met.H.Shelf.lawful c.args.self.now.shelf h).only_now x l)
+returns-in-Some-clause-moments g c h away u w at same =
+    λ x l. at.leads x ((g.met.H.Shelf.lawful c.args.self.now.shelf h).only_now x l)
 
 pub returns-in-Err-clause-leaves : goal.returns-in-Err-clause-leaves
 returns-in-Err-clause-leaves g c h clean away u w at same =
     let lawful = g.met.H.Shelf.lawful c.args.self.now.shelf h in
-    let here = ready g.S.Store g.H.Shelf.view g.H.Shelf.size c.args.self.now.registry c.args.self.now.shelf away c.args.intents.now u w at lawful c.args.state.now same (sym c.first_absent.ensures ∙ c.in-None.is) in
-    c.finish.ensures.leaves h clean away u w here (covered g.S.Store g.H.Shelf.view g.H.Shelf.size c.args.self.now.registry c.args.self.now.shelf away c.args.intents.now u w at lawful c.args.state.now same)
+    let here = ready g.S.Store g.H.Shelf.view g.H.Shelf.size c.args.self.now.registry
+    c.args.self.now.shelf away c.args.intents.now u w at lawful c.args.state.now same
+    (sym c.first_absent.ensures ∙ c.in-None.is) in
+    c.finish.ensures.leaves h clean away u w here
+    (covered g.S.Store g.H.Shelf.view g.H.Shelf.size c.args.self.now.registry
+    c.args.self.now.shelf away c.args.intents.now u w at lawful c.args.state.now same)
 
 pub returns-in-Err-clause-disk : goal.returns-in-Err-clause-disk
 returns-in-Err-clause-disk g c t of is =
     let size = g.H.Shelf.size c.args.self.now.shelf in
-    c.in-Err.ensures.disk (at_hand c.args.state.now size of.state c.args.intents.now of.readable.each (sym c.first_absent.ensures ∙ c.in-None.is)) is
+    c.in-Err.ensures.disk (at_hand c.args.state.now size of.state c.args.intents.now
+    of.readable.each (sym c.first_absent.ensures ∙ c.in-None.is)) is
 
 pub returns-in-Err-clause-moments : goal.returns-in-Err-clause-moments
 returns-in-Err-clause-moments g c h away u w at same =
     let lawful = g.met.H.Shelf.lawful c.args.self.now.shelf h in
-    c.finish.ensures.moments h away u w (ready g.S.Store g.H.Shelf.view g.H.Shelf.size c.args.self.now.registry c.args.self.now.shelf away c.args.intents.now u w at lawful c.args.state.now same (sym c.first_absent.ensures ∙ c.in-None.is))
-    (covered g.S.Store g.H.Shelf.view g.H.Shelf.size c.args.self.now.registry c.args.self.now.shelf away c.args.intents.now u w at lawful c.args.state.now same)
+    c.finish.ensures.moments h away u w
+    (ready g.S.Store g.H.Shelf.view g.H.Shelf.size c.args.self.now.registry
+    c.args.self.now.shelf away c.args.intents.now u w at lawful c.args.state.now same
+    (sym c.first_absent.ensures ∙ c.in-None.is))
+    (covered g.S.Store g.H.Shelf.view g.H.Shelf.size c.args.self.now.registry c.args.self.now.shelf
+    away c.args.intents.now u w at lawful c.args.state.now same)
 
 pub returns-in-Ok-clause-leaves : goal.returns-in-Ok-clause-leaves
 returns-in-Ok-clause-leaves g c h clean away u w at same =
     let lawful = g.met.H.Shelf.lawful c.args.self.now.shelf h in
-    let here = ready g.S.Store g.H.Shelf.view g.H.Shelf.size c.args.self.now.registry c.args.self.now.shelf away c.args.intents.now u w at lawful c.args.state.now same (sym c.first_absent.ensures ∙ c.in-None.is) in
-    c.finish.ensures.leaves h clean away u w here (covered g.S.Store g.H.Shelf.view g.H.Shelf.size c.args.self.now.registry c.args.self.now.shelf away c.args.intents.now u w at lawful c.args.state.now same)
+    let here = ready g.S.Store g.H.Shelf.view g.H.Shelf.size c.args.self.now.registry
+    c.args.self.now.shelf away c.args.intents.now u w at lawful c.args.state.now same
+    (sym c.first_absent.ensures ∙ c.in-None.is) in
+    c.finish.ensures.leaves h clean away u w here
+    (covered g.S.Store g.H.Shelf.view g.H.Shelf.size c.args.self.now.registry
+    c.args.self.now.shelf away c.args.intents.now u w at lawful c.args.state.now same)
 
 pub returns-in-Ok-clause-done : goal.returns-in-Ok-clause-done
 returns-in-Ok-clause-done g c h clean away u w at same =
     let lawful = g.met.H.Shelf.lawful c.args.self.now.shelf h in
-    let here = ready g.S.Store g.H.Shelf.view g.H.Shelf.size c.args.self.now.registry c.args.self.now.shelf away c.args.intents.now u w at lawful c.args.state.now same (sym c.first_absent.ensures ∙ c.in-None.is) in
-    c.in-Ok.ensures.done h clean away u w here (covered g.S.Store g.H.Shelf.view g.H.Shelf.size c.args.self.now.registry c.args.self.now.shelf away c.args.intents.now u w at lawful c.args.state.now same)
+    let here = ready g.S.Store g.H.Shelf.view g.H.Shelf.size c.args.self.now.registry
+    c.args.self.now.shelf away c.args.intents.now u w at lawful c.args.state.now same
+    (sym c.first_absent.ensures ∙ c.in-None.is) in
+    c.in-Ok.ensures.done h clean away u w here
+    (covered g.S.Store g.H.Shelf.view g.H.Shelf.size c.args.self.now.registry
+    c.args.self.now.shelf away c.args.intents.now u w at lawful c.args.state.now same)
 
 pub returns-in-Ok-clause-moments : goal.returns-in-Ok-clause-moments
 returns-in-Ok-clause-moments g c h away u w at same =
     let lawful = g.met.H.Shelf.lawful c.args.self.now.shelf h in
-    c.finish.ensures.moments h away u w (ready g.S.Store g.H.Shelf.view g.H.Shelf.size c.args.self.now.registry c.args.self.now.shelf away c.args.intents.now u w at lawful c.args.state.now same (sym c.first_absent.ensures ∙ c.in-None.is))
-    (covered g.S.Store g.H.Shelf.view g.H.Shelf.size c.args.self.now.registry c.args.self.now.shelf away c.args.intents.now u w at lawful c.args.state.now same)
+    c.finish.ensures.moments h away u w
+    (ready g.S.Store g.H.Shelf.view g.H.Shelf.size c.args.self.now.registry
+    c.args.self.now.shelf away c.args.intents.now u w at lawful c.args.state.now same
+    (sym c.first_absent.ensures ∙ c.in-None.is))
+    (covered g.S.Store g.H.Shelf.view g.H.Shelf.size c.args.self.now.registry c.args.self.now.shelf
+    away c.args.intents.now u w at lawful c.args.state.now same)

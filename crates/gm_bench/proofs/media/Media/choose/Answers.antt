@@ -15,15 +15,26 @@ returns-in-Ok-Ok-clause-leaves g c h clean away u words at can =
     let view = g.H.Shelf.view in
     let size = g.H.Shelf.size in
     let lawful = g.met.H.Shelf.lawful c.args.self.now.shelf h in
-    let only = (saved g.S.Store g.met.S.Store.settled c.args.self.now.registry at.tables at.has).crash in
+    let only = (saved g.S.Store g.met.S.Store.settled c.args.self.now.registry at.tables
+    at.has).crash in
     let quiet = (c.ask.ensures.reads h).quiet in
-    let asked : DiskKept g.S.Store c.ask.new.self.registry = omega (arith, clean, c.commit.ensures.clean) in
+    let asked : DiskKept g.S.Store c.ask.new.self.registry =
+    omega (arith, clean, c.commit.ensures.clean) in
     let d = c.in-Ok-Ok.ensures.decides h asked away u at in
-    let planned : IsPlanned u c.args.command.now c.in-Ok-Ok.planned = subst (λ r. IsDecided u c.args.command.now r) c.in-Ok-Ok.field-0-is d.0 in
-    let at1 = still g.S.Store view size c.args.self.now.registry c.args.self.now.shelf c.ask.new.self.shelf away u at lawful quiet c.ask.ensures.size c.ask.new.self.registry d.1 in
-    let leaves = c.commit.ensures.leaves (c.ask.ensures.honest h) clean away c.args.command.now u words at1 planned can in
-    subst (λ (k : g.row.H.Denot). LeavesStep g.S.Store view size c.args.self.now.registry c.commit.new.self.registry c.args.self.now.shelf k away u c.args.key.now c.args.command.now) (sym c.commit.ensures.shelf)
-    (then_step g.S.Store view size c.args.self.now.registry c.args.self.now.shelf c.ask.new.self.shelf away u at lawful quiet c.ask.ensures.size c.ask.new.self.registry c.commit.new.self.registry c.ask.new.self.shelf c.args.key.now c.args.command.now quiet only leaves)
+    let planned : IsPlanned u c.args.command.now c.in-Ok-Ok.planned =
+    subst (λ r. IsDecided u c.args.command.now r) c.in-Ok-Ok.field-0-is d.0 in
+    let at1 = still g.S.Store view size c.args.self.now.registry c.args.self.now.shelf
+    c.ask.new.self.shelf away u at lawful quiet c.ask.ensures.size c.ask.new.self.registry
+    d.1 in
+    let leaves = c.commit.ensures.leaves (c.ask.ensures.honest h) clean away c.args.command.now u
+    words at1 planned can in
+    subst (λ (k : g.row.H.Denot). LeavesStep g.S.Store view size c.args.self.now.registry
+    c.commit.new.self.registry c.args.self.now.shelf k away u c.args.key.now c.args.command.now)
+    (sym c.commit.ensures.shelf)
+    (then_step g.S.Store view size c.args.self.now.registry c.args.self.now.shelf
+    c.ask.new.self.shelf away u at lawful quiet c.ask.ensures.size c.ask.new.self.registry
+    c.commit.new.self.registry c.ask.new.self.shelf c.args.key.now c.args.command.now quiet only
+    leaves)
 
 pub returns-in-Ok-Ok-clause-done : goal.returns-in-Ok-Ok-clause-done
 returns-in-Ok-Ok-clause-done g c h clean = ok_then _ _ (λ a told away u words at can. (
@@ -31,38 +42,58 @@ returns-in-Ok-Ok-clause-done g c h clean = ok_then _ _ (λ a told away u words a
     let size = g.H.Shelf.size in
     let lawful = g.met.H.Shelf.lawful c.args.self.now.shelf h in
     let quiet = (c.ask.ensures.reads h).quiet in
-    let asked : DiskKept g.S.Store c.ask.new.self.registry = omega (arith, clean, c.commit.ensures.clean) in
+    let asked : DiskKept g.S.Store c.ask.new.self.registry =
+    omega (arith, clean, c.commit.ensures.clean) in
     let d = c.in-Ok-Ok.ensures.decides h asked away u at in
-    let planned : IsPlanned u c.args.command.now c.in-Ok-Ok.planned = subst (λ r. IsDecided u c.args.command.now r) c.in-Ok-Ok.field-0-is d.0 in
-    let at1 = still g.S.Store view size c.args.self.now.registry c.args.self.now.shelf c.ask.new.self.shelf away u at lawful quiet c.ask.ensures.size c.ask.new.self.registry d.1 in
-    subst (λ (k : g.row.H.Denot). IsAnswered g.S.Store view size c.commit.new.self.registry k away u c.args.key.now c.args.command.now a) (sym c.commit.ensures.shelf) (told away c.args.command.now u words at1 planned can)))
+    let planned : IsPlanned u c.args.command.now c.in-Ok-Ok.planned =
+    subst (λ r. IsDecided u c.args.command.now r) c.in-Ok-Ok.field-0-is d.0 in
+    let at1 = still g.S.Store view size c.args.self.now.registry c.args.self.now.shelf
+    c.ask.new.self.shelf away u at lawful quiet c.ask.ensures.size c.ask.new.self.registry
+    d.1 in
+    subst (λ (k : g.row.H.Denot). IsAnswered g.S.Store view size c.commit.new.self.registry k away u
+    c.args.key.now c.args.command.now a) (sym c.commit.ensures.shelf)
+    (told away c.args.command.now u words at1 planned can)))
     c.commit.result (c.commit.ensures.done (c.ask.ensures.honest h) clean)
 
 pub returns-in-Ok-Err-clause-leaves : goal.returns-in-Ok-Err-clause-leaves
 returns-in-Ok-Err-clause-leaves g c h clean away u words at can =
-    unstepped g.S.Store g.H.Shelf.view g.H.Shelf.size c.args.self.now.registry c.args.self.now.shelf c.ask.new.self.shelf away u at (g.met.H.Shelf.lawful c.args.self.now.shelf h) (c.ask.ensures.reads h).quiet c.ask.ensures.size
-    c.ask.new.self.registry c.args.key.now c.args.command.now (saved g.S.Store g.met.S.Store.settled c.args.self.now.registry at.tables at.has).crash clean (c.ask.ensures.store.left at.tables at.has)
+    unstepped g.S.Store g.H.Shelf.view g.H.Shelf.size c.args.self.now.registry c.args.self.now.shelf
+    c.ask.new.self.shelf away u at (g.met.H.Shelf.lawful c.args.self.now.shelf h)
+    (c.ask.ensures.reads h).quiet c.ask.ensures.size
+    c.ask.new.self.registry c.args.key.now c.args.command.now
+    (saved g.S.Store g.met.S.Store.settled c.args.self.now.registry at.tables at.has).crash
+    clean (c.ask.ensures.store.left at.tables at.has)
 
 pub returns-in-Ok-Err-clause-done : goal.returns-in-Ok-Err-clause-done
 returns-in-Ok-Err-clause-done g c h clean away u words at can =
     let lawful = g.met.H.Shelf.lawful c.args.self.now.shelf h in
     let d = c.in-Ok-Err.ensures.decides h clean away u at in
     let l = (at.leads (g.H.Shelf.view c.args.self.now.shelf).seen lawful.holds_now).0 in
-    let least_is : IsLeast u.state (seen_of u) c.args.command.now c.in-Ok-Err.refusal = subst (λ r. IsDecided u c.args.command.now r) c.in-Ok-Err.field-0-is d.0 in
-    let at1 = still g.S.Store g.H.Shelf.view g.H.Shelf.size c.args.self.now.registry c.args.self.now.shelf c.ask.new.self.shelf away u at lawful (c.ask.ensures.reads h).quiet c.ask.ensures.size c.ask.new.self.registry d.1 in (
-      least u at.tables l.sound l.records c.args.key.now c.args.command.now can.key_ok can.free can.room c.in-Ok-Err.refusal least_is,
+    let least_is : IsLeast u.state (seen_of u) c.args.command.now c.in-Ok-Err.refusal =
+    subst (λ r. IsDecided u c.args.command.now r) c.in-Ok-Err.field-0-is d.0 in
+    let at1 = still g.S.Store g.H.Shelf.view g.H.Shelf.size c.args.self.now.registry
+    c.args.self.now.shelf c.ask.new.self.shelf away u at lawful
+    (c.ask.ensures.reads h).quiet c.ask.ensures.size c.ask.new.self.registry d.1 in (
+      least u at.tables l.sound l.records c.args.key.now c.args.command.now can.key_ok can.free
+          can.room c.in-Ok-Err.refusal least_is,
       at1,
     )
 
 pub returns-in-Err-clause-leaves : goal.returns-in-Err-clause-leaves
 returns-in-Err-clause-leaves g c h clean away u words at can =
-    unstepped g.S.Store g.H.Shelf.view g.H.Shelf.size c.args.self.now.registry c.args.self.now.shelf c.ask.new.self.shelf away u at (g.met.H.Shelf.lawful c.args.self.now.shelf h) (c.ask.ensures.reads h).quiet c.ask.ensures.size
-    c.ask.new.self.registry c.args.key.now c.args.command.now (saved g.S.Store g.met.S.Store.settled c.args.self.now.registry at.tables at.has).crash clean (c.ask.ensures.store.left at.tables at.has)
+    unstepped g.S.Store g.H.Shelf.view g.H.Shelf.size c.args.self.now.registry c.args.self.now.shelf
+    c.ask.new.self.shelf away u at (g.met.H.Shelf.lawful c.args.self.now.shelf h)
+    (c.ask.ensures.reads h).quiet c.ask.ensures.size
+    c.ask.new.self.registry c.args.key.now c.args.command.now
+    (saved g.S.Store g.met.S.Store.settled c.args.self.now.registry at.tables at.has).crash
+    clean (c.ask.ensures.store.left at.tables at.has)
 
 pub returns-in-Ok-Ok-clause-readable : goal.returns-in-Ok-Ok-clause-readable
 returns-in-Ok-Ok-clause-readable g c h clean is away u at can =
-    let l = (at.leads (g.H.Shelf.view c.args.self.now.shelf).seen (g.met.H.Shelf.lawful c.args.self.now.shelf h).holds_now).0 in
-    let asked : DiskKept g.S.Store c.ask.new.self.registry = omega (arith, clean, c.commit.ensures.clean) in
+    let l = (at.leads (g.H.Shelf.view c.args.self.now.shelf).seen
+    (g.met.H.Shelf.lawful c.args.self.now.shelf h).holds_now).0 in
+    let asked : DiskKept g.S.Store c.ask.new.self.registry =
+    omega (arith, clean, c.commit.ensures.clean) in
     let d = c.in-Ok-Ok.ensures.decides h asked away u at in
     let many = as_many u at.tables l.sound l.records c.args.key.now c.args.command.now in
     let few = l.sound.answers.count in
@@ -74,4 +105,5 @@ returns-in-Err-clause-readable g c h clean is away u at can =
     c.in-Err.ensures.readable h clean (ap Err fault) away u c.args.key.now at can
 
 pub returns-in-Ok-Ok-clause-undone : goal.returns-in-Ok-Ok-clause-undone
-returns-in-Ok-Ok-clause-undone g c clean = ok_then _ _ (λ a done undone. absurd (done undone)) c.commit.result c.commit.ensures.work
+returns-in-Ok-Ok-clause-undone g c clean =
+    ok_then _ _ (λ a done undone. absurd (done undone)) c.commit.result c.commit.ensures.work

@@ -4,17 +4,25 @@ use Rattle.gm_bench.proofs.media.Media.commit.Goals as goal
 
 pub returns-in-Ok-clause-leaves : goal.returns-in-Ok-clause-leaves
 returns-in-Ok-clause-leaves g c h clean away cmd u words at planned can =
-    commit_leaves g.S.Store g.H.Shelf.view g.H.Shelf.size c.args.self.now.registry c.accept.new.self c.args.self.now.shelf away u c.args.key.now cmd c.args.planned c.args.words.now words
-    (g.met.H.Shelf.lawful c.args.self.now.shelf h) at planned can (saved g.S.Store g.met.S.Store.settled c.args.self.now.registry at.tables at.has).crash clean (c.accept.ensures.writes.left at.tables at.has)
+    commit_leaves g.S.Store g.H.Shelf.view g.H.Shelf.size c.args.self.now.registry c.accept.new.self
+    c.args.self.now.shelf away u c.args.key.now cmd c.args.planned c.args.words.now words
+    (g.met.H.Shelf.lawful c.args.self.now.shelf h) at planned can
+    (saved g.S.Store g.met.S.Store.settled c.args.self.now.registry at.tables at.has).crash
+    clean (c.accept.ensures.writes.left at.tables at.has)
 
 pub returns-in-Err-clause-leaves : goal.returns-in-Err-clause-leaves
 returns-in-Err-clause-leaves g c h clean away cmd u words at planned can =
-    commit_leaves g.S.Store g.H.Shelf.view g.H.Shelf.size c.args.self.now.registry c.accept.new.self c.args.self.now.shelf away u c.args.key.now cmd c.args.planned c.args.words.now words
-    (g.met.H.Shelf.lawful c.args.self.now.shelf h) at planned can (saved g.S.Store g.met.S.Store.settled c.args.self.now.registry at.tables at.has).crash clean (c.accept.ensures.writes.left at.tables at.has)
+    commit_leaves g.S.Store g.H.Shelf.view g.H.Shelf.size c.args.self.now.registry c.accept.new.self
+    c.args.self.now.shelf away u c.args.key.now cmd c.args.planned c.args.words.now words
+    (g.met.H.Shelf.lawful c.args.self.now.shelf h) at planned can
+    (saved g.S.Store g.met.S.Store.settled c.args.self.now.registry at.tables at.has).crash
+    clean (c.accept.ensures.writes.left at.tables at.has)
 
 pub returns-in-Ok-clause-done : goal.returns-in-Ok-clause-done
 returns-in-Ok-clause-done g c h clean away cmd u words at planned can =
     let number = c.in-Ok.ensures.number clean at.tables at.has in
     let has = (c.in-Ok.ensures.writes.done clean at.tables at.has).tables in
-    commit_done g.S.Store g.H.Shelf.view g.H.Shelf.size c.args.self.now.registry c.accept.new.self c.args.self.now.shelf away u c.args.key.now cmd c.args.planned c.args.words.now words
-    (g.met.H.Shelf.lawful c.args.self.now.shelf h) at planned can c.in-Ok.number c.reply.result c.reply.ensures number has
+    commit_done g.S.Store g.H.Shelf.view g.H.Shelf.size c.args.self.now.registry c.accept.new.self
+    c.args.self.now.shelf away u c.args.key.now cmd c.args.planned c.args.words.now words
+    (g.met.H.Shelf.lawful c.args.self.now.shelf h) at planned can c.in-Ok.number c.reply.result
+    c.reply.ensures number has

@@ -11,9 +11,13 @@ use Rattle.gm_bench.proofs.media.Media.decide.Goals as goal
 
 pub returns-in-Ok-true-clause-leaves : goal.returns-in-Ok-true-clause-leaves
 returns-in-Ok-true-clause-leaves g c h clean away u words key_ok fits at free =
-    unstepped g.S.Store g.H.Shelf.view g.H.Shelf.size c.args.self.now.registry c.args.self.now.shelf c.is_full.new.self.shelf away u at (g.met.H.Shelf.lawful c.args.self.now.shelf h)
-    (quiet_same g.H.Shelf.view c.args.self.now.shelf c.is_full.new.self.shelf c.is_full.ensures.shelf) (ap g.H.Shelf.size c.is_full.ensures.shelf)
-    c.is_full.new.self.registry c.args.key.now c.args.command.now (saved g.S.Store g.met.S.Store.settled c.args.self.now.registry at.tables at.has).crash clean (c.is_full.ensures.reads.left at.tables at.has)
+    unstepped g.S.Store g.H.Shelf.view g.H.Shelf.size c.args.self.now.registry c.args.self.now.shelf
+    c.is_full.new.self.shelf away u at (g.met.H.Shelf.lawful c.args.self.now.shelf h)
+    (quiet_same g.H.Shelf.view c.args.self.now.shelf c.is_full.new.self.shelf
+    c.is_full.ensures.shelf) (ap g.H.Shelf.size c.is_full.ensures.shelf)
+    c.is_full.new.self.registry c.args.key.now c.args.command.now
+    (saved g.S.Store g.met.S.Store.settled c.args.self.now.registry at.tables at.has).crash
+    clean (c.is_full.ensures.reads.left at.tables at.has)
 
 pub returns-in-Ok-true-clause-done : goal.returns-in-Ok-true-clause-done
 returns-in-Ok-true-clause-done g c h clean away u words key_ok fits at free =
@@ -22,10 +26,15 @@ returns-in-Ok-true-clause-done g c h clean away u words key_ok fits at free =
     let no_key = free_key u at.tables l.sound l.records c.args.key.now c.args.command.now free in
     let told = c.in-Ok-true.ensures.told clean at.tables at.has in
     let many = as_many u at.tables l.sound l.records c.args.key.now c.args.command.now in
-    let much = many_of c.in-Ok-true.field-0 (count_of at.tables) told.0 c.in-Ok-true.field-0-test in (
-      too_many u at.tables l.sound l.records c.args.key.now c.args.command.now key_ok no_key (omega (arith, many, much)),
-      still g.S.Store g.H.Shelf.view g.H.Shelf.size c.args.self.now.registry c.args.self.now.shelf c.is_full.new.self.shelf away u at lawful
-          (quiet_same g.H.Shelf.view c.args.self.now.shelf c.is_full.new.self.shelf c.is_full.ensures.shelf) (ap g.H.Shelf.size c.is_full.ensures.shelf) c.is_full.new.self.registry told.1,
+    let much = many_of c.in-Ok-true.field-0 (count_of at.tables)
+    told.0 c.in-Ok-true.field-0-test in (
+      too_many u at.tables l.sound l.records c.args.key.now c.args.command.now key_ok no_key
+          (omega (arith, many, much)),
+      still g.S.Store g.H.Shelf.view g.H.Shelf.size c.args.self.now.registry c.args.self.now.shelf
+          c.is_full.new.self.shelf away u at lawful
+          (quiet_same g.H.Shelf.view c.args.self.now.shelf c.is_full.new.self.shelf
+          c.is_full.ensures.shelf) (ap g.H.Shelf.size c.is_full.ensures.shelf)
+          c.is_full.new.self.registry told.1,
     )
 
 pub returns-in-Ok-false-clause-leaves : goal.returns-in-Ok-false-clause-leaves
@@ -35,19 +44,30 @@ returns-in-Ok-false-clause-leaves g c h clean away u words key_ok fits at free =
     let lawful = g.met.H.Shelf.lawful c.args.self.now.shelf h in
     let l = (at.leads (g.H.Shelf.view c.args.self.now.shelf).seen lawful.holds_now).0 in
     let no_key = free_key u at.tables l.sound l.records c.args.key.now c.args.command.now free in
-    let counted : DiskKept g.S.Store c.is_full.new.self.registry = omega (arith, clean, c.choose.ensures.clean) in
+    let counted : DiskKept g.S.Store c.is_full.new.self.registry =
+    omega (arith, clean, c.choose.ensures.clean) in
     let told = c.in-Ok-false.ensures.told counted at.tables at.has in
     let many = as_many u at.tables l.sound l.records c.args.key.now c.args.command.now in
-    let few = room_of c.in-Ok-false.field-0 (count_of at.tables) told.0 c.in-Ok-false.field-0-test in
+    let few = room_of c.in-Ok-false.field-0 (count_of at.tables) told.0
+    c.in-Ok-false.field-0-test in
     let room : length u.answered < 100000 = omega (arith, many, few) in
-    let can : CanAnswer u c.args.key.now c.args.command.now = record { key_ok = key_ok; free = no_key; room = room; fits = fits } in
-    let quiet = quiet_same view c.args.self.now.shelf c.is_full.new.self.shelf c.is_full.ensures.shelf in
+    let can : CanAnswer u c.args.key.now c.args.command.now =
+    record { key_ok = key_ok; free = no_key; room = room; fits = fits } in
+    let quiet = quiet_same view c.args.self.now.shelf c.is_full.new.self.shelf
+    c.is_full.ensures.shelf in
     let same = ap size c.is_full.ensures.shelf in
-    let at1 = still g.S.Store view size c.args.self.now.registry c.args.self.now.shelf c.is_full.new.self.shelf away u at lawful quiet same c.is_full.new.self.registry told.1 in
+    let at1 = still g.S.Store view size c.args.self.now.registry c.args.self.now.shelf
+    c.is_full.new.self.shelf away u at lawful quiet same c.is_full.new.self.registry told.1 in
     let h1 = subst g.H.Shelf.honest (sym c.is_full.ensures.shelf) h in
-    let all : IsQuiet (view c.args.self.now.shelf) (view c.choose.new.self.shelf) = subst (λ (k : g.row.H.Denot). IsQuiet (g.H.Shelf.view k) (g.H.Shelf.view c.choose.new.self.shelf)) c.is_full.ensures.shelf (c.choose.ensures.reads h1).quiet in
-    then_step g.S.Store view size c.args.self.now.registry c.args.self.now.shelf c.is_full.new.self.shelf away u at lawful quiet same c.is_full.new.self.registry c.choose.new.self.registry c.choose.new.self.shelf c.args.key.now c.args.command.now all
-    (saved g.S.Store g.met.S.Store.settled c.args.self.now.registry at.tables at.has).crash (c.choose.ensures.leaves h1 clean away u words at1 can)
+    let all : IsQuiet (view c.args.self.now.shelf) (view c.choose.new.self.shelf) =
+    subst (λ (k : g.row.H.Denot). IsQuiet (g.H.Shelf.view k)
+    (g.H.Shelf.view c.choose.new.self.shelf)) c.is_full.ensures.shelf
+    (c.choose.ensures.reads h1).quiet in
+    then_step g.S.Store view size c.args.self.now.registry c.args.self.now.shelf
+    c.is_full.new.self.shelf away u at lawful quiet same c.is_full.new.self.registry
+    c.choose.new.self.registry c.choose.new.self.shelf c.args.key.now c.args.command.now all
+    (saved g.S.Store g.met.S.Store.settled c.args.self.now.registry at.tables at.has).crash
+    (c.choose.ensures.leaves h1 clean away u words at1 can)
 
 pub returns-in-Ok-false-clause-done : goal.returns-in-Ok-false-clause-done
 returns-in-Ok-false-clause-done g c h clean =
@@ -58,22 +78,31 @@ returns-in-Ok-false-clause-done g c h clean =
     let lawful = g.met.H.Shelf.lawful c.args.self.now.shelf h in
     let l = (at.leads (g.H.Shelf.view c.args.self.now.shelf).seen lawful.holds_now).0 in
     let no_key = free_key u at.tables l.sound l.records c.args.key.now c.args.command.now free in
-    let counted : DiskKept g.S.Store c.is_full.new.self.registry = omega (arith, clean, c.choose.ensures.clean) in
+    let counted : DiskKept g.S.Store c.is_full.new.self.registry =
+    omega (arith, clean, c.choose.ensures.clean) in
     let told = c.in-Ok-false.ensures.told counted at.tables at.has in
     let many = as_many u at.tables l.sound l.records c.args.key.now c.args.command.now in
-    let few = room_of c.in-Ok-false.field-0 (count_of at.tables) told.0 c.in-Ok-false.field-0-test in
+    let few = room_of c.in-Ok-false.field-0 (count_of at.tables) told.0
+    c.in-Ok-false.field-0-test in
     let room : length u.answered < 100000 = omega (arith, many, few) in
-    let can : CanAnswer u c.args.key.now c.args.command.now = record { key_ok = key_ok; free = no_key; room = room; fits = fits } in
-    let quiet = quiet_same view c.args.self.now.shelf c.is_full.new.self.shelf c.is_full.ensures.shelf in
+    let can : CanAnswer u c.args.key.now c.args.command.now =
+    record { key_ok = key_ok; free = no_key; room = room; fits = fits } in
+    let quiet = quiet_same view c.args.self.now.shelf c.is_full.new.self.shelf
+    c.is_full.ensures.shelf in
     let same = ap size c.is_full.ensures.shelf in
-    let at1 = still g.S.Store view size c.args.self.now.registry c.args.self.now.shelf c.is_full.new.self.shelf away u at lawful quiet same c.is_full.new.self.registry told.1 in
+    let at1 = still g.S.Store view size c.args.self.now.registry c.args.self.now.shelf
+    c.is_full.new.self.shelf away u at lawful quiet same c.is_full.new.self.registry told.1 in
     answered away u words at1 can)) c.choose.result (c.choose.ensures.done h1 clean)
 
 pub returns-in-Err-clause-leaves : goal.returns-in-Err-clause-leaves
 returns-in-Err-clause-leaves g c h clean away u words key_ok fits at free =
-    unstepped g.S.Store g.H.Shelf.view g.H.Shelf.size c.args.self.now.registry c.args.self.now.shelf c.is_full.new.self.shelf away u at (g.met.H.Shelf.lawful c.args.self.now.shelf h)
-    (quiet_same g.H.Shelf.view c.args.self.now.shelf c.is_full.new.self.shelf c.is_full.ensures.shelf) (ap g.H.Shelf.size c.is_full.ensures.shelf)
-    c.is_full.new.self.registry c.args.key.now c.args.command.now (saved g.S.Store g.met.S.Store.settled c.args.self.now.registry at.tables at.has).crash clean (c.is_full.ensures.reads.left at.tables at.has)
+    unstepped g.S.Store g.H.Shelf.view g.H.Shelf.size c.args.self.now.registry c.args.self.now.shelf
+    c.is_full.new.self.shelf away u at (g.met.H.Shelf.lawful c.args.self.now.shelf h)
+    (quiet_same g.H.Shelf.view c.args.self.now.shelf c.is_full.new.self.shelf
+    c.is_full.ensures.shelf) (ap g.H.Shelf.size c.is_full.ensures.shelf)
+    c.is_full.new.self.registry c.args.key.now c.args.command.now
+    (saved g.S.Store g.met.S.Store.settled c.args.self.now.registry at.tables at.has).crash
+    clean (c.is_full.ensures.reads.left at.tables at.has)
 
 pub returns-in-Ok-false-clause-readable : goal.returns-in-Ok-false-clause-readable
 returns-in-Ok-false-clause-readable g c h clean is away u key_ok fits at free =
@@ -82,10 +111,12 @@ returns-in-Ok-false-clause-readable g c h clean is away u key_ok fits at free =
     let h1 = subst g.H.Shelf.honest (sym c.is_full.ensures.shelf) h in
     let lawful = g.met.H.Shelf.lawful c.args.self.now.shelf h in
     let l = (at.leads (view c.args.self.now.shelf).seen lawful.holds_now).0 in
-    let counted : DiskKept g.S.Store c.is_full.new.self.registry = omega (arith, clean, c.choose.ensures.clean) in
+    let counted : DiskKept g.S.Store c.is_full.new.self.registry =
+    omega (arith, clean, c.choose.ensures.clean) in
     let told = c.in-Ok-false.ensures.told counted at.tables at.has in
     let many = as_many u at.tables l.sound l.records c.args.key.now c.args.command.now in
-    let few = room_of c.in-Ok-false.field-0 (count_of at.tables) told.0 c.in-Ok-false.field-0-test in
+    let few = room_of c.in-Ok-false.field-0 (count_of at.tables) told.0
+    c.in-Ok-false.field-0-test in
     let room : length u.answered < 100000 = omega (arith, many, few) in
     let can : CanAnswer u c.args.key.now c.args.command.now = record {
       key_ok = key_ok;
@@ -93,14 +124,17 @@ returns-in-Ok-false-clause-readable g c h clean is away u key_ok fits at free =
       room = room;
       fits = fits;
     } in
-    let quiet = quiet_same view c.args.self.now.shelf c.is_full.new.self.shelf c.is_full.ensures.shelf in
+    let quiet = quiet_same view c.args.self.now.shelf c.is_full.new.self.shelf
+    c.is_full.ensures.shelf in
     let same = ap size c.is_full.ensures.shelf in
-    let at1 = still g.S.Store view size c.args.self.now.registry c.args.self.now.shelf c.is_full.new.self.shelf away u at lawful quiet same c.is_full.new.self.registry told.1 in
+    let at1 = still g.S.Store view size c.args.self.now.registry c.args.self.now.shelf
+    c.is_full.new.self.shelf away u at lawful quiet same c.is_full.new.self.registry told.1 in
     c.choose.ensures.readable h1 clean is away u at1 can
 
 pub returns-in-Err-clause-readable : goal.returns-in-Err-clause-readable
 returns-in-Err-clause-readable g c h clean is away u key_ok fits at free =
-    let l = (at.leads (g.H.Shelf.view c.args.self.now.shelf).seen (g.met.H.Shelf.lawful c.args.self.now.shelf h).holds_now).0 in
+    let l = (at.leads (g.H.Shelf.view c.args.self.now.shelf).seen
+    (g.met.H.Shelf.lawful c.args.self.now.shelf h).holds_now).0 in
     let many = as_many u at.tables l.sound l.records c.args.key.now c.args.command.now in
     let few = l.sound.answers.count in
     let fault : c.in-Err.fault ≡ Unreadable = cc in
@@ -108,11 +142,18 @@ returns-in-Err-clause-readable g c h clean is away u key_ok fits at free =
 
 pub returns-in-Ok-false-clause-kept : goal.returns-in-Ok-false-clause-kept
 returns-in-Ok-false-clause-kept g c clean is t has =
-    let counted : DiskKept g.S.Store c.is_full.new.self.registry = omega (arith, clean, c.choose.ensures.clean) in
+    let counted : DiskKept g.S.Store c.is_full.new.self.registry =
+    omega (arith, clean, c.choose.ensures.clean) in
     let told = c.in-Ok-false.ensures.told counted t has in
-    nothing_then g.S.Store c.args.self.now.registry c.is_full.new.self.registry c.choose.new.self.registry (c.is_full.ensures.reads.left t has) (c.choose.ensures.kept clean is t told.1)
+    nothing_then g.S.Store c.args.self.now.registry c.is_full.new.self.registry
+    c.choose.new.self.registry (c.is_full.ensures.reads.left t has)
+    (c.choose.ensures.kept clean is t told.1)
 
 pub returns-in-Ok-false-clause-undone : goal.returns-in-Ok-false-clause-undone
 returns-in-Ok-false-clause-undone g c clean =
-    let counted : DiskKept g.S.Store c.is_full.new.self.registry = omega (arith, clean, c.choose.ensures.clean) in
-    ok_then _ _ (λ a reads undone. reads_then g.S.Store c.args.self.now.registry c.is_full.new.self.registry c.choose.new.self.registry (λ t has. (c.in-Ok-false.ensures.told counted t has).1) c.is_full.ensures.reads (reads undone)) c.choose.result (c.choose.ensures.undone clean)
+    let counted : DiskKept g.S.Store c.is_full.new.self.registry =
+    omega (arith, clean, c.choose.ensures.clean) in
+    ok_then _ _ (λ a reads undone. reads_then g.S.Store c.args.self.now.registry
+    c.is_full.new.self.registry c.choose.new.self.registry
+    (λ t has. (c.in-Ok-false.ensures.told counted t has).1) c.is_full.ensures.reads
+    (reads undone)) c.choose.result (c.choose.ensures.undone clean)

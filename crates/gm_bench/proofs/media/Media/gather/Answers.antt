@@ -20,8 +20,11 @@ returns-in-Err-part-clause-readable g c h clean is away u key at =
     let view = g.H.Shelf.view in
     let size = g.H.Shelf.size in
     let shelf = c.args.self.now.shelf in
-    let has : HasTables g.S.Store c.look_at.new.self.registry at.tables = subst (λ (k : Held g.row.S.Denot). HasTables g.S.Store k at.tables) (sym c.look_at.ensures.registry) at.has in
-    let records = are_records g.S.Store view size c.args.self.now.registry shelf away u at (g.met.H.Shelf.lawful shelf h) in
+    let has : HasTables g.S.Store c.look_at.new.self.registry at.tables =
+    subst (λ (k : Held g.row.S.Denot). HasTables g.S.Store k at.tables)
+    (sym c.look_at.ensures.registry) at.has in
+    let records = are_records g.S.Store view size c.args.self.now.registry shelf away u at
+    (g.met.H.Shelf.lawful shelf h) in
     let fault : c.in-Err-part.fault ≡ Unreadable = cc in
     c.in-Err-part.ensures.readable clean (ap Err fault) at.tables u.state has records
 
@@ -37,23 +40,40 @@ returns-in-Ok-look-clause-known g c h clean away u at =
     let part = c.in-Ok-part.part.state in
     let against = c.compared_with-against.result in
     let quiet = (c.look_at.ensures.reads h).quiet in
-    let has : HasTables g.S.Store c.look_at.new.self.registry at.tables = subst (λ (k : Held g.row.S.Denot). HasTables g.S.Store k at.tables) (sym c.look_at.ensures.registry) at.has in
-    let at1 = at_read g.S.Store view size c.args.self.now.registry shelf read away [] u u at quiet c.look_at.ensures.size c.look_at.new.self.registry has in
-    let clean1 : DiskKept g.S.Store c.part.new.self.registry = subst (λ (k : Held g.row.S.Denot). DiskKept g.S.Store k) c.look.ensures.registry clean in
+    let has : HasTables g.S.Store c.look_at.new.self.registry at.tables =
+    subst (λ (k : Held g.row.S.Denot). HasTables g.S.Store k at.tables)
+    (sym c.look_at.ensures.registry) at.has in
+    let at1 = at_read g.S.Store view size c.args.self.now.registry shelf read away [] u u at quiet
+    c.look_at.ensures.size c.look_at.new.self.registry has in
+    let clean1 : DiskKept g.S.Store c.part.new.self.registry =
+    subst (λ (k : Held g.row.S.Denot). DiskKept g.S.Store k) c.look.ensures.registry clean in
     let h1 : g.H.Shelf.honest read = c.look_at.ensures.honest h in
     let known = c.in-Ok-part.ensures.part h1 clean1 away [] u u at1 in
     let mids : c.deref.result.now ≡ found_mids (seen_in first) (adopted_from command) =
-    c.deref.ensures.value ∙ (c.in-Ok-found_mids.ensures ∙ ap (found_mids (seen_in first)) c.adopted_from-providers.ensures) in
-    let source : against ≡ option_map compared_with (source_in (seen_in first) (adopted_from command)) =
-    c.compared_with-against.ensures ∙ ap (option_map compared_with) (c.adopt_source.ensures ∙ ap (source_in (seen_in first)) c.adopted_from-providers.ensures) in
-    let before : (q : List ℕ) → Has (adopted_from command) q → Tell first (size shelf) (view shelf).seen None q =
-    λ q k. c.in-Ok.ensures.tell h q (subst (λ (l : List (List ℕ)). Has l q) (sym c.adopted_from-providers.ensures) k) in
-    let h2 : g.H.Shelf.honest c.part.new.self.shelf = subst g.H.Shelf.honest (sym c.part.ensures.shelf) h1 in
-    let then : (s : Records) → IsPartOf part command s → (q : List ℕ) → Has (needed_by s command) q → Tell facts (size read) (view read).seen against q =
-    subst (λ (k : g.row.H.Denot). (s : Records) → IsPartOf part command s → (q : List ℕ) → Has (needed_by s command) q → Tell facts (size k) (view k).seen against q) c.part.ensures.shelf (c.in-Ok-look.ensures.tell h2) in
-    let both = gathered g.S.Store view size c.args.self.now.registry shelf away u at (g.met.H.Shelf.lawful shelf h) first facts command part against source
+    c.deref.ensures.value ∙ (c.in-Ok-found_mids.ensures
+    ∙ ap (found_mids (seen_in first)) c.adopted_from-providers.ensures) in
+    let source : against ≡ option_map compared_with
+    (source_in (seen_in first) (adopted_from command)) =
+    c.compared_with-against.ensures ∙ ap (option_map compared_with)
+    (c.adopt_source.ensures ∙ ap (source_in (seen_in first))
+    c.adopted_from-providers.ensures) in
+    let before : (q : List ℕ) → Has (adopted_from command) q
+    → Tell first (size shelf) (view shelf).seen None q =
+    λ q k. c.in-Ok.ensures.tell h q (subst (λ (l : List (List ℕ)). Has l q)
+    (sym c.adopted_from-providers.ensures) k) in
+    let h2 : g.H.Shelf.honest c.part.new.self.shelf =
+    subst g.H.Shelf.honest (sym c.part.ensures.shelf) h1 in
+    let then : (s : Records) → IsPartOf part command s → (q : List ℕ) → Has (needed_by s command) q
+    → Tell facts (size read) (view read).seen against q =
+    subst (λ (k : g.row.H.Denot). (s : Records) → IsPartOf part command s → (q : List ℕ)
+    → Has (needed_by s command) q → Tell facts (size k) (view k).seen against q)
+    c.part.ensures.shelf (c.in-Ok-look.ensures.tell h2) in
+    let both = gathered g.S.Store view size c.args.self.now.registry shelf away u at
+    (g.met.H.Shelf.lawful shelf h) first facts command part against source
     (known.0 ∙ ap (part_of u.state command) mids) before
-    (λ s of q k. tell_moved (size shelf) (size read) (view shelf).seen (view read).seen against facts q c.look_at.ensures.size quiet.seen (then s of q k)) in (
+    (λ s of q k. tell_moved (size shelf) (size read) (view shelf).seen
+    (view read).seen against facts q c.look_at.ensures.size quiet.seen (then s of q k)) in (
       record { part = both.0; mirrors = known.2; facts = both.1 },
-      subst (λ (k : Held g.row.S.Denot). HasTables g.S.Store k at.tables) (sym c.look.ensures.registry) known.3,
+      subst (λ (k : Held g.row.S.Denot). HasTables g.S.Store k at.tables)
+          (sym c.look.ensures.registry) known.3,
     )

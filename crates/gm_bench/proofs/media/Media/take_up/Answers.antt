@@ -15,36 +15,55 @@ pub returns-in-Ok-check_and_finish-clause-leaves : goal.returns-in-Ok-check_and_
 returns-in-Ok-check_and_finish-clause-leaves g c h clean away ts u w at =
     let view = g.H.Shelf.view in
     let size = g.H.Shelf.size in
-    let clean1 : DiskKept g.S.Store c.load.new.self.registry = omega (arith, clean, c.check_and_finish.ensures.clean) in
+    let clean1 : DiskKept g.S.Store c.load.new.self.registry =
+    omega (arith, clean, c.check_and_finish.ensures.clean) in
     let said = c.in-Ok.ensures.says h clean1 away ts u w at in
     let are : c.deref.result.now ≡ ts = c.deref.ensures.value ∙ said.1 in
-    let found = moved g.S.Store view size c.args.self.now.registry c.load.new.self.registry c.args.self.now.shelf c.load.new.self.shelf away ts u w at c.load.ensures.shelf c.deref.result.now are said.2 in
-    let h1 : g.H.Shelf.honest c.load.new.self.shelf = subst g.H.Shelf.honest (sym c.load.ensures.shelf) h in
-    leaves_back g.S.Store view size c.args.self.now.registry c.load.new.self.registry c.args.self.now.shelf c.load.new.self.shelf away ts u w at c.load.ensures.shelf c.deref.result.now are c.check_and_finish.new.self.registry c.check_and_finish.new.self.shelf
+    let found = moved g.S.Store view size c.args.self.now.registry c.load.new.self.registry
+    c.args.self.now.shelf c.load.new.self.shelf away ts u w at c.load.ensures.shelf
+    c.deref.result.now are said.2 in
+    let h1 : g.H.Shelf.honest c.load.new.self.shelf =
+    subst g.H.Shelf.honest (sym c.load.ensures.shelf) h in
+    leaves_back g.S.Store view size c.args.self.now.registry c.load.new.self.registry
+    c.args.self.now.shelf c.load.new.self.shelf away ts u w at c.load.ensures.shelf
+    c.deref.result.now are c.check_and_finish.new.self.registry
+    c.check_and_finish.new.self.shelf
     (saved g.S.Store g.met.S.Store.settled c.args.self.now.registry at.tables at.has).crash
-    (c.check_and_finish.ensures.moments h1 away u w found said.0) (c.check_and_finish.ensures.leaves h1 clean away u w found said.0)
+    (c.check_and_finish.ensures.moments h1 away u w found said.0)
+    (c.check_and_finish.ensures.leaves h1 clean away u w found said.0)
 
-pub returns-in-Ok-check_and_finish-clause-moments : goal.returns-in-Ok-check_and_finish-clause-moments
+pub returns-in-Ok-check_and_finish-clause-moments :
+    goal.returns-in-Ok-check_and_finish-clause-moments
 returns-in-Ok-check_and_finish-clause-moments g c h clean away ts u w at =
     let view = g.H.Shelf.view in
     let size = g.H.Shelf.size in
-    let clean1 : DiskKept g.S.Store c.load.new.self.registry = omega (arith, clean, c.check_and_finish.ensures.clean) in
+    let clean1 : DiskKept g.S.Store c.load.new.self.registry =
+    omega (arith, clean, c.check_and_finish.ensures.clean) in
     let said = c.in-Ok.ensures.says h clean1 away ts u w at in
     let are : c.deref.result.now ≡ ts = c.deref.ensures.value ∙ said.1 in
-    let found = moved g.S.Store view size c.args.self.now.registry c.load.new.self.registry c.args.self.now.shelf c.load.new.self.shelf away ts u w at c.load.ensures.shelf c.deref.result.now are said.2 in
-    let h1 : g.H.Shelf.honest c.load.new.self.shelf = subst g.H.Shelf.honest (sym c.load.ensures.shelf) h in
-    moments_back g.S.Store view size c.args.self.now.registry c.load.new.self.registry c.args.self.now.shelf c.load.new.self.shelf away ts u w at c.load.ensures.shelf c.deref.result.now are c.check_and_finish.new.self.shelf
+    let found = moved g.S.Store view size c.args.self.now.registry c.load.new.self.registry
+    c.args.self.now.shelf c.load.new.self.shelf away ts u w at c.load.ensures.shelf
+    c.deref.result.now are said.2 in
+    let h1 : g.H.Shelf.honest c.load.new.self.shelf =
+    subst g.H.Shelf.honest (sym c.load.ensures.shelf) h in
+    moments_back g.S.Store view size c.args.self.now.registry c.load.new.self.registry
+    c.args.self.now.shelf c.load.new.self.shelf away ts u w at c.load.ensures.shelf
+    c.deref.result.now are c.check_and_finish.new.self.shelf
     (c.check_and_finish.ensures.moments h1 away u w found said.0)
 
 pub returns-in-Ok-check_and_finish-clause-done : goal.returns-in-Ok-check_and_finish-clause-done
 returns-in-Ok-check_and_finish-clause-done g c h clean away ts u w at =
     let view = g.H.Shelf.view in
     let size = g.H.Shelf.size in
-    let clean1 : DiskKept g.S.Store c.load.new.self.registry = omega (arith, clean, c.check_and_finish.ensures.clean) in
+    let clean1 : DiskKept g.S.Store c.load.new.self.registry =
+    omega (arith, clean, c.check_and_finish.ensures.clean) in
     let said = c.in-Ok.ensures.says h clean1 away ts u w at in
     let are : c.deref.result.now ≡ ts = c.deref.ensures.value ∙ said.1 in
-    let found = moved g.S.Store view size c.args.self.now.registry c.load.new.self.registry c.args.self.now.shelf c.load.new.self.shelf away ts u w at c.load.ensures.shelf c.deref.result.now are said.2 in
-    let h1 : g.H.Shelf.honest c.load.new.self.shelf = subst g.H.Shelf.honest (sym c.load.ensures.shelf) h in
+    let found = moved g.S.Store view size c.args.self.now.registry c.load.new.self.registry
+    c.args.self.now.shelf c.load.new.self.shelf away ts u w at c.load.ensures.shelf
+    c.deref.result.now are said.2 in
+    let h1 : g.H.Shelf.honest c.load.new.self.shelf =
+    subst g.H.Shelf.honest (sym c.load.ensures.shelf) h in
     let items : c.len.result ≡ length c.in-Ok.intents.items = search rules in
     let many : c.len.result ≡ length ts = items ∙ ap length said.1 in
     (many, c.in-Ok-check_and_finish.ensures.done h1 clean away u w found said.0)
@@ -53,25 +72,39 @@ pub returns-in-Ok-clause-leaves : goal.returns-in-Ok-clause-leaves
 returns-in-Ok-clause-leaves g c h clean away ts u w at =
     let view = g.H.Shelf.view in
     let size = g.H.Shelf.size in
-    let clean1 : DiskKept g.S.Store c.load.new.self.registry = omega (arith, clean, c.check_and_finish.ensures.clean) in
+    let clean1 : DiskKept g.S.Store c.load.new.self.registry =
+    omega (arith, clean, c.check_and_finish.ensures.clean) in
     let said = c.in-Ok.ensures.says h clean1 away ts u w at in
     let are : c.deref.result.now ≡ ts = c.deref.ensures.value ∙ said.1 in
-    let found = moved g.S.Store view size c.args.self.now.registry c.load.new.self.registry c.args.self.now.shelf c.load.new.self.shelf away ts u w at c.load.ensures.shelf c.deref.result.now are said.2 in
-    let h1 : g.H.Shelf.honest c.load.new.self.shelf = subst g.H.Shelf.honest (sym c.load.ensures.shelf) h in
-    leaves_back g.S.Store view size c.args.self.now.registry c.load.new.self.registry c.args.self.now.shelf c.load.new.self.shelf away ts u w at c.load.ensures.shelf c.deref.result.now are c.check_and_finish.new.self.registry c.check_and_finish.new.self.shelf
+    let found = moved g.S.Store view size c.args.self.now.registry c.load.new.self.registry
+    c.args.self.now.shelf c.load.new.self.shelf away ts u w at c.load.ensures.shelf
+    c.deref.result.now are said.2 in
+    let h1 : g.H.Shelf.honest c.load.new.self.shelf =
+    subst g.H.Shelf.honest (sym c.load.ensures.shelf) h in
+    leaves_back g.S.Store view size c.args.self.now.registry c.load.new.self.registry
+    c.args.self.now.shelf c.load.new.self.shelf away ts u w at c.load.ensures.shelf
+    c.deref.result.now are c.check_and_finish.new.self.registry
+    c.check_and_finish.new.self.shelf
     (saved g.S.Store g.met.S.Store.settled c.args.self.now.registry at.tables at.has).crash
-    (c.check_and_finish.ensures.moments h1 away u w found said.0) (c.check_and_finish.ensures.leaves h1 clean away u w found said.0)
+    (c.check_and_finish.ensures.moments h1 away u w found said.0)
+    (c.check_and_finish.ensures.leaves h1 clean away u w found said.0)
 
 pub returns-in-Ok-clause-moments : goal.returns-in-Ok-clause-moments
 returns-in-Ok-clause-moments g c h clean away ts u w at =
     let view = g.H.Shelf.view in
     let size = g.H.Shelf.size in
-    let clean1 : DiskKept g.S.Store c.load.new.self.registry = omega (arith, clean, c.check_and_finish.ensures.clean) in
+    let clean1 : DiskKept g.S.Store c.load.new.self.registry =
+    omega (arith, clean, c.check_and_finish.ensures.clean) in
     let said = c.in-Ok.ensures.says h clean1 away ts u w at in
     let are : c.deref.result.now ≡ ts = c.deref.ensures.value ∙ said.1 in
-    let found = moved g.S.Store view size c.args.self.now.registry c.load.new.self.registry c.args.self.now.shelf c.load.new.self.shelf away ts u w at c.load.ensures.shelf c.deref.result.now are said.2 in
-    let h1 : g.H.Shelf.honest c.load.new.self.shelf = subst g.H.Shelf.honest (sym c.load.ensures.shelf) h in
-    moments_back g.S.Store view size c.args.self.now.registry c.load.new.self.registry c.args.self.now.shelf c.load.new.self.shelf away ts u w at c.load.ensures.shelf c.deref.result.now are c.check_and_finish.new.self.shelf
+    let found = moved g.S.Store view size c.args.self.now.registry c.load.new.self.registry
+    c.args.self.now.shelf c.load.new.self.shelf away ts u w at c.load.ensures.shelf
+    c.deref.result.now are said.2 in
+    let h1 : g.H.Shelf.honest c.load.new.self.shelf =
+    subst g.H.Shelf.honest (sym c.load.ensures.shelf) h in
+    moments_back g.S.Store view size c.args.self.now.registry c.load.new.self.registry
+    c.args.self.now.shelf c.load.new.self.shelf away ts u w at c.load.ensures.shelf
+    c.deref.result.now are c.check_and_finish.new.self.shelf
     (c.check_and_finish.ensures.moments h1 away u w found said.0)
 
 pub returns-clause-leaves : goal.returns-clause-leaves
@@ -81,33 +114,48 @@ returns-clause-leaves g c h clean away ts u w at =
     let lawful = g.met.H.Shelf.lawful c.args.self.now.shelf h in
     let r = c.args.self.now.registry in
     let k = c.args.self.now.shelf in
-    subst (λ (x : g.row.H.Denot). LeavesOnly g.S.Store view size c.args.self.now.registry c.load.new.self.registry c.args.self.now.shelf x away u w) (sym c.load.ensures.shelf)
-    (read_only g.S.Store view size c.args.self.now.registry c.load.new.self.registry c.args.self.now.shelf c.args.self.now.shelf away at.tables ts u w (saved g.S.Store g.met.S.Store.settled c.args.self.now.registry at.tables at.has).crash clean (c.load.ensures.reads.left at.tables at.has)
+    subst (λ (x : g.row.H.Denot). LeavesOnly g.S.Store view size c.args.self.now.registry
+    c.load.new.self.registry c.args.self.now.shelf x away u w) (sym c.load.ensures.shelf)
+    (read_only g.S.Store view size c.args.self.now.registry c.load.new.self.registry
+    c.args.self.now.shelf c.args.self.now.shelf away at.tables ts u w
+    (saved g.S.Store g.met.S.Store.settled c.args.self.now.registry at.tables at.has).crash
+    clean (c.load.ensures.reads.left at.tables at.has)
     (λ x l. at.leads x (lawful.only_now x l)) at.leads)
 
 pub returns-in-Ok-check_and_finish-clause-there : goal.returns-in-Ok-check_and_finish-clause-there
 returns-in-Ok-check_and_finish-clause-there g c clean t s ts has of =
-    let clean1 : DiskKept g.S.Store c.load.new.self.registry = omega (arith, clean, c.check_and_finish.ensures.clean) in
+    let clean1 : DiskKept g.S.Store c.load.new.self.registry =
+    omega (arith, clean, c.check_and_finish.ensures.clean) in
     let said = c.in-Ok.ensures.loaded clean1 t has in
-    let same = one_reading same_mirror same_component t c.in-Ok.state s c.in-Ok.intents.items ts said.0 of in
-    absent_back _ _ _ _ _ _ _ same.0 (ap g.H.Shelf.size c.load.ensures.shelf) (c.deref.ensures.value ∙ same.1) c.in-Ok-check_and_finish.ensures.there
+    let same = one_reading same_mirror same_component t c.in-Ok.state s c.in-Ok.intents.items ts
+    said.0 of in
+    absent_back _ _ _ _ _ _ _ same.0 (ap g.H.Shelf.size c.load.ensures.shelf)
+    (c.deref.ensures.value ∙ same.1) c.in-Ok-check_and_finish.ensures.there
 
 pub returns-in-Ok-clause-disk : goal.returns-in-Ok-clause-disk
 returns-in-Ok-clause-disk g c clean is t has =
     let view = g.H.Shelf.view in
-    let clean1 : DiskKept g.S.Store c.load.new.self.registry = omega (arith, clean, c.check_and_finish.ensures.clean) in
+    let clean1 : DiskKept g.S.Store c.load.new.self.registry =
+    omega (arith, clean, c.check_and_finish.ensures.clean) in
     let said = c.in-Ok.ensures.loaded clean1 t has in
-    let of : AreTablesOf t c.in-Ok.state c.deref.result.now = subst (λ (ts : List Intent). AreTablesOf t c.in-Ok.state ts) (sym c.deref.ensures.value) said.0 in
+    let of : AreTablesOf t c.in-Ok.state c.deref.result.now =
+    subst (λ (ts : List Intent). AreTablesOf t c.in-Ok.state ts)
+    (sym c.deref.ensures.value) said.0 in
     let fault : c.in-Err-check_and_finish.fault ≡ Disk = cc in
-    subst (λ (x : g.row.H.Denot). (view x).faults < (view c.check_and_finish.new.self.shelf).faults) c.load.ensures.shelf (c.in-Err-check_and_finish.ensures.disk t of (ap Err fault))
+    subst (λ (x : g.row.H.Denot). (view x).faults < (view c.check_and_finish.new.self.shelf).faults)
+    c.load.ensures.shelf (c.in-Err-check_and_finish.ensures.disk t of (ap Err fault))
 
 pub returns-in-Ok-clause-absent : goal.returns-in-Ok-clause-absent
 returns-in-Ok-clause-absent g c clean p is t s ts has of =
-    let clean1 : DiskKept g.S.Store c.load.new.self.registry = omega (arith, clean, c.check_and_finish.ensures.clean) in
+    let clean1 : DiskKept g.S.Store c.load.new.self.registry =
+    omega (arith, clean, c.check_and_finish.ensures.clean) in
     let said = c.in-Ok.ensures.loaded clean1 t has in
-    let same = one_reading same_mirror same_component t c.in-Ok.state s c.in-Ok.intents.items ts said.0 of in
+    let same = one_reading same_mirror same_component t c.in-Ok.state s c.in-Ok.intents.items ts
+    said.0 of in
     let fault : c.in-Err-check_and_finish.fault ≡ Absent p = cc in
-    absent_back _ _ _ _ _ _ _ same.0 (ap g.H.Shelf.size c.load.ensures.shelf) (c.deref.ensures.value ∙ same.1) (c.in-Err-check_and_finish.ensures.absent p (ap Err fault)).0
+    absent_back _ _ _ _ _ _ _ same.0 (ap g.H.Shelf.size c.load.ensures.shelf)
+    (c.deref.ensures.value ∙ same.1) (c.in-Err-check_and_finish.ensures.absent p
+    (ap Err fault)).0
 
 pub returns-clause-unreadable : goal.returns-clause-unreadable
 returns-clause-unreadable g c clean is =

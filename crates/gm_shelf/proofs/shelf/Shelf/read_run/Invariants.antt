@@ -12,5 +12,6 @@ invariant-loop-index g l =
       size : H.size l.self ≡ H.size l.fn.self;
       honest : H.honest l.fn.self → H.honest l.self;
       reads : H.honest l.fn.self → AreReads old (H.view l.self);
-      bytes : H.honest l.fn.self → (k : ℕ) → k < l.index → sector_of l.out k ≡ old.seen l.provider (l.first + k);
+      bytes : H.honest l.fn.self → (k : ℕ) → k < l.index
+          → sector_of l.out k ≡ old.seen l.provider (l.first + k);
     }

@@ -14,5 +14,6 @@ invariant-loop-index g l =
       size : H.size l.self ≡ H.size l.fn.self;
       honest : H.honest l.fn.self → H.honest l.self;
       law : H.honest l.fn.self → IsRunWrite l.provider l.first l.sectors old (H.view l.self);
-      seen : H.honest l.fn.self → Same (H.view l.self).seen (put_upto l.provider l.first l.sectors l.index old.seen);
+      seen : H.honest l.fn.self
+          → Same (H.view l.self).seen (put_upto l.provider l.first l.sectors l.index old.seen);
     }
