@@ -1,3 +1,4 @@
+pub mod BatchRuns
 pub mod Requests
 pub mod TakenLines
 pub mod Turns

@@ -7,10 +7,12 @@
 #![tactic(auto)]
 
 mod answer_lines;
+mod laws;
 mod lines;
 mod outcome;
 mod request;
 
 pub use answer_lines::{BatchEnd, FrontFault, batch};
 pub use gm_words::{WordsFault, dump_text, list_text, read_words, status_text};
+pub use laws::whole_batch_law;
 pub use lines::{Line, next_line};

@@ -1,0 +1,24 @@
+//! What holds of every batch.
+
+ghost use Rattle.std.specs.Prelude.{ℕ, List, Option, Result};
+ghost use Rattle.sqlite.specs.Held.{Held};
+ghost use Rattle.gm_metadata.specs.Images.{Image, Sizes};
+ghost use Rattle.gm_bench.specs.Schedule.{AtRest, Entry};
+ghost use Rattle.gm_front.specs.declared.answer_lines.BatchEnd.{BatchEnd};
+ghost use Rattle.gm_front.specs.declared.answer_lines.FrontFault.{FrontFault};
+ghost use Rattle.gm_front.specs.Batch.{Batches};
+ghost use Rattle.gm_front.specs.BatchRuns.{BatchLeaves};
+
+use gm_shelf::Shelf;
+use sqlite::Alter;
+
+/// A batch is a part of a schedule. A bench that is at rest behind accepted commands, as the law over
+/// schedules says, is so behind the batch as well, with those commands of its lines that were done;
+/// and where it failed at a line, whatever a stop then leaves leads on, with that command or without.
+pub fn whole_batch_law<S: Alter, H: Shelf>()
+    ensures { (all : Sizes) (r : Held S) (h : H) (away : Image) (acc ack : List Entry)
+        (input before now : Option (List ℕ)) (s : Held S) (k : H) (end : Result BatchEnd FrontFault)
+        → (rest : AtRest S.Store H.view H.size all r h away acc ack)
+        → Batches S.Store H.view H.size input before now s k away rest.world end
+        → BatchLeaves S.Store H.view H.size all input s k away acc ack end }
+{}
