@@ -1,6 +1,6 @@
 -- The part that is asked for serves to decide on the command.
-use Rattle.std.proofs.Common.{◌≡◌, ◌∙◌, ◌⊎◌, inl, inr, ⊎_elim, ℕ, Bool, true, false, ◌||◌, ◌==◌, refl, sym, ap, subst, List, [], ◌∷◌, Option, Some, None, eqb-true, eq-eqb}
-use Rattle.std.specs.List.{filter_map, cons_option, list_any}
+use Rattle.std.proofs.Common.{◌≡◌, ◌∙◌, ◌⊎◌, inl, inr, ⊎_elim, ℕ, true, ◌||◌, ◌==◌, refl, sym, subst, List, [], ◌∷◌, Option, Some, None, eqb-true, eq-eqb}
+use Rattle.std.specs.List.{cons_option, list_any}
 use Rattle.std.proofs.lemmas.Bool.{or_cases, or_left, or_right}
 use Rattle.gm_metadata.specs.declared.metadata.Metadata.{Metadata}
 use Rattle.gm_commands.specs.declared.command.Command.{Command}

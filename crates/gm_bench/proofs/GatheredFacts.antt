@@ -12,7 +12,7 @@ use Rattle.gm_state.specs.World.{World}
 use Rattle.gm_lists.proofs.Finding.{Has-append_left}
 use Rattle.gm_refusals.specs.declared.facts.Fact.{Fact}
 use Rattle.gm_refusals.specs.Adoptable.{found_mids, source_in}
-use Rattle.gm_refusals.specs.Applies.{awaited, looked_at}
+use Rattle.gm_refusals.specs.Applies.{awaited}
 use Rattle.gm_refusals.specs.PartOf.{IsPartOf, IsPartToDecide, part_of}
 use Rattle.gm_refusals.specs.Seen.{seen_in}
 use Rattle.gm_refusals.specs.WorldFacts.{AreFacts, needed_by}

@@ -1,5 +1,3 @@
-use Rattle.gm_bench.proofs.LossSources.{has_next}
-use Rattle.gm_bench.proofs.LossCommits.{loss_leaves}
 use Rattle.gm_bench.proofs.LossReadable.{loss_of}
 use Rattle.gm_bench.proofs.Losses.{leads_to_loss, keeps_in_loss}
 use Rattle.gm_bench.proofs.laws.losses_lead_on.Goals as goal

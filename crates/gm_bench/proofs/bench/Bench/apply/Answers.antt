@@ -5,7 +5,7 @@ use Rattle.gm_bench.specs.declared.answer.Work.{Work}
 use Rattle.gm_bench.specs.declared.fault.BenchFault.TheVariants.{Disk}
 use Rattle.gm_bench.specs.declared.phase.Progress.TheVariants.{Applied}
 use Rattle.gm_bench.specs.Owed.{ApplyDoes}
-use Rattle.gm_bench.specs.Recovering.{Cover, IsAt, IsAtWork}
+use Rattle.gm_bench.specs.Recovering.{Cover, IsAt}
 use Rattle.gm_bench.proofs.Phases.{pending_work}
 use Rattle.gm_bench.proofs.bench.Bench.apply.Goals as goal
 use Rattle.gm_bench.specs.Presence.{AreAtHand}
