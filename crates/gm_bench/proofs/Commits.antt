@@ -18,7 +18,7 @@ use Rattle.gm_rules.specs.Step.{Plan, CanAnswer, HasPlan}
 use Rattle.gm_rules.specs.AbstractCalls as run
 use Rattle.gm_rules.proofs.EveryPlan.{every_plan}
 use Rattle.gm_registry.specs.Changes.{with_accepted}
-use Rattle.gm_registry.specs.Registry.{CrashLeavesOnly, DiskKept, HasTables, MayLeave}
+use Rattle.gm_registry.specs.Registry.{CrashLeavesOnly, DiskKept, HasSaved, MayLeave}
 use Rattle.gm_registry.specs.Replies.{count_of}
 use Rattle.gm_bench.specs.declared.plan.Planned.{Planned}
 use Rattle.gm_bench.specs.Accepting.{LeavesStep, IsDone}
@@ -93,8 +93,8 @@ module _ {S H : Type 0} (g : Ghosts S) (view : H → View) (size : H
   same_present = λ i q. if plan.step.there q i then plan.step.sizes q i else None
 
   pub commit_done : (n : ℕ) (reply : Reply) → reply ≡ p.change.reply → n ≡ count_of at.tables + 1
-      → HasTables g s t → IsDone g view size s h away u key c n reply p.work
-  commit_done n reply reply_is number_is has = record {
+      → HasSaved g s t → IsDone g view size s h away u key c n reply p.work
+  commit_done n reply reply_is number_is saved = record {
     world = w;
     calls = subst (λ (a : Reply). run.Calls u (record { key = key; command = c }) w (run.Done n a))
         (sym (reply_is ∙ planned.makes.reply))
@@ -104,12 +104,19 @@ module _ {S H : Type 0} (g : Ghosts S) (view : H → View) (size : H
       at = subst (λ (ts : List Intent). IsAt g view size s h away ts u w) (sym planned.intents)
           (record {
             tables = t;
-            has = has;
+            has = saved.tables;
             sizes = same_present ∙ at.sizes;
             at_hand = λ i k. subst (λ (z : Sizes). IsAtHand z i) at.sizes (plan.at_hand i k);
             leads = leads;
           });
       cover = subst (λ (ts : List Intent). Cover p.work.part w.state ts)
           (sym planned.intents) cover;
+    };
+    is_new = can.free;
+    only = λ db left. record {
+      tables = t;
+      intents = p.change.intents;
+      stored = inl (saved.crash db left);
+      leads = leads;
     };
   }
