@@ -59,8 +59,8 @@ untouched size q j (t ∷ ts) off =
     rw (untouched_one size q j t apart.0, untouched size q j ts apart.1) refl
 
 -- an intent that writes another sector than the last is a copy
-module _ (size : Sizes) (p : List ℕ) (l i : ℕ) (last : size p ≡ Some (l + 1)) (other : i ≡ l
-    → ⊥) where
+module _ (size : Sizes) (p : List ℕ) (l i : ℕ) (last : size p ≡ Some (l + 1))
+    (other : i ≡ l → ⊥) where
   not_last : (q : List ℕ) → (same_label q p && is_last (size p) i) ≡ true → ⊥
   not_last q e =
       elim (label_tells q p) [
@@ -88,9 +88,8 @@ module _ (size : Sizes) (p : List ℕ) (l i : ℕ) (last : size p ≡ Some (l + 
 -- What a provider p holds on the way from d to w, whose last sector is l: what was true of a claim
 -- stays true.
 module _ (size : Sizes) (ts : List Intent) (w d x : Image) (order : InOrder size ts)
-    (agrees : Agrees size ts d w) (partly : IsPartlyDone size ts w d x)
-    (p : List ℕ) (l : ℕ) (list : ℕ → List ℕ) (copied : (i : ℕ) → any_copies ts p i ≡ true
-    → w p i ≡ list i) where
+    (agrees : Agrees size ts d w) (partly : IsPartlyDone size ts w d x) (p : List ℕ) (l : ℕ)
+    (list : ℕ → List ℕ) (copied : (i : ℕ) → any_copies ts p i ≡ true → w p i ≡ list i) where
   module _ (is : size p ≡ Some (l + 1)) (i : ℕ) where
     -- a sector whose claim was true before
     was_true : d p i ≡ list i → x p l ≡ d p l → x p i ≡ list i

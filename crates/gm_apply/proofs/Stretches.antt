@@ -47,8 +47,8 @@ module _ (p : Label) (first : ℕ) (run : List (List ℕ)) where
       }
 
   -- a stretch of it, from the sector n on
-  module _ (n : ℕ) (part : List (List ℕ)) (within : n + length part ≤ length run) (told : (k : ℕ)
-      → k < length part → sector_of part k ≡ sector_of run (n + k)) where
+  module _ (n : ℕ) (part : List (List ℕ)) (within : n + length part ≤ length run)
+      (told : (k : ℕ) → k < length part → sector_of part k ≡ sector_of run (n + k)) where
     torn_part : (d x : Image) → TornRun p (first + n) part d x → TornRun p first run d x
     torn_part d x torn q j =
         ⊎_elim

@@ -73,8 +73,8 @@ module _ (place : Places) (w : Image) where
       }
 
   -- a part of the places comes after another
-  module _ (part : Places) (v : Image) (told : (q : List ℕ) (j : ℕ) → part q j ≡ true
-      → (place q j ≡ true) × (v q j ≡ w q j)) where
+  module _ (part : Places) (v : Image)
+      (told : (q : List ℕ) (j : ℕ) → part q j ≡ true → (place q j ≡ true) × (v q j ≡ w q j)) where
     mix_trans : (d x y : Image) → SomePlacesNew place w d x → SomePlacesNew part v x y
         → SomePlacesNew place w d y
     mix_trans d x y first second q j =
@@ -125,8 +125,8 @@ module _ (place : Places) (w : Image) where
   laid_out d q j e = rw e refl
 
 -- only what the places are as in matters
-module _ (place : Places) (v w : Image) (same : (q : List ℕ) (j : ℕ) → place q j ≡ true
-    → v q j ≡ w q j) where
+module _ (place : Places) (v w : Image)
+    (same : (q : List ℕ) (j : ℕ) → place q j ≡ true → v q j ≡ w q j) where
   laid_same : (d : Image) (q : List ℕ) (j : ℕ)
       → with_places place v d q j ≡ with_places place w d q j
   laid_same d q j = elim (cases_Bool (place q j)) [ inl e ↦ rw e (same q j e) | inr e ↦ rw e refl ]

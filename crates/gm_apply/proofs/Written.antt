@@ -117,8 +117,8 @@ by_size size p (Some zero) e none some = none (inr e)
 by_size size p (Some (suc i)) e none some = some i (e ∙ ap Some (omega arith))
 
 -- a write of the last sector with what its intent says
-module _ (size : Sizes) (p s : List ℕ) (w : Image) (says : (q : List ℕ) (j : ℕ)
-    → last_of size p q j ≡ true → w q j ≡ s) (old new : View) where
+module _ (size : Sizes) (p s : List ℕ) (w : Image)
+    (says : (q : List ℕ) (j : ℕ) → last_of size p q j ≡ true → w q j ≡ s) (old new : View) where
   pub done_step : (size p ≡ None → ⊥) → (size p ≡ Some 0 → ⊥)
       → ((i : ℕ) → size p ≡ Some (i + 1) → IsDone p i s old new)
       → PlacesAreNew (last_of size p) w old new

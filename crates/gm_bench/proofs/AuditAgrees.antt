@@ -100,9 +100,9 @@ taken_whole : (p : Provider) (m : Metadata) → own_name p m ≡ true → own_si
     → judged p (Ok m) ≡ Ok m
 taken_whole p m n z = rw (n, z) refl
 
-module _ (s : Records) (state : IsState s) (fits : (m : Mirror) (k : Component) → IsOf s m k
-    → IsMetadata (metadata m k)) (size : Sizes) (seen : Image)
-    (clean : IsAudit s size seen []) where
+module _ (s : Records) (state : IsState s)
+    (fits : (m : Mirror) (k : Component) → IsOf s m k → IsMetadata (metadata m k)) (size : Sizes)
+    (seen : Image) (clean : IsAudit s size seen []) where
   right : (m : Mirror) (k : Component) → IsOf s m k → IsAsRegistered size seen m k
   right m k o = ⊎_elim (λ (r : IsAsRegistered size seen m k). r) (λ (none : ⊥). absurd none)
       (clean.others m k o)

@@ -15,10 +15,9 @@ use Rattle.gm_bench.specs.Recovering.{Cover, IsAt, IsShelfOf, LeavesOnly}
 use Rattle.gm_bench.proofs.RedoLeadsOn.{Moments, End, any_moment, counts, ends}
 use Rattle.gm_bench.proofs.RegistryLeaves.{redo_leaves}
 
-module _ {S H : Type 0} (g : Ghosts S) (view : H → View) (size : H
-    → Sizes) (r : Held S) (h k : H) (away : Image) (ts : List Intent) (u w : World)
-    (at : IsAt g view size r h away ts u w) (lawful : IsLawful (view h)) (part : Records)
-    (cover : Cover part w.state ts)
+module _ {S H : Type 0} (g : Ghosts S) (view : H → View) (size : H → Sizes) (r : Held S) (h k : H)
+    (away : Image) (ts : List Intent) (u w : World) (at : IsAt g view size r h away ts u w)
+    (lawful : IsLawful (view h)) (part : Records) (cover : Cover part w.state ts)
     (m : Moments part (size h) ts (view h) (view k)) where
   pub moments : AllLead at.tables ts (size h) away ((view k).left_since (view h).moment) u w
   moments = any_moment at.tables ts u w (view h) (view k) lawful

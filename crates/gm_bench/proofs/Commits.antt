@@ -30,9 +30,9 @@ use Rattle.gm_bench.proofs.CommitLeadsOn.{commit_leads, commit_claims}
 use Rattle.gm_bench.proofs.PartCovers.{covers_after}
 use Rattle.gm_bench.proofs.RegistryLeaves.{leads_in}
 
-module _ {S H : Type 0} (g : Ghosts S) (view : H → View) (size : H
-    → Sizes) (r s : Held S) (h : H) (away : Image) (u : World) (key : List ℕ) (c : Command)
-    (p : Planned) (words : List ℕ) (words_is : words ≡ words_of c) (lawful : IsLawful (view h))
+module _ {S H : Type 0} (g : Ghosts S) (view : H → View) (size : H → Sizes) (r s : Held S) (h : H)
+    (away : Image) (u : World) (key : List ℕ) (c : Command) (p : Planned) (words : List ℕ)
+    (words_is : words ≡ words_of c) (lawful : IsLawful (view h))
     (at : IsAt g view size r h away [] u u) (planned : IsPlanned u c p)
     (can : CanAnswer u key c) where
   abbrev ch : Changed

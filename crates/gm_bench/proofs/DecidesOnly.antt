@@ -23,17 +23,15 @@ use Rattle.gm_bench.proofs.RegistryLeaves.{leads_in}
 use Rattle.gm_registry.proofs.CallsLeave.{IsSettling, saved}
 use Rattle.gm_state.specs.Rows.{Tables}
 
-module _ {S H : Type 0} (g : Ghosts S) (view : H → View) (size : H
-    → Sizes) (r : Held S) (h : H) (away : Image) (ts : List Intent) (u w : World)
-    (at : IsAt g view size r h away ts u w) where
+module _ {S H : Type 0} (g : Ghosts S) (view : H → View) (size : H → Sizes) (r : Held S) (h : H)
+    (away : Image) (ts : List Intent) (u w : World) (at : IsAt g view size r h away ts u w) where
   abbrev pub found_of : IsFound g view size r h away ts u w
   found_of = record { tables = at.tables; has = at.has; sizes = at.sizes; leads = at.leads }
 
 -- a shelf that was only read
-module _ {S H : Type 0} (g : Ghosts S) (view : H → View) (size : H
-    → Sizes) (r : Held S) (h k : H) (away : Image) (ts : List Intent) (u w : World)
-    (at : IsAt g view size r h away ts u w) (quiet : IsQuiet (view h) (view k))
-    (same : size k ≡ size h) where
+module _ {S H : Type 0} (g : Ghosts S) (view : H → View) (size : H → Sizes) (r : Held S) (h k : H)
+    (away : Image) (ts : List Intent) (u w : World) (at : IsAt g view size r h away ts u w)
+    (quiet : IsQuiet (view h) (view k)) (same : size k ≡ size h) where
   -- the same tables, in whatever phase
   abbrev pub at_read : (s : Held S) → HasTables g s at.tables → IsAt g view size s k away ts u w
   at_read s has = record {
@@ -50,9 +48,8 @@ pub quiet_same : {H : Type 0} (view : H → View) (h k : H) → k ≡ h → IsQu
 quiet_same view h k same = subst (λ x. IsQuiet (view h) (view x)) (sym same) (quiet_itself (view h))
 
 -- a bench at rest, whose shelf was only read
-module _ {S H : Type 0} (g : Ghosts S) (view : H → View) (size : H
-    → Sizes) (r : Held S) (h k : H) (away : Image) (u : World)
-    (at : IsAt g view size r h away [] u u) (lawful : IsLawful (view h))
+module _ {S H : Type 0} (g : Ghosts S) (view : H → View) (size : H → Sizes) (r : Held S) (h k : H)
+    (away : Image) (u : World) (at : IsAt g view size r h away [] u u) (lawful : IsLawful (view h))
     (quiet : IsQuiet (view h) (view k)) (same : size k ≡ size h) where
   abbrev moments : AllLead at.tables [] (size h) away ((view k).left_since (view h).moment) u u
   moments x left = at.leads x (quiet_moment (view h) (view k) lawful quiet x left)

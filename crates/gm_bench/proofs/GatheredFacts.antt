@@ -31,8 +31,8 @@ adopted_needed : (s : Records) (c : Command) (p : List ℕ) → Has (adopted_fro
 adopted_needed s (Adopt n ps) p h = Has-append_left ps (map provider (awaited s (Adopt n ps))) p h
 adopted_needed s _ p h = absurd h
 
-module _ {S H : Type 0} (g : Ghosts S) (view : H → View) (size : H
-    → Sizes) (r : Held S) (h : H) (away : Image) (u : World) (at : IsAt g view size r h away [] u u)
+module _ {S H : Type 0} (g : Ghosts S) (view : H → View) (size : H → Sizes) (r : Held S) (h : H)
+    (away : Image) (u : World) (at : IsAt g view size r h away [] u u)
     (lawful : IsLawful (view h)) where
   leads : Leads at.tables [] (whole (size h) away (view h).seen) u
   leads = (at.leads (view h).seen lawful.holds_now).0

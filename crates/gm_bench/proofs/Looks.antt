@@ -11,8 +11,8 @@ use Rattle.gm_registry.proofs.CallsLeave.{IsSettling, saved}
 use Rattle.gm_bench.specs.Owed.{LookDoes, LookLeaves}
 use Rattle.gm_bench.proofs.RegistryLeaves.{read_only}
 
-module _ {S H : Type 0} (g : Ghosts S) (view : H → View) (size : H
-    → Sizes) (r s : Held S) (h k : H) (quiet : IsQuiet (view h) (view k)) where
+module _ {S H : Type 0} (g : Ghosts S) (view : H → View) (size : H → Sizes) (r s : Held S) (h k : H)
+    (quiet : IsQuiet (view h) (view k)) where
   -- wherever it is stopped
   pub look_leaves : IsSettling g → IsLawful (view h) → DiskKept g s → Reads g r s
       → LookLeaves g view size r s h k

@@ -126,14 +126,14 @@ module _ (w v : World) (key : List ℕ) (c : Command) (ch : Changed) (ts : List 
       subst (λ rows. IsPermutation (intent_rows 1 all) rows) (sym is)
       (IsPermutation-refl (intent_rows 1 all))
 
-module _ {S H : Type 0} (g : Ghosts S) (view : H → View) (size : H
-    → Sizes) (start mid s : Held S) (h : H) (away : Image) (u w : World)
-    (lawful : IsLawful (view h)) (only_start : (db : Trees) → CrashLeaves g start db
-    → db ≡ stored g start) (r : Recovers (stored g start) (size h) away (view h).may_leave u w)
+module _ {S H : Type 0} (g : Ghosts S) (view : H → View) (size : H → Sizes) (start mid s : Held S)
+    (h : H) (away : Image) (u w : World) (lawful : IsLawful (view h))
+    (only_start : (db : Trees) → CrashLeaves g start db → db ≡ stored g start)
+    (r : Recovers (stored g start) (size h) away (view h).may_leave u w)
     (sizes : present w ≡ size h) (only : CrashLeavesOnly g mid r.tables) (key n p next : List ℕ)
-    (m : Mirror) (found_is : mirror_of w.state n ≡ Some m) (here : (k : Component)
-    × IsOf w.state m k × (k.provider ≡ p)) (gone : size h p ≡ None) (ch : Changed)
-    (makes : Makes w.state (seen_of w) (Lost n (p ∷ [])) ch)
+    (m : Mirror) (found_is : mirror_of w.state n ≡ Some m)
+    (here : (k : Component) × IsOf w.state m k × (k.provider ≡ p)) (gone : size h p ≡ None)
+    (ch : Changed) (makes : Makes w.state (seen_of w) (Lost n (p ∷ [])) ch)
     (can : CanAnswer w key (Lost n (p ∷ []))) where
   abbrev pub c : Command
   c = Lost n (p ∷ [])

@@ -73,8 +73,8 @@ home s state k h =
     )
 
 module _ (w v : World) (m : Mirror) (p next : List ℕ) (loss : IsLoss w v m p) (sound : Sound w)
-    (ts : List Intent) (readable : AreReadable w.state ts) (has_next :
-    HasNext v.state p next ts) where
+    (ts : List Intent) (readable : AreReadable w.state ts)
+    (has_next : HasNext v.state p next ts) where
   abbrev others : List Component
   others = members v.state.components m.name
 

@@ -12,11 +12,10 @@ use Rattle.gm_rows.specs.Tables.{Holds, IsEmpty, no_tables}
 use Rattle.gm_bench.specs.Leading.{AllLead}
 use Rattle.gm_bench.specs.Recovering.{IsStored, Recovers, IsFound, LeavesOnly}
 
-module _ {S H : Type 0} (g : Ghosts S) (view : H → View) (size : H
-    → Sizes) (start : Held S) (h : H) (away : Image) (u w : World) (lawful : IsLawful (view h))
-    (only : (db : Trees) → CrashLeaves g start db
-    → db ≡ stored g start) (r : Recovers (stored g start) (size h) away
-    (view h).may_leave u w) where
+module _ {S H : Type 0} (g : Ghosts S) (view : H → View) (size : H → Sizes) (start : Held S) (h : H)
+    (away : Image) (u w : World) (lawful : IsLawful (view h))
+    (only : (db : Trees) → CrashLeaves g start db → db ≡ stored g start)
+    (r : Recovers (stored g start) (size h) away (view h).may_leave u w) where
   -- the store as it was, with any images that lead on
   as_it_was : (X : Image → Type 0) → AllLead r.tables r.intents (size h) away X u w → (db : Trees)
       → CrashLeaves g start db → Recovers db (size h) away X u w

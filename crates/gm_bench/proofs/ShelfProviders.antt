@@ -147,8 +147,8 @@ pub whole_away : (size : Sizes) (away x : Image) (q : List ℕ) → is_some (siz
 whole_away size away x q gone j = rw gone refl
 
 module _ (part s : Records) (size full : Sizes) (mask : AreAmong size full) (ts : List Intent)
-    (cover : Cover part s ts) (hand : (t : Intent) → Has ts t
-    → IsAtHand size t) (away x w : Image) where
+    (cover : Cover part s ts) (hand : (t : Intent) → Has ts t → IsAtHand size t)
+    (away x w : Image) where
   says_down : (t : Intent) → Has ts t → (j : ℕ) (v : List ℕ) → Says s w t j v → Says part w t j v
   says_down (Meta p) h j v says =
       (says.0, says.1, cover.metas p h says.0 says.1 says.2 says.3, says.3, says.4)

@@ -70,8 +70,8 @@ others_before (n ∷ names) (suc i) name order low is q (inr h) =
 -- ---- the providers
 
 -- of these names
-pub record ShownSoFar (size : Sizes) (seen : Image) (done : List (List ℕ)) (ps : List Provider) :
-    Type 0 where
+pub record ShownSoFar (size : Sizes) (seen : Image) (done : List (List ℕ))
+    (ps : List Provider) : Type 0 where
   pub each : (p : Provider) → Has ps p → IsShown size seen p
   pub all : (name : List ℕ) → Has done name → (p : Provider) × Has ps p × (p.name ≡ name)
   pub among : (p : Provider) → Has ps p → Has done p.name

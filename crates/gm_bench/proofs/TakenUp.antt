@@ -13,8 +13,8 @@ use Rattle.gm_bench.specs.Recovering.{Recovers, IsFound, LeavesOnly}
 use Rattle.gm_bench.specs.Presence.{first_absent}
 use Rattle.gm_bench.proofs.RegistryLeaves.{leads_in}
 
-module _ {S H : Type 0} (g : Ghosts S) (view : H → View) (size : H
-    → Sizes) (r mid : Held S) (h k : H) (away : Image) (ts : List Intent) (u w : World)
+module _ {S H : Type 0} (g : Ghosts S) (view : H → View) (size : H → Sizes) (r mid : Held S)
+    (h k : H) (away : Image) (ts : List Intent) (u w : World)
     (at : IsFound g view size r h away ts u w) (same : k ≡ h) (is : List Intent)
     (are : is ≡ ts) where
   -- the registry was read, and the shelf is the same

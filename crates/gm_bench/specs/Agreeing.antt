@@ -27,8 +27,8 @@ pub record IsRegistered (s : Records) (size : Sizes) (seen : Image) (p : Provide
   pub name_is : p.name ≡ component.provider
 
 -- the providers are those of the registered components alone
-pub record AreRegistered (s : Records) (size : Sizes) (seen : Image) (ps : List Provider) :
-    Type 0 where
+pub record AreRegistered (s : Records) (size : Sizes) (seen : Image)
+    (ps : List Provider) : Type 0 where
   pub each : (p : Provider) → Has ps p → IsRegistered s size seen p
   pub all : (m : Mirror) (k : Component) → IsOf s m k
       → (p : Provider) × Has ps p × (p.name ≡ k.provider)

@@ -16,8 +16,8 @@ pub record IsAsRegistered (size : Sizes) (seen : Image) (m : Mirror) (k : Compon
   pub last_is : seen k.provider (k.sectors - 1) ≡ encoded (metadata m k)
 
 -- the names are those of just the components that aren't as they are registered, in byte order
-pub record IsAudit (s : Records) (size : Sizes) (seen : Image) (names : List (List ℕ)) :
-    Type 0 where
+pub record IsAudit (s : Records) (size : Sizes) (seen : Image)
+    (names : List (List ℕ)) : Type 0 where
   pub amiss : (p : List ℕ) → Has names p → (m : Mirror) × (k : Component) × IsOf s m k
       × (k.provider ≡ p) × (IsAsRegistered size seen m k → ⊥)
   pub others : (m : Mirror) (k : Component) → IsOf s m k

@@ -25,8 +25,8 @@ IsStored db t = Holds db t ⊎ (IsEmpty db × (t ≡ no_tables))
 
 -- The store leads to w with each of the shelf's images, where the providers that aren't on it hold
 -- what is away.
-pub record Recovers (db : Trees) (size : Sizes) (away : Image) (X : Image → Type 0) (u w : World) :
-    Type 0 where
+pub record Recovers (db : Trees) (size : Sizes) (away : Image) (X : Image → Type 0)
+    (u w : World) : Type 0 where
   pub tables : Tables
   pub intents : List Intent
   pub stored : IsStored db tables
@@ -45,8 +45,8 @@ IsShelfOf v w size = (x : Image) → v.may_leave x → SameThere size x w.shelf
 module _ {S H : Type 0} (g : Ghosts S) (view : H → View) (size : H → Sizes) where
   -- The registry holds tables with these intents, and with each image that a crash may leave of the
   -- shelf they lead to w.
-  pub record IsFound (r : Held S) (h : H) (away : Image) (ts : List Intent) (u w : World) :
-      Type 0 where
+  pub record IsFound (r : Held S) (h : H) (away : Image) (ts : List Intent)
+      (u w : World) : Type 0 where
     pub tables : Tables
     pub has : HasTables g r tables
     pub sizes : present w ≡ size h
@@ -54,8 +54,8 @@ module _ {S H : Type 0} (g : Ghosts S) (view : H → View) (size : H → Sizes) 
 
   -- The registry holds tables with these intents, whose providers are on the shelf; and with each
   -- image that a crash may leave of the shelf they lead to w.
-  pub record IsAt (r : Held S) (h : H) (away : Image) (ts : List Intent) (u w : World) :
-      Type 0 where
+  pub record IsAt (r : Held S) (h : H) (away : Image) (ts : List Intent)
+      (u w : World) : Type 0 where
     pub tables : Tables
     pub has : HasTables g r tables
     pub sizes : present w ≡ size h

@@ -19,9 +19,8 @@ answer_of (Refused n) = run.Refused n
 
 -- The answer is the abstract bench's, and the bench is at rest in the world that it reaches by the
 -- call.
-pub record IsRun {S H : Type 0} (g : Ghosts S) (view : H → View) (size : H
-    → Sizes) (r : Held S) (h : H) (away : Image) (u : World) (key : List ℕ) (c : Command)
-    (a : Answer) : Type 0 where
+pub record IsRun {S H : Type 0} (g : Ghosts S) (view : H → View) (size : H → Sizes) (r : Held S)
+    (h : H) (away : Image) (u : World) (key : List ℕ) (c : Command) (a : Answer) : Type 0 where
   pub world : World
   pub calls : run.Calls u (record { key = key; command = c }) world (answer_of a)
   pub at : IsAt g view size r h away [] world world

@@ -348,8 +348,8 @@ module _ {S H : Type 0} (g : Ghosts S) (view : H → View) (size : H → Sizes) 
 
     -- the work that is pending leads to it, and no component claims on the way a sector that it
     -- lacks
-    pub record OnTheWay (r : Held S) (h : H) (away : Image) (work : Work) (acc ack : List Entry) :
-        Type 0 where
+    pub record OnTheWay (r : Held S) (h : H) (away : Image) (work : Work)
+        (acc ack : List Entry) : Type 0 where
       pub world : World
       pub before : World
       pub reached : Reached all acc world

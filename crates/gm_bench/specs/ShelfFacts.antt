@@ -23,8 +23,8 @@ AreEqual size seen (Some with) q n =
     CountsEqual seen with.source q (reach_of size with.source q with.limit) n
 
 -- the fact is what the shelf says
-pub record IsFact (size : Sizes) (seen : Image) (against : Option Compared) (f : Fact) :
-    Type 0 where
+pub record IsFact (size : Sizes) (seen : Image) (against : Option Compared)
+    (f : Fact) : Type 0 where
   pub sectors : size f.provider ≡ Some f.sectors
   pub last : f.last ≡ last_of f.sectors (seen f.provider)
   pub equal : AreEqual size seen against f.provider f.equal

@@ -320,8 +320,7 @@ module _ {S H : Type 0} (g : Ghosts S) (view : H → View) (size : H → Sizes) 
   -- the bench failed at the line
   module _ (input rest new before mid : Option (List ℕ)) (r s : Held S) (h k : H) (away : Image)
       (u : World) (refused : Bool) (buffer : List ℕ) (found : Line) (key : Bor (List ℕ))
-      (fault : BenchFault)
-      (so : Answering input rest before mid r h away u refused)
+      (fault : BenchFault) (so : Answering input rest before mid r h away u refused)
       (is : IfSome rest (λ bytes. IsLine bytes new buffer found)) (some : found ≢ End)
       (comes : Comes r s h k away (asked_at buffer found) (Failed key fault)) where
     pub told_wholly : (now : Option (List ℕ)) (o : Outcome) → o ≡ Failed key fault

@@ -31,8 +31,8 @@ Replies u (Call key command) w text refused =
     × (text ≡ answer_line key answer) × (refused ≡ is_refusal answer)
 
 -- A line, and then others.
-pub record Follows (Rest : World → List ℕ → Bool
-    → Type 0) (u : World) (line text : List ℕ) (refused : Bool) : Type 0 where
+pub record Follows (Rest : World → List ℕ → Bool → Type 0) (u : World) (line text : List ℕ)
+    (refused : Bool) : Type 0 where
   pub world : World
   pub first : List ℕ
   pub more : List ℕ
@@ -100,8 +100,8 @@ module _ {S H : Type 0} (g : Ghosts S) (view : H → View) (size : H → Sizes) 
     pub answered : AreAnswered s k away u lines text refused
 
   -- Some of the lines were answered, and told so.
-  pub record Breaks (input : Option (List ℕ)) (Told : List ℕ
-      → Type 0) (s : Held S) (k : H) (away : Image) (u : World) : Type 0 where
+  pub record Breaks (input : Option (List ℕ)) (Told : List ℕ → Type 0) (s : Held S) (k : H)
+      (away : Image) (u : World) : Type 0 where
     pub lines : List (List ℕ)
     pub text : List ℕ
     pub refused : Bool
@@ -110,8 +110,8 @@ module _ {S H : Type 0} (g : Ghosts S) (view : H → View) (size : H → Sizes) 
     pub answered : AreAnswered s k away u lines text refused
 
   -- The bench failed at the command of a line, after those before it were answered.
-  pub record Stops (input : Option (List ℕ)) (Told : List ℕ
-      → Type 0) (s : Held S) (k : H) (away : Image) (u : World) (fault : BenchFault) : Type 0 where
+  pub record Stops (input : Option (List ℕ)) (Told : List ℕ → Type 0) (s : Held S) (k : H)
+      (away : Image) (u : World) (fault : BenchFault) : Type 0 where
     pub lines : List (List ℕ)
     pub line : List ℕ
     pub key : List ℕ

@@ -40,8 +40,8 @@ bytes_are (x ∷ xs) e (suc i) = bytes_are xs (and_parts (nat_lt x 256) (is_byte
 
 -- a provider that is taken: it is there, its last sector is bytes that decode, and it is taken
 -- under its own name
-pub record IsTaken (size : Option ℕ) (last : Option (List ℕ)) (p : List ℕ) (t : Taken) :
-    Type 0 where
+pub record IsTaken (size : Option ℕ) (last : Option (List ℕ)) (p : List ℕ)
+    (t : Taken) : Type 0 where
   pub sectors : ℕ
   pub sector : List ℕ
   pub size_is : size ≡ Some sectors

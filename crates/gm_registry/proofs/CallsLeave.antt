@@ -124,12 +124,11 @@ then_left g a b c t N after read found left survives was =
           ];
     }
 
-module _ {S : Type 0} (g : Ghosts S) (settling : IsSettling g) (a b c : Held S) (N : Tables
-    → Type 0) (after : Tables → Tables) (read : of.Reads g a b)
+module _ {S : Type 0} (g : Ghosts S) (settling : IsSettling g) (a b c : Held S)
+    (N : Tables → Type 0) (after : Tables → Tables) (read : of.Reads g a b)
     (found : of.DiskKept g b → (t : Tables) → of.HasTables g a t → N t × of.HasTables g b t)
-    (left : (t : Tables) → of.HasTables g b t → N t
-    → of.MayLeave g b c (after t)) (survives :
-    Survives (state g b) (state g c) (λ _. Unit {0})) where
+    (left : (t : Tables) → of.HasTables g b t → N t → of.MayLeave g b c (after t))
+    (survives : Survives (state g b) (state g c) (λ _. Unit {0})) where
   clean_then : of.WasClean g a c
   clean_then = omega (arith, read.clean, survives.clean)
 

@@ -58,8 +58,8 @@ kept_as part stored back values shown same records rows told are =
 
 -- what a registry says that was read as a state
 module _ (db : Trees) (sound : IsSound registry_schema db) (s : Records) (ts : List Intent)
-    (about : db 0 ≡ about_values ∷ [])
-    (rising : HasRisingRowids db) (says : TablesSay db s ts) where
+    (about : db 0 ≡ about_values ∷ []) (rising : HasRisingRowids db)
+    (says : TablesSay db s ts) where
   mirrors_kept : Keeps columns mirror_values (map mirror_row s.mirrors) (db 1)
   mirrors_kept = record {
     same = subst (λ l. IsPermutation l (map columns (db 1)))

@@ -70,8 +70,8 @@ one_table row inj xs ys rows first second =
     same_records row inj xs ys (IsPermutation-trans _ _ _ first (IsPermutation-sym _ _ second))
 
 -- The rows of mirrors and of components are injective, as a law of the records says.
-module _ (same_mirror : (a b : Mirror) → mirror_row a ≡ mirror_row b
-    → a ≡ b) (same_component : (a b : Component) → component_row a ≡ component_row b → a ≡ b) where
+module _ (same_mirror : (a b : Mirror) → mirror_row a ≡ mirror_row b → a ≡ b)
+    (same_component : (a b : Component) → component_row a ≡ component_row b → a ≡ b) where
   one_state : (t : Tables) (s r : Records) → IsState s → IsState r
       → IsPermutation (map mirror_row s.mirrors) t.mirrors
       → IsPermutation (map mirror_row r.mirrors) t.mirrors

@@ -119,8 +119,8 @@ module _ (s : Records) (c : Command) (mids : List ℕ) (state : IsState s) where
   abbrev kept : List Mirror
   kept = filter (is_asked s c mids) s.mirrors
 
-  module _ (named : List Component) (on :
-      IsPermutation (flat_map (under Provider s.components) (providers_of c)) named) where
+  module _ (named : List Component)
+      (on : IsPermutation (flat_map (under Provider s.components) (providers_of c)) named) where
     -- by the components on named providers a mirror is asked for as by all
     asked_alike : (m : Mirror) → is_asked s c mids m ≡ is_asked_by c mids named m
     asked_alike m =

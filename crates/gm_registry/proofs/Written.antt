@@ -19,8 +19,8 @@ use Rattle.gm_registry.specs.Changes.{mirror_key, component_key, without_compone
 
 -- ---- lists of records and of their rows
 
-module _ {A B : Type 0} (row : A → B) (key : A → List ℕ) (row_key : B → List ℕ) (keys : (x : A)
-    → row_key (row x) ≡ key x) where
+module _ {A B : Type 0} (row : A → B) (key : A → List ℕ) (row_key : B → List ℕ)
+    (keys : (x : A) → row_key (row x) ≡ key x) where
   without_rows : (n : List ℕ) (xs : List A) (rows : List B) → IsPermutation (map row xs) rows
       → IsPermutation (map row (without key n xs)) (without row_key n rows)
   without_rows n xs rows p =

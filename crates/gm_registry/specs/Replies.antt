@@ -14,8 +14,8 @@ reply_in copied of_total =
     if (copied == 0) && (of_total == 0) then Plain else Copied copied of_total
 
 -- a command stands under this key, with this number, these words and this reply
-pub record IsKept (t : Tables) (key : List ℕ) (number : ℕ) (words : List ℕ) (reply : Reply) :
-    Type 0 where
+pub record IsKept (t : Tables) (key : List ℕ) (number : ℕ) (words : List ℕ)
+    (reply : Reply) : Type 0 where
   pub row : CommandRow
   pub has : Has t.commands row
   pub key_is : row.call_key ≡ key

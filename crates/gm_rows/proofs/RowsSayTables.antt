@@ -38,8 +38,9 @@ number_in (Int (pos n)) = n
 number_in _ = 0
 
 -- what is shown of records, from what is kept of them
-module _ {A : Type 0} (part pick stored : Row → Row) (values shown : A → Row) (picks : (row : Row)
-    → pick (part row) ≡ stored row) (shows : (x : A) → pick (values x) ≡ shown x) where
+module _ {A : Type 0} (part pick stored : Row → Row) (values shown : A → Row)
+    (picks : (row : Row) → pick (part row) ≡ stored row)
+    (shows : (x : A) → pick (values x) ≡ shown x) where
   shows_records : (records : List A) (rows kept : List Row) → Keeps part values records kept
       → IsPermutation (map stored kept) rows → IsPermutation (map shown records) rows
   shows_records records rows kept keeps are =

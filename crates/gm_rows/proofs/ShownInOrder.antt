@@ -116,8 +116,8 @@ by_key rows all up = λ k d low high.
     subst₂ (λ v w. label_lt (number_in v) (number_in w) ≡ false) (sym x.1) (sym y.1)
     (not_below x.0 y.0 f)
 
-module _ {A : Type 0} (row_of : ℕ → A → Row) (first : (n : ℕ) (x : A)
-    → column (row_of n x) 0 ≡ Int (pos n)) where
+module _ {A : Type 0} (row_of : ℕ → A → Row)
+    (first : (n : ℕ) (x : A) → column (row_of n x) 0 ≡ Int (pos n)) where
   all_numbered : (n : ℕ) (xs : List A) → AllByRecursion IsNumbered (numbered row_of n xs)
   all_numbered n [] = tt
   all_numbered n (x ∷ xs) = ((n, first n x), all_numbered (n + 1) xs)

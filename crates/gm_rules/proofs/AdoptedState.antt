@@ -185,9 +185,9 @@ module _ (x : Seen) (n : List ℕ) (ps : List (List ℕ)) (b : Member)
   active_disk s e itself = rw e (rw itself refl)
 
   module _ (label : IsTrue (is_label n)) (labels : IsTrue (list_all is_label ps))
-      (itself : x.equal b.provider b.provider (data_of b.metadata) ≡ true) (limit : (p : List ℕ)
-      → Has ps p → (k : ℕ) → x.size p ≡ Some k
-      → k ≤ 1048576) (once : tells_did_twice x ps ≡ false) where
+      (itself : x.equal b.provider b.provider (data_of b.metadata) ≡ true)
+      (limit : (p : List ℕ) → Has ps p → (k : ℕ) → x.size p ≡ Some k → k ≤ 1048576)
+      (once : tells_did_twice x ps ≡ false) where
     dids : (j k : Component) → Has (adopted x n ps b) j → Has (adopted x n ps b) k → j.did ≡ k.did
         → j ≡ k
     dids j k h i d =

@@ -23,8 +23,8 @@ use Rattle.gm_rules.proofs.StepOfMirror.{Turns, Writes, Were}
 -- The mirror and its components can be registered: none has the mirror's name or mid and there is
 -- room for one more, the components are in order and on providers that are there and have none, and
 -- the list of its data is what they hold.
-pub record CanEnroll (u : World) (m : Mirror) (ks : List Component) (list : ℕ → List ℕ) :
-    Type 0 where
+pub record CanEnroll (u : World) (m : Mirror) (ks : List Component)
+    (list : ℕ → List ℕ) : Type 0 where
   pub new : (a : Mirror) → Has u.state.mirrors a → a.name ≢ m.name
   pub mids : (a : Mirror) → Has u.state.mirrors a → a.mid ≢ m.mid
   pub room : length u.state.mirrors < 64
@@ -37,8 +37,8 @@ pub record CanEnroll (u : World) (m : Mirror) (ks : List Component) (list : ℕ 
   pub below : (k : Component) → Has ks k
       → Below u.shelf list k.provider (held_by k.disk m.data_sectors)
 
-module _ (u : World) (m : Mirror) (ks : List Component) (list : ℕ
-    → List ℕ) (sound : Sound u) (can : CanEnroll u m ks list) where
+module _ (u : World) (m : Mirror) (ks : List Component) (list : ℕ → List ℕ) (sound : Sound u)
+    (can : CanEnroll u m ks list) where
   -- the records with them
   abbrev pub enrolled : Records
   enrolled = record {

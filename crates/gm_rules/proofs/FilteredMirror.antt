@@ -29,8 +29,8 @@ use Rattle.gm_rules.proofs.PlanOfStep.{ArePlain, Serves, has}
 use Rattle.gm_rules.proofs.StepOfMirror.{Turns, Writes, IsOne}
 
 -- the last sector of q is cleared: q has a component that goes, and is there
-pub record IsCleared (u : World) (ks : List Component) (stays : Component
-    → Bool) (ts : List Intent) (q : List ℕ) : Type 0 where
+pub record IsCleared (u : World) (ks : List Component) (stays : Component → Bool) (ts : List Intent)
+    (q : List ℕ) : Type 0 where
   pub component : Component
   pub mine : Has ks component
   pub on : component.provider ≡ q
@@ -40,8 +40,8 @@ pub record IsCleared (u : World) (ks : List Component) (stays : Component
 
 -- What the command makes of mirror m and its components: m' of it, and of them those that stay; and
 -- what it has written.
-pub record Filters (u : World) (c : Command) (m m' : Mirror) (stays : Component
-    → Bool) (ts : List Intent) : Type 0 where
+pub record Filters (u : World) (c : Command) (m m' : Mirror) (stays : Component → Bool)
+    (ts : List Intent) : Type 0 where
   pub here : Has u.state.mirrors m
   pub there : (k : Component) → Has (members u.state.components m.name) k → stays k ≡ true
       → present u k.provider ≡ Some k.sectors
@@ -65,8 +65,8 @@ pub record Filters (u : World) (c : Command) (m m' : Mirror) (stays : Component
       → Has ts (Meta k.provider)
   pub plain : ArePlain ts
 
-module _ (u : World) (key : List ℕ) (c : Command) (m m' : Mirror) (stays : Component
-    → Bool) (ts : List Intent) (sound : Sound u) (a : Filters u c m m' stays ts) where
+module _ (u : World) (key : List ℕ) (c : Command) (m m' : Mirror) (stays : Component → Bool)
+    (ts : List Intent) (sound : Sound u) (a : Filters u c m m' stays ts) where
   abbrev old : List Component
   old = members u.state.components m.name
 

@@ -89,8 +89,8 @@ pub record Reshapes (u : World) (m m' : Mirror) (f : Component → Component) : 
   pub active : (k : Component) × Has (members u.state.components m.name) k × ((f k).disk ≡ InSync)
   pub each : (k : Component) → Has (members u.state.components m.name) k → Obeys m m' (f k)
 
-module _ (u : World) (m m' : Mirror) (f : Component
-    → Component) (sound : Sound u) (a : Reshapes u m m' f) where
+module _ (u : World) (m m' : Mirror) (f : Component → Component) (sound : Sound u)
+    (a : Reshapes u m m' f) where
   abbrev old : List Component
   old = members u.state.components m.name
 
@@ -167,8 +167,8 @@ module _ (u : World) (m m' : Mirror) (f : Component
 
 -- What the command makes of mirror m and its components: m' of them, and f of each; and what it has
 -- written.
-pub record Maps (u : World) (c : Command) (m m' : Mirror) (f : Component
-    → Component) (ts : List Intent) : Type 0 where
+pub record Maps (u : World) (c : Command) (m m' : Mirror) (f : Component → Component)
+    (ts : List Intent) : Type 0 where
   pub here : Has u.state.mirrors m
   pub there : (k : Component) → Has (members u.state.components m.name) k
       → present u k.provider ≡ Some k.sectors
@@ -190,8 +190,8 @@ pub record Maps (u : World) (c : Command) (m m' : Mirror) (f : Component
   pub written : (k : Component) → Has (members u.state.components m.name) k
       → Has ts (Meta (f k).provider) ⊎ ((m' ≡ m) × (f k ≡ k))
 
-module _ (u : World) (key : List ℕ) (c : Command) (m m' : Mirror) (f : Component
-    → Component) (ts : List Intent) (sound : Sound u) (a : Maps u c m m' f ts) where
+module _ (u : World) (key : List ℕ) (c : Command) (m m' : Mirror) (f : Component → Component)
+    (ts : List Intent) (sound : Sound u) (a : Maps u c m m' f ts) where
   pub shape : Reshapes u m m' f
   shape = record {
     here = a.here;
@@ -294,8 +294,8 @@ metas_each f ks k h = metas_has (map f ks) (f k) (map-Has f ks k h)
 
 -- ---- one component changed
 
-module _ (u : World) (m : Mirror) (p : List ℕ) (g : Component
-    → Component) (sound : Sound u) (can : CanTouch u m p) (keeps : Keeps g) where
+module _ (u : World) (m : Mirror) (p : List ℕ) (g : Component → Component) (sound : Sound u)
+    (can : CanTouch u m p) (keeps : Keeps g) where
   -- g of the one on p
   abbrev pub at_p : Component → Component
   at_p k = cond (same_label k.provider p) (g k) k

@@ -49,9 +49,9 @@ no_name : nobody.name ≡ []
 unfolding nobody
 no_name = refl
 
-module _ (u : World) (key p : List ℕ) (sound : Sound u) (fresh : (k : Component)
-    → Has u.state.components k → same_label k.provider p ≡ false) (sectors : ℕ)
-    (size : present u p ≡ Some sectors) (some : 0 < sectors) where
+module _ (u : World) (key p : List ℕ) (sound : Sound u)
+    (fresh : (k : Component) → Has u.state.components k → same_label k.provider p ≡ false)
+    (sectors : ℕ) (size : present u p ≡ Some sectors) (some : 0 < sectors) where
   abbrev gone : List ℕ → Bool
   gone q = same_label p q
 

@@ -48,8 +48,8 @@ record CanInsert (u : World) (m : Mirror) (new : NewComponent) (sectors : ℕ) :
   bare : carries (u.shelf new.provider (sectors - 1)) ≡ false
 
 module _ (u : World) (key : List ℕ) (m : Mirror) (new : NewComponent) (sectors : ℕ)
-    (sound : Sound u) (can : CanInsert u m new sectors) (fits :
-    ComponentFits (spare m new sectors)) where
+    (sound : Sound u) (can : CanInsert u m new sectors)
+    (fits : ComponentFits (spare m new sectors)) where
   abbrev k : Component
   k = spare m new sectors
 

@@ -42,9 +42,8 @@ record CanLabel (u : World) (new : NewMirror) (sectors : ℕ) : Type 0 where
   bare : carries (u.shelf new.provider (sectors - 1)) ≡ false
 
 module _ (u : World) (key : List ℕ) (new : NewMirror) (sectors : ℕ) (sound : Sound u)
-    (can : CanLabel u new sectors)
-    (mirror_fits : MirrorFits (new_mirror new sectors)) (component_fits :
-    ComponentFits (first_component new sectors)) where
+    (can : CanLabel u new sectors) (mirror_fits : MirrorFits (new_mirror new sectors))
+    (component_fits : ComponentFits (first_component new sectors)) where
   abbrev m : Mirror
   m = new_mirror new sectors
 

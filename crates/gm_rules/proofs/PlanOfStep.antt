@@ -109,8 +109,8 @@ no_copy (Copy a b c d ∷ ts) h = absurd (h (Copy a b c d) (inl refl))
 -- What the copies among the intents bring, where mid is the image with them done: what they read
 -- and write is there, and is the data of the mirror, their targets say so behind them, and they
 -- copy just what the command fills.
-pub record Brings (u : World) (c : Command) (mid : Image) (s : Records) (ts : List Intent) :
-    Type 0 where
+pub record Brings (u : World) (c : Command) (mid : Image) (s : Records)
+    (ts : List Intent) : Type 0 where
   pub lends : (t : Intent) → Has ts t → Lends u.size ts t
   pub order : InOrder u.size ts
   pub readable : (a b : List ℕ) (x y : ℕ) → Has ts (Copy a b x y) → IsCopyWithin s a b x y
@@ -151,8 +151,8 @@ pub record Serves (u : World) (c : Command) (m : Mirror) (ks : List Component) :
 
 module _ (u : World) (key : List ℕ) (c : Command) (mid : Image) (m : Mirror) (ks : List Component)
     (list : ℕ → List ℕ) (s : Records) (ts : List Intent) (sound : Sound u)
-    (t : Turns u mid m ks (clears u.state c) list s) (writes :
-    Writes u mid m ks (clears u.state c) ts) (were : Were u m ks list)
+    (t : Turns u mid m ks (clears u.state c) list s)
+    (writes : Writes u mid m ks (clears u.state c) ts) (were : Were u m ks list)
     (brings : Brings u c mid s ts) (serves : Serves u c m ks) (can : CanAnswer u key c) where
   abbrev gone : List ℕ → Bool
   gone = clears u.state c
@@ -300,11 +300,11 @@ module _ (u : World) (key : List ℕ) (c : Command) (mid : Image) (m : Mirror) (
       (next, subst (λ (l : List Intent). Plan u key c l next) are (planned is good new bare))
 
 -- where nothing is copied
-module _ (u : World) (key : List ℕ) (c : Command) (m : Mirror) (ks : List Component) (list : ℕ
-    → List ℕ) (s : Records) (ts : List Intent) (sound : Sound u)
-    (t : Turns u u.shelf m ks (clears u.state c) list s) (writes :
-    Writes u u.shelf m ks (clears u.state c) ts) (were : Were u m ks list) (plain : ArePlain ts)
-    (serves : Serves u c m ks) (can : CanAnswer u key c) where
+module _ (u : World) (key : List ℕ) (c : Command) (m : Mirror) (ks : List Component)
+    (list : ℕ → List ℕ) (s : Records) (ts : List Intent) (sound : Sound u)
+    (t : Turns u u.shelf m ks (clears u.state c) list s)
+    (writes : Writes u u.shelf m ks (clears u.state c) ts) (were : Were u m ks list)
+    (plain : ArePlain ts) (serves : Serves u c m ks) (can : CanAnswer u key c) where
   abbrev after_all : World
   after_all = next u key c u.shelf m ks list s ts sound t writes were
       (plain_brings u c s ts plain) serves can

@@ -40,8 +40,8 @@ shelf_after size m ks gone old q j =
 
 -- What a command makes of the records: s after u, by mirror m with the components ks; gone are the
 -- providers that it clears.
-pub record Turns (u : World) (mid : Image) (m : Mirror) (ks : List Component) (gone : List ℕ
-    → Bool) (list : ℕ → List ℕ) (s : Records) : Type 0 where
+pub record Turns (u : World) (mid : Image) (m : Mirror) (ks : List Component) (gone : List ℕ → Bool)
+    (list : ℕ → List ℕ) (s : Records) : Type 0 where
   pub state : IsState s
   pub mirror : (a : Mirror) → Has s.mirrors a
       → (a ≡ m) ⊎ ((a.name ≢ m.name) × Has u.state.mirrors a)
@@ -79,9 +79,8 @@ pub not_last : (o : Option ℕ) (n i : ℕ) → o ≡ Some n → i + 1 < n → i
 not_last None n i e l = cc
 not_last (Some k) n i e l = let h : k ≡ n = cc in ne_eqb k (i + 1) (λ (x : k ≡ i + 1). omega arith)
 
-module _ (u : World) (mid : Image) (m : Mirror) (ks : List Component) (gone : List ℕ
-    → Bool) (list : ℕ → List ℕ) (s : Records) (sound : Sound u)
-    (t : Turns u mid m ks gone list s) where
+module _ (u : World) (mid : Image) (m : Mirror) (ks : List Component) (gone : List ℕ → Bool)
+    (list : ℕ → List ℕ) (s : Records) (sound : Sound u) (t : Turns u mid m ks gone list s) where
   holds_here : (a : Mirror) → a ≡ m → (i : ℕ) → holds_after m.name list u.holds a.name i ≡ list i
   holds_here a e i = rw (same_from a.name m.name (ap name e)) refl
 
@@ -201,16 +200,16 @@ IsOne u mid ks gone (Copy from to a b) = (j : ℕ) → a ≤ j → j < b
     → (mid to j ≡ mid from j) × (is_last (u.size to) j ≡ false) × (is_last (u.size from) j ≡ false)
 
 -- the intents write the metadata that are new, and zeros where it is cleared, and nothing else
-pub record Writes (u : World) (mid : Image) (m : Mirror) (ks : List Component) (gone : List ℕ
-    → Bool) (ts : List Intent) : Type 0 where
+pub record Writes (u : World) (mid : Image) (m : Mirror) (ks : List Component)
+    (gone : List ℕ → Bool) (ts : List Intent) : Type 0 where
   pub each : (t : Intent) → Has ts t → IsOne u mid ks gone t
   pub metas : (k : Component) → Has ks k → Has ts (Meta k.provider)
       ⊎ (u.shelf k.provider (k.sectors - 1) ≡ encoded (metadata m k))
   pub clears : (q : List ℕ) → gone q ≡ true → Has ts (Clear q)
   pub copied : (q : List ℕ) (j : ℕ) → is_place u.size ts q j ≡ false → mid q j ≡ u.shelf q j
 
-module _ (u : World) (mid : Image) (m : Mirror) (ks : List Component) (gone : List ℕ
-    → Bool) (list : ℕ → List ℕ) (s : Records) (sound : Sound u) (t : Turns u mid m ks gone list s)
+module _ (u : World) (mid : Image) (m : Mirror) (ks : List Component) (gone : List ℕ → Bool)
+    (list : ℕ → List ℕ) (s : Records) (sound : Sound u) (t : Turns u mid m ks gone list s)
     (ts : List Intent) (writes : Writes u mid m ks gone ts) where
   abbrev shelf : Image
   shelf = shelf_after u.size m ks gone mid
@@ -301,8 +300,8 @@ pub record Were (u : World) (m : Mirror) (ks : List Component) (list : ℕ → L
   pub size_stays : (a : Mirror) → Has u.state.mirrors a → a.name ≡ m.name
       → a.data_sectors ≡ m.data_sectors
 
-module _ (u : World) (mid : Image) (m : Mirror) (ks : List Component) (gone : List ℕ
-    → Bool) (list : ℕ → List ℕ) (s : Records) (sound : Sound u) (t : Turns u mid m ks gone list s)
+module _ (u : World) (mid : Image) (m : Mirror) (ks : List Component) (gone : List ℕ → Bool)
+    (list : ℕ → List ℕ) (s : Records) (sound : Sound u) (t : Turns u mid m ks gone list s)
     (were : Were u m ks list) where
   abbrev image : Image
   image = shelf_after u.size m ks gone mid

@@ -108,8 +108,8 @@ IsOwn s c p = (k : Component) × Has (members_named s c) k × (k.provider ≡ p)
 -- claimed on the way stays true. A registry that keeps them can be read again, what they read and
 -- write is there, they write metadata of the command's mirror alone, and what they copy is the data
 -- of the mirror.
-pub record Plan (u : World) (key : List ℕ) (c : Command) (ts : List Intent) (w : World) :
-    Type 0 where
+pub record Plan (u : World) (key : List ℕ) (c : Command) (ts : List Intent)
+    (w : World) : Type 0 where
   pub step : Step u key c w (reply_to c u.state)
   pub sound : Sound w
   pub redo : IsRedo w.state u.size ts u.shelf w.shelf

@@ -33,8 +33,8 @@ apart names ascending i k below within =
     (IsDistinct-from_sorted (slice_cmp nat_cmp) names ascending) below within)
 
 -- the first k providers are in the image, as the picks say, and nothing else
-pub record IsSoFar (history image : List Event) (names : List Label) (pick : List ℕ) (k taken : ℕ) :
-    Type 0 where
+pub record IsSoFar (history image : List Event) (names : List Label) (pick : List ℕ)
+    (k taken : ℕ) : Type 0 where
   pub fresh : IsFresh image
   pub taken_is : taken ≡ min (unsynced_of history (take k names)) (length pick)
   pub sizes : (i : ℕ) → i < k → size_after image (name_at names i)
@@ -175,79 +175,77 @@ picked_among s ws (suc m) few = inr (Contains-get_or ws m [] (omega (arith, few)
 
 -- all providers are in the image
 module _ (history image : List Event) (disks : Disks) (cache : IsCache history disks)
-    (names : List Label) (pick : List ℕ) (taken : ℕ)
-    (are : AreNames (size_after history) names) (so_far :
-    IsSoFar history image names pick (length names) taken)
-  where
-    named_or_not : (q : Label) (o : Option ℕ) → size_after history q ≡ o
-        → ((i : ℕ) × (i < length names) × (name_at names i ≡ q)) ⊎ (size_after history q ≡ None)
-    named_or_not q None e = inr e
-    named_or_not q (Some n) e =
-        let found : Contains names q = (are.there q).1 (ap is_some e) in
-        inl (found.0, found.1, get_or_default names found.0 [] q found.1 ∙ found.2)
+    (names : List Label) (pick : List ℕ) (taken : ℕ) (are : AreNames (size_after history) names)
+    (so_far : IsSoFar history image names pick (length names) taken) where
+  named_or_not : (q : Label) (o : Option ℕ) → size_after history q ≡ o
+      → ((i : ℕ) × (i < length names) × (name_at names i ≡ q)) ⊎ (size_after history q ≡ None)
+  named_or_not q None e = inr e
+  named_or_not q (Some n) e =
+      let found : Contains names q = (are.there q).1 (ap is_some e) in
+      inl (found.0, found.1, get_or_default names found.0 [] q found.1 ∙ found.2)
 
-    not_named : (q : Label) → size_after history q ≡ None → (i : ℕ) → i < length names
-        → name_at names i ≢ q
-    not_named q none i lt e =
-        let some : IsSome (size_after history q) = listed_size history names i q are lt (sym e) in
-        cc
+  not_named : (q : Label) → size_after history q ≡ None → (i : ℕ) → i < length names
+      → name_at names i ≢ q
+  not_named q none i lt e =
+      let some : IsSome (size_after history q) = listed_size history names i q are lt (sym e) in
+      cc
 
-    at_named : (q : Label) (j : ℕ) (P : List ℕ → Label → Type 0)
-        → ((i : ℕ) → i < length names → P (seen_after image (name_at names i) j) (name_at names i))
-        → (size_after history q ≡ None → P (seen_after image q j) q) → P (seen_after image q j) q
-    at_named q j P named none =
-        ⊎_elim
-        (λ (found : (i : ℕ) × (i < length names) × (name_at names i ≡ q)).
-        subst (λ (r : Label). P (seen_after image r j) r) found.2 (named found.0 found.1))
-        (λ (e : size_after history q ≡ None). none e)
-        (named_or_not q (size_after history q) refl)
+  at_named : (q : Label) (j : ℕ) (P : List ℕ → Label → Type 0)
+      → ((i : ℕ) → i < length names → P (seen_after image (name_at names i) j) (name_at names i))
+      → (size_after history q ≡ None → P (seen_after image q j) q) → P (seen_after image q j) q
+  at_named q j P named none =
+      ⊎_elim
+      (λ (found : (i : ℕ) × (i < length names) × (name_at names i ≡ q)).
+      subst (λ (r : Label). P (seen_after image r j) r) found.2 (named found.0 found.1))
+      (λ (e : size_after history q ≡ None). none e)
+      (named_or_not q (size_after history q) refl)
 
-    pub same_sizes : (q : Label) → size_after image q ≡ size_after history q
-    same_sizes q =
-        ⊎_elim
-        (λ (found : (i : ℕ) × (i < length names) × (name_at names i ≡ q)).
-        subst (λ (r : Label). size_after image r ≡ size_after history r) found.2
-        (so_far.sizes found.0 found.1))
-        (λ (e : size_after history q ≡ None). so_far.not_yet q (not_named q e) ∙ sym e)
-        (named_or_not q (size_after history q) refl)
+  pub same_sizes : (q : Label) → size_after image q ≡ size_after history q
+  same_sizes q =
+      ⊎_elim
+      (λ (found : (i : ℕ) × (i < length names) × (name_at names i ≡ q)).
+      subst (λ (r : Label). size_after image r ≡ size_after history r) found.2
+      (so_far.sizes found.0 found.1))
+      (λ (e : size_after history q ≡ None). so_far.not_yet q (not_named q e) ∙ sym e)
+      (named_or_not q (size_after history q) refl)
 
-    pub all_picked : IsPicked history pick (seen_after image)
-    all_picked = record {
-      names = names;
-      are_names = are;
-      sectors = λ k j within inside. so_far.sectors k j within inside;
-      outside = λ q j.
-          at_named q j (λ s r. IsOutside (size_after history r) j → s ≡ [])
-          (λ i lt out. so_far.past i j lt out)
-          (λ none out. so_far.nothing_yet q j (not_named q none));
-    }
+  pub all_picked : IsPicked history pick (seen_after image)
+  all_picked = record {
+    names = names;
+    are_names = are;
+    sectors = λ k j within inside. so_far.sectors k j within inside;
+    outside = λ q j.
+        at_named q j (λ s r. IsOutside (size_after history r) j → s ≡ [])
+        (λ i lt out. so_far.past i j lt out)
+        (λ none out. so_far.nothing_yet q j (not_named q none));
+  }
 
-    inside_left : (i j : ℕ) → i < length names
-        → IsSomeAnd (size_after history (name_at names i)) (λ n. j < n)
-        → (seen_after image (name_at names i) j ≡ synced_after history (name_at names i) j)
-        ⊎ Contains (written_after history (name_at names i) j)
-        (seen_after image (name_at names i) j)
-    inside_left i j lt inside =
-        subst (λ (v : List ℕ). (v ≡ synced_after history (name_at names i) j)
-        ⊎ Contains (written_after history (name_at names i) j) v)
-        (sym (so_far.sectors i j lt inside))
-        (picked_among (synced_after history (name_at names i) j)
-        (written_after history (name_at names i) j) _ (omega arith))
+  inside_left : (i j : ℕ) → i < length names
+      → IsSomeAnd (size_after history (name_at names i)) (λ n. j < n)
+      → (seen_after image (name_at names i) j ≡ synced_after history (name_at names i) j)
+      ⊎ Contains (written_after history (name_at names i) j)
+      (seen_after image (name_at names i) j)
+  inside_left i j lt inside =
+      subst (λ (v : List ℕ). (v ≡ synced_after history (name_at names i) j)
+      ⊎ Contains (written_after history (name_at names i) j) v)
+      (sym (so_far.sectors i j lt inside))
+      (picked_among (synced_after history (name_at names i) j)
+      (written_after history (name_at names i) j) _ (omega arith))
 
-    in_or_out : (o : Option ℕ) (j : ℕ) → IsSomeAnd o (λ n. j < n) ⊎ IsOutside o j
-    in_or_out None j = inr tt
-    in_or_out (Some n) j = cases_lt j n
+  in_or_out : (o : Option ℕ) (j : ℕ) → IsSomeAnd o (λ n. j < n) ⊎ IsOutside o j
+  in_or_out None j = inr tt
+  in_or_out (Some n) j = cases_lt j n
 
-    pub all_left : may_leave_after history (seen_after image)
-    all_left q j =
-        at_named q j (λ s r. (s ≡ synced_after history r j)
-        ⊎ Contains (written_after history r j) s)
-        (λ i lt.
-        ⊎_elim
-        (λ (inside : IsSomeAnd (size_after history (name_at names i)) (λ n. j < n)).
-        inside_left i j lt inside)
-        (λ (out : IsOutside (size_after history (name_at names i)) j).
-        inl (so_far.past i j lt out ∙ sym (cache.never_synced (name_at names i) j out)))
-        (in_or_out (size_after history (name_at names i)) j))
-        (λ none. inl (so_far.nothing_yet q j (not_named q none)
-        ∙ sym (cache.never_synced q j (subst (λ (o : Option ℕ). IsOutside o j) (sym none) tt))))
+  pub all_left : may_leave_after history (seen_after image)
+  all_left q j =
+      at_named q j (λ s r. (s ≡ synced_after history r j)
+      ⊎ Contains (written_after history r j) s)
+      (λ i lt.
+      ⊎_elim
+      (λ (inside : IsSomeAnd (size_after history (name_at names i)) (λ n. j < n)).
+      inside_left i j lt inside)
+      (λ (out : IsOutside (size_after history (name_at names i)) j).
+      inl (so_far.past i j lt out ∙ sym (cache.never_synced (name_at names i) j out)))
+      (in_or_out (size_after history (name_at names i)) j))
+      (λ none. inl (so_far.nothing_yet q j (not_named q none)
+      ∙ sym (cache.never_synced q j (subst (λ (o : Option ℕ). IsOutside o j) (sym none) tt))))

@@ -64,8 +64,8 @@ pub record IsState (s : Records) : Type 0 where
       → (m : Mirror) × Has s.mirrors m × (m.name ≡ k.mirror)
 
 -- s is a state, and has just these records, which were given in any order
-pub record IsStateOf (mirrors : List Mirror) (components : List Component) (s : Records) :
-    Type 0 where
+pub record IsStateOf (mirrors : List Mirror) (components : List Component)
+    (s : Records) : Type 0 where
   pub state : IsState s
   pub mirrors_are : IsPermutation mirrors s.mirrors
   pub components_are : IsPermutation components s.components

@@ -17,8 +17,8 @@ use Rattle.gm_taste.proofs.Outcome.{group_from}
 
 -- ---- two lists in order with the same elements are one
 
-module _ {X : Type 0} (lt : X → X → Bool) (irrefl : (x : X) → lt x x ≡ true
-    → ⊥) (trans : (x y z : X) → lt x y ≡ true → lt y z ≡ true → lt x z ≡ true) where
+module _ {X : Type 0} (lt : X → X → Bool) (irrefl : (x : X) → lt x x ≡ true → ⊥)
+    (trans : (x y z : X) → lt x y ≡ true → lt y z ≡ true → lt x z ≡ true) where
   differs : (x z : X) → lt x z ≡ true → x ≡ z → ⊥
   differs x z l e = irrefl z (subst (λ (w : X). lt w z ≡ true) e l)
 

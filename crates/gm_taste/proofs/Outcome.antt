@@ -209,8 +209,8 @@ module _ (ps : List Provider) (g : Group) (made : Made (taken ps) (key_of g) g) 
 
 -- ---- providers in another order
 
-module _ (ps os : List Provider) (to : (p : Provider) → Has ps p → Has os p) (from : (p : Provider)
-    → Has os p → Has ps p) where
+module _ (ps os : List Provider) (to : (p : Provider) → Has ps p → Has os p)
+    (from : (p : Provider) → Has os p → Has ps p) where
   says_from : (name : List ℕ) (m : Metadata) → SaysOf os name m → SaysOf ps name m
   says_from name m s = (s.0, from s.0 s.1, s.2, s.3)
 
@@ -255,8 +255,8 @@ module _ (ps os : List Provider) (to : (p : Provider) → Has ps p → Has os p)
 
 module _ (ps os : List Provider) (t : Tasted) (ordered : Ascends (λ (p : Provider). p.name) os)
     (to : (p : Provider) → Has ps p → Has os p) (from : (p : Provider) → Has os p → Has ps p)
-    (keys : map key_of t.groups.items ≡ keys_from [] (taken os)) (made : (g : Group)
-    → Has t.groups.items g → Made (taken os) (key_of g) g) where
+    (keys : map key_of t.groups.items ≡ keys_from [] (taken os))
+    (made : (g : Group) → Has t.groups.items g → Made (taken os) (key_of g) g) where
   has_one : (g : Group) → Has t.groups.items g
       → (u : Taken) × Has (filter (is_of (key_of g)) (taken os)) u
   has_one g h =

@@ -33,8 +33,8 @@ pub record IsMember (ps : List Provider) (g : Group) (x : Member) : Type 0 where
   pub state_is : x.state ≡ state_of g.genid g.syncid x.metadata
 
 -- n is the greatest number of those members that are meant
-pub record IsGreatest (members : List Member) (meant : Member → Type 0) (number : Member
-    → ℕ) (n : ℕ) : Type 0 where
+pub record IsGreatest (members : List Member) (meant : Member → Type 0) (number : Member → ℕ)
+    (n : ℕ) : Type 0 where
   pub reached : (x : Member) × Has members x × meant x × (number x ≡ n)
   pub bound : (x : Member) → Has members x → meant x → number x ≤ n
 

@@ -26,8 +26,8 @@ use Rattle.sqlite_rows.proofs.Finding.{scan, overlaid, found, found_all}
 use Rattle.sqlite_rows.proofs.Keyed.{left_are}
 
 -- the table has no row that passes the test, and is as it was but for that
-pub record Loses (schema : Schema) (table : Table) (test : Row → Bool) (db after : Database) :
-    Type 0 where
+pub record Loses (schema : Schema) (table : Table) (test : Row → Bool)
+    (db after : Database) : Type 0 where
   pub schema_is : after.schema ≡ schema
   pub rows : after.trees table.tree ≡ filter (λ r. not (test r)) (db.trees table.tree)
   pub tables : AllByRecursion (λ t. t.tree ≢ table.tree

@@ -86,9 +86,8 @@ module _ (rows : List Row) (keyed : IsShaped shape.Table rows) where
       tied_same rows a b keyed.0 h k (ap (value_cmp (rowid a)) (int_is (rowid b) (int_in b k))
       ∙ tied _ is)
 
-  module _ (p : Row → Bool) (f : Row → Row) (keeps : (r : Row)
-      → rowid (f r) ≡ rowid r) (shown : List Row) (among :
-      IsPermutation (map f (filter p rows)) shown) where
+  module _ (p : Row → Bool) (f : Row → Row) (keeps : (r : Row) → rowid (f r) ≡ rowid r)
+      (shown : List Row) (among : IsPermutation (map f (filter p rows)) shown) where
     abbrev ids : List ℤ
     ids = ids_of (map f (filter p rows))
 

@@ -9,9 +9,9 @@ use Rattle.sqlite.proofs.StateLemmas.{survives_then}
 use Rattle.sqlite_rows.specs.Calls.{IsInside}
 use Rattle.sqlite_rows.proofs.Statements.{kept_itself, kept_then, survives_itself}
 
-module _ {X R : Type 0} (step : X → R → R) (steps : List X → R → R) (none : (r : R)
-    → steps [] r ≡ r) (more : (x : X) (xs : List X) (r : R)
-    → steps (x ∷ xs) r ≡ steps xs (step x r)) where
+module _ {X R : Type 0} (step : X → R → R) (steps : List X → R → R)
+    (none : (r : R) → steps [] r ≡ r)
+    (more : (x : X) (xs : List X) (r : R) → steps (x ∷ xs) r ≡ steps xs (step x r)) where
   -- the last step comes last
   steps-append : (xs : List X) (x : X) (r : R) → steps (xs ++ x ∷ []) r ≡ step x (steps xs r)
   steps-append [] x r = more x [] r ∙ (none (step x r) ∙ ap (step x) (sym (none r)))

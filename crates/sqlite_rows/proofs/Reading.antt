@@ -14,8 +14,8 @@ use Rattle.sqlite_rows.proofs.Refusing.{left_alone, asking_refusal}
 
 -- ---- a text that is a plain query over each schema that is known
 
-module _ (Known : Schema → Type 0) (sql : List ℕ) (params : Row) (plain : (s : Schema) → Known s
-    → IsPlain (understood s sql)) where
+module _ (Known : Schema → Type 0) (sql : List ℕ) (params : Row)
+    (plain : (s : Schema) → Known s → IsPlain (understood s sql)) where
   nothing_left : (old new : State) → Survives old new (CommitsShowing sql params old)
       → Survives old new (λ _. ¬ (Known old.now.schema))
   nothing_left old new left =

@@ -158,10 +158,10 @@ module _ (schema : Schema) (table : Table) (listed : Has schema.tables table) (i
         tables = tables;
       }
 
-  module _ (limit : Option ℕ) (mode : Mode) (idle : (olds news : List Row)
-      → works schema mode.keys 0 table.tree olds news ≡ []) (uncounted : table.is_counted ≡ false)
-      (key : List ℕ) (rest params : Row) (typed : cast_all table.columns (Text key ∷ rest)
-      ≡ Text key ∷ rest) where
+  module _ (limit : Option ℕ) (mode : Mode)
+      (idle : (olds news : List Row) → works schema mode.keys 0 table.tree olds news ≡ [])
+      (uncounted : table.is_counted ≡ false) (key : List ℕ) (rest params : Row)
+      (typed : cast_all table.columns (Text key ∷ rest) ≡ Text key ∷ rest) where
     abbrev task : Task
     task = record {
       limit = limit;

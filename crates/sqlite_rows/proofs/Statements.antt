@@ -95,8 +95,8 @@ survives_if old new P s f = record {
 }
 
 -- other records of the same rows, or fewer facts on them
-module _ {R T : Type 0} (of_schema : Schema) (Rows : Trees → R → Type 0) (Others : Trees → T
-    → Type 0) (r : R) (t : T) where
+module _ {R T : Type 0} (of_schema : Schema) (Rows : Trees → R → Type 0)
+    (Others : Trees → T → Type 0) (r : R) (t : T) where
   pub holds_as : (db : Trees) → (Rows db r → Others db t) → HoldsBy of_schema Rows db r
       → HoldsBy of_schema Others db t
   holds_as db f holds = record { rows = f holds.rows; sound = holds.sound }

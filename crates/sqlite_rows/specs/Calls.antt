@@ -7,14 +7,14 @@ use Rattle.sqlite.specs.State.{State}
 use Rattle.sqlite_catalog.specs.Listing.{IsSound}
 
 -- the trees hold these records, as `HasRows` reads them, and list the tables of the schema
-pub record Holds {R : Type 0} (schema : Schema) (HasRows : Trees → R
-    → Type 0) (db : Trees) (r : R) : Type 0 where
+pub record Holds {R : Type 0} (schema : Schema) (HasRows : Trees → R → Type 0) (db : Trees)
+    (r : R) : Type 0 where
   pub rows : HasRows db r
   pub sound : IsSound schema db
 
 -- an open connection outside a transaction, over tables of the schema with these records
-pub record HasRecords {R : Type 0} (schema : Schema) (HasRows : Trees → R
-    → Type 0) (s : State) (r : R) : Type 0 where
+pub record HasRecords {R : Type 0} (schema : Schema) (HasRows : Trees → R → Type 0) (s : State)
+    (r : R) : Type 0 where
   pub is_open : IsTrue s.is_open
   pub autocommit : s.in_transaction ≡ false
   pub schema_is : s.committed.schema ≡ schema
@@ -22,8 +22,8 @@ pub record HasRecords {R : Type 0} (schema : Schema) (HasRows : Trees → R
   pub tables : Holds schema HasRows s.committed.trees r
 
 -- within a transaction over this commit, whose tables have these records
-pub record IsInside {R : Type 0} (schema : Schema) (HasRows : Trees → R
-    → Type 0) (first : Database) (s : State) (r : R) : Type 0 where
+pub record IsInside {R : Type 0} (schema : Schema) (HasRows : Trees → R → Type 0) (first : Database)
+    (s : State) (r : R) : Type 0 where
   pub is_open : IsTrue s.is_open
   pub inside : s.in_transaction ≡ true
   pub first_is : s.committed ≡ first

@@ -14,8 +14,8 @@ abbrev pub whole : Row → Row
 whole row = row
 
 -- the rows of a table are those of these records, in some order, and no other
-pub record Keeps {A : Type 0} (part : Row → Row) (row_of : A
-    → Row) (records : List A) (rows : List Row) : Type 0 where
+pub record Keeps {A : Type 0} (part : Row → Row) (row_of : A → Row) (records : List A)
+    (rows : List Row) : Type 0 where
   pub same : IsPermutation (map row_of records) (map part rows)
   -- the rowids are integers, and rise
   pub keyed : IsShaped shape.Table rows
