@@ -3,6 +3,7 @@
 ghost use Rattle.std.specs.Prelude.{◌≡◌, ◌≤◌, ◌<◌, ◌+◌, ◌^◌, ◌⊎◌, ℕ, Some, None, length, OnOk, IsErrOf, IsSomeAnd};
 ghost use Rattle.gm_metadata.specs.Images.{Same};
 ghost use Rattle.gm_shelf.specs.Disk.{IsRun, put_run, IsRunWrite};
+ghost use Rattle.gm_shelf.specs.Keeping.{Keeps};
 ghost use Rattle.gm_state.specs.declared.intents.Intent.TheVariants.{Copy};
 ghost use Rattle.gm_state.specs.Intents.{copies};
 ghost use Rattle.gm_apply.specs.Redo.{PlacesAreNew, Moments, KeepsOthers, with_places, IsUnderWay};
@@ -31,9 +32,7 @@ fn write_stretch<H: Shelf>(
     ensures device { IsErrOf result ShelfFault.Device →
         (H.view shelf.old).faults < (H.view shelf.new).faults }
 
-    ensures honest { H.honest shelf.old → H.honest shelf.new }
-    ensures size { H.size shelf.new ≡ H.size shelf.old }
-    ensures count { (H.view shelf.old).faults ≤ (H.view shelf.new).faults }
+    ensures keeps { Keeps H.Shelf shelf.old shelf.new }
 {
     if !sectors.is_empty() {
         shelf.write_run(target, first, sectors)?;
@@ -63,9 +62,7 @@ fn write_changes<H: Shelf>(
     ensures device { IsErrOf result ShelfFault.Device →
         (H.view shelf.old).faults < (H.view shelf.new).faults }
 
-    ensures honest { H.honest shelf.old → H.honest shelf.new }
-    ensures size { H.size shelf.new ≡ H.size shelf.old }
-    ensures count { (H.view shelf.old).faults ≤ (H.view shelf.new).faults }
+    ensures keeps { Keeps H.Shelf shelf.old shelf.new }
 {
     let mut from = 0;
     for index in 0..run.len() {
@@ -105,9 +102,7 @@ fn copy_run<H: Shelf>(
     ensures device { IsErrOf result ShelfFault.Device →
         (H.view shelf.old).faults < (H.view shelf.new).faults }
 
-    ensures honest { H.honest shelf.old → H.honest shelf.new }
-    ensures size { H.size shelf.new ≡ H.size shelf.old }
-    ensures count { (H.view shelf.old).faults ≤ (H.view shelf.new).faults }
+    ensures keeps { Keeps H.Shelf shelf.old shelf.new }
 {
     let mut held = [[0; 512]; RUN];
     let mut run = [[0; 512]; RUN];
@@ -141,9 +136,7 @@ fn copy_runs<H: Shelf>(
     ensures device { IsErrOf result ShelfFault.Device →
         (H.view shelf.old).faults < (H.view shelf.new).faults }
 
-    ensures honest { H.honest shelf.old → H.honest shelf.new }
-    ensures size { H.size shelf.new ≡ H.size shelf.old }
-    ensures count { (H.view shelf.old).faults ≤ (H.view shelf.new).faults }
+    ensures keeps { Keeps H.Shelf shelf.old shelf.new }
 {
     let mut place = first;
     while place < end {
@@ -179,9 +172,7 @@ pub(crate) fn copy_sectors<H: Shelf>(
     ensures device { IsErrOf result ShelfFault.Device →
         (H.view shelf.old).faults < (H.view shelf.new).faults }
 
-    ensures honest { H.honest shelf.old → H.honest shelf.new }
-    ensures size { H.size shelf.new ≡ H.size shelf.old }
-    ensures count { (H.view shelf.old).faults ≤ (H.view shelf.new).faults }
+    ensures keeps { Keeps H.Shelf shelf.old shelf.new }
 {
     copy_runs(shelf, source, target, first, end)?;
     shelf.sync(target)?;

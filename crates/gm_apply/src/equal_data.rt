@@ -2,6 +2,7 @@
 
 ghost use Rattle.std.specs.Prelude.{◌≡◌, ◌≢◌, ◌≤◌, ◌<◌, ◌+◌, ◌^◌, ◌⊎◌, ℕ, None, length, IfOk, IsErrOf, IsSomeAnd};
 ghost use Rattle.gm_shelf.specs.Disk.{AreReads, sector_of};
+ghost use Rattle.gm_shelf.specs.Keeping.{ReadsOnly};
 ghost use Rattle.gm_apply.specs.EqualData.{CountsEqual, EndsBefore, IsEqualPart, reach_of};
 
 use crate::copy::RUN;
@@ -47,10 +48,7 @@ fn compare_run<H: Shelf>(
     ensures device { IsErrOf result ShelfFault.Device →
         (H.view shelf.old).faults < (H.view shelf.new).faults }
 
-    ensures reads { H.honest shelf.old → AreReads (H.view shelf.old) (H.view shelf.new) }
-    ensures honest { H.honest shelf.old → H.honest shelf.new }
-    ensures size { H.size shelf.new ≡ H.size shelf.old }
-    ensures count { (H.view shelf.old).faults ≤ (H.view shelf.new).faults }
+    ensures only { ReadsOnly H.Shelf shelf.old shelf.new }
 {
     let mut wanted = [[0; 512]; RUN];
     let mut held = [[0; 512]; RUN];
@@ -79,10 +77,7 @@ fn compare_runs<H: Shelf>(
     ensures device { IsErrOf result ShelfFault.Device →
         (H.view shelf.old).faults < (H.view shelf.new).faults }
 
-    ensures reads { H.honest shelf.old → AreReads (H.view shelf.old) (H.view shelf.new) }
-    ensures honest { H.honest shelf.old → H.honest shelf.new }
-    ensures size { H.size shelf.new ≡ H.size shelf.old }
-    ensures count { (H.view shelf.old).faults ≤ (H.view shelf.new).faults }
+    ensures only { ReadsOnly H.Shelf shelf.old shelf.new }
 {
     let mut place = 0;
     while place < reach {
@@ -122,10 +117,7 @@ pub fn equal_sectors<H: Shelf>(
     ensures device { IsErrOf result ShelfFault.Device →
         (H.view shelf.old).faults < (H.view shelf.new).faults }
 
-    ensures reads { H.honest shelf.old → AreReads (H.view shelf.old) (H.view shelf.new) }
-    ensures honest { H.honest shelf.old → H.honest shelf.new }
-    ensures size { H.size shelf.new ≡ H.size shelf.old }
-    ensures count { (H.view shelf.old).faults ≤ (H.view shelf.new).faults }
+    ensures only { ReadsOnly H.Shelf shelf.old shelf.new }
 {
     let reach = reach_of(shelf, source, provider, limit);
     if provider == source {

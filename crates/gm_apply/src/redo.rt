@@ -3,6 +3,7 @@
 ghost use Rattle.std.specs.Prelude.{◌≡◌, ◌≤◌, ◌<◌, ◌⊎◌, OnOk, IsErrOf};
 ghost use Rattle.gm_metadata.specs.Images.{Image};
 ghost use Rattle.gm_shelf.specs.Disk.{From};
+ghost use Rattle.gm_shelf.specs.Keeping.{Keeps};
 ghost use Rattle.gm_lists.specs.Ordered.{Has};
 ghost use Rattle.gm_state.specs.Intents.{names, is_place, IsRedo};
 ghost use Rattle.gm_state.specs.declared.intents.Intent.{Intent};
@@ -30,9 +31,7 @@ fn apply_one<H: Shelf>(shelf: &mut H, state: &State, intent: &Intent) -> Result<
     ensures device { IsErrOf result ShelfFault.Device →
         (H.view shelf.old).faults < (H.view shelf.new).faults }
 
-    ensures honest { H.honest shelf.old → H.honest shelf.new }
-    ensures size { H.size shelf.new ≡ H.size shelf.old }
-    ensures count { (H.view shelf.old).faults ≤ (H.view shelf.new).faults }
+    ensures keeps { Keeps H.Shelf shelf.old shelf.new }
 {
     match *intent {
         Intent::Meta { provider } => {
@@ -82,9 +81,7 @@ pub fn apply<H: Shelf>(shelf: &mut H, state: &State, intents: &[Intent]) -> Resu
     ensures device { IsErrOf result ShelfFault.Device →
         (H.view shelf.old).faults < (H.view shelf.new).faults }
 
-    ensures honest { H.honest shelf.old → H.honest shelf.new }
-    ensures size { H.size shelf.new ≡ H.size shelf.old }
-    ensures count { (H.view shelf.old).faults ≤ (H.view shelf.new).faults }
+    ensures keeps { Keeps H.Shelf shelf.old shelf.new }
 {
     for intent in intents {
         apply_one(shelf, state, intent)?;

@@ -2,9 +2,11 @@ pub mod Accepting
 pub mod AdoptScope
 pub mod Agreeing
 pub mod Audits
+pub mod Calls
 pub mod Faults
 pub mod Leading
 pub mod Losing
+pub mod Opened
 pub mod Owed
 pub mod Phases
 pub mod Planning

@@ -16,6 +16,7 @@ ghost use Rattle.gm_bench.specs.Faults.{IsOfCall};
 ghost use Rattle.gm_bench.specs.Planning.{IsPlanned};
 ghost use Rattle.gm_bench.specs.Recovering.{IsAt};
 ghost use Rattle.gm_bench.specs.Phases.{IsUndone, answer_of};
+ghost use Rattle.gm_bench.specs.Calls.{Accepts};
 
 use crate::answer::Accepted;
 use crate::fault::BenchFault;
@@ -81,25 +82,13 @@ impl<S: Alter, H: Shelf> Media<S, H> {
             → CanAnswer u key.now command.now
             → IsAnswered S.Store H.view H.size self.new.registry self.new.shelf away
             u key.now command.now a) }
-        ensures disk { IsErrOf result BenchFault.Disk
-            → (H.view self.old.shelf).faults < (H.view self.new.shelf).faults }
-        // It comes before anything is written.
-        ensures kept { DiskKept S.Store self.new.registry → IsErrOf result BenchFault.Disk
-            → (t : Tables) → HasTables S.Store self.old.registry t
-            → LeavesNothingNew S.Store self.old.registry self.new.registry }
-        ensures undone { DiskKept S.Store self.new.registry → IfOk result (λ a.
-            IsUndone (answer_of a) → Reads S.Store self.old.registry self.new.registry) }
         ensures fault { IfErr result IsOfCall }
         ensures readable { H.honest self.old.shelf → DiskKept S.Store self.new.registry
             → IsErrOf result BenchFault.Unreadable → (away : Image) (u : World)
             → IsAt S.Store H.view H.size self.old.registry self.old.shelf away [] u u
             → CanAnswer u key.now command.now → ⊥ }
-        ensures reads { H.honest self.old.shelf
-            → AreReads (H.view self.old.shelf) (H.view self.new.shelf) }
-        ensures honest { H.honest self.old.shelf → H.honest self.new.shelf }
-        ensures size { H.size self.new.shelf ≡ H.size self.old.shelf }
-        ensures count { (H.view self.old.shelf).faults ≤ (H.view self.new.shelf).faults }
-        ensures clean { WasClean S.Store self.old.registry self.new.registry }
+        ensures accepts { Accepts S.Store H.Shelf self.old self.new result
+            (λ a. IsUndone (answer_of a)) }
     {
         match self.ask(alloc, command) {
             Ok(Ok(planned)) => self.commit(planned, key, words),
@@ -130,26 +119,14 @@ impl<S: Alter, H: Shelf> Media<S, H> {
             → IsFree at.tables key.now
             → IsAnswered S.Store H.view H.size self.new.registry self.new.shelf away
             u key.now command.now a) }
-        ensures disk { IsErrOf result BenchFault.Disk
-            → (H.view self.old.shelf).faults < (H.view self.new.shelf).faults }
-        // It comes before anything is written.
-        ensures kept { DiskKept S.Store self.new.registry → IsErrOf result BenchFault.Disk
-            → (t : Tables) → HasTables S.Store self.old.registry t
-            → LeavesNothingNew S.Store self.old.registry self.new.registry }
-        ensures undone { DiskKept S.Store self.new.registry → IfOk result (λ a.
-            IsUndone (answer_of a) → Reads S.Store self.old.registry self.new.registry) }
         ensures fault { IfErr result IsOfCall }
         ensures readable { H.honest self.old.shelf → DiskKept S.Store self.new.registry
             → IsErrOf result BenchFault.Unreadable → (away : Image) (u : World)
             → is_key key.now ≡ true → CommandFits command.now
             → (at : IsAt S.Store H.view H.size self.old.registry self.old.shelf away [] u u)
             → IsFree at.tables key.now → ⊥ }
-        ensures reads { H.honest self.old.shelf
-            → AreReads (H.view self.old.shelf) (H.view self.new.shelf) }
-        ensures honest { H.honest self.old.shelf → H.honest self.new.shelf }
-        ensures size { H.size self.new.shelf ≡ H.size self.old.shelf }
-        ensures count { (H.view self.old.shelf).faults ≤ (H.view self.new.shelf).faults }
-        ensures clean { WasClean S.Store self.old.registry self.new.registry }
+        ensures accepts { Accepts S.Store H.Shelf self.old self.new result
+            (λ a. IsUndone (answer_of a)) }
     {
         match self.is_full() {
             Ok(true) => Ok(Accepted::Refused(CallRefusal::NoRoom)),
@@ -178,26 +155,14 @@ impl<S: Alter, H: Shelf> Media<S, H> {
             → IsAt S.Store H.view H.size self.old.registry self.old.shelf away [] u u
             → IsAnswered S.Store H.view H.size self.new.registry self.new.shelf away
             u key.now command.now a) }
-        ensures disk { IsErrOf result BenchFault.Disk
-            → (H.view self.old.shelf).faults < (H.view self.new.shelf).faults }
-        // It comes before anything is written.
-        ensures kept { DiskKept S.Store self.new.registry → IsErrOf result BenchFault.Disk
-            → (t : Tables) → HasTables S.Store self.old.registry t
-            → LeavesNothingNew S.Store self.old.registry self.new.registry }
-        ensures undone { DiskKept S.Store self.new.registry → IfOk result (λ a.
-            IsUndone (answer_of a) → Reads S.Store self.old.registry self.new.registry) }
         ensures fault { IfErr result IsOfCall }
         ensures readable { H.honest self.old.shelf → DiskKept S.Store self.new.registry
             → IsErrOf result BenchFault.Unreadable → (away : Image) (u : World)
             → is_key key.now ≡ true → CommandFits command.now
             → (at : IsAt S.Store H.view H.size self.old.registry self.old.shelf away [] u u)
             → AreWrittenUnder key.now at.tables → ⊥ }
-        ensures reads { H.honest self.old.shelf
-            → AreReads (H.view self.old.shelf) (H.view self.new.shelf) }
-        ensures honest { H.honest self.old.shelf → H.honest self.new.shelf }
-        ensures size { H.size self.new.shelf ≡ H.size self.old.shelf }
-        ensures count { (H.view self.old.shelf).faults ≤ (H.view self.new.shelf).faults }
-        ensures clean { WasClean S.Store self.old.registry self.new.registry }
+        ensures accepts { Accepts S.Store H.Shelf self.old self.new result
+            (λ a. IsUndone (answer_of a)) }
     {
         match self.registry.reply_of(key) {
             Ok(None) => self.decide(alloc, key, words, command),
@@ -229,25 +194,13 @@ impl<S: Alter, H: Shelf> Media<S, H> {
             → IsAt S.Store H.view H.size self.old.registry self.old.shelf away [] u u
             → IsAnswered S.Store H.view H.size self.new.registry self.new.shelf away
             u key.now command.now a) }
-        ensures disk { IsErrOf result BenchFault.Disk
-            → (H.view self.old.shelf).faults < (H.view self.new.shelf).faults }
-        // It comes before anything is written.
-        ensures kept { DiskKept S.Store self.new.registry → IsErrOf result BenchFault.Disk
-            → (t : Tables) → HasTables S.Store self.old.registry t
-            → LeavesNothingNew S.Store self.old.registry self.new.registry }
-        ensures undone { DiskKept S.Store self.new.registry → IfOk result (λ a.
-            IsUndone (answer_of a) → Reads S.Store self.old.registry self.new.registry) }
         ensures fault { IfErr result IsOfCall }
         ensures readable { H.honest self.old.shelf → DiskKept S.Store self.new.registry
             → IsErrOf result BenchFault.Unreadable → (away : Image) (u : World)
             → (at : IsAt S.Store H.view H.size self.old.registry self.old.shelf away [] u u)
             → AreWrittenUnder key.now at.tables → ⊥ }
-        ensures reads { H.honest self.old.shelf
-            → AreReads (H.view self.old.shelf) (H.view self.new.shelf) }
-        ensures honest { H.honest self.old.shelf → H.honest self.new.shelf }
-        ensures size { H.size self.new.shelf ≡ H.size self.old.shelf }
-        ensures count { (H.view self.old.shelf).faults ≤ (H.view self.new.shelf).faults }
-        ensures clean { WasClean S.Store self.old.registry self.new.registry }
+        ensures accepts { Accepts S.Store H.Shelf self.old self.new result
+            (λ a. IsUndone (answer_of a)) }
     {
         if !is_key(key) {
             return Ok(Accepted::Refused(CallRefusal::NoKey));

@@ -12,6 +12,7 @@ ghost use Rattle.gm_registry.specs.Registry.{DiskKept, HasTables, Reads};
 ghost use Rattle.gm_bench.specs.Audits.{IsAsRegistered, IsAudit};
 ghost use Rattle.gm_bench.specs.Faults.{IsOfCall, IsOfMedia};
 ghost use Rattle.gm_bench.specs.Owed.{LookDoes};
+ghost use Rattle.gm_bench.specs.Calls.{Looks, Asks};
 
 use crate::facts::last_of;
 use crate::fault::BenchFault;
@@ -42,13 +43,7 @@ fn is_as_registered<H: Shelf>(
     ensures told { H.honest shelf.old → IfOk result (λ is. IsState state.now → (m : Mirror)
         → IsOf state.now m component.now → IsTrue is
         ↔ IsAsRegistered (H.size shelf.old) (H.view shelf.old).seen m component.now) }
-    ensures disk { IsErrOf result BenchFault.Disk
-        → (H.view shelf.old).faults < (H.view shelf.new).faults }
-    ensures fault { IfErr result IsOfMedia }
-    ensures reads { H.honest shelf.old → AreReads (H.view shelf.old) (H.view shelf.new) }
-    ensures honest { H.honest shelf.old → H.honest shelf.new }
-    ensures size { H.size shelf.new ≡ H.size shelf.old }
-    ensures count { (H.view shelf.old).faults ≤ (H.view shelf.new).faults }
+    ensures looks { Looks H.Shelf shelf.old shelf.new result }
 {
     if !has_its_size(shelf, component) {
         return Ok(false);
@@ -71,13 +66,7 @@ pub(crate) fn amiss_on<H: Shelf>(
 ) -> Result<Vec<Label>, BenchFault>
     ensures audit { H.honest shelf.old → IfOk result (λ names.
         IsAudit state.now (H.size shelf.old) (H.view shelf.old).seen names.items) }
-    ensures disk { IsErrOf result BenchFault.Disk
-        → (H.view shelf.old).faults < (H.view shelf.new).faults }
-    ensures fault { IfErr result IsOfMedia }
-    ensures reads { H.honest shelf.old → AreReads (H.view shelf.old) (H.view shelf.new) }
-    ensures honest { H.honest shelf.old → H.honest shelf.new }
-    ensures size { H.size shelf.new ≡ H.size shelf.old }
-    ensures count { (H.view shelf.old).faults ≤ (H.view shelf.new).faults }
+    ensures looks { Looks H.Shelf shelf.old shelf.new result }
 {
     let mut names = Vec::new(alloc);
     for component in state.components() {
@@ -105,14 +94,7 @@ impl<S: Alter, H: Shelf> Media<S, H> {
         ensures unreadable { DiskKept S.Store self.new.registry
             → IsErrOf result BenchFault.Unreadable → (t : Tables) (s : Records) (ts : List Intent)
             → HasTables S.Store self.old.registry t → AreTablesOf t s ts → ⊥ }
-        ensures disk { IsErrOf result BenchFault.Disk
-            → (H.view self.old.shelf).faults < (H.view self.new.shelf).faults }
-        ensures fault { IfErr result IsOfCall }
-        ensures store { Reads S.Store self.old.registry self.new.registry }
-        ensures reads { H.honest self.old.shelf
-            → AreReads (H.view self.old.shelf) (H.view self.new.shelf) }
-        ensures honest { H.honest self.old.shelf → H.honest self.new.shelf }
-        ensures size { H.size self.new.shelf ≡ H.size self.old.shelf }
+        ensures asks { Asks S.Store H.Shelf self.old self.new result }
     {
         let (state, _) = match self.load(alloc) {
             Ok(loaded) => loaded,

@@ -4,6 +4,7 @@ ghost use Rattle.std.specs.Prelude.{◌≡◌, ◌≤◌, ◌<◌, IfOk, IfErr, 
 ghost use Rattle.gm_shelf.specs.Disk.{AreReads};
 ghost use Rattle.gm_bench.specs.Faults.{IsOfMedia};
 ghost use Rattle.gm_bench.specs.Shown.{AreShown, IsTastedOn, provider_of};
+ghost use Rattle.gm_bench.specs.Calls.{Looks};
 
 use crate::facts::fact_of;
 use crate::fault::BenchFault;
@@ -28,13 +29,7 @@ fn provider_of(fact: &Fact) -> Provider
 fn providers_on<H: Shelf>(alloc: Global, shelf: &mut H) -> Result<Vec<Provider>, BenchFault>
     ensures shown { H.honest shelf.old
         → IfOk result (λ ps. AreShown (H.size shelf.old) (H.view shelf.old).seen ps.items) }
-    ensures disk { IsErrOf result BenchFault.Disk
-        → (H.view shelf.old).faults < (H.view shelf.new).faults }
-    ensures fault { IfErr result IsOfMedia }
-    ensures reads { H.honest shelf.old → AreReads (H.view shelf.old) (H.view shelf.new) }
-    ensures honest { H.honest shelf.old → H.honest shelf.new }
-    ensures size { H.size shelf.new ≡ H.size shelf.old }
-    ensures count { (H.view shelf.old).faults ≤ (H.view shelf.new).faults }
+    ensures looks { Looks H.Shelf shelf.old shelf.new result }
 {
     let names = match shelf.names() {
         Ok(names) => names,
@@ -58,12 +53,7 @@ fn providers_on<H: Shelf>(alloc: Global, shelf: &mut H) -> Result<Vec<Provider>,
 pub fn taste_shelf<H: Shelf>(alloc: Global, shelf: &mut H) -> Result<Tasted, BenchFault>
     ensures tasted { H.honest shelf.old
         → IfOk result (IsTastedOn (H.size shelf.old) (H.view shelf.old).seen) }
-    ensures disk { IsErrOf result BenchFault.Disk
-        → (H.view shelf.old).faults < (H.view shelf.new).faults }
-    ensures fault { IfErr result IsOfMedia }
-    ensures reads { H.honest shelf.old → AreReads (H.view shelf.old) (H.view shelf.new) }
-    ensures honest { H.honest shelf.old → H.honest shelf.new }
-    ensures size { H.size shelf.new ≡ H.size shelf.old }
+    ensures looks { Looks H.Shelf shelf.old shelf.new result }
 {
     let providers = match providers_on(alloc, shelf) {
         Ok(providers) => providers,

@@ -16,6 +16,8 @@ ghost use Rattle.gm_bench.specs.Owed.{IsLeft, OpenDoes, OpenLeaves};
 ghost use Rattle.gm_bench.specs.Presence.{first_absent};
 ghost use Rattle.gm_bench.specs.Phases.{phase_of};
 ghost use Rattle.gm_bench.specs.Recovering.{IsStored};
+ghost use Rattle.gm_bench.specs.Calls.{Keep};
+ghost use Rattle.gm_bench.specs.Opened.{IsOpened, IsUnopened};
 
 use crate::fault::BenchFault;
 use crate::media::Media;
@@ -52,58 +54,21 @@ impl<S: Alter, H: Shelf> Bench<S, H> {
         shelf: H,
     ) -> Result<Bench<S, H>, OpenFault<S, H>>
         requires { store.in_transaction ≡ false }
-        ensures does { H.honest shelf → IsOpen S.Store store
-            → IfOk result (λ b. DiskKept S.Store b.media.registry → OpenDoes S.Store H.view H.size
-            store b.media.registry shelf b.media.shelf) }
         ensures leaves { H.honest shelf → IsOpen S.Store store → MatchResult result
             (λ b. DiskKept S.Store b.media.registry → OpenLeaves S.Store H.view H.size
             store b.media.registry shelf b.media.shelf)
             (λ e. DiskKept S.Store e.store → OpenLeaves S.Store H.view H.size
             store e.store shelf e.shelf) }
-        ensures ready { IfOk result (λ b. b.progress ≡ Progress.Ready) }
-        ensures redone { H.honest shelf → IsOpen S.Store store
-            → IfOk result (λ b. DiskKept S.Store b.media.registry → (away : Image) (u w : World)
-            → (left : IsLeft S.Store H.view H.size store shelf away u w)
-            → b.redone ≡ length left.recovers.intents) }
-        // Each image that the pending intents need is there at Ok; the first that isn't is told, by
-        // the tables and the sizes alone.
-        ensures there { IsOpen S.Store store
-            → IfOk result (λ b. DiskKept S.Store b.media.registry
-            → (t : Tables) (s : Records) (ts : List Intent)
-            → IsStored (stored S.Store store) t → AreTablesOf t s ts
-            → first_absent s (H.size shelf) ts ≡ None) }
-        ensures absent { IsOpen S.Store store
-            → IfErr result (λ e. DiskKept S.Store e.store
-            → (p : List ℕ) → e.fault ≡ BenchFault.Absent p
-            → (t : Tables) (s : Records) (ts : List Intent)
-            → IsStored (stored S.Store store) t → AreTablesOf t s ts
-            → first_absent s (H.size shelf) ts ≡ Some p) }
-        // Whatever the images hold, and whether the shelf is honest or not.
-        ensures disk { IsOpen S.Store store
-            → IfErr result (λ e. DiskKept S.Store e.store → e.fault ≡ BenchFault.Disk
-            → (t : Tables) → IsStored (stored S.Store store) t
-            → (H.view shelf).faults < (H.view e.shelf).faults) }
-        ensures unreadable { IsOpen S.Store store
-            → IfErr result (λ e. DiskKept S.Store e.store → e.fault ≡ BenchFault.Unreadable
-            → IsOpenable (stored S.Store store) → (t : Tables) (s : Records) (ts : List Intent)
-            → IsStored (stored S.Store store) t → AreTablesOf t s ts → ⊥) }
-        ensures untouched { IfErr result (λ e. IsBeforeWrites e.fault → e.shelf ≡ shelf) }
-        // So is the store then, whatever rows its tables hold.
-        ensures alone { IsOpen S.Store store → IsSound registry_schema (stored S.Store store)
-            → IfErr result (λ e. DiskKept S.Store e.store → IsBeforeWrites e.fault
-            → LeavesAlone S.Store store e.store) }
         // Neither medium of a store with other tables is touched.
         ensures foreign { IsOpen S.Store store → IsForeign (stored S.Store store)
             → MatchResult result (λ b. DiskKept S.Store b.media.registry → ⊥)
             (λ e. DiskKept S.Store e.store → LeavesAlone S.Store store e.store
             × (e.shelf ≡ shelf)) }
-        ensures closed { IfErr result (λ e. e.fault ≡ BenchFault.Closed → ⊥) }
-        ensures honest { H.honest shelf
-            → MatchResult result (λ b. H.honest b.media.shelf) (λ e. H.honest e.shelf) }
-        ensures size { MatchResult result (λ b. H.size b.media.shelf ≡ H.size shelf)
-            (λ e. H.size e.shelf ≡ H.size shelf) }
-        ensures clean { MatchResult result (λ b. WasClean S.Store store b.media.registry)
-            (λ e. WasClean S.Store store e.store) }
+        ensures opened { IfOk result (IsOpened S.Store H.Shelf store shelf) }
+        ensures unopened { IfErr result (IsUnopened S.Store H.Shelf store shelf) }
+        ensures keep { MatchResult result
+            (λ b. Keep S.Store H.Shelf store b.media.registry shelf b.media.shelf)
+            (λ e. Keep S.Store H.Shelf store e.store shelf e.shelf) }
     {
         let registry = match Registry::open(store) {
             Ok(registry) => registry,

@@ -13,6 +13,7 @@ ghost use Rattle.gm_bench.specs.Owed.{AcceptAnswers, AcceptLeaves, ApplyDoes, Ap
 ghost use Rattle.gm_bench.specs.Phases.{TakesCommands, HasWork, HasDone, answer_of, phase_after, phase_of, progress_after, IsUndone};
 ghost use Rattle.gm_bench.specs.Recovering.{IsAt, IsAtWork, LeavesOnly};
 ghost use Rattle.gm_bench.specs.Presence.{AreAtHand};
+ghost use Rattle.gm_bench.specs.Calls.{Accepts, ClosesOnFault, CarriesOut, RunsOnce, Settles};
 
 use crate::answer::Answer;
 use crate::bench::Bench;
@@ -44,35 +45,15 @@ impl<S: Alter, H: Shelf> Bench<S, H> {
         ensures leaves { H.honest self.old.media.shelf → DiskKept S.Store self.new.media.registry
             → AcceptLeaves S.Store H.view H.size self.old.media.registry self.new.media.registry
             self.old.media.shelf self.new.media.shelf key.now command.now }
-        // Refused and Repeated leave the registry as it was, whatever the images hold.
-        ensures undone { DiskKept S.Store self.new.media.registry → IfOk result (λ a. IsUndone a
-            → Reads S.Store self.old.media.registry self.new.media.registry) }
-        ensures closed { self.old.progress ≡ Progress.Failed
-            → IsErrOf result BenchFault.Closed × (self.new ≡ self.old) }
         ensures ready { OnOk result (self.old.progress ≡ Progress.Ready) }
         ensures phase { IfOk result (λ a. phase_of self.new.progress ≡ phase_after a) }
-        ensures failed { OnErr result (self.new.progress ≡ Progress.Failed) }
-        ensures reopen { IsErrOf result BenchFault.Closed → self.old.progress ≡ Progress.Failed }
-        ensures absent { (p : List ℕ) → IsErrOf result (BenchFault.Absent p) → ⊥ }
         // A command under the key that somebody else's hand wrote may not be readable.
         ensures readable { H.honest self.old.media.shelf → DiskKept S.Store self.new.media.registry
             → IsErrOf result BenchFault.Unreadable → (away : Image) (u : World)
             → (at : IsAt S.Store H.view H.size self.old.media.registry self.old.media.shelf away
             [] u u) → AreWrittenUnder key.now at.tables → ⊥ }
-        ensures disk { IsErrOf result BenchFault.Disk
-            → (H.view self.old.media.shelf).faults < (H.view self.new.media.shelf).faults }
-        // It comes before anything is written.
-        ensures kept { DiskKept S.Store self.new.media.registry → IsErrOf result BenchFault.Disk
-            → (t : Tables) → HasTables S.Store self.old.media.registry t
-            → LeavesNothingNew S.Store self.old.media.registry self.new.media.registry }
-        ensures reads { H.honest self.old.media.shelf
-            → AreReads (H.view self.old.media.shelf) (H.view self.new.media.shelf) }
-        ensures honest { H.honest self.old.media.shelf → H.honest self.new.media.shelf }
-        ensures size { H.size self.new.media.shelf ≡ H.size self.old.media.shelf }
-        ensures count { (H.view self.old.media.shelf).faults
-            ≤ (H.view self.new.media.shelf).faults }
-        ensures redone { self.new.redone ≡ self.old.redone }
-        ensures clean { WasClean S.Store self.old.media.registry self.new.media.registry }
+        ensures accepts { Accepts S.Store H.Shelf self.old.media self.new.media result IsUndone }
+        ensures closes { ClosesOnFault self.old self.new result }
     {
         match self.progress {
             Progress::Ready => {}
@@ -103,21 +84,10 @@ impl<S: Alter, H: Shelf> Bench<S, H> {
             → self.old.progress ≡ Progress.Pending work
             → ApplyLeaves S.Store H.view H.size self.old.media.registry
             self.old.media.shelf self.new.media.shelf work }
-        ensures closed { self.old.progress ≡ Progress.Failed
-            → IsErrOf result BenchFault.Closed × (self.new ≡ self.old) }
         ensures phase { OnOk result (phase_of self.new.progress ≡ Phase.Applied) }
-        ensures failed { OnErr result (self.new.progress ≡ Progress.Failed) }
-        ensures reopen { IsErrOf result BenchFault.Closed → self.old.progress ≡ Progress.Failed }
-        ensures absent { (p : List ℕ) → IsErrOf result (BenchFault.Absent p) → ⊥ }
-        ensures unreadable { IsErrOf result BenchFault.Unreadable → ⊥ }
-        ensures disk { IsErrOf result BenchFault.Disk → (work : Work)
-            → self.old.progress ≡ Progress.Pending work
-            → AreAtHand (H.size self.old.media.shelf) work.intents.items
-            → (H.view self.old.media.shelf).faults < (H.view self.new.media.shelf).faults }
         ensures registry { self.new.media.registry ≡ self.old.media.registry }
-        ensures honest { H.honest self.old.media.shelf → H.honest self.new.media.shelf }
-        ensures size { H.size self.new.media.shelf ≡ H.size self.old.media.shelf }
-        ensures redone { self.new.redone ≡ self.old.redone }
+        ensures carries { CarriesOut S.Store H.Shelf self.old self.new result }
+        ensures closes { ClosesOnFault self.old self.new result }
     {
         match mem::replace(&mut self.progress, Progress::Failed) {
             Progress::Pending(work) => match self.media.apply(&work.part, &work.intents) {
@@ -143,17 +113,9 @@ impl<S: Alter, H: Shelf> Bench<S, H> {
             → (work : Work) → self.old.progress ≡ Progress.Applied work
             → SettleLeaves S.Store H.view H.size self.old.media.registry self.new.media.registry
             self.old.media.shelf work }
-        ensures closed { self.old.progress ≡ Progress.Failed
-            → IsErrOf result BenchFault.Closed × (self.new ≡ self.old) }
         ensures phase { OnOk result (self.new.progress ≡ Progress.Ready) }
-        ensures failed { OnErr result (self.new.progress ≡ Progress.Failed) }
-        ensures reopen { IsErrOf result BenchFault.Closed → self.old.progress ≡ Progress.Failed }
-        ensures absent { (p : List ℕ) → IsErrOf result (BenchFault.Absent p) → ⊥ }
-        ensures unreadable { IsErrOf result BenchFault.Unreadable → ⊥ }
-        ensures disk { IsErrOf result BenchFault.Disk → ⊥ }
-        ensures shelf { self.new.media.shelf ≡ self.old.media.shelf }
-        ensures redone { self.new.redone ≡ self.old.redone }
-        ensures clean { WasClean S.Store self.old.media.registry self.new.media.registry }
+        ensures settles { Settles S.Store self.old self.new result }
+        ensures closes { ClosesOnFault self.old self.new result }
     {
         match mem::replace(&mut self.progress, Progress::Failed) {
             Progress::Applied(_) => match self.media.settle() {
@@ -186,18 +148,8 @@ impl<S: Alter, H: Shelf> Bench<S, H> {
             self.old.media.registry self.new.media.registry
             self.old.media.shelf self.new.media.shelf away u w }
         ensures phase { OnOk result (self.new.progress ≡ Progress.Ready) }
-        ensures failed { OnErr result (self.new.progress ≡ Progress.Failed) }
-        ensures reopen { IsErrOf result BenchFault.Closed → self.old.progress ≡ Progress.Failed }
-        ensures absent { (p : List ℕ) → IsErrOf result (BenchFault.Absent p) → ⊥ }
-        ensures unreadable { IsErrOf result BenchFault.Unreadable → ⊥ }
-        ensures disk { IsErrOf result BenchFault.Disk → (work : Work)
-            → self.old.progress ≡ Progress.Pending work
-            → AreAtHand (H.size self.old.media.shelf) work.intents.items
-            → (H.view self.old.media.shelf).faults < (H.view self.new.media.shelf).faults }
-        ensures honest { H.honest self.old.media.shelf → H.honest self.new.media.shelf }
-        ensures size { H.size self.new.media.shelf ≡ H.size self.old.media.shelf }
-        ensures redone { self.new.redone ≡ self.old.redone }
-        ensures clean { WasClean S.Store self.old.media.registry self.new.media.registry }
+        ensures carries { CarriesOut S.Store H.Shelf self.old self.new result }
+        ensures closes { ClosesOnFault self.old self.new result }
     {
         match self.apply() {
             Ok(()) => match self.settle() {
@@ -219,29 +171,15 @@ impl<S: Alter, H: Shelf> Bench<S, H> {
         ensures leaves { H.honest self.old.media.shelf → DiskKept S.Store self.new.media.registry
             → RunLeaves S.Store H.view H.size self.old.media.registry self.new.media.registry
             self.old.media.shelf self.new.media.shelf key.now command.now }
-        // Refused and Repeated leave the registry as it was, whatever the images hold.
-        ensures undone { DiskKept S.Store self.new.media.registry → IfOk result (λ a. IsUndone a
-            → Reads S.Store self.old.media.registry self.new.media.registry) }
-        ensures closed { self.old.progress ≡ Progress.Failed
-            → IsErrOf result BenchFault.Closed × (self.new ≡ self.old) }
         ensures ready { OnOk result
             ((self.old.progress ≡ Progress.Ready) × (self.new.progress ≡ Progress.Ready)) }
-        ensures failed { OnErr result (self.new.progress ≡ Progress.Failed) }
-        ensures reopen { IsErrOf result BenchFault.Closed → self.old.progress ≡ Progress.Failed }
-        ensures absent { (p : List ℕ) → IsErrOf result (BenchFault.Absent p) → ⊥ }
         // A command under the key that somebody else's hand wrote may not be readable.
         ensures readable { H.honest self.old.media.shelf → DiskKept S.Store self.new.media.registry
             → IsErrOf result BenchFault.Unreadable → (away : Image) (u : World)
             → (at : IsAt S.Store H.view H.size self.old.media.registry self.old.media.shelf away
             [] u u) → AreWrittenUnder key.now at.tables → ⊥ }
-        ensures disk { H.honest self.old.media.shelf → DiskKept S.Store self.new.media.registry
-            → IsErrOf result BenchFault.Disk → (away : Image) (u : World)
-            → IsAt S.Store H.view H.size self.old.media.registry self.old.media.shelf away [] u u
-            → (H.view self.old.media.shelf).faults < (H.view self.new.media.shelf).faults }
-        ensures honest { H.honest self.old.media.shelf → H.honest self.new.media.shelf }
-        ensures size { H.size self.new.media.shelf ≡ H.size self.old.media.shelf }
-        ensures redone { self.new.redone ≡ self.old.redone }
-        ensures clean { WasClean S.Store self.old.media.registry self.new.media.registry }
+        ensures runs { RunsOnce S.Store H.Shelf self.old self.new result }
+        ensures closes { ClosesOnFault self.old self.new result }
     {
         match self.accept(alloc, key, command) {
             Ok(answer) => match self.phase() {

@@ -5,6 +5,8 @@ ghost use Rattle.gm_shelf.specs.Disk.{AreReads};
 ghost use Rattle.gm_lists.specs.Ordered.{Has};
 ghost use Rattle.gm_bench.specs.Faults.{IsOfMedia};
 ghost use Rattle.gm_bench.specs.ShelfFacts.{AreEqual, Tell, IsFact, last_of};
+ghost use Rattle.gm_shelf.specs.Keeping.{ReadsOnly};
+ghost use Rattle.gm_bench.specs.Calls.{Looks};
 
 use crate::adopt_scope::Compared;
 use crate::fault::BenchFault;
@@ -25,10 +27,7 @@ pub(crate) fn last_of<H: Shelf>(
     ensures disk { H.size shelf.old provider ≡ Some sectors → IsErrOf result BenchFault.Disk
         → (H.view shelf.old).faults < (H.view shelf.new).faults }
     ensures fault { IfErr result IsOfMedia }
-    ensures reads { H.honest shelf.old → AreReads (H.view shelf.old) (H.view shelf.new) }
-    ensures honest { H.honest shelf.old → H.honest shelf.new }
-    ensures size { H.size shelf.new ≡ H.size shelf.old }
-    ensures count { (H.view shelf.old).faults ≤ (H.view shelf.new).faults }
+    ensures only { ReadsOnly H.Shelf shelf.old shelf.new }
 {
     let mut last = [0; 512];
     if sectors == 0 {
@@ -48,13 +47,7 @@ fn equal_of<H: Shelf>(
 ) -> Result<u64, BenchFault>
     ensures equal { H.honest shelf.old → IfOk result
         (AreEqual (H.size shelf.old) (H.view shelf.old).seen against provider) }
-    ensures disk { IsErrOf result BenchFault.Disk
-        → (H.view shelf.old).faults < (H.view shelf.new).faults }
-    ensures fault { IfErr result IsOfMedia }
-    ensures reads { H.honest shelf.old → AreReads (H.view shelf.old) (H.view shelf.new) }
-    ensures honest { H.honest shelf.old → H.honest shelf.new }
-    ensures size { H.size shelf.new ≡ H.size shelf.old }
-    ensures count { (H.view shelf.old).faults ≤ (H.view shelf.new).faults }
+    ensures looks { Looks H.Shelf shelf.old shelf.new result }
 {
     match against {
         None => Ok(0),
@@ -78,10 +71,7 @@ fn fact_there<H: Shelf>(
     ensures disk { H.size shelf.old provider ≡ Some sectors → IsErrOf result BenchFault.Disk
         → (H.view shelf.old).faults < (H.view shelf.new).faults }
     ensures fault { IfErr result IsOfMedia }
-    ensures reads { H.honest shelf.old → AreReads (H.view shelf.old) (H.view shelf.new) }
-    ensures honest { H.honest shelf.old → H.honest shelf.new }
-    ensures size { H.size shelf.new ≡ H.size shelf.old }
-    ensures count { (H.view shelf.old).faults ≤ (H.view shelf.new).faults }
+    ensures only { ReadsOnly H.Shelf shelf.old shelf.new }
 {
     let last = last_of(shelf, provider, sectors)?;
     let equal = equal_of(shelf, against, provider)?;
@@ -104,13 +94,7 @@ pub(crate) fn fact_of<H: Shelf>(
         (H.size shelf.old provider ≡ None)
         (λ f. IsFact (H.size shelf.old) (H.view shelf.old).seen against f
         × (f.provider ≡ provider))) }
-    ensures disk { IsErrOf result BenchFault.Disk
-        → (H.view shelf.old).faults < (H.view shelf.new).faults }
-    ensures fault { IfErr result IsOfMedia }
-    ensures reads { H.honest shelf.old → AreReads (H.view shelf.old) (H.view shelf.new) }
-    ensures honest { H.honest shelf.old → H.honest shelf.new }
-    ensures size { H.size shelf.new ≡ H.size shelf.old }
-    ensures count { (H.view shelf.old).faults ≤ (H.view shelf.new).faults }
+    ensures looks { Looks H.Shelf shelf.old shelf.new result }
 {
     match shelf.sectors(provider) {
         None => Ok(None),
@@ -130,13 +114,7 @@ pub(crate) fn facts_of<H: Shelf>(
 ) -> Result<Facts, BenchFault>
     ensures tell { H.honest shelf.old → IfOk result (λ facts. (q : List ℕ) → Has names.now q
         → Tell facts (H.size shelf.old) (H.view shelf.old).seen against.now q) }
-    ensures disk { IsErrOf result BenchFault.Disk
-        → (H.view shelf.old).faults < (H.view shelf.new).faults }
-    ensures fault { IfErr result IsOfMedia }
-    ensures reads { H.honest shelf.old → AreReads (H.view shelf.old) (H.view shelf.new) }
-    ensures honest { H.honest shelf.old → H.honest shelf.new }
-    ensures size { H.size shelf.new ≡ H.size shelf.old }
-    ensures count { (H.view shelf.old).faults ≤ (H.view shelf.new).faults }
+    ensures looks { Looks H.Shelf shelf.old shelf.new result }
 {
     let mut entries = Vec::new(alloc);
     for name in names {

@@ -10,6 +10,7 @@ ghost use Rattle.gm_bench.specs.Faults.{IsOfMedia};
 ghost use Rattle.gm_bench.specs.Leading.{AllLead};
 ghost use Rattle.gm_bench.specs.Recovering.{Cover, IsAt, IsShelfOf, LeavesOnly};
 ghost use Rattle.gm_bench.specs.Presence.{AreAtHand};
+ghost use Rattle.gm_shelf.specs.Keeping.{Keeps};
 
 use crate::fault::BenchFault;
 use gm_apply::apply;
@@ -49,8 +50,7 @@ impl<S: Alter, H: Shelf> Media<S, H> {
             → (H.view self.old.shelf).faults < (H.view self.new.shelf).faults }
         ensures fault { IfErr result IsOfMedia }
         ensures registry { self.new.registry ≡ self.old.registry }
-        ensures honest { H.honest self.old.shelf → H.honest self.new.shelf }
-        ensures size { H.size self.new.shelf ≡ H.size self.old.shelf }
+        ensures keeps { Keeps H.Shelf self.old.shelf self.new.shelf }
     {
         match apply(&mut self.shelf, part, intents) {
             Ok(()) => Ok(()),

@@ -20,6 +20,7 @@ ghost use Rattle.gm_bench.specs.Recovering.{IsAt};
 ghost use Rattle.gm_bench.specs.Planning.{IsDecided, IsKnown};
 ghost use Rattle.gm_bench.specs.ShelfFacts.{Tell};
 ghost use Rattle.gm_lists.specs.Ordered.{Has};
+ghost use Rattle.gm_bench.specs.Calls.{Looks, Asks};
 
 use crate::adopt_scope::{Compared, adopted_from, compared_with};
 use crate::answer::Work;
@@ -165,15 +166,8 @@ impl<S: Alter, H: Shelf> Media<S, H> {
         ensures tell { H.honest self.old.shelf → IfOk result (λ facts. (q : List ℕ)
             → Has names.now q → Tell facts (H.size self.old.shelf)
             (H.view self.old.shelf).seen against.now q) }
-        ensures disk { IsErrOf result BenchFault.Disk
-            → (H.view self.old.shelf).faults < (H.view self.new.shelf).faults }
-        ensures fault { IfErr result IsOfMedia }
-        ensures reads { H.honest self.old.shelf
-            → AreReads (H.view self.old.shelf) (H.view self.new.shelf) }
         ensures registry { self.new.registry ≡ self.old.registry }
-        ensures honest { H.honest self.old.shelf → H.honest self.new.shelf }
-        ensures size { H.size self.new.shelf ≡ H.size self.old.shelf }
-        ensures count { (H.view self.old.shelf).faults ≤ (H.view self.new.shelf).faults }
+        ensures looks { Looks H.Shelf self.old.shelf self.new.shelf result }
     {
         match facts_of(alloc, &mut self.shelf, against, names) {
             Ok(facts) => Ok(facts),
@@ -192,15 +186,8 @@ impl<S: Alter, H: Shelf> Media<S, H> {
         ensures tell { H.honest self.old.shelf → IfOk result (λ facts. (s : Records)
             → IsPartOf part.now command.now s → (q : List ℕ) → Has (needed_by s command.now) q
             → Tell facts (H.size self.old.shelf) (H.view self.old.shelf).seen against.now q) }
-        ensures disk { IsErrOf result BenchFault.Disk
-            → (H.view self.old.shelf).faults < (H.view self.new.shelf).faults }
-        ensures fault { IfErr result IsOfMedia }
-        ensures reads { H.honest self.old.shelf
-            → AreReads (H.view self.old.shelf) (H.view self.new.shelf) }
         ensures registry { self.new.registry ≡ self.old.registry }
-        ensures honest { H.honest self.old.shelf → H.honest self.new.shelf }
-        ensures size { H.size self.new.shelf ≡ H.size self.old.shelf }
-        ensures count { (H.view self.old.shelf).faults ≤ (H.view self.new.shelf).faults }
+        ensures looks { Looks H.Shelf self.old.shelf self.new.shelf result }
     {
         match needed(alloc, part, command) {
             Ok(names) => match self.look_at(alloc, against, &names) {
@@ -218,18 +205,10 @@ impl<S: Alter, H: Shelf> Media<S, H> {
             → IfOk result (λ r. (away : Image) (u : World)
             → (at : IsAt S.Store H.view H.size self.old.registry self.old.shelf away [] u u)
             → IsKnown u command.now r × HasTables S.Store self.new.registry at.tables) }
-        ensures disk { IsErrOf result BenchFault.Disk
-            → (H.view self.old.shelf).faults < (H.view self.new.shelf).faults }
-        ensures fault { IfErr result IsOfCall }
         ensures readable { H.honest self.old.shelf → DiskKept S.Store self.new.registry
             → IsErrOf result BenchFault.Unreadable → (away : Image) (u : World) (key : List ℕ)
             → IsAt S.Store H.view H.size self.old.registry self.old.shelf away [] u u → ⊥ }
-        ensures store { Reads S.Store self.old.registry self.new.registry }
-        ensures reads { H.honest self.old.shelf
-            → AreReads (H.view self.old.shelf) (H.view self.new.shelf) }
-        ensures honest { H.honest self.old.shelf → H.honest self.new.shelf }
-        ensures size { H.size self.new.shelf ≡ H.size self.old.shelf }
-        ensures count { (H.view self.old.shelf).faults ≤ (H.view self.new.shelf).faults }
+        ensures asks { Asks S.Store H.Shelf self.old self.new result }
     {
         let providers = adopted_from(command);
         let first = match self.look_at(alloc, &None, providers) {
@@ -261,19 +240,11 @@ impl<S: Alter, H: Shelf> Media<S, H> {
             → IfOk result (λ r. (away : Image) (u : World)
             → (at : IsAt S.Store H.view H.size self.old.registry self.old.shelf away [] u u)
             → IsDecided u command.now r × HasTables S.Store self.new.registry at.tables) }
-        ensures disk { IsErrOf result BenchFault.Disk
-            → (H.view self.old.shelf).faults < (H.view self.new.shelf).faults }
-        ensures fault { IfErr result IsOfCall }
         ensures readable { H.honest self.old.shelf → DiskKept S.Store self.new.registry
             → IsErrOf result BenchFault.Unreadable → (away : Image) (u : World) (key : List ℕ)
             → IsAt S.Store H.view H.size self.old.registry self.old.shelf away [] u u
             → CanAnswer u key command.now → ⊥ }
-        ensures store { Reads S.Store self.old.registry self.new.registry }
-        ensures reads { H.honest self.old.shelf
-            → AreReads (H.view self.old.shelf) (H.view self.new.shelf) }
-        ensures honest { H.honest self.old.shelf → H.honest self.new.shelf }
-        ensures size { H.size self.new.shelf ≡ H.size self.old.shelf }
-        ensures count { (H.view self.old.shelf).faults ≤ (H.view self.new.shelf).faults }
+        ensures asks { Asks S.Store H.Shelf self.old self.new result }
     {
         let known = match self.gather(alloc, command) {
             Ok(known) => known,

@@ -13,6 +13,8 @@ ghost use Rattle.gm_bench.specs.Faults.{IsOfMedia, IsOfOpening, IsOfRegistry, Is
 ghost use Rattle.gm_bench.specs.Leading.{AllLead};
 ghost use Rattle.gm_bench.specs.Presence.{first_absent, AreAtHand};
 ghost use Rattle.gm_bench.specs.Recovering.{Cover, IsAt, IsFound, LeavesOnly};
+ghost use Rattle.gm_bench.specs.Calls.{Keep};
+ghost use Rattle.gm_bench.specs.Opened.{TellsOfTables, StaysBefore};
 
 use crate::fault::BenchFault;
 use crate::media::Media;
@@ -46,9 +48,8 @@ impl<S: Alter, H: Shelf> Media<S, H> {
             → IsErrOf result BenchFault.Disk
             → (H.view self.old.shelf).faults < (H.view self.new.shelf).faults }
         ensures fault { IfErr result IsOfMedia }
-        ensures honest { H.honest self.old.shelf → H.honest self.new.shelf }
-        ensures size { H.size self.new.shelf ≡ H.size self.old.shelf }
-        ensures clean { WasClean S.Store self.old.registry self.new.registry }
+        ensures keep { Keep S.Store H.Shelf self.old.registry self.new.registry
+            self.old.shelf self.new.shelf }
     {
         match self.apply(part, intents) {
             Ok(()) => match self.settle() {
@@ -112,9 +113,8 @@ impl<S: Alter, H: Shelf> Media<S, H> {
         ensures there { OnOk result
             (first_absent state.now (H.size self.old.shelf) intents.now ≡ None) }
         ensures fault { IfErr result IsOfOpening }
-        ensures honest { H.honest self.old.shelf → H.honest self.new.shelf }
-        ensures size { H.size self.new.shelf ≡ H.size self.old.shelf }
-        ensures clean { WasClean S.Store self.old.registry self.new.registry }
+        ensures keep { Keep S.Store H.Shelf self.old.registry self.new.registry
+            self.old.shelf self.new.shelf }
     {
         match first_absent(&self.shelf, state, intents) {
             Some(provider) => Err(BenchFault::Absent(provider)),
@@ -142,30 +142,10 @@ impl<S: Alter, H: Shelf> Media<S, H> {
             → IsFound S.Store H.view H.size self.old.registry self.old.shelf away ts u w
             → (n ≡ length ts)
             × IsAt S.Store H.view H.size self.new.registry self.new.shelf away [] w w) }
-        ensures disk { DiskKept S.Store self.new.registry
-            → IsErrOf result BenchFault.Disk → (t : Tables) → HasTables S.Store self.old.registry t
-            → (H.view self.old.shelf).faults < (H.view self.new.shelf).faults }
-        ensures absent { DiskKept S.Store self.new.registry
-            → (p : List ℕ) → IsErrOf result (BenchFault.Absent p)
-            → (t : Tables) (s : Records) (ts : List Intent)
-            → HasTables S.Store self.old.registry t → AreTablesOf t s ts
-            → first_absent s (H.size self.old.shelf) ts ≡ Some p }
-        ensures there { DiskKept S.Store self.new.registry
-            → OnOk result ((t : Tables) (s : Records) (ts : List Intent)
-            → HasTables S.Store self.old.registry t → AreTablesOf t s ts
-            → first_absent s (H.size self.old.shelf) ts ≡ None) }
-        ensures unreadable { DiskKept S.Store self.new.registry
-            → IsErrOf result BenchFault.Unreadable → (t : Tables) (s : Records) (ts : List Intent)
-            → HasTables S.Store self.old.registry t → AreTablesOf t s ts → ⊥ }
-        ensures untouched { IfErr result (λ f. IsBeforeWrites f
-            → self.new.shelf ≡ self.old.shelf) }
-        // Whatever rows the registry holds.
-        ensures alone { IfErr result (λ f. IsBeforeWrites f → IsRegistry S.Store self.old.registry
-            → LeavesAlone S.Store self.old.registry self.new.registry) }
-        ensures fault { IsErrOf result BenchFault.Closed → ⊥ }
-        ensures honest { H.honest self.old.shelf → H.honest self.new.shelf }
-        ensures size { H.size self.new.shelf ≡ H.size self.old.shelf }
-        ensures clean { WasClean S.Store self.old.registry self.new.registry }
+        ensures tells { TellsOfTables S.Store H.Shelf self.old self.new result }
+        ensures before { StaysBefore S.Store self.old self.new result }
+        ensures keep { Keep S.Store H.Shelf self.old.registry self.new.registry
+            self.old.shelf self.new.shelf }
     {
         match self.load(alloc) {
             Ok((state, intents)) => match self.check_and_finish(&state, &intents) {

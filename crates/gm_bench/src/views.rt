@@ -10,6 +10,7 @@ ghost use Rattle.gm_registry.specs.Registry.{DiskKept, HasTables, Reads};
 ghost use Rattle.gm_bench.specs.Audits.{IsAudit};
 ghost use Rattle.gm_bench.specs.ShelfFacts.{last_sector};
 ghost use Rattle.gm_bench.specs.Owed.{LookDoes, LookLeaves};
+ghost use Rattle.gm_bench.specs.Calls.{ClosesOnFault, LooksOn};
 
 use crate::bench::Bench;
 use crate::facts::fact_of;
@@ -29,27 +30,12 @@ impl<S: Alter, H: Shelf> Bench<S, H> {
         ensures shows { DiskKept S.Store self.new.media.registry
             → IfOk result (λ state. (t : Tables) (s : Records) (ts : List Intent)
             → HasTables S.Store self.old.media.registry t → AreTablesOf t s ts → state ≡ s) }
-        ensures looks { H.honest self.old.media.shelf → DiskKept S.Store self.new.media.registry
-            → OnOk result (LookDoes S.Store H.view H.size
-            self.old.media.registry self.new.media.registry
-            self.old.media.shelf self.new.media.shelf) }
-        ensures leaves { H.honest self.old.media.shelf → DiskKept S.Store self.new.media.registry
-            → LookLeaves S.Store H.view H.size
-            self.old.media.registry self.new.media.registry
-            self.old.media.shelf self.new.media.shelf }
         ensures unreadable { DiskKept S.Store self.new.media.registry
             → IsErrOf result BenchFault.Unreadable → (t : Tables) (s : Records) (ts : List Intent)
             → HasTables S.Store self.old.media.registry t → AreTablesOf t s ts → ⊥ }
-        ensures closed { self.old.progress ≡ Progress.Failed
-            → IsErrOf result BenchFault.Closed × (self.new ≡ self.old) }
-        ensures stays { OnOk result (self.new.progress ≡ self.old.progress) }
-        ensures failed { OnErr result (self.new.progress ≡ Progress.Failed) }
-        ensures reopen { IsErrOf result BenchFault.Closed → self.old.progress ≡ Progress.Failed }
-        ensures absent { (p : List ℕ) → IsErrOf result (BenchFault.Absent p) → ⊥ }
-        ensures disk { IsErrOf result BenchFault.Disk → ⊥ }
-        ensures reads { Reads S.Store self.old.media.registry self.new.media.registry }
         ensures shelf { self.new.media.shelf ≡ self.old.media.shelf }
-        ensures redone { self.new.redone ≡ self.old.redone }
+        ensures looks { LooksOn S.Store H.Shelf self.old self.new result }
+        ensures closes { ClosesOnFault self.old self.new result }
     {
         match self.progress {
             Progress::Failed => return Err(BenchFault::Closed),
@@ -70,29 +56,10 @@ impl<S: Alter, H: Shelf> Bench<S, H> {
         ensures shows { H.honest self.old.media.shelf → IfOk result (λ found. found
             ≡ last_sector (H.size self.old.media.shelf) (H.view self.old.media.shelf).seen
             provider) }
-        ensures looks { H.honest self.old.media.shelf → DiskKept S.Store self.new.media.registry
-            → OnOk result (LookDoes S.Store H.view H.size
-            self.old.media.registry self.new.media.registry
-            self.old.media.shelf self.new.media.shelf) }
-        ensures leaves { H.honest self.old.media.shelf → DiskKept S.Store self.new.media.registry
-            → LookLeaves S.Store H.view H.size
-            self.old.media.registry self.new.media.registry
-            self.old.media.shelf self.new.media.shelf }
-        ensures closed { self.old.progress ≡ Progress.Failed
-            → IsErrOf result BenchFault.Closed × (self.new ≡ self.old) }
-        ensures stays { OnOk result (self.new.progress ≡ self.old.progress) }
-        ensures failed { OnErr result (self.new.progress ≡ Progress.Failed) }
-        ensures reopen { IsErrOf result BenchFault.Closed → self.old.progress ≡ Progress.Failed }
-        ensures absent { (p : List ℕ) → IsErrOf result (BenchFault.Absent p) → ⊥ }
         ensures unreadable { IsErrOf result BenchFault.Unreadable → ⊥ }
-        ensures disk { IsErrOf result BenchFault.Disk
-            → (H.view self.old.media.shelf).faults < (H.view self.new.media.shelf).faults }
-        ensures reads { H.honest self.old.media.shelf
-            → AreReads (H.view self.old.media.shelf) (H.view self.new.media.shelf) }
-        ensures honest { H.honest self.old.media.shelf → H.honest self.new.media.shelf }
-        ensures size { H.size self.new.media.shelf ≡ H.size self.old.media.shelf }
         ensures registry { self.new.media.registry ≡ self.old.media.registry }
-        ensures redone { self.new.redone ≡ self.old.redone }
+        ensures looks { LooksOn S.Store H.Shelf self.old self.new result }
+        ensures closes { ClosesOnFault self.old self.new result }
     {
         match self.progress {
             Progress::Failed => return Err(BenchFault::Closed),
@@ -119,31 +86,11 @@ impl<S: Alter, H: Shelf> Bench<S, H> {
             → HasTables S.Store self.old.media.registry t → AreTablesOf t s ts
             → IsAudit s (H.size self.old.media.shelf) (H.view self.old.media.shelf).seen
             names.items) }
-        ensures looks { H.honest self.old.media.shelf → DiskKept S.Store self.new.media.registry
-            → OnOk result (LookDoes S.Store H.view H.size
-            self.old.media.registry self.new.media.registry
-            self.old.media.shelf self.new.media.shelf) }
-        ensures leaves { H.honest self.old.media.shelf → DiskKept S.Store self.new.media.registry
-            → LookLeaves S.Store H.view H.size
-            self.old.media.registry self.new.media.registry
-            self.old.media.shelf self.new.media.shelf }
         ensures unreadable { DiskKept S.Store self.new.media.registry
             → IsErrOf result BenchFault.Unreadable → (t : Tables) (s : Records) (ts : List Intent)
             → HasTables S.Store self.old.media.registry t → AreTablesOf t s ts → ⊥ }
-        ensures closed { self.old.progress ≡ Progress.Failed
-            → IsErrOf result BenchFault.Closed × (self.new ≡ self.old) }
-        ensures stays { OnOk result (self.new.progress ≡ self.old.progress) }
-        ensures failed { OnErr result (self.new.progress ≡ Progress.Failed) }
-        ensures reopen { IsErrOf result BenchFault.Closed → self.old.progress ≡ Progress.Failed }
-        ensures absent { (p : List ℕ) → IsErrOf result (BenchFault.Absent p) → ⊥ }
-        ensures disk { IsErrOf result BenchFault.Disk
-            → (H.view self.old.media.shelf).faults < (H.view self.new.media.shelf).faults }
-        ensures store { Reads S.Store self.old.media.registry self.new.media.registry }
-        ensures reads { H.honest self.old.media.shelf
-            → AreReads (H.view self.old.media.shelf) (H.view self.new.media.shelf) }
-        ensures honest { H.honest self.old.media.shelf → H.honest self.new.media.shelf }
-        ensures size { H.size self.new.media.shelf ≡ H.size self.old.media.shelf }
-        ensures redone { self.new.redone ≡ self.old.redone }
+        ensures looks { LooksOn S.Store H.Shelf self.old self.new result }
+        ensures closes { ClosesOnFault self.old self.new result }
     {
         match self.progress {
             Progress::Failed => return Err(BenchFault::Closed),

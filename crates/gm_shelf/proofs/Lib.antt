@@ -2,6 +2,7 @@ pub mod CachedContents
 pub mod EachPicked
 pub mod Fresh
 pub mod InTurn
+pub mod Keeping
 pub mod KeyNames
 pub mod LastWrite
 pub mod NothingWritten

@@ -6,6 +6,7 @@ pub mod FileShelves
 pub mod Folder
 pub mod History
 pub mod LastSector
+pub mod Keeping
 pub mod Lawful
 pub mod Memory
 pub mod Picks

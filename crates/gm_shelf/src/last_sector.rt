@@ -4,6 +4,7 @@ ghost use Rattle.std.specs.Prelude.{◌≡◌, ◌≤◌, ◌<◌, ◌+◌, ◌�
 ghost use Rattle.gm_metadata.specs.Reading.{encoded};
 ghost use Rattle.gm_shelf.specs.Disk.{faults_after};
 ghost use Rattle.gm_shelf.specs.LastSector.{OldOrNew, IsDone, WritesThenSyncs};
+ghost use Rattle.gm_shelf.specs.Keeping.{Keeps};
 
 use crate::fault::ShelfFault;
 use crate::shelf::Shelf;
@@ -35,9 +36,7 @@ pub fn write_last<H: Shelf>(
         (λ answer old new. H.write_gives old provider i sector.now answer new)
         (λ answer old new. H.sync_gives old provider answer new) result shelf.old shelf.new }
 
-    ensures honest { H.honest shelf.old → H.honest shelf.new }
-    ensures size { H.size shelf.new ≡ H.size shelf.old }
-    ensures count { (H.view shelf.old).faults ≤ (H.view shelf.new).faults }
+    ensures keeps { Keeps H.Shelf shelf.old shelf.new }
     ensures counted { (H.view shelf.new).faults ≡ faults_after result (H.view shelf.old).faults }
 {
     let Some(count) = shelf.sectors(provider) else {
@@ -77,9 +76,7 @@ pub fn write_meta<H: Shelf>(
         (λ answer old new. H.write_gives old provider i (encoded metadata.now) answer new)
         (λ answer old new. H.sync_gives old provider answer new) result shelf.old shelf.new }
 
-    ensures honest { H.honest shelf.old → H.honest shelf.new }
-    ensures size { H.size shelf.new ≡ H.size shelf.old }
-    ensures count { (H.view shelf.old).faults ≤ (H.view shelf.new).faults }
+    ensures keeps { Keeps H.Shelf shelf.old shelf.new }
     ensures counted { (H.view shelf.new).faults ≡ faults_after result (H.view shelf.old).faults }
 {
     write_last(shelf, provider, &encode(metadata))?;

@@ -1,4 +1,5 @@
-use Rattle.std.proofs.Common.{◌∙◌, ◌≤◌, ◌+◌, inl, arith, rules}
+use Rattle.std.proofs.Common.{◌≤◌, ◌+◌, inl, arith, rules}
+use Rattle.gm_shelf.proofs.Keeping.{keeps_then}
 use Rattle.gm_state.specs.Intents.{copies}
 use Rattle.gm_state.specs.declared.intents.Intent.TheVariants.{Copy}
 use Rattle.gm_apply.proofs.UnderWay.{going_trans}
@@ -20,7 +21,8 @@ returns-in_err-copy_run-clause-under_way g c h =
     (λ q j. mid.seen c.args.source j)
     (run_told c.args.source c.args.target c.args.first c.args.end place n inv.low old mid
     (inv.seen h) fits)
-    old mid (view c.copy_run.new.shelf) (inv.going h) (c.copy_run.ensures.under_way (inv.honest h))
+    old mid (view c.copy_run.new.shelf) (inv.going h) (c.copy_run.ensures.under_way
+    (inv.keeps.honest h))
 
 pub loop-place-preserved : goal.loop-place-preserved
 loop-place-preserved g c =
@@ -34,9 +36,7 @@ loop-place-preserved g c =
     record {
       low = omega (arith, inv.low);
       reach = inl fits;
-      count = omega (arith, inv.count, c.copy_run.ensures.count);
-      honest = λ h. c.copy_run.ensures.honest (inv.honest h);
-      size = c.copy_run.ensures.size ∙ inv.size;
+      keeps = keeps_then g.H.Shelf _ _ _ inv.keeps c.copy_run.ensures.keeps;
       going = λ h.
           going_trans (copies (Copy c.args.source c.args.target c.args.first c.args.end))
           (λ q j. old.seen c.args.source j)
@@ -45,9 +45,9 @@ loop-place-preserved g c =
           (run_told c.args.source c.args.target c.args.first c.args.end place n inv.low old mid
           (inv.seen h) fits)
           old mid (view c.copy_run.new.shelf) (inv.going h)
-          (c.copy_run.ensures.under_way (inv.honest h));
+          (c.copy_run.ensures.under_way (inv.keeps.honest h));
       seen = λ h.
           run_seen c.args.source c.args.target c.args.first c.args.end place n inv.low old mid
           (inv.seen h) (view c.copy_run.new.shelf).seen
-          (c.in_ok-copy_run.ensures.done (inv.honest h));
+          (c.in_ok-copy_run.ensures.done (inv.keeps.honest h));
     }

@@ -1,5 +1,6 @@
 use Rattle.std.proofs.Common.{◌≡◌, ◌≤◌, ◌⊎◌, ◌-◌}
 use Rattle.gm_metadata.specs.Images.{Same}
+use Rattle.gm_shelf.specs.Keeping.{Keeps}
 use Rattle.gm_state.specs.Intents.{copies}
 use Rattle.gm_state.specs.declared.intents.Intent.TheVariants.{Copy}
 use Rattle.gm_apply.specs.Redo.{with_places, IsUnderWay}
@@ -12,9 +13,7 @@ invariant-loop-place g l =
     record {
       low : l.first ≤ l.place;
       reach : (l.place ≤ l.end) ⊎ (l.place ≡ l.first);
-      count : old.faults ≤ (H.view l.shelf).faults;
-      honest : H.honest l.fn.shelf → H.honest l.shelf;
-      size : H.size l.shelf ≡ H.size l.fn.shelf;
+      keeps : Keeps H l.fn.shelf l.shelf;
       going : H.honest l.fn.shelf
           → IsUnderWay (copies (Copy l.source l.target l.first l.end))
           (λ q j. old.seen l.source j) old (H.view l.shelf);

@@ -1,6 +1,7 @@
 use Rattle.std.proofs.Common.{◌≡◌, ◌∙◌, ◌+◌, ◌-◌, ℕ, length, sym, arith, rules, subst}
 use Rattle.gm_metadata.specs.Images.{Same}
 use Rattle.gm_shelf.specs.Disk.{sector_of}
+use Rattle.gm_shelf.proofs.Keeping.{keeps_then}
 use Rattle.gm_shelf.proofs.Runs.{put_upto}
 use Rattle.gm_apply.proofs.Stretches.{stretch_law, stretch_seen, rest_seen, put_same}
 use Rattle.gm_apply.proofs.copy.write_changes.Goals as goal
@@ -13,7 +14,7 @@ returns-in_err-write_stretch-clause-law g c h =
     stretch_law c.args.target c.args.first c.args.run.now c.loop-index.from
     (c.loop-index.index - c.loop-index.from) (omega (arith, inv.behind))
     (view c.args.shelf.now) (view c.loop-index.shelf) (view c.write_stretch.new.shelf) (inv.law h)
-    (c.write_stretch.ensures.law (inv.honest h))
+    (c.write_stretch.ensures.law (inv.keeps.honest h))
 
 pub returns-in_err-write_stretch-2-clause-law : goal.returns-in_err-write_stretch-2-clause-law
 returns-in_err-write_stretch-2-clause-law g c h =
@@ -22,7 +23,7 @@ returns-in_err-write_stretch-2-clause-law g c h =
     stretch_law c.args.target c.args.first c.args.run.now c.loop-index.from
     (length c.args.run.now - c.loop-index.from) (omega (arith, inv.behind))
     (view c.args.shelf.now) (view c.loop-index.shelf) (view c.write_stretch-2.new.shelf) (inv.law h)
-    (c.write_stretch-2.ensures.law (inv.honest h))
+    (c.write_stretch-2.ensures.law (inv.keeps.honest h))
 
 pub returns-clause-law : goal.returns-clause-law
 returns-clause-law g c h =
@@ -31,7 +32,7 @@ returns-clause-law g c h =
     stretch_law c.args.target c.args.first c.args.run.now c.loop-index.from
     (length c.args.run.now - c.loop-index.from) (omega (arith, inv.behind))
     (view c.args.shelf.now) (view c.loop-index.shelf) (view c.write_stretch-2.new.shelf) (inv.law h)
-    (c.write_stretch-2.ensures.law (inv.honest h))
+    (c.write_stretch-2.ensures.law (inv.keeps.honest h))
 
 pub returns-clause-written : goal.returns-clause-written
 returns-clause-written g c h held =
@@ -40,7 +41,7 @@ returns-clause-written g c h held =
     rest_seen c.args.target c.args.first c.args.run.now c.loop-index.from
     (view c.args.shelf.now).seen (view c.loop-index.shelf).seen
     (view c.write_stretch-2.new.shelf).seen (omega (arith, inv.behind)) (inv.seen h held)
-    (c.in_ok-write_stretch-2.ensures.written (inv.honest h))
+    (c.in_ok-write_stretch-2.ensures.written (inv.keeps.honest h))
 
 pub loop-index-preserved : goal.loop-index-preserved
 loop-index-preserved g c =
@@ -55,13 +56,11 @@ loop-index-preserved g c =
           ≡ sector_of c.args.run.now c.loop-index.index = search rules in
           rw (w.shelf-is, w.from-is) (record {
             behind = omega arith;
-            count = omega (arith, inv.count, w.write_stretch.ensures.count);
-            honest = λ h. w.write_stretch.ensures.honest (inv.honest h);
-            size = w.write_stretch.ensures.size ∙ inv.size;
+            keeps = keeps_then g.H.Shelf _ _ _ inv.keeps w.write_stretch.ensures.keeps;
             law = λ h. stretch_law c.args.target c.args.first c.args.run.now c.loop-index.from
                 (c.loop-index.index - c.loop-index.from) (omega (arith, inv.behind))
                 old (view c.loop-index.shelf) (view w.write_stretch.new.shelf) (inv.law h)
-                (w.write_stretch.ensures.law (inv.honest h));
+                (w.write_stretch.ensures.law (inv.keeps.honest h));
             seen = λ h held. put_same c.args.target c.args.first c.args.run.now old.seen
                 (view w.write_stretch.new.shelf).seen c.loop-index.index
                 (sym equal ∙ held c.loop-index.index (omega (arith, c.requires.lengths)))
@@ -70,13 +69,11 @@ loop-index-preserved g c =
                 (stretch_seen c.args.target c.args.first c.args.run.now c.loop-index.from
                 (c.loop-index.index - c.loop-index.from) (omega (arith, inv.behind))
                 old.seen (view c.loop-index.shelf).seen (view w.write_stretch.new.shelf).seen
-                (inv.seen h held) (w.in_ok-write_stretch.ensures.written (inv.honest h))));
+                (inv.seen h held) (w.in_ok-write_stretch.ensures.written (inv.keeps.honest h))));
           })
       | else-same w ↦ rw (w.shelf-is, w.from-is) (record {
         behind = omega (arith, inv.behind);
-        count = inv.count;
-        honest = inv.honest;
-        size = inv.size;
+        keeps = inv.keeps;
         law = inv.law;
         seen = inv.seen;
       })

@@ -1,6 +1,7 @@
-use Rattle.std.proofs.Common.{◌≡◌, ◌≤◌}
+use Rattle.std.proofs.Common.{◌≤◌}
 use Rattle.gm_metadata.specs.Images.{Same}
 use Rattle.gm_shelf.specs.Disk.{IsRun, IsRunWrite}
+use Rattle.gm_shelf.specs.Keeping.{Keeps}
 use Rattle.gm_shelf.proofs.Runs.{put_upto}
 use Rattle.gm_apply.proofs.copy.write_changes.Given as goal
 
@@ -10,9 +11,7 @@ invariant-loop-index g l =
     let old = H.view l.fn.shelf in
     record {
       behind : l.from ≤ l.index;
-      count : old.faults ≤ (H.view l.shelf).faults;
-      honest : H.honest l.fn.shelf → H.honest l.shelf;
-      size : H.size l.shelf ≡ H.size l.fn.shelf;
+      keeps : Keeps H l.fn.shelf l.shelf;
       law : H.honest l.fn.shelf → IsRunWrite l.target l.first l.run old (H.view l.shelf);
       seen : H.honest l.fn.shelf → IsRun l.target l.first old.seen l.held
           → Same (H.view l.shelf).seen (put_upto l.target l.first l.run l.from old.seen);

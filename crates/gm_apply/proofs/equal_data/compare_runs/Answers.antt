@@ -1,5 +1,5 @@
-use Rattle.std.proofs.Common.{◌∙◌, ◌≡◌, ◌+◌, ℕ, arith, subst}
-use Rattle.gm_shelf.proofs.InTurn.{reads_then}
+use Rattle.std.proofs.Common.{◌≡◌, ◌+◌, ℕ, arith, subst}
+use Rattle.gm_shelf.proofs.Keeping.{only_then}
 use Rattle.gm_apply.proofs.EqualSectors.{AreEqualBelow, counted, equal_part, part_counted, same_part}
 use Rattle.gm_apply.proofs.equal_data.compare_runs.Goals as goal
 
@@ -14,8 +14,8 @@ returns-then-equal-sectors-clause-equal g c h =
     let sectors = c.min-sectors.result in
     let equal = c.in_ok-equal.equal in
     part_counted old source provider place sectors equal (inv.equal h)
-    (same_part old mid source provider place sectors equal (inv.reads h).quiet.seen
-    (c.in_ok-equal.ensures.equal (inv.honest h)))
+    (same_part old mid source provider place sectors equal (inv.only.reads h).quiet.seen
+    (c.in_ok-equal.ensures.equal (inv.only.keeps.honest h)))
     c.args.reach c.if-equal-sectors.true
 
 pub loop-place-preserved : goal.loop-place-preserved
@@ -35,15 +35,12 @@ loop-place-preserved g c =
     ) in
     record {
       within = omega arith;
-      count = omega (arith, inv.count, c.compare_run.ensures.count);
-      honest = λ h. c.compare_run.ensures.honest (inv.honest h);
-      size = c.compare_run.ensures.size ∙ inv.size;
-      reads = λ h. reads_then _ _ _ (inv.reads h) (c.compare_run.ensures.reads (inv.honest h));
+      only = only_then g.H.Shelf _ _ _ inv.only c.compare_run.ensures.only;
       equal = λ h.
           subst (λ (n : ℕ). AreEqualBelow old source provider (place + n)) whole
           (equal_part old source provider place sectors equal (inv.equal h)
-          (same_part old mid source provider place sectors equal (inv.reads h).quiet.seen
-          (c.in_ok-equal.ensures.equal (inv.honest h))));
+          (same_part old mid source provider place sectors equal (inv.only.reads h).quiet.seen
+          (c.in_ok-equal.ensures.equal (inv.only.keeps.honest h))));
     }
 
 pub returns-clause-equal : goal.returns-clause-equal

@@ -1,5 +1,5 @@
-use Rattle.std.proofs.Common.{◌≡◌, ◌≤◌, ◌-◌}
-use Rattle.gm_shelf.specs.Disk.{AreReads}
+use Rattle.std.proofs.Common.{◌≤◌, ◌-◌}
+use Rattle.gm_shelf.specs.Keeping.{ReadsOnly}
 use Rattle.gm_apply.proofs.EqualSectors.{AreEqualBelow}
 use Rattle.gm_apply.proofs.equal_data.compare_runs.Given as goal
 
@@ -9,10 +9,7 @@ invariant-loop-place g l =
     let old = H.view l.fn.shelf in
     record {
       within : l.place ≤ l.reach;
-      count : old.faults ≤ (H.view l.shelf).faults;
-      honest : H.honest l.fn.shelf → H.honest l.shelf;
-      size : H.size l.shelf ≡ H.size l.fn.shelf;
-      reads : H.honest l.fn.shelf → AreReads old (H.view l.shelf);
+      only : ReadsOnly H l.fn.shelf l.shelf;
       equal : H.honest l.fn.shelf → AreEqualBelow old.seen l.source l.provider l.place;
     }
 

@@ -1,6 +1,7 @@
-use Rattle.std.proofs.Common.{rules, ◌∙◌, arith, List, subst}
+use Rattle.std.proofs.Common.{rules, arith, List, subst}
 use Rattle.std.proofs.lemmas.List.{take_all}
 use Rattle.gm_metadata.specs.Images.{Sizes}
+use Rattle.gm_shelf.proofs.Keeping.{keeps_then}
 use Rattle.gm_state.specs.declared.intents.Intent.{Intent}
 use Rattle.gm_state.specs.Intents.{is_place}
 use Rattle.gm_apply.specs.Redo.{PlacesAreNew, KeepsOthers, LacksProvider, LacksSector, writes, is_written}
@@ -14,30 +15,28 @@ loop-intent-preserved g c =
     let view = g.H.Shelf.view in
     let size = g.H.Shelf.size in
     record {
-      count = omega (arith, c.loop-intent.invariant.count, c.apply_one.ensures.count);
-      honest = λ h. c.apply_one.ensures.honest (inv.honest h);
-      sizes = c.apply_one.ensures.size ∙ inv.sizes;
+      keeps = keeps_then g.H.Shelf _ _ _ inv.keeps c.apply_one.ensures.keeps;
       redone = λ h w redo.
           let so_far = inv.redone h w redo in
           index_redone c.args.state.now (size c.loop-intent.shelf)
-          (size c.args.shelf.now) inv.sizes c.args.intents.now c.loop-intent.intent-index
+          (size c.args.shelf.now) inv.keeps.size c.args.intents.now c.loop-intent.intent-index
           c.intent-item.result c.intent-item.is w (view c.args.shelf.now)
           (view c.loop-intent.shelf) (view c.apply_one.new.shelf) (omega arith) so_far
-          (c.in_ok-apply_one.ensures.done (inv.honest h) w
+          (c.in_ok-apply_one.ensures.done (inv.keeps.honest h) w
           (index_says c.args.state.now (size c.loop-intent.shelf)
-          (size c.args.shelf.now) inv.sizes c.args.intents.now c.loop-intent.intent-index
+          (size c.args.shelf.now) inv.keeps.size c.args.intents.now c.loop-intent.intent-index
           c.intent-item.result c.intent-item.is w (view c.args.shelf.now)
           (view c.loop-intent.shelf) (view c.apply_one.new.shelf) (omega arith) so_far redo));
       moments = λ h w redo.
           let so_far = inv.redone h w redo in
           index_moments c.args.state.now (size c.loop-intent.shelf)
-          (size c.args.shelf.now) inv.sizes c.args.intents.now c.loop-intent.intent-index
+          (size c.args.shelf.now) inv.keeps.size c.args.intents.now c.loop-intent.intent-index
           c.intent-item.result c.intent-item.is w (view c.args.shelf.now)
           (view c.loop-intent.shelf) (view c.apply_one.new.shelf) (omega arith) so_far
           (inv.moments h w redo)
-          (c.apply_one.ensures.moments (inv.honest h) w
+          (c.apply_one.ensures.moments (inv.keeps.honest h) w
           (index_says c.args.state.now (size c.loop-intent.shelf)
-          (size c.args.shelf.now) inv.sizes c.args.intents.now c.loop-intent.intent-index
+          (size c.args.shelf.now) inv.keeps.size c.args.intents.now c.loop-intent.intent-index
           c.intent-item.result c.intent-item.is w (view c.args.shelf.now)
           (view c.loop-intent.shelf) (view c.apply_one.new.shelf) (omega arith) so_far redo));
       others = λ h. keeps_trans (is_written c.args.state.now
@@ -50,8 +49,8 @@ loop-intent-preserved g c =
           c.intent-item.result (has_index c.args.intents.now c.loop-intent.intent-index
           c.intent-item.result c.intent-item.is (omega arith)))
           (subst (λ (z : Sizes). KeepsOthers (writes c.args.state.now z c.intent-item.result)
-          (view c.loop-intent.shelf) (view c.apply_one.new.shelf)) inv.sizes
-          (c.apply_one.ensures.others (inv.honest h))));
+          (view c.loop-intent.shelf) (view c.apply_one.new.shelf)) inv.keeps.size
+          (c.apply_one.ensures.others (inv.keeps.honest h))));
     }
 
 pub returns-in_err-apply_one-clause-moments : goal.returns-in_err-apply_one-clause-moments
@@ -61,12 +60,12 @@ returns-in_err-apply_one-clause-moments g c h w redo =
     let size = g.H.Shelf.size in
     let so_far = inv.redone h w redo in
     index_moments c.args.state.now (size c.loop-intent.shelf)
-    (size c.args.shelf.now) inv.sizes c.args.intents.now c.loop-intent.intent-index
+    (size c.args.shelf.now) inv.keeps.size c.args.intents.now c.loop-intent.intent-index
     c.intent-item.result c.intent-item.is w (view c.args.shelf.now) (view c.loop-intent.shelf)
     (view c.apply_one.new.shelf) (omega arith) so_far (inv.moments h w redo)
-    (c.apply_one.ensures.moments (inv.honest h) w
+    (c.apply_one.ensures.moments (inv.keeps.honest h) w
     (index_says c.args.state.now (size c.loop-intent.shelf)
-    (size c.args.shelf.now) inv.sizes c.args.intents.now c.loop-intent.intent-index
+    (size c.args.shelf.now) inv.keeps.size c.args.intents.now c.loop-intent.intent-index
     c.intent-item.result c.intent-item.is w (view c.args.shelf.now) (view c.loop-intent.shelf)
     (view c.apply_one.new.shelf) (omega arith) so_far redo))
 
@@ -85,7 +84,7 @@ returns-in_err-apply_one-clause-absent g c e =
       c.intent-item.result,
       has_index c.args.intents.now c.loop-intent.intent-index c.intent-item.result c.intent-item.is
           (omega arith),
-      subst (λ (z : Sizes). LacksProvider z c.intent-item.result) c.loop-intent.invariant.sizes
+      subst (λ (z : Sizes). LacksProvider z c.intent-item.result) c.loop-intent.invariant.keeps.size
           here,
     )
 
@@ -96,7 +95,8 @@ returns-in_err-apply_one-clause-range g c e =
       c.intent-item.result,
       has_index c.args.intents.now c.loop-intent.intent-index c.intent-item.result c.intent-item.is
           (omega arith),
-      subst (λ (z : Sizes). LacksSector z c.intent-item.result) c.loop-intent.invariant.sizes here,
+      subst (λ (z : Sizes). LacksSector z c.intent-item.result) c.loop-intent.invariant.keeps.size
+          here,
     )
 
 pub returns-in_err-apply_one-clause-others : goal.returns-in_err-apply_one-clause-others
@@ -114,5 +114,5 @@ returns-in_err-apply_one-clause-others g c h =
     (has_index c.args.intents.now c.loop-intent.intent-index c.intent-item.result
     c.intent-item.is (omega arith)))
     (subst (λ (z : Sizes). KeepsOthers (writes c.args.state.now z c.intent-item.result)
-    (view c.loop-intent.shelf) (view c.apply_one.new.shelf)) inv.sizes
-    (c.apply_one.ensures.others (inv.honest h))))
+    (view c.loop-intent.shelf) (view c.apply_one.new.shelf)) inv.keeps.size
+    (c.apply_one.ensures.others (inv.keeps.honest h))))

@@ -1,6 +1,7 @@
-use Rattle.std.proofs.Common.{◌≡◌, ◌≤◌, take}
+use Rattle.std.proofs.Common.{take}
 use Rattle.gm_metadata.specs.Images.{Image}
 use Rattle.gm_shelf.specs.Disk.{From}
+use Rattle.gm_shelf.specs.Keeping.{Keeps}
 use Rattle.gm_state.specs.Intents.{is_place, IsRedo}
 use Rattle.gm_apply.specs.Redo.{IsPartlyDone, CrashLeaves, PlacesAreNew, KeepsOthers, is_written}
 use Rattle.gm_apply.proofs.redo.apply.Given as goal
@@ -11,9 +12,7 @@ invariant-loop-intent g l =
     let old = H.view l.fn.shelf in
     let size = H.size l.fn.shelf in
     record {
-      count : old.faults ≤ (H.view l.shelf).faults;
-      honest : H.honest l.fn.shelf → H.honest l.shelf;
-      sizes : H.size l.shelf ≡ H.size l.fn.shelf;
+      keeps : Keeps H l.fn.shelf l.shelf;
       redone : H.honest l.fn.shelf → (w : Image) → IsRedo l.fn.state size l.intents old.seen w
           → PlacesAreNew (is_place size (take l.intent-index l.intents)) w old (H.view l.shelf);
       moments : H.honest l.fn.shelf → (w : Image) → IsRedo l.fn.state size l.intents old.seen w

@@ -1,6 +1,6 @@
-use Rattle.std.proofs.Common.{◌≡◌, ◌∙◌, ◌+◌, ◌<◌, ◌≤◌, true, false, List, get_or, length, take, sym, ap, subst, arith}
+use Rattle.std.proofs.Common.{◌≡◌, ◌∙◌, ◌+◌, ◌<◌, ◌≤◌, true, false, List, get_or, length, take, sym, ap, subst}
 use Rattle.gm_state.specs.declared.records.Component.{Component}
-use Rattle.gm_shelf.proofs.InTurn.{reads_then}
+use Rattle.gm_shelf.proofs.Keeping.{only_then}
 use Rattle.gm_bench.specs.Audits.{IsAsRegistered}
 use Rattle.gm_bench.proofs.Listed.{SoFar, all_looked_at, as_before, has_item, home_of, listed, passed}
 use Rattle.gm_bench.proofs.audit.amiss_on.Goals as goal
@@ -20,15 +20,13 @@ loop-component-preserved-then-branch g c =
     c.component-item.is ∙ ap (λ (l : List Component). get_or l i k) all.value in
     let home = home_of s all.state k (has_item s.components i k low is) in
     record {
-      honest = λ h. c.is_as_registered.ensures.honest (inv.honest h);
-      sizes = c.is_as_registered.ensures.size ∙ inv.sizes;
-      count = omega (arith, inv.count, c.is_as_registered.ensures.count);
-      reads = λ h. reads_then _ _ _ (inv.reads h) (c.is_as_registered.ensures.reads (inv.honest h));
+      only = only_then g.H.Shelf _ _ _ inv.only c.is_as_registered.ensures.looks.only;
       listed = λ h.
-          let told = c.in_ok-is_as_registered.ensures.told (inv.honest h) all.state home.0 home.1 in
+          let told = c.in_ok-is_as_registered.ensures.told (inv.only.keeps.honest h) all.state
+          home.0 home.1 in
           let same = as_before size (g.H.Shelf.size c.loop-component.shelf) seen
-          (g.H.Shelf.view c.loop-component.shelf).seen home.0 k inv.sizes
-          (inv.reads h).quiet.seen in
+          (g.H.Shelf.view c.loop-component.shelf).seen home.0 k inv.only.keeps.size
+          (inv.only.reads h).quiet.seen in
           passed s all.state size seen i k low is c.loop-component.names.items
           (inv.listed h) home.0 home.1 (same.0 (told.0 c.if-branch.true));
     }
@@ -48,15 +46,13 @@ loop-component-preserved g c =
     c.component-item.is ∙ ap (λ (l : List Component). get_or l i k) all.value in
     let home = home_of s all.state k (has_item s.components i k low is) in
     record {
-      honest = λ h. c.is_as_registered.ensures.honest (inv.honest h);
-      sizes = c.is_as_registered.ensures.size ∙ inv.sizes;
-      count = omega (arith, inv.count, c.is_as_registered.ensures.count);
-      reads = λ h. reads_then _ _ _ (inv.reads h) (c.is_as_registered.ensures.reads (inv.honest h));
+      only = only_then g.H.Shelf _ _ _ inv.only c.is_as_registered.ensures.looks.only;
       listed = λ h.
-          let told = c.in_ok-is_as_registered.ensures.told (inv.honest h) all.state home.0 home.1 in
+          let told = c.in_ok-is_as_registered.ensures.told (inv.only.keeps.honest h) all.state
+          home.0 home.1 in
           let same = as_before size (g.H.Shelf.size c.loop-component.shelf) seen
-          (g.H.Shelf.view c.loop-component.shelf).seen home.0 k inv.sizes
-          (inv.reads h).quiet.seen in
+          (g.H.Shelf.view c.loop-component.shelf).seen home.0 k inv.only.keeps.size
+          (inv.only.reads h).quiet.seen in
           let amiss : IsAsRegistered size seen home.0 k
           → ⊥ = λ a. (let both : true ≡ false = sym (told.1 (same.1 a)) ∙ c.if-branch.false in
           cc) in

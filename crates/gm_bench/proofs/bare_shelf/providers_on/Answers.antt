@@ -1,7 +1,7 @@
-use Rattle.std.proofs.Common.{◌≡◌, ◌∙◌, ◌+◌, ◌++◌, ◌∷◌, [], List, ℕ, take, None, sym, ap, subst, arith}
+use Rattle.std.proofs.Common.{◌≡◌, ◌∙◌, ◌+◌, ◌++◌, ◌∷◌, [], List, ℕ, take, None, sym, ap, subst}
 use Rattle.gm_metadata.specs.Images.{Sizes}
 use Rattle.gm_shelf.specs.Disk.{AreNames}
-use Rattle.gm_shelf.proofs.InTurn.{reads_then}
+use Rattle.gm_shelf.proofs.Keeping.{only_then}
 use Rattle.gm_taste.specs.declared.provider.Provider.{Provider}
 use Rattle.gm_bench.specs.ShelfFacts.{IsFact}
 use Rattle.gm_bench.specs.Shown.{provider_of}
@@ -24,23 +24,21 @@ loop-name-preserved g c =
     subst (λ (l : List (List ℕ)). AreNames size l) (sym c.deref-name-items.ensures.value)
     c.in-Ok.ensures in
     record {
-      honest = λ h. c.fact_of.ensures.honest (inv.honest h);
-      sizes = c.fact_of.ensures.size ∙ inv.sizes;
-      count = omega (arith, inv.count, c.fact_of.ensures.count);
-      reads = λ h. reads_then _ _ _ (inv.reads h) (c.fact_of.ensures.reads (inv.honest h));
+      only = only_then g.H.Shelf _ _ _ inv.only c.fact_of.ensures.looks.only;
       shown = λ h. elim c.match-branch-2.branch [
         | in-None w ↦
             let gone : size name ≡ None =
-            subst (λ (z : Sizes). z name ≡ None) inv.sizes
+            subst (λ (z : Sizes). z name ≡ None) inv.only.keeps.size
             (absent_found c.in_ok-fact_of.field-0 mid was None name w.in-None.is
-            (c.in_ok-fact_of.ensures.fact (inv.honest h))) in
+            (c.in_ok-fact_of.ensures.fact (inv.only.keeps.honest h))) in
             absurd (not_absent size seen names are i name c.loop-name-test.true c.name-item.is gone)
         | in-Some+in-Ok-push w ↦
             let f = w.in-Some.fact in
             let found = fact_found c.in_ok-fact_of.field-0 f mid was None name w.in-Some.is
-            (c.in_ok-fact_of.ensures.fact (inv.honest h)) in
+            (c.in_ok-fact_of.ensures.fact (inv.only.keeps.honest h)) in
             let fact : IsFact size seen None f =
-            moved size mid seen was None f inv.sizes (inv.reads h).quiet.seen found.0 in
+            moved size mid seen was None f inv.only.keeps.size (inv.only.reads h).quiet.seen found.0
+            in
             let more : c.match-branch-2.providers.items ≡ c.loop-name.providers.items
             ++ provider_of f ∷ [] =
             ap (λ v. v.items) w.providers-is ∙ (w.in-Ok-push.ensures.items

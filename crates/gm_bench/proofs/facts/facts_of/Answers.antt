@@ -4,7 +4,7 @@ use Rattle.gm_metadata.specs.Images.{Sizes}
 use Rattle.gm_lists.specs.Ordered.{Has}
 use Rattle.gm_refusals.specs.declared.facts.Fact.{Fact}
 use Rattle.gm_bench.specs.ShelfFacts.{IsFact, Tell}
-use Rattle.gm_shelf.proofs.InTurn.{reads_then}
+use Rattle.gm_shelf.proofs.Keeping.{only_then}
 use Rattle.gm_bench.proofs.FactsAreWorlds.{tell, moved, fact_found, absent_found, covered_more, has_either, has_left, has_last}
 use Rattle.gm_bench.proofs.facts.facts_of.Goals as goal
 use Rattle.gm_bench.proofs.facts.facts_of.Goals.{in-Some+in-Ok, in-None}
@@ -25,15 +25,13 @@ loop-name-preserved g c =
           let fact : g.H.Shelf.honest c.args.shelf.now
           → IsFact size seen against w.in-Some.fact × (w.in-Some.fact.provider ≡ name) = λ h. (
           let it = fact_found c.in_ok-fact_of.field-0 w.in-Some.fact mid was against name
-          w.in-Some.is (c.in_ok-fact_of.ensures.fact (inv.honest h)) in (
-            moved size mid seen was against w.in-Some.fact inv.sizes (inv.reads h).quiet.seen it.0,
+          w.in-Some.is (c.in_ok-fact_of.ensures.fact (inv.only.keeps.honest h)) in (
+            moved size mid seen was against w.in-Some.fact inv.only.keeps.size
+                (inv.only.reads h).quiet.seen it.0,
             it.1,
           )) in
           record {
-            honest = λ h. c.fact_of.ensures.honest (inv.honest h);
-            sizes = c.fact_of.ensures.size ∙ inv.sizes;
-            count = omega (arith, inv.count, c.fact_of.ensures.count);
-            reads = λ h. reads_then _ _ _ (inv.reads h) (c.fact_of.ensures.reads (inv.honest h));
+            only = only_then g.H.Shelf _ _ _ inv.only c.fact_of.ensures.looks.only;
             facts = λ h f has.
                 (elim (has_either c.loop-name.entries.items w.in-Some.fact f
                 (subst (λ (l : List Fact). Has l f) more has)) [
@@ -57,18 +55,15 @@ loop-name-preserved g c =
           let more : c.match-branch-2.entries.items ≡ c.loop-name.entries.items =
           ap (λ v. v.items) w.entries-is in
           record {
-            honest = λ h. c.fact_of.ensures.honest (inv.honest h);
-            sizes = c.fact_of.ensures.size ∙ inv.sizes;
-            count = omega (arith, inv.count, c.fact_of.ensures.count);
-            reads = λ h. reads_then _ _ _ (inv.reads h) (c.fact_of.ensures.reads (inv.honest h));
+            only = only_then g.H.Shelf _ _ _ inv.only c.fact_of.ensures.looks.only;
             facts = λ h f has. inv.facts h f (subst (λ (l : List Fact). Has l f) more has);
             covered = λ h q has. covered_more c.loop-name.entries.items
                 c.match-branch-2.entries.items size c.args.names.now c.loop-name.name-index name
                 (omega arith) c.name-item.is
                 (λ f k. subst (λ (l : List Fact). Has l f) (sym more) k)
-                (inl (subst (λ (z : Sizes). z name ≡ None) inv.sizes
+                (inl (subst (λ (z : Sizes). z name ≡ None) inv.only.keeps.size
                 (absent_found c.in_ok-fact_of.field-0 mid was against name w.in-None.is
-                (c.in_ok-fact_of.ensures.fact (inv.honest h))))) (inv.covered h) q has;
+                (c.in_ok-fact_of.ensures.fact (inv.only.keeps.honest h))))) (inv.covered h) q has;
           }
     ]
 

@@ -1,5 +1,5 @@
-use Rattle.std.proofs.Common.{◌≡◌, ◌≤◌, List, ℕ, take}
-use Rattle.gm_shelf.specs.Disk.{AreReads}
+use Rattle.std.proofs.Common.{List, ℕ, take}
+use Rattle.gm_shelf.specs.Keeping.{ReadsOnly}
 use Rattle.gm_lists.specs.Ordered.{Has}
 use Rattle.gm_refusals.specs.declared.facts.Fact.{Fact}
 use Rattle.gm_bench.specs.ShelfFacts.{IsFact}
@@ -11,10 +11,7 @@ invariant-loop-name g l =
     let H = g.H.Shelf in
     let old = H.view l.fn.shelf in
     record {
-      honest : H.honest l.fn.shelf → H.honest l.shelf;
-      sizes : H.size l.shelf ≡ H.size l.fn.shelf;
-      count : old.faults ≤ (H.view l.shelf).faults;
-      reads : H.honest l.fn.shelf → AreReads old (H.view l.shelf);
+      only : ReadsOnly H l.fn.shelf l.shelf;
       facts : H.honest l.fn.shelf → (f : Fact) → Has l.entries.items f
           → IsFact (H.size l.fn.shelf) old.seen l.against f;
       covered : H.honest l.fn.shelf → (q : List ℕ) → Has (take l.name-index l.names) q

@@ -8,7 +8,7 @@ returns-in-Err-clause-comes g c = λ honest kept away u at. (
   ap asked_of c.in-Call.is,
   record {
     left = c.in-Err.ensures.leaves honest kept away u at;
-    disk = λ is. c.in-Err.ensures.disk honest kept (ap Err is) away u at;
+    disk = λ is. c.in-Err.ensures.runs.disk honest kept away u at (ap Err is);
     readable = λ is found written. c.in-Err.ensures.readable honest kept
         (ap Err is) away u found written;
   },

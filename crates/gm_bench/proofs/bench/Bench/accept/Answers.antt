@@ -1,4 +1,4 @@
-use Rattle.std.proofs.Common.{◌≡◌, Err, ap, subst}
+use Rattle.std.proofs.Common.{rules, ◌≡◌, Err, ap, subst}
 use Rattle.gm_bench.specs.declared.fault.BenchFault.TheVariants.{Unreadable}
 use Rattle.gm_registry.proofs.CallsLeave.{saved}
 use Rattle.gm_bench.proofs.DecidesOnly.{unstepped_same}
@@ -15,13 +15,17 @@ returns-in_default-clause-leaves g c h clean away u at =
     c.args.key.now c.args.command.now
     (saved g.S.Store g.met.S.Store.settled r at.tables at.has).crash
 
-pub returns-in_default-clause-failed : goal.returns-in_default-clause-failed
-returns-in_default-clause-failed g c =
-    takes_failed c.args.self.now.progress c.requires c.in_default.not-Ready
-
-pub returns-in_default-clause-reopen : goal.returns-in_default-clause-reopen
-returns-in_default-clause-reopen g c is =
-    takes_failed c.args.self.now.progress c.requires c.in_default.not-Ready
+pub returns-in_default-clause-closes : goal.returns-in_default-clause-closes
+returns-in_default-clause-closes g c =
+    record {
+      closed = search rules;
+      reopen = λ is. (
+          takes_failed c.args.self.now.progress c.requires c.in_default.not-Ready);
+      failed = (
+          takes_failed c.args.self.now.progress c.requires c.in_default.not-Ready);
+      absent = search rules;
+      redone = search rules;
+    }
 
 pub returns-in-Ok-clause-answers : goal.returns-in-Ok-clause-answers
 returns-in-Ok-clause-answers g c h clean = (
@@ -36,6 +40,13 @@ returns-in-Err-clause-readable g c h clean is away u at written =
     let fault : c.in-Err.fault ≡ Unreadable = cc in
     c.in-Err.ensures.readable h clean (ap Err fault) away u at written
 
-pub returns-in-Ok-clause-undone : goal.returns-in-Ok-clause-undone
-returns-in-Ok-clause-undone g c clean undone =
-    c.in-Ok.ensures.undone clean (subst IsUndone c.tell-answer.ensures.0 undone)
+pub returns-in-Ok-clause-accepts : goal.returns-in-Ok-clause-accepts
+returns-in-Ok-clause-accepts g c =
+    record {
+      only = search rules;
+      disk = search rules;
+      kept = search rules;
+      undone = λ clean undone. (
+          c.in-Ok.ensures.accepts.undone clean (subst IsUndone c.tell-answer.ensures.0 undone));
+      clean = search rules;
+    }

@@ -1,4 +1,4 @@
-use Rattle.std.proofs.Common.{◌≡◌, ◌∙◌, Err, List, refl, sym, ap, subst}
+use Rattle.std.proofs.Common.{rules, ◌≡◌, ◌∙◌, Err, List, refl, sym, ap, subst}
 use Rattle.sqlite.specs.Held.{Held}
 use Rattle.gm_state.specs.declared.intents.Intent.{Intent}
 use Rattle.gm_bench.specs.declared.answer.Work.{Work}
@@ -39,13 +39,20 @@ returns-in-Ok-clause-does g c h work is =
     subst (λ (x : Work). (Applied c.in-Pending.work ≡ Applied x)
     × ApplyDoes g.S.Store view size r shelf after x) same (refl, does)
 
-pub returns-in-Pending-clause-disk : goal.returns-in-Pending-clause-disk
-returns-in-Pending-clause-disk g c told work is hand =
-    let size = g.H.Shelf.size c.args.self.now.media.shelf in
-    let hands : c.deref.result.now ≡ c.in-Pending.work.intents.items = c.deref.ensures.value in
-    let same : c.in-Pending.work ≡ work =
-    pending_work c.in-Pending.work work (sym c.in-Pending.is ∙ c.replace.ensures.value ∙ is) in
-    let here : AreAtHand size c.in-Pending.work.intents.items =
-    subst (λ (x : Work). AreAtHand size x.intents.items) (sym same) hand in
-    let fault : c.in-Err.fault ≡ Disk = cc in
-    c.in-Err.ensures.disk (subst (AreAtHand size) (sym hands) here) (ap Err fault)
+pub returns-in-Pending-clause-carries : goal.returns-in-Pending-clause-carries
+returns-in-Pending-clause-carries g c =
+    record {
+      keep = search rules;
+      unreadable = search rules;
+      disk = λ work is hand told. (
+          let size = g.H.Shelf.size c.args.self.now.media.shelf in
+          let hands : c.deref.result.now ≡ c.in-Pending.work.intents.items =
+          c.deref.ensures.value in
+          let same : c.in-Pending.work ≡ work =
+          pending_work c.in-Pending.work work (sym c.in-Pending.is ∙ c.replace.ensures.value ∙ is)
+          in
+          let here : AreAtHand size c.in-Pending.work.intents.items =
+          subst (λ (x : Work). AreAtHand size x.intents.items) (sym same) hand in
+          let fault : c.in-Err.fault ≡ Disk = cc in
+          c.in-Err.ensures.disk (subst (AreAtHand size) (sym hands) here) (ap Err fault));
+    }

@@ -1,4 +1,4 @@
-use Rattle.std.proofs.Common.{◌≡◌, [], Err, refl, sym, ap, subst}
+use Rattle.std.proofs.Common.{rules, ◌≡◌, [], Err, refl, sym, ap, subst}
 use Rattle.sqlite.specs.Held.{Held}
 use Rattle.gm_bench.specs.declared.fault.BenchFault.TheVariants.{Disk}
 use Rattle.gm_bench.specs.Recovering.{IsAt, IsAtWork, LeavesOnly}
@@ -15,8 +15,9 @@ returns-in-Ok-settle-clause-does g c h clean work is away u w at =
     IsAtWork g.S.Store view size r c.apply.new.self.media.shelf away work u w)
     (sym c.apply.ensures.registry) it.0 in
     subst (λ (k : g.row.H.Denot). IsAt g.S.Store view size c.settle.new.self.media.registry k away
-    [] w w) (sym c.settle.ensures.shelf)
-    ((c.in-Ok-settle.ensures.does (c.apply.ensures.honest h) clean work done.0).1 away u w at1 it.1)
+    [] w w) (sym c.settle.ensures.settles.shelf)
+    ((c.in-Ok-settle.ensures.does (c.apply.ensures.carries.keep.shelf.honest h) clean work done.0).1
+    away u w at1 it.1)
 
 pub returns-in-Ok-settle-clause-leaves : goal.returns-in-Ok-settle-clause-leaves
 returns-in-Ok-settle-clause-leaves g c h clean work is away u w at =
@@ -33,12 +34,13 @@ returns-in-Ok-settle-clause-leaves g c h clean work is away u w at =
     let first = subst (λ (x : Held g.row.S.Denot).
     LeavesOnly g.S.Store view size r x shelf after away u w) (sym c.apply.ensures.registry)
     (c.apply.ensures.leaves h work is away u w at) in
-    let second = c.settle.ensures.leaves (c.apply.ensures.honest h) clean work done.0 away u w at1
+    let second = c.settle.ensures.leaves (c.apply.ensures.carries.keep.shelf.honest h) clean work
+    done.0 away u w at1
     it.1 in
     subst (λ (k : g.row.H.Denot). LeavesOnly g.S.Store view size r c.settle.new.self.media.registry
-    shelf k away u w) (sym c.settle.ensures.shelf)
+    shelf k away u w) (sym c.settle.ensures.settles.shelf)
     (then_only g.S.Store view size r mid c.settle.new.self.media.registry shelf after after away u w
-    refl c.apply.ensures.size first second)
+    refl c.apply.ensures.carries.keep.shelf.size first second)
 
 pub returns-in-Err-settle-clause-leaves : goal.returns-in-Err-settle-clause-leaves
 returns-in-Err-settle-clause-leaves g c h clean work is away u w at =
@@ -55,12 +57,13 @@ returns-in-Err-settle-clause-leaves g c h clean work is away u w at =
     let first = subst (λ (x : Held g.row.S.Denot).
     LeavesOnly g.S.Store view size r x shelf after away u w) (sym c.apply.ensures.registry)
     (c.apply.ensures.leaves h work is away u w at) in
-    let second = c.settle.ensures.leaves (c.apply.ensures.honest h) clean work done.0 away u w at1
+    let second = c.settle.ensures.leaves (c.apply.ensures.carries.keep.shelf.honest h) clean work
+    done.0 away u w at1
     it.1 in
     subst (λ (k : g.row.H.Denot). LeavesOnly g.S.Store view size r c.settle.new.self.media.registry
-    shelf k away u w) (sym c.settle.ensures.shelf)
+    shelf k away u w) (sym c.settle.ensures.settles.shelf)
     (then_only g.S.Store view size r mid c.settle.new.self.media.registry shelf after after away u w
-    refl c.apply.ensures.size first second)
+    refl c.apply.ensures.carries.keep.shelf.size first second)
 
 pub returns-in-Err-clause-leaves : goal.returns-in-Err-clause-leaves
 returns-in-Err-clause-leaves g c h clean work is away u w at =
@@ -69,12 +72,22 @@ returns-in-Err-clause-leaves g c h clean work is away u w at =
     away u w) (sym c.apply.ensures.registry)
     (c.apply.ensures.leaves h work is away u w at)
 
-pub returns-in-Err-settle-clause-disk : goal.returns-in-Err-settle-clause-disk
-returns-in-Err-settle-clause-disk g c told =
-    let fault : c.in-Err-settle.fault ≡ Disk = cc in
-    absurd (c.in-Err-settle.ensures.disk (ap Err fault))
+pub returns-in-Err-settle-clause-carries : goal.returns-in-Err-settle-clause-carries
+returns-in-Err-settle-clause-carries g c =
+    record {
+      keep = search rules;
+      unreadable = search rules;
+      disk = λ work is hand told. (
+          let fault : c.in-Err-settle.fault ≡ Disk = cc in
+          absurd (c.in-Err-settle.ensures.settles.disk (ap Err fault)));
+    }
 
-pub returns-in-Err-clause-disk : goal.returns-in-Err-clause-disk
-returns-in-Err-clause-disk g c told work is hand =
-    let fault : c.in-Err.fault ≡ Disk = cc in
-    c.in-Err.ensures.disk (ap Err fault) work is hand
+pub returns-in-Err-clause-carries : goal.returns-in-Err-clause-carries
+returns-in-Err-clause-carries g c =
+    record {
+      keep = search rules;
+      unreadable = search rules;
+      disk = λ work is hand told. (
+          let fault : c.in-Err.fault ≡ Disk = cc in
+          c.in-Err.ensures.carries.disk work is hand (ap Err fault));
+    }

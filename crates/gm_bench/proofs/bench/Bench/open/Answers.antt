@@ -1,4 +1,4 @@
-use Rattle.std.proofs.Common.{◌≡◌, ◌∙◌, Err, refl, sym, ap, subst, arith}
+use Rattle.std.proofs.Common.{rules, ◌≡◌, ◌∙◌, Err, refl, sym, ap, subst, arith}
 use Rattle.sqlite.specs.Held.{Held}
 use Rattle.sqlite.specs.Tree.{Trees}
 use Rattle.gm_registry.specs.Registry.{CrashLeaves, DiskKept, LeavesAlone, stored}
@@ -16,50 +16,62 @@ returns-in-Err-clause-leaves g c h is_open clean away u w was =
     c.in-Err.e.store clean (c.in-Err.ensures.left_made is_open)
     (λ t holds. c.in-Err.ensures.left_found t is_open holds)
 
-pub returns-in-Err-clause-unreadable : goal.returns-in-Err-clause-unreadable
-returns-in-Err-clause-unreadable g c is_open clean is openable t s ts stands of =
-    absurd (c.in-Err.ensures.unreadable is_open clean
-    (of_unreadable c.in-Err.e.fault (sym c.of_store.ensures.value ∙ is)) openable)
+pub returns-in-Err-clause-unopened : goal.returns-in-Err-clause-unopened
+returns-in-Err-clause-unopened g c =
+    record {
+      absent = search rules;
+      disk = search rules;
+      unreadable = λ is_open clean is openable t s ts stands of. (
+          absurd (c.in-Err.ensures.unreadable is_open clean
+          (of_unreadable c.in-Err.e.fault (sym c.of_store.ensures.value ∙ is)) openable));
+      closed = search rules;
+      untouched = search rules;
+      alone = search rules;
+    }
 
-pub returns-in-Ok-take_up-clause-does : goal.returns-in-Ok-take_up-clause-does
-returns-in-Ok-take_up-clause-does g c h is_open clean away u w was =
-    let mid : DiskKept g.S.Store c.in-Ok.registry = omega (arith, clean, c.take_up.ensures.clean) in
-    let view = g.H.Shelf.view in
-    let sizes = g.H.Shelf.size in
-    let only : (db : Trees) → CrashLeaves g.S.Store c.args.store db
-    → db ≡ stored g.S.Store c.args.store =
-    λ db left. g.met.S.Store.settled c.args.store.store db is_open left in
-    let lawful = g.met.H.Shelf.lawful c.args.shelf h in
-    let at = reopened g.S.Store view sizes c.args.store c.args.shelf away u w lawful only
-    was.recovers c.in-Ok.registry was.sizes (λ empty. c.in-Ok.ensures.made is_open empty mid)
-    (λ t holds. c.in-Ok.ensures.found t is_open holds mid) in
-    (c.in-Ok-take_up.ensures.done h clean away was.recovers.intents u w at).1
-
-pub returns-in-Ok-take_up-clause-redone : goal.returns-in-Ok-take_up-clause-redone
-returns-in-Ok-take_up-clause-redone g c h is_open clean away u w was =
-    let mid : DiskKept g.S.Store c.in-Ok.registry = omega (arith, clean, c.take_up.ensures.clean) in
-    let view = g.H.Shelf.view in
-    let sizes = g.H.Shelf.size in
-    let only : (db : Trees) → CrashLeaves g.S.Store c.args.store db
-    → db ≡ stored g.S.Store c.args.store =
-    λ db left. g.met.S.Store.settled c.args.store.store db is_open left in
-    let lawful = g.met.H.Shelf.lawful c.args.shelf h in
-    let at = reopened g.S.Store view sizes c.args.store c.args.shelf away u w lawful only
-    was.recovers c.in-Ok.registry was.sizes (λ empty. c.in-Ok.ensures.made is_open empty mid)
-    (λ t holds. c.in-Ok.ensures.found t is_open holds mid) in
-    (c.in-Ok-take_up.ensures.done h clean away was.recovers.intents u w at).0
-
-pub returns-in-Ok-take_up-clause-there : goal.returns-in-Ok-take_up-clause-there
-returns-in-Ok-take_up-clause-there g c is_open clean t s ts stands of =
-    let mid : DiskKept g.S.Store c.in-Ok.registry = omega (arith, clean, c.take_up.ensures.clean) in
-    let has = opened_tables g.S.Store c.args.store c.in-Ok.registry
-    (λ empty. c.in-Ok.ensures.made is_open empty mid)
-    (λ t holds. c.in-Ok.ensures.found t is_open holds mid) t stands in
-    c.in-Ok-take_up.ensures.there clean t s ts has of
+pub returns-in-Ok-take_up-clause-opened : goal.returns-in-Ok-take_up-clause-opened
+returns-in-Ok-take_up-clause-opened g c =
+    record {
+      ready = search rules;
+      does = λ h is_open clean away u w was. (
+          let mid : DiskKept g.S.Store c.in-Ok.registry =
+          omega (arith, clean, c.take_up.ensures.keep.clean) in
+          let view = g.H.Shelf.view in
+          let sizes = g.H.Shelf.size in
+          let only : (db : Trees) → CrashLeaves g.S.Store c.args.store db
+          → db ≡ stored g.S.Store c.args.store =
+          λ db left. g.met.S.Store.settled c.args.store.store db is_open left in
+          let lawful = g.met.H.Shelf.lawful c.args.shelf h in
+          let at = reopened g.S.Store view sizes c.args.store c.args.shelf away u w lawful only
+          was.recovers c.in-Ok.registry was.sizes (λ empty. c.in-Ok.ensures.made is_open empty mid)
+          (λ t holds. c.in-Ok.ensures.found t is_open holds mid) in
+          (c.in-Ok-take_up.ensures.done h clean away was.recovers.intents u w at).1);
+      redone = λ h is_open clean away u w was. (
+          let mid : DiskKept g.S.Store c.in-Ok.registry =
+          omega (arith, clean, c.take_up.ensures.keep.clean) in
+          let view = g.H.Shelf.view in
+          let sizes = g.H.Shelf.size in
+          let only : (db : Trees) → CrashLeaves g.S.Store c.args.store db
+          → db ≡ stored g.S.Store c.args.store =
+          λ db left. g.met.S.Store.settled c.args.store.store db is_open left in
+          let lawful = g.met.H.Shelf.lawful c.args.shelf h in
+          let at = reopened g.S.Store view sizes c.args.store c.args.shelf away u w lawful only
+          was.recovers c.in-Ok.registry was.sizes (λ empty. c.in-Ok.ensures.made is_open empty mid)
+          (λ t holds. c.in-Ok.ensures.found t is_open holds mid) in
+          (c.in-Ok-take_up.ensures.done h clean away was.recovers.intents u w at).0);
+      there = λ is_open clean t s ts stands of. (
+          let mid : DiskKept g.S.Store c.in-Ok.registry =
+          omega (arith, clean, c.take_up.ensures.keep.clean) in
+          let has = opened_tables g.S.Store c.args.store c.in-Ok.registry
+          (λ empty. c.in-Ok.ensures.made is_open empty mid)
+          (λ t holds. c.in-Ok.ensures.found t is_open holds mid) t stands in
+          c.in-Ok-take_up.ensures.tells.there clean t s ts has of);
+    }
 
 pub returns-in-Ok-take_up-clause-leaves : goal.returns-in-Ok-take_up-clause-leaves
 returns-in-Ok-take_up-clause-leaves g c h is_open clean away u w was =
-    let mid : DiskKept g.S.Store c.in-Ok.registry = omega (arith, clean, c.take_up.ensures.clean) in
+    let mid : DiskKept g.S.Store c.in-Ok.registry =
+    omega (arith, clean, c.take_up.ensures.keep.clean) in
     let view = g.H.Shelf.view in
     let sizes = g.H.Shelf.size in
     let only : (db : Trees) → CrashLeaves g.S.Store c.args.store db
@@ -78,7 +90,8 @@ pub returns-in-Err-take_up-clause-leaves : goal.returns-in-Err-take_up-clause-le
 returns-in-Err-take_up-clause-leaves g c h is_open closed away u w was =
     let clean : DiskKept g.S.Store c.take_up.new.self.registry =
     subst (λ (k : Held g.row.S.Denot). DiskKept g.S.Store k) c.close.ensures closed in
-    let mid : DiskKept g.S.Store c.in-Ok.registry = omega (arith, clean, c.take_up.ensures.clean) in
+    let mid : DiskKept g.S.Store c.in-Ok.registry =
+    omega (arith, clean, c.take_up.ensures.keep.clean) in
     let view = g.H.Shelf.view in
     let sizes = g.H.Shelf.size in
     let only : (db : Trees) → CrashLeaves g.S.Store c.args.store db
@@ -95,59 +108,65 @@ returns-in-Err-take_up-clause-leaves g c h is_open closed away u w was =
     (c.take_up.ensures.moments h clean away was.recovers.intents u w at)
     (c.take_up.ensures.leaves h clean away was.recovers.intents u w at))
 
-pub returns-in-Err-take_up-clause-absent : goal.returns-in-Err-take_up-clause-absent
-returns-in-Err-take_up-clause-absent g c is_open closed p is t s ts stands of =
-    let clean : DiskKept g.S.Store c.take_up.new.self.registry =
-    subst (λ (k : Held g.row.S.Denot). DiskKept g.S.Store k) c.close.ensures closed in
-    let mid : DiskKept g.S.Store c.in-Ok.registry = omega (arith, clean, c.take_up.ensures.clean) in
-    let has = opened_tables g.S.Store c.args.store c.in-Ok.registry
-    (λ empty. c.in-Ok.ensures.made is_open empty mid)
-    (λ t holds. c.in-Ok.ensures.found t is_open holds mid) t stands in
-    c.in-Err-take_up.ensures.absent clean p (ap Err is) t s ts has of
-
-pub returns-in-Err-take_up-clause-disk : goal.returns-in-Err-take_up-clause-disk
-returns-in-Err-take_up-clause-disk g c is_open closed is t stands =
-    let clean : DiskKept g.S.Store c.take_up.new.self.registry =
-    subst (λ (k : Held g.row.S.Denot). DiskKept g.S.Store k) c.close.ensures closed in
-    let mid : DiskKept g.S.Store c.in-Ok.registry = omega (arith, clean, c.take_up.ensures.clean) in
-    let has = opened_tables g.S.Store c.args.store c.in-Ok.registry
-    (λ empty. c.in-Ok.ensures.made is_open empty mid)
-    (λ t holds. c.in-Ok.ensures.found t is_open holds mid) t stands in
-    c.in-Err-take_up.ensures.disk clean (ap Err is) t has
-
-pub returns-in-Err-take_up-clause-unreadable : goal.returns-in-Err-take_up-clause-unreadable
-returns-in-Err-take_up-clause-unreadable g c is_open closed is openable t s ts stands of =
-    let clean : DiskKept g.S.Store c.take_up.new.self.registry =
-    subst (λ (k : Held g.row.S.Denot). DiskKept g.S.Store k) c.close.ensures closed in
-    let mid : DiskKept g.S.Store c.in-Ok.registry = omega (arith, clean, c.take_up.ensures.clean) in
-    let has = opened_tables g.S.Store c.args.store c.in-Ok.registry
-    (λ empty. c.in-Ok.ensures.made is_open empty mid)
-    (λ t holds. c.in-Ok.ensures.found t is_open holds mid) t stands in
-    c.in-Err-take_up.ensures.unreadable clean (ap Err is) t s ts has of
+pub returns-in-Err-take_up-clause-unopened : goal.returns-in-Err-take_up-clause-unopened
+returns-in-Err-take_up-clause-unopened g c =
+    record {
+      absent = λ is_open closed p is t s ts stands of. (
+          let clean : DiskKept g.S.Store c.take_up.new.self.registry =
+          subst (λ (k : Held g.row.S.Denot). DiskKept g.S.Store k) c.close.ensures closed in
+          let mid : DiskKept g.S.Store c.in-Ok.registry =
+          omega (arith, clean, c.take_up.ensures.keep.clean) in
+          let has = opened_tables g.S.Store c.args.store c.in-Ok.registry
+          (λ empty. c.in-Ok.ensures.made is_open empty mid)
+          (λ t holds. c.in-Ok.ensures.found t is_open holds mid) t stands in
+          c.in-Err-take_up.ensures.tells.absent clean p (ap Err is) t s ts has of);
+      disk = λ is_open closed is t stands. (
+          let clean : DiskKept g.S.Store c.take_up.new.self.registry =
+          subst (λ (k : Held g.row.S.Denot). DiskKept g.S.Store k) c.close.ensures closed in
+          let mid : DiskKept g.S.Store c.in-Ok.registry =
+          omega (arith, clean, c.take_up.ensures.keep.clean) in
+          let has = opened_tables g.S.Store c.args.store c.in-Ok.registry
+          (λ empty. c.in-Ok.ensures.made is_open empty mid)
+          (λ t holds. c.in-Ok.ensures.found t is_open holds mid) t stands in
+          c.in-Err-take_up.ensures.tells.disk clean t has (ap Err is));
+      unreadable = λ is_open closed is openable t s ts stands of. (
+          let clean : DiskKept g.S.Store c.take_up.new.self.registry =
+          subst (λ (k : Held g.row.S.Denot). DiskKept g.S.Store k) c.close.ensures closed in
+          let mid : DiskKept g.S.Store c.in-Ok.registry =
+          omega (arith, clean, c.take_up.ensures.keep.clean) in
+          let has = opened_tables g.S.Store c.args.store c.in-Ok.registry
+          (λ empty. c.in-Ok.ensures.made is_open empty mid)
+          (λ t holds. c.in-Ok.ensures.found t is_open holds mid) t stands in
+          c.in-Err-take_up.ensures.tells.unreadable clean (ap Err is) t s ts has of);
+      closed = search rules;
+      untouched = search rules;
+      alone = λ is_open sound closed before. (
+          let clean : DiskKept g.S.Store c.take_up.new.self.registry =
+          subst (λ (k : Held g.row.S.Denot). DiskKept g.S.Store k) c.close.ensures closed in
+          let mid : DiskKept g.S.Store c.in-Ok.registry =
+          omega (arith, clean, c.take_up.ensures.keep.clean) in
+          let is = c.in-Ok.ensures.registry is_open sound mid in
+          subst (λ (k : Held g.row.S.Denot). LeavesAlone g.S.Store c.args.store k)
+          (sym c.close.ensures)
+          (alone_then g.S.Store c.args.store c.in-Ok.registry c.take_up.new.self.registry is
+          c.take_up.ensures.keep.clean (c.in-Ok.ensures.untouched is_open sound)
+          (c.in-Err-take_up.ensures.before.registry before is)));
+    }
 
 pub returns-in-Err-clause-foreign : goal.returns-in-Err-clause-foreign
 returns-in-Err-clause-foreign g c is_open foreign clean =
     (c.in-Err.ensures.foreign is_open foreign, refl)
 
-pub returns-in-Err-take_up-clause-alone : goal.returns-in-Err-take_up-clause-alone
-returns-in-Err-take_up-clause-alone g c is_open sound closed before =
-    let clean : DiskKept g.S.Store c.take_up.new.self.registry =
-    subst (λ (k : Held g.row.S.Denot). DiskKept g.S.Store k) c.close.ensures closed in
-    let mid : DiskKept g.S.Store c.in-Ok.registry = omega (arith, clean, c.take_up.ensures.clean) in
-    let is = c.in-Ok.ensures.registry is_open sound mid in
-    subst (λ (k : Held g.row.S.Denot). LeavesAlone g.S.Store c.args.store k) (sym c.close.ensures)
-    (alone_then g.S.Store c.args.store c.in-Ok.registry c.take_up.new.self.registry is
-    c.take_up.ensures.clean (c.in-Ok.ensures.untouched is_open sound)
-    (c.in-Err-take_up.ensures.alone before is))
-
 pub returns-in-Err-take_up-clause-foreign : goal.returns-in-Err-take_up-clause-foreign
 returns-in-Err-take_up-clause-foreign g c is_open foreign closed =
     let clean : DiskKept g.S.Store c.take_up.new.self.registry =
     subst (λ (k : Held g.row.S.Denot). DiskKept g.S.Store k) c.close.ensures closed in
-    let mid : DiskKept g.S.Store c.in-Ok.registry = omega (arith, clean, c.take_up.ensures.clean) in
+    let mid : DiskKept g.S.Store c.in-Ok.registry =
+    omega (arith, clean, c.take_up.ensures.keep.clean) in
     absurd (c.in-Ok.ensures.refuses is_open foreign mid)
 
 pub returns-in-Ok-take_up-clause-foreign : goal.returns-in-Ok-take_up-clause-foreign
 returns-in-Ok-take_up-clause-foreign g c is_open foreign clean =
-    let mid : DiskKept g.S.Store c.in-Ok.registry = omega (arith, clean, c.take_up.ensures.clean) in
+    let mid : DiskKept g.S.Store c.in-Ok.registry =
+    omega (arith, clean, c.take_up.ensures.keep.clean) in
     absurd (c.in-Ok.ensures.refuses is_open foreign mid)

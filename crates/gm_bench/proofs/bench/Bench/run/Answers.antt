@@ -1,4 +1,4 @@
-use Rattle.std.proofs.Common.{◌≡◌, ◌∙◌, ◌<◌, Err, inl, refl, sym, ap, arith}
+use Rattle.std.proofs.Common.{rules, ◌≡◌, ◌∙◌, ◌<◌, Err, inl, refl, sym, ap, arith}
 use Rattle.gm_registry.specs.Registry.{DiskKept}
 use Rattle.gm_bench.specs.declared.fault.BenchFault.TheVariants.{Disk}
 use Rattle.gm_bench.proofs.Phases.{not_pending}
@@ -10,14 +10,14 @@ use Rattle.gm_bench.specs.Phases.{phase_after}
 pub returns-in-Ok-carry_out-clause-answers : goal.returns-in-Ok-carry_out-clause-answers
 returns-in-Ok-carry_out-clause-answers g c h clean =
     let mid : DiskKept g.S.Store c.accept.new.self.media.registry =
-    omega (arith, clean, c.carry_out.ensures.clean) in
+    omega (arith, clean, c.carry_out.ensures.carries.keep.clean) in
     let told = c.in-Ok.ensures.answers h mid in
     let pending = sym c.phase.ensures ∙ c.in-Pending.is in
     carried_answers g.S.Store g.H.Shelf.view g.H.Shelf.size c.args.self.now.media.registry
     c.accept.new.self.media.registry c.args.self.now.media.shelf c.accept.new.self.media.shelf
     c.args.key.now c.args.command.now c.in-Ok.answer c.accept.new.self.progress told pending
     c.carry_out.new.self.media.registry c.carry_out.new.self.media.shelf
-    (c.in-Ok-carry_out.ensures.does (c.accept.ensures.honest h) clean
+    (c.in-Ok-carry_out.ensures.does (c.accept.ensures.accepts.only.keeps.honest h) clean
     (work g.S.Store g.H.Shelf.view g.H.Shelf.size c.args.self.now.media.registry
     c.accept.new.self.media.registry c.args.self.now.media.shelf c.accept.new.self.media.shelf
     c.args.key.now c.args.command.now c.in-Ok.answer c.accept.new.self.progress told pending)
@@ -28,15 +28,16 @@ returns-in-Ok-carry_out-clause-answers g c h clean =
 pub returns-in-Ok-carry_out-clause-leaves : goal.returns-in-Ok-carry_out-clause-leaves
 returns-in-Ok-carry_out-clause-leaves g c h clean =
     let mid : DiskKept g.S.Store c.accept.new.self.media.registry =
-    omega (arith, clean, c.carry_out.ensures.clean) in
+    omega (arith, clean, c.carry_out.ensures.carries.keep.clean) in
     let told = c.in-Ok.ensures.answers h mid in
     let pending = sym c.phase.ensures ∙ c.in-Pending.is in
     carried_leaves g.S.Store g.H.Shelf.view g.H.Shelf.size c.args.self.now.media.registry
     c.accept.new.self.media.registry c.args.self.now.media.shelf c.accept.new.self.media.shelf
     c.args.key.now c.args.command.now c.in-Ok.answer c.accept.new.self.progress told pending
-    c.carry_out.new.self.media.registry c.carry_out.new.self.media.shelf c.accept.ensures.size
+    c.carry_out.new.self.media.registry c.carry_out.new.self.media.shelf
+    c.accept.ensures.accepts.only.keeps.size
     (c.accept.ensures.leaves h mid)
-    (c.carry_out.ensures.leaves (c.accept.ensures.honest h) clean
+    (c.carry_out.ensures.leaves (c.accept.ensures.accepts.only.keeps.honest h) clean
     (work g.S.Store g.H.Shelf.view g.H.Shelf.size c.args.self.now.media.registry
     c.accept.new.self.media.registry c.args.self.now.media.shelf c.accept.new.self.media.shelf
     c.args.key.now c.args.command.now c.in-Ok.answer c.accept.new.self.progress told pending)
@@ -47,15 +48,16 @@ returns-in-Ok-carry_out-clause-leaves g c h clean =
 pub returns-in-Err-carry_out-clause-leaves : goal.returns-in-Err-carry_out-clause-leaves
 returns-in-Err-carry_out-clause-leaves g c h clean =
     let mid : DiskKept g.S.Store c.accept.new.self.media.registry =
-    omega (arith, clean, c.carry_out.ensures.clean) in
+    omega (arith, clean, c.carry_out.ensures.carries.keep.clean) in
     let told = c.in-Ok.ensures.answers h mid in
     let pending = sym c.phase.ensures ∙ c.in-Pending.is in
     carried_leaves g.S.Store g.H.Shelf.view g.H.Shelf.size c.args.self.now.media.registry
     c.accept.new.self.media.registry c.args.self.now.media.shelf c.accept.new.self.media.shelf
     c.args.key.now c.args.command.now c.in-Ok.answer c.accept.new.self.progress told pending
-    c.carry_out.new.self.media.registry c.carry_out.new.self.media.shelf c.accept.ensures.size
+    c.carry_out.new.self.media.registry c.carry_out.new.self.media.shelf
+    c.accept.ensures.accepts.only.keeps.size
     (c.accept.ensures.leaves h mid)
-    (c.carry_out.ensures.leaves (c.accept.ensures.honest h) clean
+    (c.carry_out.ensures.leaves (c.accept.ensures.accepts.only.keeps.honest h) clean
     (work g.S.Store g.H.Shelf.view g.H.Shelf.size c.args.self.now.media.registry
     c.accept.new.self.media.registry c.args.self.now.media.shelf c.accept.new.self.media.shelf
     c.args.key.now c.args.command.now c.in-Ok.answer c.accept.new.self.progress told pending)
@@ -84,7 +86,7 @@ returns-in_default-clause-leaves g c h clean away u at =
     record {
       registry = c.accept.new.self.media.registry;
       shelf = c.accept.new.self.media.shelf;
-      sizes = c.accept.ensures.size;
+      sizes = c.accept.ensures.accepts.only.keeps.size;
       accepting = c.accept.ensures.leaves h clean away u at;
       carrying = inl (refl, refl);
     }
@@ -94,43 +96,61 @@ returns-in-Err-clause-leaves g c h clean away u at =
     record {
       registry = c.accept.new.self.media.registry;
       shelf = c.accept.new.self.media.shelf;
-      sizes = c.accept.ensures.size;
+      sizes = c.accept.ensures.accepts.only.keeps.size;
       accepting = c.accept.ensures.leaves h clean away u at;
       carrying = inl (refl, refl);
     }
 
-pub returns-in-Err-carry_out-clause-disk : goal.returns-in-Err-carry_out-clause-disk
-returns-in-Err-carry_out-clause-disk g c h clean told away u at =
-    let view = g.H.Shelf.view in
-    let mid : DiskKept g.S.Store c.accept.new.self.media.registry =
-    omega (arith, clean, c.carry_out.ensures.clean) in
-    let answers = c.in-Ok.ensures.answers h mid in
-    let pending = sym c.phase.ensures ∙ c.in-Pending.is in
-    let fault : c.in-Err-carry_out.fault ≡ Disk = cc in
-    let left = done g.S.Store view g.H.Shelf.size c.args.self.now.media.registry
-    c.accept.new.self.media.registry c.args.self.now.media.shelf c.accept.new.self.media.shelf
-    c.args.key.now c.args.command.now c.in-Ok.answer c.accept.new.self.progress answers pending
-    away u at in
-    let more : (view c.accept.new.self.media.shelf).faults
-    < (view c.carry_out.new.self.media.shelf).faults =
-    c.in-Err-carry_out.ensures.disk (ap Err fault)
-    (work g.S.Store view g.H.Shelf.size c.args.self.now.media.registry
-    c.accept.new.self.media.registry c.args.self.now.media.shelf c.accept.new.self.media.shelf
-    c.args.key.now c.args.command.now c.in-Ok.answer c.accept.new.self.progress answers pending)
-    (is_work g.S.Store view g.H.Shelf.size c.args.self.now.media.registry
-    c.accept.new.self.media.registry c.args.self.now.media.shelf c.accept.new.self.media.shelf
-    c.args.key.now c.args.command.now c.in-Ok.answer c.accept.new.self.progress answers pending)
-    left.at.at.at_hand in
-    omega (arith, c.accept.ensures.count, more)
+pub returns-in-Err-carry_out-clause-runs : goal.returns-in-Err-carry_out-clause-runs
+returns-in-Err-carry_out-clause-runs g c =
+    record {
+      keep = search rules;
+      undone = search rules;
+      disk = λ h clean away u at told. (
+          let view = g.H.Shelf.view in
+          let mid : DiskKept g.S.Store c.accept.new.self.media.registry =
+          omega (arith, clean, c.carry_out.ensures.carries.keep.clean) in
+          let answers = c.in-Ok.ensures.answers h mid in
+          let pending = sym c.phase.ensures ∙ c.in-Pending.is in
+          let fault : c.in-Err-carry_out.fault ≡ Disk = cc in
+          let left = done g.S.Store view g.H.Shelf.size c.args.self.now.media.registry
+          c.accept.new.self.media.registry c.args.self.now.media.shelf c.accept.new.self.media.shelf
+          c.args.key.now c.args.command.now c.in-Ok.answer c.accept.new.self.progress answers
+          pending
+          away u at in
+          let more : (view c.accept.new.self.media.shelf).faults
+          < (view c.carry_out.new.self.media.shelf).faults =
+          c.in-Err-carry_out.ensures.carries.disk
+          (work g.S.Store view g.H.Shelf.size c.args.self.now.media.registry
+          c.accept.new.self.media.registry c.args.self.now.media.shelf c.accept.new.self.media.shelf
+          c.args.key.now c.args.command.now c.in-Ok.answer c.accept.new.self.progress answers
+          pending)
+          (is_work g.S.Store view g.H.Shelf.size c.args.self.now.media.registry
+          c.accept.new.self.media.registry c.args.self.now.media.shelf c.accept.new.self.media.shelf
+          c.args.key.now c.args.command.now c.in-Ok.answer c.accept.new.self.progress answers
+          pending)
+          left.at.at.at_hand (ap Err fault) in
+          omega (arith, c.accept.ensures.accepts.only.keeps.count, more));
+    }
 
-pub returns-in-Err-clause-disk : goal.returns-in-Err-clause-disk
-returns-in-Err-clause-disk g c h clean told away u at =
-    let fault : c.in-Err.fault ≡ Disk = cc in
-    c.in-Err.ensures.disk (ap Err fault)
+pub returns-in-Err-clause-runs : goal.returns-in-Err-clause-runs
+returns-in-Err-clause-runs g c =
+    record {
+      keep = search rules;
+      undone = search rules;
+      disk = λ h clean away u at told. (
+          let fault : c.in-Err.fault ≡ Disk = cc in
+          c.in-Err.ensures.accepts.disk (ap Err fault));
+    }
 
-pub returns-in-Ok-carry_out-clause-undone : goal.returns-in-Ok-carry_out-clause-undone
-returns-in-Ok-carry_out-clause-undone g c clean undone =
-    let pending : phase_after c.in-Ok.answer ≡ phase.Pending =
-    sym c.in-Ok.ensures.phase ∙ (sym c.phase.ensures ∙ c.in-Pending.is) in
-    let none : ⊥ = cc in
-    absurd none
+pub returns-in-Ok-carry_out-clause-runs : goal.returns-in-Ok-carry_out-clause-runs
+returns-in-Ok-carry_out-clause-runs g c =
+    record {
+      keep = search rules;
+      undone = λ clean undone. (
+          let pending : phase_after c.in-Ok.answer ≡ phase.Pending =
+          sym c.in-Ok.ensures.phase ∙ (sym c.phase.ensures ∙ c.in-Pending.is) in
+          let none : ⊥ = cc in
+          absurd none);
+      disk = search rules;
+    }

@@ -23,6 +23,13 @@ returns-in-Ok-clause-readable g c h clean is away u at written =
     let key_ok : is_key c.args.key.now ≡ true = search rules in
     c.answer.ensures.readable h clean is away u key_ok c.in-Ok.ensures.fits at written
 
-pub returns-then-not-is_key-clause-undone : goal.returns-then-not-is_key-clause-undone
-returns-then-not-is_key-clause-undone g c clean undone =
-    reads_none g.S.Store g.met.S.Store.settled c.args.self.now.registry
+pub returns-then-not-is_key-clause-accepts : goal.returns-then-not-is_key-clause-accepts
+returns-then-not-is_key-clause-accepts g c =
+    record {
+      only = search rules;
+      disk = search rules;
+      kept = search rules;
+      undone = λ clean undone. (
+          reads_none g.S.Store g.met.S.Store.settled c.args.self.now.registry);
+      clean = search rules;
+    }

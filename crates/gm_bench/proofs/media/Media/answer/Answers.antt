@@ -1,4 +1,4 @@
-use Rattle.std.proofs.Common.{◌≡◌, ◌≢◌, ◌∙◌, ℕ, refl, sym, subst, subst₂, arith, string_bytes, true≢false}
+use Rattle.std.proofs.Common.{rules, ◌≡◌, ◌≢◌, ◌∙◌, ℕ, refl, sym, subst, subst₂, arith, string_bytes, true≢false}
 use Rattle.std.specs.Prelude.{MatchOption}
 use Rattle.gm_lists.proofs.Order.{same_is, same_from}
 use Rattle.gm_rules.specs.AbstractCalls as run
@@ -40,7 +40,7 @@ returns-clause-leaves g c h clean away u words key_ok fits at =
 pub returns-in-Ok-None-clause-leaves : goal.returns-in-Ok-None-clause-leaves
 returns-in-Ok-None-clause-leaves g c h clean away u words key_ok fits at =
     let asked : DiskKept g.S.Store c.reply_of.new.self =
-    omega (arith, clean, c.decide.ensures.clean) in
+    omega (arith, clean, c.decide.ensures.accepts.clean) in
     let lawful = g.met.H.Shelf.lawful c.args.self.now.shelf h in
     let f = c.in-Ok-None.ensures.found asked at.tables at.has in
     let free : IsFree at.tables c.args.key.now =
@@ -54,7 +54,7 @@ returns-in-Ok-None-clause-leaves g c h clean away u words key_ok fits at =
     then_step g.S.Store g.H.Shelf.view g.H.Shelf.size c.args.self.now.registry c.args.self.now.shelf
     c.args.self.now.shelf away u at lawful quiet refl c.reply_of.new.self
     c.decide.new.self.registry c.decide.new.self.shelf c.args.key.now c.args.command.now
-    (c.decide.ensures.reads h).quiet
+    (c.decide.ensures.accepts.only.reads h).quiet
     (saved g.S.Store g.met.S.Store.settled c.args.self.now.registry at.tables at.has).crash
     (c.decide.ensures.leaves h clean away u words key_ok fits at1 free)
 
@@ -62,7 +62,7 @@ pub returns-in-Ok-None-clause-done : goal.returns-in-Ok-None-clause-done
 returns-in-Ok-None-clause-done g c h clean =
     ok_then _ _ (λ a answered away u words key_ok fits at. (
     let asked : DiskKept g.S.Store c.reply_of.new.self =
-    omega (arith, clean, c.decide.ensures.clean) in
+    omega (arith, clean, c.decide.ensures.accepts.clean) in
     let lawful = g.met.H.Shelf.lawful c.args.self.now.shelf h in
     let f = c.in-Ok-None.ensures.found asked at.tables at.has in
     let free : IsFree at.tables c.args.key.now =
@@ -129,7 +129,7 @@ returns-in-Ok-Some-clause-done g c h clean away u words key_ok fits at =
 pub returns-in-Ok-None-clause-readable : goal.returns-in-Ok-None-clause-readable
 returns-in-Ok-None-clause-readable g c h clean is away u key_ok fits at written =
     let asked : DiskKept g.S.Store c.reply_of.new.self =
-    omega (arith, clean, c.decide.ensures.clean) in
+    omega (arith, clean, c.decide.ensures.accepts.clean) in
     let lawful = g.met.H.Shelf.lawful c.args.self.now.shelf h in
     let f = c.in-Ok-None.ensures.found asked at.tables at.has in
     let free : IsFree at.tables c.args.key.now =
@@ -142,18 +142,26 @@ returns-in-Ok-None-clause-readable g c h clean is away u key_ok fits at written 
     f.1.tables in
     c.decide.ensures.readable h clean is away u key_ok fits at1 free
 
-pub returns-in-Ok-None-clause-kept : goal.returns-in-Ok-None-clause-kept
-returns-in-Ok-None-clause-kept g c clean is t has =
-    let asked : DiskKept g.S.Store c.reply_of.new.self =
-    omega (arith, clean, c.decide.ensures.clean) in
-    let found = c.in-Ok-None.ensures.found asked t has in
-    nothing_then g.S.Store c.args.self.now.registry c.reply_of.new.self c.decide.new.self.registry
-    (c.reply_of.ensures.reads.left t has) (c.decide.ensures.kept clean is t found.1.tables)
-
-pub returns-in-Ok-None-clause-undone : goal.returns-in-Ok-None-clause-undone
-returns-in-Ok-None-clause-undone g c clean =
-    let asked : DiskKept g.S.Store c.reply_of.new.self =
-    omega (arith, clean, c.decide.ensures.clean) in
-    ok_then _ _ (λ a reads undone. reads_then g.S.Store c.args.self.now.registry c.reply_of.new.self
-    c.decide.new.self.registry (λ t has. (c.in-Ok-None.ensures.found asked t has).1.tables)
-    c.reply_of.ensures.reads (reads undone)) c.decide.result (c.decide.ensures.undone clean)
+pub returns-in-Ok-None-clause-accepts : goal.returns-in-Ok-None-clause-accepts
+returns-in-Ok-None-clause-accepts g c =
+    record {
+      only = search rules;
+      disk = search rules;
+      kept = λ clean is t has. (
+          let asked : DiskKept g.S.Store c.reply_of.new.self =
+          omega (arith, clean, c.decide.ensures.accepts.clean) in
+          let found = c.in-Ok-None.ensures.found asked t has in
+          nothing_then g.S.Store c.args.self.now.registry c.reply_of.new.self
+          c.decide.new.self.registry
+          (c.reply_of.ensures.reads.left t has) (c.decide.ensures.accepts.kept clean is t
+          found.1.tables));
+      undone = λ clean. (
+          let asked : DiskKept g.S.Store c.reply_of.new.self =
+          omega (arith, clean, c.decide.ensures.accepts.clean) in
+          ok_then _ _ (λ a reads undone. reads_then g.S.Store c.args.self.now.registry
+          c.reply_of.new.self
+          c.decide.new.self.registry (λ t has. (c.in-Ok-None.ensures.found asked t has).1.tables)
+          c.reply_of.ensures.reads (reads undone)) c.decide.result (c.decide.ensures.accepts.undone
+          clean));
+      clean = search rules;
+    }

@@ -25,7 +25,7 @@ returns-in-Ok-clause-leaves g c h away u w at cover =
     c.apply.new.shelf away c.args.intents.now u w at
     (g.met.H.Shelf.lawful c.args.self.now.shelf h) c.args.part.now cover
     (c.apply.ensures.moments h)
-    (g.met.H.Shelf.lawful c.apply.new.shelf (c.apply.ensures.honest h))
+    (g.met.H.Shelf.lawful c.apply.new.shelf (c.apply.ensures.keeps.honest h))
     (saved g.S.Store g.met.S.Store.settled c.args.self.now.registry at.tables at.has).crash
 
 pub returns-in-Err-clause-leaves : goal.returns-in-Err-clause-leaves
@@ -34,19 +34,19 @@ returns-in-Err-clause-leaves g c h away u w at cover =
     c.apply.new.shelf away c.args.intents.now u w at
     (g.met.H.Shelf.lawful c.args.self.now.shelf h) c.args.part.now cover
     (c.apply.ensures.moments h)
-    (g.met.H.Shelf.lawful c.apply.new.shelf (c.apply.ensures.honest h))
+    (g.met.H.Shelf.lawful c.apply.new.shelf (c.apply.ensures.keeps.honest h))
     (saved g.S.Store g.met.S.Store.settled c.args.self.now.registry at.tables at.has).crash
 
 pub returns-in-Ok-clause-done : goal.returns-in-Ok-clause-done
 returns-in-Ok-clause-done g c h away u w at cover =
     let lawful = g.met.H.Shelf.lawful c.args.self.now.shelf h in
-    let after = g.met.H.Shelf.lawful c.apply.new.shelf (c.apply.ensures.honest h) in (
+    let after = g.met.H.Shelf.lawful c.apply.new.shelf (c.apply.ensures.keeps.honest h) in (
       carried g.S.Store g.H.Shelf.view g.H.Shelf.size c.args.self.now.registry c.args.self.now.shelf
           c.apply.new.shelf away c.args.intents.now u w at lawful c.args.part.now cover
-          (c.apply.ensures.moments h) after c.apply.ensures.size,
+          (c.apply.ensures.moments h) after c.apply.ensures.keeps.size,
       ended g.S.Store g.H.Shelf.view g.H.Shelf.size c.args.self.now.registry c.args.self.now.shelf
           c.apply.new.shelf away c.args.intents.now u w at lawful c.args.part.now cover
-          (c.apply.ensures.moments h) after c.apply.ensures.size (c.in-Ok.ensures.done h),
+          (c.apply.ensures.moments h) after c.apply.ensures.keeps.size (c.in-Ok.ensures.done h),
     )
 
 pub returns-in-Err-clause-disk : goal.returns-in-Err-clause-disk

@@ -35,8 +35,8 @@ returns-in-Ok-amiss_on-clause-looks g c h clean =
     subst g.H.Shelf.honest (sym c.load.ensures.shelf) h in
     let quiet : IsQuiet (view shelf) (view c.amiss_on.new.shelf) =
     subst (λ (x : g.row.H.Denot). IsQuiet (view x) (view c.amiss_on.new.shelf))
-    c.load.ensures.shelf (c.amiss_on.ensures.reads h1).quiet in
+    c.load.ensures.shelf (c.amiss_on.ensures.looks.only.reads h1).quiet in
     look_does g.S.Store view size c.args.self.now.registry c.load.new.self.registry shelf
     c.amiss_on.new.shelf quiet
     (λ t has. (c.in-Ok.ensures.loaded clean t has).1)
-    (c.amiss_on.ensures.size ∙ ap size c.load.ensures.shelf)
+    (c.amiss_on.ensures.looks.only.keeps.size ∙ ap size c.load.ensures.shelf)

@@ -1,4 +1,4 @@
-use Rattle.std.proofs.Common.{◌≡◌, Err, sym, ap, subst, arith}
+use Rattle.std.proofs.Common.{rules, ◌≡◌, Err, sym, ap, subst, arith}
 use Rattle.gm_registry.specs.Registry.{DiskKept}
 use Rattle.gm_registry.proofs.CallsLeave.{saved}
 use Rattle.gm_refusals.specs.Applies.{IsLeast}
@@ -17,22 +17,25 @@ returns-in-Ok-Ok-clause-leaves g c h clean away u words at can =
     let lawful = g.met.H.Shelf.lawful c.args.self.now.shelf h in
     let only = (saved g.S.Store g.met.S.Store.settled c.args.self.now.registry at.tables
     at.has).crash in
-    let quiet = (c.ask.ensures.reads h).quiet in
+    let quiet = (c.ask.ensures.asks.only.reads h).quiet in
     let asked : DiskKept g.S.Store c.ask.new.self.registry =
     omega (arith, clean, c.commit.ensures.clean) in
     let d = c.in-Ok-Ok.ensures.decides h asked away u at in
     let planned : IsPlanned u c.args.command.now c.in-Ok-Ok.planned =
     subst (λ r. IsDecided u c.args.command.now r) c.in-Ok-Ok.field-0-is d.0 in
     let at1 = still g.S.Store view size c.args.self.now.registry c.args.self.now.shelf
-    c.ask.new.self.shelf away u at lawful quiet c.ask.ensures.size c.ask.new.self.registry
+    c.ask.new.self.shelf away u at lawful quiet c.ask.ensures.asks.only.keeps.size
+    c.ask.new.self.registry
     d.1 in
-    let leaves = c.commit.ensures.leaves (c.ask.ensures.honest h) clean away c.args.command.now u
+    let leaves = c.commit.ensures.leaves (c.ask.ensures.asks.only.keeps.honest h) clean away
+    c.args.command.now u
     words at1 planned can in
     subst (λ (k : g.row.H.Denot). LeavesStep g.S.Store view size c.args.self.now.registry
     c.commit.new.self.registry c.args.self.now.shelf k away u c.args.key.now c.args.command.now)
     (sym c.commit.ensures.shelf)
     (then_step g.S.Store view size c.args.self.now.registry c.args.self.now.shelf
-    c.ask.new.self.shelf away u at lawful quiet c.ask.ensures.size c.ask.new.self.registry
+    c.ask.new.self.shelf away u at lawful quiet c.ask.ensures.asks.only.keeps.size
+    c.ask.new.self.registry
     c.commit.new.self.registry c.ask.new.self.shelf c.args.key.now c.args.command.now quiet only
     leaves)
 
@@ -41,28 +44,29 @@ returns-in-Ok-Ok-clause-done g c h clean = ok_then _ _ (λ a told away u words a
     let view = g.H.Shelf.view in
     let size = g.H.Shelf.size in
     let lawful = g.met.H.Shelf.lawful c.args.self.now.shelf h in
-    let quiet = (c.ask.ensures.reads h).quiet in
+    let quiet = (c.ask.ensures.asks.only.reads h).quiet in
     let asked : DiskKept g.S.Store c.ask.new.self.registry =
     omega (arith, clean, c.commit.ensures.clean) in
     let d = c.in-Ok-Ok.ensures.decides h asked away u at in
     let planned : IsPlanned u c.args.command.now c.in-Ok-Ok.planned =
     subst (λ r. IsDecided u c.args.command.now r) c.in-Ok-Ok.field-0-is d.0 in
     let at1 = still g.S.Store view size c.args.self.now.registry c.args.self.now.shelf
-    c.ask.new.self.shelf away u at lawful quiet c.ask.ensures.size c.ask.new.self.registry
+    c.ask.new.self.shelf away u at lawful quiet c.ask.ensures.asks.only.keeps.size
+    c.ask.new.self.registry
     d.1 in
     subst (λ (k : g.row.H.Denot). IsAnswered g.S.Store view size c.commit.new.self.registry k away u
     c.args.key.now c.args.command.now a) (sym c.commit.ensures.shelf)
     (told away c.args.command.now u words at1 planned can)))
-    c.commit.result (c.commit.ensures.done (c.ask.ensures.honest h) clean)
+    c.commit.result (c.commit.ensures.done (c.ask.ensures.asks.only.keeps.honest h) clean)
 
 pub returns-in-Ok-Err-clause-leaves : goal.returns-in-Ok-Err-clause-leaves
 returns-in-Ok-Err-clause-leaves g c h clean away u words at can =
     unstepped g.S.Store g.H.Shelf.view g.H.Shelf.size c.args.self.now.registry c.args.self.now.shelf
     c.ask.new.self.shelf away u at (g.met.H.Shelf.lawful c.args.self.now.shelf h)
-    (c.ask.ensures.reads h).quiet c.ask.ensures.size
+    (c.ask.ensures.asks.only.reads h).quiet c.ask.ensures.asks.only.keeps.size
     c.ask.new.self.registry c.args.key.now c.args.command.now
     (saved g.S.Store g.met.S.Store.settled c.args.self.now.registry at.tables at.has).crash
-    clean (c.ask.ensures.store.left at.tables at.has)
+    clean (c.ask.ensures.asks.store.left at.tables at.has)
 
 pub returns-in-Ok-Err-clause-done : goal.returns-in-Ok-Err-clause-done
 returns-in-Ok-Err-clause-done g c h clean away u words at can =
@@ -73,7 +77,8 @@ returns-in-Ok-Err-clause-done g c h clean away u words at can =
     subst (λ r. IsDecided u c.args.command.now r) c.in-Ok-Err.field-0-is d.0 in
     let at1 = still g.S.Store g.H.Shelf.view g.H.Shelf.size c.args.self.now.registry
     c.args.self.now.shelf c.ask.new.self.shelf away u at lawful
-    (c.ask.ensures.reads h).quiet c.ask.ensures.size c.ask.new.self.registry d.1 in (
+    (c.ask.ensures.asks.only.reads h).quiet c.ask.ensures.asks.only.keeps.size
+    c.ask.new.self.registry d.1 in (
       least u at.tables l.sound l.records c.args.key.now c.args.command.now can.key_ok can.free
           can.room c.in-Ok-Err.refusal least_is,
       at1,
@@ -83,10 +88,10 @@ pub returns-in-Err-clause-leaves : goal.returns-in-Err-clause-leaves
 returns-in-Err-clause-leaves g c h clean away u words at can =
     unstepped g.S.Store g.H.Shelf.view g.H.Shelf.size c.args.self.now.registry c.args.self.now.shelf
     c.ask.new.self.shelf away u at (g.met.H.Shelf.lawful c.args.self.now.shelf h)
-    (c.ask.ensures.reads h).quiet c.ask.ensures.size
+    (c.ask.ensures.asks.only.reads h).quiet c.ask.ensures.asks.only.keeps.size
     c.ask.new.self.registry c.args.key.now c.args.command.now
     (saved g.S.Store g.met.S.Store.settled c.args.self.now.registry at.tables at.has).crash
-    clean (c.ask.ensures.store.left at.tables at.has)
+    clean (c.ask.ensures.asks.store.left at.tables at.has)
 
 pub returns-in-Ok-Ok-clause-readable : goal.returns-in-Ok-Ok-clause-readable
 returns-in-Ok-Ok-clause-readable g c h clean is away u at can =
@@ -104,6 +109,14 @@ returns-in-Err-clause-readable g c h clean is away u at can =
     let fault : c.in-Err.fault ≡ Unreadable = cc in
     c.in-Err.ensures.readable h clean (ap Err fault) away u c.args.key.now at can
 
-pub returns-in-Ok-Ok-clause-undone : goal.returns-in-Ok-Ok-clause-undone
-returns-in-Ok-Ok-clause-undone g c clean =
-    ok_then _ _ (λ a done undone. absurd (done undone)) c.commit.result c.commit.ensures.work
+pub returns-in-Ok-Ok-clause-accepts : goal.returns-in-Ok-Ok-clause-accepts
+returns-in-Ok-Ok-clause-accepts g c =
+    record {
+      only = search rules;
+      disk = search rules;
+      kept = search rules;
+      undone = λ clean. (
+          ok_then _ _ (λ a done undone. absurd (done undone)) c.commit.result
+          c.commit.ensures.work);
+      clean = search rules;
+    }

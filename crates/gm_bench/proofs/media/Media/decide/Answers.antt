@@ -1,4 +1,4 @@
-use Rattle.std.proofs.Common.{◌≡◌, ◌<◌, Err, length, sym, ap, subst, arith}
+use Rattle.std.proofs.Common.{rules, ◌≡◌, ◌<◌, Err, length, sym, ap, subst, arith}
 use Rattle.gm_bench.specs.declared.fault.BenchFault.TheVariants.{Unreadable}
 use Rattle.gm_rules.specs.Step.{CanAnswer}
 use Rattle.gm_registry.specs.Registry.{DiskKept}
@@ -45,7 +45,7 @@ returns-in-Ok-false-clause-leaves g c h clean away u words key_ok fits at free =
     let l = (at.leads (g.H.Shelf.view c.args.self.now.shelf).seen lawful.holds_now).0 in
     let no_key = free_key u at.tables l.sound l.records c.args.key.now c.args.command.now free in
     let counted : DiskKept g.S.Store c.is_full.new.self.registry =
-    omega (arith, clean, c.choose.ensures.clean) in
+    omega (arith, clean, c.choose.ensures.accepts.clean) in
     let told = c.in-Ok-false.ensures.told counted at.tables at.has in
     let many = as_many u at.tables l.sound l.records c.args.key.now c.args.command.now in
     let few = room_of c.in-Ok-false.field-0 (count_of at.tables) told.0
@@ -62,7 +62,7 @@ returns-in-Ok-false-clause-leaves g c h clean away u words key_ok fits at free =
     let all : IsQuiet (view c.args.self.now.shelf) (view c.choose.new.self.shelf) =
     subst (λ (k : g.row.H.Denot). IsQuiet (g.H.Shelf.view k)
     (g.H.Shelf.view c.choose.new.self.shelf)) c.is_full.ensures.shelf
-    (c.choose.ensures.reads h1).quiet in
+    (c.choose.ensures.accepts.only.reads h1).quiet in
     then_step g.S.Store view size c.args.self.now.registry c.args.self.now.shelf
     c.is_full.new.self.shelf away u at lawful quiet same c.is_full.new.self.registry
     c.choose.new.self.registry c.choose.new.self.shelf c.args.key.now c.args.command.now all
@@ -79,7 +79,7 @@ returns-in-Ok-false-clause-done g c h clean =
     let l = (at.leads (g.H.Shelf.view c.args.self.now.shelf).seen lawful.holds_now).0 in
     let no_key = free_key u at.tables l.sound l.records c.args.key.now c.args.command.now free in
     let counted : DiskKept g.S.Store c.is_full.new.self.registry =
-    omega (arith, clean, c.choose.ensures.clean) in
+    omega (arith, clean, c.choose.ensures.accepts.clean) in
     let told = c.in-Ok-false.ensures.told counted at.tables at.has in
     let many = as_many u at.tables l.sound l.records c.args.key.now c.args.command.now in
     let few = room_of c.in-Ok-false.field-0 (count_of at.tables) told.0
@@ -112,7 +112,7 @@ returns-in-Ok-false-clause-readable g c h clean is away u key_ok fits at free =
     let lawful = g.met.H.Shelf.lawful c.args.self.now.shelf h in
     let l = (at.leads (view c.args.self.now.shelf).seen lawful.holds_now).0 in
     let counted : DiskKept g.S.Store c.is_full.new.self.registry =
-    omega (arith, clean, c.choose.ensures.clean) in
+    omega (arith, clean, c.choose.ensures.accepts.clean) in
     let told = c.in-Ok-false.ensures.told counted at.tables at.has in
     let many = as_many u at.tables l.sound l.records c.args.key.now c.args.command.now in
     let few = room_of c.in-Ok-false.field-0 (count_of at.tables) told.0
@@ -140,20 +140,24 @@ returns-in-Err-clause-readable g c h clean is away u key_ok fits at free =
     let fault : c.in-Err.fault ≡ Unreadable = cc in
     c.in-Err.ensures.readable clean (ap Err fault) at.tables at.has (omega (arith, many, few))
 
-pub returns-in-Ok-false-clause-kept : goal.returns-in-Ok-false-clause-kept
-returns-in-Ok-false-clause-kept g c clean is t has =
-    let counted : DiskKept g.S.Store c.is_full.new.self.registry =
-    omega (arith, clean, c.choose.ensures.clean) in
-    let told = c.in-Ok-false.ensures.told counted t has in
-    nothing_then g.S.Store c.args.self.now.registry c.is_full.new.self.registry
-    c.choose.new.self.registry (c.is_full.ensures.reads.left t has)
-    (c.choose.ensures.kept clean is t told.1)
-
-pub returns-in-Ok-false-clause-undone : goal.returns-in-Ok-false-clause-undone
-returns-in-Ok-false-clause-undone g c clean =
-    let counted : DiskKept g.S.Store c.is_full.new.self.registry =
-    omega (arith, clean, c.choose.ensures.clean) in
-    ok_then _ _ (λ a reads undone. reads_then g.S.Store c.args.self.now.registry
-    c.is_full.new.self.registry c.choose.new.self.registry
-    (λ t has. (c.in-Ok-false.ensures.told counted t has).1) c.is_full.ensures.reads
-    (reads undone)) c.choose.result (c.choose.ensures.undone clean)
+pub returns-in-Ok-false-clause-accepts : goal.returns-in-Ok-false-clause-accepts
+returns-in-Ok-false-clause-accepts g c =
+    record {
+      only = search rules;
+      disk = search rules;
+      kept = λ clean is t has. (
+          let counted : DiskKept g.S.Store c.is_full.new.self.registry =
+          omega (arith, clean, c.choose.ensures.accepts.clean) in
+          let told = c.in-Ok-false.ensures.told counted t has in
+          nothing_then g.S.Store c.args.self.now.registry c.is_full.new.self.registry
+          c.choose.new.self.registry (c.is_full.ensures.reads.left t has)
+          (c.choose.ensures.accepts.kept clean is t told.1));
+      undone = λ clean. (
+          let counted : DiskKept g.S.Store c.is_full.new.self.registry =
+          omega (arith, clean, c.choose.ensures.accepts.clean) in
+          ok_then _ _ (λ a reads undone. reads_then g.S.Store c.args.self.now.registry
+          c.is_full.new.self.registry c.choose.new.self.registry
+          (λ t has. (c.in-Ok-false.ensures.told counted t has).1) c.is_full.ensures.reads
+          (reads undone)) c.choose.result (c.choose.ensures.accepts.undone clean));
+      clean = search rules;
+    }

@@ -9,9 +9,9 @@ returns-in-Err-settle-clause-leaves g c h clean away u w at cover =
     then_only g.S.Store g.H.Shelf.view g.H.Shelf.size c.args.self.now.registry
     c.apply.new.self.registry c.settle.new.self.registry c.args.self.now.shelf
     c.apply.new.self.shelf c.settle.new.self.shelf away u w c.settle.ensures.shelf
-    c.apply.ensures.size
+    c.apply.ensures.keeps.size
     (c.apply.ensures.leaves h away u w at cover)
-    (c.settle.ensures.leaves (c.apply.ensures.honest h) clean away c.args.intents.now u w m.0
+    (c.settle.ensures.leaves (c.apply.ensures.keeps.honest h) clean away c.args.intents.now u w m.0
     m.1)
 
 pub returns-in-Ok-settle-clause-leaves : goal.returns-in-Ok-settle-clause-leaves
@@ -20,9 +20,9 @@ returns-in-Ok-settle-clause-leaves g c h clean away u w at cover =
     then_only g.S.Store g.H.Shelf.view g.H.Shelf.size c.args.self.now.registry
     c.apply.new.self.registry c.settle.new.self.registry c.args.self.now.shelf
     c.apply.new.self.shelf c.settle.new.self.shelf away u w c.settle.ensures.shelf
-    c.apply.ensures.size
+    c.apply.ensures.keeps.size
     (c.apply.ensures.leaves h away u w at cover)
-    (c.settle.ensures.leaves (c.apply.ensures.honest h) clean away c.args.intents.now u w m.0
+    (c.settle.ensures.leaves (c.apply.ensures.keeps.honest h) clean away c.args.intents.now u w m.0
     m.1)
 
 pub returns-in-Err-settle-clause-moments : goal.returns-in-Err-settle-clause-moments

@@ -39,15 +39,15 @@ returns-in-Ok-look-clause-known g c h clean away u at =
     let facts = c.in-Ok-look.facts in
     let part = c.in-Ok-part.part.state in
     let against = c.compared_with-against.result in
-    let quiet = (c.look_at.ensures.reads h).quiet in
+    let quiet = (c.look_at.ensures.looks.only.reads h).quiet in
     let has : HasTables g.S.Store c.look_at.new.self.registry at.tables =
     subst (λ (k : Held g.row.S.Denot). HasTables g.S.Store k at.tables)
     (sym c.look_at.ensures.registry) at.has in
     let at1 = at_read g.S.Store view size c.args.self.now.registry shelf read away [] u u at quiet
-    c.look_at.ensures.size c.look_at.new.self.registry has in
+    c.look_at.ensures.looks.only.keeps.size c.look_at.new.self.registry has in
     let clean1 : DiskKept g.S.Store c.part.new.self.registry =
     subst (λ (k : Held g.row.S.Denot). DiskKept g.S.Store k) c.look.ensures.registry clean in
-    let h1 : g.H.Shelf.honest read = c.look_at.ensures.honest h in
+    let h1 : g.H.Shelf.honest read = c.look_at.ensures.looks.only.keeps.honest h in
     let known = c.in-Ok-part.ensures.part h1 clean1 away [] u u at1 in
     let mids : c.deref.result.now ≡ found_mids (seen_in first) (adopted_from command) =
     c.deref.ensures.value ∙ (c.in-Ok-found_mids.ensures
@@ -72,7 +72,8 @@ returns-in-Ok-look-clause-known g c h clean away u at =
     (g.met.H.Shelf.lawful shelf h) first facts command part against source
     (known.0 ∙ ap (part_of u.state command) mids) before
     (λ s of q k. tell_moved (size shelf) (size read) (view shelf).seen
-    (view read).seen against facts q c.look_at.ensures.size quiet.seen (then s of q k)) in (
+    (view read).seen against facts q c.look_at.ensures.looks.only.keeps.size quiet.seen
+    (then s of q k)) in (
       record { part = both.0; mirrors = known.2; facts = both.1 },
       subst (λ (k : Held g.row.S.Denot). HasTables g.S.Store k at.tables)
           (sym c.look.ensures.registry) known.3,

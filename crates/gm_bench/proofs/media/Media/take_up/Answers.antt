@@ -16,7 +16,7 @@ returns-in-Ok-check_and_finish-clause-leaves g c h clean away ts u w at =
     let view = g.H.Shelf.view in
     let size = g.H.Shelf.size in
     let clean1 : DiskKept g.S.Store c.load.new.self.registry =
-    omega (arith, clean, c.check_and_finish.ensures.clean) in
+    omega (arith, clean, c.check_and_finish.ensures.keep.clean) in
     let said = c.in-Ok.ensures.says h clean1 away ts u w at in
     let are : c.deref.result.now ≡ ts = c.deref.ensures.value ∙ said.1 in
     let found = moved g.S.Store view size c.args.self.now.registry c.load.new.self.registry
@@ -38,7 +38,7 @@ returns-in-Ok-check_and_finish-clause-moments g c h clean away ts u w at =
     let view = g.H.Shelf.view in
     let size = g.H.Shelf.size in
     let clean1 : DiskKept g.S.Store c.load.new.self.registry =
-    omega (arith, clean, c.check_and_finish.ensures.clean) in
+    omega (arith, clean, c.check_and_finish.ensures.keep.clean) in
     let said = c.in-Ok.ensures.says h clean1 away ts u w at in
     let are : c.deref.result.now ≡ ts = c.deref.ensures.value ∙ said.1 in
     let found = moved g.S.Store view size c.args.self.now.registry c.load.new.self.registry
@@ -56,7 +56,7 @@ returns-in-Ok-check_and_finish-clause-done g c h clean away ts u w at =
     let view = g.H.Shelf.view in
     let size = g.H.Shelf.size in
     let clean1 : DiskKept g.S.Store c.load.new.self.registry =
-    omega (arith, clean, c.check_and_finish.ensures.clean) in
+    omega (arith, clean, c.check_and_finish.ensures.keep.clean) in
     let said = c.in-Ok.ensures.says h clean1 away ts u w at in
     let are : c.deref.result.now ≡ ts = c.deref.ensures.value ∙ said.1 in
     let found = moved g.S.Store view size c.args.self.now.registry c.load.new.self.registry
@@ -73,7 +73,7 @@ returns-in-Ok-clause-leaves g c h clean away ts u w at =
     let view = g.H.Shelf.view in
     let size = g.H.Shelf.size in
     let clean1 : DiskKept g.S.Store c.load.new.self.registry =
-    omega (arith, clean, c.check_and_finish.ensures.clean) in
+    omega (arith, clean, c.check_and_finish.ensures.keep.clean) in
     let said = c.in-Ok.ensures.says h clean1 away ts u w at in
     let are : c.deref.result.now ≡ ts = c.deref.ensures.value ∙ said.1 in
     let found = moved g.S.Store view size c.args.self.now.registry c.load.new.self.registry
@@ -94,7 +94,7 @@ returns-in-Ok-clause-moments g c h clean away ts u w at =
     let view = g.H.Shelf.view in
     let size = g.H.Shelf.size in
     let clean1 : DiskKept g.S.Store c.load.new.self.registry =
-    omega (arith, clean, c.check_and_finish.ensures.clean) in
+    omega (arith, clean, c.check_and_finish.ensures.keep.clean) in
     let said = c.in-Ok.ensures.says h clean1 away ts u w at in
     let are : c.deref.result.now ≡ ts = c.deref.ensures.value ∙ said.1 in
     let found = moved g.S.Store view size c.args.self.now.registry c.load.new.self.registry
@@ -122,42 +122,63 @@ returns-clause-leaves g c h clean away ts u w at =
     clean (c.load.ensures.reads.left at.tables at.has)
     (λ x l. at.leads x (lawful.only_now x l)) at.leads)
 
-pub returns-in-Ok-check_and_finish-clause-there : goal.returns-in-Ok-check_and_finish-clause-there
-returns-in-Ok-check_and_finish-clause-there g c clean t s ts has of =
-    let clean1 : DiskKept g.S.Store c.load.new.self.registry =
-    omega (arith, clean, c.check_and_finish.ensures.clean) in
-    let said = c.in-Ok.ensures.loaded clean1 t has in
-    let same = one_reading same_mirror same_component t c.in-Ok.state s c.in-Ok.intents.items ts
-    said.0 of in
-    absent_back _ _ _ _ _ _ _ same.0 (ap g.H.Shelf.size c.load.ensures.shelf)
-    (c.deref.ensures.value ∙ same.1) c.in-Ok-check_and_finish.ensures.there
+pub returns-in-Ok-check_and_finish-clause-tells : goal.returns-in-Ok-check_and_finish-clause-tells
+returns-in-Ok-check_and_finish-clause-tells g c =
+    record {
+      there = λ clean t s ts has of. (
+          let clean1 : DiskKept g.S.Store c.load.new.self.registry =
+          omega (arith, clean, c.check_and_finish.ensures.keep.clean) in
+          let said = c.in-Ok.ensures.loaded clean1 t has in
+          let same = one_reading same_mirror same_component t c.in-Ok.state s c.in-Ok.intents.items
+          ts
+          said.0 of in
+          absent_back _ _ _ _ _ _ _ same.0 (ap g.H.Shelf.size c.load.ensures.shelf)
+          (c.deref.ensures.value ∙ same.1) c.in-Ok-check_and_finish.ensures.there);
+      absent = search rules;
+      disk = search rules;
+      unreadable = search rules;
+      closed = search rules;
+    }
 
-pub returns-in-Ok-clause-disk : goal.returns-in-Ok-clause-disk
-returns-in-Ok-clause-disk g c clean is t has =
-    let view = g.H.Shelf.view in
-    let clean1 : DiskKept g.S.Store c.load.new.self.registry =
-    omega (arith, clean, c.check_and_finish.ensures.clean) in
-    let said = c.in-Ok.ensures.loaded clean1 t has in
-    let of : AreTablesOf t c.in-Ok.state c.deref.result.now =
-    subst (λ (ts : List Intent). AreTablesOf t c.in-Ok.state ts)
-    (sym c.deref.ensures.value) said.0 in
-    let fault : c.in-Err-check_and_finish.fault ≡ Disk = cc in
-    subst (λ (x : g.row.H.Denot). (view x).faults < (view c.check_and_finish.new.self.shelf).faults)
-    c.load.ensures.shelf (c.in-Err-check_and_finish.ensures.disk t of (ap Err fault))
+pub returns-in-Ok-clause-tells : goal.returns-in-Ok-clause-tells
+returns-in-Ok-clause-tells g c =
+    record {
+      there = search rules;
+      absent = λ clean p is t s ts has of. (
+          let clean1 : DiskKept g.S.Store c.load.new.self.registry =
+          omega (arith, clean, c.check_and_finish.ensures.keep.clean) in
+          let said = c.in-Ok.ensures.loaded clean1 t has in
+          let same = one_reading same_mirror same_component t c.in-Ok.state s c.in-Ok.intents.items
+          ts
+          said.0 of in
+          let fault : c.in-Err-check_and_finish.fault ≡ Absent p = cc in
+          absent_back _ _ _ _ _ _ _ same.0 (ap g.H.Shelf.size c.load.ensures.shelf)
+          (c.deref.ensures.value ∙ same.1) (c.in-Err-check_and_finish.ensures.absent p
+          (ap Err fault)).0);
+      disk = λ clean t has is. (
+          let view = g.H.Shelf.view in
+          let clean1 : DiskKept g.S.Store c.load.new.self.registry =
+          omega (arith, clean, c.check_and_finish.ensures.keep.clean) in
+          let said = c.in-Ok.ensures.loaded clean1 t has in
+          let of : AreTablesOf t c.in-Ok.state c.deref.result.now =
+          subst (λ (ts : List Intent). AreTablesOf t c.in-Ok.state ts)
+          (sym c.deref.ensures.value) said.0 in
+          let fault : c.in-Err-check_and_finish.fault ≡ Disk = cc in
+          subst (λ (x : g.row.H.Denot). (view x).faults <
+          (view c.check_and_finish.new.self.shelf).faults)
+          c.load.ensures.shelf (c.in-Err-check_and_finish.ensures.disk t of (ap Err fault)));
+      unreadable = search rules;
+      closed = search rules;
+    }
 
-pub returns-in-Ok-clause-absent : goal.returns-in-Ok-clause-absent
-returns-in-Ok-clause-absent g c clean p is t s ts has of =
-    let clean1 : DiskKept g.S.Store c.load.new.self.registry =
-    omega (arith, clean, c.check_and_finish.ensures.clean) in
-    let said = c.in-Ok.ensures.loaded clean1 t has in
-    let same = one_reading same_mirror same_component t c.in-Ok.state s c.in-Ok.intents.items ts
-    said.0 of in
-    let fault : c.in-Err-check_and_finish.fault ≡ Absent p = cc in
-    absent_back _ _ _ _ _ _ _ same.0 (ap g.H.Shelf.size c.load.ensures.shelf)
-    (c.deref.ensures.value ∙ same.1) (c.in-Err-check_and_finish.ensures.absent p
-    (ap Err fault)).0
-
-pub returns-clause-unreadable : goal.returns-clause-unreadable
-returns-clause-unreadable g c clean is =
-    let fault : c.in-Err.fault ≡ Unreadable = cc in
-    c.in-Err.ensures.unreadable clean (ap Err fault)
+pub returns-clause-tells : goal.returns-clause-tells
+returns-clause-tells g c =
+    record {
+      there = search rules;
+      absent = search rules;
+      disk = search rules;
+      unreadable = λ clean is. (
+          let fault : c.in-Err.fault ≡ Unreadable = cc in
+          c.in-Err.ensures.unreadable clean (ap Err fault));
+      closed = search rules;
+    }

@@ -1,0 +1,116 @@
+-- What a call leaves of the media and of the phase of a bench, and which faults it tells, beside
+-- what is particular to it.
+use Rattle.std.specs.Prelude.{◌≡◌, ◌<◌, ℕ, List, [], Result, IfOk, IfErr, OnOk, OnErr, IsErrOf}
+use Rattle.sqlite_trees.specs.declared.store.Store.{Ghosts as StoreGhosts}
+use Rattle.sqlite.specs.Held.{Held}
+use Rattle.gm_metadata.specs.Images.{Image}
+use Rattle.gm_shelf.specs.declared.shelf.Shelf.{Ghosts as ShelfGhosts}
+use Rattle.gm_shelf.specs.Keeping.{Keeps, ReadsOnly}
+use Rattle.gm_state.specs.Rows.{Tables}
+use Rattle.gm_state.specs.World.{World}
+use Rattle.gm_registry.specs.Registry.{DiskKept, HasTables, LeavesNothingNew, Reads, WasClean}
+use Rattle.gm_bench.specs.declared.bench.Bench.{Bench}
+use Rattle.gm_bench.specs.declared.fault.BenchFault.{BenchFault}
+use Rattle.gm_bench.specs.declared.fault.BenchFault.TheVariants.{Absent, Closed, Disk, Unreadable}
+use Rattle.gm_bench.specs.declared.answer.Answer.{Answer}
+use Rattle.gm_bench.specs.declared.answer.Work.{Work}
+use Rattle.gm_bench.specs.declared.media.Media.{Media}
+use Rattle.gm_bench.specs.declared.phase.Progress.TheVariants.{Failed, Pending}
+use Rattle.gm_bench.specs.Faults.{IsOfCall, IsOfMedia}
+use Rattle.gm_bench.specs.Owed.{LookDoes, LookLeaves}
+use Rattle.gm_bench.specs.Phases.{IsUndone}
+use Rattle.gm_bench.specs.Presence.{AreAtHand}
+use Rattle.gm_bench.specs.Recovering.{IsAt}
+
+-- Disk is told only where the shelf's count of failures rose.
+abbrev pub TellsDisk : {H T : Type 0} → ShelfGhosts H → H → H → Result T BenchFault → Type 0
+TellsDisk h old new result =
+    IsErrOf result Disk → (h.view old).faults < (h.view new).faults
+
+-- a call that only reads a shelf
+pub record Looks {H T : Type 0} (h : ShelfGhosts H) (old new : H)
+    (result : Result T BenchFault) : Type 0 where
+  pub only : ReadsOnly h old new
+  pub disk : TellsDisk h old new result
+  pub fault : IfErr result IsOfMedia
+
+module _ {S H T : Type 0} (s : StoreGhosts S) (h : ShelfGhosts H) (old new : Media S H)
+    (result : Result T BenchFault) where
+  -- a call that only reads both media
+  pub record Asks : Type 0 where
+    pub store : Reads s old.registry new.registry
+    pub only : ReadsOnly h old.shelf new.shelf
+    pub disk : TellsDisk h old.shelf new.shelf result
+    pub fault : IfErr result IsOfCall
+
+  -- A call that hands in a command: it reads the shelf, where an answer says that nothing was done
+  -- it only read the registry too, and a failure of the disk comes before anything is written.
+  pub record Accepts (is_undone : T → Type 0) : Type 0 where
+    pub only : ReadsOnly h old.shelf new.shelf
+    pub disk : TellsDisk h old.shelf new.shelf result
+    pub kept : DiskKept s new.registry → IsErrOf result Disk → (t : Tables)
+        → HasTables s old.registry t → LeavesNothingNew s old.registry new.registry
+    pub undone : DiskKept s new.registry
+        → IfOk result (λ a. is_undone a → Reads s old.registry new.registry)
+    pub clean : WasClean s old.registry new.registry
+
+-- The shelf is kept; and where the disk kept what was written to the registry until now, it did so
+-- before the call.
+pub record Keep {S H : Type 0} (s : StoreGhosts S) (h : ShelfGhosts H) (r t : Held S)
+    (k l : H) : Type 0 where
+  pub shelf : Keeps h k l
+  pub clean : WasClean s r t
+
+-- A call that fails closes the bench, and at a closed one it does nothing. No image is told to be
+-- absent: that comes at an opening alone.
+pub record ClosesOnFault {S H T : Type 0} (old new : Bench S H)
+    (result : Result T BenchFault) : Type 0 where
+  pub closed : old.progress ≡ Failed → IsErrOf result Closed × (new ≡ old)
+  pub reopen : IsErrOf result Closed → old.progress ≡ Failed
+  pub failed : OnErr result (new.progress ≡ Failed)
+  pub absent : (p : List ℕ) → IsErrOf result (Absent p) → ⊥
+  pub redone : new.redone ≡ old.redone
+
+module _ {S H T : Type 0} (s : StoreGhosts S) (h : ShelfGhosts H) (old new : Bench S H)
+    (result : Result T BenchFault) where
+  -- A call that looks changes neither medium, and a stop within it leaves what leads on as before.
+  pub record LooksOn : Type 0 where
+    pub stays : OnOk result (new.progress ≡ old.progress)
+    pub does : h.honest old.media.shelf → DiskKept s new.media.registry
+        → OnOk result (LookDoes s h.view h.size old.media.registry new.media.registry
+        old.media.shelf new.media.shelf)
+    pub leaves : h.honest old.media.shelf → DiskKept s new.media.registry
+        → LookLeaves s h.view h.size old.media.registry new.media.registry
+        old.media.shelf new.media.shelf
+    pub store : Reads s old.media.registry new.media.registry
+    pub only : ReadsOnly h old.media.shelf new.media.shelf
+    pub disk : TellsDisk h old.media.shelf new.media.shelf result
+
+  -- A call that carries out what is pending tells of the disk only where that failed, wherever the
+  -- providers of its intents are at hand.
+  pub record CarriesOut : Type 0 where
+    pub keep : Keep s h old.media.registry new.media.registry old.media.shelf new.media.shelf
+    pub unreadable : IsErrOf result Unreadable → ⊥
+    pub disk : (work : Work) → old.progress ≡ Pending work
+        → AreAtHand (h.size old.media.shelf) work.intents.items
+        → TellsDisk h old.media.shelf new.media.shelf result
+
+-- A command that is run: where an answer says that nothing was done it only read the registry, and
+-- it tells of the disk only where that failed.
+pub record RunsOnce {S H : Type 0} (s : StoreGhosts S) (h : ShelfGhosts H) (old new : Bench S H)
+    (result : Result Answer BenchFault) : Type 0 where
+  pub keep : Keep s h old.media.registry new.media.registry old.media.shelf new.media.shelf
+  pub undone : DiskKept s new.media.registry
+      → IfOk result (λ a. IsUndone a → Reads s old.media.registry new.media.registry)
+  pub disk : h.honest old.media.shelf → DiskKept s new.media.registry
+      → (away : Image) (u : World)
+      → IsAt s h.view h.size old.media.registry old.media.shelf away [] u u
+      → TellsDisk h old.media.shelf new.media.shelf result
+
+-- A call that settles writes the registry alone, and its faults are want of memory and the store's.
+pub record Settles {S H T : Type 0} (s : StoreGhosts S) (old new : Bench S H)
+    (result : Result T BenchFault) : Type 0 where
+  pub shelf : new.media.shelf ≡ old.media.shelf
+  pub unreadable : IsErrOf result Unreadable → ⊥
+  pub disk : IsErrOf result Disk → ⊥
+  pub clean : WasClean s old.media.registry new.media.registry

@@ -1,0 +1,89 @@
+-- What an opening does and tells.
+use Rattle.std.specs.Prelude.{◌≡◌, ◌<◌, ℕ, List, Some, None, Result, length, IfErr, OnOk, IsErrOf}
+use Rattle.sqlite_trees.specs.declared.store.Store.{Ghosts as StoreGhosts}
+use Rattle.sqlite_catalog.specs.Listing.{IsSound}
+use Rattle.sqlite.specs.Held.{Held}
+use Rattle.gm_metadata.specs.Images.{Image}
+use Rattle.gm_shelf.specs.declared.shelf.Shelf.{Ghosts as ShelfGhosts}
+use Rattle.gm_state.specs.declared.intents.Intent.{Intent}
+use Rattle.gm_state.specs.Records.{Records}
+use Rattle.gm_state.specs.Rows.{Tables}
+use Rattle.gm_state.specs.World.{World}
+use Rattle.gm_rows.specs.ReadableTables.{AreTablesOf}
+use Rattle.gm_rows.specs.Schema.{registry_schema}
+use Rattle.gm_registry.specs.Opening.{IsOpenable}
+use Rattle.gm_registry.specs.Registry.{DiskKept, HasTables, IsOpen, IsRegistry, LeavesAlone, stored}
+use Rattle.gm_bench.specs.declared.bench.Bench.{Bench}
+use Rattle.gm_bench.specs.declared.bench.OpenFault.{OpenFault}
+use Rattle.gm_bench.specs.declared.fault.BenchFault.{BenchFault}
+use Rattle.gm_bench.specs.declared.fault.BenchFault.TheVariants.{Absent, Closed, Disk, Unreadable}
+use Rattle.gm_bench.specs.declared.media.Media.{Media}
+use Rattle.gm_bench.specs.declared.phase.Progress.TheVariants.{Ready}
+use Rattle.gm_bench.specs.Calls.{TellsDisk}
+use Rattle.gm_bench.specs.Faults.{IsBeforeWrites}
+use Rattle.gm_bench.specs.Owed.{IsLeft, OpenDoes}
+use Rattle.gm_bench.specs.Presence.{first_absent}
+use Rattle.gm_bench.specs.Recovering.{IsStored}
+
+-- ---- of media whose registry is open
+
+-- What is told by the registry's tables and the sizes alone: each image that the pending intents
+-- need is there at Ok, and the first that isn't is told; F3 only where the device failed, and F6
+-- only where the tables don't say a state with readable intents.
+pub record TellsOfTables {S H T : Type 0} (s : StoreGhosts S) (h : ShelfGhosts H)
+    (old new : Media S H) (result : Result T BenchFault) : Type 0 where
+  pub there : DiskKept s new.registry → OnOk result ((t : Tables) (r : Records) (ts : List Intent)
+      → HasTables s old.registry t → AreTablesOf t r ts
+      → first_absent r (h.size old.shelf) ts ≡ None)
+  pub absent : DiskKept s new.registry → (p : List ℕ) → IsErrOf result (Absent p)
+      → (t : Tables) (r : Records) (ts : List Intent)
+      → HasTables s old.registry t → AreTablesOf t r ts
+      → first_absent r (h.size old.shelf) ts ≡ Some p
+  pub disk : DiskKept s new.registry → (t : Tables) → HasTables s old.registry t
+      → TellsDisk h old.shelf new.shelf result
+  pub unreadable : DiskKept s new.registry → IsErrOf result Unreadable
+      → (t : Tables) (r : Records) (ts : List Intent)
+      → HasTables s old.registry t → AreTablesOf t r ts → ⊥
+  pub closed : IsErrOf result Closed → ⊥
+
+-- A fault before anything is written leaves the shelf, and a registry whatever its rows hold.
+pub record StaysBefore {S H T : Type 0} (s : StoreGhosts S) (old new : Media S H)
+    (result : Result T BenchFault) : Type 0 where
+  pub shelf : IfErr result (λ f. IsBeforeWrites f → new.shelf ≡ old.shelf)
+  pub registry : IfErr result (λ f. IsBeforeWrites f → IsRegistry s old.registry
+      → LeavesAlone s old.registry new.registry)
+
+-- ---- of a store and a shelf
+
+module _ {S H : Type 0} (s : StoreGhosts S) (h : ShelfGhosts H) (store : Held S) (shelf : H) where
+  -- The bench is at rest in the world that was left; the number is that of the intents that were
+  -- pending; and each image that they need is there.
+  pub record IsOpened (b : Bench S H) : Type 0 where
+    pub ready : b.progress ≡ Ready
+    pub does : h.honest shelf → IsOpen s store → DiskKept s b.media.registry
+        → OpenDoes s h.view h.size store b.media.registry shelf b.media.shelf
+    pub redone : h.honest shelf → IsOpen s store → DiskKept s b.media.registry
+        → (away : Image) (u w : World) → (left : IsLeft s h.view h.size store shelf away u w)
+        → b.redone ≡ length left.recovers.intents
+    pub there : IsOpen s store → DiskKept s b.media.registry
+        → (t : Tables) (r : Records) (ts : List Intent)
+        → IsStored (stored s store) t → AreTablesOf t r ts
+        → first_absent r (h.size shelf) ts ≡ None
+
+  -- Why it failed, by the tables that are stored and the sizes alone. A fault before anything is
+  -- written leaves both media as they were, whatever rows the tables hold.
+  pub record IsUnopened (e : OpenFault S H) : Type 0 where
+    pub absent : IsOpen s store → DiskKept s e.store → (p : List ℕ) → e.fault ≡ Absent p
+        → (t : Tables) (r : Records) (ts : List Intent)
+        → IsStored (stored s store) t → AreTablesOf t r ts
+        → first_absent r (h.size shelf) ts ≡ Some p
+    pub disk : IsOpen s store → DiskKept s e.store → e.fault ≡ Disk
+        → (t : Tables) → IsStored (stored s store) t
+        → (h.view shelf).faults < (h.view e.shelf).faults
+    pub unreadable : IsOpen s store → DiskKept s e.store → e.fault ≡ Unreadable
+        → IsOpenable (stored s store) → (t : Tables) (r : Records) (ts : List Intent)
+        → IsStored (stored s store) t → AreTablesOf t r ts → ⊥
+    pub closed : e.fault ≡ Closed → ⊥
+    pub untouched : IsBeforeWrites e.fault → e.shelf ≡ shelf
+    pub alone : IsOpen s store → IsSound registry_schema (stored s store)
+        → DiskKept s e.store → IsBeforeWrites e.fault → LeavesAlone s store e.store

@@ -1,0 +1,16 @@
+-- What a call leaves of a shelf, at each of its exits.
+use Rattle.std.specs.Prelude.{◌≡◌, ◌≤◌}
+use Rattle.gm_shelf.specs.Disk.{AreReads}
+use Rattle.gm_shelf.specs.declared.shelf.Shelf.{Ghosts}
+
+module _ {H : Type 0} (g : Ghosts H) (old new : H) where
+  -- An honest shelf stays so, its sizes stay, and its count of failures doesn't fall.
+  pub record Keeps : Type 0 where
+    pub honest : g.honest old → g.honest new
+    pub size : g.size new ≡ g.size old
+    pub count : (g.view old).faults ≤ (g.view new).faults
+
+  -- beside that the call only reads
+  pub record ReadsOnly : Type 0 where
+    pub keeps : Keeps
+    pub reads : g.honest old → AreReads (g.view old) (g.view new)
