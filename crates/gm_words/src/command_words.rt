@@ -304,33 +304,39 @@ fn several_at(alloc: Global, matches: &ArgMatches<'_>) -> Result<Option<SeveralN
 fn named_of(word: &str, matches: &ArgMatches<'_>) -> Option<Command>
     ensures { result ≡ named_of word.now (rows_of (found_of matches.now)) }
 {
-    let component = component_at(matches);
-    let name = label_at(matches, "name");
-    let provider = label_at(matches, "prov");
     match word {
-        "remove" => component.map(|c| Command::Remove {
-            name: c.name,
-            provider: c.provider,
-        }),
-        "deactivate" => component.map(|c| Command::Deactivate {
-            name: c.name,
-            provider: c.provider,
-        }),
-        "activate" => component.map(|c| Command::Activate {
-            name: c.name,
-            provider: c.provider,
-        }),
-        "forget" => name.map(|name| Command::Forget { name }),
-        "rebuild" => component.map(|c| Command::Rebuild {
-            name: c.name,
-            provider: c.provider,
-        }),
-        "clear" => provider.map(|provider| Command::Clear { provider }),
-        "destroy" => name.map(|name| Command::Destroy { name }),
-        "advance" => component.map(|c| Command::Advance {
-            name: c.name,
-            provider: c.provider,
-        }),
+        "remove" => {
+            let ComponentNames { name, provider } = component_at(matches)?;
+            Some(Command::Remove { name, provider })
+        }
+        "deactivate" => {
+            let ComponentNames { name, provider } = component_at(matches)?;
+            Some(Command::Deactivate { name, provider })
+        }
+        "activate" => {
+            let ComponentNames { name, provider } = component_at(matches)?;
+            Some(Command::Activate { name, provider })
+        }
+        "forget" => {
+            let name = label_at(matches, "name")?;
+            Some(Command::Forget { name })
+        }
+        "rebuild" => {
+            let ComponentNames { name, provider } = component_at(matches)?;
+            Some(Command::Rebuild { name, provider })
+        }
+        "clear" => {
+            let provider = label_at(matches, "prov")?;
+            Some(Command::Clear { provider })
+        }
+        "destroy" => {
+            let name = label_at(matches, "name")?;
+            Some(Command::Destroy { name })
+        }
+        "advance" => {
+            let ComponentNames { name, provider } = component_at(matches)?;
+            Some(Command::Advance { name, provider })
+        }
         _ => None,
     }
 }
@@ -348,14 +354,14 @@ fn command_of(
         "label" => Ok(label_of(matches)),
         "insert" => Ok(insert_of(matches)),
         "configure" => Ok(configure_of(matches)),
-        "lost" => Ok(several_at(alloc, matches)?.map(|s| Command::Lost {
-            name: s.name,
-            providers: s.providers,
-        })),
-        "adopt" => Ok(several_at(alloc, matches)?.map(|s| Command::Adopt {
-            name: s.name,
-            providers: s.providers,
-        })),
+        "lost" => match several_at(alloc, matches)? {
+            Some(SeveralNames { name, providers }) => Ok(Some(Command::Lost { name, providers })),
+            None => Ok(None),
+        },
+        "adopt" => match several_at(alloc, matches)? {
+            Some(SeveralNames { name, providers }) => Ok(Some(Command::Adopt { name, providers })),
+            None => Ok(None),
+        },
         _ => Ok(named_of(word, matches)),
     }
 }
