@@ -1,12 +1,16 @@
 //! Images of a few sectors, on a shelf in memory.
 
+ghost use Rattle.std.specs.Prelude.{◌↔◌, IsOk, IsTrue};
+
 use gm_metadata::Label;
 use gm_shelf::{MemShelf, Shelf};
 use std::alloc::Global;
 use std::test::Fail;
 
 /// Fails with these words where it doesn't hold.
-pub fn must(holds: bool, what: &'static str) -> Result<(), Fail> {
+pub fn must(holds: bool, what: &'static str) -> Result<(), Fail>
+    ensures { IsOk result ↔ IsTrue holds }
+{
     if holds { Ok(()) } else { Err(what)? }
 }
 

@@ -1,8 +1,11 @@
 //! What the tests of several crates stand on: images on a shelf in memory, and a store of two files
 //! on disks in memory, of which each serves so many calls and then stops.
 //!
-//! `images.rt` has the images, `stopping_store.rt` the store. Only tests call these, so that they
-//! promise nothing but to be safe; what a test expects is worked out by hand where it stands.
+//! `images.rt` has the images, `stopping_store.rt` the store. Only tests call these. They promise
+//! what a test couldn't see to be wrong: that `must` fails just where nothing holds, that each file
+//! serves so many calls as it is given, and that the bytes taken of files are theirs. Of the rest
+//! they promise nothing but to be safe, since a wrong image or name fails the tests, whose expected
+//! values are worked out by hand where they stand.
 #![tactic(auto)]
 
 mod images;

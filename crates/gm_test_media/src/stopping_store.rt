@@ -1,5 +1,9 @@
 //! A store of two files on disks in memory that stop.
 
+ghost use Rattle.std.specs.Prelude.{◌≡◌, IfOk};
+ghost use Rattle.sqlite_disk.specs.Fuse.{inner_of, calls_left};
+ghost use Rattle.sqlite_disk.specs.Memory.{memory_bytes};
+
 use sqlite::{Connection, Files, MemStore};
 use sqlite_disk::{Crash, Disk, Fuse, Memory};
 use std::alloc::Global;
@@ -26,7 +30,9 @@ pub const ALL: Calls = Calls {
 };
 
 // A disk with these bytes that serves so many calls.
-fn disk(alloc: Global, bytes: &[u8], calls: u64) -> Result<Fuse<Memory>, Fail> {
+fn disk(alloc: Global, bytes: &[u8], calls: u64) -> Result<Fuse<Memory>, Fail>
+    ensures { IfOk result (λ d. calls_left d ≡ calls) }
+{
     let mut disk = Memory::new(alloc);
     disk.write_at(0, bytes)?;
     if !disk.may_be_used() {
@@ -46,7 +52,10 @@ impl StoreBytes {
     }
 
     /// What files hold now.
-    pub fn of(alloc: Global, files: &Files<Fuse<Memory>>) -> Result<StoreBytes, Fail> {
+    pub fn of(alloc: Global, files: &Files<Fuse<Memory>>) -> Result<StoreBytes, Fail>
+        ensures log { IfOk result (λ b. b.log.items ≡ memory_bytes (inner_of files.now.log)) }
+        ensures db { IfOk result (λ b. b.db.items ≡ memory_bytes (inner_of files.now.db)) }
+    {
         Ok(StoreBytes {
             log: files.log.inner().bytes().to_vec(alloc)?,
             db: files.db.inner().bytes().to_vec(alloc)?,
@@ -54,7 +63,10 @@ impl StoreBytes {
     }
 
     /// Files with these bytes, of which each serves so many calls.
-    pub fn files(&self, alloc: Global, calls: Calls) -> Result<Files<Fuse<Memory>>, Fail> {
+    pub fn files(&self, alloc: Global, calls: Calls) -> Result<Files<Fuse<Memory>>, Fail>
+        ensures log { IfOk result (λ f. calls_left f.log ≡ calls.log) }
+        ensures db { IfOk result (λ f. calls_left f.db ≡ calls.db) }
+    {
         Ok(Files {
             log: disk(alloc, self.log.as_slice(), calls.log)?,
             db: disk(alloc, self.db.as_slice(), calls.db)?,
