@@ -1,28 +1,12 @@
-//! The program: words in, lines and an exit status out. `program.rt` is all of it; `main` hands it
-//! the real streams, once `stack.rt` has seen to it that there is stack enough, and `streams.rt`
-//! that there are three streams.
-//!
-//! `command_line.rt` has the program's own words. What is done at a bench, by `bench_command.rt`,
-//! is done in the folder and with the registry that `place.rt` opens and closes; `recover.rt`,
-//! `show.rt`, `audit.rt` and `batch.rt` have the commands. `taste.rt` has the one that looks at a
-//! folder without a registry.
+//! The process: it hands the program the real streams, once `stack.rt` has seen to it that there is
+//! stack enough, and `streams.rt` that there are three streams. All that the program does is in
+//! `gm_program`.
 #![tactic(auto)]
 
-mod audit;
-mod batch;
-mod bench_command;
-mod command_line;
-mod exit;
-mod place;
-mod program;
-mod recover;
-mod show;
 mod stack;
 mod streams;
-mod taste;
 
-use exit::{Fault, Status};
-use program::program;
+use gm_program::{Fault, Status, program};
 use stack::take_stack;
 use std::env;
 use std::io::{BufReader, BufWriter, ErrorKind, Write};

@@ -1,6 +1,6 @@
-//! The program's own words.
+//! The table of the program's own words, for `clap`, and what they ask for.
 
-use crate::bench_command::Work;
+use crate::job::{Job, Work};
 use clap::error::ErrorKind;
 use clap::{Arg, ArgAction, ArgMatches, Command, Error};
 use gm_metadata::Label;
@@ -50,28 +50,6 @@ Each line is answered before the next is read:
   KEY repeated SEQ  it was done before
   KEY refused N     nothing was written
   KEY fault N       a fault, which ends the batch";
-
-/// What the program is asked to do.
-#[derive(Clone, Copy)]
-pub enum Job<'a> {
-    /// Say what the program is.
-    Introduce,
-    /// Print what the last sector of a provider of a folder says.
-    Dump {
-        folder: &'a str,
-        provider: Label,
-    },
-    /// Print what the images of a folder tell by themselves.
-    Taste {
-        folder: &'a str,
-    },
-    /// Do work at the bench of a registry and a folder.
-    AtBench {
-        work: Work,
-        registry: &'a str,
-        folder: &'a str,
-    },
-}
 
 fn shelf_option<'a>(alloc: Global) -> Arg<'a> {
     Arg::new(alloc, "shelf")

@@ -1,7 +1,7 @@
 //! How the program ends.
 
 ghost use Rattle.std.specs.Prelude.{◌≡◌};
-ghost use Rattle.gmbench.specs.Statuses.{of_front, refusal_number, status_code};
+ghost use Rattle.gm_program.specs.Statuses.{of_front, refusal_number, status_code};
 
 use gm_bench::BenchFault;
 use gm_front::FrontFault;
@@ -70,7 +70,7 @@ impl fmt::Display for Fault {
 
 impl From<AllocError> for Fault {
     ghost use Rattle.gm_bench.specs.declared.fault.BenchFault.TheVariants.{Memory};
-    ghost use Rattle.gmbench.specs.declared.exit.Fault.TheVariants.{Bench};
+    ghost use Rattle.gm_program.specs.declared.exit.Fault.TheVariants.{Bench};
 
     ghost from_gives = { λ cause fault. fault ≡ Bench Memory };
 
@@ -90,7 +90,7 @@ impl From<io::Error> for Fault {
 
 impl From<ShelfFault> for Fault {
     ghost use Rattle.gm_bench.specs.Faults.{of_shelf};
-    ghost use Rattle.gmbench.specs.declared.exit.Fault.TheVariants.{Bench};
+    ghost use Rattle.gm_program.specs.declared.exit.Fault.TheVariants.{Bench};
 
     ghost from_gives = { λ cause fault. fault ≡ Bench (of_shelf cause) };
 
@@ -103,7 +103,7 @@ impl From<ShelfFault> for Fault {
 }
 
 impl From<BenchFault> for Fault {
-    ghost use Rattle.gmbench.specs.declared.exit.Fault.TheVariants.{Bench};
+    ghost use Rattle.gm_program.specs.declared.exit.Fault.TheVariants.{Bench};
 
     ghost from_gives = { λ cause fault. fault ≡ Bench cause };
 

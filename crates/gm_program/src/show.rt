@@ -3,7 +3,7 @@
 ghost use Rattle.std.specs.Prelude.{IfOk};
 ghost use Rattle.gm_words.specs.Listing.{list_text};
 ghost use Rattle.gm_words.specs.Status.{status_text};
-ghost use Rattle.gmbench.specs.Reports.{IsDone};
+ghost use Rattle.gm_program.specs.Reports.{IsDone};
 
 use crate::bench_command::Report;
 use crate::exit::{Fault, Status};

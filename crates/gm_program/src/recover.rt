@@ -1,7 +1,7 @@
 //! The command `recover`, for which a bench is opened and asked nothing.
 
 ghost use Rattle.std.specs.Prelude.{IfOk};
-ghost use Rattle.gmbench.specs.Reports.{IsDone, recovered_text};
+ghost use Rattle.gm_program.specs.Reports.{IsDone, recovered_text};
 
 use crate::bench_command::Report;
 use crate::exit::{Fault, Status};

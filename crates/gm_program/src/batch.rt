@@ -2,12 +2,12 @@
 
 ghost use Rattle.std.specs.Prelude.{◌≡◌, IfOk};
 ghost use Rattle.gm_bench.specs.Phases.{TakesCommands};
-ghost use Rattle.gmbench.specs.Reports.{MayEnd};
-ghost use Rattle.gmbench.specs.Statuses.{status_of_end};
+ghost use Rattle.gm_program.specs.Reports.{MayEnd};
+ghost use Rattle.gm_program.specs.Statuses.{status_of_end};
 
-use crate::bench_command::Work;
 use crate::exit::{Fault, Status};
 use gm_bench::Bench;
+use gm_command_line::Work;
 use gm_front::{BatchEnd, FrontFault, batch};
 use gm_shelf::Shelf;
 use sqlite::Alter;

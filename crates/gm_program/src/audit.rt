@@ -3,7 +3,7 @@
 
 ghost use Rattle.std.specs.Prelude.{◌≡◌, IfOk};
 ghost use Rattle.std.specs.String.{string_bytes};
-ghost use Rattle.gmbench.specs.Reports.{IsAudited, names_text};
+ghost use Rattle.gm_program.specs.Reports.{IsAudited, names_text};
 
 use crate::bench_command::Report;
 use crate::exit::{Fault, Status};

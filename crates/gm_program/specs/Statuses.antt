@@ -5,12 +5,12 @@ use Rattle.gm_front.specs.declared.answer_lines.BatchEnd.{BatchEnd}
 use Rattle.gm_front.specs.declared.answer_lines.BatchEnd.TheVariants.{Ended, Stopped}
 use Rattle.gm_front.specs.declared.answer_lines.FrontFault.{FrontFault}
 use Rattle.gm_front.specs.declared.answer_lines.FrontFault.TheVariants as front
-use Rattle.gmbench.specs.declared.exit.Status.{Status}
-use Rattle.gmbench.specs.declared.exit.Status.TheVariants as status
-use Rattle.gmbench.specs.declared.exit.Fault.{Fault}
-use Rattle.gmbench.specs.declared.exit.Fault.TheVariants.{Bench, InputOrOutput}
-use Rattle.gmbench.specs.declared.exit.DumpRefusal.{DumpRefusal}
-use Rattle.gmbench.specs.declared.exit.DumpRefusal.TheVariants.{Absent, WrongSize}
+use Rattle.gm_program.specs.declared.exit.Status.{Status}
+use Rattle.gm_program.specs.declared.exit.Status.TheVariants as status
+use Rattle.gm_program.specs.declared.exit.Fault.{Fault}
+use Rattle.gm_program.specs.declared.exit.Fault.TheVariants.{Bench, InputOrOutput}
+use Rattle.gm_program.specs.declared.exit.DumpRefusal.{DumpRefusal}
+use Rattle.gm_program.specs.declared.exit.DumpRefusal.TheVariants.{Absent, WrongSize}
 
 -- 0 done, 1 refused or damaged, 2 wrong words, 3 a fault
 abbrev pub status_code : Status → ℕ

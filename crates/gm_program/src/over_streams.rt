@@ -1,11 +1,11 @@
 //! All that the program does, over any streams.
 
-use crate::command_line::{Job, job_of};
 use crate::exit::{DumpRefusal, Fault, Status};
 use crate::place::{Place, work_at};
 use crate::taste::taste_folder;
 use clap::Error;
 use clap::error::ErrorKind;
+use gm_command_line::{Job, job_of};
 use gm_metadata::{Label, decode};
 use gm_shelf::{FileShelf, Shelf};
 use gm_words::dump_text;

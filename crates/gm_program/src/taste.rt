@@ -4,7 +4,7 @@
 ghost use Rattle.std.specs.Prelude.{◌≡◌, IfOk};
 ghost use Rattle.std.specs.List.{list_any};
 ghost use Rattle.gm_taste.specs.Verdicts.{of_metadata};
-ghost use Rattle.gmbench.specs.Reports.{IsTasting};
+ghost use Rattle.gm_program.specs.Reports.{IsTasting};
 
 use crate::bench_command::Report;
 use crate::exit::{Fault, Status};

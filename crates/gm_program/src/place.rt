@@ -4,11 +4,12 @@
 ghost use Rattle.std.specs.Prelude.{◌≡◌, IfOk};
 ghost use Rattle.gm_rows.specs.Faults.{fault_of};
 ghost use Rattle.gm_bench.specs.Faults.{of_store};
-ghost use Rattle.gmbench.specs.Reports.{MayEnd};
+ghost use Rattle.gm_program.specs.Reports.{MayEnd};
 
-use crate::bench_command::{Report, Work};
+use crate::bench_command::{Report, perform};
 use crate::exit::{Fault, Status};
 use gm_bench::{Bench, BenchFault};
+use gm_command_line::Work;
 use gm_shelf::{FileId, FileShelf, Shelf};
 use sqlite::{Alter, Connection, Error, ErrorCode, FileStore};
 use sqlite_disk::Disk;
@@ -106,7 +107,7 @@ fn at_bench<S: Alter + Drop, H: Shelf + Drop, I: Read, O: Write>(
     }
     match Bench::open(alloc, store, shelf) {
         Ok(mut bench) => {
-            let report = work.perform(alloc, &mut bench, input, output);
+            let report = perform(work, alloc, &mut bench, input, output);
             let (store, _) = bench.close();
             Ok((report, store))
         }

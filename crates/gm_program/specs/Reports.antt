@@ -7,11 +7,11 @@ use Rattle.gm_words.specs.Lines.{line}
 use Rattle.gm_words.specs.Tasting.{tasting_text}
 use Rattle.gm_taste.specs.declared.tasted.Tasted.{Tasted}
 use Rattle.gm_taste.specs.Verdicts.{of_metadata}
-use Rattle.gmbench.specs.declared.exit.Status.{Status}
-use Rattle.gmbench.specs.declared.exit.Status.TheVariants.{Done, Refused}
-use Rattle.gmbench.specs.declared.bench_command.Work.{Work}
-use Rattle.gmbench.specs.declared.bench_command.Work.TheVariants as work
-use Rattle.gmbench.specs.declared.bench_command.Report.{Report}
+use Rattle.gm_program.specs.declared.exit.Status.{Status}
+use Rattle.gm_program.specs.declared.exit.Status.TheVariants.{Done, Refused}
+use Rattle.gm_command_line.specs.declared.job.Work.{Work}
+use Rattle.gm_command_line.specs.declared.job.Work.TheVariants as work
+use Rattle.gm_program.specs.declared.bench_command.Report.{Report}
 
 -- done, with this text to be printed
 abbrev pub IsDone : List ℕ → Report → Type 0

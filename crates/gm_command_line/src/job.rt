@@ -1,0 +1,40 @@
+//! What the program may be asked to do.
+
+use gm_metadata::Label;
+
+/// What is to be done at a bench whose opening carried out what was pending.
+#[derive(Clone, Copy, Debug, PartialEq, Eq)]
+pub enum Work {
+    /// Nothing more: say how much was pending.
+    Recover,
+    /// Say how the mirrors stand.
+    Status,
+    /// Say all that is known of the mirrors.
+    List,
+    /// List the components that the images no longer show as they are registered.
+    Audit,
+    /// Hand in the commands of an input, and answer each.
+    Batch,
+}
+
+/// What the program is asked to do.
+#[derive(Clone, Copy)]
+pub enum Job<'a> {
+    /// Say what the program is.
+    Introduce,
+    /// Print what the last sector of a provider of a folder says.
+    Dump {
+        folder: &'a str,
+        provider: Label,
+    },
+    /// Print what the images of a folder tell by themselves.
+    Taste {
+        folder: &'a str,
+    },
+    /// Do work at the bench of a registry and a folder.
+    AtBench {
+        work: Work,
+        registry: &'a str,
+        folder: &'a str,
+    },
+}

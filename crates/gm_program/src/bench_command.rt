@@ -1,0 +1,59 @@
+//! What is done at an open bench, and how it is told.
+
+ghost use Rattle.std.specs.Prelude.{IfOk};
+ghost use Rattle.gm_bench.specs.Phases.{TakesCommands};
+ghost use Rattle.gm_program.specs.Reports.{MayEnd};
+
+use crate::audit::audit_report;
+use crate::batch::hand_in;
+use crate::exit::{Fault, Status};
+use crate::recover::recovered;
+use crate::show::{list_report, status_report};
+use gm_bench::Bench;
+use gm_command_line::Work;
+use gm_shelf::Shelf;
+use sqlite::Alter;
+use std::alloc::Global;
+use std::io::{Read, Write};
+
+/// How the work ended, and the text that is still to be printed.
+#[derive(Drop)]
+pub struct Report {
+    pub status: Status,
+    pub text: String,
+}
+
+/// Does the work. A batch reads the input, and prints its answers at once.
+pub fn perform<S: Alter, H: Shelf, I: Read, O: Write>(
+    work: Work,
+    alloc: Global,
+    bench: &mut Bench<S, H>,
+    input: &mut I,
+    output: &mut O,
+) -> Result<Report, Fault>
+    requires { TakesCommands bench.old.progress }
+    ensures { IfOk result (λ report. MayEnd work report.status) }
+{
+    match work {
+        Work::Recover => recovered(alloc, bench.redone()),
+        Work::Status => {
+            let state = bench.view(alloc)?;
+            status_report(alloc, &state)
+        }
+        Work::List => {
+            let state = bench.view(alloc)?;
+            list_report(alloc, &state)
+        }
+        Work::Audit => {
+            let names = bench.audit(alloc)?;
+            audit_report(alloc, &names)
+        }
+        Work::Batch => {
+            let status = hand_in(alloc, bench, input, output)?;
+            Ok(Report {
+                status,
+                text: String::new(alloc),
+            })
+        }
+    }
+}
