@@ -43,7 +43,9 @@ end_in() {
 }
 
 # Runs words whose lines are known in ever more memory, by 400 steps of so many KB from where the program starts at all,
-# which is the system's to say. Then it is F1, and from somewhere on the answer.
+# which is the system's to say. Then it is F1, and from somewhere on the answer. Where the system puts the stack changes
+# from run to run by some pages, and with it what there is to start in: up to 64 KB above the least that it started in
+# it may still end by a signal, before it has said anything.
 grow_memory() {
     name=$1
     step=$2
@@ -57,21 +59,23 @@ grow_memory() {
     done 2>/dev/null
     kilobytes=$((kilobytes - 200))
     top_kilobytes=$((kilobytes + 400 * step))
-    started=no
+    least=
     answered=no
     refused=0
     wrong=
     while [ "$kilobytes" -le "$top_kilobytes" ]; do
         end_in "$kilobytes" "$@"
-        if [ "$status" -le 3 ]; then
-            started=yes
+        if [ "$status" -le 3 ] && [ -z "$least" ]; then
+            least=$kilobytes
         fi
         if [ "$status" = 3 ] && [ "$(cat "$work/complaints")" = "$no_memory" ] &&
             { [ ! -s "$work/output" ] || [ "$(cat "$work/output")" = "$told" ]; }; then
             refused=$((refused + 1))
         elif [ "$status" = 0 ] && [ "$(cat "$work/output")" = "$lines" ] && [ ! -s "$work/complaints" ]; then
             answered=yes
-        elif [ $started = yes ]; then
+        elif [ "$status" -gt 128 ] && [ ! -s "$work/output" ] && [ "$kilobytes" -le $((${least:-$kilobytes} + 64)) ]; then
+            :
+        elif [ -n "$least" ]; then
             wrong="in $kilobytes KB status $status, '$(head -n 1 "$work/output" "$work/complaints")'"
         fi
         kilobytes=$((kilobytes + step))
