@@ -169,7 +169,7 @@ equal_by : (facts : List Fact) (u : World) (c : Command) → TellEqual facts u c
     → IsGood u.state (seen_of u) c → SameEqual (seen_in facts) (seen_of u) c
 equal_by facts u (Adopt n ps) tell good = λ b from p h k l.
     tell (not-false (is_adoptable (seen_of u) n ps)
-    (good NotAdoptable (inr (inr (inr (inr (inr (inr (inr (inl refl)))))))))) b from p h k l
+    (good NotAdoptable refl)) b from p h k l
 equal_by facts u _ tell good = tt
 
 -- what is decided from facts of the world is decided in the world

@@ -30,6 +30,7 @@ use Rattle.gm_refusals.proofs.NothingApplies.{is_good}
 use Rattle.gm_state.proofs.FoundRecords.{home_of}
 use Rattle.gm_refusals.specs.declared.refusals.Refusal.TheVariants as refusals
 use Rattle.gm_changes.proofs.MakesChange.{insert_makes, remove_makes, deactivate_makes, activate_makes, forget_makes, rebuild_makes, advance_makes, configure_makes, destroy_makes, lost_makes, adopt_makes}
+use Rattle.gm_refusals.proofs.Listed.{listed}
 
 module _ (part s : Records) (c : Command) (of : IsPartOf part c s) where
   -- what is found in the part is found in the whole
@@ -172,7 +173,7 @@ advance_made part x n p m k source ch found at lent is s to good =
     let c : Command = Advance n p in
     let there : component_of s p ≡ Some k = component_in part s c to.of p (Some k) (inl refl) at in
     let home : k.mirror ≡ n = home_of s n p to.of.state k there
-    (good refusals.NotMember (inr (inr (inl refl)))) in
+    (good refusals.NotMember refl) in
     let mine : members s.components k.mirror ≡ members part.components k.mirror =
     subst (λ (a : List ℕ). members s.components a ≡ members part.components a) (sym home)
     (members_in part s c to.of n (members part.components n) refl refl) in
@@ -263,7 +264,7 @@ pub none_on : (part : Records) (count : ℕ) (x : Seen) (c : Command)
     → find (applies_to_part part count x c) (own c) ≡ None → IsGoodButCount part x c
 none_on part count x c e r h other =
     let off : applies_to_part part count x c r ≡ false =
-    found_none (applies_to_part part count x c) (own c) e r h in
+    found_none (applies_to_part part count x c) (own c) e r (listed c r h) in
     rw other at off
 
 pub good_on : (part : Records) (count : ℕ) (x : Seen) (c : Command)

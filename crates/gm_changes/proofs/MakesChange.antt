@@ -337,13 +337,13 @@ pub adopt_makes : (s : Records) (x : Seen) (n : List ℕ) (ps : List (List ℕ))
 adopt_makes s x n ps b ch good state from is =
     let ks : List Component = adopted x n ps b in
     let other : (k : Component) → Has s.components k → same_label k.mirror n ≡ false
-    = no_component s n state (none_from (mirror_of s n) (good refusals.NameTaken (inl refl))) in
+    = no_component s n state (none_from (mirror_of s n) (good refusals.NameTaken refl)) in
     let free : (k j : Component) → Has ks k → Has s.components j → j.provider ≡ k.provider
     → same_label j.mirror n ≡ true = λ k j h i e.
     not_both (same_label j.provider k.provider) (same_from j.provider k.provider e)
     (new_name s k.provider (none_from (component_of s k.provider)
     (none_any (λ p. is_some (component_of s p)) ps
-    (good refusals.ProviderTaken (inr (inr (inr (inl refl))))) k.provider
+    (good refusals.ProviderTaken refl) k.provider
     (adopted_on x n ps b k h))) j i) in
     let mine : (k : Component) → Has ks k → same_label k.mirror n ≡ true =
     λ k h. same_from k.mirror n (adopted_mirror_is x n ps b k h) in

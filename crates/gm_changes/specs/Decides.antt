@@ -26,15 +26,23 @@ pub record Changed : Type 0 where
   pub intents : List Intent
   pub reply : Reply
 
+-- nothing is put, deleted or written, and the answer is plain
+abbrev pub no_change : Changed
+no_change = record {
+  mirror = None;
+  gone_mirror = None;
+  components = [];
+  gone_components = [];
+  intents = [];
+  reply = Plain;
+}
+
 -- the change of an adoption whose source is b
 abbrev pub adopting : Seen → List ℕ → List (List ℕ) → Member → Changed
-adopting x n ps b = record {
+adopting x n ps b = record no_change {
   mirror = Some (adopted_mirror n b.metadata);
-  gone_mirror = None;
   components = adopted x n ps b;
-  gone_components = [];
   intents = metas (adopted x n ps b);
-  reply = Plain;
 }
 
 abbrev pub put_some : Option Mirror → List Mirror → List Mirror

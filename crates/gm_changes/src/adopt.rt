@@ -170,11 +170,9 @@ fn adopted(
     push_metas(&mut intents, &components)?;
     Ok(Change {
         mirror: Some(adopted_mirror(name, &source.metadata)),
-        gone_mirror: None,
         components,
-        gone_components: Vec::new(alloc),
         intents,
-        reply: Reply::Plain,
+        ..Change::nothing(alloc)
     })
 }
 

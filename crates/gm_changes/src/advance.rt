@@ -3,6 +3,7 @@
 
 ghost use Rattle.std.specs.Prelude.{◌≡◌, ◌+◌, ◌<◌, ◌^◌, [], ◌∷◌, None, IfOk};
 ghost use Rattle.gm_changes.specs.After.{advanced, filling, holding, reach};
+ghost use Rattle.gm_changes.specs.Decides.{no_change};
 ghost use Rattle.gm_changes.specs.PartChange.{IsMade};
 ghost use Rattle.gm_commands.specs.declared.command.Command.TheVariants as commands;
 ghost use Rattle.gm_refusals.specs.PartOf.{IsGoodButCount};
@@ -52,11 +53,8 @@ pub(crate) fn advanced(
     source: Label,
 ) -> Result<Change, AllocError>
     requires { held_of component.disk + 256 < 2 ^ 32 }
-    ensures { IfOk result (λ ch. ch ≡ record {
-      mirror = None;
-      gone_mirror = None;
+    ensures { IfOk result (λ ch. ch ≡ record no_change {
       components = advanced mirror.now component ∷ [];
-      gone_components = [];
       intents = filling mirror.now component source;
       reply = replies.Copied (reach mirror.now component) mirror.now.data_sectors;
     }) }
@@ -69,10 +67,7 @@ pub(crate) fn advanced(
         ..component
     };
     Ok(Change {
-        mirror: None,
-        gone_mirror: None,
         components: vec![in alloc; filled]?,
-        gone_components: Vec::new(alloc),
         intents: vec![in alloc;
             Intent::Copy {
                 source,
@@ -86,6 +81,7 @@ pub(crate) fn advanced(
             held: end,
             total: mirror.data_sectors,
         },
+        ..Change::nothing(alloc)
     })
 }
 

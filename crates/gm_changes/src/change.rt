@@ -2,10 +2,11 @@
 
 ghost use Rattle.std.specs.Prelude.{◌≡◌, ◌++◌, OnOk, OnErr};
 ghost use Rattle.gm_changes.specs.After.{metas, clears_of};
+ghost use Rattle.gm_changes.specs.Decides.{no_change};
 
 use gm_metadata::Label;
 use gm_state::{Component, Intent, Mirror, Reply};
-use std::alloc::AllocError;
+use std::alloc::{AllocError, Global};
 use std::marker::Model;
 
 /// Records to put, names of records to delete, what is to be written, and what is answered.
@@ -36,6 +37,21 @@ impl Model for Change {
 }
 
 impl Change {
+    // Nothing is put, deleted or written, and the answer is plain: what a command changes is laid
+    // over it.
+    pub(crate) fn nothing(alloc: Global) -> Change
+        ensures { result ≡ no_change }
+    {
+        Change {
+            mirror: None,
+            gone_mirror: None,
+            components: Vec::new(alloc),
+            gone_components: Vec::new(alloc),
+            intents: Vec::new(alloc),
+            reply: Reply::Plain,
+        }
+    }
+
     /// The mirror to put, in place of the one of its name.
     pub fn mirror(&self) -> Option<Mirror>
         ensures { result ≡ self.now.mirror }

@@ -1,6 +1,7 @@
 //! The change of clear: metadata of a provider that is no component are wiped out.
 
 ghost use Rattle.std.specs.Prelude.{◌≡◌, ◌-◌, ◌<◌, [], ◌∷◌, None, IfOk};
+ghost use Rattle.gm_changes.specs.Decides.{no_change};
 ghost use Rattle.gm_state.specs.declared.intents.Intent.TheVariants as intents;
 ghost use Rattle.gm_state.specs.declared.intents.Reply.TheVariants as replies;
 
@@ -11,21 +12,10 @@ use std::alloc::{AllocError, Global};
 
 /// A provider whose metadata are wiped out.
 pub(crate) fn cleared(alloc: Global, provider: Label) -> Result<Change, AllocError>
-    ensures { IfOk result (λ ch. ch ≡ record {
-      mirror = None;
-      gone_mirror = None;
-      components = [];
-      gone_components = [];
-      intents = intents.Clear provider ∷ [];
-      reply = replies.Plain;
-    }) }
+    ensures { IfOk result (λ ch. ch ≡ record no_change { intents = intents.Clear provider ∷ [] }) }
 {
     Ok(Change {
-        mirror: None,
-        gone_mirror: None,
-        components: Vec::new(alloc),
-        gone_components: Vec::new(alloc),
         intents: vec![in alloc; Intent::Clear { provider }]?,
-        reply: Reply::Plain,
+        ..Change::nothing(alloc)
     })
 }

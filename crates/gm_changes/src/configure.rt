@@ -2,6 +2,7 @@
 
 ghost use Rattle.std.specs.Prelude.{◌≡◌, ◌<◌, [], Some, None, IfOk, map};
 ghost use Rattle.gm_changes.specs.After.{metas, configured_flags, configured_mirror, configured, priority_by};
+ghost use Rattle.gm_changes.specs.Decides.{no_change};
 ghost use Rattle.gm_changes.specs.PartChange.{IsMade};
 ghost use Rattle.gm_commands.specs.declared.command.Command.TheVariants as commands;
 ghost use Rattle.gm_refusals.specs.PartOf.{IsGoodButCount};
@@ -76,13 +77,10 @@ pub(crate) fn configured(
     mirror: Mirror,
     members: &[Component],
 ) -> Result<Change, AllocError>
-    ensures { IfOk result (λ ch. ch ≡ record {
+    ensures { IfOk result (λ ch. ch ≡ record no_change {
       mirror = Some (configured_mirror settings.now mirror);
-      gone_mirror = None;
       components = map (configured settings.now) members.now;
-      gone_components = [];
       intents = metas (map (configured settings.now) members.now);
-      reply = replies.Plain;
     }) }
 {
     let components = all_configured(alloc, settings, members)?;
@@ -90,11 +88,9 @@ pub(crate) fn configured(
     push_metas(&mut intents, &components)?;
     Ok(Change {
         mirror: Some(configured_mirror(settings, mirror)),
-        gone_mirror: None,
         components,
-        gone_components: Vec::new(alloc),
         intents,
-        reply: Reply::Plain,
+        ..Change::nothing(alloc)
     })
 }
 

@@ -2,6 +2,7 @@
 
 ghost use Rattle.std.specs.Prelude.{◌≡◌, ◌+◌, ◌<◌, [], Some, None, IfOk, map};
 ghost use Rattle.gm_changes.specs.After.{metas, deactivated};
+ghost use Rattle.gm_changes.specs.Decides.{no_change};
 ghost use Rattle.gm_changes.specs.PartChange.{IsMade};
 ghost use Rattle.gm_commands.specs.declared.command.Command.TheVariants as commands;
 ghost use Rattle.gm_refusals.specs.PartOf.{IsGoodButCount};
@@ -55,13 +56,10 @@ pub(crate) fn deactivated(
     provider: Label,
 ) -> Result<Change, AllocError>
     requires { mirror.syncid < 4294967295 }
-    ensures { IfOk result (λ ch. ch ≡ record {
+    ensures { IfOk result (λ ch. ch ≡ record no_change {
       mirror = Some (record mirror { syncid = mirror.syncid + 1 });
-      gone_mirror = None;
       components = map (deactivated (mirror.syncid + 1) provider) members.now;
-      gone_components = [];
       intents = metas (map (deactivated (mirror.syncid + 1) provider) members.now);
-      reply = replies.Plain;
     }) }
 {
     let syncid = mirror.syncid + 1;
@@ -70,11 +68,9 @@ pub(crate) fn deactivated(
     push_metas(&mut intents, &components)?;
     Ok(Change {
         mirror: Some(Mirror { syncid, ..mirror }),
-        gone_mirror: None,
         components,
-        gone_components: Vec::new(alloc),
         intents,
-        reply: Reply::Plain,
+        ..Change::nothing(alloc)
     })
 }
 

@@ -2,6 +2,7 @@
 
 ghost use Rattle.std.specs.Prelude.{◌≡◌, ◌-◌, ◌<◌, [], Some, None, IfOk, map};
 ghost use Rattle.gm_changes.specs.After.{clears_of};
+ghost use Rattle.gm_changes.specs.Decides.{no_change};
 ghost use Rattle.gm_changes.specs.PartChange.{IsMade};
 ghost use Rattle.gm_commands.specs.declared.command.Command.TheVariants as commands;
 ghost use Rattle.gm_refusals.specs.PartOf.{IsGoodButCount};
@@ -28,25 +29,20 @@ pub(crate) fn destroyed(
     name: Label,
     members: &[Component],
 ) -> Result<Change, AllocError>
-    ensures { IfOk result (λ ch. ch ≡ record {
-      mirror = None;
+    ensures { IfOk result (λ ch. ch ≡ record no_change {
       gone_mirror = Some name;
-      components = [];
       gone_components = map provider_of members.now;
       intents = clears_of members.now;
-      reply = replies.Plain;
     }) }
 {
     let gone_components = providers_of(alloc, members)?;
     let mut intents = Vec::new(alloc);
     push_clears(&mut intents, members)?;
     Ok(Change {
-        mirror: None,
         gone_mirror: Some(name),
-        components: Vec::new(alloc),
         gone_components,
         intents,
-        reply: Reply::Plain,
+        ..Change::nothing(alloc)
     })
 }
 

@@ -2,6 +2,7 @@
 
 ghost use Rattle.std.specs.Prelude.{◌≡◌, ◌<◌, [], Some, None, IfOk, length};
 ghost use Rattle.gm_changes.specs.After.{metas};
+ghost use Rattle.gm_changes.specs.Decides.{no_change};
 ghost use Rattle.gm_changes.specs.PartChange.{IsMade};
 ghost use Rattle.gm_commands.specs.declared.command.Command.TheVariants as commands;
 ghost use Rattle.gm_refusals.specs.PartOf.{IsGoodButCount};
@@ -21,13 +22,9 @@ pub(crate) fn forgotten(
     members: &[Component],
 ) -> Result<Change, AllocError>
     requires { length members.now < 256 }
-    ensures { IfOk result (λ ch. ch ≡ record {
+    ensures { IfOk result (λ ch. ch ≡ record no_change {
       mirror = Some (record mirror { all = length members.now });
-      gone_mirror = None;
-      components = [];
-      gone_components = [];
       intents = metas members.now;
-      reply = replies.Plain;
     }) }
 {
     let mut intents = Vec::new(alloc);
@@ -37,11 +34,8 @@ pub(crate) fn forgotten(
             all: members.len() as u8,
             ..mirror
         }),
-        gone_mirror: None,
-        components: Vec::new(alloc),
-        gone_components: Vec::new(alloc),
         intents,
-        reply: Reply::Plain,
+        ..Change::nothing(alloc)
     })
 }
 

@@ -2,6 +2,7 @@
 
 ghost use Rattle.std.specs.Prelude.{◌≡◌, ◌+◌, ◌-◌, ◌<◌, [], ◌∷◌, Some, None, IfOk, false};
 ghost use Rattle.gm_changes.specs.After.{spare, metas};
+ghost use Rattle.gm_changes.specs.Decides.{no_change};
 ghost use Rattle.gm_changes.specs.PartChange.{IsMade};
 ghost use Rattle.gm_commands.specs.declared.command.Command.TheVariants as commands;
 ghost use Rattle.gm_lists.specs.Ordered.{Has, put};
@@ -45,13 +46,10 @@ pub(crate) fn inserted(
     requires room { mirror.all < 255 }
     requires fresh { (k : Component) → Has members.items k
         → same_label k.provider spare.provider ≡ false }
-    ensures { IfOk result (λ ch. ch ≡ record {
+    ensures { IfOk result (λ ch. ch ≡ record no_change {
       mirror = Some (record mirror { all = mirror.all + 1 });
-      gone_mirror = None;
       components = spare ∷ [];
-      gone_components = [];
       intents = metas (put provider_of spare members.items);
-      reply = replies.Plain;
     }) }
 {
     put(&mut members, spare)?;
@@ -62,11 +60,9 @@ pub(crate) fn inserted(
             all: mirror.all + 1,
             ..mirror
         }),
-        gone_mirror: None,
         components: vec![in alloc; spare]?,
-        gone_components: Vec::new(alloc),
         intents,
-        reply: Reply::Plain,
+        ..Change::nothing(alloc)
     })
 }
 

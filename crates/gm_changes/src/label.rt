@@ -1,6 +1,7 @@
 //! The change of label: a new mirror with its component.
 
 ghost use Rattle.std.specs.Prelude.{◌≡◌, ◌-◌, ◌<◌, [], ◌∷◌, Some, None, IfOk};
+ghost use Rattle.gm_changes.specs.Decides.{no_change};
 ghost use Rattle.gm_changes.specs.After.{new_mirror, first_component};
 ghost use Rattle.gm_state.specs.declared.intents.Intent.TheVariants as intents;
 ghost use Rattle.gm_state.specs.declared.intents.Reply.TheVariants as replies;
@@ -53,25 +54,20 @@ pub(crate) fn labelled(
     mirror: Mirror,
     first: Component,
 ) -> Result<Change, AllocError>
-    ensures { IfOk result (λ ch. ch ≡ record {
+    ensures { IfOk result (λ ch. ch ≡ record no_change {
       mirror = Some mirror;
-      gone_mirror = None;
       components = first ∷ [];
-      gone_components = [];
       intents = intents.Meta first.provider ∷ [];
-      reply = replies.Plain;
     }) }
 {
     Ok(Change {
         mirror: Some(mirror),
-        gone_mirror: None,
         components: vec![in alloc; first]?,
-        gone_components: Vec::new(alloc),
         intents: vec![in alloc;
             Intent::Meta {
                 provider: first.provider
             },
         ]?,
-        reply: Reply::Plain,
+        ..Change::nothing(alloc)
     })
 }

@@ -2,6 +2,7 @@
 
 ghost use Rattle.std.specs.Prelude.{◌≡◌, ◌+◌, ◌-◌, ◌<◌, [], Some, None, IfOk, not, filter};
 ghost use Rattle.gm_changes.specs.After.{metas};
+ghost use Rattle.gm_changes.specs.Decides.{no_change};
 ghost use Rattle.gm_changes.specs.PartChange.{IsMade};
 ghost use Rattle.gm_commands.specs.declared.command.Command.TheVariants as commands;
 ghost use Rattle.gm_refusals.specs.Applies.{is_on_any};
@@ -26,13 +27,10 @@ pub(crate) fn lost(
     providers: &[Label],
 ) -> Result<Change, AllocError>
     requires { mirror.genid < 4294967295 }
-    ensures { IfOk result (λ ch. ch ≡ record {
+    ensures { IfOk result (λ ch. ch ≡ record no_change {
       mirror = Some (record mirror { genid = mirror.genid + 1 });
-      gone_mirror = None;
-      components = [];
       gone_components = providers.now;
       intents = metas (filter (λ k. not (is_on_any providers.now k)) members.now);
-      reply = replies.Plain;
     }) }
 {
     let left = components_left(alloc, members, providers)?;
@@ -43,11 +41,9 @@ pub(crate) fn lost(
             genid: mirror.genid + 1,
             ..mirror
         }),
-        gone_mirror: None,
-        components: Vec::new(alloc),
         gone_components: providers.to_vec(alloc)?,
         intents,
-        reply: Reply::Plain,
+        ..Change::nothing(alloc)
     })
 }
 

@@ -3,6 +3,7 @@
 
 ghost use Rattle.std.specs.Option.{ForSome};
 ghost use Rattle.std.specs.Prelude.{◌≡◌, ◌-◌, ◌<◌, [], ◌∷◌, Some, None, IfOk, false, not, filter, ◌^◌, IsSome};
+ghost use Rattle.gm_changes.specs.Decides.{no_change};
 ghost use Rattle.gm_lists.specs.Ordered.{without};
 ghost use Rattle.gm_refusals.specs.Applies.{is_on_any};
 ghost use Rattle.gm_refusals.specs.Facts.{size_in};
@@ -54,26 +55,19 @@ pub(crate) fn components_left(
 
 /// One component in place of the one on its provider.
 pub(crate) fn replaced(alloc: Global, new: Component) -> Result<Change, AllocError>
-    ensures { IfOk result (λ ch. ch ≡ record {
-      mirror = None;
-      gone_mirror = None;
+    ensures { IfOk result (λ ch. ch ≡ record no_change {
       components = new ∷ [];
-      gone_components = [];
       intents = intents.Meta new.provider ∷ [];
-      reply = replies.Plain;
     }) }
 {
     Ok(Change {
-        mirror: None,
-        gone_mirror: None,
         components: vec![in alloc; new]?,
-        gone_components: Vec::new(alloc),
         intents: vec![in alloc;
             Intent::Meta {
                 provider: new.provider
             },
         ]?,
-        reply: Reply::Plain,
+        ..Change::nothing(alloc)
     })
 }
 

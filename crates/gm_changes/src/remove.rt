@@ -2,6 +2,7 @@
 
 ghost use Rattle.std.specs.Prelude.{◌≡◌, ◌-◌, ◌<◌, [], ◌∷◌, Some, None, IfOk};
 ghost use Rattle.gm_changes.specs.After.{metas};
+ghost use Rattle.gm_changes.specs.Decides.{no_change};
 ghost use Rattle.gm_changes.specs.PartChange.{IsMade};
 ghost use Rattle.gm_commands.specs.declared.command.Command.TheVariants as commands;
 ghost use Rattle.gm_lists.specs.Ordered.{without};
@@ -27,13 +28,10 @@ pub(crate) fn removed(
     provider: Label,
 ) -> Result<Change, AllocError>
     requires { 0 < mirror.all }
-    ensures { IfOk result (λ ch. ch ≡ record {
+    ensures { IfOk result (λ ch. ch ≡ record no_change {
       mirror = Some (record mirror { all = mirror.all - 1 });
-      gone_mirror = None;
-      components = [];
       gone_components = provider ∷ [];
       intents = intents.Clear provider ∷ metas (without provider_of provider members.now);
-      reply = replies.Plain;
     }) }
 {
     let others = others_of(alloc, members, provider)?;
@@ -44,11 +42,9 @@ pub(crate) fn removed(
             all: mirror.all - 1,
             ..mirror
         }),
-        gone_mirror: None,
-        components: Vec::new(alloc),
         gone_components: vec![in alloc; provider]?,
         intents,
-        reply: Reply::Plain,
+        ..Change::nothing(alloc)
     })
 }
 

@@ -1,3 +1,4 @@
+pub mod Listed
 pub mod NothingApplies
 pub mod PartAgrees
 pub mod SeenAlike

@@ -22,6 +22,7 @@ use Rattle.gm_refusals.specs.Applies.{IsLeast, IsGood}
 use Rattle.gm_refusals.specs.PartOf.{IsGoodButCount}
 use Rattle.gm_lists.proofs.Finding.{found, found_none, any_one}
 use Rattle.gm_state.proofs.FoundRecords.{rules_of}
+use Rattle.gm_refusals.proofs.Listed.{listed, lists}
 
 pub some_from : {X : Type 0} (o : Option X) → is_none o ≡ false → IsSome o
 some_from None e = absurd (let h : ⊥ = cc in h)
@@ -111,14 +112,14 @@ pub is_least : (s : Records) (x : Seen) (c : Command) (r : Refusal)
 is_least s x c r e =
     let f = found (applies s x c) (own c) r e in
     record {
-      listed = f.0;
+      listed = lists c r f.0;
       met = f.1;
-      least = λ q h t. least_in (applies s x c) (own c) (own_rises c) r e q h t;
+      least = λ q h t. least_in (applies s x c) (own c) (own_rises c) r e q (listed c q h) t;
     }
 
 pub is_good : (s : Records) (x : Seen) (c : Command) → find (applies s x c) (own c) ≡ None
     → IsGood s x c
-is_good s x c e r h = found_none (applies s x c) (own c) e r h
+is_good s x c e r h = found_none (applies s x c) (own c) e r (listed c r h)
 
 -- a mirror whose syncid isn't the last one
 pub one_more_sync : (s : Records) (n : List ℕ) (m : Mirror) → IsState s → mirror_of s n ≡ Some m
@@ -146,9 +147,9 @@ label_size s x c new is good =
     let g : IsGoodButCount s x (Label new) =
     subst (λ (d : Command). IsGoodButCount s x d) is good in (
       any_one (λ q. is_none (x.size q)) new.provider
-          (or_parts _ _ (g Absent (inr (inr (inl refl))) refl)).0,
+          (or_parts _ _ (g Absent refl refl)).0,
       any_one (λ q. is_there_and (x.size q) has_wrong_size) new.provider
-          (g WrongSize (inr (inr (inr (inr (inr (inr (inl refl))))))) refl),
+          (g WrongSize refl refl),
     )
 
 pub on_one : (k : Component) (p : List ℕ) → k.provider ≡ p → is_on_any (p ∷ []) k ≡ true

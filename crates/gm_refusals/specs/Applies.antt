@@ -18,7 +18,7 @@ use Rattle.gm_refusals.specs.Adoptable.{has_twice, tells_mid, tells_did_twice, i
 use Rattle.gm_refusals.specs.declared.refusals.Refusal.{Refusal}
 use Rattle.gm_refusals.specs.declared.refusals.Refusal.TheVariants.{NoMirror, NameTaken, MidTaken, Absent, ProviderTaken, CarriesMetadata, TooSmall, NotMember, DidTaken, Full, TooManyMirrors, SomeLost, LastActive, AlreadyInactive, NotInactive, NoneLost, Inactive, NotSynchronizing, LastSyncid, LastGenid, NothingGiven, NotAdoptable, WrongSize, NoMetadata}
 use Rattle.gm_lists.specs.Ordered.{Has}
-use Rattle.gm_refusals.specs.Refusals.{number_of, own}
+use Rattle.gm_refusals.specs.Refusals.{number_of, is_listed}
 
 -- the mirror that a command names
 abbrev pub name_of : Command → Option (List ℕ)
@@ -183,10 +183,11 @@ applies s x c NoMetadata = list_any (λ p. not (is_bearing x p)) (looked_at c)
 
 -- r is the refusal with the least number that applies
 pub record IsLeast (s : Records) (x : Seen) (c : Command) (r : Refusal) : Type 0 where
-  pub listed : Has (own c) r
+  pub listed : is_listed c r ≡ true
   pub met : applies s x c r ≡ true
-  pub least : (q : Refusal) → Has (own c) q → applies s x c q ≡ true → number_of r ≤ number_of q
+  pub least : (q : Refusal) → is_listed c q ≡ true → applies s x c q ≡ true
+      → number_of r ≤ number_of q
 
 -- no refusal that the command lists applies
 abbrev pub IsGood : Records → Seen → Command → Type 0
-IsGood s x c = (r : Refusal) → Has (own c) r → applies s x c r ≡ false
+IsGood s x c = (r : Refusal) → is_listed c r ≡ true → applies s x c r ≡ false

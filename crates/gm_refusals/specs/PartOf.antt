@@ -14,7 +14,7 @@ use Rattle.gm_refusals.specs.declared.refusals.Refusal.TheVariants.{TooManyMirro
 use Rattle.gm_refusals.specs.Seen.{Seen}
 use Rattle.gm_refusals.specs.Applies.{applies, name_of, providers_of, has_mid, takes_mid, is_on_any}
 use Rattle.gm_refusals.specs.Applies.{IsGood}
-use Rattle.gm_refusals.specs.Refusals.{own}
+use Rattle.gm_refusals.specs.Refusals.{is_listed}
 
 -- the command names the mirror
 abbrev pub is_named : Command → Mirror → Bool
@@ -70,4 +70,4 @@ applies_to_part part count x c r = if asks_count r then count == 64 else applies
 -- of the refusals that the command lists, those that don't ask for the count don't apply
 abbrev pub IsGoodButCount : Records → Seen → Command → Type 0
 IsGoodButCount part x c =
-    (r : Refusal) → Has (own c) r → asks_count r ≡ false → applies part x c r ≡ false
+    (r : Refusal) → is_listed c r ≡ true → asks_count r ≡ false → applies part x c r ≡ false

@@ -1,5 +1,6 @@
 -- The refusals: their numbers, and which command lists which.
-use Rattle.std.specs.Prelude.{ℕ, List, [], ◌∷◌}
+use Rattle.std.specs.Prelude.{ℕ, Bool, ◌==◌, List, [], ◌∷◌}
+use Rattle.std.specs.List.{list_any}
 use Rattle.gm_commands.specs.declared.command.Command.{Command}
 use Rattle.gm_commands.specs.declared.command.Command.TheVariants.{Label, Insert, Remove, Deactivate, Activate, Forget, Rebuild, Configure, Clear, Destroy, Lost, Advance, Adopt}
 use Rattle.gm_refusals.specs.declared.refusals.Refusal.{Refusal}
@@ -60,3 +61,7 @@ own (Lost n ps) = NoMirror ∷ Absent ∷ NotMember ∷ LastActive ∷ LastGenid
 own (Advance n p) = NoMirror ∷ Absent ∷ NotMember ∷ Inactive ∷ NotSynchronizing ∷ []
 own (Adopt n ps) = NameTaken ∷ MidTaken ∷ Absent ∷ ProviderTaken ∷ DidTaken ∷ Full ∷ TooManyMirrors
     ∷ NotAdoptable ∷ WrongSize ∷ []
+
+-- the command may meet the refusal
+abbrev pub is_listed : Command → Refusal → Bool
+is_listed c r = list_any (λ q. number_of q == number_of r) (own c)

@@ -47,16 +47,15 @@ can_adopt : (u : World) (n : List ℕ) (ps : List (List ℕ)) → Sound u
     → IsGood u.state (seen_of u) (Adopt n ps) → (b : Member) × CanAdopt u n ps b
 can_adopt u n ps sound good =
     let free : mirror_of u.state n ≡ None =
-    none_from (mirror_of u.state n) (good refusals.NameTaken (inl refl)) in
+    none_from (mirror_of u.state n) (good refusals.NameTaken refl) in
     let count : length u.state.mirrors ≤ 64 = sound.state.count in
     let many : length u.state.mirrors ≢ 64 =
     not_at (length u.state.mirrors) 64
-    (good refusals.TooManyMirrors (inr (inr (inr (inr (inr (inr (inl refl)))))))) in
+    (good refusals.TooManyMirrors refl) in
     let fit : is_adoptable (seen_of u) n ps ≡ true =
-    not-false _ (good refusals.NotAdoptable
-    (inr (inr (inr (inr (inr (inr (inr (inl refl))))))))) in
+    not-false _ (good refusals.NotAdoptable refl) in
     let wrong : list_any (λ p. is_there_and (present u p) has_wrong_size) ps ≡ false =
-    good refusals.WrongSize (inr (inr (inr (inr (inr (inr (inr (inr (inl refl))))))))) in
+    good refusals.WrongSize refl in
     let b = adoptable (seen_of u) n ps fit in (
       b.0,
       record {
@@ -64,11 +63,11 @@ can_adopt u n ps sound good =
             (found_none (λ (x : Mirror). same_label x.name n) u.state.mirrors free a i);
         mids = λ a i p h. none_any (tells_mid (seen_of u) a.mid) ps
             (none_any (λ (x : Mirror). list_any (tells_mid (seen_of u) x.mid) ps) u.state.mirrors
-            (good refusals.MidTaken (inr (inl refl))) a i) p h;
+            (good refusals.MidTaken refl) a i) p h;
         fresh = λ p h. new_name u.state p (none_from (component_of u.state p)
             (none_any (λ q. is_some (component_of u.state q)) ps
-            (good refusals.ProviderTaken (inr (inr (inr (inl refl))))) p h));
-        once = (or_parts _ _ (good refusals.DidTaken (inr (inr (inr (inr (inl refl))))))).1;
+            (good refusals.ProviderTaken refl) p h));
+        once = (or_parts _ _ (good refusals.DidTaken refl)).1;
         room = omega arith;
         adoptable = b.1;
         limit = λ p h k e.

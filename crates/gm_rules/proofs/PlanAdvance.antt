@@ -406,10 +406,10 @@ pub advance_has : (u : World) (key n p : List ℕ) → Sound u → CanAnswer u k
     → IsGood u.state (seen_of u) (Advance n p) → HasPlan u key (Advance n p)
 advance_has u key n p sound answer good =
     by_name u.state n (λ a. CanAnswer u key (Advance a p) → IsGood u.state (seen_of u) (Advance a p)
-    → HasPlan u key (Advance a p)) (good refusals.NoMirror (inl refl))
+    → HasPlan u key (Advance a p)) (good refusals.NoMirror refl)
     (λ m here found answer good.
     let old : List Component = members u.state.components m.name in
-    let k = is_member old p (good refusals.NotMember (inr (inr (inl refl)))) in
+    let k = is_member old p (good refusals.NotMember refl) in
     let mine = Has-filter (λ (i : Component). same_label i.mirror m.name) u.state.components k.0
     k.1 in
     let at : component_of u.state p ≡ Some k.0 =
@@ -417,10 +417,10 @@ advance_has u key n p sound answer good =
     (find_one provider u.state.components sound.state.components_in_order k.0 mine.0) in
     let home : k.0.mirror ≡ m.name = same_is k.0.mirror m.name mine.1 in
     let filled = is_copying u.state m.name p sound.state m k.0 found at home
-    (good refusals.NotSynchronizing (inr (inr (inr (inr (inl refl)))))) in
+    (good refusals.NotSynchronizing refl) in
     let from = lender u.state m.name p sound.state m k.0 found at home (λ e. (let f : ⊥ = cc in
     f)) (source_of u.state p) (source_of_is u.state p sound.state) in
-    let there = each_there u (p ∷ []) old (good refusals.Absent (inr (inl refl))) in
+    let there = each_there u (p ∷ []) old (good refusals.Absent refl) in
     subst (λ (q : List ℕ). from.0.provider ≢ q → source_of u.state q ≡ Some from.0.provider
     → CanAnswer u key (Advance m.name q) → IsGood u.state (seen_of u) (Advance m.name q)
     → HasPlan u key (Advance m.name q)) k.2

@@ -119,14 +119,14 @@ pub clear_has : (u : World) (key p : List ℕ) → Sound u → CanAnswer u key (
     → IsGood u.state (seen_of u) (commands.Clear p) → HasPlan u key (commands.Clear p)
 clear_has u key p sound answer good =
     let absent = or_parts (list_any (λ q. is_none (present u q)) (p ∷ [])) _
-    (good refusals.Absent (inl refl)) in
+    (good refusals.Absent refl) in
     let size = there_from (present u p) (any_one (λ q. is_none (present u q)) p absent.0) in
     let wrong : is_there_and (present u p) has_wrong_size ≡ false =
     any_one (λ q. is_there_and (present u q) has_wrong_size) p
-    (good refusals.WrongSize (inr (inr (inl refl)))) in
+    (good refusals.WrongSize refl) in
     let range = right_size size.0 (fails_there (present u p) size.0 has_wrong_size size.1 wrong) in
     let big : 2 ≤ size.0 = range.0 in
     let fresh = new_name u.state p (none_from (component_of u.state p)
     (any_one (λ q. is_some (component_of u.state q)) p
-    (good refusals.ProviderTaken (inr (inl refl))))) in
+    (good refusals.ProviderTaken refl))) in
     clear_plan u key p sound fresh size.0 size.1 (omega arith) good answer

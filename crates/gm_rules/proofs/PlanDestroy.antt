@@ -170,7 +170,7 @@ pub destroy_has : (u : World) (key n : List ℕ) → Sound u → CanAnswer u key
     → IsGood u.state (seen_of u) (Destroy n) → HasPlan u key (Destroy n)
 destroy_has u key n sound answer good =
     by_name u.state n (λ a. CanAnswer u key (Destroy a) → IsGood u.state (seen_of u) (Destroy a)
-    → HasPlan u key (Destroy a)) (good refusals.NoMirror (inl refl))
+    → HasPlan u key (Destroy a)) (good refusals.NoMirror refl)
     (λ m here found answer good. destroy_plan u key m sound here
     (each_there u [] (members u.state.components m.name)
-    (good refusals.Absent (inr (inl refl)))) good answer) answer good
+    (good refusals.Absent refl)) good answer) answer good

@@ -183,26 +183,26 @@ can_insert : (u : World) (new : NewComponent) → Sound u → IsGood u.state (se
 can_insert u new sound good =
     let n = new.name in
     let p = new.provider in
-    let found = there_from (mirror_of u.state n) (good refusals.NoMirror (inl refl)) in
+    let found = there_from (mirror_of u.state n) (good refusals.NoMirror refl) in
     let m : Mirror = found.0 in
     let at_n = named u.state n m found.1 in
     let absent = or_parts (list_any (λ q. is_none (present u q)) (p ∷ [])) _
-    (good refusals.Absent (inr (inl refl))) in
+    (good refusals.Absent refl) in
     let size = there_from (present u p) (any_one (λ q. is_none (present u q)) p absent.0) in
     let sectors : ℕ = size.0 in
     let wrong : is_there_and (present u p) has_wrong_size ≡ false =
     any_one (λ q. is_there_and (present u q) has_wrong_size) p
-    (good refusals.WrongSize (inr (inr (inr (inr (inr (inr (inr (inr (inl refl)))))))))) in
+    (good refusals.WrongSize refl) in
     let range = right_size sectors
     (fails_there (present u p) sectors has_wrong_size size.1 wrong) in
     let small : is_there_and (present u p) (λ n. nat_lt n (m.data_sectors + 1)) ≡ false =
     any_one (λ q. is_there_and (present u q) (λ n. nat_lt n (m.data_sectors + 1))) p
     (fails_there (mirror_of u.state n) m
     (λ a. list_any (λ q. is_there_and (present u q) (λ n. nat_lt n (a.data_sectors + 1)))
-    (p ∷ [])) found.1 (good refusals.TooSmall (inr (inr (inr (inr (inl refl))))))) in
+    (p ∷ [])) found.1 (good refusals.TooSmall refl)) in
     let full : (m.all == 16) ≡ false =
     fails_there (mirror_of u.state n) m (λ a. a.all == 16) found.1
-    (or_parts _ _ (good refusals.Full (inr (inr (inr (inr (inr (inr (inl refl))))))))).0 in
+    (or_parts _ _ (good refusals.Full refl)).0 in
     let all : m.all ≤ 16 = (sound.state.each m at_n.0).all in
     let apart : m.all ≢ 16 = not_at m.all 16 full in
     let some : 2 ≤ sectors = range.0 in (
@@ -214,21 +214,21 @@ can_insert u new sound good =
         size = size.1;
         fresh = new_name u.state p (none_from (component_of u.state p)
             (any_one (λ q. is_some (component_of u.state q)) p
-            (good refusals.ProviderTaken (inr (inr (inl refl))))));
+            (good refusals.ProviderTaken refl)));
         big = not_below sectors (m.data_sectors + 1)
             (fails_there (present u p) sectors (λ n. nat_lt n (m.data_sectors + 1)) size.1 small);
         limit = range.1;
         dids = λ k o. not_at k.did new.did
             (none_any _ (members u.state.components n)
-            (or_parts _ _ (good refusals.DidTaken (inr (inr (inr (inr (inr (inl refl)))))))).0 k
+            (or_parts _ _ (good refusals.DidTaken refl)).0 k
             (subst (λ (a : List ℕ). Has (members u.state.components a) k) at_n.1 o));
         room = omega arith;
         there = λ k o. each_there u (p ∷ []) (members u.state.components n)
-            (good refusals.Absent (inr (inl refl))) k
+            (good refusals.Absent refl) k
             (subst (λ (a : List ℕ). Has (members u.state.components a) k) at_n.1 o);
         bare = carries_nothing u p sectors size.1 (omega arith)
             (any_one (λ q. last_carries (last_of u q)) p
-            (good refusals.CarriesMetadata (inr (inr (inr (inl refl))))));
+            (good refusals.CarriesMetadata refl));
       },
     )
 

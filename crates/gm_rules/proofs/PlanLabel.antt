@@ -112,20 +112,20 @@ can_label : (u : World) (new : NewMirror) → Sound u → IsGood u.state (seen_o
 can_label u new sound good =
     let p = new.provider in
     let absent = or_parts (list_any (λ q. is_none (present u q)) (p ∷ [])) _
-    (good refusals.Absent (inr (inr (inl refl)))) in
+    (good refusals.Absent refl) in
     let size = there_from (present u p) (any_one (λ q. is_none (present u q)) p absent.0) in
     let sectors : ℕ = size.0 in
     let wrong : is_there_and (present u p) has_wrong_size ≡ false =
     any_one (λ q. is_there_and (present u q) has_wrong_size) p
-    (good refusals.WrongSize (inr (inr (inr (inr (inr (inr (inl refl)))))))) in
+    (good refusals.WrongSize refl) in
     let range = right_size sectors
     (fails_there (present u p) sectors has_wrong_size size.1 wrong) in
     let free : mirror_of u.state new.name ≡ None =
-    none_from (mirror_of u.state new.name) (good refusals.NameTaken (inl refl)) in
+    none_from (mirror_of u.state new.name) (good refusals.NameTaken refl) in
     let count : length u.state.mirrors ≤ 64 = sound.state.count in
     let many : length u.state.mirrors ≢ 64 =
     not_at (length u.state.mirrors) 64
-    (good refusals.TooManyMirrors (inr (inr (inr (inr (inr (inl refl))))))) in
+    (good refusals.TooManyMirrors refl) in
     let some : 2 ≤ sectors = range.0 in (
       sectors,
       record {
@@ -135,14 +135,14 @@ can_label u new sound good =
         names = λ a i e. not_both (same_label a.name new.name) (same_from a.name new.name e)
             (found_none (λ (x : Mirror). same_label x.name new.name) u.state.mirrors free a i);
         mids = λ a i. not_at a.mid new.mid
-            (none_any _ u.state.mirrors (good refusals.MidTaken (inr (inl refl))) a i);
+            (none_any _ u.state.mirrors (good refusals.MidTaken refl) a i);
         fresh = new_name u.state p (none_from (component_of u.state p)
             (any_one (λ q. is_some (component_of u.state q)) p
-            (good refusals.ProviderTaken (inr (inr (inr (inl refl)))))));
+            (good refusals.ProviderTaken refl)));
         room = omega arith;
         bare = carries_nothing u p sectors size.1 (omega arith)
             (any_one (λ q. last_carries (last_of u q)) p
-            (good refusals.CarriesMetadata (inr (inr (inr (inr (inl refl)))))));
+            (good refusals.CarriesMetadata refl));
       },
     )
 

@@ -36,15 +36,15 @@ pub remove_has : (u : World) (key n p : List ℕ) → Sound u → CanAnswer u ke
     → IsGood u.state (seen_of u) (Remove n p) → HasPlan u key (Remove n p)
 remove_has u key n p sound answer good =
     by_name u.state n (λ a. CanAnswer u key (Remove a p) → IsGood u.state (seen_of u) (Remove a p)
-    → HasPlan u key (Remove a p)) (good refusals.NoMirror (inl refl))
+    → HasPlan u key (Remove a p)) (good refusals.NoMirror refl)
     (λ m here found answer good.
     let old : List Component = members u.state.components m.name in
     let rules : IsMirror m old = sound.state.each m here in
     let can : CanTouch u m p = record {
       here = here;
-      there = each_there u (p ∷ []) old (good refusals.Absent (inr (inl refl)));
-      member = is_member old p (good refusals.NotMember (inr (inr (inl refl))));
-      active = other_active old p (good refusals.LastActive (inr (inr (inr (inr (inl refl))))));
+      there = each_there u (p ∷ []) old (good refusals.Absent refl);
+      member = is_member old p (good refusals.NotMember refl);
+      active = other_active old p (good refusals.LastActive refl);
     } in
     let stays : Component → Bool = λ k. not (same_label k.provider p) in
     let ks : List Component = filter stays old in
@@ -128,28 +128,28 @@ pub lost_has : (u : World) (key n : List ℕ) (ps : List (List ℕ)) → Sound u
     → HasPlan u key (Lost n ps)
 lost_has u key n ps sound answer good =
     by_name u.state n (λ a. CanAnswer u key (Lost a ps) → IsGood u.state (seen_of u) (Lost a ps)
-    → HasPlan u key (Lost a ps)) (good refusals.NoMirror (inl refl))
+    → HasPlan u key (Lost a ps)) (good refusals.NoMirror refl)
     (λ m here found answer good.
     let old : List Component = members u.state.components m.name in
     let rules : IsMirror m old = sound.state.each m here in
     let stays : Component → Bool = λ k. not (is_on_any ps k) in
     let ks : List Component = filter stays old in
     let gone : List ℕ → Bool = λ q. false in
-    let active = active_left old ps (good refusals.LastActive (inr (inr (inr (inl refl))))) in
+    let active = active_left old ps (good refusals.LastActive refl) in
     let small : m.genid < 4294967295 =
     one_more_loss u.state m.name m sound.state found
-    (good refusals.LastGenid (inr (inr (inr (inr (inl refl)))))) in
+    (good refusals.LastGenid refl) in
     let left : filter stays u.state.components ≡ without_all provider ps u.state.components =
     sym (without_all-filter ps u.state.components) in
     filtered_has u key (Lost m.name ps) m (record m { genid = m.genid + 1 }) stays (metas ks) sound
     (record {
       here = here;
-      there = awaited_there u [] stays old (good refusals.Absent (inr (inl refl)));
+      there = awaited_there u [] stays old (good refusals.Absent refl);
       same_name = refl;
       same_mid = refl;
       same_data = refl;
       same_syncid = refl;
-      alone = others_stay u m ps sound (good refusals.NotMember (inr (inr (inl refl))));
+      alone = others_stay u m ps sound (good refusals.NotMember refl);
       fits = record {
         name = rules.fits.name;
         mid = rules.fits.mid;

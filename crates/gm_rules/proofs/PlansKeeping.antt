@@ -37,15 +37,15 @@ pub activate_has : (u : World) (key n p : List ℕ) → Sound u → CanAnswer u 
 activate_has u key n p sound answer good =
     by_name u.state n (λ a. CanAnswer u key (Activate a p)
     → IsGood u.state (seen_of u) (Activate a p) → HasPlan u key (Activate a p))
-    (good refusals.NoMirror (inl refl))
+    (good refusals.NoMirror refl)
     (λ m here found answer good.
     let ks : List Component = members u.state.components m.name in
     let rules : IsMirror m ks = sound.state.each m here in
     let can : CanTouch u m p = record {
       here = here;
-      there = each_there u (p ∷ []) ks (good refusals.Absent (inr (inl refl)));
-      member = is_member ks p (good refusals.NotMember (inr (inr (inl refl))));
-      active = other_in_use ks p (good refusals.NotInactive (inr (inr (inr (inl refl)))))
+      there = each_there u (p ∷ []) ks (good refusals.Absent refl);
+      member = is_member ks p (good refusals.NotMember refl);
+      active = other_in_use ks p (good refusals.NotInactive refl)
           rules.active;
     } in
     replaced_has u key (Activate m.name p) m p (activated m) sound can
@@ -66,17 +66,17 @@ pub rebuild_has : (u : World) (key n p : List ℕ) → Sound u → CanAnswer u k
     → IsGood u.state (seen_of u) (Rebuild n p) → HasPlan u key (Rebuild n p)
 rebuild_has u key n p sound answer good =
     by_name u.state n (λ a. CanAnswer u key (Rebuild a p) → IsGood u.state (seen_of u) (Rebuild a p)
-    → HasPlan u key (Rebuild a p)) (good refusals.NoMirror (inl refl))
+    → HasPlan u key (Rebuild a p)) (good refusals.NoMirror refl)
     (λ m here found answer good.
     let ks : List Component = members u.state.components m.name in
     let rules : IsMirror m ks = sound.state.each m here in
     let can : CanTouch u m p = record {
       here = here;
-      there = each_there u (p ∷ []) ks (good refusals.Absent (inr (inl refl)));
-      member = is_member ks p (good refusals.NotMember (inr (inr (inl refl))));
-      active = other_active ks p (good refusals.LastActive (inr (inr (inr (inl refl)))));
+      there = each_there u (p ∷ []) ks (good refusals.Absent refl);
+      member = is_member ks p (good refusals.NotMember refl);
+      active = other_active ks p (good refusals.LastActive refl);
     } in
-    let used = in_use ks p (good refusals.Inactive (inr (inr (inr (inr (inl refl)))))) in
+    let used = in_use ks p (good refusals.Inactive refl) in
     replaced_has u key (Rebuild m.name p) m p rebuilt sound can
     (record { provider = λ k. refl; mirror = λ k. refl; did = λ k. refl; sectors = λ k. refl })
     (λ k h e. record {
@@ -96,7 +96,7 @@ pub forget_has : (u : World) (key n : List ℕ) → Sound u → CanAnswer u key 
     → IsGood u.state (seen_of u) (Forget n) → HasPlan u key (Forget n)
 forget_has u key n sound answer good =
     by_name u.state n (λ a. CanAnswer u key (Forget a) → IsGood u.state (seen_of u) (Forget a)
-    → HasPlan u key (Forget a)) (good refusals.NoMirror (inl refl))
+    → HasPlan u key (Forget a)) (good refusals.NoMirror refl)
     (λ m here found answer good.
     let ks : List Component = members u.state.components m.name in
     let rules : IsMirror m ks = sound.state.each m here in
@@ -104,7 +104,7 @@ forget_has u key n sound answer good =
     let m' : Mirror = record m { all = length ks } in
     mapped_has u key (Forget m.name) m m' same (metas (map same ks)) sound (record {
       here = here;
-      there = each_there u [] ks (good refusals.Absent (inr (inl refl)));
+      there = each_there u [] ks (good refusals.Absent refl);
       same_name = refl;
       same_mid = refl;
       same_data = refl;
@@ -177,7 +177,7 @@ pub deactivate_has : (u : World) (key n p : List ℕ) → Sound u → CanAnswer 
 deactivate_has u key n p sound answer good =
     by_name u.state n (λ a. CanAnswer u key (Deactivate a p)
     → IsGood u.state (seen_of u) (Deactivate a p)
-    → HasPlan u key (Deactivate a p)) (good refusals.NoMirror (inl refl))
+    → HasPlan u key (Deactivate a p)) (good refusals.NoMirror refl)
     (λ m here found answer good.
     let ks : List Component = members u.state.components m.name in
     let rules : IsMirror m ks = sound.state.each m here in
@@ -188,13 +188,13 @@ deactivate_has u key n p sound answer good =
     let keeps : Keeps f = keeps_where m.name g (keeps_deactivated (m.syncid + 1) p) in
     let mine : (k : Component) → Has ks k → is_mine k ≡ true =
     λ k h. (Has-filter is_mine u.state.components k h).1 in
-    let active = other_active ks p (good refusals.LastActive (inr (inr (inr (inl refl))))) in
+    let active = other_active ks p (good refusals.LastActive refl) in
     let small : m.syncid < 4294967295 =
     one_more_sync u.state m.name m sound.state found
-    (good refusals.LastSyncid (inr (inr (inr (inr (inr (inl refl))))))) in
+    (good refusals.LastSyncid refl) in
     mapped_has u key (Deactivate m.name p) m m' f (metas (map f ks)) sound (record {
       here = here;
-      there = each_there u (p ∷ []) ks (good refusals.Absent (inr (inl refl)));
+      there = each_there u (p ∷ []) ks (good refusals.Absent refl);
       same_name = refl;
       same_mid = refl;
       same_data = refl;
@@ -250,7 +250,7 @@ pub configure_has : (u : World) (key n : List ℕ) (settings : Settings) → Sou
 configure_has u key n settings sound answer good =
     by_name u.state n (λ a. CanAnswer u key (Configure a settings)
     → IsGood u.state (seen_of u) (Configure a settings)
-    → HasPlan u key (Configure a settings)) (good refusals.NoMirror (inl refl))
+    → HasPlan u key (Configure a settings)) (good refusals.NoMirror refl)
     (λ m here found answer good.
     let ks : List Component = members u.state.components m.name in
     let rules : IsMirror m ks = sound.state.each m here in
@@ -264,7 +264,7 @@ configure_has u key n settings sound answer good =
     mapped_has u key (Configure m.name settings) m m' f (metas (map f ks)) sound (record {
       here = here;
       there = each_there u (preferred settings.preference) ks
-          (good refusals.Absent (inr (inl refl)));
+          (good refusals.Absent refl);
       same_name = refl;
       same_mid = refl;
       same_data = refl;

@@ -21,7 +21,7 @@ use Rattle.gm_state.specs.Readable.{AreReadable}
 use Rattle.gm_state.specs.World.{World, Answered, Sound, Claims, Below, CopiesData, present}
 use Rattle.gm_commands.specs.Commands.{is_key}
 use Rattle.gm_refusals.specs.declared.refusals.Refusal.{Refusal}
-use Rattle.gm_refusals.specs.Refusals.{own}
+use Rattle.gm_refusals.specs.Refusals.{is_listed}
 use Rattle.gm_state.specs.Records.{Records, held_by}
 use Rattle.gm_refusals.specs.Applies.{applies, members_named}
 use Rattle.gm_refusals.specs.WorldFacts.{seen_of}
@@ -30,7 +30,7 @@ use Rattle.gm_changes.specs.After.{after, intents_of, reply_to, clears, fills}
 
 -- the refusal applies to the command in the world
 pub record Bad (u : World) (c : Command) (r : Refusal) : Type 0 where
-  pub listed : Has (own c) r
+  pub listed : is_listed c r ≡ true
   pub met : applies u.state (seen_of u) c r ≡ true
 
 -- sector j of q is the last one of a component after the command, or of a provider that is cleared,

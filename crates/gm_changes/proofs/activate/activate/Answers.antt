@@ -8,12 +8,12 @@ use Rattle.gm_changes.proofs.activate.activate.Goals as goal
 
 pub unwrap-mirror-requires : goal.unwrap-mirror-requires
 unwrap-mirror-requires c =
-    rw c.mirror.ensures.value (some_from _ (c.requires refusals.NoMirror (inl refl) refl))
+    rw c.mirror.ensures.value (some_from _ (c.requires refusals.NoMirror refl refl))
 
 pub unwrap-component-requires : goal.unwrap-component-requires
 unwrap-component-requires c =
     rw c.component.ensures.value (member_found c.args.part.now c.args.name c.args.provider
-    (c.requires refusals.NotMember (inr (inr (inl refl))) refl))
+    (c.requires refusals.NotMember refl refl))
 
 pub returns : goal.returns
 returns c =

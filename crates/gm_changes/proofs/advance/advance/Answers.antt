@@ -9,12 +9,12 @@ use Rattle.gm_changes.proofs.advance.advance.Goals as goal
 
 pub unwrap-mirror-requires : goal.unwrap-mirror-requires
 unwrap-mirror-requires c =
-    rw c.mirror.ensures.value (some_from _ (c.requires refusals.NoMirror (inl refl) refl))
+    rw c.mirror.ensures.value (some_from _ (c.requires refusals.NoMirror refl refl))
 
 pub unwrap-component-requires : goal.unwrap-component-requires
 unwrap-component-requires c =
     rw c.component.ensures.value (member_found c.args.part.now c.args.name c.args.provider
-    (c.requires refusals.NotMember (inr (inr (inl refl))) refl))
+    (c.requires refusals.NotMember refl refl))
 
 pub unwrap-source-requires : goal.unwrap-source-requires
 unwrap-source-requires c =
@@ -23,9 +23,9 @@ unwrap-source-requires c =
     let at = sym c.component.ensures.value ∙ c.unwrap-component.ensures in
     let state = c.mirror.ensures.state in
     let home = home_of s c.args.name c.args.provider state _ at
-    (c.requires refusals.NotMember (inr (inr (inl refl))) refl) in
+    (c.requires refusals.NotMember refl refl) in
     let filled = is_copying s c.args.name c.args.provider state _ _ found at home
-    (c.requires refusals.NotSynchronizing (inr (inr (inr (inr (inl refl))))) refl) in
+    (c.requires refusals.NotSynchronizing refl refl) in
     let from = lender s c.args.name c.args.provider state _ _ found at home (λ e. (let f : ⊥ = cc in
     f)) c.source.result c.source.ensures.best in
     rw from.1 refl
@@ -36,7 +36,7 @@ advanced-requires c =
     let found = sym c.mirror.ensures.value ∙ c.unwrap-mirror.ensures in
     let at = sym c.component.ensures.value ∙ c.unwrap-component.ensures in
     let home = home_of s c.args.name c.args.provider c.mirror.ensures.state _ at
-    (c.requires refusals.NotMember (inr (inr (inl refl))) refl) in
+    (c.requires refusals.NotMember refl refl) in
     held_small s c.args.name c.args.provider c.mirror.ensures.state _ _ found at home
 
 pub returns : goal.returns

@@ -7,7 +7,7 @@ use Rattle.gm_changes.proofs.configure.configure.Goals as goal
 
 pub unwrap-mirror-requires : goal.unwrap-mirror-requires
 unwrap-mirror-requires c =
-    rw c.mirror.ensures.value (some_from _ (c.requires refusals.NoMirror (inl refl) refl))
+    rw c.mirror.ensures.value (some_from _ (c.requires refusals.NoMirror refl refl))
 
 pub returns : goal.returns
 returns c =

@@ -7,13 +7,13 @@ use Rattle.gm_changes.proofs.deactivate.deactivate.Goals as goal
 
 pub unwrap-mirror-requires : goal.unwrap-mirror-requires
 unwrap-mirror-requires c =
-    rw c.mirror.ensures.value (some_from _ (c.requires refusals.NoMirror (inl refl) refl))
+    rw c.mirror.ensures.value (some_from _ (c.requires refusals.NoMirror refl refl))
 
 pub deactivated-requires : goal.deactivated-requires
 deactivated-requires c =
     one_more_sync c.args.part.now c.args.name _ c.mirror.ensures.state
     (sym c.mirror.ensures.value ∙ c.unwrap-mirror.ensures)
-    (c.requires refusals.LastSyncid (inr (inr (inr (inr (inr (inl refl)))))) refl)
+    (c.requires refusals.LastSyncid refl refl)
 
 pub returns : goal.returns
 returns c =

@@ -7,13 +7,13 @@ use Rattle.gm_changes.proofs.lost.lose.Goals as goal
 
 pub unwrap-mirror-requires : goal.unwrap-mirror-requires
 unwrap-mirror-requires c =
-    rw c.mirror.ensures.value (some_from _ (c.requires refusals.NoMirror (inl refl) refl))
+    rw c.mirror.ensures.value (some_from _ (c.requires refusals.NoMirror refl refl))
 
 pub lost-requires : goal.lost-requires
 lost-requires c =
     one_more_loss c.args.part.now c.args.name _ c.mirror.ensures.state
     (sym c.mirror.ensures.value ∙ c.unwrap-mirror.ensures)
-    (c.requires refusals.LastGenid (inr (inr (inr (inr (inl refl))))) refl)
+    (c.requires refusals.LastGenid refl refl)
 
 pub returns : goal.returns
 returns c =

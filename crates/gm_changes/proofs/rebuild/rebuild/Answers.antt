@@ -8,7 +8,7 @@ use Rattle.gm_changes.proofs.rebuild.rebuild.Goals as goal
 pub unwrap-component-requires : goal.unwrap-component-requires
 unwrap-component-requires c =
     rw c.component.ensures.value (member_found c.args.part.now c.args.name c.args.provider
-    (c.requires refusals.NotMember (inr (inr (inl refl))) refl))
+    (c.requires refusals.NotMember refl refl))
 
 pub returns : goal.returns
 returns c =
