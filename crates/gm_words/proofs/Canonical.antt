@@ -1,5 +1,5 @@
 -- The canonical words of a command spell it, and so do they with `--` before the names.
-use Rattle.std.proofs.Common.{◌≡◌, ◌∙◌, ◌<◌, ◌^◌, ℕ, Bool, true, false, not, refl, ap, arith, List, [], ◌∷◌, ◌++◌, map, Some}
+use Rattle.std.proofs.Common.{◌≡◌, ◌∙◌, ◌<◌, ◌^◌, Bool, true, false, not, refl, ap, arith, List, [], ◌∷◌, ◌++◌, map, Some}
 use Rattle.std.specs.Prelude.{⊤, codes, option_map}
 use Rattle.std.specs.Fmt.{decimal}
 use Rattle.clap.proofs.OnLiterals.{clap_on_literals}
@@ -22,7 +22,7 @@ use Rattle.gm_words.proofs.ClapWalk.{ArePlain, Has, Said, exact, plain, spelled_
 
 -- ---- the table has each command
 
-has_label : Has (codes "label") (leaf label) label_of
+pub has_label : Has (codes "label") (leaf label) label_of
 unfolding clap_on_literals name names optional possible wanted command_of named_of
 has_label = record {
   meets = refl;
@@ -32,7 +32,7 @@ has_label = record {
   reads = λ found. refl;
 }
 
-has_insert : Has (codes "insert") (leaf insert) insert_of
+pub has_insert : Has (codes "insert") (leaf insert) insert_of
 unfolding clap_on_literals name names optional possible wanted command_of named_of
 has_insert = record {
   meets = refl;
@@ -42,7 +42,7 @@ has_insert = record {
   reads = λ found. refl;
 }
 
-has_remove : Has (codes "remove") (leaf (on_component (codes "remove"))) (of_component Remove)
+pub has_remove : Has (codes "remove") (leaf (on_component (codes "remove"))) (of_component Remove)
 unfolding clap_on_literals name names optional possible wanted command_of named_of
 has_remove = record {
   meets = refl;
@@ -52,7 +52,7 @@ has_remove = record {
   reads = λ found. refl;
 }
 
-has_deactivate : Has (codes "deactivate") (leaf (on_component (codes "deactivate")))
+pub has_deactivate : Has (codes "deactivate") (leaf (on_component (codes "deactivate")))
     (of_component Deactivate)
 unfolding clap_on_literals name names optional possible wanted command_of named_of
 has_deactivate = record {
@@ -63,7 +63,7 @@ has_deactivate = record {
   reads = λ found. refl;
 }
 
-has_activate : Has (codes "activate") (leaf (on_component (codes "activate")))
+pub has_activate : Has (codes "activate") (leaf (on_component (codes "activate")))
     (of_component Activate)
 unfolding clap_on_literals name names optional possible wanted command_of named_of
 has_activate = record {
@@ -74,7 +74,7 @@ has_activate = record {
   reads = λ found. refl;
 }
 
-has_forget : Has (codes "forget") (leaf (on_mirror (codes "forget"))) (of_mirror Forget)
+pub has_forget : Has (codes "forget") (leaf (on_mirror (codes "forget"))) (of_mirror Forget)
 unfolding clap_on_literals name names optional possible wanted command_of named_of
 has_forget = record {
   meets = refl;
@@ -84,7 +84,8 @@ has_forget = record {
   reads = λ found. refl;
 }
 
-has_rebuild : Has (codes "rebuild") (leaf (on_component (codes "rebuild"))) (of_component Rebuild)
+pub has_rebuild : Has (codes "rebuild") (leaf (on_component (codes "rebuild")))
+    (of_component Rebuild)
 unfolding clap_on_literals name names optional possible wanted command_of named_of
 has_rebuild = record {
   meets = refl;
@@ -94,7 +95,8 @@ has_rebuild = record {
   reads = λ found. refl;
 }
 
-has_advance : Has (codes "advance") (leaf (on_component (codes "advance"))) (of_component Advance)
+pub has_advance : Has (codes "advance") (leaf (on_component (codes "advance")))
+    (of_component Advance)
 unfolding clap_on_literals name names optional possible wanted command_of named_of
 has_advance = record {
   meets = refl;
@@ -104,7 +106,7 @@ has_advance = record {
   reads = λ found. refl;
 }
 
-has_clear : Has (codes "clear") (leaf (on_provider (codes "clear"))) (of_provider Clear)
+pub has_clear : Has (codes "clear") (leaf (on_provider (codes "clear"))) (of_provider Clear)
 unfolding clap_on_literals name names optional possible wanted command_of named_of
 has_clear = record {
   meets = refl;
@@ -114,7 +116,7 @@ has_clear = record {
   reads = λ found. refl;
 }
 
-has_destroy : Has (codes "destroy") (leaf (on_mirror (codes "destroy"))) (of_mirror Destroy)
+pub has_destroy : Has (codes "destroy") (leaf (on_mirror (codes "destroy"))) (of_mirror Destroy)
 unfolding clap_on_literals name names optional possible wanted command_of named_of
 has_destroy = record {
   meets = refl;

@@ -5,7 +5,7 @@ use Rattle.std.proofs.Common.{◌≡◌, ◌∙◌, ℕ, Bool, true, false, refl
 use Rattle.std.specs.Prelude.{⊤, if◌then◌else◌, fold}
 use Rattle.clap.specs.Kinds.{Kinds, or_else}
 use Rattle.clap.specs.Walk.{Held, Names, Row, Rule, Step, Text, Waiting, idle, option, positional, Walk, value, after_step, finished, nothing_held, plain_word, rows_after, settled, walk, walk_from, walked, walked_from, word_met}
-use Rattle.clap.specs.Faults.{check_fault, defaults_fault, entered_fault, fault_of, level_fault, settle_fault, step_fault, turn_fault, walk_fault, word_fault}
+use Rattle.clap.specs.Faults.{built_fault, check_fault, defaults_fault, entered_fault, fault_of, level_fault, settle_fault, step_fault, turn_fault, walk_fault, word_fault}
 use Rattle.clap.specs.Simple.{App, Shape, built, entered, names_of, subcommand_of}
 use Rattle.gm_commands.specs.declared.command.Command.{Command}
 use Rattle.gm_words.specs.Spelling.{IsNoFlag, command_of, spelled, taken}
@@ -167,6 +167,40 @@ begun = walk_from nothing_held
 abbrev pub ended : Shape → List Said → Walk
 ended s said = fold (said_walked s.rules) begun said
 
+-- a built table has the command n, of this shape
+pub record Meets (a : App) (n : Text) (s : Shape) : Type 0 where
+  pub meets : walked a.top.rules (names_of a) begun n ≡ met_with n []
+  pub passes : turn_fault a.top (names_of a) begun n ≡ []
+  pub rows : (behind : List Text)
+      → entered a (Some (n, behind)) ≡ Some (n, rows_after s.rules [] behind)
+  pub faults : (behind : List Text)
+      → top_fault a (met_with n behind) []
+      ≡ or_else (level_fault s [] nothing_held behind false []) []
+
+module _ (a : App) (n : Text) (s : Shape) (has : Meets a n s) where
+  met : (behind : List Text) → walk a.top.rules (names_of a) nothing_held (n ∷ behind)
+      ≡ met_with n behind
+  met behind =
+      ap (λ (w : Walk). fold (walked a.top.rules (names_of a)) w behind) has.meets
+      ∙ behind_walk a.top.rules (names_of a) n [] behind
+
+  no_fault : (behind : List Text) → walk_fault a.top (names_of a) begun (n ∷ behind) ≡ []
+  unfolding walk_fault
+  no_fault behind =
+      ap₂ or_else has.passes (ap (λ (w : Walk). walk_fault a.top (names_of a) w behind)
+      has.meets ∙ behind_fault a.top (names_of a) n [] behind)
+
+  -- what is wrong with words is what is wrong with those behind the command's
+  pub own_fault : (behind : List Text) → built_fault a nothing_held (n ∷ behind)
+      ≡ or_else (level_fault s [] nothing_held behind false []) []
+  own_fault behind = ap₂ (top_fault a) (met behind) (no_fault behind) ∙ has.faults behind
+
+  -- what is found of words is found of those behind the command's
+  pub own_rows : (behind : List Text)
+      → entered a (walk a.top.rules (names_of a) nothing_held (n ∷ behind)).stopped
+      ≡ Some (n, rows_after s.rules [] behind)
+  own_rows behind = ap (λ (w : Walk). entered a w.stopped) (met behind) ∙ has.rows behind
+
 -- the table has the command n, of this shape, and what is found for it is read so
 pub record Has (n : Text) (s : Shape) (read : List Row → Option Command) : Type 0 where
   pub meets : walked app.top.rules (names_of app) begun n ≡ met_with n []
@@ -179,17 +213,13 @@ pub record Has (n : Text) (s : Shape) (read : List Row → Option Command) : Typ
   pub reads : (found : List Row) → command_of n found ≡ read found
 
 module _ (n : Text) (s : Shape) (read : List Row → Option Command) (has : Has n s read) where
-  met : (behind : List Text) → walk app.top.rules (names_of app) nothing_held (n ∷ behind)
-      ≡ met_with n behind
-  met behind =
-      ap (λ (w : Walk). fold (walked app.top.rules (names_of app)) w behind) has.meets
-      ∙ behind_walk app.top.rules (names_of app) n [] behind
-
-  no_fault : (behind : List Text) → walk_fault app.top (names_of app) begun (n ∷ behind) ≡ []
-  unfolding walk_fault
-  no_fault behind =
-      ap₂ or_else has.passes (ap (λ (w : Walk). walk_fault app.top (names_of app) w behind)
-      has.meets ∙ behind_fault app.top (names_of app) n [] behind)
+  pub in_table : Meets app n s
+  in_table = record {
+    meets = has.meets;
+    passes = has.passes;
+    rows = has.rows;
+    faults = has.faults;
+  }
 
   -- the command that words spell, where its own words pass
   pub spelled_as : (said : List Said) → ArePlain said
@@ -202,9 +232,8 @@ module _ (n : Text) (s : Shape) (read : List Row → Option Command) (has : Has 
       ap₂ (leaf_fault s) (said_all s.rules begun said free) (fault_all s begun said free)
       ∙ passes in
       let fault : fault_of table (n ∷ behind) ≡ [] =
-      ap₂ (top_fault app) (met behind) (no_fault behind)
-      ∙ (has.faults behind ∙ ap (λ (k : Kinds). or_else k []) own) in
+      own_fault app n s in_table behind ∙ ap (λ (k : Kinds). or_else k []) own in
       let rows : subcommand_of table (n ∷ behind) ≡ Some (n, finished s.rules (ended s said).held) =
-      ap (λ (w : Walk). entered app w.stopped) (met behind) ∙ (has.rows behind
-      ∙ ap (λ (w : Walk). Some (n, finished s.rules w.held)) (said_all s.rules begun said free)) in
+      own_rows app n s in_table behind
+      ∙ ap (λ (w : Walk). Some (n, finished s.rules w.held)) (said_all s.rules begun said free) in
       ap₂ taken fault rows ∙ has.reads (finished s.rules (ended s said).held)

@@ -22,7 +22,7 @@ use Rattle.gm_words.proofs.Options.{AreOptions, Ends, IsOption, Slot, Stands, al
 use Rattle.gm_words.proofs.Rows.{added, added_new, given_last, row}
 use Rattle.gm_words.proofs.ClapWalk.{ArePlain, begun, Has, Said, spelled_as, text_of, said_fault, said_walked}
 
-has_configure : Has (codes "configure") (leaf configure) configure_of
+pub has_configure : Has (codes "configure") (leaf configure) configure_of
 unfolding clap_on_literals name names optional possible wanted command_of
 has_configure = record {
   meets = refl;

@@ -1,4 +1,5 @@
 pub mod Canonical
+pub mod OneCommand
 pub mod Options
 pub mod Rows
 pub mod Several

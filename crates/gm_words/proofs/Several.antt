@@ -105,7 +105,7 @@ providers_again p ps labels = rw (labels, nonzero (length (p ∷ ps)) (omega ari
 
 -- ---- what clap finds
 
-has_lost : Has (codes "lost") (leaf (on_several (codes "lost"))) (several_of Lost)
+pub has_lost : Has (codes "lost") (leaf (on_several (codes "lost"))) (several_of Lost)
 unfolding clap_on_literals name names optional possible wanted command_of
 has_lost = record {
   meets = refl;
@@ -115,7 +115,7 @@ has_lost = record {
   reads = λ found. refl;
 }
 
-has_adopt : Has (codes "adopt") (leaf (on_several (codes "adopt"))) (several_of Adopt)
+pub has_adopt : Has (codes "adopt") (leaf (on_several (codes "adopt"))) (several_of Adopt)
 unfolding clap_on_literals name names optional possible wanted command_of
 has_adopt = record {
   meets = refl;

@@ -1,3 +1,4 @@
+pub mod Alike
 pub mod Dump
 pub mod Kinds
 pub mod Lines

@@ -1,11 +1,14 @@
 //! The table of the commands' words, for clap. `COMMANDS` has the commands, each with its kind, and
 //! beside each kind stand the words that its commands take, in the order in which clap has them.
 
-ghost use Rattle.std.specs.Prelude.{◌≡◌, IfOk, false};
+ghost use Rattle.std.specs.Prelude.{◌≡◌, ◌∷◌, List, IfOk, false, find};
+ghost use Rattle.std.specs.Str.{bytes_eq};
+ghost use Rattle.clap.specs.Walk.{Text, texts};
 ghost use Rattle.clap.specs.Words.{app_of, new_app, rule_of, with_rule, with_subcommand};
 ghost use Rattle.clap.specs.declared.builder.command.Command.TheViews.{out-Command};
 ghost use Rattle.gm_words.specs.Table.{commands, name, names, optional, possible, table, wanted};
 ghost use Rattle.gm_words.specs.Kinds.{command_of_kind, with_rows, with_words};
+ghost use Rattle.gm_words.specs.Alike.{ReadsAlike};
 
 use clap::{Arg, ArgAction, Command};
 use std::alloc::{AllocError, Global};
@@ -244,9 +247,37 @@ fn with_rows<'a>(
     Ok(command)
 }
 
-/// The whole table.
-pub(crate) fn table<'a>(alloc: Global) -> Result<Command<'a>, AllocError>
+// The whole table.
+fn table<'a>(alloc: Global) -> Result<Command<'a>, AllocError>
     ensures { IfOk result (λ c. app_of c ≡ table) }
 {
     with_rows(alloc, commands(alloc), &COMMANDS)
+}
+
+// The row of the command of this word.
+fn row_of(rows: &[(&'static str, Kind)], word: &str) -> Option<(&'static str, Kind)>
+    ensures { result ≡ find (λ row. bytes_eq row.0.now word.now) rows.now }
+{
+    rows.iter().copied().find(|row| row.0 == word)
+}
+
+// Of the table the command of this word alone, where there is one.
+fn table_of<'a>(alloc: Global, word: &str) -> Result<Command<'a>, AllocError>
+    ensures { IfOk result (λ c. (behind : List Text) → ReadsAlike (app_of c) (word.now ∷ behind)) }
+{
+    match row_of(&COMMANDS, word) {
+        Some(row) => with_rows(alloc, commands(alloc), &[row]),
+        None => table(alloc),
+    }
+}
+
+/// A table that reads these words as the whole table does. To make it takes most of the time that
+/// words take, so it has no more commands than it needs.
+pub(crate) fn table_for<'a>(alloc: Global, words: &[&str]) -> Result<Command<'a>, AllocError>
+    ensures { IfOk result (λ c. ReadsAlike (app_of c) (texts words.now)) }
+{
+    match words.first() {
+        Some(word) => table_of(alloc, word),
+        None => table(alloc),
+    }
 }

@@ -6,7 +6,7 @@ ghost use Rattle.clap.specs.Walk.{all_of, first_of, texts};
 ghost use Rattle.gm_words.specs.Spelling.{balance_at, balance_in, command_of, component_at, configure_of, flags_at, if_given, insert_of, label_at, label_of, named_of, number_at, number_below, preference_in, priority_at, providers_at, providers_in, settings_at, several_at, slice_at, slice_in, spelled, switch_at, switch_in};
 ghost use Rattle.gm_words.specs.Table.{table};
 
-use crate::clap_table::table;
+use crate::clap_table::table_for;
 use clap::error::ErrorKind;
 use clap::{ArgMatches, Error};
 use gm_commands::{
@@ -374,7 +374,7 @@ fn parsed<'a>(alloc: Global, words: &'a [&'a str]) -> Result<ArgMatches<'a>, Err
     ensures refused { IfErr result (λ e. kind_of e ≢ ErrorKind.OutOfMemory
         → fault_of table (texts words.entry.now) ≢ []) }
 {
-    table(alloc)?.try_get_matches_from(words)
+    table_for(alloc, words)?.try_get_matches_from(words)
 }
 
 // The command that clap found, where each value is one of its kind.
