@@ -42,6 +42,7 @@ use Rattle.gm_refusals.proofs.SeenAlike.{SeeAlike, same_source}
 use Rattle.gm_refusals.proofs.TakenProviders.{taken_name}
 use Rattle.gm_changes.specs.After.{after, intents_of}
 use Rattle.gm_changes.proofs.DecidedInWorld.{AdoptAlike, AskAlike, asks_last, same_after, same_applies}
+use Rattle.gm_rules.specs.Itself.{IsItself}
 use Rattle.gm_rules.specs.Step.{CanAnswer, HasPlan}
 use Rattle.gm_rules.proofs.AdoptedState.{is_adopted, roomy, size_is}
 use Rattle.gm_rules.proofs.EveryPlan.{every_plan}
@@ -91,12 +92,6 @@ last_by (Some d) told = encoded d
 abbrev data_by : Option Component → ℕ → ℕ → List ℕ
 data_by None equals i = if i == equals then 0 ∷ [] else []
 data_by (Some k) equals i = []
-
--- an adoption's source is equal to itself as far as the data go
-abbrev pub IsItself : Seen → Command → Type 0
-IsItself x (Adopt n ps) = (b : Member) → source_in x ps ≡ Some b
-    → x.equal b.provider b.provider (data_of b.metadata) ≡ true
-IsItself x _ = Unit {0}
 
 listed_absent : (c : Command) → Has (own c) Absent
 listed_absent (Label new) = inr (inr (inl refl))
@@ -440,9 +435,11 @@ module _ (s : Records) (facts : List Fact) where
           (good WrongSize (inr (inr (inr (inr (inr (inr (inr (inr (inl refl))))))))))
           (good Absent (inr (inr (inl refl))))
 
+      fit : is_adoptable (seen_in facts) n ps ≡ true
+      fit = not-false _ (good NotAdoptable (inr (inr (inr (inr (inr (inr (inr (inl refl)))))))))
+
       adoption : (b : Member) × IsAdoptable (seen_in facts) n ps b
-      adoption = adoptable (seen_in facts) n ps (not-false _
-          (good NotAdoptable (inr (inr (inr (inr (inr (inr (inr (inl refl))))))))))
+      adoption = adoptable (seen_in facts) n ps fit
 
       room_free : (p : List ℕ) (h : Has ps p) → data_of adoption.0.metadata < (adopt_free p h).sectors
       room_free p h =
@@ -478,7 +475,7 @@ module _ (s : Records) (facts : List Fact) where
             let was : source_in (seen_in facts) ps ≡ Some adoption.0 = adoption.1.source in
             let same : adoption.0 ≡ b = cc in
             let all : data_of adoption.0.metadata ≤ equals_in facts adoption.0.provider =
-            leb-true _ _ (itself adoption.0 was) in
+            leb-true _ _ (itself fit adoption.0 was) in
             let low' : k ≤ data_of adoption.0.metadata =
             subst (λ (m : Member). k ≤ data_of m.metadata) (sym same) low in
             subst (λ (m : Member). nat_le k (equals_in facts p)
