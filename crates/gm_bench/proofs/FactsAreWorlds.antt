@@ -4,7 +4,7 @@ use Rattle.std.proofs.Math.Nat.{min-zero}
 use Rattle.std.proofs.lemmas.List.{take_more}
 use Rattle.gm_metadata.specs.Images.{Image, Sizes, Same, agree, same_label}
 use Rattle.std.specs.Str.{bytes_eq}
-use Rattle.std.specs.Prelude.{MatchOption}
+use Rattle.std.specs.Prelude.{IfSome, MatchOption}
 use Rattle.gm_lists.specs.Ordered.{Has}
 use Rattle.gm_lists.proofs.Order.{same_is, same_from}
 use Rattle.gm_lists.proofs.Finding.{found, found_none, not_both, option_cases}
@@ -12,7 +12,7 @@ use Rattle.gm_refusals.specs.declared.facts.Fact.{Fact}
 use Rattle.gm_refusals.specs.Facts.{equals_in}
 use Rattle.gm_apply.specs.EqualData.{CountsEqual, count_of, reach_of}
 use Rattle.gm_bench.specs.declared.adopt_scope.Compared.{Compared}
-use Rattle.gm_bench.specs.ShelfFacts.{AreEqual, IsFact, Tell, last_of}
+use Rattle.gm_bench.specs.ShelfFacts.{AreEqual, IsFact, Tell, TellSizes, last_of}
 
 -- the provider is absent, or there is an entry for it
 abbrev pub IsCovered : List Fact → Sizes → List ℕ → Type 0
@@ -86,6 +86,29 @@ tell entries size seen against q facts covered =
                 fact.equal);
           }
     ]
+
+-- entries that have the shelf's sizes tell them
+pub tell_sizes : (entries : List Fact) (size : Sizes)
+    → ((f : Fact) → Has entries f → size f.provider ≡ Some f.sectors) → TellSizes entries size
+tell_sizes entries size told q n e =
+    elim (option_cases (find (λ (f : Fact). same_label f.provider q) entries)) [
+      | inl none ↦ (let f : None ≡ Some n = rw none at e in absurd (let h : ⊥ = cc in h))
+      | inr some ↦
+          let f : Some some.0.sectors ≡ Some n = rw some.1 at e in
+          let is = found (λ (g : Fact). same_label g.provider q) entries some.0 some.1 in
+          subst (λ (p : List ℕ). size p ≡ Some some.0.sectors) (same_is some.0.provider q is.1)
+          (told some.0 is.0) ∙ f
+    ]
+
+-- what was found of one provider has the shelf's size
+pub size_found : (found : Option Fact) (f : Fact) (size : Sizes) (name : List ℕ) → found ≡ Some f
+    → IfSome found (λ g. (g.provider ≡ name) × (size name ≡ Some g.sectors))
+    → size f.provider ≡ Some f.sectors
+size_found None f size name e m = absurd (let h : ⊥ = cc in h)
+size_found (Some g) f size name e m =
+    let same : g ≡ f = cc in
+    subst (λ (x : Fact). size x.provider ≡ Some x.sectors) same
+    (ap size m.0 ∙ m.1)
 
 pub has_either : {X : Type 0} (xs : List X) (x q : X) → Has (xs ++ x ∷ []) q → Has xs q ⊎ (x ≡ q)
 has_either [] x q (inl e) = inr e

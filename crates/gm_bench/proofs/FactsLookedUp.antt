@@ -5,7 +5,7 @@ use Rattle.std.proofs.Math.Nat.{le-min}
 use Rattle.gm_metadata.specs.Images.{Image, Sizes, zeros}
 use Rattle.gm_commands.specs.declared.command.Command.{Command}
 use Rattle.gm_commands.specs.declared.command.Command.TheVariants.{Adopt}
-use Rattle.gm_state.specs.Records.{provider}
+use Rattle.gm_state.specs.Records.{Records, provider}
 use Rattle.gm_state.specs.Rows.{Tables}
 use Rattle.gm_lists.specs.Ordered.{Has}
 use Rattle.gm_state.specs.World.{World, present}
@@ -21,8 +21,11 @@ use Rattle.gm_refusals.proofs.SeenAlike.{SeeAlike, same_source}
 use Rattle.gm_apply.specs.EqualData.{reach_of}
 use Rattle.gm_bench.specs.declared.adopt_scope.Compared.{Compared}
 use Rattle.gm_bench.specs.AdoptScope.{adopted_from, compared_with}
+use Rattle.gm_shelf.specs.declared.shelf.Shelf.{Ghosts as ShelfGhosts}
+use Rattle.gm_rules.specs.Itself.{IsItself}
+use Rattle.gm_rules.proofs.AdoptedEqual.{agree_itself}
 use Rattle.gm_bench.specs.Leading.{whole, Leads}
-use Rattle.gm_bench.specs.ShelfFacts.{AreEqual, Tell, last_of}
+use Rattle.gm_bench.specs.ShelfFacts.{AreEqual, ComparesHonestly, Tell, last_of}
 use Rattle.gm_bench.proofs.ShelfProviders.{masked, there_full, whole_there}
 use Rattle.gm_bench.proofs.WorldAtRest.{at_rest}
 use Rattle.gm_bench.proofs.FactsAreWorlds.{agree_same}
@@ -36,6 +39,14 @@ same_last (Some n) x y same = ap Some (by_test (n == 0) (same refl (n - 1)))
     by_test : (b : Bool) → x (n - 1) ≡ y (n - 1)
         → (if b then zeros else x (n - 1)) ≡ (if b then zeros else y (n - 1))
     by_test b e = ap (λ v. if b then zeros else v) e
+
+-- so many sectors as both have are compared
+within : (size : Sizes) (p q : List ℕ) (a b d k : ℕ) → size p ≡ Some a → size q ≡ Some b → d < a → d < b → k ≤ d
+    → k ≤ reach_of size p q d
+within size p q a b d k first second below less low =
+    let both : k ≤ min a b = le-min {a = a} {b = b} (omega (arith, low, below))
+    (omega (arith, low, less)) in
+    rw (first, second) (le-min {a = d} {b = min a b} low both)
 
 module _ (t : Tables) (u : World) (size : Sizes) (away seen : Image) (sizes : present u ≡ size)
     (l : Leads t [] (whole size away seen) u) where
@@ -53,14 +64,6 @@ module _ (t : Tables) (u : World) (size : Sizes) (away seen : Image) (sizes : pr
     last = λ q h. (tell q h).last_is ∙ (same_last (size q) (seen q) (u.shelf q) (seen_is q)
         ∙ sym (ap (λ (z : Sizes). option_map (λ n. last_of n (u.shelf q)) (z q)) sizes));
   }
-
-  -- so many sectors as both have are compared
-  within : (p q : List ℕ) (a b d k : ℕ) → size p ≡ Some a → size q ≡ Some b → d < a → d < b → k ≤ d
-      → k ≤ reach_of size p q d
-  within p q a b d k first second below less low =
-      let both : k ≤ min a b = le-min {a = a} {b = b} (omega (arith, low, below))
-      (omega (arith, low, less)) in
-      rw (first, second) (le-min {a = d} {b = min a b} low both)
 
   there : (q : List ℕ) (n : ℕ) → size q ≡ Some n → (j : ℕ) → seen q j ≡ u.shelf q j
   there q n is = seen_is q (rw is refl)
@@ -87,7 +90,7 @@ module _ (t : Tables) (u : World) (size : Sizes) (away seen : Image) (sizes : pr
       let counts : AreEqual size seen (Some (compared_with b)) p (equals_in facts p) =
       subst (λ (a : Option Compared). AreEqual size seen a p (equals_in facts p)) with
       (tell p h).equal_is in
-      counts k (within b.provider p mine.0 its.0 (data_of b.metadata) k first_size second_size
+      counts k (within size b.provider p mine.0 its.0 (data_of b.metadata) k first_size second_size
       mine.2 its.2 low)
       ∙ agree_same seen u.shelf b.provider p k
       (λ j l. (there b.provider mine.0 first_size j, there p its.0 second_size j))
@@ -105,3 +108,36 @@ module _ (t : Tables) (u : World) (size : Sizes) (away seen : Image) (sizes : pr
         equal = tells_equal facts first c against is before
             (λ q h. tell q (Has-append_left (looked_at c) (map provider (awaited u.state c)) q h));
       }
+
+-- the source of an adoption is equal to itself by what an honest shelf told
+pub itself_told : {H : Type 0} (h : ShelfGhosts H) (shelf : H) (facts first : List Fact)
+    (c : Command) (against : Option Compared) (part : Records) (size : Sizes) (seen : Image)
+    → ComparesHonestly h shelf c
+    → against ≡ option_map compared_with (source_in (seen_in first) (adopted_from c))
+    → (h.honest shelf → (q : List ℕ) → Has (adopted_from c) q → Tell first size seen None q)
+    → (h.honest shelf → (q : List ℕ) → Has (needed_by part c) q → Tell facts size seen against q)
+    → IsItself (seen_in facts) c
+itself_told h shelf facts first (Adopt n ps) against part size seen honest is before tell =
+    λ fits b from.
+    let needs : (p : List ℕ) → Has ps p → Tell facts size seen against p =
+    λ p k. tell honest p (Has-append_left ps (map provider (awaited part (Adopt n ps))) p k) in
+    let same : SeeAlike (seen_in facts) (seen_in first) ps = record {
+      size = λ p k. (needs p k).size_is ∙ sym (before honest p k).size_is;
+      last = λ p k. (needs p k).last_is ∙ sym (before honest p k).last_is;
+    } in
+    let with : against ≡ Some (compared_with b) =
+    is ∙ ap (option_map compared_with)
+    (sym (same_source (seen_in facts) (seen_in first) ps same) ∙ from) in
+    let own : Has ps b.provider =
+    found_among (seen_in facts) ps b (source_found (seen_in facts) ps b from) in
+    let mine = more_sectors (seen_in facts) b.metadata b.provider
+    ((fitting_source (seen_in facts) n ps fits b from).room b.provider own) in
+    let its : size b.provider ≡ Some mine.0 = sym (needs b.provider own).size_is ∙ mine.1 in
+    let counts : AreEqual size seen (Some (compared_with b)) b.provider
+    (equals_in facts b.provider) =
+    subst (λ (a : Option Compared). AreEqual size seen a b.provider (equals_in facts b.provider))
+    with (needs b.provider own).equal_is in
+    counts (data_of b.metadata) (within size b.provider b.provider mine.0 mine.0
+    (data_of b.metadata) (data_of b.metadata) its its mine.2 mine.2 (omega arith))
+    ∙ agree_itself seen b.provider (data_of b.metadata)
+itself_told h shelf facts first _ against part size seen honest is before tell = tt

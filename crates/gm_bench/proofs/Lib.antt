@@ -22,6 +22,7 @@ pub mod LossSources
 pub mod Losses
 pub mod PartCovers
 pub mod Phases
+pub mod PlannedAlone
 pub mod Present
 pub mod ReadTables
 pub mod RedoLeadsOn

@@ -13,13 +13,10 @@ use Rattle.gm_state.proofs.TestsTellRules.{member}
 use Rattle.gm_lists.proofs.Putting.{one}
 use Rattle.gm_lists.proofs.Lists.{Has-filter}
 use Rattle.gm_refusals.specs.Applies.{name_of, is_member_of, members_named}
-use Rattle.gm_state.specs.World.{World, Sound}
-use Rattle.gm_changes.specs.Decides.{Changed, Makes, changed_by}
+use Rattle.gm_changes.specs.Decides.{Changed, changed_by}
 use Rattle.gm_refusals.specs.PartOf.{IsPartOf}
 use Rattle.gm_changes.specs.PartChange.{LeavesPart}
-use Rattle.gm_rules.specs.Step.{CanAnswer, IsOwn}
-use Rattle.gm_refusals.specs.WorldFacts.{seen_of}
-use Rattle.gm_rules.proofs.EveryPlan.{every_plan}
+use Rattle.gm_rules.specs.Step.{IsOwn}
 use Rattle.gm_refusals.proofs.PartAgrees.{of_part, is_state}
 use Rattle.gm_bench.specs.Recovering.{Cover}
 
@@ -71,12 +68,3 @@ module _ (c : Command) (part s w : Records) (ch : Changed) (leaves : LeavesPart 
         ∙ (ap (λ (x : Component). x.mirror) same ∙ n.2) in
         leaves.own m k (subst (λ (r : Records). IsOf r m k) (sym is) o) (n.1 ∙ ap Some (sym named));
   }
-
--- what a command leaves of its part is a state
-pub part_stays : (u : World) (key : List ℕ) (c : Command) (ch : Changed) (part : Records) → Sound u
-    → CanAnswer u key c → Makes u.state (seen_of u) c ch → LeavesPart part c u.state ch
-    → IsState (changed_by ch part)
-part_stays u key c ch part sound can makes leaves =
-    let plan = every_plan u key c sound can makes.good in
-    let same : changed_by ch u.state ≡ plan.0.state = makes.records ∙ sym plan.1.step.records in
-    leaves.state (subst IsState (sym same) plan.1.sound.state)

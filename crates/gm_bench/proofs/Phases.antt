@@ -1,5 +1,5 @@
 -- Which phase a bench is in that may be asked something, and isn't in the phase for it.
-use Rattle.std.proofs.Common.{◌≡◌, ◌∙◌, inl, inr, ℕ, refl, sym, ap}
+use Rattle.std.proofs.Common.{◌≡◌, ◌∙◌, inl, inr, ℕ, refl, sym, ap, subst}
 use Rattle.gm_state.specs.declared.intents.Reply.{Reply}
 use Rattle.gm_bench.specs.declared.answer.Work.{Work}
 use Rattle.gm_bench.specs.declared.phase.Progress.{Progress}
@@ -9,6 +9,9 @@ use Rattle.gm_bench.specs.declared.answer.Accepted.TheVariants as accepted
 use Rattle.gm_bench.specs.declared.answer.Answer.{Answer}
 use Rattle.gm_bench.specs.declared.answer.Answer.TheVariants.{Done, Repeated, Refused}
 use Rattle.gm_bench.specs.declared.phase.Phase.TheVariants as phase
+use Rattle.gm_metadata.specs.Images.{Sizes}
+use Rattle.gm_bench.specs.Planning.{IsWorkAtHand}
+use Rattle.gm_bench.specs.Presence.{AreAtHand}
 use Rattle.gm_bench.specs.Phases.{TakesCommands, HasWork, HasDone, answer_of, phase_after, phase_of, progress_after}
 
 pub takes_failed : (p : Progress) → TakesCommands p → (p ≡ Ready → ⊥) → p ≡ Failed
@@ -69,3 +72,18 @@ was_done (accepted.Repeated n reply) p is pending =
     let e : phase.Ready ≡ phase.Pending = sym (ap phase_of is) ∙ pending in cc
 was_done (accepted.Refused why) p is pending =
     let e : phase.Ready ≡ phase.Pending = sym (ap phase_of is) ∙ pending in cc
+
+-- it is what is to be carried out of that
+pub work_hand : (size : Sizes) (it : Accepted) (work : Work) → progress_after it ≡ Pending work
+    → IsWorkAtHand size it → AreAtHand size work.intents.items
+work_hand size (accepted.Done n reply mine) work is handy =
+    subst (λ (w : Work). AreAtHand size w.intents.items) (pending_work mine work is) handy
+work_hand size (accepted.Repeated n reply) work is handy = absurd (let no : ⊥ = cc in no)
+work_hand size (accepted.Refused why) work is handy = absurd (let no : ⊥ = cc in no)
+
+-- what is pending, by the phase that a caller sees
+pub has_pending : (p : Progress) → phase_of p ≡ phase.Pending → (work : Work) × (p ≡ Pending work)
+has_pending Ready is = cc
+has_pending (Pending work) is = (work, refl)
+has_pending (Applied work) is = cc
+has_pending Failed is = cc

@@ -1,13 +1,16 @@
 -- What a call leaves of the media and of the phase of a bench, and which faults it tells, beside
 -- what is particular to it.
-use Rattle.std.specs.Prelude.{◌≡◌, ◌<◌, ℕ, List, [], Result, IfOk, IfErr, OnOk, OnErr, IsErrOf}
+use Rattle.std.specs.Prelude.{◌≡◌, ◌≤◌, ◌<◌, ℕ, List, Result, IfOk, IfErr, OnOk, OnErr, IsErrOf}
 use Rattle.sqlite_trees.specs.declared.store.Store.{Ghosts as StoreGhosts}
 use Rattle.sqlite.specs.Held.{Held}
-use Rattle.gm_metadata.specs.Images.{Image}
 use Rattle.gm_shelf.specs.declared.shelf.Shelf.{Ghosts as ShelfGhosts}
 use Rattle.gm_shelf.specs.Keeping.{Keeps, ReadsOnly}
 use Rattle.gm_state.specs.Rows.{Tables}
-use Rattle.gm_state.specs.World.{World}
+use Rattle.gm_state.specs.Records.{Records}
+use Rattle.gm_commands.specs.declared.command.Command.{Command}
+use Rattle.gm_rows.specs.ReadableTables.{AreRecordsOf}
+use Rattle.gm_registry.specs.Replies.{AreWrittenUnder, count_of}
+use Rattle.gm_bench.specs.ShelfFacts.{ComparesHonestly}
 use Rattle.gm_registry.specs.Registry.{DiskKept, HasTables, LeavesNothingNew, Reads, WasClean}
 use Rattle.gm_bench.specs.declared.bench.Bench.{Bench}
 use Rattle.gm_bench.specs.declared.fault.BenchFault.{BenchFault}
@@ -20,7 +23,6 @@ use Rattle.gm_bench.specs.Faults.{IsOfCall, IsOfMedia}
 use Rattle.gm_bench.specs.Owed.{LookDoes, LookLeaves}
 use Rattle.gm_bench.specs.Phases.{IsUndone}
 use Rattle.gm_bench.specs.Presence.{AreAtHand}
-use Rattle.gm_bench.specs.Recovering.{IsAt}
 
 -- Disk is told only where the shelf's count of failures rose.
 abbrev pub TellsDisk : {H T : Type 0} → ShelfGhosts H → H → H → Result T BenchFault → Type 0
@@ -53,6 +55,21 @@ module _ {S H T : Type 0} (s : StoreGhosts S) (h : ShelfGhosts H) (old new : Med
     pub undone : DiskKept s new.registry
         → IfOk result (λ a. is_undone a → Reads s old.registry new.registry)
     pub clean : WasClean s old.registry new.registry
+
+-- What is told of a command that is handed in by the registry's rows and the shelf's sizes alone.
+module _ {S H T : Type 0} (s : StoreGhosts S) (h : ShelfGhosts H) (old new : Media S H)
+    (result : Result T BenchFault) where
+  -- F6 only where the rows of mirrors and components don't say a state, more commands stand there
+  -- than may be accepted, or one under the key that this program doesn't write
+  abbrev pub TellsUnreadable : List ℕ → Command → Type 0
+  TellsUnreadable key c = DiskKept s new.registry → IsErrOf result Unreadable
+      → (t : Tables) (r : Records) → HasTables s old.registry t → AreRecordsOf t r
+      → count_of t ≤ 100000 → AreWrittenUnder key t → ComparesHonestly h old.shelf c → ⊥
+
+  -- what is then to be carried out is at hand, where the rows say a state
+  abbrev pub TellsAtHand : (T → Type 0) → Type 0
+  TellsAtHand IsHandy = DiskKept s new.registry → IfOk result (λ a. (t : Tables) (r : Records)
+      → HasTables s old.registry t → AreRecordsOf t r → IsHandy a)
 
 -- The shelf is kept; and where the disk kept what was written to the registry until now, it did so
 -- before the call.
@@ -95,16 +112,23 @@ module _ {S H T : Type 0} (s : StoreGhosts S) (h : ShelfGhosts H) (old new : Ben
         → AreAtHand (h.size old.media.shelf) work.intents.items
         → TellsDisk h old.media.shelf new.media.shelf result
 
+-- A command that is handed in, by the registry's rows and the shelf's sizes alone: what is then
+-- pending is at hand.
+pub record TellsOfRows {S H : Type 0} (s : StoreGhosts S) (h : ShelfGhosts H) (old new : Bench S H)
+    (result : Result Answer BenchFault) (key : List ℕ) (c : Command) : Type 0 where
+  pub readable : TellsUnreadable s h old.media new.media result key c
+  pub at_hand : TellsAtHand s h old.media new.media result (λ a. (work : Work)
+      → new.progress ≡ Pending work → AreAtHand (h.size old.media.shelf) work.intents.items)
+
 -- A command that is run: where an answer says that nothing was done it only read the registry, and
--- it tells of the disk only where that failed.
+-- where the registry's rows say a state it tells of the disk only where that failed.
 pub record RunsOnce {S H : Type 0} (s : StoreGhosts S) (h : ShelfGhosts H) (old new : Bench S H)
     (result : Result Answer BenchFault) : Type 0 where
   pub keep : Keep s h old.media.registry new.media.registry old.media.shelf new.media.shelf
   pub undone : DiskKept s new.media.registry
       → IfOk result (λ a. IsUndone a → Reads s old.media.registry new.media.registry)
-  pub disk : h.honest old.media.shelf → DiskKept s new.media.registry
-      → (away : Image) (u : World)
-      → IsAt s h.view h.size old.media.registry old.media.shelf away [] u u
+  pub disk : DiskKept s new.media.registry → (t : Tables) (r : Records)
+      → HasTables s old.media.registry t → AreRecordsOf t r
       → TellsDisk h old.media.shelf new.media.shelf result
 
 -- A call that settles writes the registry alone, and its faults are want of memory and the store's.

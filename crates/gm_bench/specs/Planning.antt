@@ -1,7 +1,7 @@
 -- What is decided on a command, and what is carried out once that is accepted.
-use Rattle.std.specs.Prelude.{◌≡◌, length, Result, Ok, Err}
+use Rattle.std.specs.Prelude.{◌≡◌, ◌≤◌, length, Result, Ok, Err}
 use Rattle.gm_commands.specs.declared.command.Command.{Command}
-use Rattle.gm_state.specs.Records.{Records}
+use Rattle.gm_state.specs.Records.{Records, IsState}
 use Rattle.gm_state.specs.World.{World}
 use Rattle.gm_refusals.specs.declared.refusals.Refusal.{Refusal}
 use Rattle.gm_changes.specs.Decides.{Makes, changed_by}
@@ -10,6 +10,13 @@ use Rattle.gm_refusals.specs.PartOf.{IsPartToDecide}
 use Rattle.gm_changes.specs.PartChange.{LeavesPart}
 use Rattle.gm_refusals.specs.Seen.{seen_in}
 use Rattle.gm_refusals.specs.WorldFacts.{AreFacts, seen_of}
+use Rattle.gm_metadata.specs.Images.{Sizes}
+use Rattle.gm_shelf.specs.declared.shelf.Shelf.{Ghosts as ShelfGhosts}
+use Rattle.gm_rules.specs.Itself.{IsItself}
+use Rattle.gm_bench.specs.declared.answer.Accepted.{Accepted}
+use Rattle.gm_bench.specs.declared.answer.Accepted.TheVariants.{Done}
+use Rattle.gm_bench.specs.Presence.{AreAtHand}
+use Rattle.gm_bench.specs.ShelfFacts.{ComparesHonestly, TellSizes}
 use Rattle.gm_bench.specs.declared.plan.Planned.{Planned}
 use Rattle.gm_bench.specs.declared.plan.Gathered.{Gathered}
 
@@ -33,3 +40,23 @@ pub record IsKnown (u : World) (c : Command) (g : Gathered) : Type 0 where
   pub part : IsPartToDecide g.part.state (seen_in g.facts) c u.state
   pub mirrors : g.part.mirrors ≡ length u.state.mirrors
   pub facts : AreFacts g.facts u c
+
+-- What serves to decide on the command, whatever the shelf is: a part of a state, of which there
+-- are no fewer mirrors and no more than there may be, and facts with the shelf's sizes.
+pub record IsToDecide {H : Type 0} (h : ShelfGhosts H) (shelf : H) (c : Command)
+    (g : Gathered) : Type 0 where
+  pub state : IsState g.part.state
+  pub few : length g.part.state.mirrors ≤ g.part.mirrors
+  pub most : g.part.mirrors ≤ 64
+  pub sizes : TellSizes g.facts (h.size shelf)
+  pub itself : ComparesHonestly h shelf c → IsItself (seen_in g.facts) c
+
+-- what is planned is at hand
+abbrev pub IsPlanAtHand : Sizes → Result Planned Refusal → Type 0
+IsPlanAtHand size (Ok planned) = AreAtHand size planned.work.intents.items
+IsPlanAtHand size (Err r) = Unit {0}
+
+-- what is to be carried out of an accepted command is at hand
+abbrev pub IsWorkAtHand : Sizes → Accepted → Type 0
+IsWorkAtHand size (Done n reply work) = AreAtHand size work.intents.items
+IsWorkAtHand size _ = Unit {0}

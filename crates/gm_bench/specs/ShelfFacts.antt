@@ -2,6 +2,9 @@
 use Rattle.std.specs.Prelude.{◌≡◌, ◌-◌, ◌==◌, ℕ, List, Option, Some, None, option_map, if◌then◌else◌}
 use Rattle.std.specs.Option.{option_and_then}
 use Rattle.gm_metadata.specs.Images.{Image, Sizes, zeros}
+use Rattle.gm_shelf.specs.declared.shelf.Shelf.{Ghosts as ShelfGhosts}
+use Rattle.gm_commands.specs.declared.command.Command.{Command}
+use Rattle.gm_commands.specs.declared.command.Command.TheVariants.{Adopt}
 use Rattle.gm_refusals.specs.declared.facts.Fact.{Fact}
 use Rattle.gm_refusals.specs.Facts.{size_in, last_in, equals_in}
 use Rattle.gm_apply.specs.EqualData.{CountsEqual, reach_of}
@@ -35,3 +38,12 @@ pub record Tell (facts : List Fact) (size : Sizes) (seen : Image) (against : Opt
   pub size_is : size_in facts q ≡ size q
   pub last_is : last_in facts q ≡ option_map (λ n. last_of n (seen q)) (size q)
   pub equal_is : AreEqual size seen against q (equals_in facts q)
+
+-- the sizes that the facts say are the shelf's, also where it isn't honest
+abbrev pub TellSizes : List Fact → Sizes → Type 0
+TellSizes facts size = (q : List ℕ) (n : ℕ) → size_in facts q ≡ Some n → size q ≡ Some n
+
+-- an adoption compares data, which only an honest shelf reads alike twice
+abbrev pub ComparesHonestly : {H : Type 0} → ShelfGhosts H → H → Command → Type 0
+ComparesHonestly h shelf (Adopt n ps) = h.honest shelf
+ComparesHonestly h shelf _ = Unit {0}

@@ -1,7 +1,7 @@
 //! Commands that are handed in.
 
 ghost use Rattle.std.specs.Prelude.{◌≡◌, ◌<◌, ◌≤◌, true, List, [], IfOk, IfErr, IsErrOf};
-ghost use Rattle.gm_metadata.specs.Images.{Image};
+ghost use Rattle.gm_metadata.specs.Images.{Image, Sizes};
 ghost use Rattle.gm_shelf.specs.Disk.{AreReads};
 ghost use Rattle.gm_commands.specs.declared.command.Command.{Command};
 ghost use Rattle.gm_commands.specs.Commands.{CommandFits, words_of};
@@ -10,13 +10,14 @@ ghost use Rattle.gm_commands.specs.Commands.{is_key};
 ghost use Rattle.gm_rules.specs.Step.{CanAnswer};
 ghost use Rattle.gm_state.specs.Rows.{Tables};
 ghost use Rattle.gm_registry.specs.Registry.{DiskKept, HasTables, LeavesNothingNew, WasClean, Reads};
-ghost use Rattle.gm_registry.specs.Replies.{AreWrittenUnder, IsFree, count_of};
+ghost use Rattle.gm_registry.specs.Replies.{IsFree, count_of};
 ghost use Rattle.gm_bench.specs.Accepting.{LeavesStep, IsAnswered};
 ghost use Rattle.gm_bench.specs.Faults.{IsOfCall};
-ghost use Rattle.gm_bench.specs.Planning.{IsPlanned};
+ghost use Rattle.gm_bench.specs.Planning.{IsPlanned, IsWorkAtHand};
+ghost use Rattle.gm_bench.specs.Presence.{AreAtHand};
 ghost use Rattle.gm_bench.specs.Recovering.{IsAt};
 ghost use Rattle.gm_bench.specs.Phases.{IsUndone, answer_of};
-ghost use Rattle.gm_bench.specs.Calls.{Accepts};
+ghost use Rattle.gm_bench.specs.Calls.{Accepts, TellsAtHand, TellsUnreadable};
 
 use crate::answer::Accepted;
 use crate::fault::BenchFault;
@@ -45,6 +46,8 @@ impl<S: Alter, H: Shelf> Media<S, H> {
             u key.now c a) }
         ensures disk { IsErrOf result BenchFault.Disk → ⊥ }
         ensures work { IfOk result (λ a. IsUndone (answer_of a) → ⊥) }
+        ensures at_hand { IfOk result (λ a. (size : Sizes)
+            → AreAtHand size planned.work.intents.items → IsWorkAtHand size a) }
         ensures fault { IfErr result IsOfCall }
         ensures readable { DiskKept S.Store self.new.registry
             → IsErrOf result BenchFault.Unreadable → (t : Tables)
@@ -83,10 +86,10 @@ impl<S: Alter, H: Shelf> Media<S, H> {
             → IsAnswered S.Store H.view H.size self.new.registry self.new.shelf away
             u key.now command.now a) }
         ensures fault { IfErr result IsOfCall }
-        ensures readable { H.honest self.old.shelf → DiskKept S.Store self.new.registry
-            → IsErrOf result BenchFault.Unreadable → (away : Image) (u : World)
-            → IsAt S.Store H.view H.size self.old.registry self.old.shelf away [] u u
-            → CanAnswer u key.now command.now → ⊥ }
+        ensures readable { CommandFits command.now → TellsUnreadable S.Store H.Shelf
+            self.old self.new result key.now command.now }
+        ensures at_hand { CommandFits command.now → TellsAtHand S.Store H.Shelf
+            self.old self.new result (IsWorkAtHand (H.size self.old.shelf)) }
         ensures accepts { Accepts S.Store H.Shelf self.old self.new result
             (λ a. IsUndone (answer_of a)) }
     {
@@ -120,11 +123,10 @@ impl<S: Alter, H: Shelf> Media<S, H> {
             → IsAnswered S.Store H.view H.size self.new.registry self.new.shelf away
             u key.now command.now a) }
         ensures fault { IfErr result IsOfCall }
-        ensures readable { H.honest self.old.shelf → DiskKept S.Store self.new.registry
-            → IsErrOf result BenchFault.Unreadable → (away : Image) (u : World)
-            → is_key key.now ≡ true → CommandFits command.now
-            → (at : IsAt S.Store H.view H.size self.old.registry self.old.shelf away [] u u)
-            → IsFree at.tables key.now → ⊥ }
+        ensures readable { CommandFits command.now → TellsUnreadable S.Store H.Shelf
+            self.old self.new result key.now command.now }
+        ensures at_hand { CommandFits command.now → TellsAtHand S.Store H.Shelf
+            self.old self.new result (IsWorkAtHand (H.size self.old.shelf)) }
         ensures accepts { Accepts S.Store H.Shelf self.old self.new result
             (λ a. IsUndone (answer_of a)) }
     {
@@ -156,11 +158,10 @@ impl<S: Alter, H: Shelf> Media<S, H> {
             → IsAnswered S.Store H.view H.size self.new.registry self.new.shelf away
             u key.now command.now a) }
         ensures fault { IfErr result IsOfCall }
-        ensures readable { H.honest self.old.shelf → DiskKept S.Store self.new.registry
-            → IsErrOf result BenchFault.Unreadable → (away : Image) (u : World)
-            → is_key key.now ≡ true → CommandFits command.now
-            → (at : IsAt S.Store H.view H.size self.old.registry self.old.shelf away [] u u)
-            → AreWrittenUnder key.now at.tables → ⊥ }
+        ensures readable { CommandFits command.now → TellsUnreadable S.Store H.Shelf
+            self.old self.new result key.now command.now }
+        ensures at_hand { CommandFits command.now → TellsAtHand S.Store H.Shelf
+            self.old self.new result (IsWorkAtHand (H.size self.old.shelf)) }
         ensures accepts { Accepts S.Store H.Shelf self.old self.new result
             (λ a. IsUndone (answer_of a)) }
     {
@@ -195,10 +196,10 @@ impl<S: Alter, H: Shelf> Media<S, H> {
             → IsAnswered S.Store H.view H.size self.new.registry self.new.shelf away
             u key.now command.now a) }
         ensures fault { IfErr result IsOfCall }
-        ensures readable { H.honest self.old.shelf → DiskKept S.Store self.new.registry
-            → IsErrOf result BenchFault.Unreadable → (away : Image) (u : World)
-            → (at : IsAt S.Store H.view H.size self.old.registry self.old.shelf away [] u u)
-            → AreWrittenUnder key.now at.tables → ⊥ }
+        ensures readable { TellsUnreadable S.Store H.Shelf
+            self.old self.new result key.now command.now }
+        ensures at_hand { TellsAtHand S.Store H.Shelf
+            self.old self.new result (IsWorkAtHand (H.size self.old.shelf)) }
         ensures accepts { Accepts S.Store H.Shelf self.old self.new result
             (λ a. IsUndone (answer_of a)) }
     {

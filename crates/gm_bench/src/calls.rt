@@ -6,14 +6,13 @@ ghost use Rattle.gm_shelf.specs.Disk.{AreReads};
 ghost use Rattle.gm_state.specs.Rows.{Tables};
 ghost use Rattle.gm_state.specs.World.{World};
 ghost use Rattle.gm_registry.specs.Registry.{DiskKept, HasTables, LeavesNothingNew, WasClean, Reads};
-ghost use Rattle.gm_registry.specs.Replies.{AreWrittenUnder};
 ghost use Rattle.gm_bench.specs.declared.answer.Accepted.{Accepted};
 ghost use Rattle.gm_bench.specs.declared.answer.Work.{Work};
 ghost use Rattle.gm_bench.specs.Owed.{AcceptAnswers, AcceptLeaves, ApplyDoes, ApplyLeaves, SettleDoes, SettleLeaves, RunAnswers, RunLeaves};
 ghost use Rattle.gm_bench.specs.Phases.{TakesCommands, HasWork, HasDone, answer_of, phase_after, phase_of, progress_after, IsUndone};
 ghost use Rattle.gm_bench.specs.Recovering.{IsAt, IsAtWork, LeavesOnly};
 ghost use Rattle.gm_bench.specs.Presence.{AreAtHand};
-ghost use Rattle.gm_bench.specs.Calls.{Accepts, ClosesOnFault, CarriesOut, RunsOnce, Settles};
+ghost use Rattle.gm_bench.specs.Calls.{Accepts, ClosesOnFault, CarriesOut, RunsOnce, Settles, TellsOfRows, TellsUnreadable};
 
 use crate::answer::Answer;
 use crate::bench::Bench;
@@ -47,11 +46,8 @@ impl<S: Alter, H: Shelf> Bench<S, H> {
             self.old.media.shelf self.new.media.shelf key.now command.now }
         ensures ready { OnOk result (self.old.progress ≡ Progress.Ready) }
         ensures phase { IfOk result (λ a. phase_of self.new.progress ≡ phase_after a) }
-        // A command under the key that somebody else's hand wrote may not be readable.
-        ensures readable { H.honest self.old.media.shelf → DiskKept S.Store self.new.media.registry
-            → IsErrOf result BenchFault.Unreadable → (away : Image) (u : World)
-            → (at : IsAt S.Store H.view H.size self.old.media.registry self.old.media.shelf away
-            [] u u) → AreWrittenUnder key.now at.tables → ⊥ }
+        // Also of files: by the registry's rows and the sizes alone.
+        ensures rows { TellsOfRows S.Store H.Shelf self.old self.new result key.now command.now }
         ensures accepts { Accepts S.Store H.Shelf self.old.media self.new.media result IsUndone }
         ensures closes { ClosesOnFault self.old self.new result }
     {
@@ -173,11 +169,9 @@ impl<S: Alter, H: Shelf> Bench<S, H> {
             self.old.media.shelf self.new.media.shelf key.now command.now }
         ensures ready { OnOk result
             ((self.old.progress ≡ Progress.Ready) × (self.new.progress ≡ Progress.Ready)) }
-        // A command under the key that somebody else's hand wrote may not be readable.
-        ensures readable { H.honest self.old.media.shelf → DiskKept S.Store self.new.media.registry
-            → IsErrOf result BenchFault.Unreadable → (away : Image) (u : World)
-            → (at : IsAt S.Store H.view H.size self.old.media.registry self.old.media.shelf away
-            [] u u) → AreWrittenUnder key.now at.tables → ⊥ }
+        // Also of files: by the registry's rows alone.
+        ensures readable { TellsUnreadable S.Store H.Shelf self.old.media self.new.media result
+            key.now command.now }
         ensures runs { RunsOnce S.Store H.Shelf self.old self.new result }
         ensures closes { ClosesOnFault self.old self.new result }
     {

@@ -1,10 +1,10 @@
 //! What a command has to know of the shelf.
 
-ghost use Rattle.std.specs.Prelude.{◌≡◌, ◌≤◌, ◌<◌, ℕ, List, Some, None, IfOk, IfErr, MatchOption, IsErrOf};
+ghost use Rattle.std.specs.Prelude.{◌≡◌, ◌≤◌, ◌<◌, ℕ, List, Some, None, IfOk, IfSome, IfErr, MatchOption, IsErrOf};
 ghost use Rattle.gm_shelf.specs.Disk.{AreReads};
 ghost use Rattle.gm_lists.specs.Ordered.{Has};
 ghost use Rattle.gm_bench.specs.Faults.{IsOfMedia};
-ghost use Rattle.gm_bench.specs.ShelfFacts.{AreEqual, Tell, IsFact, last_of};
+ghost use Rattle.gm_bench.specs.ShelfFacts.{AreEqual, Tell, TellSizes, IsFact, last_of};
 ghost use Rattle.gm_shelf.specs.Keeping.{ReadsOnly};
 ghost use Rattle.gm_bench.specs.Calls.{Looks};
 
@@ -68,6 +68,7 @@ fn fact_there<H: Shelf>(
     ensures fact { H.honest shelf.old → H.size shelf.old provider ≡ Some sectors
         → IfOk result (λ f. IsFact (H.size shelf.old) (H.view shelf.old).seen against f
         × (f.provider ≡ provider)) }
+    ensures named { IfOk result (λ f. (f.provider ≡ provider) × (f.sectors ≡ sectors)) }
     ensures disk { H.size shelf.old provider ≡ Some sectors → IsErrOf result BenchFault.Disk
         → (H.view shelf.old).faults < (H.view shelf.new).faults }
     ensures fault { IfErr result IsOfMedia }
@@ -94,6 +95,8 @@ pub(crate) fn fact_of<H: Shelf>(
         (H.size shelf.old provider ≡ None)
         (λ f. IsFact (H.size shelf.old) (H.view shelf.old).seen against f
         × (f.provider ≡ provider))) }
+    ensures size { IfOk result (λ found. IfSome found
+        (λ f. (f.provider ≡ provider) × (H.size shelf.old provider ≡ Some f.sectors))) }
     ensures looks { Looks H.Shelf shelf.old shelf.new result }
 {
     match shelf.sectors(provider) {
@@ -114,6 +117,7 @@ pub(crate) fn facts_of<H: Shelf>(
 ) -> Result<Facts, BenchFault>
     ensures tell { H.honest shelf.old → IfOk result (λ facts. (q : List ℕ) → Has names.now q
         → Tell facts (H.size shelf.old) (H.view shelf.old).seen against.now q) }
+    ensures sizes { IfOk result (λ facts. TellSizes facts (H.size shelf.old)) }
     ensures looks { Looks H.Shelf shelf.old shelf.new result }
 {
     let mut entries = Vec::new(alloc);

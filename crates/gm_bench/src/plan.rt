@@ -1,24 +1,25 @@
 //! What the rules answer to a command.
 
 ghost use Rattle.std.specs.Prelude.{◌≡◌, ◌<◌, ◌≤◌, ℕ, List, [], length, IfOk, IfErr, IsErrOf, nat_le};
-ghost use Rattle.gm_metadata.specs.Images.{Image};
+ghost use Rattle.gm_metadata.specs.Images.{Image, Sizes};
 ghost use Rattle.gm_shelf.specs.Disk.{AreReads};
-ghost use Rattle.gm_state.specs.declared.intents.Intent.{Intent};
 ghost use Rattle.gm_state.specs.Rows.{Tables};
 ghost use Rattle.gm_state.specs.Records.{Records, IsState};
-ghost use Rattle.gm_state.specs.World.{World, Sound};
+ghost use Rattle.gm_state.specs.World.{World};
 ghost use Rattle.gm_changes.specs.Decides.{changed_by};
-ghost use Rattle.gm_refusals.specs.PartOf.{IsPartOf, IsPartToDecide, part_of};
+ghost use Rattle.gm_refusals.specs.PartOf.{IsPartOf, IsPartToDecide};
 ghost use Rattle.gm_refusals.specs.Seen.{seen_in};
-ghost use Rattle.gm_rules.specs.Step.{CanAnswer};
+ghost use Rattle.gm_rules.specs.Itself.{IsItself};
+ghost use Rattle.gm_commands.specs.Commands.{CommandFits};
+ghost use Rattle.gm_registry.specs.Parts.{IsPartFor};
 ghost use Rattle.gm_refusals.specs.WorldFacts.{AreFacts, needed_by};
 ghost use Rattle.gm_rows.specs.ReadableTables.{AreRecordsOf};
 ghost use Rattle.gm_registry.specs.Registry.{DiskKept, HasTables, Reads};
 ghost use Rattle.gm_registry.specs.Replies.{count_of};
 ghost use Rattle.gm_bench.specs.Faults.{IsOfCall, IsOfMedia};
 ghost use Rattle.gm_bench.specs.Recovering.{IsAt};
-ghost use Rattle.gm_bench.specs.Planning.{IsDecided, IsKnown};
-ghost use Rattle.gm_bench.specs.ShelfFacts.{Tell};
+ghost use Rattle.gm_bench.specs.Planning.{IsDecided, IsKnown, IsPlanAtHand, IsToDecide};
+ghost use Rattle.gm_bench.specs.ShelfFacts.{ComparesHonestly, Tell, TellSizes};
 ghost use Rattle.gm_lists.specs.Ordered.{Has};
 ghost use Rattle.gm_bench.specs.Calls.{Looks, Asks};
 
@@ -93,10 +94,12 @@ fn decide_on(
         → IsDecided u command.now r) }
     ensures disk { IsErrOf result BenchFault.Disk → ⊥ }
     ensures fault { IfErr result IsOfCall }
-    ensures readable { IsErrOf result BenchFault.Unreadable → (u : World) (key : List ℕ) → Sound u
-        → CanAnswer u key command.now
-        → IsPartToDecide part.now (seen_in facts.now) command.now u.state
-        → count ≡ length u.state.mirrors → AreFacts facts.now u command.now → ⊥ }
+    ensures readable { IsErrOf result BenchFault.Unreadable → CommandFits command.now
+        → IsState part.now → length part.now.mirrors ≤ count → count ≤ 64
+        → IsItself (seen_in facts.now) command.now → ⊥ }
+    ensures at_hand { IfOk result (λ r. CommandFits command.now
+        → IsState part.now → length part.now.mirrors ≤ count → count ≤ 64
+        → (size : Sizes) → TellSizes facts.now size → IsPlanAtHand size r) }
 {
     match decide_part(alloc, part, count, facts, command) {
         Ok(Ok(change)) => match plan(alloc, part, change) {
@@ -136,12 +139,10 @@ impl<S: Alter, H: Shelf> Media<S, H> {
         command: &Command,
         mids: &[u32],
     ) -> Result<Part, BenchFault>
-        ensures part { H.honest self.old.shelf → DiskKept S.Store self.new.registry
-            → IfOk result (λ r. (away : Image) (ts : List Intent) (u w : World)
-            → (at : IsAt S.Store H.view H.size self.old.registry self.old.shelf away ts u w)
-            → (r.state ≡ part_of w.state command.now mids.now) × IsState w.state
-            × (r.mirrors ≡ length w.state.mirrors)
-            × HasTables S.Store self.new.registry at.tables) }
+        ensures part { DiskKept S.Store self.new.registry
+            → IfOk result (λ r. (t : Tables) (s : Records)
+            → HasTables S.Store self.old.registry t → AreRecordsOf t s
+            → IsPartFor s command.now mids.now r × HasTables S.Store self.new.registry t) }
         ensures disk { IsErrOf result BenchFault.Disk → ⊥ }
         ensures fault { IfErr result IsOfCall }
         ensures readable { DiskKept S.Store self.new.registry
@@ -166,6 +167,7 @@ impl<S: Alter, H: Shelf> Media<S, H> {
         ensures tell { H.honest self.old.shelf → IfOk result (λ facts. (q : List ℕ)
             → Has names.now q → Tell facts (H.size self.old.shelf)
             (H.view self.old.shelf).seen against.now q) }
+        ensures sizes { IfOk result (λ facts. TellSizes facts (H.size self.old.shelf)) }
         ensures registry { self.new.registry ≡ self.old.registry }
         ensures looks { Looks H.Shelf self.old.shelf self.new.shelf result }
     {
@@ -186,6 +188,7 @@ impl<S: Alter, H: Shelf> Media<S, H> {
         ensures tell { H.honest self.old.shelf → IfOk result (λ facts. (s : Records)
             → IsPartOf part.now command.now s → (q : List ℕ) → Has (needed_by s command.now) q
             → Tell facts (H.size self.old.shelf) (H.view self.old.shelf).seen against.now q) }
+        ensures sizes { IfOk result (λ facts. TellSizes facts (H.size self.old.shelf)) }
         ensures registry { self.new.registry ≡ self.old.registry }
         ensures looks { Looks H.Shelf self.old.shelf self.new.shelf result }
     {
@@ -205,9 +208,14 @@ impl<S: Alter, H: Shelf> Media<S, H> {
             → IfOk result (λ r. (away : Image) (u : World)
             → (at : IsAt S.Store H.view H.size self.old.registry self.old.shelf away [] u u)
             → IsKnown u command.now r × HasTables S.Store self.new.registry at.tables) }
-        ensures readable { H.honest self.old.shelf → DiskKept S.Store self.new.registry
-            → IsErrOf result BenchFault.Unreadable → (away : Image) (u : World) (key : List ℕ)
-            → IsAt S.Store H.view H.size self.old.registry self.old.shelf away [] u u → ⊥ }
+        ensures serves { DiskKept S.Store self.new.registry
+            → IfOk result (λ r. (t : Tables) (s : Records)
+            → HasTables S.Store self.old.registry t → AreRecordsOf t s
+            → IsToDecide H.Shelf self.old.shelf command.now r
+            × HasTables S.Store self.new.registry t) }
+        ensures readable { DiskKept S.Store self.new.registry
+            → IsErrOf result BenchFault.Unreadable → (t : Tables) (s : Records)
+            → HasTables S.Store self.old.registry t → AreRecordsOf t s → ⊥ }
         ensures asks { Asks S.Store H.Shelf self.old self.new result }
     {
         let providers = adopted_from(command);
@@ -240,10 +248,15 @@ impl<S: Alter, H: Shelf> Media<S, H> {
             → IfOk result (λ r. (away : Image) (u : World)
             → (at : IsAt S.Store H.view H.size self.old.registry self.old.shelf away [] u u)
             → IsDecided u command.now r × HasTables S.Store self.new.registry at.tables) }
-        ensures readable { H.honest self.old.shelf → DiskKept S.Store self.new.registry
-            → IsErrOf result BenchFault.Unreadable → (away : Image) (u : World) (key : List ℕ)
-            → IsAt S.Store H.view H.size self.old.registry self.old.shelf away [] u u
-            → CanAnswer u key command.now → ⊥ }
+        ensures at_hand { DiskKept S.Store self.new.registry
+            → IfOk result (λ r. (t : Tables) (s : Records)
+            → HasTables S.Store self.old.registry t → AreRecordsOf t s
+            → HasTables S.Store self.new.registry t
+            × (CommandFits command.now → IsPlanAtHand (H.size self.old.shelf) r)) }
+        ensures readable { DiskKept S.Store self.new.registry
+            → IsErrOf result BenchFault.Unreadable → (t : Tables) (s : Records)
+            → HasTables S.Store self.old.registry t → AreRecordsOf t s → CommandFits command.now
+            → ComparesHonestly H.Shelf self.old.shelf command.now → ⊥ }
         ensures asks { Asks S.Store H.Shelf self.old self.new result }
     {
         let known = match self.gather(alloc, command) {

@@ -1,5 +1,5 @@
--- What facts decide is what the world decides.
-use Rattle.std.proofs.Common.{◌≡◌, ◌∙◌, inl, inr, ℕ, ◌||◌, ◌+◌, ◌≤◌, Bool, not, nat_lt, refl, sym, ap, ap₂, subst, List, Option, map, Some, None, Result, Ok, Err, is_none, unwrap_or}
+-- What is seen alike is decided alike: what facts decide is what the world decides.
+use Rattle.std.proofs.Common.{◌≡◌, ◌∙◌, inl, inr, ℕ, ◌||◌, ◌+◌, ◌≤◌, Bool, true, false, not, nat_lt, refl, sym, ap, ap₂, subst, List, Option, map, Some, None, Result, Ok, Err, is_none, unwrap_or}
 use Rattle.std.specs.List.{list_any}
 use Rattle.gm_commands.specs.declared.command.Command.{Command}
 use Rattle.gm_commands.specs.declared.command.Command.TheVariants.{Label, Insert, Remove, Deactivate, Activate, Forget, Rebuild, Configure, Clear, Destroy, Lost, Advance, Adopt}
@@ -43,80 +43,88 @@ module _ (x y : Seen) where
   same_unfit (Adopt n ps) s = ap not (same_adoptable x y ps s n)
   same_unfit _ s = refl
 
-  -- as many first sectors are equal to those of the source
-  abbrev SameEqual : Command → Type 0
-  SameEqual (Adopt n ps) = (b : Member) → source_in y ps ≡ Some b → (p : List ℕ) → Has ps p
-      → (k : ℕ) → k ≤ data_of b.metadata → x.equal b.provider p k ≡ y.equal b.provider p k
-  SameEqual _ = Unit {0}
+  -- an adoption sees the providers alike, with as many first sectors equal to those of the source
+  abbrev pub AdoptAlike : Command → Type 0
+  AdoptAlike (Adopt n ps) = SeeAlike x y ps
+      × ((b : Member) → source_in y ps ≡ Some b → (p : List ℕ) → Has ps p
+      → (k : ℕ) → k ≤ data_of b.metadata → x.equal b.provider p k ≡ y.equal b.provider p k)
+  AdoptAlike _ = Unit {0}
 
--- ---- the facts of a world
+-- ---- what refusals ask
 
-module _ (facts : List Fact) (u : World) (c : Command) (are : AreFacts facts u c) where
-  seen : (p : List ℕ) → Has (looked_at c) p → Has (needed_by u.state c) p
-  seen p h = Has-append_left (looked_at c) (map provider (awaited u.state c)) p h
+-- the refusal asks what last sectors say
+abbrev pub asks_last : Refusal → Bool
+asks_last MidTaken = true
+asks_last CarriesMetadata = true
+asks_last DidTaken = true
+asks_last NotAdoptable = true
+asks_last NoMetadata = true
+asks_last _ = false
 
-  of_mirror : (k : Component) → Has (awaited u.state c) k → Has (needed_by u.state c) k.provider
-  of_mirror k h = Has-append_right (looked_at c) (map provider (awaited u.state c)) k.provider
-      (map-Has provider (awaited u.state c) k h)
+-- the same is seen of what the refusal asks
+pub record AskAlike (s : Records) (c : Command) (x y : Seen) (r : Refusal) : Type 0 where
+  pub size : (p : List ℕ) → Has (looked_at c) p → x.size p ≡ y.size p
+  pub mirror : (k : Component) → Has (awaited s c) k → x.size k.provider ≡ y.size k.provider
+  pub last : asks_last r ≡ true → (p : List ℕ) → Has (looked_at c) p → x.last p ≡ y.last p
 
+module _ (s : Records) (c : Command) (x y : Seen) where
   -- a test of what the command looks at comes out alike
   by_size : (test : Option ℕ → Bool)
-      → list_any (λ p. test (size_in facts p)) (looked_at c)
-      ≡ list_any (λ p. test (present u p)) (looked_at c)
-  by_size test = any_agree _ _ (looked_at c) (λ p h. ap test (are.size p (seen p h)))
+      → ((p : List ℕ) → Has (looked_at c) p → x.size p ≡ y.size p)
+      → list_any (λ p. test (x.size p)) (looked_at c)
+      ≡ list_any (λ p. test (y.size p)) (looked_at c)
+  by_size test size = any_agree _ _ (looked_at c) (λ p h. ap test (size p h))
 
   by_last : (test : Option (List ℕ) → Bool)
-      → list_any (λ p. test (last_in facts p)) (looked_at c)
-      ≡ list_any (λ p. test (last_of u p)) (looked_at c)
-  by_last test = any_agree _ _ (looked_at c) (λ p h. ap test (are.last p (seen p h)))
+      → ((p : List ℕ) → Has (looked_at c) p → x.last p ≡ y.last p)
+      → list_any (λ p. test (x.last p)) (looked_at c)
+      ≡ list_any (λ p. test (y.last p)) (looked_at c)
+  by_last test last = any_agree _ _ (looked_at c) (λ p h. ap test (last p h))
 
-  small : (o : Option Mirror)
+  small : ((p : List ℕ) → Has (looked_at c) p → x.size p ≡ y.size p) → (o : Option Mirror)
       → is_there_and o
-      (λ m. list_any (λ p. is_there_and (size_in facts p) (λ n. nat_lt n (m.data_sectors + 1)))
+      (λ m. list_any (λ p. is_there_and (x.size p) (λ n. nat_lt n (m.data_sectors + 1)))
       (looked_at c)) ≡ is_there_and o
-      (λ m. list_any (λ p. is_there_and (present u p) (λ n. nat_lt n (m.data_sectors + 1)))
+      (λ m. list_any (λ p. is_there_and (y.size p) (λ n. nat_lt n (m.data_sectors + 1)))
       (looked_at c))
-  small None = refl
-  small (Some m) = by_size (λ o. is_there_and o (λ n. nat_lt n (m.data_sectors + 1)))
+  small size None = refl
+  small size (Some m) = by_size (λ o. is_there_and o (λ n. nat_lt n (m.data_sectors + 1))) size
 
-  pub same : (r : Refusal) → applies u.state (seen_in facts) c r ≡ applies u.state (seen_of u) c r
-  same NoMirror = refl
-  same NameTaken = refl
-  same MidTaken =
-      any_agree _ _ u.state.mirrors (λ m h. same_takes (seen_in facts) (seen_of u) c
-      (λ p k. are.last p (seen p k)) m)
-  same Absent =
-      ap₂ (λ a b. a || b) (by_size is_none)
-      (any_agree _ _ (awaited u.state c)
-      (λ k h. ap (λ o. not (has_size o k.sectors)) (are.size k.provider (of_mirror k h))))
-  same ProviderTaken = refl
-  same CarriesMetadata = by_last last_carries
-  same TooSmall = small (mirror_named u.state c)
-  same NotMember = refl
-  same DidTaken = ap (λ b. list_any (has_did c) (members_named u.state c) || b)
-      (same_dids (seen_in facts) (seen_of u) c (λ p k. are.last p (seen p k)))
-  same Full = refl
-  same TooManyMirrors = refl
-  same SomeLost = refl
-  same LastActive = refl
-  same AlreadyInactive = refl
-  same NotInactive = refl
-  same NoneLost = refl
-  same Inactive = refl
-  same NotSynchronizing = refl
-  same LastSyncid = refl
-  same LastGenid = refl
-  same NothingGiven = refl
-  same NotAdoptable =
-      same_unfit (seen_in facts) (seen_of u) c (record {
-        size = λ p h. are.size p (seen p h);
-        last = λ p h. are.last p (seen p h);
-      })
-  same WrongSize = by_size (λ o. is_there_and o has_wrong_size)
-  same NoMetadata = by_last (λ o. not (last_carries o))
+  -- a refusal applies alike where what it asks is seen alike
+  pub same_applies : (r : Refusal) → AskAlike s c x y r → applies s x c r ≡ applies s y c r
+  same_applies NoMirror a = refl
+  same_applies NameTaken a = refl
+  same_applies MidTaken a =
+      any_agree _ _ s.mirrors (λ m h. same_takes x y c (a.last refl) m)
+  same_applies Absent a =
+      ap₂ (λ a b. a || b) (by_size is_none a.size)
+      (any_agree _ _ (awaited s c) (λ k h. ap (λ o. not (has_size o k.sectors)) (a.mirror k h)))
+  same_applies ProviderTaken a = refl
+  same_applies CarriesMetadata a = by_last last_carries (a.last refl)
+  same_applies TooSmall a = small a.size (mirror_named s c)
+  same_applies NotMember a = refl
+  same_applies DidTaken a = ap (λ b. list_any (has_did c) (members_named s c) || b)
+      (same_dids x y c (a.last refl))
+  same_applies Full a = refl
+  same_applies TooManyMirrors a = refl
+  same_applies SomeLost a = refl
+  same_applies LastActive a = refl
+  same_applies AlreadyInactive a = refl
+  same_applies NotInactive a = refl
+  same_applies NoneLost a = refl
+  same_applies Inactive a = refl
+  same_applies NotSynchronizing a = refl
+  same_applies LastSyncid a = refl
+  same_applies LastGenid a = refl
+  same_applies NothingGiven a = refl
+  same_applies NotAdoptable a =
+      same_unfit x y c (record { size = a.size; last = a.last refl })
+  same_applies WrongSize a = by_size (λ o. is_there_and o has_wrong_size) a.size
+  same_applies NoMetadata a = by_last (λ o. not (last_carries o)) (a.last refl)
 
--- the records depend on what is seen of the providers that are looked at
-same_after : (x y : Seen) (c : Command) (s : Records) → SeeAlike x y (looked_at c) → SameEqual x y c
+-- the records depend on the sizes of the providers that are looked at, and on what an adoption sees
+pub same_after : (x y : Seen) (c : Command) (s : Records)
+    → ((p : List ℕ) → Has (looked_at c) p → x.size p ≡ y.size p) → AdoptAlike x y c
     → after x c s ≡ after y c s
 same_after x y (Label new) s e q =
     ap (λ o. let r :
@@ -124,14 +132,14 @@ same_after x y (Label new) s e q =
       mirrors = put name (new_mirror new (unwrap_or o 0)) s.mirrors;
       components = put provider (first_component new (unwrap_or o 0)) s.components;
     } in
-    r) (e.size new.provider (inl refl))
+    r) (e new.provider (inl refl))
 same_after x y (Insert new) s e q =
     ap (λ o. on_found (mirror_of s new.name) s
     (λ m. record {
       mirrors = put name (record m { all = m.all + 1 }) s.mirrors;
       components = put provider (spare m new (unwrap_or o 0)) s.components;
     }))
-    (e.size new.provider (inl refl))
+    (e new.provider (inl refl))
 same_after x y (Remove n p) s e q = refl
 same_after x y (Deactivate n p) s e q = refl
 same_after x y (Activate n p) s e q = refl
@@ -143,7 +151,7 @@ same_after x y (Destroy n) s e q = refl
 same_after x y (Lost n ps) s e q = refl
 same_after x y (Advance n p) s e q = refl
 same_after x y (Adopt n ps) s e q =
-    same_source_after (source_in x ps) (same_source x y ps e)
+    same_source_after (source_in x ps) (same_source x y ps q.0)
   where
     same_source_after : (o : Option Member) → o ≡ source_in y ps
         → on_found o s (λ b. record {
@@ -157,20 +165,41 @@ same_after x y (Adopt n ps) s e q =
           mirrors = put name (adopted_mirror n b.metadata) s.mirrors;
           components = put_all provider ks s.components;
         } in
-        r) (same_adopted x y ps e n b (q b (sym i)))
+        r) (same_adopted x y ps q.0 n b (q.1 b (sym i)))
         ∙ ap (λ o. on_found o s
         (λ b. record {
           mirrors = put name (adopted_mirror n b.metadata) s.mirrors;
           components = put_all provider (adopted y n ps b) s.components;
         })) i
 
+-- ---- the facts of a world
+
+module _ (facts : List Fact) (u : World) (c : Command) (are : AreFacts facts u c) where
+  seen : (p : List ℕ) → Has (looked_at c) p → Has (needed_by u.state c) p
+  seen p h = Has-append_left (looked_at c) (map provider (awaited u.state c)) p h
+
+  of_mirror : (k : Component) → Has (awaited u.state c) k → Has (needed_by u.state c) k.provider
+  of_mirror k h = Has-append_right (looked_at c) (map provider (awaited u.state c)) k.provider
+      (map-Has provider (awaited u.state c) k h)
+
+  pub same : (r : Refusal) → applies u.state (seen_in facts) c r ≡ applies u.state (seen_of u) c r
+  same r = same_applies u.state c (seen_in facts) (seen_of u) r (record {
+    size = λ p h. are.size p (seen p h);
+    mirror = λ k h. are.size k.provider (of_mirror k h);
+    last = λ asks p h. are.last p (seen p h);
+  })
+
 -- facts that tell which sectors are equal tell it where the command is good
-equal_by : (facts : List Fact) (u : World) (c : Command) → TellEqual facts u c
-    → IsGood u.state (seen_of u) c → SameEqual (seen_in facts) (seen_of u) c
-equal_by facts u (Adopt n ps) tell good = λ b from p h k l.
-    tell (not-false (is_adoptable (seen_of u) n ps)
-    (good NotAdoptable refl)) b from p h k l
-equal_by facts u _ tell good = tt
+equal_by : (facts : List Fact) (u : World) (c : Command)
+    → SeeAlike (seen_in facts) (seen_of u) (looked_at c) → TellEqual facts u c
+    → IsGood u.state (seen_of u) c → AdoptAlike (seen_in facts) (seen_of u) c
+equal_by facts u (Adopt n ps) alike tell good = (
+  alike,
+  λ b from p h k l.
+      tell (not-false (is_adoptable (seen_of u) n ps)
+      (good NotAdoptable refl)) b from p h k l,
+)
+equal_by facts u _ alike tell good = tt
 
 -- what is decided from facts of the world is decided in the world
 decides_in : (facts : List Fact) (u : World) (c : Command) → AreFacts facts u c
@@ -188,8 +217,8 @@ decides_in facts u c are (Ok ch) d =
       size = λ p h. are.size p (seen facts u c are p h);
       last = λ p h. are.last p (seen facts u c are p h);
     } in
-    let e = same_after (seen_in facts) (seen_of u) c u.state alike
-    (equal_by facts u c are.equal good) in
+    let e = same_after (seen_in facts) (seen_of u) c u.state alike.size
+    (equal_by facts u c alike are.equal good) in
     record {
       good = good;
       records = d.records ∙ e;

@@ -1,5 +1,5 @@
 -- What is made of a part is what the command makes of the whole.
-use Rattle.std.proofs.Common.{◌≡◌, ◌∙◌, inl, ℕ, ◌+◌, ◌-◌, Bool, true, false, not, refl, inr, option_map, sym, ap, ap₂, subst, List, [], ◌∷◌, ◌++◌, Option, Some, None, Result, Ok, Err, OnErr, map, filter, find, length, if◌then◌else◌}
+use Rattle.std.proofs.Common.{◌≡◌, ◌≢◌, ◌≤◌, ◌==◌, arith, ◌∙◌, inl, ℕ, ◌+◌, ◌-◌, Bool, true, false, not, refl, inr, option_map, sym, ap, ap₂, subst, List, [], ◌∷◌, ◌++◌, Option, Some, None, Result, Ok, Err, OnErr, map, filter, find, length, if◌then◌else◌}
 use Rattle.gm_commands.specs.declared.command.NewComponent.{NewComponent}
 use Rattle.gm_commands.specs.declared.command.Settings.{Settings}
 use Rattle.gm_commands.specs.declared.command.Command.{Command}
@@ -21,12 +21,14 @@ use Rattle.gm_changes.specs.Decides.{Changed, adopting}
 use Rattle.gm_refusals.specs.Applies.{IsGood}
 use Rattle.gm_refusals.specs.Adoptable.{source_in, is_adoptable}
 use Rattle.gm_refusals.proofs.TakenProviders.{fitting}
-use Rattle.gm_refusals.specs.PartOf.{IsPartOf, IsPartToDecide, IsGoodButCount, applies_to_part, part_of}
+use Rattle.gm_refusals.specs.PartOf.{IsPartOf, IsPartToDecide, IsGoodButCount, applies_to_part, asks_count, part_of}
 use Rattle.gm_changes.specs.PartChange.{IsMade}
 use Rattle.gm_refusals.specs.Refusals.{own}
 use Rattle.gm_refusals.proofs.PartAgrees.{same_mirror, same_members, same_component, same_named_members, same_applies}
 use Rattle.gm_lists.proofs.Finding.{found_none}
-use Rattle.gm_refusals.proofs.NothingApplies.{is_good}
+use Rattle.gm_refusals.proofs.NothingApplies.{is_good, not_at}
+use Rattle.gm_refusals.specs.declared.refusals.Refusal.{Refusal}
+use Rattle.std.proofs.lemmas.Bool.{cases_Bool, ne_eqb}
 use Rattle.gm_state.proofs.FoundRecords.{home_of}
 use Rattle.gm_refusals.specs.declared.refusals.Refusal.TheVariants as refusals
 use Rattle.gm_changes.proofs.MakesChange.{insert_makes, remove_makes, deactivate_makes, activate_makes, forget_makes, rebuild_makes, advance_makes, configure_makes, destroy_makes, lost_makes, adopt_makes}
@@ -271,6 +273,29 @@ pub good_on : (part : Records) (count : ℕ) (x : Seen) (c : Command)
     → find (applies_to_part part count x c) (own c) ≡ None
     → (s : Records) → IsPartToDecide part x c s → count ≡ length s.mirrors → IsGood s x c
 good_on part count x c e s to is = is_good s x c (sym (found_on part s count x c to is) ∙ e)
+
+only_count : (r : Refusal) → asks_count r ≡ true → r ≡ refusals.TooManyMirrors
+only_count refusals.TooManyMirrors e = refl
+only_count _ e = cc
+
+-- where there are no fewer mirrors in all, and no more than there may be, nothing applies to the
+-- part by itself
+pub good_alone : (part : Records) (count : ℕ) (x : Seen) (c : Command)
+    → find (applies_to_part part count x c) (own c) ≡ None → length part.mirrors ≤ count
+    → count ≤ 64 → IsGood part x c
+good_alone part count x c e few most r h =
+    elim (cases_Bool (asks_count r)) [
+      | inr other ↦ none_on part count x c e r h other
+      | inl asks ↦
+          let is : r ≡ refusals.TooManyMirrors = only_count r asks in
+          let off : (count == 64) ≡ false =
+          subst (λ (q : Refusal). applies_to_part part count x c q ≡ false) is
+          (found_none (applies_to_part part count x c) (own c) e r h) in
+          let apart : count ≢ 64 = not_at count 64 off in
+          let less : (length part.mirrors == 64) ≡ false =
+          ne_eqb (length part.mirrors) 64 (λ z. omega (arith, z, apart, few, most)) in
+          subst (λ (q : Refusal). applies part x c q ≡ false) (sym is) less
+    ]
 
 -- a fact of its own is a fact of an error
 pub on_err : {T E : Type 0} (r : Result T E) (P : Type 0) → P → OnErr r P

@@ -1,13 +1,13 @@
 //! What a command does to the records, or why it is refused.
 
-ghost use Rattle.std.specs.Prelude.{◌≡◌, ◌<◌, IfOk, OnErr, Some, length};
-ghost use Rattle.gm_changes.specs.Decides.{Decides};
+ghost use Rattle.std.specs.Prelude.{◌≡◌, ◌≤◌, ◌<◌, IfOk, OnErr, Some, length};
+ghost use Rattle.gm_changes.specs.Decides.{Decides, Makes};
 ghost use Rattle.gm_changes.specs.PartChange.{IsMade, LeavesPart};
 ghost use Rattle.gm_refusals.specs.Applies.{IsGood};
 ghost use Rattle.gm_refusals.specs.PartOf.{IsPartToDecide, IsGoodButCount};
 ghost use Rattle.gm_refusals.specs.Seen.{seen_in};
 ghost use Rattle.gm_refusals.specs.WorldFacts.{AreFacts, seen_of};
-ghost use Rattle.gm_state.specs.Records.{Records};
+ghost use Rattle.gm_state.specs.Records.{Records, IsState};
 ghost use Rattle.gm_state.specs.World.{World};
 
 use crate::activate::activate;
@@ -72,6 +72,10 @@ pub fn decide_part(
     ensures part { IfOk result (λ r. IfOk r (λ ch. (s : Records)
         → IsPartToDecide part.now (seen_in facts.now) command.now s
         → count ≡ length s.mirrors → LeavesPart part.now command.now s ch)) }
+    // It is what the command makes of the part, taken for a whole state.
+    ensures alone { IfOk result (λ r. IfOk r (λ ch. IsState part.now
+        → length part.now.mirrors ≤ count → count ≤ 64
+        → Makes part.now (seen_in facts.now) command.now ch)) }
     // Where memory is wanting, no refusal applies.
     ensures memory { OnErr result ((s : Records)
         → IsPartToDecide part.now (seen_in facts.now) command.now s

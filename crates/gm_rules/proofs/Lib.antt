@@ -18,3 +18,4 @@ pub mod PlansKeeping
 pub mod RuledOut
 pub mod StepOfMirror
 pub mod FoundMembers
+pub mod StandIn

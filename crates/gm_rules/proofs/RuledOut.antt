@@ -30,7 +30,7 @@ use Rattle.gm_rules.proofs.PlanOfStep.{IsPlain, ArePlain}
 use Rattle.gm_state.proofs.FoundRecords.{active_is}
 use Rattle.gm_refusals.proofs.NothingApplies.{on_one}
 
-has_size_is : (o : Option ℕ) (n : ℕ) → not (has_size o n) ≡ false → o ≡ Some n
+pub has_size_is : (o : Option ℕ) (n : ℕ) → not (has_size o n) ≡ false → o ≡ Some n
 has_size_is None n e = absurd (let h : ⊥ = cc in h)
 has_size_is (Some k) n e = by (k == n) refl
   where

@@ -58,7 +58,7 @@ pub record Turns (u : World) (mid : Image) (m : Mirror) (ks : List Component) (g
 abbrev pub holds_after : List ℕ → (ℕ → List ℕ) → (List ℕ → ℕ → List ℕ) → List ℕ → ℕ → List ℕ
 holds_after n list holds n' i = cond (same_label n' n) (list i) (holds n' i)
 
-held_within : (d : Disk) (n : ℕ) → held_of d < n → held_by d n ≤ n
+pub held_within : (d : Disk) (n : ℕ) → held_of d < n → held_by d n ≤ n
 held_within InSync n h = omega arith
 held_within Inactive n h = omega arith
 held_within (Copying forced held) n h = omega arith

@@ -1,2 +1,3 @@
 pub mod AbstractCalls
 pub mod Step
+pub mod Itself

@@ -1,11 +1,11 @@
-use Rattle.std.proofs.Common.{◌≡◌, ◌∙◌, inl, inr, ◌++◌, ◌∷◌, [], List, ℕ, sym, ap, subst, arith, take, None}
+use Rattle.std.proofs.Common.{◌≡◌, ◌∙◌, inl, inr, ◌++◌, ◌∷◌, [], List, ℕ, sym, ap, subst, arith, take, Some, None}
 use Rattle.std.proofs.lemmas.List.{take_all}
 use Rattle.gm_metadata.specs.Images.{Sizes}
 use Rattle.gm_lists.specs.Ordered.{Has}
 use Rattle.gm_refusals.specs.declared.facts.Fact.{Fact}
-use Rattle.gm_bench.specs.ShelfFacts.{IsFact, Tell}
+use Rattle.gm_bench.specs.ShelfFacts.{IsFact, Tell, TellSizes}
 use Rattle.gm_shelf.proofs.Keeping.{only_then}
-use Rattle.gm_bench.proofs.FactsAreWorlds.{tell, moved, fact_found, absent_found, covered_more, has_either, has_left, has_last}
+use Rattle.gm_bench.proofs.FactsAreWorlds.{tell, tell_sizes, size_found, moved, fact_found, absent_found, covered_more, has_either, has_left, has_last}
 use Rattle.gm_bench.proofs.facts.facts_of.Goals as goal
 use Rattle.gm_bench.proofs.facts.facts_of.Goals.{in-Some+in-Ok, in-None}
 
@@ -32,6 +32,16 @@ loop-name-preserved g c =
           )) in
           record {
             only = only_then g.H.Shelf _ _ _ inv.only c.fact_of.ensures.looks.only;
+            sizes = λ f has.
+                (elim (has_either c.loop-name.entries.items w.in-Some.fact f
+                (subst (λ (l : List Fact). Has l f) more has)) [
+                  | inl old ↦ inv.sizes f old
+                  | inr new ↦ subst (λ (x : Fact). size x.provider ≡ Some x.sectors) new
+                      (subst (λ (z : Sizes). z w.in-Some.fact.provider
+                      ≡ Some w.in-Some.fact.sectors) inv.only.keeps.size
+                      (size_found c.in_ok-fact_of.field-0 w.in-Some.fact mid name w.in-Some.is
+                      c.in_ok-fact_of.ensures.size))
+                ]);
             facts = λ h f has.
                 (elim (has_either c.loop-name.entries.items w.in-Some.fact f
                 (subst (λ (l : List Fact). Has l f) more has)) [
@@ -56,6 +66,7 @@ loop-name-preserved g c =
           ap (λ v. v.items) w.entries-is in
           record {
             only = only_then g.H.Shelf _ _ _ inv.only c.fact_of.ensures.looks.only;
+            sizes = λ f has. inv.sizes f (subst (λ (l : List Fact). Has l f) more has);
             facts = λ h f has. inv.facts h f (subst (λ (l : List Fact). Has l f) more has);
             covered = λ h q has. covered_more c.loop-name.entries.items
                 c.match-branch-2.entries.items size c.args.names.now c.loop-name.name-index name
@@ -78,3 +89,9 @@ returns-clause-tell g c h q has =
     let covered = inv.covered h q (subst (λ (l : List (List ℕ)). Has l q) (sym all) has) in
     subst (λ (l : List Fact). Tell l size seen against q) (sym c.new.ensures)
     (tell c.loop-name.entries.items size seen against q (inv.facts h) covered)
+
+pub returns-clause-sizes : goal.returns-clause-sizes
+returns-clause-sizes g c =
+    let size = g.H.Shelf.size c.args.shelf.now in
+    subst (λ (l : List Fact). TellSizes l size) (sym c.new.ensures)
+    (tell_sizes c.loop-name.entries.items size c.loop-name.invariant.sizes)

@@ -1,4 +1,4 @@
-use Rattle.std.proofs.Common.{List, ℕ, take}
+use Rattle.std.proofs.Common.{◌≡◌, List, ℕ, Some, take}
 use Rattle.gm_shelf.specs.Keeping.{ReadsOnly}
 use Rattle.gm_lists.specs.Ordered.{Has}
 use Rattle.gm_refusals.specs.declared.facts.Fact.{Fact}
@@ -12,6 +12,7 @@ invariant-loop-name g l =
     let old = H.view l.fn.shelf in
     record {
       only : ReadsOnly H l.fn.shelf l.shelf;
+      sizes : (f : Fact) → Has l.entries.items f → H.size l.fn.shelf f.provider ≡ Some f.sectors;
       facts : H.honest l.fn.shelf → (f : Fact) → Has l.entries.items f
           → IsFact (H.size l.fn.shelf) old.seen l.against f;
       covered : H.honest l.fn.shelf → (q : List ℕ) → Has (take l.name-index l.names) q

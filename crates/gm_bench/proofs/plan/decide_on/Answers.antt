@@ -1,25 +1,30 @@
-use Rattle.std.proofs.Common.{◌≡◌, Err, IfOk, length, ap, subst}
-use Rattle.gm_state.specs.Records.{Records}
-use Rattle.gm_changes.specs.Decides.{Decides, Makes}
-use Rattle.gm_refusals.specs.PartOf.{IsPartToDecide}
-use Rattle.gm_changes.specs.PartChange.{LeavesPart}
+use Rattle.std.proofs.Common.{◌≡◌, ◌≤◌, Err, IfOk, length, ap, subst}
+use Rattle.gm_state.specs.Records.{IsState}
+use Rattle.gm_changes.specs.Decides.{Makes}
 use Rattle.gm_refusals.specs.Seen.{seen_in}
-use Rattle.gm_refusals.specs.WorldFacts.{seen_of}
 use Rattle.gm_bench.specs.declared.fault.BenchFault.TheVariants.{Unreadable}
-use Rattle.gm_bench.proofs.PartCovers.{part_stays}
+use Rattle.gm_bench.proofs.PlannedAlone.{planned_hand, planned_state}
 use Rattle.gm_bench.proofs.plan.decide_on.Goals as goal
 
 pub returns-in-Err-plan-clause-readable : goal.returns-in-Err-plan-clause-readable
-returns-in-Err-plan-clause-readable c is u key sound can of count facts =
-    let command = c.args.command.now in
+returns-in-Err-plan-clause-readable c is fits state few most itself =
     let part = c.args.part.now in
-    let made : Makes u.state (seen_of u) command c.in-Ok-Ok.change =
-    subst (λ r. Decides u.state (seen_of u) command r) c.in-Ok-Ok.field-0-is
-    (c.in-Ok-Ok.ensures.world u of count facts) in
-    let leaves =
-    subst (λ r. IfOk r (λ ch. (s : Records)
-    → IsPartToDecide part (seen_in c.args.facts.now) command s → c.args.count ≡ length s.mirrors
-    → LeavesPart part command s ch)) c.in-Ok-Ok.field-0-is c.in-Ok-Ok.ensures.part in
+    let facts = c.args.facts.now in
+    let command = c.args.command.now in
+    let alone = subst (λ r. IfOk r (λ ch. IsState part → length part.mirrors ≤ c.args.count
+    → c.args.count ≤ 64 → Makes part (seen_in facts) command ch)) c.in-Ok-Ok.field-0-is
+    c.in-Ok-Ok.ensures.alone in
     let fault : c.in-Err-plan.fault ≡ Unreadable = cc in
     c.in-Err-plan.ensures.readable (ap Err fault)
-    (part_stays u key command c.in-Ok-Ok.change part sound can made (leaves u.state of count))
+    (planned_state part facts command c.in-Ok-Ok.change state fits (alone state few most) itself)
+
+pub returns-in-Ok-clause-at_hand : goal.returns-in-Ok-clause-at_hand
+returns-in-Ok-clause-at_hand c fits state few most size tells =
+    let part = c.args.part.now in
+    let facts = c.args.facts.now in
+    let command = c.args.command.now in
+    let alone = subst (λ r. IfOk r (λ ch. IsState part → length part.mirrors ≤ c.args.count
+    → c.args.count ≤ 64 → Makes part (seen_in facts) command ch)) c.in-Ok-Ok.field-0-is
+    c.in-Ok-Ok.ensures.alone in
+    planned_hand part facts command c.in-Ok-Ok.change state fits (alone state few most)
+    c.in-Ok.planned.work.intents.items size c.in-Ok.ensures.planned.2 tells

@@ -7,7 +7,8 @@ use Rattle.gm_changes.specs.PartChange.{IsMade}
 use Rattle.gm_refusals.proofs.NothingApplies.{is_least}
 use Rattle.gm_changes.proofs.DecidedInWorld.{in_world}
 use Rattle.gm_changes.proofs.LeavesPart.{made_leaves}
-use Rattle.gm_changes.proofs.MadeOfPart.{found_on, none_on, good_on, on_err}
+use Rattle.gm_changes.proofs.MadeOfPart.{found_on, none_on, good_on, good_alone, on_err}
+use Rattle.gm_refusals.proofs.PartAgrees.{whole_to_decide}
 use Rattle.gm_changes.proofs.decision.decide_part.Goals as goal
 
 pub returns-in-Some : goal.returns-in-Some
@@ -24,6 +25,7 @@ returns-in-Some c =
       world = λ u to is are. in_world c.args.facts.now u.state c.args.command.now
           (Err c.in-Some.refusal) (least u.state to is) u refl are;
       part = tt;
+      alone = tt;
       memory = tt;
     }
 
@@ -58,5 +60,9 @@ returns c =
           (Ok c.in_ok-change.change) (made u.state to (good u.state to is)) u refl are;
       part = λ s to is. made_leaves c.args.part.now s (seen_in c.args.facts.now) c.args.command.now
           to c.in_ok-change.change made but (good s to is);
+      alone = λ state few most. made c.args.part.now
+          (whole_to_decide c.args.part.now (seen_in c.args.facts.now) c.args.command.now state)
+          (good_alone c.args.part.now c.args.count (seen_in c.args.facts.now) c.args.command.now
+          (search rules) few most);
       memory = tt;
     }

@@ -1,8 +1,8 @@
-use Rattle.std.proofs.Common.{rules, ◌≡◌, Err, ap, subst}
+use Rattle.std.proofs.Common.{rules, ◌≡◌, ◌∙◌, Err, sym, ap, subst}
 use Rattle.gm_bench.specs.declared.fault.BenchFault.TheVariants.{Unreadable}
 use Rattle.gm_registry.proofs.CallsLeave.{saved}
 use Rattle.gm_bench.proofs.DecidesOnly.{unstepped_same}
-use Rattle.gm_bench.proofs.Phases.{takes_failed}
+use Rattle.gm_bench.proofs.Phases.{takes_failed, work_hand}
 use Rattle.gm_bench.proofs.bench.Bench.accept.Goals as goal
 use Rattle.gm_bench.specs.Phases.{IsUndone}
 
@@ -35,10 +35,23 @@ returns-in-Ok-clause-answers g c h clean = (
   c.in-Ok.ensures.done h clean,
 )
 
-pub returns-in-Err-clause-readable : goal.returns-in-Err-clause-readable
-returns-in-Err-clause-readable g c h clean is away u at written =
-    let fault : c.in-Err.fault ≡ Unreadable = cc in
-    c.in-Err.ensures.readable h clean (ap Err fault) away u at written
+pub returns-in-Err-clause-rows : goal.returns-in-Err-clause-rows
+returns-in-Err-clause-rows g c =
+    record {
+      readable = λ clean is t s has records few written honest. (
+          let fault : c.in-Err.fault ≡ Unreadable = cc in
+          c.in-Err.ensures.readable clean (ap Err fault) t s has records few written honest);
+      at_hand = search rules;
+    }
+
+pub returns-in-Ok-clause-rows : goal.returns-in-Ok-clause-rows
+returns-in-Ok-clause-rows g c =
+    record {
+      readable = search rules;
+      at_hand = λ clean t s has records work pending.
+          work_hand (g.H.Shelf.size c.args.self.now.media.shelf) c.in-Ok.accepted work
+          (sym c.tell-answer.ensures.1 ∙ pending) (c.in-Ok.ensures.at_hand clean t s has records);
+    }
 
 pub returns-in-Ok-clause-accepts : goal.returns-in-Ok-clause-accepts
 returns-in-Ok-clause-accepts g c =

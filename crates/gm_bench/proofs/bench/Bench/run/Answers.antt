@@ -1,8 +1,10 @@
-use Rattle.std.proofs.Common.{rules, ◌≡◌, ◌∙◌, ◌<◌, Err, inl, refl, sym, ap, arith}
+use Rattle.std.proofs.Common.{rules, ◌≡◌, ◌∙◌, ◌<◌, Err, inl, refl, sym, ap, subst, arith}
 use Rattle.gm_registry.specs.Registry.{DiskKept}
 use Rattle.gm_bench.specs.declared.fault.BenchFault.TheVariants.{Disk}
-use Rattle.gm_bench.proofs.Phases.{not_pending}
-use Rattle.gm_bench.proofs.Carried.{rest_answers, work, is_work, done, carried_answers, carried_leaves}
+use Rattle.gm_bench.proofs.Phases.{not_pending, has_pending}
+use Rattle.gm_bench.proofs.Carried.{rest_answers, work, is_work, carried_answers, carried_leaves}
+use Rattle.gm_metadata.specs.Images.{Sizes}
+use Rattle.gm_bench.specs.Presence.{AreAtHand}
 use Rattle.gm_bench.proofs.bench.Bench.run.Goals as goal
 use Rattle.gm_bench.specs.declared.phase.Phase.TheVariants as phase
 use Rattle.gm_bench.specs.Phases.{phase_after}
@@ -106,30 +108,18 @@ returns-in-Err-carry_out-clause-runs g c =
     record {
       keep = search rules;
       undone = search rules;
-      disk = λ h clean away u at told. (
-          let view = g.H.Shelf.view in
+      disk = λ clean t s has records told. (
           let mid : DiskKept g.S.Store c.accept.new.self.media.registry =
           omega (arith, clean, c.carry_out.ensures.carries.keep.clean) in
-          let answers = c.in-Ok.ensures.answers h mid in
-          let pending = sym c.phase.ensures ∙ c.in-Pending.is in
+          let pending = has_pending c.accept.new.self.progress
+          (sym c.phase.ensures ∙ c.in-Pending.is) in
           let fault : c.in-Err-carry_out.fault ≡ Disk = cc in
-          let left = done g.S.Store view g.H.Shelf.size c.args.self.now.media.registry
-          c.accept.new.self.media.registry c.args.self.now.media.shelf c.accept.new.self.media.shelf
-          c.args.key.now c.args.command.now c.in-Ok.answer c.accept.new.self.progress answers
-          pending
-          away u at in
-          let more : (view c.accept.new.self.media.shelf).faults
-          < (view c.carry_out.new.self.media.shelf).faults =
-          c.in-Err-carry_out.ensures.carries.disk
-          (work g.S.Store view g.H.Shelf.size c.args.self.now.media.registry
-          c.accept.new.self.media.registry c.args.self.now.media.shelf c.accept.new.self.media.shelf
-          c.args.key.now c.args.command.now c.in-Ok.answer c.accept.new.self.progress answers
-          pending)
-          (is_work g.S.Store view g.H.Shelf.size c.args.self.now.media.registry
-          c.accept.new.self.media.registry c.args.self.now.media.shelf c.accept.new.self.media.shelf
-          c.args.key.now c.args.command.now c.in-Ok.answer c.accept.new.self.progress answers
-          pending)
-          left.at.at.at_hand (ap Err fault) in
+          let more : (g.H.Shelf.view c.accept.new.self.media.shelf).faults
+          < (g.H.Shelf.view c.carry_out.new.self.media.shelf).faults =
+          c.in-Err-carry_out.ensures.carries.disk pending.0 pending.1
+          (subst (λ (z : Sizes). AreAtHand z pending.0.intents.items)
+          (sym c.accept.ensures.accepts.only.keeps.size)
+          (c.in-Ok.ensures.rows.at_hand mid t s has records pending.0 pending.1)) (ap Err fault) in
           omega (arith, c.accept.ensures.accepts.only.keeps.count, more));
     }
 
@@ -138,7 +128,7 @@ returns-in-Err-clause-runs g c =
     record {
       keep = search rules;
       undone = search rules;
-      disk = λ h clean away u at told. (
+      disk = λ clean t s has records told. (
           let fault : c.in-Err.fault ≡ Disk = cc in
           c.in-Err.ensures.accepts.disk (ap Err fault));
     }

@@ -19,9 +19,12 @@ returns-in-Err-clause-leaves g c h clean away u at =
     (saved g.S.Store g.met.S.Store.settled c.args.self.now.registry at.tables at.has).crash
 
 pub returns-in-Ok-clause-readable : goal.returns-in-Ok-clause-readable
-returns-in-Ok-clause-readable g c h clean is away u at written =
-    let key_ok : is_key c.args.key.now ≡ true = search rules in
-    c.answer.ensures.readable h clean is away u key_ok c.in-Ok.ensures.fits at written
+returns-in-Ok-clause-readable g c =
+    c.answer.ensures.readable c.in-Ok.ensures.fits
+
+pub returns-in-Ok-clause-at_hand : goal.returns-in-Ok-clause-at_hand
+returns-in-Ok-clause-at_hand g c =
+    c.answer.ensures.at_hand c.in-Ok.ensures.fits
 
 pub returns-then-not-is_key-clause-accepts : goal.returns-then-not-is_key-clause-accepts
 returns-then-not-is_key-clause-accepts g c =

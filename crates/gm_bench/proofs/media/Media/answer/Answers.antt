@@ -127,20 +127,19 @@ returns-in-Ok-Some-clause-done g c h clean away u words key_ok fits at =
     )
 
 pub returns-in-Ok-None-clause-readable : goal.returns-in-Ok-None-clause-readable
-returns-in-Ok-None-clause-readable g c h clean is away u key_ok fits at written =
+returns-in-Ok-None-clause-readable g c fits clean is t s has records few written honest =
     let asked : DiskKept g.S.Store c.reply_of.new.self =
     omega (arith, clean, c.decide.ensures.accepts.clean) in
-    let lawful = g.met.H.Shelf.lawful c.args.self.now.shelf h in
-    let f = c.in-Ok-None.ensures.found asked at.tables at.has in
-    let free : IsFree at.tables c.args.key.now =
-    subst (λ o. MatchOption o (IsFree at.tables c.args.key.now)
-    (λ it. IsKept at.tables c.args.key.now it.0 (string_bytes it.1) it.2))
-    c.in-Ok-None.field-0-is f.0 in
-    let quiet = quiet_itself (g.H.Shelf.view c.args.self.now.shelf) in
-    let at1 = still g.S.Store g.H.Shelf.view g.H.Shelf.size c.args.self.now.registry
-    c.args.self.now.shelf c.args.self.now.shelf away u at lawful quiet refl c.reply_of.new.self
-    f.1.tables in
-    c.decide.ensures.readable h clean is away u key_ok fits at1 free
+    let found = c.in-Ok-None.ensures.found asked t has in
+    c.decide.ensures.readable fits clean is t s found.1.tables records few written honest
+
+pub returns-in-Ok-None-clause-at_hand : goal.returns-in-Ok-None-clause-at_hand
+returns-in-Ok-None-clause-at_hand g c fits clean =
+    let asked : DiskKept g.S.Store c.reply_of.new.self =
+    omega (arith, clean, c.decide.ensures.accepts.clean) in
+    ok_then _ _ (λ a handy t s has records.
+    handy t s (c.in-Ok-None.ensures.found asked t has).1.tables records)
+    c.decide.result (c.decide.ensures.at_hand fits clean)
 
 pub returns-in-Ok-None-clause-accepts : goal.returns-in-Ok-None-clause-accepts
 returns-in-Ok-None-clause-accepts g c =

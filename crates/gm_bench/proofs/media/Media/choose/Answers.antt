@@ -5,8 +5,9 @@ use Rattle.gm_refusals.specs.Applies.{IsLeast}
 use Rattle.gm_refusals.specs.WorldFacts.{seen_of}
 use Rattle.gm_bench.specs.Accepting.{LeavesStep, IsAnswered}
 use Rattle.gm_bench.specs.declared.fault.BenchFault.TheVariants.{Unreadable}
-use Rattle.gm_bench.specs.Planning.{IsPlanned, IsDecided}
-use Rattle.gm_bench.proofs.CallAnswers.{as_many, least}
+use Rattle.gm_bench.specs.Planning.{IsPlanned, IsDecided, IsPlanAtHand}
+use Rattle.gm_bench.specs.Presence.{AreAtHand}
+use Rattle.gm_bench.proofs.CallAnswers.{least}
 use Rattle.gm_bench.proofs.DecidesOnly.{still, unstepped, then_step, ok_then}
 use Rattle.gm_bench.proofs.media.Media.choose.Goals as goal
 
@@ -94,20 +95,27 @@ returns-in-Err-clause-leaves g c h clean away u words at can =
     clean (c.ask.ensures.asks.store.left at.tables at.has)
 
 pub returns-in-Ok-Ok-clause-readable : goal.returns-in-Ok-Ok-clause-readable
-returns-in-Ok-Ok-clause-readable g c h clean is away u at can =
-    let l = (at.leads (g.H.Shelf.view c.args.self.now.shelf).seen
-    (g.met.H.Shelf.lawful c.args.self.now.shelf h).holds_now).0 in
+returns-in-Ok-Ok-clause-readable g c fits clean is t s has records few written honest =
     let asked : DiskKept g.S.Store c.ask.new.self.registry =
     omega (arith, clean, c.commit.ensures.clean) in
-    let d = c.in-Ok-Ok.ensures.decides h asked away u at in
-    let many = as_many u at.tables l.sound l.records c.args.key.now c.args.command.now in
-    let few = l.sound.answers.count in
-    c.commit.ensures.readable clean is at.tables d.1 (omega (arith, many, few))
+    c.commit.ensures.readable clean is t
+    (c.in-Ok-Ok.ensures.at_hand asked t s has records).0 few
 
 pub returns-in-Err-clause-readable : goal.returns-in-Err-clause-readable
-returns-in-Err-clause-readable g c h clean is away u at can =
+returns-in-Err-clause-readable g c fits clean is t s has records few written honest =
     let fault : c.in-Err.fault ≡ Unreadable = cc in
-    c.in-Err.ensures.readable h clean (ap Err fault) away u c.args.key.now at can
+    c.in-Err.ensures.readable clean (ap Err fault) t s has records fits honest
+
+pub returns-in-Ok-Ok-clause-at_hand : goal.returns-in-Ok-Ok-clause-at_hand
+returns-in-Ok-Ok-clause-at_hand g c fits clean =
+    let size = g.H.Shelf.size c.args.self.now.shelf in
+    let asked : DiskKept g.S.Store c.ask.new.self.registry =
+    omega (arith, clean, c.commit.ensures.clean) in
+    ok_then _ _ (λ a done t s has records. (
+    let planned : AreAtHand size c.in-Ok-Ok.planned.work.intents.items =
+    subst (λ r. IsPlanAtHand size r) c.in-Ok-Ok.field-0-is
+    ((c.in-Ok-Ok.ensures.at_hand asked t s has records).1 fits) in
+    done size planned)) c.commit.result c.commit.ensures.at_hand
 
 pub returns-in-Ok-Ok-clause-accepts : goal.returns-in-Ok-Ok-clause-accepts
 returns-in-Ok-Ok-clause-accepts g c =

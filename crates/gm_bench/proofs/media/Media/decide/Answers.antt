@@ -7,6 +7,8 @@ use Rattle.gm_registry.proofs.CallsLeave.{saved}
 use Rattle.gm_shelf.specs.Disk.{IsQuiet}
 use Rattle.gm_bench.proofs.CallAnswers.{as_many, free_key, too_many}
 use Rattle.gm_bench.proofs.DecidesOnly.{nothing_then, quiet_same, still, unstepped, then_step, ok_then, many_of, room_of, reads_then}
+use Rattle.gm_bench.specs.Planning.{IsWorkAtHand}
+use Rattle.gm_bench.specs.ShelfFacts.{ComparesHonestly}
 use Rattle.gm_bench.proofs.media.Media.decide.Goals as goal
 
 pub returns-in-Ok-true-clause-leaves : goal.returns-in-Ok-true-clause-leaves
@@ -105,40 +107,27 @@ returns-in-Err-clause-leaves g c h clean away u words key_ok fits at free =
     clean (c.is_full.ensures.reads.left at.tables at.has)
 
 pub returns-in-Ok-false-clause-readable : goal.returns-in-Ok-false-clause-readable
-returns-in-Ok-false-clause-readable g c h clean is away u key_ok fits at free =
-    let view = g.H.Shelf.view in
-    let size = g.H.Shelf.size in
-    let h1 = subst g.H.Shelf.honest (sym c.is_full.ensures.shelf) h in
-    let lawful = g.met.H.Shelf.lawful c.args.self.now.shelf h in
-    let l = (at.leads (view c.args.self.now.shelf).seen lawful.holds_now).0 in
+returns-in-Ok-false-clause-readable g c fits clean is t s has records few written honest =
     let counted : DiskKept g.S.Store c.is_full.new.self.registry =
     omega (arith, clean, c.choose.ensures.accepts.clean) in
-    let told = c.in-Ok-false.ensures.told counted at.tables at.has in
-    let many = as_many u at.tables l.sound l.records c.args.key.now c.args.command.now in
-    let few = room_of c.in-Ok-false.field-0 (count_of at.tables) told.0
-    c.in-Ok-false.field-0-test in
-    let room : length u.answered < 100000 = omega (arith, many, few) in
-    let can : CanAnswer u c.args.key.now c.args.command.now = record {
-      key_ok = key_ok;
-      free = free_key u at.tables l.sound l.records c.args.key.now c.args.command.now free;
-      room = room;
-      fits = fits;
-    } in
-    let quiet = quiet_same view c.args.self.now.shelf c.is_full.new.self.shelf
-    c.is_full.ensures.shelf in
-    let same = ap size c.is_full.ensures.shelf in
-    let at1 = still g.S.Store view size c.args.self.now.registry c.args.self.now.shelf
-    c.is_full.new.self.shelf away u at lawful quiet same c.is_full.new.self.registry told.1 in
-    c.choose.ensures.readable h1 clean is away u at1 can
+    let told = c.in-Ok-false.ensures.told counted t has in
+    c.choose.ensures.readable fits clean is t s told.1 records few written
+    (subst (λ (k : g.row.H.Denot). ComparesHonestly g.H.Shelf k c.args.command.now)
+    (sym c.is_full.ensures.shelf) honest)
 
 pub returns-in-Err-clause-readable : goal.returns-in-Err-clause-readable
-returns-in-Err-clause-readable g c h clean is away u key_ok fits at free =
-    let l = (at.leads (g.H.Shelf.view c.args.self.now.shelf).seen
-    (g.met.H.Shelf.lawful c.args.self.now.shelf h).holds_now).0 in
-    let many = as_many u at.tables l.sound l.records c.args.key.now c.args.command.now in
-    let few = l.sound.answers.count in
+returns-in-Err-clause-readable g c fits clean is t s has records few written honest =
     let fault : c.in-Err.fault ≡ Unreadable = cc in
-    c.in-Err.ensures.readable clean (ap Err fault) at.tables at.has (omega (arith, many, few))
+    c.in-Err.ensures.readable clean (ap Err fault) t has few
+
+pub returns-in-Ok-false-clause-at_hand : goal.returns-in-Ok-false-clause-at_hand
+returns-in-Ok-false-clause-at_hand g c fits clean =
+    let counted : DiskKept g.S.Store c.is_full.new.self.registry =
+    omega (arith, clean, c.choose.ensures.accepts.clean) in
+    ok_then _ _ (λ a handy t s has records.
+    subst (λ (k : g.row.H.Denot). IsWorkAtHand (g.H.Shelf.size k) a) c.is_full.ensures.shelf
+    (handy t s (c.in-Ok-false.ensures.told counted t has).1 records))
+    c.choose.result (c.choose.ensures.at_hand fits clean)
 
 pub returns-in-Ok-false-clause-accepts : goal.returns-in-Ok-false-clause-accepts
 returns-in-Ok-false-clause-accepts g c =

@@ -1,6 +1,6 @@
 use Rattle.std.proofs.Common.{◌≡◌, ◌∙◌, Err, List, ℕ, [], None, option_map, sym, ap, subst}
 use Rattle.sqlite.specs.Held.{Held}
-use Rattle.gm_state.specs.Records.{Records}
+use Rattle.gm_state.specs.Records.{Records, IsState}
 use Rattle.gm_lists.specs.Ordered.{Has}
 use Rattle.gm_refusals.specs.Adoptable.{found_mids, source_in}
 use Rattle.gm_refusals.specs.PartOf.{IsPartOf, part_of}
@@ -9,24 +9,22 @@ use Rattle.gm_refusals.specs.WorldFacts.{needed_by}
 use Rattle.gm_registry.specs.Registry.{DiskKept, HasTables}
 use Rattle.gm_bench.specs.declared.fault.BenchFault.TheVariants.{Unreadable}
 use Rattle.gm_bench.specs.AdoptScope.{adopted_from, compared_with}
-use Rattle.gm_bench.specs.ShelfFacts.{Tell}
-use Rattle.gm_bench.proofs.DecidesOnly.{at_read}
+use Rattle.gm_bench.specs.ShelfFacts.{Tell, TellSizes}
+use Rattle.gm_metadata.specs.Images.{Sizes}
+use Rattle.gm_refusals.proofs.PartAgrees.{whole_is_part}
+use Rattle.gm_bench.proofs.FactsLookedUp.{itself_told}
+use Rattle.gm_bench.proofs.PlannedAlone.{read_state, read_few, read_most}
 use Rattle.gm_bench.proofs.GatheredFacts.{are_records, gathered}
 use Rattle.gm_bench.proofs.FactsAreWorlds.{tell_moved}
 use Rattle.gm_bench.proofs.media.Media.gather.Goals as goal
 
 pub returns-in-Err-part-clause-readable : goal.returns-in-Err-part-clause-readable
-returns-in-Err-part-clause-readable g c h clean is away u key at =
-    let view = g.H.Shelf.view in
-    let size = g.H.Shelf.size in
-    let shelf = c.args.self.now.shelf in
-    let has : HasTables g.S.Store c.look_at.new.self.registry at.tables =
-    subst (λ (k : Held g.row.S.Denot). HasTables g.S.Store k at.tables)
-    (sym c.look_at.ensures.registry) at.has in
-    let records = are_records g.S.Store view size c.args.self.now.registry shelf away u at
-    (g.met.H.Shelf.lawful shelf h) in
+returns-in-Err-part-clause-readable g c clean is t s has records =
+    let has1 : HasTables g.S.Store c.look_at.new.self.registry t =
+    subst (λ (k : Held g.row.S.Denot). HasTables g.S.Store k t)
+    (sym c.look_at.ensures.registry) has in
     let fault : c.in-Err-part.fault ≡ Unreadable = cc in
-    c.in-Err-part.ensures.readable clean (ap Err fault) at.tables u.state has records
+    c.in-Err-part.ensures.readable clean (ap Err fault) t s has1 records
 
 pub returns-in-Ok-look-clause-known : goal.returns-in-Ok-look-clause-known
 returns-in-Ok-look-clause-known g c h clean away u at =
@@ -43,12 +41,12 @@ returns-in-Ok-look-clause-known g c h clean away u at =
     let has : HasTables g.S.Store c.look_at.new.self.registry at.tables =
     subst (λ (k : Held g.row.S.Denot). HasTables g.S.Store k at.tables)
     (sym c.look_at.ensures.registry) at.has in
-    let at1 = at_read g.S.Store view size c.args.self.now.registry shelf read away [] u u at quiet
-    c.look_at.ensures.looks.only.keeps.size c.look_at.new.self.registry has in
+    let records = are_records g.S.Store view size c.args.self.now.registry shelf away u at
+    (g.met.H.Shelf.lawful shelf h) in
     let clean1 : DiskKept g.S.Store c.part.new.self.registry =
     subst (λ (k : Held g.row.S.Denot). DiskKept g.S.Store k) c.look.ensures.registry clean in
     let h1 : g.H.Shelf.honest read = c.look_at.ensures.looks.only.keeps.honest h in
-    let known = c.in-Ok-part.ensures.part h1 clean1 away [] u u at1 in
+    let known = c.in-Ok-part.ensures.part clean1 at.tables u.state has records in
     let mids : c.deref.result.now ≡ found_mids (seen_in first) (adopted_from command) =
     c.deref.ensures.value ∙ (c.in-Ok-found_mids.ensures
     ∙ ap (found_mids (seen_in first)) c.adopted_from-providers.ensures) in
@@ -70,11 +68,65 @@ returns-in-Ok-look-clause-known g c h clean away u at =
     c.part.ensures.shelf (c.in-Ok-look.ensures.tell h2) in
     let both = gathered g.S.Store view size c.args.self.now.registry shelf away u at
     (g.met.H.Shelf.lawful shelf h) first facts command part against source
-    (known.0 ∙ ap (part_of u.state command) mids) before
+    (known.0.state ∙ ap (part_of u.state command) mids) before
     (λ s of q k. tell_moved (size shelf) (size read) (view shelf).seen
     (view read).seen against facts q c.look_at.ensures.looks.only.keeps.size quiet.seen
     (then s of q k)) in (
-      record { part = both.0; mirrors = known.2; facts = both.1 },
+      record { part = both.0; mirrors = known.0.mirrors; facts = both.1 },
       subst (λ (k : Held g.row.S.Denot). HasTables g.S.Store k at.tables)
-          (sym c.look.ensures.registry) known.3,
+          (sym c.look.ensures.registry) known.1,
+    )
+
+pub returns-in-Ok-look-clause-serves : goal.returns-in-Ok-look-clause-serves
+returns-in-Ok-look-clause-serves g c clean t s has records =
+    let view = g.H.Shelf.view in
+    let size = g.H.Shelf.size in
+    let shelf = c.args.self.now.shelf in
+    let read = c.look_at.new.self.shelf in
+    let command = c.args.command.now in
+    let first = c.in-Ok.first in
+    let facts = c.in-Ok-look.facts in
+    let part = c.in-Ok-part.part.state in
+    let against = c.compared_with-against.result in
+    let has1 : HasTables g.S.Store c.look_at.new.self.registry t =
+    subst (λ (k : Held g.row.S.Denot). HasTables g.S.Store k t)
+    (sym c.look_at.ensures.registry) has in
+    let clean1 : DiskKept g.S.Store c.part.new.self.registry =
+    subst (λ (k : Held g.row.S.Denot). DiskKept g.S.Store k) c.look.ensures.registry clean in
+    let said = c.in-Ok-part.ensures.part clean1 t s has1 records in
+    let state : IsState part =
+    read_state s command c.deref.result.now records.state c.in-Ok-part.part said.0 in
+    let source : against ≡ option_map compared_with
+    (source_in (seen_in first) (adopted_from command)) =
+    c.compared_with-against.ensures ∙ ap (option_map compared_with)
+    (c.adopt_source.ensures ∙ ap (source_in (seen_in first))
+    c.adopted_from-providers.ensures) in
+    let before : g.H.Shelf.honest shelf → (q : List ℕ) → Has (adopted_from command) q
+    → Tell first (size shelf) (view shelf).seen None q =
+    λ h q k. c.in-Ok.ensures.tell h q (subst (λ (l : List (List ℕ)). Has l q)
+    (sym c.adopted_from-providers.ensures) k) in
+    let then : g.H.Shelf.honest read → (q : List ℕ) → Has (needed_by part command) q
+    → Tell facts (size read) (view read).seen against q =
+    subst (λ (k : g.row.H.Denot). g.H.Shelf.honest k → (q : List ℕ)
+    → Has (needed_by part command) q → Tell facts (size k) (view k).seen against q)
+    c.part.ensures.shelf
+    (λ h. c.in-Ok-look.ensures.tell h part (whole_is_part part command state)) in
+    let sizes : TellSizes facts (size shelf) =
+    subst (λ (z : Sizes). TellSizes facts z) c.look_at.ensures.looks.only.keeps.size
+    (subst (λ (k : g.row.H.Denot). TellSizes facts (size k)) c.part.ensures.shelf
+    c.in-Ok-look.ensures.sizes) in (
+      record {
+        state = state;
+        few = read_few s command c.deref.result.now records.state c.in-Ok-part.part said.0;
+        most = read_most s command c.deref.result.now records.state c.in-Ok-part.part said.0;
+        sizes = sizes;
+        itself = λ honest. itself_told g.H.Shelf shelf facts first command against part
+            (size shelf) (view shelf).seen honest source before
+            (λ h q k. tell_moved (size shelf) (size read) (view shelf).seen
+            (view read).seen against facts q c.look_at.ensures.looks.only.keeps.size
+            (c.look_at.ensures.looks.only.reads h).quiet.seen
+            (then (c.look_at.ensures.looks.only.keeps.honest h) q k));
+      },
+      subst (λ (k : Held g.row.S.Denot). HasTables g.S.Store k t) (sym c.look.ensures.registry)
+          said.1,
     )
