@@ -290,7 +290,7 @@ good_alone part count x c e few most r h =
           let is : r ≡ refusals.TooManyMirrors = only_count r asks in
           let off : (count == 64) ≡ false =
           subst (λ (q : Refusal). applies_to_part part count x c q ≡ false) is
-          (found_none (applies_to_part part count x c) (own c) e r h) in
+          (found_none (applies_to_part part count x c) (own c) e r (listed c r h)) in
           let apart : count ≢ 64 = not_at count 64 off in
           let less : (length part.mirrors == 64) ≡ false =
           ne_eqb (length part.mirrors) 64 (λ z. omega (arith, z, apart, few, most)) in

@@ -33,10 +33,11 @@ use Rattle.gm_refusals.specs.declared.refusals.Refusal.{Refusal}
 use Rattle.gm_refusals.specs.declared.refusals.Refusal.TheVariants.{Absent, NameTaken, ProviderTaken, NotMember, WrongSize, NotAdoptable}
 use Rattle.gm_refusals.specs.Facts.{fact_of, size_in, last_in, equals_in}
 use Rattle.gm_refusals.specs.Seen.{Seen, seen_in, has_size, is_there_and}
-use Rattle.gm_refusals.specs.Refusals.{own}
+use Rattle.gm_refusals.specs.Refusals.{own, is_listed}
 use Rattle.gm_refusals.specs.Applies.{IsGood, awaited, has_wrong_size, is_awaited, is_member_of, looked_at, members_named, name_of, preferred}
 use Rattle.gm_refusals.specs.Adoptable.{source_in, data_of, has_twice, is_adoptable, adopted, adopted_mirror}
 use Rattle.gm_refusals.specs.WorldFacts.{last_of, seen_of}
+use Rattle.gm_refusals.proofs.Listed.{listed}
 use Rattle.gm_refusals.proofs.NothingApplies.{fails_there, none_from, right_size, there_from}
 use Rattle.gm_refusals.proofs.SeenAlike.{SeeAlike, same_source}
 use Rattle.gm_refusals.proofs.TakenProviders.{taken_name}
@@ -93,20 +94,20 @@ abbrev data_by : Option Component → ℕ → ℕ → List ℕ
 data_by None equals i = if i == equals then 0 ∷ [] else []
 data_by (Some k) equals i = []
 
-listed_absent : (c : Command) → Has (own c) Absent
-listed_absent (Label new) = inr (inr (inl refl))
-listed_absent (Insert new) = inr (inl refl)
-listed_absent (Remove n p) = inr (inl refl)
-listed_absent (Deactivate n p) = inr (inl refl)
-listed_absent (Activate n p) = inr (inl refl)
-listed_absent (Forget n) = inr (inl refl)
-listed_absent (Rebuild n p) = inr (inl refl)
-listed_absent (Configure n settings) = inr (inl refl)
-listed_absent (Clear p) = inl refl
-listed_absent (Destroy n) = inr (inl refl)
-listed_absent (Lost n ps) = inr (inl refl)
-listed_absent (Advance n p) = inr (inl refl)
-listed_absent (Adopt n ps) = inr (inr (inl refl))
+listed_absent : (c : Command) → is_listed c Absent ≡ true
+listed_absent (Label new) = refl
+listed_absent (Insert new) = refl
+listed_absent (Remove n p) = refl
+listed_absent (Deactivate n p) = refl
+listed_absent (Activate n p) = refl
+listed_absent (Forget n) = refl
+listed_absent (Rebuild n p) = refl
+listed_absent (Configure n settings) = refl
+listed_absent (Clear p) = refl
+listed_absent (Destroy n) = refl
+listed_absent (Lost n ps) = refl
+listed_absent (Advance n p) = refl
+listed_absent (Adopt n ps) = refl
 
 and_false : (b : Bool) → (b && false) ≡ false
 and_false true = refl
@@ -356,7 +357,7 @@ module _ (s : Records) (facts : List Fact) where
     good_in : (c : Command) → IsGood s (seen_in facts) c → IsGood s (seen_of stand_in) c
     good_in c good r h =
         sym (same_applies s c (seen_in facts) (seen_of stand_in) r
-        (alike c good (looks c good) r h)) ∙ good r h
+        (alike c good (looks c good) r (listed c r h))) ∙ good r h
 
     -- ---- so the command has a plan there
 
@@ -380,7 +381,7 @@ module _ (s : Records) (facts : List Fact) where
       planned adopts =
           plan.1.step.records
           ∙ sym (same_after (seen_in facts) (seen_of stand_in) c s
-          (alike c good (looks c good) Absent (listed_absent c)).size adopts)
+          (alike c good (looks c good) Absent (listed c Absent (listed_absent c))).size adopts)
 
       state_by : AdoptAlike (seen_in facts) (seen_of stand_in) c
           → IsState (after (seen_in facts) c s)
