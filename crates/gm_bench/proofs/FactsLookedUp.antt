@@ -25,7 +25,7 @@ use Rattle.gm_shelf.specs.declared.shelf.Shelf.{Ghosts as ShelfGhosts}
 use Rattle.gm_rules.specs.Itself.{IsItself}
 use Rattle.gm_rules.proofs.AdoptedEqual.{agree_itself}
 use Rattle.gm_bench.specs.Leading.{whole, Leads}
-use Rattle.gm_bench.specs.ShelfFacts.{AreEqual, ComparesHonestly, Tell, last_of}
+use Rattle.gm_bench.specs.ShelfFacts.{AreEqual, IsHonestToAdopt, Tell, last_of}
 use Rattle.gm_bench.proofs.ShelfProviders.{masked, there_full, whole_there}
 use Rattle.gm_bench.proofs.WorldAtRest.{at_rest}
 use Rattle.gm_bench.proofs.FactsAreWorlds.{agree_same}
@@ -41,8 +41,8 @@ same_last (Some n) x y same = ap Some (by_test (n == 0) (same refl (n - 1)))
     by_test b e = ap (λ v. if b then zeros else v) e
 
 -- so many sectors as both have are compared
-within : (size : Sizes) (p q : List ℕ) (a b d k : ℕ) → size p ≡ Some a → size q ≡ Some b → d < a → d < b → k ≤ d
-    → k ≤ reach_of size p q d
+within : (size : Sizes) (p q : List ℕ) (a b d k : ℕ) → size p ≡ Some a → size q ≡ Some b → d < a
+    → d < b → k ≤ d → k ≤ reach_of size p q d
 within size p q a b d k first second below less low =
     let both : k ≤ min a b = le-min {a = a} {b = b} (omega (arith, low, below))
     (omega (arith, low, less)) in
@@ -109,10 +109,16 @@ module _ (t : Tables) (u : World) (size : Sizes) (away seen : Image) (sizes : pr
             (λ q h. tell q (Has-append_left (looked_at c) (map provider (awaited u.state c)) q h));
       }
 
+-- an honest shelf serves for each command
+pub honest_to_adopt : {H : Type 0} (h : ShelfGhosts H) (shelf : H) → h.honest shelf → (c : Command)
+    → IsHonestToAdopt h shelf c
+honest_to_adopt h shelf honest (Adopt n ps) = honest
+honest_to_adopt h shelf honest _ = tt
+
 -- the source of an adoption is equal to itself by what an honest shelf told
 pub itself_told : {H : Type 0} (h : ShelfGhosts H) (shelf : H) (facts first : List Fact)
     (c : Command) (against : Option Compared) (part : Records) (size : Sizes) (seen : Image)
-    → ComparesHonestly h shelf c
+    → IsHonestToAdopt h shelf c
     → against ≡ option_map compared_with (source_in (seen_in first) (adopted_from c))
     → (h.honest shelf → (q : List ℕ) → Has (adopted_from c) q → Tell first size seen None q)
     → (h.honest shelf → (q : List ℕ) → Has (needed_by part c) q → Tell facts size seen against q)

@@ -10,9 +10,9 @@ use Rattle.gm_bench.specs.declared.answer.Answer.{Answer}
 use Rattle.gm_bench.specs.declared.answer.Answer.TheVariants.{Done, Repeated, Refused}
 use Rattle.gm_bench.specs.declared.phase.Phase.TheVariants as phase
 use Rattle.gm_metadata.specs.Images.{Sizes}
-use Rattle.gm_bench.specs.Planning.{IsWorkAtHand}
+use Rattle.gm_bench.specs.Planning.{IsWith, IsWorkAtHand}
 use Rattle.gm_bench.specs.Presence.{AreAtHand}
-use Rattle.gm_bench.specs.Phases.{TakesCommands, HasWork, HasDone, answer_of, phase_after, phase_of, progress_after}
+use Rattle.gm_bench.specs.Phases.{IsUndone, TakesCommands, HasWork, HasDone, answer_of, phase_after, phase_of, progress_after}
 
 pub takes_failed : (p : Progress) → TakesCommands p → (p ≡ Ready → ⊥) → p ≡ Failed
 takes_failed Ready t other = absurd (other refl)
@@ -87,3 +87,16 @@ has_pending Ready is = cc
 has_pending (Pending work) is = (work, refl)
 has_pending (Applied work) is = cc
 has_pending Failed is = cc
+
+-- a command that is done with some work isn't undone, and that is what is to be carried out of it
+pub with_done : (work : Work) (it : Accepted) → IsWith work it → IsUndone (answer_of it) → ⊥
+with_done work (accepted.Done n reply mine) is undone = let no : ⊥ = cc in no
+with_done work (accepted.Repeated n reply) is undone = is
+with_done work (accepted.Refused why) is undone = is
+
+pub with_hand : (size : Sizes) (work : Work) (it : Accepted) → IsWith work it
+    → AreAtHand size work.intents.items → IsWorkAtHand size it
+with_hand size work (accepted.Done n reply mine) is handy =
+    subst (λ (w : Work). AreAtHand size w.intents.items) (sym is) handy
+with_hand size work (accepted.Repeated n reply) is handy = absurd is
+with_hand size work (accepted.Refused why) is handy = absurd is

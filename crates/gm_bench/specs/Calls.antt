@@ -10,7 +10,7 @@ use Rattle.gm_state.specs.Records.{Records}
 use Rattle.gm_commands.specs.declared.command.Command.{Command}
 use Rattle.gm_rows.specs.ReadableTables.{AreRecordsOf}
 use Rattle.gm_registry.specs.Replies.{AreWrittenUnder, count_of}
-use Rattle.gm_bench.specs.ShelfFacts.{ComparesHonestly}
+use Rattle.gm_bench.specs.ShelfFacts.{IsHonestToAdopt}
 use Rattle.gm_registry.specs.Registry.{DiskKept, HasTables, LeavesNothingNew, Reads, WasClean}
 use Rattle.gm_bench.specs.declared.bench.Bench.{Bench}
 use Rattle.gm_bench.specs.declared.fault.BenchFault.{BenchFault}
@@ -64,7 +64,7 @@ module _ {S H T : Type 0} (s : StoreGhosts S) (h : ShelfGhosts H) (old new : Med
   abbrev pub TellsUnreadable : List ℕ → Command → Type 0
   TellsUnreadable key c = DiskKept s new.registry → IsErrOf result Unreadable
       → (t : Tables) (r : Records) → HasTables s old.registry t → AreRecordsOf t r
-      → count_of t ≤ 100000 → AreWrittenUnder key t → ComparesHonestly h old.shelf c → ⊥
+      → count_of t ≤ 100000 → AreWrittenUnder key t → IsHonestToAdopt h old.shelf c → ⊥
 
   -- what is then to be carried out is at hand, where the rows say a state
   abbrev pub TellsAtHand : (T → Type 0) → Type 0

@@ -13,10 +13,11 @@ use Rattle.gm_refusals.specs.WorldFacts.{AreFacts, seen_of}
 use Rattle.gm_metadata.specs.Images.{Sizes}
 use Rattle.gm_shelf.specs.declared.shelf.Shelf.{Ghosts as ShelfGhosts}
 use Rattle.gm_rules.specs.Itself.{IsItself}
+use Rattle.gm_bench.specs.declared.answer.Work.{Work}
 use Rattle.gm_bench.specs.declared.answer.Accepted.{Accepted}
 use Rattle.gm_bench.specs.declared.answer.Accepted.TheVariants.{Done}
 use Rattle.gm_bench.specs.Presence.{AreAtHand}
-use Rattle.gm_bench.specs.ShelfFacts.{ComparesHonestly, TellSizes}
+use Rattle.gm_bench.specs.ShelfFacts.{IsHonestToAdopt, TellSizes}
 use Rattle.gm_bench.specs.declared.plan.Planned.{Planned}
 use Rattle.gm_bench.specs.declared.plan.Gathered.{Gathered}
 
@@ -49,12 +50,17 @@ pub record IsToDecide {H : Type 0} (h : ShelfGhosts H) (shelf : H) (c : Command)
   pub few : length g.part.state.mirrors ≤ g.part.mirrors
   pub most : g.part.mirrors ≤ 64
   pub sizes : TellSizes g.facts (h.size shelf)
-  pub itself : ComparesHonestly h shelf c → IsItself (seen_in g.facts) c
+  pub itself : IsHonestToAdopt h shelf c → IsItself (seen_in g.facts) c
 
 -- what is planned is at hand
 abbrev pub IsPlanAtHand : Sizes → Result Planned Refusal → Type 0
 IsPlanAtHand size (Ok planned) = AreAtHand size planned.work.intents.items
 IsPlanAtHand size (Err r) = Unit {0}
+
+-- a command is done, with this work still to be carried out
+abbrev pub IsWith : Work → Accepted → Type 0
+IsWith work (Done n reply mine) = mine ≡ work
+IsWith work _ = ⊥
 
 -- what is to be carried out of an accepted command is at hand
 abbrev pub IsWorkAtHand : Sizes → Accepted → Type 0

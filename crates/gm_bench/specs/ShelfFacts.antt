@@ -43,7 +43,7 @@ pub record Tell (facts : List Fact) (size : Sizes) (seen : Image) (against : Opt
 abbrev pub TellSizes : List Fact → Sizes → Type 0
 TellSizes facts size = (q : List ℕ) (n : ℕ) → size_in facts q ≡ Some n → size q ≡ Some n
 
--- an adoption compares data, which only an honest shelf reads alike twice
-abbrev pub ComparesHonestly : {H : Type 0} → ShelfGhosts H → H → Command → Type 0
-ComparesHonestly h shelf (Adopt n ps) = h.honest shelf
-ComparesHonestly h shelf _ = Unit {0}
+-- an adoption looks at its images twice, and only an honest shelf shows them alike both times
+abbrev pub IsHonestToAdopt : {H : Type 0} → ShelfGhosts H → H → Command → Type 0
+IsHonestToAdopt h shelf (Adopt n ps) = h.honest shelf
+IsHonestToAdopt h shelf _ = Unit {0}

@@ -1,7 +1,7 @@
 //! Commands that are handed in.
 
 ghost use Rattle.std.specs.Prelude.{◌≡◌, ◌<◌, ◌≤◌, true, List, [], IfOk, IfErr, IsErrOf};
-ghost use Rattle.gm_metadata.specs.Images.{Image, Sizes};
+ghost use Rattle.gm_metadata.specs.Images.{Image};
 ghost use Rattle.gm_shelf.specs.Disk.{AreReads};
 ghost use Rattle.gm_commands.specs.declared.command.Command.{Command};
 ghost use Rattle.gm_commands.specs.Commands.{CommandFits, words_of};
@@ -13,8 +13,7 @@ ghost use Rattle.gm_registry.specs.Registry.{DiskKept, HasTables, LeavesNothingN
 ghost use Rattle.gm_registry.specs.Replies.{IsFree, count_of};
 ghost use Rattle.gm_bench.specs.Accepting.{LeavesStep, IsAnswered};
 ghost use Rattle.gm_bench.specs.Faults.{IsOfCall};
-ghost use Rattle.gm_bench.specs.Planning.{IsPlanned, IsWorkAtHand};
-ghost use Rattle.gm_bench.specs.Presence.{AreAtHand};
+ghost use Rattle.gm_bench.specs.Planning.{IsPlanned, IsWith, IsWorkAtHand};
 ghost use Rattle.gm_bench.specs.Recovering.{IsAt};
 ghost use Rattle.gm_bench.specs.Phases.{IsUndone, answer_of};
 ghost use Rattle.gm_bench.specs.Calls.{Accepts, TellsAtHand, TellsUnreadable};
@@ -45,9 +44,7 @@ impl<S: Alter, H: Shelf> Media<S, H> {
             → IsAnswered S.Store H.view H.size self.new.registry self.old.shelf away
             u key.now c a) }
         ensures disk { IsErrOf result BenchFault.Disk → ⊥ }
-        ensures work { IfOk result (λ a. IsUndone (answer_of a) → ⊥) }
-        ensures at_hand { IfOk result (λ a. (size : Sizes)
-            → AreAtHand size planned.work.intents.items → IsWorkAtHand size a) }
+        ensures work { IfOk result (IsWith planned.work) }
         ensures fault { IfErr result IsOfCall }
         ensures readable { DiskKept S.Store self.new.registry
             → IsErrOf result BenchFault.Unreadable → (t : Tables)

@@ -19,7 +19,7 @@ ghost use Rattle.gm_registry.specs.Replies.{count_of};
 ghost use Rattle.gm_bench.specs.Faults.{IsOfCall, IsOfMedia};
 ghost use Rattle.gm_bench.specs.Recovering.{IsAt};
 ghost use Rattle.gm_bench.specs.Planning.{IsDecided, IsKnown, IsPlanAtHand, IsToDecide};
-ghost use Rattle.gm_bench.specs.ShelfFacts.{ComparesHonestly, Tell, TellSizes};
+ghost use Rattle.gm_bench.specs.ShelfFacts.{IsHonestToAdopt, Tell, TellSizes};
 ghost use Rattle.gm_lists.specs.Ordered.{Has};
 ghost use Rattle.gm_bench.specs.Calls.{Looks, Asks};
 
@@ -256,7 +256,7 @@ impl<S: Alter, H: Shelf> Media<S, H> {
         ensures readable { DiskKept S.Store self.new.registry
             → IsErrOf result BenchFault.Unreadable → (t : Tables) (s : Records)
             → HasTables S.Store self.old.registry t → AreRecordsOf t s → CommandFits command.now
-            → ComparesHonestly H.Shelf self.old.shelf command.now → ⊥ }
+            → IsHonestToAdopt H.Shelf self.old.shelf command.now → ⊥ }
         ensures asks { Asks S.Store H.Shelf self.old self.new result }
     {
         let known = match self.gather(alloc, command) {

@@ -10,17 +10,17 @@ use Rattle.gm_state.specs.declared.records.Component.{Component}
 use Rattle.gm_lists.specs.Ordered.{Has, put, put_all}
 use Rattle.gm_state.specs.Records.{Records, name, provider}
 use Rattle.gm_state.specs.Lookups.{mirror_of}
-use Rattle.gm_state.specs.World.{World, present}
+use Rattle.gm_state.specs.World.{World}
 use Rattle.gm_refusals.specs.declared.facts.Fact.{Fact}
 use Rattle.gm_refusals.specs.declared.refusals.Refusal.{Refusal}
 use Rattle.gm_refusals.specs.declared.refusals.Refusal.TheVariants.{NoMirror, NameTaken, MidTaken, Absent, ProviderTaken, CarriesMetadata, TooSmall, NotMember, DidTaken, Full, TooManyMirrors, SomeLost, LastActive, AlreadyInactive, NotInactive, NoneLost, Inactive, NotSynchronizing, LastSyncid, LastGenid, NothingGiven, NotAdoptable, WrongSize, NoMetadata}
-use Rattle.gm_refusals.specs.Facts.{size_in, last_in, last_carries}
+use Rattle.gm_refusals.specs.Facts.{last_carries}
 use Rattle.gm_refusals.specs.Seen.{Seen, seen_in, has_size, is_there_and}
 use Rattle.gm_refusals.specs.Applies.{applies, has_wrong_size, looked_at, takes_mid, has_did, finds_did_twice, is_unfit, members_named, awaited, mirror_named}
 use Rattle.gm_changes.specs.After.{after, intents_of, new_mirror, first_component, spare, on_found}
 use Rattle.gm_refusals.specs.Adoptable.{source_in, data_of, is_adoptable, adopted_mirror, adopted}
 use Rattle.gm_refusals.proofs.SeenAlike.{SeeAlike, same_mid, same_twice, same_source, same_adoptable, same_adopted}
-use Rattle.gm_refusals.specs.WorldFacts.{AreFacts, TellEqual, needed_by, seen_of, last_of}
+use Rattle.gm_refusals.specs.WorldFacts.{AreFacts, TellEqual, needed_by, seen_of}
 use Rattle.gm_changes.specs.Decides.{Changed, Decides}
 use Rattle.gm_refusals.specs.Applies.{IsGood}
 use Rattle.gm_lists.proofs.Finding.{any_agree, Has-append_left, Has-append_right}

@@ -1,16 +1,14 @@
 -- Components that are changed where they stand.
-use Rattle.std.proofs.Common.{◌≡◌, ◌≢◌, ◌∙◌, inl, inr, ℕ, Bool, true, false, refl, sym, ap, subst, List, [], ◌∷◌, map, filter, cond}
-use Rattle.std.specs.Str.{bytes_eq}
+use Rattle.std.proofs.Common.{◌≡◌, ◌∙◌, inl, inr, ℕ, Bool, refl, ap, List, map, cond}
 use Rattle.std.proofs.lemmas.Bool.{cases_Bool}
 use Rattle.gm_metadata.specs.Images.{same_label}
 use Rattle.gm_commands.specs.declared.command.Settings.{Settings}
 use Rattle.gm_state.specs.declared.records.Component.{Component}
 use Rattle.gm_state.specs.declared.records.Disk.TheVariants.{Inactive}
-use Rattle.gm_lists.specs.Ordered.{Has, Ascends, label_lt, put, put_all}
+use Rattle.gm_lists.specs.Ordered.{Has, Ascends, put, put_all}
 use Rattle.gm_state.specs.Records.{members, provider}
 use Rattle.gm_state.specs.Lookups.{is_inactive}
 use Rattle.gm_lists.proofs.Mapped.{map_id, filter-map, put-map}
-use Rattle.gm_lists.proofs.Order.{same_from, differ, lt_asym, lt_differ}
 use Rattle.gm_lists.proofs.Putting.{filter-where, put_all-where}
 use Rattle.gm_changes.specs.After.{configured, deactivated}
 

@@ -1,5 +1,5 @@
 -- What is made of a part is what the command makes of the whole.
-use Rattle.std.proofs.Common.{◌≡◌, ◌≢◌, ◌≤◌, ◌==◌, arith, ◌∙◌, inl, ℕ, ◌+◌, ◌-◌, Bool, true, false, not, refl, inr, option_map, sym, ap, ap₂, subst, List, [], ◌∷◌, ◌++◌, Option, Some, None, Result, Ok, Err, OnErr, map, filter, find, length, if◌then◌else◌}
+use Rattle.std.proofs.Common.{◌≡◌, ◌≢◌, ◌≤◌, ◌==◌, arith, ◌∙◌, inl, ℕ, ◌+◌, ◌-◌, Bool, true, false, not, refl, inr, option_map, sym, ap, ap₂, subst, List, [], ◌∷◌, Option, Some, None, Result, Ok, Err, OnErr, map, filter, find, length, if◌then◌else◌}
 use Rattle.gm_commands.specs.declared.command.NewComponent.{NewComponent}
 use Rattle.gm_commands.specs.declared.command.Settings.{Settings}
 use Rattle.gm_commands.specs.declared.command.Command.{Command}
@@ -15,8 +15,7 @@ use Rattle.gm_state.specs.Lookups.{mirror_of, component_of}
 use Rattle.gm_state.specs.Sources.{source_among, source_of}
 use Rattle.gm_changes.specs.After.{metas, clears_of, advanced, filling, reach, spare, deactivated, activated, rebuilt, configured_mirror, configured}
 use Rattle.gm_refusals.specs.Seen.{Seen}
-use Rattle.gm_refusals.specs.Applies.{applies, name_of, providers_of, looked_at, takes_mid, is_awaited, is_on_any, members_named}
-use Rattle.gm_refusals.specs.WorldFacts.{needed_by}
+use Rattle.gm_refusals.specs.Applies.{applies, name_of, providers_of, takes_mid, is_on_any}
 use Rattle.gm_changes.specs.Decides.{Changed, adopting}
 use Rattle.gm_refusals.specs.Applies.{IsGood}
 use Rattle.gm_refusals.specs.Adoptable.{source_in, is_adoptable}
@@ -24,7 +23,7 @@ use Rattle.gm_refusals.proofs.TakenProviders.{fitting}
 use Rattle.gm_refusals.specs.PartOf.{IsPartOf, IsPartToDecide, IsGoodButCount, applies_to_part, asks_count, part_of}
 use Rattle.gm_changes.specs.PartChange.{IsMade}
 use Rattle.gm_refusals.specs.Refusals.{own}
-use Rattle.gm_refusals.proofs.PartAgrees.{same_mirror, same_members, same_component, same_named_members, same_applies}
+use Rattle.gm_refusals.proofs.PartAgrees.{same_mirror, same_members, same_component, same_applies}
 use Rattle.gm_lists.proofs.Finding.{found_none}
 use Rattle.gm_refusals.proofs.NothingApplies.{is_good, not_at}
 use Rattle.gm_refusals.specs.declared.refusals.Refusal.{Refusal}

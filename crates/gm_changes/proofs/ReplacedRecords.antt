@@ -1,19 +1,16 @@
 -- Records put in place of those of their names.
-use Rattle.std.proofs.Common.{◌≡◌, ◌∙◌, inl, inr, ℕ, true, false, not, refl, sym, ap, subst, List, [], ◌∷◌, Option, Some, None, drop, get_or, length, IfSome, IfNone, ◌+◌, ◌<◌}
-use Rattle.std.specs.List.{insert, prefix_len}
+use Rattle.std.proofs.Common.{◌≡◌, ◌∙◌, ℕ, not, refl, sym, ap, List, ◌∷◌, Option, Some, None, drop, get_or, length, IfSome, IfNone, ◌+◌, ◌<◌}
 use Rattle.std.specs.Str.{bytes_eq}
-use Rattle.std.proofs.lemmas.Bool.{cases_Bool, not-true}
 use Rattle.std.proofs.lemmas.List.{drop_more}
 use Rattle.std.proofs.lemmas.List.Sorted.{IsPermutation-refl}
 use Rattle.gm_state.specs.declared.records.Mirror.{Mirror}
 use Rattle.gm_state.specs.declared.records.Component.{Component}
-use Rattle.gm_lists.specs.Ordered.{Has, Ascends, label_lt, put, put_all, without, without_all}
+use Rattle.gm_lists.specs.Ordered.{Ascends, put, put_all}
 use Rattle.gm_state.specs.Records.{Records, IsState, IsStateOf, name, provider}
-use Rattle.gm_lists.proofs.Order.{same_tells, same_from, differ, lt_trans, lt_differ}
-use Rattle.gm_lists.proofs.PutInPlace.{placed, Ascends-without_all, Ascends-put_all}
+use Rattle.gm_lists.proofs.PutInPlace.{Ascends-without_all, Ascends-put_all}
 use Rattle.gm_lists.proofs.Sorting.{permuted_is}
-use Rattle.gm_lists.proofs.Putting.{Ascends-put, filter_id, put_first, put_insert}
-use Rattle.gm_lists.proofs.Lists.{Has-filter, Ascends-filter}
+use Rattle.gm_lists.proofs.Putting.{Ascends-put}
+use Rattle.gm_lists.proofs.Lists.{Ascends-filter}
 use Rattle.gm_changes.specs.Decides.{Changed, changed_by, put_some, without_some}
 
 -- one more of the list is put

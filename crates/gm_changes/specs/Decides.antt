@@ -1,5 +1,5 @@
 -- What `decide` answers.
-use Rattle.std.specs.Prelude.{◌≡◌, ◌≤◌, ℕ, true, false, List, [], Option, Some, None, Result, Ok, Err}
+use Rattle.std.specs.Prelude.{◌≡◌, ℕ, List, [], Option, Some, None, Result, Ok, Err}
 use Rattle.gm_taste.specs.declared.tasted.Member.{Member}
 use Rattle.gm_commands.specs.declared.command.Command.{Command}
 use Rattle.gm_state.specs.declared.intents.Intent.{Intent}
@@ -7,13 +7,11 @@ use Rattle.gm_state.specs.declared.intents.Reply.{Reply}
 use Rattle.gm_state.specs.declared.intents.Reply.TheVariants.{Plain}
 use Rattle.gm_state.specs.declared.records.Mirror.{Mirror}
 use Rattle.gm_state.specs.declared.records.Component.{Component}
-use Rattle.gm_lists.specs.Ordered.{Has, put, put_all, without, without_all}
+use Rattle.gm_lists.specs.Ordered.{put, put_all, without, without_all}
 use Rattle.gm_state.specs.Records.{Records, name, provider}
 use Rattle.gm_refusals.specs.declared.refusals.Refusal.{Refusal}
-use Rattle.gm_refusals.specs.Refusals.{number_of, own}
 use Rattle.gm_refusals.specs.Seen.{Seen}
 use Rattle.gm_refusals.specs.Adoptable.{adopted_mirror, adopted}
-use Rattle.gm_refusals.specs.Applies.{applies}
 use Rattle.gm_changes.specs.After.{after, intents_of, metas, reply_to}
 use Rattle.gm_refusals.specs.Applies.{IsLeast, IsGood}
 

@@ -6,9 +6,8 @@ use Rattle.gm_state.specs.declared.records.Component.{Component}
 use Rattle.gm_state.specs.Intents.{IsOf}
 use Rattle.gm_state.specs.Records.{Records, IsState}
 use Rattle.gm_refusals.specs.Seen.{Seen}
-use Rattle.gm_refusals.specs.Applies.{applies, name_of, IsGood}
+use Rattle.gm_refusals.specs.Applies.{name_of, IsGood}
 use Rattle.gm_changes.specs.Decides.{Changed, Makes, changed_by}
-use Rattle.gm_refusals.specs.Refusals.{own}
 use Rattle.gm_refusals.specs.PartOf.{IsPartToDecide}
 
 -- the change is what the command makes of each whole state that the part is of, where no refusal

@@ -1,5 +1,5 @@
 -- A batch as a part of a schedule, by induction over its lines.
-use Rattle.std.proofs.Common.{◌≡◌, ◌⊎◌, inl, inr, ℕ, Bool, List, [], ◌∷◌, Option, Result, Ok, Err, sym, subst}
+use Rattle.std.proofs.Common.{inl, inr, ℕ, Bool, List, [], ◌∷◌, Option, Result, Ok, Err, sym, subst}
 use Rattle.sqlite_trees.specs.declared.store.Store.{Ghosts}
 use Rattle.sqlite.specs.Held.{Held}
 use Rattle.gm_metadata.specs.Images.{Image, Sizes}
@@ -13,7 +13,7 @@ use Rattle.gm_front.specs.declared.answer_lines.BatchEnd.{BatchEnd}
 use Rattle.gm_front.specs.declared.answer_lines.BatchEnd.TheVariants as end
 use Rattle.gm_front.specs.declared.answer_lines.FrontFault.{FrontFault}
 use Rattle.gm_front.specs.Batch.{Replies, Answers, AreAnswered, Stops, Batches}
-use Rattle.gm_front.specs.BatchRuns.{with_asked, calls_of, with_calls, IsAtRestBehind, IsStoppedBehind, StopsAtLine, BatchLeaves}
+use Rattle.gm_front.specs.BatchRuns.{with_asked, calls_of, with_calls, IsAtRestBehind, StopsAtLine, BatchLeaves}
 use Rattle.gm_front.specs.Request.{Asked, Nothing, Wrong, Call, asked}
 
 module _ (all : Sizes) where

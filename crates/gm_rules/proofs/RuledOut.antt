@@ -1,15 +1,14 @@
 -- What the refusals of a command rule out, and the intents that write its components.
-use Rattle.std.proofs.Common.{◌≡◌, ◌≢◌, ◌∙◌, inl, inr, ℕ, ◌<◌, ◌-◌, ◌==◌, ◌&&◌, ◌||◌, Bool, true, false, not, refl, sym, ap, subst, arith, List, [], ◌∷◌, Option, Some, None, IsSome, is_none, eqb-true, filter}
+use Rattle.std.proofs.Common.{◌≡◌, ◌≢◌, ◌∙◌, inl, inr, ℕ, ◌<◌, ◌-◌, ◌==◌, ◌&&◌, ◌||◌, Bool, true, false, not, refl, sym, ap, subst, arith, List, [], ◌∷◌, Option, Some, None, is_none, eqb-true, filter}
 use Rattle.std.specs.List.{list_any, list_all}
-use Rattle.std.proofs.lemmas.Bool.{ne_eqb, not-false, or_parts}
+use Rattle.std.proofs.lemmas.Bool.{ne_eqb, or_parts}
 use Rattle.gm_metadata.specs.Images.{same_label}
 use Rattle.gm_metadata.specs.Sector.{carries}
 use Rattle.gm_state.specs.declared.intents.Intent.{Intent}
 use Rattle.gm_state.specs.declared.intents.Intent.TheVariants.{Meta, Clear}
 use Rattle.gm_state.specs.declared.records.Mirror.{Mirror}
 use Rattle.gm_state.specs.declared.records.Component.{Component}
-use Rattle.gm_state.specs.declared.records.Disk.{Disk}
-use Rattle.gm_state.specs.declared.records.Disk.TheVariants.{InSync, Inactive, Copying}
+use Rattle.gm_state.specs.declared.records.Disk.TheVariants.{InSync, Inactive}
 use Rattle.gm_state.specs.Records.{Records, IsState, members, provider}
 use Rattle.gm_state.specs.Lookups.{mirror_of, component_of, is_active, is_inactive}
 use Rattle.gm_lists.specs.Ordered.{Has}
@@ -19,10 +18,10 @@ use Rattle.gm_refusals.specs.Applies.{is_on_any}
 use Rattle.gm_changes.specs.After.{metas, clears_of}
 use Rattle.gm_refusals.specs.Facts.{last_carries}
 use Rattle.gm_refusals.specs.WorldFacts.{last_of}
-use Rattle.gm_lists.proofs.Order.{same_is, same_from}
+use Rattle.gm_lists.proofs.Order.{same_is}
 use Rattle.gm_lists.proofs.Putting.{one}
 use Rattle.gm_lists.proofs.Lists.{Has-filter, filter-Has}
-use Rattle.gm_lists.proofs.Finding.{none_any, any_one, some_any, some_other, find_one, found, found_none, not_both, option_cases}
+use Rattle.gm_lists.proofs.Finding.{none_any, some_other, find_one, not_both}
 use Rattle.gm_refusals.proofs.NothingApplies.{there_from}
 use Rattle.gm_state.proofs.FoundRecords.{named}
 use Rattle.gm_rules.proofs.StepOfMirror.{IsOne}

@@ -1,12 +1,12 @@
 -- A sound world that has any state, and of which facts are as far as a command that nothing refuses
 -- asks them: so what holds of each plan holds of what is decided from a state and facts alone.
-use Rattle.std.proofs.Common.{◌≡◌, ◌≢◌, ◌∙◌, ◌⊎◌, inl, inr, ⊎_elim, ℕ, zero, suc, ◌+◌, ◌-◌, ◌<◌, ◌≤◌, ◌==◌, ◌&&◌, ◌||◌, nat_le, Bool, true, false, not, refl, sym, ap, ap₂, subst, arith, eq-eqb, eqb-true, leb-true, leb-false, List, [], ◌∷◌, filter, Option, Some, None, is_none, is_some, unwrap_or, option_map, if◌then◌else◌}
+use Rattle.std.proofs.Common.{◌≡◌, ◌≢◌, ◌∙◌, ◌⊎◌, inl, inr, ⊎_elim, ℕ, zero, suc, ◌+◌, ◌-◌, ◌<◌, ◌≤◌, ◌==◌, ◌&&◌, ◌||◌, nat_le, Bool, true, false, not, refl, sym, ap, ap₂, subst, arith, eq-eqb, eqb-true, leb-true, leb-false, List, [], ◌∷◌, Option, Some, None, is_none, is_some, unwrap_or, if◌then◌else◌}
 use Rattle.std.specs.Prelude.{IsSomeAnd}
 use Rattle.std.specs.List.{list_any}
 use Rattle.std.specs.Str.{bytes_eq}
 use Rattle.std.proofs.lemmas.Bool.{cases_Bool, eqb-false, ne_eqb, not-false, or_parts}
 use Rattle.std.proofs.lemmas.Bool.Decides.{nat_tests}
-use Rattle.gm_metadata.specs.Images.{Sizes, agree, same_label, zeros}
+use Rattle.gm_metadata.specs.Images.{Sizes, agree, same_label}
 use Rattle.gm_metadata.specs.Reading.{encoded}
 use Rattle.gm_metadata.specs.declared.metadata.Metadata.{Metadata}
 use Rattle.gm_taste.specs.declared.tasted.Member.{Member}
@@ -21,18 +21,17 @@ use Rattle.gm_lists.specs.Ordered.{Has, put, put_all}
 use Rattle.gm_state.specs.Records.{Records, IsState, held_by, members, name, provider}
 use Rattle.gm_state.specs.Lookups.{mirror_of, component_of, metadata, metadata_of}
 use Rattle.gm_state.specs.Intents.{IsOf, is_last, IsAtHand}
-use Rattle.gm_state.specs.World.{World, Sound, Below, present}
+use Rattle.gm_state.specs.World.{World, Sound, present}
 use Rattle.gm_lists.proofs.Order.{same_is, same_from}
 use Rattle.gm_lists.proofs.Finding.{find_one, found_none, none_any, not_both, option_cases, some_any}
 use Rattle.gm_lists.proofs.PutTogether.{put_all_or}
 use Rattle.gm_lists.proofs.Lists.{Has-filter, filter-Has, Has-map}
-use Rattle.gm_state.proofs.FoundRecords.{provider_at}
 use Rattle.gm_state.proofs.TestsTellRules.{member}
 use Rattle.gm_refusals.specs.declared.facts.Fact.{Fact}
 use Rattle.gm_refusals.specs.declared.refusals.Refusal.{Refusal}
 use Rattle.gm_refusals.specs.declared.refusals.Refusal.TheVariants.{Absent, NameTaken, ProviderTaken, NotMember, WrongSize, NotAdoptable}
 use Rattle.gm_refusals.specs.Facts.{fact_of, size_in, last_in, equals_in}
-use Rattle.gm_refusals.specs.Seen.{Seen, seen_in, has_size, is_there_and}
+use Rattle.gm_refusals.specs.Seen.{seen_in, has_size, is_there_and}
 use Rattle.gm_refusals.specs.Refusals.{own, is_listed}
 use Rattle.gm_refusals.specs.Applies.{IsGood, awaited, has_wrong_size, is_awaited, is_member_of, looked_at, members_named, name_of, preferred}
 use Rattle.gm_refusals.specs.Adoptable.{source_in, data_of, has_twice, is_adoptable, adopted, adopted_mirror}
@@ -296,8 +295,8 @@ module _ (s : Records) (facts : List Fact) where
         (held_awaited c good some.0 (filter-Has (λ (j : Component). is_awaited c j)
         (members_named s c) some.0 some.1 (waits some.0)))
 
-    -- a command looks at free providers, or at those of components, and then it asks nothing of what
-    -- last sectors say
+    -- a command looks at free providers, or at those of components, and then it asks nothing of
+    -- what last sectors say
     abbrev Looks : Command → Type 0
     Looks c = ((p : List ℕ) → Has (looked_at c) p → IsFree p)
         ⊎ (((p : List ℕ) → Has (looked_at c) p → IsHeld p) × (list_any asks_last (own c) ≡ false))
@@ -312,29 +311,47 @@ module _ (s : Records) (facts : List Fact) where
         (good WrongSize refl)
         (good Absent refl))
     looks (Remove n p) good =
-        inr (held_in (Remove n p) (p ∷ []) good (good NotMember refl)
-        (λ k. refl), refl)
+        inr (
+          held_in (Remove n p) (p ∷ []) good (good NotMember refl)
+              (λ k. refl),
+          refl,
+        )
     looks (Deactivate n p) good =
-        inr (held_in (Deactivate n p) (p ∷ []) good (good NotMember refl)
-        (λ k. refl), refl)
+        inr (
+          held_in (Deactivate n p) (p ∷ []) good (good NotMember refl)
+              (λ k. refl),
+          refl,
+        )
     looks (Activate n p) good =
-        inr (held_in (Activate n p) (p ∷ []) good (good NotMember refl)
-        (λ k. refl), refl)
+        inr (
+          held_in (Activate n p) (p ∷ []) good (good NotMember refl)
+              (λ k. refl),
+          refl,
+        )
     looks (Forget n) good = inr (λ p h. absurd h, refl)
     looks (Rebuild n p) good =
-        inr (held_in (Rebuild n p) (p ∷ []) good (good NotMember refl)
-        (λ k. refl), refl)
+        inr (
+          held_in (Rebuild n p) (p ∷ []) good (good NotMember refl)
+              (λ k. refl),
+          refl,
+        )
     looks (Configure n settings) good =
-        inr (held_in (Configure n settings) (preferred settings.preference) good
-        (good NotMember refl) (λ k. refl), refl)
+        inr (
+          held_in (Configure n settings) (preferred settings.preference) good
+              (good NotMember refl) (λ k. refl),
+          refl,
+        )
     looks (Clear p) good =
         inl (free_by (p ∷ []) _ (good ProviderTaken refl)
         (good WrongSize refl) (good Absent refl))
     looks (Destroy n) good = inr (λ p h. absurd h, refl)
     looks (Lost n ps) good = inr (λ p h. absurd h, refl)
     looks (Advance n p) good =
-        inr (held_in (Advance n p) (p ∷ []) good (good NotMember refl)
-        (λ k. refl), refl)
+        inr (
+          held_in (Advance n p) (p ∷ []) good (good NotMember refl)
+              (λ k. refl),
+          refl,
+        )
     looks (Adopt n ps) good =
         inl (free_by ps _ (good ProviderTaken refl)
         (good WrongSize refl)
@@ -442,7 +459,8 @@ module _ (s : Records) (facts : List Fact) where
       adoption : (b : Member) × IsAdoptable (seen_in facts) n ps b
       adoption = adoptable (seen_in facts) n ps fit
 
-      room_free : (p : List ℕ) (h : Has ps p) → data_of adoption.0.metadata < (adopt_free p h).sectors
+      room_free : (p : List ℕ) (h : Has ps p)
+          → data_of adoption.0.metadata < (adopt_free p h).sectors
       room_free p h =
           let room : data_of adoption.0.metadata < (adoption.1.each p h).sectors =
           (adoption.1.each p h).room in

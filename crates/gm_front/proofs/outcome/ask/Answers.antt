@@ -1,15 +1,37 @@
-use Rattle.std.proofs.Common.{ap, Err}
+use Rattle.std.proofs.Common.{ap, Err, []}
+use Rattle.gm_rows.specs.ReadableTables.{AreRecordsOf, AreTablesOf}
+use Rattle.gm_bench.specs.Leading.{whole}
+use Rattle.gm_bench.proofs.FactsLookedUp.{honest_to_adopt}
+use Rattle.gm_bench.proofs.ReadTables.{tables_of}
 use Rattle.gm_front.specs.Outcomes.{asked_of}
 use Rattle.gm_front.proofs.outcome.ask.Goals as goal
 
 pub returns-in-Err-clause-comes : goal.returns-in-Err-clause-comes
 returns-in-Err-clause-comes g c = λ honest kept away u at. (
-  c.in-Call.command,
-  ap asked_of c.in-Call.is,
-  record {
-    left = c.in-Err.ensures.leaves honest kept away u at;
-    disk = λ is. c.in-Err.ensures.runs.disk honest kept away u at (ap Err is);
-    readable = λ is found written. c.in-Err.ensures.readable honest kept
-        (ap Err is) away u found written;
-  },
-)
+    let shelf = c.args.bench.now.media.shelf in
+    let seen = (g.H.Shelf.view shelf).seen in
+    let tables : AreTablesOf at.tables u.state [] =
+    tables_of at.tables [] (whole (g.H.Shelf.size shelf) away seen) u
+    (at.leads seen (g.met.H.Shelf.lawful shelf honest).holds_now).0 in
+    let records : AreRecordsOf at.tables u.state = record {
+      state = tables.state;
+      rows = record { mirrors = tables.mirrors; components = tables.components };
+    } in (
+      c.in-Call.command,
+      ap asked_of c.in-Call.is,
+      record {
+        left = c.in-Err.ensures.leaves honest kept away u at;
+        disk = λ is. c.in-Err.ensures.runs.disk kept at.tables u.state at.has records (ap Err is);
+        readable = λ is found written.
+            (let all : AreTablesOf found.tables u.state [] =
+            tables_of found.tables [] (whole (g.H.Shelf.size shelf) away seen) u
+            (found.leads seen (g.met.H.Shelf.lawful shelf honest).holds_now).0 in
+            c.in-Err.ensures.readable kept (ap Err is) found.tables u.state found.has
+            (record {
+              state = all.state;
+              rows = record { mirrors = all.mirrors; components = all.components };
+            }) all.count written
+            (honest_to_adopt g.H.Shelf shelf honest c.in-Call.command));
+      },
+    )
+    )

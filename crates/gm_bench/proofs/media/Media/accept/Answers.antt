@@ -1,5 +1,4 @@
-use Rattle.std.proofs.Common.{◌≡◌, true, rules}
-use Rattle.gm_commands.specs.Commands.{is_key}
+use Rattle.std.proofs.Common.{rules}
 use Rattle.gm_registry.proofs.CallsLeave.{saved}
 use Rattle.gm_bench.proofs.DecidesOnly.{unstepped_same, reads_none}
 use Rattle.gm_bench.proofs.media.Media.accept.Goals as goal

@@ -9,6 +9,7 @@ use Rattle.gm_bench.specs.Planning.{IsPlanned, IsDecided, IsPlanAtHand}
 use Rattle.gm_bench.specs.Presence.{AreAtHand}
 use Rattle.gm_bench.proofs.CallAnswers.{least}
 use Rattle.gm_bench.proofs.DecidesOnly.{still, unstepped, then_step, ok_then}
+use Rattle.gm_bench.proofs.Phases.{with_done, with_hand}
 use Rattle.gm_bench.proofs.media.Media.choose.Goals as goal
 
 pub returns-in-Ok-Ok-clause-leaves : goal.returns-in-Ok-Ok-clause-leaves
@@ -115,7 +116,7 @@ returns-in-Ok-Ok-clause-at_hand g c fits clean =
     let planned : AreAtHand size c.in-Ok-Ok.planned.work.intents.items =
     subst (λ r. IsPlanAtHand size r) c.in-Ok-Ok.field-0-is
     ((c.in-Ok-Ok.ensures.at_hand asked t s has records).1 fits) in
-    done size planned)) c.commit.result c.commit.ensures.at_hand
+    with_hand size c.in-Ok-Ok.planned.work a done planned)) c.commit.result c.commit.ensures.work
 
 pub returns-in-Ok-Ok-clause-accepts : goal.returns-in-Ok-Ok-clause-accepts
 returns-in-Ok-Ok-clause-accepts g c =
@@ -124,7 +125,8 @@ returns-in-Ok-Ok-clause-accepts g c =
       disk = search rules;
       kept = search rules;
       undone = λ clean. (
-          ok_then _ _ (λ a done undone. absurd (done undone)) c.commit.result
+          ok_then _ _ (λ a done undone. absurd (with_done c.in-Ok-Ok.planned.work a done undone))
+          c.commit.result
           c.commit.ensures.work);
       clean = search rules;
     }

@@ -8,7 +8,7 @@ use Rattle.gm_shelf.specs.Disk.{IsQuiet}
 use Rattle.gm_bench.proofs.CallAnswers.{as_many, free_key, too_many}
 use Rattle.gm_bench.proofs.DecidesOnly.{nothing_then, quiet_same, still, unstepped, then_step, ok_then, many_of, room_of, reads_then}
 use Rattle.gm_bench.specs.Planning.{IsWorkAtHand}
-use Rattle.gm_bench.specs.ShelfFacts.{ComparesHonestly}
+use Rattle.gm_bench.specs.ShelfFacts.{IsHonestToAdopt}
 use Rattle.gm_bench.proofs.media.Media.decide.Goals as goal
 
 pub returns-in-Ok-true-clause-leaves : goal.returns-in-Ok-true-clause-leaves
@@ -112,7 +112,7 @@ returns-in-Ok-false-clause-readable g c fits clean is t s has records few writte
     omega (arith, clean, c.choose.ensures.accepts.clean) in
     let told = c.in-Ok-false.ensures.told counted t has in
     c.choose.ensures.readable fits clean is t s told.1 records few written
-    (subst (λ (k : g.row.H.Denot). ComparesHonestly g.H.Shelf k c.args.command.now)
+    (subst (λ (k : g.row.H.Denot). IsHonestToAdopt g.H.Shelf k c.args.command.now)
     (sym c.is_full.ensures.shelf) honest)
 
 pub returns-in-Err-clause-readable : goal.returns-in-Err-clause-readable

@@ -1,4 +1,4 @@
-use Rattle.std.proofs.Common.{◌≡◌, ◌∙◌, Err, List, ℕ, [], None, option_map, sym, ap, subst}
+use Rattle.std.proofs.Common.{◌≡◌, ◌∙◌, Err, List, ℕ, None, option_map, sym, ap, subst}
 use Rattle.sqlite.specs.Held.{Held}
 use Rattle.gm_state.specs.Records.{Records, IsState}
 use Rattle.gm_lists.specs.Ordered.{Has}
