@@ -1,5 +1,5 @@
 -- One line of a batch after the other.
-use Rattle.std.proofs.Common.{◌≡◌, ◌≢◌, ◌∙◌, ◌⊎◌, inl, inr, ◌<◌, ◌||◌, nat_lt, ℕ, Bool, true, false, refl, sym, ap, subst, arith, List, [], ◌∷◌, ◌++◌, codes, length, take, replicate, Option, Some, None, IfSome, append-nil}
+use Rattle.std.proofs.Common.{◌≡◌, ◌≢◌, ◌∙◌, ◌⊎◌, inl, inr, ◌<◌, ◌≤◌, ◌||◌, nat_lt, ℕ, Bool, true, false, refl, sym, ap, subst, arith, List, [], ◌∷◌, ◌++◌, codes, length, take, replicate, Option, Some, None, IfSome, append-nil}
 use Rattle.std.proofs.lemmas.List.{append_assoc, length-replicate}
 use Rattle.std.proofs.lemmas.Bool.Decides.{nat_tests}
 use Rattle.std.specs.Borrow.{Bor}
@@ -425,5 +425,6 @@ module _ {S H : Type 0} (g : Ghosts S) (view : H → View) (size : H → Sizes) 
     pub clean : WasClean g r s
     pub stays : honest h → honest k
     pub sizes : size k ≡ size h
+    pub count : (view h).faults ≤ (view k).faults
     pub does : honest h → DiskKept g s → (away : Image) (u : World)
         → IsAt g view size r h away [] u u → Answering input rest before now s k away u refused

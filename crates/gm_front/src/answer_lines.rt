@@ -4,7 +4,8 @@ ghost use Rattle.std.specs.Prelude.{◌≡◌, ◌<◌, ◌≤◌, ℕ, List, []
 ghost use Rattle.std.specs.Io.KnownBytes.{Appends, Keeps};
 ghost use Rattle.gm_metadata.specs.Images.{Image};
 ghost use Rattle.gm_state.specs.World.{World};
-ghost use Rattle.gm_registry.specs.Registry.{DiskKept, WasClean};
+ghost use Rattle.gm_registry.specs.Registry.{DiskKept};
+ghost use Rattle.gm_bench.specs.Calls.{Keep};
 ghost use Rattle.gm_bench.specs.declared.phase.Progress.TheVariants.{Failed};
 ghost use Rattle.gm_bench.specs.Phases.{TakesCommands};
 ghost use Rattle.gm_bench.specs.Recovering.{IsAt};
@@ -131,10 +132,9 @@ pub fn batch<R: Read, W: Write, S: Alter, H: Shelf>(
     ensures reopen { result ≡ Ok (BatchEnd.Stopped BenchFault.Closed)
         → bench.old.progress ≡ Failed }
     ensures absent { (p : List ℕ) → result ≡ Ok (BatchEnd.Stopped (BenchFault.Absent p)) → ⊥ }
-    ensures honest { H.honest bench.old.media.shelf → H.honest bench.new.media.shelf }
-    ensures size { H.size bench.new.media.shelf ≡ H.size bench.old.media.shelf }
     ensures redone { bench.new.redone ≡ bench.old.redone }
-    ensures clean { WasClean S.Store bench.old.media.registry bench.new.media.registry }
+    ensures keep { Keep S.Store H.Shelf bench.old.media.registry bench.new.media.registry
+        bench.old.media.shelf bench.new.media.shelf }
 {
     let mut line = [0u8; 1024];
     let mut refused = false;

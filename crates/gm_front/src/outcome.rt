@@ -4,7 +4,8 @@ ghost use Rattle.std.specs.Prelude.{◌≡◌, ◌||◌, ℕ, List, [], IfOk};
 ghost use Rattle.std.specs.String.{string_bytes};
 ghost use Rattle.gm_metadata.specs.Images.{Image};
 ghost use Rattle.gm_state.specs.World.{World};
-ghost use Rattle.gm_registry.specs.Registry.{DiskKept, WasClean};
+ghost use Rattle.gm_registry.specs.Registry.{DiskKept};
+ghost use Rattle.gm_bench.specs.Calls.{Keep};
 ghost use Rattle.gm_bench.specs.declared.phase.Progress.TheVariants.{Failed};
 ghost use Rattle.gm_bench.specs.Phases.{TakesCommands};
 ghost use Rattle.gm_bench.specs.Recovering.{IsAt};
@@ -117,10 +118,9 @@ pub(crate) fn ask<'a, S: Alter, H: Shelf>(
         → bench.old.progress ≡ Failed }
     ensures absent { (key : _) (p : List ℕ)
         → result ≡ Outcome.Failed key (BenchFault.Absent p) → ⊥ }
-    ensures honest { H.honest bench.old.media.shelf → H.honest bench.new.media.shelf }
-    ensures size { H.size bench.new.media.shelf ≡ H.size bench.old.media.shelf }
     ensures redone { bench.new.redone ≡ bench.old.redone }
-    ensures clean { WasClean S.Store bench.old.media.registry bench.new.media.registry }
+    ensures keep { Keep S.Store H.Shelf bench.old.media.registry bench.new.media.registry
+        bench.old.media.shelf bench.new.media.shelf }
 {
     match *request {
         Request::Nothing => Outcome::Nothing,

@@ -12,6 +12,7 @@ loop-init g c = record {
     clean = omega arith;
     stays = λ h. h;
     sizes = refl;
+    count = omega arith;
     does = λ honest kept away u at. begun g.S.Store g.H.Shelf.view g.H.Shelf.size _ _ _ _ away u at;
   };
   progress = refl;
@@ -48,7 +49,7 @@ returns-in-Err-clause-does g c = λ honest kept away u at.
     let going = c.loop.invariant.going in
     let so = going.does honest
     (kept_before g.S.Store g.H.Shelf.view g.H.Shelf.size c.loop.bench.media.registry
-    c.ask-outcome.new.bench.media.registry c.ask-outcome.ensures.clean kept) away u at in
+    c.ask-outcome.new.bench.media.registry c.ask-outcome.ensures.keep.clean kept) away u at in
     let comes = comes_so g.S.Store g.H.Shelf.view g.H.Shelf.size c.loop.bench.media.registry
     c.ask-outcome.new.bench.media.registry c.loop.bench.media.shelf
     c.ask-outcome.new.bench.media.shelf away (asked_of c.in-Ok-request_at.request)
@@ -65,7 +66,7 @@ returns-in-Failed-clause-does g c = λ honest kept away u at.
     let going = c.loop.invariant.going in
     let so = going.does honest
     (kept_before g.S.Store g.H.Shelf.view g.H.Shelf.size c.loop.bench.media.registry
-    c.ask-outcome.new.bench.media.registry c.ask-outcome.ensures.clean kept) away u at in
+    c.ask-outcome.new.bench.media.registry c.ask-outcome.ensures.keep.clean kept) away u at in
     let comes = comes_so g.S.Store g.H.Shelf.view g.H.Shelf.size c.loop.bench.media.registry
     c.ask-outcome.new.bench.media.registry c.loop.bench.media.shelf
     c.ask-outcome.new.bench.media.shelf away (asked_of c.in-Ok-request_at.request)
@@ -92,13 +93,14 @@ loop-preserved g c =
     let on = goes_on c.ask-outcome.result c.in_default-outcome.not-Failed in
     record {
       going = record {
-        clean = omega (arith, going.clean, asked.clean);
-        stays = λ honest. asked.honest (going.stays honest);
-        sizes = asked.size ∙ going.sizes;
+        clean = omega (arith, going.clean, asked.keep.clean);
+        stays = λ honest. asked.keep.shelf.honest (going.stays honest);
+        sizes = asked.keep.shelf.size ∙ going.sizes;
+        count = omega (arith, going.count, asked.keep.shelf.count);
         does = λ honest kept away u at.
             let so = going.does honest
             (kept_before g.S.Store g.H.Shelf.view g.H.Shelf.size c.loop.bench.media.registry
-            c.ask-outcome.new.bench.media.registry asked.clean kept) away u at in
+            c.ask-outcome.new.bench.media.registry asked.keep.clean kept) away u at in
             let comes = comes_so g.S.Store g.H.Shelf.view g.H.Shelf.size c.loop.bench.media.registry
             c.ask-outcome.new.bench.media.registry c.loop.bench.media.shelf
             c.ask-outcome.new.bench.media.shelf away (asked_of c.in-Ok-request_at.request)
