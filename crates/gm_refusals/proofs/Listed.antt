@@ -1,5 +1,5 @@
 -- A refusal that a command lists stands in its list, and one that stands there is listed.
-use Rattle.std.proofs.Common.{◌≡◌, ◌∙◌, ◌==◌, inl, inr, ℕ, Bool, true, refl, sym, ap, subst, List, [], ◌∷◌, find, Option, Some, is_some}
+use Rattle.std.proofs.Common.{◌≡◌, ◌∙◌, ◌==◌, ℕ, Bool, true, refl, sym, ap, subst, List, [], ◌∷◌, find, Some}
 use Rattle.std.proofs.lemmas.Bool.{eqb-true, eq-eqb}
 use Rattle.gm_commands.specs.declared.command.Command.{Command}
 use Rattle.gm_lists.specs.Ordered.{Has}

@@ -1,17 +1,16 @@
 -- What follows where no refusal applies, and which refusal is the least.
-use Rattle.std.proofs.Common.{◌≡◌, ◌≢◌, ◌∙◌, inl, inr, ⊎_elim, ℕ, ◌≤◌, ◌<◌, ◌^◌, Bool, true, false, ◌&&◌, ◌==◌, nat_lt, refl, sym, ap, subst, arith, List, [], ◌∷◌, find, Option, Some, None, IsSome, is_none, is_some, ltb-true, ltb-false, length}
+use Rattle.std.proofs.Common.{◌≡◌, ◌≢◌, ◌∙◌, inl, inr, ⊎_elim, ℕ, ◌≤◌, ◌<◌, ◌^◌, Bool, true, false, ◌&&◌, ◌==◌, nat_lt, refl, sym, ap, subst, arith, List, [], ◌∷◌, find, Option, Some, None, IsSome, is_none, is_some, ltb-true, ltb-false}
 use Rattle.std.specs.Option.{ForSome}
 use Rattle.std.specs.List.{list_all}
 use Rattle.std.proofs.lemmas.Bool.{cases_Bool, and_parts, or_parts, eqb-false}
 use Rattle.gm_lists.specs.Ordered.{Has}
-use Rattle.gm_state.specs.Records.{Records, IsState, IsMirror, members}
-use Rattle.gm_state.specs.Lookups.{mirror_of, component_of}
+use Rattle.gm_state.specs.Records.{Records, IsState}
+use Rattle.gm_state.specs.Lookups.{mirror_of}
 use Rattle.gm_commands.specs.declared.command.Command.{Command}
 use Rattle.gm_commands.specs.declared.command.Command.TheVariants.{Label, Insert, Remove, Deactivate, Activate, Forget, Rebuild, Configure, Clear, Destroy, Lost, Advance, Adopt}
 use Rattle.gm_state.specs.declared.records.Mirror.{Mirror}
 use Rattle.gm_state.specs.declared.records.Component.{Component}
-use Rattle.gm_lists.proofs.Order.{same_is, same_from}
-use Rattle.gm_metadata.specs.Images.{same_label}
+use Rattle.gm_lists.proofs.Order.{same_from}
 use Rattle.gm_commands.specs.declared.command.NewMirror.{NewMirror}
 use Rattle.gm_refusals.specs.declared.refusals.Refusal.{Refusal}
 use Rattle.gm_refusals.specs.declared.refusals.Refusal.TheVariants.{Absent, WrongSize}

@@ -17,7 +17,6 @@ use Rattle.gm_refusals.specs.Seen.{Seen, is_bearing, has_size, is_there_and}
 use Rattle.gm_refusals.specs.Adoptable.{has_twice, tells_mid, tells_did_twice, is_adoptable}
 use Rattle.gm_refusals.specs.declared.refusals.Refusal.{Refusal}
 use Rattle.gm_refusals.specs.declared.refusals.Refusal.TheVariants.{NoMirror, NameTaken, MidTaken, Absent, ProviderTaken, CarriesMetadata, TooSmall, NotMember, DidTaken, Full, TooManyMirrors, SomeLost, LastActive, AlreadyInactive, NotInactive, NoneLost, Inactive, NotSynchronizing, LastSyncid, LastGenid, NothingGiven, NotAdoptable, WrongSize, NoMetadata}
-use Rattle.gm_lists.specs.Ordered.{Has}
 use Rattle.gm_refusals.specs.Refusals.{number_of, is_listed}
 
 -- the mirror that a command names

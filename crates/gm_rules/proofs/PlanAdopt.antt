@@ -1,5 +1,5 @@
 -- The plan of adopt.
-use Rattle.std.proofs.Common.{◌≡◌, ◌≢◌, ◌∙◌, inl, inr, ℕ, ◌<◌, ◌≤◌, true, false, refl, sym, ap, subst, arith, List, Some, None, length, is_some}
+use Rattle.std.proofs.Common.{◌≡◌, ◌≢◌, ◌∙◌, ℕ, ◌<◌, ◌≤◌, true, false, refl, sym, ap, subst, arith, List, Some, None, length, is_some}
 use Rattle.std.specs.List.{list_any}
 use Rattle.std.proofs.lemmas.Bool.{or_parts, not-false, eq-eqb}
 use Rattle.gm_metadata.specs.Images.{same_label}

@@ -1,4 +1,4 @@
-use Rattle.std.proofs.Common.{◌≡◌, inl, inr, refl, subst, true, ℕ, List}
+use Rattle.std.proofs.Common.{◌≡◌, refl, subst, true, ℕ, List}
 use Rattle.std.proofs.lemmas.Bool.{not-false}
 use Rattle.gm_lists.specs.Ordered.{Has}
 use Rattle.gm_lists.proofs.Finding.{none_any}

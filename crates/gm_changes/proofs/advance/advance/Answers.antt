@@ -1,4 +1,4 @@
-use Rattle.std.proofs.Common.{◌∙◌, sym, inl, inr, refl}
+use Rattle.std.proofs.Common.{◌∙◌, sym, refl}
 use Rattle.gm_refusals.specs.declared.refusals.Refusal.TheVariants as refusals
 use Rattle.gm_refusals.specs.Seen.{seen_in}
 use Rattle.gm_refusals.proofs.NothingApplies.{some_from}

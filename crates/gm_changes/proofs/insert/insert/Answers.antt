@@ -1,4 +1,4 @@
-use Rattle.std.proofs.Common.{◌∙◌, sym, inl, inr, refl, subst, List, is_none, is_some}
+use Rattle.std.proofs.Common.{◌∙◌, sym, refl, subst, List, is_none, is_some}
 use Rattle.std.proofs.lemmas.Bool.{or_parts}
 use Rattle.gm_metadata.specs.Images.{same_label}
 use Rattle.gm_state.specs.declared.records.Component.{Component}
