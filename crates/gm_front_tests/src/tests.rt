@@ -3,9 +3,11 @@
 
 mod faults;
 mod flushes;
+mod many_mirrors;
 mod readers;
 mod repeats;
 mod stores;
+mod worked_rows;
 mod writers;
 
 use gm_bench::{Bench, BenchFault, OpenFault, Phase};

@@ -1,7 +1,7 @@
 //! A command whose calls are made one by one, and what the bench shows between them.
 
 use crate::support::{
-    IN_SYNC, accept, labels, metadata, must_be, open, try_apply, try_last, try_settle, try_view,
+    IN_SYNC, LABEL, metadata, must_be, open, try_accept, try_apply, try_last, try_settle, try_view,
 };
 use gm_bench::{Answer, Bench, Phase};
 use gm_metadata::Metadata;
@@ -48,14 +48,14 @@ fn goes_through_its_phases<S: Alter + Drop, H: Shelf + Drop>(
     let said = metadata(1, 1, IN_SYNC)?;
     let mut bench = open(alloc, store, shelf)?;
     must_show(alloc, &mut bench, Phase::Ready, 0, None)?;
-    let answer = accept(alloc, &mut bench, "k1", &labels("gm0", "a.img", 7)?)?;
+    let answer = try_accept(alloc, &mut bench, "k1", LABEL)??;
     must(answer == Answer::Done(1, Reply::Plain), "not accepted")?;
     must_show(alloc, &mut bench, Phase::Pending, 1, None)?;
     try_apply(&mut bench)??;
     must_show(alloc, &mut bench, Phase::Applied, 1, Some(said))?;
     try_settle(&mut bench)??;
     must_show(alloc, &mut bench, Phase::Ready, 1, Some(said))?;
-    let again = accept(alloc, &mut bench, "k1", &labels("gm0", "a.img", 7)?)?;
+    let again = try_accept(alloc, &mut bench, "k1", LABEL)??;
     must(again == Answer::Repeated(1, Reply::Plain), "not repeated")?;
     must_show(alloc, &mut bench, Phase::Ready, 1, Some(said))
 }

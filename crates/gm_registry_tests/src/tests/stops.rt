@@ -104,7 +104,10 @@ fn serve<S: Alter + Drop>(
         Job::Look => {
             let count = accepted(&mut registry).ok();
             let mut store = registry.close();
-            let found = count.and_then(|commands| rows_in(commands, &mut store));
+            let found = match count {
+                Some(commands) => rows_in(commands, &mut store),
+                None => None,
+            };
             let told = Told {
                 found,
                 ..NOTHING_TOLD
@@ -279,13 +282,10 @@ pub(super) fn one_command(alloc: Global) -> Result<StoreBytes, Fail> {
     Ok(run.read)
 }
 
+// While a registry is made, and at a command of one that was made.
 #[test]
-fn a_stop_while_a_registry_is_made(rt: HostRuntime) -> Result<(), Fail> {
-    stop_at_each(rt.alloc(), &StoreBytes::new(rt.alloc()), 0)
-}
-
-#[test]
-fn a_stop_within_a_command(rt: HostRuntime) -> Result<(), Fail> {
-    let from = one_command(rt.alloc())?;
-    stop_at_each(rt.alloc(), &from, 1)
+fn a_stop_leaves_what_was_before_or_what_comes_after(rt: HostRuntime) -> Result<(), Fail> {
+    let alloc = rt.alloc();
+    stop_at_each(alloc, &StoreBytes::new(alloc), 0)?;
+    stop_at_each(alloc, &one_command(alloc)?, 1)
 }
