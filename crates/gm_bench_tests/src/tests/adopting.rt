@@ -4,7 +4,7 @@ use crate::support::{
     Asked, IN_SYNC, SYNCHRONIZING, is_over, is_stopped, metadata, must_say, open,
 };
 use gm_metadata::{Metadata, encode};
-use gm_shelf::{FaultShelf, MemShelf, Shelf};
+use gm_shelf::{FaultShelf, Shelf};
 use gm_state::Reply;
 use gm_test_media::{label, memory, must, sector, shelf};
 use sqlite::{Alter, Connection};
@@ -32,22 +32,37 @@ fn says<H: Shelf>(shelf: &mut H, name: &str, said: &Metadata) -> Result<(), Fail
 }
 
 // a.img and b.img of gm0, which both say that they are in sync, and differ in one byte.
-fn differing(alloc: Global) -> Result<MemShelf, Fail> {
-    let mut shelf = shelf(alloc)?;
-    says(&mut shelf, "a.img", &metadata(1, 2, IN_SYNC)?)?;
-    says(&mut shelf, "b.img", &metadata(2, 2, IN_SYNC)?)?;
+fn make_differing<H: Shelf>(shelf: &mut H) -> Result<(), Fail> {
+    says(shelf, "a.img", &metadata(1, 2, IN_SYNC)?)?;
+    says(shelf, "b.img", &metadata(2, 2, IN_SYNC)?)?;
     let other = label("b.img")?;
-    let mut data = sector(&mut shelf, "b.img", 2)?;
+    let mut data = sector(shelf, "b.img", 2)?;
     data[77] = data[77] ^ 1;
     shelf.write(other, 2, &data)?;
     shelf.sync(other)?;
-    Ok(shelf)
+    Ok(())
+}
+
+// Behind an adoption b.img no longer says that it is in sync.
+fn are_adopted<S: Alter + Drop, H: Shelf + Drop>(
+    alloc: Global,
+    store: Connection<S>,
+    shelf: H,
+    asked: Asked,
+) -> Result<(), Fail> {
+    let mut shelf = is_over(alloc, store, shelf, asked)?;
+    for (name, did, flags) in [("a.img", 1, IN_SYNC), ("b.img", 2, SYNCHRONIZING)] {
+        must_say(&mut shelf, name, Some(metadata(did, 2, flags)?))?;
+    }
+    Ok(())
 }
 
 // One adoption of images that differ, whose shelf stops from its nth call on; whether the stop
-// came. Behind it b.img no longer says that it is in sync.
+// came.
 fn stop_at<S: Alter + Drop>(alloc: Global, store: Connection<S>, nth: u64) -> Result<bool, Fail> {
-    let mut bench = open(alloc, store, FaultShelf::stop_from(differing(alloc)?, nth))?;
+    let mut differing = shelf(alloc)?;
+    make_differing(&mut differing)?;
+    let mut bench = open(alloc, store, FaultShelf::stop_from(differing, nth))?;
     let came = is_stopped(alloc, &mut bench, ADOPT)?;
     let (store, stopping) = bench.close();
     let left = stopping.into_inner().crash_image(&[0, 0])?;
@@ -55,9 +70,7 @@ fn stop_at<S: Alter + Drop>(alloc: Global, store: Connection<S>, nth: u64) -> Re
         was_done: !came,
         ..ADOPT
     };
-    let mut shelf = is_over(alloc, store, left, asked)?;
-    must_say(&mut shelf, "a.img", Some(metadata(1, 2, IN_SYNC)?))?;
-    must_say(&mut shelf, "b.img", Some(metadata(2, 2, SYNCHRONIZING)?))?;
+    are_adopted(alloc, store, left, asked)?;
     Ok(came)
 }
 

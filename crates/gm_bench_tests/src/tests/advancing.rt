@@ -3,7 +3,7 @@
 
 use crate::support::{
     Asked, IN_SYNC, INSERT, SYNCHRONIZING, is_over, is_stopped, metadata, must_hold, of_two, open,
-    runs, try_accept,
+    try_accept,
 };
 use gm_bench::Answer;
 use gm_metadata::{Metadata, encode};
@@ -139,16 +139,24 @@ fn writes_no_data<S: Alter + Drop>(
     Ok(())
 }
 
+// Whether all data are written, and none is sure to stay.
+fn are_unsynced(shelf: &mut MemShelf) -> Result<bool, Fail> {
+    for picks in [[0u32, 0], [1, 1]] {
+        if are_equal(&mut shelf.crash_image(&picks)?)? {
+            return Ok(false);
+        }
+    }
+    are_equal(shelf)
+}
+
 // Whether an advance that stops there had written all data and synced none; then it is opened.
 fn wrote_without_a_sync(alloc: Global, nth: u64) -> Result<bool, Fail> {
     let (_, store, mut shelf) = stop_at(alloc, memory(alloc)?, nth)?;
-    let kept = are_equal(&mut shelf.crash_image(&[])?)?;
-    if kept || !are_equal(&mut shelf)? {
-        return Ok(false);
+    let unsynced = are_unsynced(&mut shelf)?;
+    if unsynced {
+        writes_no_data(alloc, store, shelf)?;
     }
-    must(!are_equal(&mut shelf.crash_image(&[1, 1])?)?, "synced")?;
-    writes_no_data(alloc, store, shelf)?;
-    Ok(true)
+    Ok(unsynced)
 }
 
 #[test]
@@ -174,43 +182,36 @@ fn long(alloc: Global) -> Result<MemShelf, Fail> {
     Ok(shelf)
 }
 
-// How many sectors an advance writes that holds so many afterwards.
-fn written_by<S: Alter + Drop, H: Shelf + Drop>(
+// An advance by this key and number, after which so many sectors are held, writes so many.
+fn writes<S: Alter + Drop, H: Shelf + Drop>(
     alloc: Global,
     store: Connection<S>,
     shelf: H,
-    key: &str,
-    answer: Answer,
-) -> Result<(u64, Connection<S>, H), Fail> {
+    asked: Asked,
+    written: u64,
+) -> Result<(Connection<S>, H), Fail> {
     let mut bench = open(alloc, store, CountingShelf::new(shelf))?;
-    runs(alloc, &mut bench, key, ADVANCE.words, answer)?;
+    let stopped = is_stopped(alloc, &mut bench, asked)?;
     let (store, counted) = bench.close();
-    Ok((counted.calls.written, store, counted.inner))
+    must(!stopped && counted.calls.written == written, asked.key)?;
+    Ok((store, counted.inner))
+}
+
+fn stretch(key: &'static str, number: u64, held: u32) -> Asked {
+    Asked {
+        key,
+        number,
+        reply: Reply::Copied { held, total: 257 },
+        ..ADVANCE
+    }
 }
 
 // The first stretch writes what b.img then says, the second the sector that differs too.
 fn writes_what_differs<S: Alter + Drop>(alloc: Global, store: Connection<S>) -> Result<(), Fail> {
     let (store, shelf) = of_two(alloc, store, long(alloc)?, INSERT)?;
-    let first = Answer::Done(
-        3,
-        Reply::Copied {
-            held: 256,
-            total: 257,
-        },
-    );
-    let (written, store, shelf) = written_by(alloc, store, shelf, "k3", first)?;
-    must(written == 1, "another count of the first stretch")?;
-    let second = Answer::Done(
-        4,
-        Reply::Copied {
-            held: 257,
-            total: 257,
-        },
-    );
-    let (written, _, mut shelf) = written_by(alloc, store, shelf, "k4", second)?;
-    must(written == 2, "another count of the second stretch")?;
-    let last = sector(&mut shelf, "b.img", 256)?;
-    must(last[511] == 7, "not copied")
+    let (store, shelf) = writes(alloc, store, shelf, stretch("k3", 3, 256), 1)?;
+    let (_, mut shelf) = writes(alloc, store, shelf, stretch("k4", 4, 257), 2)?;
+    must(sector(&mut shelf, "b.img", 256)?[511] == 7, "not copied")
 }
 
 #[test]
@@ -218,7 +219,21 @@ fn an_advance_writes_the_sectors_that_differ(rt: HostRuntime) -> Result<(), Fail
     writes_what_differs(rt.alloc(), memory(rt.alloc())?)
 }
 
-// An advance that was accepted is made at the next opening, whatever b.img is preferred to.
+// An advance that is accepted and not carried out.
+fn accepts<S: Alter + Drop, H: Shelf + Drop>(
+    alloc: Global,
+    store: Connection<S>,
+    shelf: H,
+) -> Result<(Connection<S>, H), Fail> {
+    let mut bench = open(alloc, store, shelf)?;
+    let answer = try_accept(alloc, &mut bench, ADVANCE.key, ADVANCE.words)?;
+    let (store, mut shelf) = bench.close();
+    let done = answer == Ok(Answer::Done(3, ADVANCE.reply));
+    must(done && !are_equal(&mut shelf)?, "not accepted alone")?;
+    Ok((store, shelf))
+}
+
+// It is made at the next opening, whatever b.img is preferred to.
 fn is_made_at_the_opening<S: Alter + Drop>(
     alloc: Global,
     store: Connection<S>,
@@ -226,11 +241,7 @@ fn is_made_at_the_opening<S: Alter + Drop>(
     priority: u8,
 ) -> Result<(), Fail> {
     let (store, shelf) = of_two(alloc, store, unlike(alloc)?, insert)?;
-    let mut bench = open(alloc, store, shelf)?;
-    let answer = try_accept(alloc, &mut bench, ADVANCE.key, ADVANCE.words)??;
-    must(answer == Answer::Done(3, ADVANCE.reply), "not accepted")?;
-    let (store, mut shelf) = bench.close();
-    must(!are_equal(&mut shelf)?, "carried out by an accepting")?;
+    let (store, shelf) = accepts(alloc, store, shelf)?;
     let (_, mut shelf) = open(alloc, store, shelf)?.close();
     must_be_in_sync(&mut shelf, priority)
 }

@@ -1,7 +1,7 @@
 //! An audit and a tasting whose shelf stops at each of their looks. Neither changes anything.
 
 use crate::support::{INSERT, of_two, open, try_audit};
-use gm_bench::{BenchFault, Phase, taste_shelf};
+use gm_bench::{Bench, BenchFault, Phase, taste_shelf};
 use gm_shelf::{FaultShelf, MemShelf, Shelf};
 use gm_test_media::{add, memory, must, shelf};
 use gm_words::tasting_text;
@@ -9,39 +9,44 @@ use sqlite::{Alter, Connection};
 use std::alloc::Global;
 use std::test::Fail;
 
-// An audit whose nth look at a sector fails; whether that came.
-fn audit_stops<S: Alter + Drop>(
-    alloc: Global,
-    store: Connection<S>,
-    shelf: MemShelf,
-    nth: u64,
-) -> Result<(bool, Connection<S>, MemShelf), Fail> {
-    let mut bench = open(alloc, store, FaultShelf::stop_from(shelf, nth))?;
-    let stopped = match try_audit(alloc, &mut bench) {
+// An audit that lists none, or closes the bench since a look at a sector fails; whether that came.
+fn fails<S: Alter, H: Shelf>(alloc: Global, bench: &mut Bench<S, H>) -> Result<bool, Fail> {
+    match try_audit(alloc, bench) {
         Ok(names) => {
             must(names.is_empty(), "it lists some")?;
-            false
+            Ok(false)
         }
         Err(fault) => {
             must(fault == BenchFault::Disk, "another fault")?;
             must(bench.phase() == Phase::Failed, "not closed")?;
-            let again = try_audit(alloc, &mut bench);
+            let again = try_audit(alloc, bench);
             must(again.err() == Some(BenchFault::Closed), "audited")?;
-            true
+            Ok(true)
         }
-    };
+    }
+}
+
+// One over a shelf whose nth look fails. An audit of two components looks at two sectors.
+fn audit_at<S: Alter + Drop>(
+    alloc: Global,
+    store: Connection<S>,
+    shelf: MemShelf,
+    nth: u64,
+) -> Result<(Connection<S>, MemShelf), Fail> {
+    let mut bench = open(alloc, store, FaultShelf::stop_from(shelf, nth))?;
+    let stopped = fails(alloc, &mut bench)?;
     let (store, shelf) = bench.close();
-    Ok((stopped, store, shelf.into_inner()))
+    must(stopped == (nth < 3), "it looks otherwise")?;
+    Ok((store, shelf.into_inner()))
 }
 
 #[test]
 fn an_audit_that_cannot_read_closes_the_bench(rt: HostRuntime) -> Result<(), Fail> {
     let alloc = rt.alloc();
     let (store, shelf) = of_two(alloc, memory(alloc)?, shelf(alloc)?, INSERT)?;
-    let (first, store, shelf) = audit_stops(alloc, store, shelf, 1)?;
-    let (second, store, shelf) = audit_stops(alloc, store, shelf, 2)?;
-    let (third, store, shelf) = audit_stops(alloc, store, shelf, 3)?;
-    must(first && second && !third, "it looks otherwise")?;
+    let (store, shelf) = audit_at(alloc, store, shelf, 1)?;
+    let (store, shelf) = audit_at(alloc, store, shelf, 2)?;
+    audit_at(alloc, store, shelf, 3)?;
     Ok(())
 }
 
@@ -60,18 +65,25 @@ fn must_tell<H: Shelf>(alloc: Global, shelf: &mut H, expected: &'static str) -> 
     must(tasting_text(alloc, &tasted)?.as_str() == expected, expected)
 }
 
+// A taste whose nth look at a sector fails, or none of its three.
+fn tell_at(alloc: Global, shelf: MemShelf, nth: u64) -> Result<MemShelf, Fail> {
+    let mut stopping = FaultShelf::stop_from(shelf, nth);
+    if nth < 4 {
+        let tasted = taste_shelf(alloc, &mut stopping);
+        must(tasted.err() == Some(BenchFault::Disk), "it was tasted")?;
+    } else {
+        must_tell(alloc, &mut stopping, TOLD)?;
+    }
+    Ok(stopping.into_inner())
+}
+
 #[test]
 fn a_shelf_tells_of_its_mirrors(rt: HostRuntime) -> Result<(), Fail> {
     let alloc = rt.alloc();
     let (_, mut shelf) = of_two(alloc, memory(alloc)?, shelf(alloc)?, INSERT)?;
     add(&mut shelf, "none.img", Vec::new(alloc))?;
-    must_tell(alloc, &mut shelf, TOLD)?;
-    for nth in 1u64..4 {
-        let mut stopping = FaultShelf::stop_from(shelf, nth);
-        let tasted = taste_shelf(alloc, &mut stopping);
-        must(tasted.err() == Some(BenchFault::Disk), "it was tasted")?;
-        shelf = stopping.into_inner();
+    for nth in 1u64..5 {
+        shelf = tell_at(alloc, shelf, nth)?;
     }
-    must_tell(alloc, &mut FaultShelf::stop_from(shelf, 4), TOLD)?;
     must_tell(alloc, &mut MemShelf::new(alloc), "no mirrors\n")
 }

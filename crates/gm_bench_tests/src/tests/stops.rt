@@ -1,7 +1,7 @@
 //! A script of all commands that stops at each of its calls in turn, and what an opening then
 //! finds, against a table that is written down.
 
-use super::faults::{Left, Stop, stop_at};
+use super::faults::{Left, Stop, plays, stop_at};
 use crate::support::{
     FORCED, IN_SYNC, INACTIVE, INSERT, LABEL, SYNCHRONIZING, metadata, must_be, must_keep_data,
     open, runs, try_accept, try_apply, try_last, try_run, try_settle, try_view,
@@ -10,7 +10,7 @@ use gm_bench::{Answer, Bench, BenchFault, Phase};
 use gm_metadata::{Balance, DiskFlags, Metadata};
 use gm_refusals::{CallRefusal, Refusal};
 use gm_shelf::Shelf;
-use gm_state::{Reply, metadata_of};
+use gm_state::{Reply, State, metadata_of};
 use gm_test_media::{label, memory, must, shelf};
 use sqlite::{Alter, Connection};
 use std::alloc::Global;
@@ -100,10 +100,7 @@ const KEYS: [&str; 15] = [
     "k1", "k2", "k3", "k4", "k5", "k6", "k7", "k8", "k9", "k10", "k11", "k12", "k13", "k14", "k15",
 ];
 
-// How many commands the script has, and how many calls: each command is accepted, carried out and
-// settled.
-pub(super) const COMMANDS: u64 = 13;
-
+// Each command is accepted, carried out and settled.
 const CALLS: u64 = 39;
 
 // What the last sector of a component of gm0 says that commands change.
@@ -158,7 +155,7 @@ const NOTHING: Found = Found {
 };
 
 // What there is after none of the commands, one, and so on.
-const FOUND: [Found; 14] = [
+const BEHIND: [Found; 14] = [
     NOTHING,
     Found {
         components: 1,
@@ -253,7 +250,7 @@ fn step_at(place: u64) -> Result<Step, Fail> {
 }
 
 fn found_after(commands: u64) -> Result<Found, Fail> {
-    let found = FOUND.get(commands as usize).copied();
+    let found = BEHIND.get(commands as usize).copied();
     Ok(found.ok_or("the script is over")?)
 }
 
@@ -279,20 +276,15 @@ fn whole(did: u32, said: Option<Said>) -> Result<Option<Metadata>, Fail> {
 }
 
 // The records from which a.img and b.img would say this, as far as they are registered.
-fn must_view<S: Alter, H: Shelf>(
-    alloc: Global,
-    bench: &mut Bench<S, H>,
-    found: Found,
-) -> Result<(), Fail> {
-    let state = try_view(alloc, bench)?;
+fn must_record(state: &State, found: Found) -> Result<(), Fail> {
     let count = found.components;
     must(state.components().len() == count, "other components")?;
     must(state.mirrors().len() == count.min(1), "other mirrors")?;
     let first = if count > 0 { found.first } else { None };
-    let of_first = metadata_of(&state, label("a.img")?);
+    let of_first = metadata_of(state, label("a.img")?);
     must(of_first == whole(1, first)?, "another first component")?;
     let second = if count > 1 { found.second } else { None };
-    let of_second = metadata_of(&state, label("b.img")?);
+    let of_second = metadata_of(state, label("b.img")?);
     must(of_second == whole(2, second)?, "another second component")
 }
 
@@ -312,7 +304,7 @@ fn must_be_after<S: Alter, H: Shelf>(
     commands: u64,
 ) -> Result<(), Fail> {
     let found = found_after(commands)?;
-    must_view(alloc, bench, found)?;
+    must_record(&try_view(alloc, bench)?, found)?;
     must_have_last(bench, found)?;
     for number in 1..=commands {
         let place = number.saturating_sub(1);
@@ -362,7 +354,7 @@ pub(super) struct Played {
 }
 
 // The next call of the script, and whether it accepted a command.
-fn step<S: Alter, H: Shelf>(
+fn next_call<S: Alter, H: Shelf>(
     alloc: Global,
     bench: &mut Bench<S, H>,
     done: u64,
@@ -395,7 +387,7 @@ pub(super) fn play<S: Alter, H: Shelf>(
 ) -> Result<Played, Fail> {
     let mut done = before;
     for _ in 0..calls {
-        match step(alloc, bench, done)? {
+        match next_call(alloc, bench, done)? {
             Ok(accepted) => done = done.saturating_add(u64::from(accepted)),
             Err(fault) => {
                 let fault = Some(fault);
@@ -440,14 +432,9 @@ fn closes_after<S: Alter + Drop, H: Shelf + Drop>(
     shelf: H,
     calls: u64,
 ) -> Result<(), Fail> {
-    let mut bench = open(alloc, store, shelf)?;
-    let played = play(alloc, &mut bench, 0, calls)?;
-    must(played.fault.is_none(), "a fault")?;
-    must(
-        played.done == calls.div_ceil(3),
-        "another count of commands",
-    )?;
-    let (store, shelf) = bench.close();
+    let (played, store, shelf) = plays(alloc, store, shelf, calls, false)?;
+    let well = played.fault.is_none() && played.done == calls.div_ceil(3);
+    must(well, "another count of commands")?;
     let redone = check(alloc, store, shelf, played)?;
     must(
         redone == pending_after(calls)?,

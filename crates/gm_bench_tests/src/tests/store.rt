@@ -2,13 +2,13 @@
 //! is found when both media are opened again.
 
 use super::faults::must_be_closed;
-use super::stops::{COMMANDS, Played, must_go_on, play};
+use super::stops::{Played, must_go_on, play};
 use crate::support::{must_keep_data, try_open};
 use gm_bench::{Bench, BenchFault};
 use gm_shelf::{MemShelf, Shelf};
 use gm_test_media::{ALL, Calls, StoreBytes, must, shelf};
 use sqlite::{Alter, Connection, Files, Options};
-use sqlite_disk::{Crash, Disk};
+use sqlite_disk::{Crash, Disk, Fuse, Memory};
 use std::alloc::Global;
 use std::test::Fail;
 
@@ -137,9 +137,7 @@ struct Outcome {
 }
 
 // A crash loses of both media what isn't synced.
-fn run_for(alloc: Global, from: &Media, calls: Calls, job: Job) -> Result<Outcome, Fail> {
-    let shelf = from.shelf.crash_image(&[])?;
-    let left = perform_on_files(alloc, from.store.files(alloc, calls)?, shelf, job)?;
+fn outcome_of(alloc: Global, left: Left<Fuse<Memory>, MemShelf>) -> Result<Outcome, Fail> {
     let Left {
         told,
         stopped,
@@ -163,6 +161,12 @@ fn run_for(alloc: Global, from: &Media, calls: Calls, job: Job) -> Result<Outcom
         read,
         crashed,
     })
+}
+
+fn run_for(alloc: Global, from: &Media, calls: Calls, job: Job) -> Result<Outcome, Fail> {
+    let shelf = from.shelf.crash_image(&[])?;
+    let files = from.store.files(alloc, calls)?;
+    outcome_of(alloc, perform_on_files(alloc, files, shelf, job)?)
 }
 
 // What a job leaves over files that don't stop.
@@ -226,20 +230,40 @@ fn stop_at_each(alloc: Global, from: &Media, job: Job) -> Result<(), Fail> {
     must(log_ended && db_ended, "no run ended")
 }
 
-// The commands of the script, each from the opening of the files to their close. The second insert
-// is as the first.
-#[test]
-fn a_stop_within_each_command(rt: HostRuntime) -> Result<(), Fail> {
-    let alloc = rt.alloc();
+// The commands of the script from one place up to another, each from the opening of the files to
+// their close.
+fn stop_commands(alloc: Global, first: u64, end: u64) -> Result<(), Fail> {
     let mut media = fresh(alloc)?;
-    for before in 0..COMMANDS {
+    for before in 0..end {
         let job = Job::Play { before, calls: 3 };
-        if before != 8 {
+        if before >= first {
             stop_at_each(alloc, &media, job)?;
         }
         media = run(alloc, &media, job)?;
     }
     Ok(())
+}
+
+#[test]
+fn a_stop_within_a_label_or_an_insert(rt: HostRuntime) -> Result<(), Fail> {
+    stop_commands(rt.alloc(), 0, 2)
+}
+
+// A deactivate, an activate and a rebuild.
+#[test]
+fn a_stop_within_a_change_of_state(rt: HostRuntime) -> Result<(), Fail> {
+    stop_commands(rt.alloc(), 2, 5)
+}
+
+#[test]
+fn a_stop_within_an_advance_a_configure_or_a_remove(rt: HostRuntime) -> Result<(), Fail> {
+    stop_commands(rt.alloc(), 5, 8)
+}
+
+// A loss, a forget, a clear and a destroy, behind an insert as the first.
+#[test]
+fn a_stop_within_the_end_of_a_mirror(rt: HostRuntime) -> Result<(), Fail> {
+    stop_commands(rt.alloc(), 9, 13)
 }
 
 // The opening carries out an insert that was accepted.

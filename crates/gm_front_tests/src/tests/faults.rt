@@ -2,8 +2,8 @@
 
 use super::writers::wide;
 use super::{
-    DESTROY, DONE, INSERT, LABEL, NO_MIRRORS, REFUSED, REMOVE, Told, answers, open, shows, tell,
-    try_batch, try_status,
+    DESTROY, DONE, INSERT, LABEL, NO_MIRRORS, REFUSED, REMOVE, Told, answers, answers_some, open,
+    shows, tell, try_batch, try_status,
 };
 use gm_bench::{Bench, BenchFault};
 use gm_front::{BatchEnd, FrontFault};
@@ -128,16 +128,13 @@ const LATER_LEFT: usize = 9;
 
 // A bench that has failed says so at the first command, whatever its key is, and not before.
 fn is_closed<S: Alter, H: Shelf>(alloc: Global, bench: &mut Bench<S, H>) -> Result<(), Fail> {
-    let closed = Ok(BatchEnd::Stopped(BenchFault::Closed));
+    let closed = BatchEnd::Stopped(BenchFault::Closed);
     for _ in 0..2 {
-        let told = tell(alloc, bench, LATER.as_bytes())?;
         let expected = "? refused 1\nk8 refused 1\nk9 fault 4\n";
-        must(told.text.as_slice() == expected.as_bytes(), "another text")?;
-        must(told.end == closed && told.left == LATER_LEFT, "another end")?;
+        answers_some(alloc, bench, LATER.as_bytes(), expected, closed, LATER_LEFT)?;
     }
-    let told = tell(alloc, bench, b"k/9 clear c.img".as_slice())?;
-    must(told.text.as_slice() == b"? fault 4\n".as_slice(), "a key")?;
-    must(told.end == closed, "another end")?;
+    let line = b"k/9 clear c.img".as_slice();
+    answers(alloc, bench, line, "? fault 4\n", closed)?;
     let status = try_status(alloc, bench)?;
     must(status.err() == Some(BenchFault::Closed), "viewed")?;
     answers(alloc, bench, b"\n".as_slice(), "", DONE)?;

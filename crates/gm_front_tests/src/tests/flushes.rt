@@ -86,12 +86,16 @@ fn is_flushed<S: Alter + Drop, H: Shelf + Drop>(
 fn an_answer_is_flushed_before_the_next_line_is_read(rt: HostRuntime) -> Result<(), Fail> {
     let alloc = rt.alloc();
     let mut lines = Vec::new(alloc);
-    lines.extend_from_slice(b"\n")?;
-    lines.extend_from_slice(LABEL.as_bytes())?;
-    lines.extend_from_slice(b"   \n")?;
-    lines.extend_from_slice(LABEL.as_bytes())?;
-    lines.extend_from_slice(b"k/1\n")?;
-    lines.extend_from_slice(&[b'x'; 1025])?;
-    lines.extend_from_slice(b"\nk2 insert --did 2 gm0 b.img")?;
+    for piece in [
+        b"\n".as_slice(),
+        LABEL.as_bytes(),
+        b"   \n",
+        LABEL.as_bytes(),
+        b"k/1\n",
+        &[b'x'; 1025],
+        b"\nk2 insert --did 2 gm0 b.img",
+    ] {
+        lines.extend_from_slice(piece)?;
+    }
     is_flushed(alloc, memory(alloc)?, shelf(alloc)?, lines.as_slice())
 }

@@ -61,22 +61,26 @@ fn changed(before: &State, after: &State) -> usize {
     count
 }
 
-// The third component of the sixth mirror is filled: its record says so, and no other changes.
+// Only the third component of the sixth mirror stands otherwise in the second: it is in sync.
+fn differ_in_one(before: &State, after: &State) -> Result<(), Fail> {
+    must(before.mirrors().len() == 64, "other mirrors")?;
+    must(before.components().len() == 1024, "other components")?;
+    must(after.mirrors() == before.mirrors(), "another mirror")?;
+    must(after.components().len() == 1024, "another component")?;
+    must(changed(before, after) == 1, "other records")?;
+    let filled = after.component(label("p82")?).ok_or("no component")?;
+    must(filled.disk == Disk::InSync, "not in sync")
+}
+
+// One component is filled: its record says so, and no other changes.
 fn changes_one_record<S: Alter, H: Shelf>(
     alloc: Global,
     bench: &mut Bench<S, H>,
 ) -> Result<(), Fail> {
     let before = view(alloc, bench)?;
-    must(before.mirrors().len() == 64, "other mirrors")?;
-    must(before.components().len() == 1024, "other components")?;
     let line = b"k1025 advance m5 p82".as_slice();
     answers(alloc, bench, line, "k1025 ok 1025 copied 1 of 1\n", DONE)?;
-    let after = view(alloc, bench)?;
-    must(after.mirrors() == before.mirrors(), "another mirror")?;
-    must(after.components().len() == 1024, "another component")?;
-    must(changed(&before, &after) == 1, "other records")?;
-    let filled = after.component(label("p82")?).ok_or("no component")?;
-    must(filled.disk == Disk::InSync, "not in sync")
+    differ_in_one(&before, &view(alloc, bench)?)
 }
 
 // What one mirror or one component more is answered.
@@ -88,15 +92,19 @@ const MORE_TOLD: &str = "k1026 refused 15
 k1026 refused 14
 ";
 
+fn fills<S: Alter, H: Shelf>(alloc: Global, bench: &mut Bench<S, H>) -> Result<(), Fail> {
+    let (input, expected) = lines(alloc)?;
+    let told = tell(alloc, bench, input.as_bytes())?;
+    must(told.text.as_slice() == expected.as_bytes(), "another text")
+}
+
 fn are_full<S: Alter + Drop, H: Shelf + Drop>(
     alloc: Global,
     store: Connection<S>,
     shelf: H,
 ) -> Result<(), Fail> {
     let mut bench = open(alloc, store, shelf)?;
-    let (input, expected) = lines(alloc)?;
-    let told = tell(alloc, &mut bench, input.as_bytes())?;
-    must(told.text.as_slice() == expected.as_bytes(), "another text")?;
+    fills(alloc, &mut bench)?;
     changes_one_record(alloc, &mut bench)?;
     answers(alloc, &mut bench, MORE.as_bytes(), MORE_TOLD, REFUSED)
 }

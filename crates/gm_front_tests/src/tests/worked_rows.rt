@@ -1,8 +1,8 @@
 //! Rows of commands as the lines of batches: what each line is answered, and what is found behind
 //! the last one, in the registry and on the images. The values are worked out by hand.
 
-use super::{DONE, NO_MIRRORS, OF_ONE, REFUSED, open, tell, try_status};
-use gm_bench::taste_shelf;
+use super::{DONE, NO_MIRRORS, OF_ONE, REFUSED, open, shows, tell};
+use gm_bench::{Bench, taste_shelf};
 use gm_front::BatchEnd;
 use gm_metadata::{Balance, DiskFlags, Metadata, MirrorFlags, decode, encode};
 use gm_shelf::{MemShelf, Shelf};
@@ -265,7 +265,7 @@ const LOST_TASTED: &str = "gm0             mid 7 genid 1 syncid 1
 ";
 
 // A row without lines.
-const ROW: Row = Row {
+const LINELESS: Row = Row {
     shows: "no line",
     images: &[A, B],
     has_long_line: false,
@@ -282,7 +282,7 @@ const ROWS: [Row; 24] = [
         lines: &[LABEL],
         status: OF_ONE,
         says: &[A_OF_ONE, B_BARE],
-        ..ROW
+        ..LINELESS
     },
     Row {
         shows: "a label once more",
@@ -304,7 +304,7 @@ const ROWS: [Row; 24] = [
         end: REFUSED,
         status: OF_ONE,
         says: &[A_OF_ONE, B_BARE],
-        ..ROW
+        ..LINELESS
     },
     Row {
         shows: "a label of two sectors",
@@ -317,7 +317,7 @@ const ROWS: [Row; 24] = [
         says: &[
             "c.img: did 1 of 1, genid 0, syncid 1, flags 0, offset 0, 512 of 1024 bytes, plain\n",
         ],
-        ..ROW
+        ..LINELESS
     },
     Row {
         shows: "a label of one sector",
@@ -328,21 +328,21 @@ const ROWS: [Row; 24] = [
         }],
         end: REFUSED,
         says: &["c.img: fault 1, plain\n"],
-        ..ROW
+        ..LINELESS
     },
     Row {
         shows: "an insert",
         lines: &[LABEL, INSERT],
         status: FILLING,
         says: &[A_OF_TWO, B_FILLING],
-        ..ROW
+        ..LINELESS
     },
     Row {
         shows: "an advance to the end",
         lines: &[LABEL, INSERT, FILL],
         status: OF_TWO,
         says: &[A_OF_TWO, B_IN_SYNC],
-        ..ROW
+        ..LINELESS
     },
     Row {
         shows: "the first of two stretches",
@@ -353,7 +353,7 @@ const ROWS: [Row; 24] = [
             LONG_A_OF_TWO,
             "b.img: did 2 of 2, genid 0, syncid 1, flags 2, offset 131072, 131584 of 132096 bytes, other\n",
         ],
-        ..ROW
+        ..LINELESS
     },
     Row {
         shows: "two stretches",
@@ -372,7 +372,7 @@ const ROWS: [Row; 24] = [
             LONG_A_OF_TWO,
             "b.img: did 2 of 2, genid 0, syncid 1, flags 0, offset 0, 131584 of 132096 bytes, plain\n",
         ],
-        ..ROW
+        ..LINELESS
     },
     Row {
         shows: "the last one in use",
@@ -386,7 +386,7 @@ const ROWS: [Row; 24] = [
         end: REFUSED,
         status: OF_ONE,
         says: &[A_OF_ONE, B_BARE],
-        ..ROW
+        ..LINELESS
     },
     Row {
         shows: "a deactivate",
@@ -396,7 +396,7 @@ const ROWS: [Row; 24] = [
             "a.img: did 1 of 2, genid 0, syncid 2, flags 0, offset 0, 1536 of 2048 bytes, plain\n",
             "b.img: did 2 of 2, genid 0, syncid 1, flags 8, offset 0, 1536 of 2048 bytes, plain\n",
         ],
-        ..ROW
+        ..LINELESS
     },
     Row {
         shows: "an activate",
@@ -415,7 +415,7 @@ const ROWS: [Row; 24] = [
             "a.img: did 1 of 2, genid 0, syncid 2, flags 0, offset 0, 1536 of 2048 bytes, plain\n",
             "b.img: did 2 of 2, genid 0, syncid 2, flags 2, offset 0, 1536 of 2048 bytes, plain\n",
         ],
-        ..ROW
+        ..LINELESS
     },
     Row {
         shows: "a stale one",
@@ -431,7 +431,7 @@ const ROWS: [Row; 24] = [
         end: REFUSED,
         status: "gm0             DEGRADED 1/2\n  a.img           ACTIVE\n  b.img           STALE 0 of 3\n",
         says: &[A_OF_TWO, B_FILLING],
-        ..ROW
+        ..LINELESS
     },
     Row {
         shows: "a rebuild",
@@ -449,7 +449,7 @@ const ROWS: [Row; 24] = [
             A_OF_TWO,
             "b.img: did 2 of 2, genid 0, syncid 1, flags 6, offset 0, 1536 of 2048 bytes, other\n",
         ],
-        ..ROW
+        ..LINELESS
     },
     Row {
         shows: "a rebuild to its end",
@@ -468,14 +468,14 @@ const ROWS: [Row; 24] = [
         ],
         status: OF_TWO,
         says: &[A_OF_TWO, B_IN_SYNC],
-        ..ROW
+        ..LINELESS
     },
     Row {
         shows: "a loss",
         lines: &[LABEL, INSERT, FILL, LOSE],
         status: WITHOUT_B,
         says: &[A_AFTER_LOSS, B_IN_SYNC],
-        ..ROW
+        ..LINELESS
     },
     Row {
         shows: "a loss that is forgotten",
@@ -499,7 +499,7 @@ const ROWS: [Row; 24] = [
         status: OF_ONE,
         says: &[A_ALONE, B_IN_SYNC],
         tasted: Some(LOST_TASTED),
-        ..ROW
+        ..LINELESS
     },
     Row {
         shows: "a lost one that is cleared",
@@ -535,9 +535,9 @@ const ROWS: [Row; 24] = [
             "b.img: did 2 of 2, genid 1, syncid 1, flags 2, offset 0, 1536 of 2048 bytes, plain\n",
             "d.img: fault 1, other\n",
         ],
-        ..ROW
+        ..LINELESS
     },
-    ROW,
+    LINELESS,
     Row {
         shows: "lines that are no commands",
         has_long_line: true,
@@ -556,7 +556,7 @@ const ROWS: [Row; 24] = [
             },
         ],
         end: REFUSED,
-        ..ROW
+        ..LINELESS
     },
     Row {
         shows: "an adoption of equal images",
@@ -577,7 +577,7 @@ const ROWS: [Row; 24] = [
             "a.img: did 1 of 2, genid 0, syncid 4294967295, flags 0, offset 0, 1536 of 2048 bytes, plain\n",
             "b.img: did 2 of 2, genid 0, syncid 4294967295, flags 0, offset 0, 1536 of 2048 bytes, plain\n",
         ],
-        ..ROW
+        ..LINELESS
     },
     Row {
         shows: "an adoption of unequal images",
@@ -595,7 +595,7 @@ const ROWS: [Row; 24] = [
         end: REFUSED,
         status: FILLING,
         says: &[A_OF_TWO, B_FILLING],
-        ..ROW
+        ..LINELESS
     },
     Row {
         shows: "an adoption without the lost one",
@@ -606,7 +606,7 @@ const ROWS: [Row; 24] = [
         }],
         status: WITHOUT_B,
         says: &[A_AFTER_LOSS, B_IN_SYNC],
-        ..ROW
+        ..LINELESS
     },
     Row {
         shows: "an adoption with the lost one",
@@ -617,7 +617,7 @@ const ROWS: [Row; 24] = [
         }],
         end: REFUSED,
         says: &[A_AFTER_LOSS, B_IN_SYNC],
-        ..ROW
+        ..LINELESS
     },
     Row {
         shows: "an adoption of one image twice",
@@ -628,7 +628,7 @@ const ROWS: [Row; 24] = [
         }],
         end: REFUSED,
         says: &[A_AFTER_LOSS, B_IN_SYNC],
-        ..ROW
+        ..LINELESS
     },
 ];
 
@@ -768,6 +768,18 @@ fn tell_of_themselves<H: Shelf>(alloc: Global, shelf: &mut H, row: &Row) -> Resu
     Ok(())
 }
 
+fn hands_in<S: Alter, H: Shelf>(
+    alloc: Global,
+    bench: &mut Bench<S, H>,
+    row: &Row,
+) -> Result<(), Fail> {
+    let (input, answers) = input_and_answers(alloc, row)?;
+    let told = tell(alloc, bench, input.as_slice())?;
+    let is_told = told.text.as_slice() == answers.as_bytes();
+    let is_over = told.end == Ok(row.end) && told.left == 0;
+    must(is_told && is_over, row.shows)
+}
+
 fn is_answered<S: Alter + Drop, H: Shelf + Drop>(
     alloc: Global,
     store: Connection<S>,
@@ -775,12 +787,8 @@ fn is_answered<S: Alter + Drop, H: Shelf + Drop>(
     row: &Row,
 ) -> Result<(), Fail> {
     let mut bench = open(alloc, store, shelf)?;
-    let (input, answers) = input_and_answers(alloc, row)?;
-    let told = tell(alloc, &mut bench, input.as_slice())?;
-    must(told.text.as_slice() == answers.as_bytes(), row.shows)?;
-    must(told.end == Ok(row.end) && told.left == 0, row.shows)?;
-    let status = try_status(alloc, &mut bench)??;
-    must(status.as_str() == row.status, row.shows)?;
+    hands_in(alloc, &mut bench, row)?;
+    shows(alloc, &mut bench, row.status)?;
     let (_, mut shelf) = bench.close();
     tell_of_themselves(alloc, &mut shelf, row)
 }

@@ -59,6 +59,14 @@ INSERT INTO components VALUES ('a{mid}', 'm{mid}', 1, 1, 0, 0, 0, 0, 2048), ('b{
     Ok(())
 }
 
+// What may take few steps is a part, and no loading.
+fn is_limited<S: Alter>(alloc: Global, registry: &mut Registry<S>) -> Result<(), Fail> {
+    let read = part(alloc, registry, &clears("c117")?, &[])?;
+    must(has(&read, 1, 4, 42), "another part")?;
+    let all = load(alloc, registry);
+    must(all.err() == Some(StoreFault::Store), "no limit")
+}
+
 // A statement may take fewer steps than there are components, and more than there are mirrors.
 fn goes_by_keys<S: Alter + Drop>(alloc: Global, store: Connection<S>) -> Result<(), Fail> {
     let mut store = two_mirrors(alloc, store)?.close();
@@ -66,10 +74,7 @@ fn goes_by_keys<S: Alter + Drop>(alloc: Global, store: Connection<S>) -> Result<
     must_count(&mut store, 162, "SELECT count(*) FROM components")?;
     store.set_step_limit(Some(120));
     let mut registry = open(store)?;
-    let read = part(alloc, &mut registry, &clears("c117")?, &[])?;
-    must(has(&read, 1, 4, 42), "another part")?;
-    let all = load(alloc, &mut registry);
-    must(all.err() == Some(StoreFault::Store), "no limit")
+    is_limited(alloc, &mut registry)
 }
 
 #[test]
@@ -85,18 +90,24 @@ fn priority<S: Alter>(alloc: Global, registry: &mut Registry<S>) -> Result<u8, F
     Ok(component.ok_or("no component")?.priority)
 }
 
-// Somebody else sets a component of gm9; then gm0 gets another one.
-fn stays_as_it_was_set<S: Alter + Drop>(alloc: Global, store: Connection<S>) -> Result<(), Fail> {
-    let mut registry = two_mirrors(alloc, store)?;
-    must(priority(alloc, &mut registry)? == 5, "another priority")?;
+// Somebody else sets a component of gm9.
+fn set<S: Alter + Drop>(registry: Registry<S>) -> Result<Registry<S>, Fail> {
     let mut store = registry.close();
     run(
         &mut store,
         "UPDATE components SET priority = 77 WHERE prov = 'z.img'",
     )?;
-    let mut registry = open(store)?;
+    Ok(open(store)?)
+}
+
+// Then gm0 gets another one.
+fn stays_as_it_was_set<S: Alter + Drop>(alloc: Global, store: Connection<S>) -> Result<(), Fail> {
+    let mut registry = two_mirrors(alloc, store)?;
+    let before = priority(alloc, &mut registry)?;
+    registry = set(registry)?;
     accept(&mut registry, &inserts(alloc)?, "k2", "insert gm0 b.img")?;
-    must(priority(alloc, &mut registry)? == 77, "another priority")?;
+    let after = priority(alloc, &mut registry)?;
+    must(before == 5 && after == 77, "another priority")?;
     must_count(
         &mut registry.close(),
         1,

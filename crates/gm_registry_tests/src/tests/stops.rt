@@ -241,17 +241,22 @@ fn check(alloc: Global, left: &StoreBytes, before: u64, reached: Reached) -> Res
     is_between(found, before, reached)
 }
 
+// The command behind so many, and its key.
+fn command_after(alloc: Global, before: u64) -> Result<(Change, &'static str), Fail> {
+    match before {
+        0 => Ok((labels(alloc)?, "k1")),
+        _ => Ok((inserts(alloc)?, "k2")),
+    }
+}
+
 // One run with a stop, and whether it came; the files are checked as they read and as a crash
 // leaves them.
 fn stop_at(alloc: Global, from: &StoreBytes, before: u64, calls: Calls) -> Result<bool, Fail> {
-    let (change, key) = if before == 0 {
-        (labels(alloc)?, "k1")
-    } else {
-        (inserts(alloc)?, "k2")
-    };
+    let (change, key) = command_after(alloc, before)?;
     let run = run_for(alloc, from, calls, &change, key)?;
-    check(alloc, &run.read, before, run.reached)?;
-    check(alloc, &run.crashed, before, run.reached)?;
+    for left in [&run.read, &run.crashed] {
+        check(alloc, left, before, run.reached)?;
+    }
     Ok(run.stopped)
 }
 
@@ -282,10 +287,12 @@ pub(super) fn one_command(alloc: Global) -> Result<StoreBytes, Fail> {
     Ok(run.read)
 }
 
-// While a registry is made, and at a command of one that was made.
 #[test]
-fn a_stop_leaves_what_was_before_or_what_comes_after(rt: HostRuntime) -> Result<(), Fail> {
-    let alloc = rt.alloc();
-    stop_at_each(alloc, &StoreBytes::new(alloc), 0)?;
-    stop_at_each(alloc, &one_command(alloc)?, 1)
+fn a_stop_while_a_registry_is_made(rt: HostRuntime) -> Result<(), Fail> {
+    stop_at_each(rt.alloc(), &StoreBytes::new(rt.alloc()), 0)
+}
+
+#[test]
+fn a_stop_within_a_command(rt: HostRuntime) -> Result<(), Fail> {
+    stop_at_each(rt.alloc(), &one_command(rt.alloc())?, 1)
 }
