@@ -209,24 +209,28 @@ fn a_shelf_that_stops_ends_a_batch(rt: HostRuntime) -> Result<(), Fail> {
 }
 
 // A fault that can't be told is one of the output; the bench has failed all the same.
-fn isnt_told<S: Alter + Drop, H: Shelf + Drop>(
+fn isnt_told<S: Alter, H: Shelf>(alloc: Global, bench: &mut Bench<S, H>) -> Result<(), Fail> {
+    let mut output = wide(alloc);
+    output.room = 12;
+    let lines = script(alloc, None)?;
+    let mut input = lines.as_bytes();
+    let end = try_batch(alloc, &mut input, &mut output, bench)?;
+    let is_told = end == Err(FrontFault::Write) && output.room == 0;
+    must(is_told, "another end, or the first line wasn't told")
+}
+
+fn opens_and_isnt_told<S: Alter + Drop, H: Shelf + Drop>(
     alloc: Global,
     store: Connection<S>,
     shelf: H,
 ) -> Result<(), Fail> {
     let mut bench = open(alloc, store, shelf)?;
-    let mut output = wide(alloc);
-    output.room = 12;
-    let lines = script(alloc, None)?;
-    let mut input = lines.as_bytes();
-    let end = try_batch(alloc, &mut input, &mut output, &mut bench)?;
-    must(end == Err(FrontFault::Write), "another end")?;
-    must(output.room == 0, "the first line wasn't told")?;
+    isnt_told(alloc, &mut bench)?;
     is_closed(alloc, &mut bench)
 }
 
 #[test]
 fn a_fault_that_cant_be_told_is_one_of_the_output(rt: HostRuntime) -> Result<(), Fail> {
     let stopping = FaultShelf::stop_from(shelf(rt.alloc())?, 1);
-    isnt_told(rt.alloc(), memory(rt.alloc())?, stopping)
+    opens_and_isnt_told(rt.alloc(), memory(rt.alloc())?, stopping)
 }

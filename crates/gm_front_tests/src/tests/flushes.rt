@@ -1,6 +1,7 @@
 //! Each answer is flushed before the next line is read.
 
 use super::{LABEL, REFUSED, open, try_batch};
+use gm_bench::Bench;
 use gm_shelf::Shelf;
 use gm_test_media::{memory, must, shelf};
 use sqlite::{Alter, Connection};
@@ -58,13 +59,11 @@ impl<'a> Read for Watching<'a> {
 // of one number have 8 and 14 bytes, and a refusal of `?` with one digit has 12.
 const FLUSHED: [usize; 8] = [0, 0, 8, 8, 22, 34, 46, 54];
 
-fn is_flushed<S: Alter + Drop, H: Shelf + Drop>(
+fn is_flushed<S: Alter, H: Shelf>(
     alloc: Global,
-    store: Connection<S>,
-    shelf: H,
+    bench: &mut Bench<S, H>,
     lines: &[u8],
 ) -> Result<(), Fail> {
-    let mut bench = open(alloc, store, shelf)?;
     let flushed = Cell::new(0usize);
     let mut output = Counted {
         written: 0,
@@ -76,10 +75,20 @@ fn is_flushed<S: Alter + Drop, H: Shelf + Drop>(
         flushed: &flushed,
         seen: Vec::new(alloc),
     };
-    let end = try_batch(alloc, &mut input, &mut output, &mut bench)?;
+    let end = try_batch(alloc, &mut input, &mut output, bench)?;
     must(end == Ok(REFUSED), "another end")?;
     must(input.seen.as_slice() == FLUSHED.as_slice(), "not flushed")?;
     must(flushed.get() == 54, "another length")
+}
+
+fn opens_and_is_flushed<S: Alter + Drop, H: Shelf + Drop>(
+    alloc: Global,
+    store: Connection<S>,
+    shelf: H,
+    lines: &[u8],
+) -> Result<(), Fail> {
+    let mut bench = open(alloc, store, shelf)?;
+    is_flushed(alloc, &mut bench, lines)
 }
 
 #[test]
@@ -97,5 +106,5 @@ fn an_answer_is_flushed_before_the_next_line_is_read(rt: HostRuntime) -> Result<
     ] {
         lines.extend_from_slice(piece)?;
     }
-    is_flushed(alloc, memory(alloc)?, shelf(alloc)?, lines.as_slice())
+    opens_and_is_flushed(alloc, memory(alloc)?, shelf(alloc)?, lines.as_slice())
 }

@@ -1,6 +1,7 @@
 //! Inputs that come slowly, and inputs that fail.
 
 use super::{DONE, INSERT, LABEL, REMOVE, answers, open, try_batch};
+use gm_bench::Bench;
 use gm_front::{BatchEnd, FrontFault};
 use gm_shelf::Shelf;
 use gm_test_media::{memory, must, shelf};
@@ -60,19 +61,28 @@ fn failing(lines: &[u8], passing: usize) -> Slow<'_> {
 
 // A batch of such an input, which is to be told this and to end so; what is asked next of the same
 // bench is answered so.
-fn takes<S: Alter + Drop, H: Shelf + Drop>(
+fn takes<S: Alter, H: Shelf>(
     alloc: Global,
-    store: Connection<S>,
-    shelf: H,
+    bench: &mut Bench<S, H>,
     mut input: Slow<'_>,
     expected: Expected<'_>,
 ) -> Result<(), Fail> {
-    let mut bench = open(alloc, store, shelf)?;
     let mut text = Vec::new(alloc);
-    let ended = try_batch(alloc, &mut input, &mut text, &mut bench)?;
+    let ended = try_batch(alloc, &mut input, &mut text, bench)?;
     must(text.as_slice() == expected.told, "another text")?;
     must(ended == expected.end, "another end")?;
-    answers(alloc, &mut bench, expected.next, expected.answers, DONE)
+    answers(alloc, bench, expected.next, expected.answers, DONE)
+}
+
+fn opens_and_takes<S: Alter + Drop, H: Shelf + Drop>(
+    alloc: Global,
+    store: Connection<S>,
+    shelf: H,
+    input: Slow<'_>,
+    expected: Expected<'_>,
+) -> Result<(), Fail> {
+    let mut bench = open(alloc, store, shelf)?;
+    takes(alloc, &mut bench, input, expected)
 }
 
 const TOLD: &str = "k1 ok 1\nk2 ok 2\nk3 ok 3\n";
@@ -107,7 +117,7 @@ fn what_was_answered_before_an_input_failed_stays(rt: HostRuntime) -> Result<(),
     for passing in 0..=lines.len() {
         let input = failing(lines, passing);
         let expected = fails_behind(lines, passing)?;
-        takes(alloc, memory(alloc)?, shelf(alloc)?, input, expected)?;
+        opens_and_takes(alloc, memory(alloc)?, shelf(alloc)?, input, expected)?;
     }
     Ok(())
 }
@@ -127,7 +137,7 @@ fn a_line_is_answered_once_its_end_is_found(rt: HostRuntime) -> Result<(), Fail>
         next: lines.as_bytes(),
         answers: told_after(3),
     };
-    takes(alloc, memory(alloc)?, shelf(alloc)?, slow, whole)?;
+    opens_and_takes(alloc, memory(alloc)?, shelf(alloc)?, slow, whole)?;
     let long = [b'x'; 1030];
     let nothing = Expected {
         told: &[],
@@ -137,7 +147,7 @@ fn a_line_is_answered_once_its_end_is_found(rt: HostRuntime) -> Result<(), Fail>
     };
     for passing in [0usize, 1, 1024, 1025, 1026] {
         let input = failing(&long, passing);
-        takes(alloc, memory(alloc)?, shelf(alloc)?, input, nothing)?;
+        opens_and_takes(alloc, memory(alloc)?, shelf(alloc)?, input, nothing)?;
     }
     Ok(())
 }

@@ -1,6 +1,7 @@
 //! Outputs that take little at a time, and outputs that fail.
 
 use super::{DONE, INSERT, LABEL, answers, open, try_batch};
+use gm_bench::Bench;
 use gm_front::{BatchEnd, FrontFault};
 use gm_shelf::Shelf;
 use gm_test_media::{memory, must, shelf};
@@ -79,7 +80,22 @@ struct Expected<'a> {
     again: &'static str,
 }
 
-fn tells<S: Alter + Drop, H: Shelf + Drop>(
+fn tells<S: Alter, H: Shelf>(
+    alloc: Global,
+    bench: &mut Bench<S, H>,
+    output: &mut Narrow,
+    expected: Expected<'_>,
+) -> Result<(), Fail> {
+    let lines = format!(in alloc; "{LABEL}{INSERT}")?;
+    let mut input = lines.as_bytes();
+    let ended = try_batch(alloc, &mut input, output, bench)?;
+    must(output.text.as_slice() == expected.told, "another text")?;
+    let is_over = ended == expected.end && input == expected.left.as_bytes();
+    must(is_over, "another end or rest")?;
+    answers(alloc, bench, lines.as_bytes(), expected.again, DONE)
+}
+
+fn opens_and_tells<S: Alter + Drop, H: Shelf + Drop>(
     alloc: Global,
     store: Connection<S>,
     shelf: H,
@@ -87,14 +103,7 @@ fn tells<S: Alter + Drop, H: Shelf + Drop>(
     expected: Expected<'_>,
 ) -> Result<(), Fail> {
     let mut bench = open(alloc, store, shelf)?;
-    let lines = format!(in alloc; "{LABEL}{INSERT}")?;
-    let mut input = lines.as_bytes();
-    let ended = try_batch(alloc, &mut input, output, &mut bench)?;
-    must(output.text.as_slice() == expected.told, "another text")?;
-    must(ended == expected.end, "another end")?;
-    must(input == expected.left.as_bytes(), "another rest")?;
-    let lines = lines.as_bytes();
-    answers(alloc, &mut bench, lines, expected.again, DONE)
+    tells(alloc, &mut bench, output, expected)
 }
 
 // What is expected of an output that fails behind so many bytes of the answers: each has eight, and
@@ -127,7 +136,7 @@ fn what_an_output_has_no_room_for_was_done(rt: HostRuntime) -> Result<(), Fail> 
             ..wide(alloc)
         };
         let expected = fails_behind(room, room)?;
-        tells(alloc, memory(alloc)?, shelf(alloc)?, &mut output, expected)?;
+        opens_and_tells(alloc, memory(alloc)?, shelf(alloc)?, &mut output, expected)?;
     }
     Ok(())
 }
@@ -146,7 +155,7 @@ fn an_output_may_be_narrow_and_interrupted(rt: HostRuntime) -> Result<(), Fail> 
             end: Ok(DONE),
             ..fails_behind(16, 16)?
         };
-        tells(alloc, memory(alloc)?, shelf(alloc)?, &mut output, expected)?;
+        opens_and_tells(alloc, memory(alloc)?, shelf(alloc)?, &mut output, expected)?;
     }
     Ok(())
 }
@@ -160,7 +169,7 @@ fn an_answer_that_cant_be_flushed_isnt_told(rt: HostRuntime) -> Result<(), Fail>
             ..wide(alloc)
         };
         let expected = fails_behind(flushes * 8 + 8, flushes * 8)?;
-        tells(alloc, memory(alloc)?, shelf(alloc)?, &mut output, expected)?;
+        opens_and_tells(alloc, memory(alloc)?, shelf(alloc)?, &mut output, expected)?;
     }
     Ok(())
 }
