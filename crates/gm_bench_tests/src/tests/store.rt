@@ -204,7 +204,8 @@ fn look(alloc: Global, left: &Media, done: u64) -> Result<u64, Fail> {
 // a job that is done leaves nothing to be carried out.
 fn stop_at(alloc: Global, from: &Media, calls: Calls, job: Job) -> Result<bool, Fail> {
     let run = run_for(alloc, from, calls, job)?;
-    let Played { done, fault } = run.told.played;
+    let told = run.told;
+    let Played { done, fault } = told.played;
     let well = fault.is_none();
     must(well || fault == Some(BenchFault::Store), "another fault")?;
     let mut redone = look(alloc, &run.read, done)?;
