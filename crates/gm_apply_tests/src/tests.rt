@@ -3,7 +3,6 @@
 
 mod comparing;
 mod copies;
-mod counting;
 
 use gm_apply::apply;
 use gm_metadata::{Balance, Label, MirrorFlags, decode, encode};

@@ -2,11 +2,12 @@
 //! to say. The expected values are worked out by hand.
 
 use gm_bench::{Answer, Bench, BenchFault, OpenFault, Phase};
-use gm_commands::{BalanceWord, Command, NewComponent, NewMirror, Providers, Settings, Slice};
+use gm_commands::Command;
 use gm_metadata::{Balance, DiskFlags, Label, Metadata, MirrorFlags, encode};
 use gm_shelf::Shelf;
 use gm_state::{Reply, State};
 use gm_test_media::{label, must, sector};
+use gm_words::read_words;
 use sqlite::{Alter, Connection};
 use std::alloc::Global;
 use std::test::Fail;
@@ -14,16 +15,6 @@ use std::test::Fail;
 pub const NO_FLAGS: MirrorFlags = MirrorFlags {
     no_autosync: false,
     no_failsync: false,
-};
-
-// Another balance, and nothing else.
-pub const SPLIT: Settings = Settings {
-    balance: Some(BalanceWord::Split),
-    slice: None,
-    autosync: None,
-    failsync: None,
-    hardcode: None,
-    preference: None,
 };
 
 pub const IN_SYNC: DiskFlags = DiskFlags {
@@ -54,104 +45,23 @@ pub const INACTIVE: DiskFlags = DiskFlags {
     inactive: true,
 };
 
-// Commands as the words say them that name nothing but these.
-pub fn labels(name: &str, provider: &str, mid: u32) -> Result<Command, Fail> {
-    Ok(Command::Label(NewMirror {
-        name: label(name)?,
-        provider: label(provider)?,
-        mid,
-        did: 1,
-        balance: BalanceWord::Load,
-        slice: Slice::new(4096).ok_or("no slice")?,
-        flags: NO_FLAGS,
-        hardcoded: false,
-    }))
+// A command, what it is answered, and whether it was.
+#[derive(Clone, Copy)]
+pub struct Asked {
+    pub key: &'static str,
+    pub words: &'static str,
+    pub number: u64,
+    pub reply: Reply,
+    pub was_done: bool,
 }
 
-pub fn inserts(name: &str, provider: &str, did: u32) -> Result<Command, Fail> {
-    Ok(Command::Insert(NewComponent {
-        name: label(name)?,
-        provider: label(provider)?,
-        did,
-        priority: 0,
-        hardcoded: false,
-    }))
-}
-
-pub fn removes(name: &str, provider: &str) -> Result<Command, Fail> {
-    Ok(Command::Remove {
-        name: label(name)?,
-        provider: label(provider)?,
-    })
-}
-
-pub fn deactivates(name: &str, provider: &str) -> Result<Command, Fail> {
-    Ok(Command::Deactivate {
-        name: label(name)?,
-        provider: label(provider)?,
-    })
-}
-
-pub fn activates(name: &str, provider: &str) -> Result<Command, Fail> {
-    Ok(Command::Activate {
-        name: label(name)?,
-        provider: label(provider)?,
-    })
-}
-
-pub fn rebuilds(name: &str, provider: &str) -> Result<Command, Fail> {
-    Ok(Command::Rebuild {
-        name: label(name)?,
-        provider: label(provider)?,
-    })
-}
-
-pub fn advances(name: &str, provider: &str) -> Result<Command, Fail> {
-    Ok(Command::Advance {
-        name: label(name)?,
-        provider: label(provider)?,
-    })
-}
-
-pub fn configures(name: &str, settings: Settings) -> Result<Command, Fail> {
-    Ok(Command::Configure {
-        name: label(name)?,
-        settings,
-    })
-}
-
-// One component that is lost.
-pub fn loses(alloc: Global, name: &str, provider: &str) -> Result<Command, Fail> {
-    let named = Vec::from_slice(alloc, &[label(provider)?])?;
-    Ok(Command::Lost {
-        name: label(name)?,
-        providers: Providers::new(named).ok_or("no provider")?,
-    })
-}
-
-pub fn adopts(alloc: Global, name: &str, providers: &[&str]) -> Result<Command, Fail> {
-    let mut named = Vec::new(alloc);
-    for provider in providers {
-        named.push(label(provider)?)?;
+// The command that these words spell.
+fn command(alloc: Global, words: &str) -> Result<Command, Fail> {
+    let mut pieces = Vec::new(alloc);
+    for piece in words.split(' ') {
+        pieces.push(piece)?;
     }
-    Ok(Command::Adopt {
-        name: label(name)?,
-        providers: Providers::new(named).ok_or("no provider")?,
-    })
-}
-
-pub fn clears(provider: &str) -> Result<Command, Fail> {
-    Ok(Command::Clear {
-        provider: label(provider)?,
-    })
-}
-
-pub fn forgets(name: &str) -> Result<Command, Fail> {
-    Ok(Command::Forget { name: label(name)? })
-}
-
-pub fn destroys(name: &str) -> Result<Command, Fail> {
-    Ok(Command::Destroy { name: label(name)? })
+    Ok(read_words(alloc, &pieces)?.ok().ok_or("no command")?)
 }
 
 // What the last sector of a component of gm0 says, where the mirror counts so many.
@@ -203,42 +113,38 @@ pub fn try_run<S: Alter, H: Shelf>(
     alloc: Global,
     bench: &mut Bench<S, H>,
     key: &str,
-    command: &Command,
+    words: &str,
 ) -> Result<Result<Answer, BenchFault>, Fail> {
+    let command = command(alloc, words)?;
     match bench.phase() {
-        Phase::Ready | Phase::Failed => Ok(bench.run(alloc, key, command)),
+        Phase::Ready | Phase::Failed => Ok(bench.run(alloc, key, &command)),
         Phase::Pending | Phase::Applied => Err("a run in another phase")?,
     }
 }
 
-pub fn run<S: Alter, H: Shelf>(
+// Runs a command that is to be answered so.
+pub fn runs<S: Alter, H: Shelf>(
     alloc: Global,
     bench: &mut Bench<S, H>,
     key: &str,
-    command: &Command,
-) -> Result<Answer, Fail> {
-    Ok(try_run(alloc, bench, key, command)??)
+    words: &str,
+    answer: Answer,
+) -> Result<(), Fail> {
+    let given = try_run(alloc, bench, key, words)??;
+    must(given == answer, "another answer")
 }
 
 pub fn try_accept<S: Alter, H: Shelf>(
     alloc: Global,
     bench: &mut Bench<S, H>,
     key: &str,
-    command: &Command,
+    words: &str,
 ) -> Result<Result<Answer, BenchFault>, Fail> {
+    let command = command(alloc, words)?;
     match bench.phase() {
-        Phase::Ready | Phase::Failed => Ok(bench.accept(alloc, key, command)),
+        Phase::Ready | Phase::Failed => Ok(bench.accept(alloc, key, &command)),
         Phase::Pending | Phase::Applied => Err("an accepting in another phase")?,
     }
-}
-
-pub fn accept<S: Alter, H: Shelf>(
-    alloc: Global,
-    bench: &mut Bench<S, H>,
-    key: &str,
-    command: &Command,
-) -> Result<Answer, Fail> {
-    Ok(try_accept(alloc, bench, key, command)??)
 }
 
 pub fn try_apply<S: Alter, H: Shelf>(
@@ -302,17 +208,77 @@ pub fn must_be(last: &[u8; 512], said: Option<Metadata>) -> Result<(), Fail> {
     must(*last == expected, "a last sector says something else")
 }
 
-// gm0 on a.img and b.img, by k1 and k2.
+// The label and the insert that most tests begin with.
+pub const LABEL: &str = "label --mid 7 --did 1 gm0 a.img";
+
+pub const INSERT: &str = "insert --did 2 gm0 b.img";
+
+// gm0 on a.img and b.img, by k1 and by k2, which says these words.
 pub fn of_two<S: Alter + Drop, H: Shelf + Drop>(
     alloc: Global,
     store: Connection<S>,
     shelf: H,
-) -> Result<Bench<S, H>, Fail> {
+    insert: &str,
+) -> Result<(Connection<S>, H), Fail> {
     let mut bench = open(alloc, store, shelf)?;
-    run(alloc, &mut bench, "k1", &labels("gm0", "a.img", 7)?)?;
-    let answer = run(alloc, &mut bench, "k2", &inserts("gm0", "b.img", 2)?)?;
-    must(answer == Answer::Done(2, Reply::Plain), "not inserted")?;
-    Ok(bench)
+    runs(
+        alloc,
+        &mut bench,
+        "k1",
+        LABEL,
+        Answer::Done(1, Reply::Plain),
+    )?;
+    runs(
+        alloc,
+        &mut bench,
+        "k2",
+        insert,
+        Answer::Done(2, Reply::Plain),
+    )?;
+    Ok(bench.close())
+}
+
+// Runs a command over a shelf that may stop; whether the stop came.
+pub fn is_stopped<S: Alter, H: Shelf>(
+    alloc: Global,
+    bench: &mut Bench<S, H>,
+    asked: Asked,
+) -> Result<bool, Fail> {
+    match try_run(alloc, bench, asked.key, asked.words)? {
+        Ok(answer) => {
+            let expected = Answer::Done(asked.number, asked.reply);
+            must(answer == expected, "another answer")?;
+            Ok(false)
+        }
+        Err(fault) => {
+            must(fault == BenchFault::Disk, "another fault")?;
+            Ok(true)
+        }
+    }
+}
+
+// The same command of a bench that was opened since: it is done, unless it was accepted before, and
+// then repeated.
+pub fn is_over<S: Alter + Drop, H: Shelf + Drop>(
+    alloc: Global,
+    store: Connection<S>,
+    shelf: H,
+    asked: Asked,
+) -> Result<H, Fail> {
+    let Asked {
+        key,
+        words,
+        number,
+        reply,
+        was_done,
+    } = asked;
+    let mut bench = open(alloc, store, shelf)?;
+    let answer = try_run(alloc, &mut bench, key, words)??;
+    let repeated = answer == Answer::Repeated(number, reply);
+    let done = answer == Answer::Done(number, reply);
+    must(repeated || done && !was_done, "another answer")?;
+    let (_, shelf) = bench.close();
+    Ok(shelf)
 }
 
 // What the last sectors of a.img and b.img say; the data are as they were.

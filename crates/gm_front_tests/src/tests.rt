@@ -3,9 +3,11 @@
 
 mod faults;
 mod flushes;
+mod many_mirrors;
 mod readers;
 mod repeats;
 mod stores;
+mod worked_rows;
 mod writers;
 
 use gm_bench::{Bench, BenchFault, OpenFault, Phase};
@@ -91,7 +93,24 @@ fn tell<S: Alter, H: Shelf>(
     Ok(Told { text, end, left })
 }
 
-// Hands a batch over, which is taken whole, told this, and ends so.
+// Hands a batch over, which is told this, ends so, and leaves so many bytes of its input.
+fn answers_some<S: Alter, H: Shelf>(
+    alloc: Global,
+    bench: &mut Bench<S, H>,
+    input: &[u8],
+    expected: &'static str,
+    end: BatchEnd,
+    left: usize,
+) -> Result<(), Fail> {
+    let told = tell(alloc, bench, input)?;
+    let is_told = told.text.as_slice() == expected.as_bytes();
+    must(
+        is_told && told.end == Ok(end) && told.left == left,
+        expected,
+    )
+}
+
+// Hands one over that is taken whole.
 fn answers<S: Alter, H: Shelf>(
     alloc: Global,
     bench: &mut Bench<S, H>,
@@ -99,10 +118,7 @@ fn answers<S: Alter, H: Shelf>(
     expected: &'static str,
     end: BatchEnd,
 ) -> Result<(), Fail> {
-    let told = tell(alloc, bench, input)?;
-    must(told.text.as_slice() == expected.as_bytes(), expected)?;
-    must(told.end == Ok(end), "another end")?;
-    must(told.left == 0, "something wasn't read")
+    answers_some(alloc, bench, input, expected, end, 0)
 }
 
 fn try_status<S: Alter, H: Shelf>(

@@ -292,7 +292,7 @@ fn faults_have_texts(rt: HostRuntime) -> Result<(), Fail> {
         (StoreFault::Unreadable, "the registry is unreadable"),
     ] {
         let shown = format!(in rt.alloc(); "{fault}")?;
-        assert_eq!(rt; shown.as_str(), text);
+        must(shown.as_str() == text, text)?;
     }
     Ok(())
 }

@@ -1,10 +1,10 @@
 //! Copies by runs: what they ask of a shelf, and what they leave. A run is 128 sectors.
 
-use super::counting::{Calls, CountingShelf};
 use super::{add, filled, label, sector_of};
 use gm_apply::apply;
 use gm_shelf::{FaultShelf, MemShelf, Shelf};
 use gm_state::Intent;
+use gm_test_media::{CallCounts, CountingShelf};
 use std::alloc::Global;
 use std::process::Abort;
 use std::test::Fail;
@@ -46,7 +46,12 @@ fn copy(first: u32, end: u32) -> Result<[Intent; 1], Fail> {
 
 // What a copy of all sectors of a asks of the shelf. Then b holds them, and the sector behind them
 // is as it was.
-fn asked(rt: &impl Abort, alloc: Global, sectors: u8, differing: &[u8]) -> Result<Calls, Fail> {
+fn asked(
+    rt: &impl Abort,
+    alloc: Global,
+    sectors: u8,
+    differing: &[u8],
+) -> Result<CallCounts, Fail> {
     let mut shelf = CountingShelf::new(two_images(rt, alloc, sectors, differing)?);
     apply(&mut shelf, &filled(alloc)?, &copy(0, u32::from(sectors))?)?;
     for place in 0..sectors {
@@ -58,8 +63,8 @@ fn asked(rt: &impl Abort, alloc: Global, sectors: u8, differing: &[u8]) -> Resul
     Ok(shelf.calls)
 }
 
-fn calls(reads: u64, writes: u64, written: u64) -> Calls {
-    Calls {
+fn calls(reads: u64, writes: u64, written: u64) -> CallCounts {
+    CallCounts {
         reads,
         writes,
         written,

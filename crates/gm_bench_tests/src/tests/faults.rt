@@ -3,12 +3,11 @@
 
 use super::stops::{Played, check, play};
 use crate::support::{
-    labels, open, try_accept, try_apply, try_audit, try_last, try_open, try_run, try_settle,
-    try_view,
+    open, try_accept, try_apply, try_audit, try_last, try_open, try_run, try_settle, try_view,
 };
 use gm_bench::{Bench, BenchFault, Phase};
 use gm_shelf::{FaultShelf, MemShelf, Shelf};
-use gm_test_media::{label, memory, must, sector, shelf};
+use gm_test_media::{label, memory, must, must_be_alike, shelf};
 use sqlite::{Alter, Connection};
 use std::alloc::Global;
 use std::test::Fail;
@@ -20,7 +19,7 @@ const MANY: u64 = 200;
 
 // Why a shelf stops.
 #[derive(Clone, Copy)]
-enum Stop {
+pub(super) enum Stop {
     Device,
     Memory,
 }
@@ -50,14 +49,14 @@ pub(super) fn must_be_closed<S: Alter, H: Shelf>(
     if !asked {
         return Ok(());
     }
-    let command = labels("gm8", "c.img", 8)?;
+    let words = "label --mid 8 --did 1 gm8 c.img";
     let closed = Some(BenchFault::Closed);
     must(bench.phase() == Phase::Failed, "not closed")?;
-    let accepted = try_accept(alloc, bench, "k8", &command)?;
+    let accepted = try_accept(alloc, bench, "k8", words)?;
     must(accepted.err() == closed, "accepted")?;
     must(try_apply(bench)?.err() == closed, "carried out")?;
     must(try_settle(bench)?.err() == closed, "settled")?;
-    let run = try_run(alloc, bench, "k8", &command)?;
+    let run = try_run(alloc, bench, "k8", words)?;
     must(run.err() == closed, "run")?;
     must(try_view(alloc, bench).err() == closed, "viewed")?;
     must(try_audit(alloc, bench).err() == closed, "audited")?;
@@ -66,53 +65,41 @@ pub(super) fn must_be_closed<S: Alter, H: Shelf>(
     must(bench.phase() == Phase::Failed, "open again")
 }
 
-// The script up to its stop, and then each call once more where that is asked.
-fn plays<S: Alter + Drop, H: Shelf + Drop>(
+// So many calls of the script up to its stop, and then each call once more where that is asked.
+pub(super) fn plays<S: Alter + Drop, H: Shelf + Drop>(
     alloc: Global,
     store: Connection<S>,
     shelf: H,
-    fault: BenchFault,
+    calls: u64,
     and_more: bool,
 ) -> Result<(Played, Connection<S>, H), Fail> {
     let mut bench = open(alloc, store, shelf)?;
-    let played = play(alloc, &mut bench, 0, CALLS)?;
-    let stopped = played.fault.is_some();
-    must(!stopped || played.fault == Some(fault), "another fault")?;
-    must_be_closed(alloc, &mut bench, stopped && and_more)?;
+    let played = play(alloc, &mut bench, 0, calls)?;
+    must_be_closed(alloc, &mut bench, played.fault.is_some() && and_more)?;
     let (store, shelf) = bench.close();
     Ok((played, store, shelf))
 }
 
-fn must_be_alike<H: Shelf>(first: &mut H, second: &mut H) -> Result<(), Fail> {
-    for name in ["a.img", "b.img", "c.img"] {
-        for place in 0u64..4 {
-            let held = sector(first, name, place)?;
-            must(
-                held == sector(second, name, place)?,
-                "something was written",
-            )?;
-        }
-    }
-    Ok(())
-}
-
-// A run that ends with the stop, and its media.
+// A run that ends with the stop or without one, and its media.
 #[derive(Drop)]
-struct Left<S: Alter> {
-    played: Played,
-    store: Connection<S>,
-    shelf: MemShelf,
+pub(super) struct Left<S: Alter> {
+    pub(super) played: Played,
+    pub(super) store: Connection<S>,
+    pub(super) shelf: MemShelf,
 }
 
-fn stop_at<S: Alter + Drop>(
+pub(super) fn stop_at<S: Alter + Drop>(
     alloc: Global,
     store: Connection<S>,
     stop: Stop,
     nth: u64,
+    calls: u64,
     and_more: bool,
 ) -> Result<Left<S>, Fail> {
     let stopping = failing(stop, shelf(alloc)?, nth);
-    let (played, store, stopping) = plays(alloc, store, stopping, fault_of(stop), and_more)?;
+    let (played, store, stopping) = plays(alloc, store, stopping, calls, and_more)?;
+    let told = played.fault.is_none() || played.fault == Some(fault_of(stop));
+    must(told, "another fault")?;
     let shelf = stopping.into_inner();
     Ok(Left {
         played,
@@ -142,8 +129,8 @@ fn stop_at_each(alloc: Global, stop: Stop) -> Result<(), Fail> {
     let mut ended = false;
     for nth in 1..MANY {
         if !ended {
-            let plain = stop_at(alloc, memory(alloc)?, stop, nth, false)?;
-            let more = stop_at(alloc, memory(alloc)?, stop, nth, true)?;
+            let plain = stop_at(alloc, memory(alloc)?, stop, nth, CALLS, false)?;
+            let more = stop_at(alloc, memory(alloc)?, stop, nth, CALLS, true)?;
             ended = !leaves_the_same(alloc, plain, more)?;
         }
     }
@@ -152,11 +139,7 @@ fn stop_at_each(alloc: Global, stop: Stop) -> Result<(), Fail> {
 
 #[test]
 fn a_closed_bench_does_nothing(rt: HostRuntime) -> Result<(), Fail> {
-    stop_at_each(rt.alloc(), Stop::Device)
-}
-
-#[test]
-fn want_of_memory_closes_a_bench(rt: HostRuntime) -> Result<(), Fail> {
+    stop_at_each(rt.alloc(), Stop::Device)?;
     stop_at_each(rt.alloc(), Stop::Memory)
 }
 
@@ -183,18 +166,6 @@ fn a_look_that_fails_closes(rt: HostRuntime) -> Result<(), Fail> {
     Ok(())
 }
 
-// The script up to an accepted insert, which asks for two sectors.
-fn inserting<S: Alter + Drop, H: Shelf + Drop>(
-    alloc: Global,
-    store: Connection<S>,
-    shelf: H,
-) -> Result<(Played, Connection<S>, H), Fail> {
-    let mut bench = open(alloc, store, shelf)?;
-    let played = play(alloc, &mut bench, 0, 4)?;
-    let (store, shelf) = bench.close();
-    Ok((played, store, shelf))
-}
-
 // An opening, and whether the shelf stopped it.
 fn opens<S: Alter + Drop, H: Shelf + Drop>(
     alloc: Global,
@@ -215,7 +186,8 @@ fn opens<S: Alter + Drop, H: Shelf + Drop>(
     }
 }
 
-// An opening whose shelf stops from its nth call on, and one after a crash; whether the stop came.
+// An opening behind an insert that was accepted, which asks for two sectors: its shelf stops from
+// its nth call on, and another one follows after a crash; whether the stop came.
 fn stops_opening<S: Alter + Drop>(
     alloc: Global,
     store: Connection<S>,
@@ -223,13 +195,13 @@ fn stops_opening<S: Alter + Drop>(
     nth: u64,
     picks: &[u32],
 ) -> Result<bool, Fail> {
-    let (played, store, shelf) = inserting(alloc, store, shelf(alloc)?)?;
+    let (played, store, shelf) = plays(alloc, store, shelf(alloc)?, 4, false)?;
     let stopping = failing(stop, shelf, nth);
     let (stopped, store, stopping) = opens(alloc, store, stopping, fault_of(stop))?;
     let left = stopping.into_inner().crash_image(picks)?;
     let redone = check(alloc, store, left, played)?;
-    must(!stopped || redone == 2, "another count")?;
-    must(stopped || redone == 0, "carried out twice")?;
+    let expected = if stopped { 2 } else { 0 };
+    must(redone == expected, "another count")?;
     Ok(stopped)
 }
 

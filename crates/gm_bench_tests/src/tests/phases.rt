@@ -1,7 +1,7 @@
 //! A command whose calls are made one by one, and what the bench shows between them.
 
 use crate::support::{
-    IN_SYNC, accept, labels, metadata, must_be, open, try_apply, try_last, try_settle, try_view,
+    IN_SYNC, LABEL, metadata, must_be, open, try_accept, try_apply, try_last, try_settle, try_view,
 };
 use gm_bench::{Answer, Bench, Phase};
 use gm_metadata::Metadata;
@@ -40,29 +40,36 @@ fn must_show<S: Alter, H: Shelf>(
     must(bench.phase() == phase, "another phase")
 }
 
-fn goes_through_its_phases<S: Alter + Drop, H: Shelf + Drop>(
+fn goes_through_its_phases<S: Alter, H: Shelf>(
+    alloc: Global,
+    bench: &mut Bench<S, H>,
+) -> Result<(), Fail> {
+    let said = metadata(1, 1, IN_SYNC)?;
+    must_show(alloc, bench, Phase::Ready, 0, None)?;
+    let answer = try_accept(alloc, bench, "k1", LABEL)??;
+    must(answer == Answer::Done(1, Reply::Plain), "not accepted")?;
+    must_show(alloc, bench, Phase::Pending, 1, None)?;
+    try_apply(bench)??;
+    must_show(alloc, bench, Phase::Applied, 1, Some(said))?;
+    try_settle(bench)??;
+    must_show(alloc, bench, Phase::Ready, 1, Some(said))?;
+    let again = try_accept(alloc, bench, "k1", LABEL)??;
+    must(again == Answer::Repeated(1, Reply::Plain), "not repeated")?;
+    must_show(alloc, bench, Phase::Ready, 1, Some(said))
+}
+
+fn opens_and_goes_through<S: Alter + Drop, H: Shelf + Drop>(
     alloc: Global,
     store: Connection<S>,
     shelf: H,
 ) -> Result<(), Fail> {
-    let said = metadata(1, 1, IN_SYNC)?;
     let mut bench = open(alloc, store, shelf)?;
-    must_show(alloc, &mut bench, Phase::Ready, 0, None)?;
-    let answer = accept(alloc, &mut bench, "k1", &labels("gm0", "a.img", 7)?)?;
-    must(answer == Answer::Done(1, Reply::Plain), "not accepted")?;
-    must_show(alloc, &mut bench, Phase::Pending, 1, None)?;
-    try_apply(&mut bench)??;
-    must_show(alloc, &mut bench, Phase::Applied, 1, Some(said))?;
-    try_settle(&mut bench)??;
-    must_show(alloc, &mut bench, Phase::Ready, 1, Some(said))?;
-    let again = accept(alloc, &mut bench, "k1", &labels("gm0", "a.img", 7)?)?;
-    must(again == Answer::Repeated(1, Reply::Plain), "not repeated")?;
-    must_show(alloc, &mut bench, Phase::Ready, 1, Some(said))
+    goes_through_its_phases(alloc, &mut bench)
 }
 
 #[test]
 fn a_command_goes_through_its_phases(rt: HostRuntime) -> Result<(), Fail> {
-    goes_through_its_phases(
+    opens_and_goes_through(
         rt.alloc(),
         memory(rt.alloc())?,
         with_an_empty_one(rt.alloc())?,

@@ -8,7 +8,7 @@ use gm_bench::{Bench, BenchFault};
 use gm_shelf::{MemShelf, Shelf};
 use gm_test_media::{ALL, Calls, StoreBytes, must, shelf};
 use sqlite::{Alter, Connection, Files, Options};
-use sqlite_disk::{Crash, Disk};
+use sqlite_disk::{Crash, Disk, Fuse, Memory};
 use std::alloc::Global;
 use std::test::Fail;
 
@@ -29,14 +29,6 @@ enum Job {
     Play { before: u64, calls: u64 },
     // To be what the model says where so many commands were answered.
     Look { done: u64 },
-}
-
-// How many commands are answered before a job.
-fn done_before(job: Job) -> u64 {
-    match job {
-        Job::Play { before, calls: _ } => before,
-        Job::Look { done } => done,
-    }
 }
 
 // What was done of a job, and how much the opening carried out.
@@ -77,31 +69,29 @@ fn perform<S: Alter + Drop, H: Shelf + Drop>(
 ) -> Result<(Told, Connection<S>, H), Fail> {
     match try_open(alloc, store, shelf)? {
         Ok(bench) => serve(alloc, bench, job),
-        Err(left) => {
-            let played = Played {
-                done: done_before(job),
-                fault: Some(left.fault),
-            };
-            Ok((Told { played, redone: 0 }, left.store, left.shelf))
-        }
+        Err(left) => Ok((not_begun(job, left.fault), left.store, left.shelf)),
     }
 }
 
-// What a job leaves. Where the store's files couldn't be opened, nothing was done of it.
+// What a job leaves, and whether the store stopped.
 #[derive(Drop)]
 struct Left<D: Disk, H> {
-    told: Option<Told>,
+    told: Told,
     stopped: bool,
     files: Files<D>,
     shelf: H,
 }
 
-fn unopened<D: Disk + Drop, H: Shelf + Drop>(files: Files<D>, shelf: H) -> Left<D, H> {
-    Left {
-        told: None,
-        stopped: true,
-        files,
-        shelf,
+// A job that wasn't begun, for this fault.
+fn not_begun(job: Job, fault: BenchFault) -> Told {
+    let done = match job {
+        Job::Play { before, calls: _ } => before,
+        Job::Look { done } => done,
+    };
+    let fault = Some(fault);
+    Told {
+        played: Played { done, fault },
+        redone: 0,
     }
 }
 
@@ -112,15 +102,19 @@ fn perform_on_files<D: Disk + Drop, H: Shelf + Drop>(
     shelf: H,
     job: Job,
 ) -> Result<Left<D, H>, Fail> {
-    if !files.may_be_used() {
-        return Ok(unopened(files, shelf));
-    }
+    must(files.may_be_used(), "the files may not be used")?;
     let store = match Connection::open_files(alloc, files, Options::new(1)) {
         Ok(store) => store,
-        Err((_, left)) => return Ok(unopened(left.into_files(), shelf)),
+        Err((_, left)) => {
+            return Ok(Left {
+                told: not_begun(job, BenchFault::Store),
+                stopped: true,
+                files: left.into_files(),
+                shelf,
+            });
+        }
     };
     let (told, store, shelf) = perform(alloc, store, shelf, job)?;
-    let told = Some(told);
     let (stopped, files) = match store.close_files() {
         Ok(files) => (false, files),
         Err((_, store)) => (true, store.close()),
@@ -136,16 +130,14 @@ fn perform_on_files<D: Disk + Drop, H: Shelf + Drop>(
 // What a job leaves of both media: as they stand, and as a crash leaves them.
 #[derive(Drop)]
 struct Outcome {
-    told: Option<Told>,
+    told: Told,
     stopped: bool,
     read: Media,
     crashed: Media,
 }
 
 // A crash loses of both media what isn't synced.
-fn run_for(alloc: Global, from: &Media, calls: Calls, job: Job) -> Result<Outcome, Fail> {
-    let shelf = from.shelf.crash_image(&[])?;
-    let left = perform_on_files(alloc, from.store.files(alloc, calls)?, shelf, job)?;
+fn outcome_of(alloc: Global, left: Left<Fuse<Memory>, MemShelf>) -> Result<Outcome, Fail> {
     let Left {
         told,
         stopped,
@@ -171,24 +163,25 @@ fn run_for(alloc: Global, from: &Media, calls: Calls, job: Job) -> Result<Outcom
     })
 }
 
+fn run_for(alloc: Global, from: &Media, calls: Calls, job: Job) -> Result<Outcome, Fail> {
+    let shelf = from.shelf.crash_image(&[])?;
+    let files = from.store.files(alloc, calls)?;
+    outcome_of(alloc, perform_on_files(alloc, files, shelf, job)?)
+}
+
 // What a job leaves over files that don't stop.
 fn run(alloc: Global, from: &Media, job: Job) -> Result<Media, Fail> {
     let run = run_for(alloc, from, ALL, job)?;
-    let told = run.told.ok_or("not opened")?;
-    must(!run.stopped && told.played.fault.is_none(), "it stopped")?;
+    let served = !run.stopped && run.told.played.fault.is_none();
+    must(served, "it stopped")?;
     Ok(run.read)
 }
 
-// Both media after so many commands of the script.
-fn media_after(alloc: Global, commands: u64) -> Result<Media, Fail> {
-    let mut media = Media {
+fn fresh(alloc: Global) -> Result<Media, Fail> {
+    Ok(Media {
         store: StoreBytes::new(alloc),
         shelf: shelf(alloc)?,
-    };
-    for before in 0..commands {
-        media = run(alloc, &media, Job::Play { before, calls: 3 })?;
-    }
-    Ok(media)
+    })
 }
 
 // Of each of the twelve sectors of the shelf what was written last.
@@ -199,7 +192,7 @@ fn look(alloc: Global, left: &Media, done: u64) -> Result<u64, Fail> {
     let files = left.store.files(alloc, ALL)?;
     let shelf = left.shelf.crash_image(&AS_IT_STANDS)?;
     let looked = perform_on_files(alloc, files, shelf, Job::Look { done })?;
-    let told = looked.told.ok_or("not opened again")?;
+    let told = looked.told;
     must(told.played.fault.is_none(), "a fault at the opening")?;
     let mut shelf = looked.shelf;
     must_keep_data(&mut shelf, "a.img")?;
@@ -207,30 +200,16 @@ fn look(alloc: Global, left: &Media, done: u64) -> Result<u64, Fail> {
     Ok(told.redone)
 }
 
-// How far a job came. A store that can't be opened fails.
-fn reached(told: Option<Told>, job: Job) -> Played {
-    match told {
-        Some(told) => told.played,
-        None => Played {
-            done: done_before(job),
-            fault: Some(BenchFault::Store),
-        },
-    }
-}
-
-// Both media as they stand, and as a crash leaves them; how much the openings carried out.
-fn look_at_both(alloc: Global, run: &Outcome, done: u64) -> Result<u64, Fail> {
-    let redone = look(alloc, &run.read, done)?;
-    Ok(look(alloc, &run.crashed, done)?.saturating_add(redone))
-}
-
-// One run with a stop, and whether it came. A job that is done leaves nothing to be carried out.
+// One run with a stop, and whether it came. It is looked at as it stands, and as a crash leaves it;
+// a job that is done leaves nothing to be carried out.
 fn stop_at(alloc: Global, from: &Media, calls: Calls, job: Job) -> Result<bool, Fail> {
     let run = run_for(alloc, from, calls, job)?;
-    let Played { done, fault } = reached(run.told, job);
+    let told = run.told;
+    let Played { done, fault } = told.played;
     let well = fault.is_none();
     must(well || fault == Some(BenchFault::Store), "another fault")?;
-    let redone = look_at_both(alloc, &run, done)?;
+    let mut redone = look(alloc, &run.read, done)?;
+    redone = redone.saturating_add(look(alloc, &run.crashed, done)?);
     must(!well || redone == 0, "what was settled is pending again")?;
     Ok(run.stopped || !well)
 }
@@ -252,81 +231,51 @@ fn stop_at_each(alloc: Global, from: &Media, job: Job) -> Result<(), Fail> {
     must(log_ended && db_ended, "no run ended")
 }
 
-// The command at this place of the script, from the opening of the files to their close.
-fn stop_command(alloc: Global, before: u64) -> Result<(), Fail> {
-    let from = media_after(alloc, before)?;
-    stop_at_each(alloc, &from, Job::Play { before, calls: 3 })
+// The commands of the script from one place up to another, each from the opening of the files to
+// their close.
+fn stop_commands(alloc: Global, first: u64, end: u64) -> Result<(), Fail> {
+    let mut media = fresh(alloc)?;
+    for before in 0..end {
+        let job = Job::Play { before, calls: 3 };
+        if before >= first {
+            stop_at_each(alloc, &media, job)?;
+        }
+        media = run(alloc, &media, job)?;
+    }
+    Ok(())
 }
 
 #[test]
-fn a_stop_within_a_label(rt: HostRuntime) -> Result<(), Fail> {
-    stop_command(rt.alloc(), 0)
+fn a_stop_within_a_label_or_an_insert(rt: HostRuntime) -> Result<(), Fail> {
+    stop_commands(rt.alloc(), 0, 2)
+}
+
+// A deactivate, an activate and a rebuild.
+#[test]
+fn a_stop_within_a_change_of_state(rt: HostRuntime) -> Result<(), Fail> {
+    stop_commands(rt.alloc(), 2, 5)
 }
 
 #[test]
-fn a_stop_within_an_insert(rt: HostRuntime) -> Result<(), Fail> {
-    stop_command(rt.alloc(), 1)
+fn a_stop_within_an_advance_a_configure_or_a_remove(rt: HostRuntime) -> Result<(), Fail> {
+    stop_commands(rt.alloc(), 5, 8)
 }
 
+// A loss, a forget, a clear and a destroy, behind an insert as the first.
 #[test]
-fn a_stop_within_a_deactivate(rt: HostRuntime) -> Result<(), Fail> {
-    stop_command(rt.alloc(), 2)
-}
-
-#[test]
-fn a_stop_within_an_activate(rt: HostRuntime) -> Result<(), Fail> {
-    stop_command(rt.alloc(), 3)
-}
-
-#[test]
-fn a_stop_within_a_rebuild(rt: HostRuntime) -> Result<(), Fail> {
-    stop_command(rt.alloc(), 4)
-}
-
-#[test]
-fn a_stop_within_an_advance(rt: HostRuntime) -> Result<(), Fail> {
-    stop_command(rt.alloc(), 5)
-}
-
-#[test]
-fn a_stop_within_a_configure(rt: HostRuntime) -> Result<(), Fail> {
-    stop_command(rt.alloc(), 6)
-}
-
-#[test]
-fn a_stop_within_a_remove(rt: HostRuntime) -> Result<(), Fail> {
-    stop_command(rt.alloc(), 7)
-}
-
-#[test]
-fn a_stop_within_a_loss(rt: HostRuntime) -> Result<(), Fail> {
-    stop_command(rt.alloc(), 9)
-}
-
-#[test]
-fn a_stop_within_a_forget(rt: HostRuntime) -> Result<(), Fail> {
-    stop_command(rt.alloc(), 10)
-}
-
-#[test]
-fn a_stop_within_a_clear(rt: HostRuntime) -> Result<(), Fail> {
-    stop_command(rt.alloc(), 11)
-}
-
-#[test]
-fn a_stop_within_a_destroy(rt: HostRuntime) -> Result<(), Fail> {
-    stop_command(rt.alloc(), 12)
+fn a_stop_within_the_end_of_a_mirror(rt: HostRuntime) -> Result<(), Fail> {
+    stop_commands(rt.alloc(), 9, 13)
 }
 
 // The opening carries out an insert that was accepted.
 #[test]
 fn a_stop_within_an_opening(rt: HostRuntime) -> Result<(), Fail> {
-    let labelled = media_after(rt.alloc(), 1)?;
+    // All calls of the label, and the first of the insert.
     let accepted = Job::Play {
-        before: 1,
-        calls: 1,
+        before: 0,
+        calls: 4,
     };
-    let pending = run(rt.alloc(), &labelled, accepted)?;
+    let pending = run(rt.alloc(), &fresh(rt.alloc())?, accepted)?;
     let opening = Job::Play {
         before: 2,
         calls: 0,

@@ -1,8 +1,9 @@
 //! A bench that fails at a line, since its shelf stopped, and a bench that has failed.
 
+use super::writers::wide;
 use super::{
-    DESTROY, DONE, INSERT, LABEL, NO_MIRRORS, REFUSED, REMOVE, Told, answers, open, shows, tell,
-    try_batch, try_status,
+    DESTROY, DONE, INSERT, LABEL, NO_MIRRORS, REFUSED, REMOVE, Told, answers, answers_some, open,
+    shows, tell, try_batch, try_status,
 };
 use gm_bench::{Bench, BenchFault};
 use gm_front::{BatchEnd, FrontFault};
@@ -10,7 +11,7 @@ use gm_shelf::{FaultShelf, MemShelf, Shelf};
 use gm_test_media::{memory, must, shelf};
 use sqlite::{Alter, Connection};
 use std::alloc::Global;
-use std::io::{self, ErrorKind, Write};
+use std::io::Write;
 use std::test::Fail;
 
 // A script is over long before it makes so many calls of the shelf.
@@ -48,7 +49,7 @@ const BEHIND: &str = "k5 paint gm0";
 const COMMANDS: [&str; 4] = [LABEL, INSERT, REMOVE, DESTROY];
 
 // All lines, or those behind the command at this place.
-pub(super) fn script(alloc: Global, behind: Option<usize>) -> Result<String, Fail> {
+fn script(alloc: Global, behind: Option<usize>) -> Result<String, Fail> {
     let mut lines = String::new(alloc);
     let from = match behind {
         None => {
@@ -65,7 +66,7 @@ pub(super) fn script(alloc: Global, behind: Option<usize>) -> Result<String, Fai
 }
 
 // What the script is answered where so many of its commands were accepted before.
-pub(super) fn told_after(alloc: Global, accepted: u64) -> Result<String, Fail> {
+fn told_after(alloc: Global, accepted: u64) -> Result<String, Fail> {
     let mut text = String::from_str(alloc, "? refused 1\n")?;
     for number in 1u64..=4 {
         let word = if number <= accepted { "repeated" } else { "ok" };
@@ -104,7 +105,7 @@ fn stopped_by(told: &Told) -> Option<u8> {
 }
 
 // How many of the commands were answered as done. Each is told, and so is the fault of this number.
-pub(super) fn done_of(alloc: Global, told: &Told, fault: u8) -> Result<u64, Fail> {
+fn done_of(alloc: Global, told: &Told, fault: u8) -> Result<u64, Fail> {
     if told.end == Ok(REFUSED) {
         let expected = told_after(alloc, 0)?;
         must(told.text.as_slice() == expected.as_bytes(), "another text")?;
@@ -126,37 +127,31 @@ const LATER: &str = "k/9\n  \nk8\nk9 clear c.img\nk9 clear\n";
 const LATER_LEFT: usize = 9;
 
 // A bench that has failed says so at the first command, whatever its key is, and not before.
-pub(super) fn is_closed<S: Alter, H: Shelf>(
-    alloc: Global,
-    bench: &mut Bench<S, H>,
-) -> Result<(), Fail> {
-    let closed = Ok(BatchEnd::Stopped(BenchFault::Closed));
+fn is_closed<S: Alter, H: Shelf>(alloc: Global, bench: &mut Bench<S, H>) -> Result<(), Fail> {
+    let closed = BatchEnd::Stopped(BenchFault::Closed);
     for _ in 0..2 {
-        let told = tell(alloc, bench, LATER.as_bytes())?;
         let expected = "? refused 1\nk8 refused 1\nk9 fault 4\n";
-        must(told.text.as_slice() == expected.as_bytes(), "another text")?;
-        must(told.end == closed && told.left == LATER_LEFT, "another end")?;
+        answers_some(alloc, bench, LATER.as_bytes(), expected, closed, LATER_LEFT)?;
     }
-    let told = tell(alloc, bench, b"k/9 clear c.img".as_slice())?;
-    must(told.text.as_slice() == b"? fault 4\n".as_slice(), "a key")?;
-    must(told.end == closed, "another end")?;
+    let line = b"k/9 clear c.img".as_slice();
+    answers(alloc, bench, line, "? fault 4\n", closed)?;
     let status = try_status(alloc, bench)?;
     must(status.err() == Some(BenchFault::Closed), "viewed")?;
     answers(alloc, bench, b"\n".as_slice(), "", DONE)?;
     answers(alloc, bench, b"k1".as_slice(), "k1 refused 1\n", REFUSED)
 }
 
-// The script, and then more where the bench failed; how many commands were answered as done.
-fn plays<S: Alter + Drop, H: Shelf + Drop>(
+// The script, and then more where the bench failed and that is asked; how many commands were
+// answered as done.
+pub(super) fn plays<S: Alter + Drop, H: Shelf + Drop>(
     alloc: Global,
-    store: Connection<S>,
-    shelf: H,
+    mut bench: Bench<S, H>,
     fault: u8,
+    and_more: bool,
 ) -> Result<(u64, Connection<S>, H), Fail> {
-    let mut bench = open(alloc, store, shelf)?;
     let told = tell(alloc, &mut bench, script(alloc, None)?.as_bytes())?;
     let done = done_of(alloc, &told, fault)?;
-    if done < 4 {
+    if done < 4 && and_more {
         is_closed(alloc, &mut bench)?;
     }
     let (store, shelf) = bench.close();
@@ -179,16 +174,6 @@ pub(super) fn goes_on<S: Alter, H: Shelf>(
     shows(alloc, bench, NO_MIRRORS)
 }
 
-fn opens_and_goes_on<S: Alter + Drop, H: Shelf + Drop>(
-    alloc: Global,
-    store: Connection<S>,
-    shelf: H,
-    done: u64,
-) -> Result<(), Fail> {
-    let mut bench = open(alloc, store, shelf)?;
-    goes_on(alloc, &mut bench, done)
-}
-
 fn stops_at<S: Alter + Drop>(
     alloc: Global,
     store: Connection<S>,
@@ -196,9 +181,10 @@ fn stops_at<S: Alter + Drop>(
     stop: Stop,
     nth: u64,
 ) -> Result<u64, Fail> {
-    let stopping = failing(stop, shelf, nth);
-    let (done, store, stopping) = plays(alloc, store, stopping, fault_of(stop))?;
-    opens_and_goes_on(alloc, store, stopping.into_inner(), done)?;
+    let bench = open(alloc, store, failing(stop, shelf, nth))?;
+    let (done, store, stopped) = plays(alloc, bench, fault_of(stop), true)?;
+    let mut bench = open(alloc, store, stopped.into_inner())?;
+    goes_on(alloc, &mut bench, done)?;
     Ok(done)
 }
 
@@ -217,53 +203,34 @@ fn stop_at_each(alloc: Global, stop: Stop) -> Result<(), Fail> {
 }
 
 #[test]
-fn a_device_that_fails_ends_a_batch(rt: HostRuntime) -> Result<(), Fail> {
-    stop_at_each(rt.alloc(), Stop::Device)
-}
-
-#[test]
-fn want_of_memory_ends_a_batch(rt: HostRuntime) -> Result<(), Fail> {
+fn a_shelf_that_stops_ends_a_batch(rt: HostRuntime) -> Result<(), Fail> {
+    stop_at_each(rt.alloc(), Stop::Device)?;
     stop_at_each(rt.alloc(), Stop::Memory)
 }
 
-// Takes so many bytes, and then no more.
-#[derive(Drop)]
-struct Narrow {
-    room: usize,
-}
-
-impl Write for Narrow {
-    fn write(&mut self, bytes: &[u8]) -> io::Result<usize> {
-        if bytes.len() > self.room {
-            return Err(io::Error::from(ErrorKind::StorageFull));
-        }
-        self.room = self.room.saturating_sub(bytes.len());
-        Ok(bytes.len())
-    }
-
-    fn flush(&mut self) -> io::Result<()> {
-        Ok(())
-    }
-}
-
 // A fault that can't be told is one of the output; the bench has failed all the same.
-fn isnt_told<S: Alter + Drop, H: Shelf + Drop>(
+fn isnt_told<S: Alter, H: Shelf>(alloc: Global, bench: &mut Bench<S, H>) -> Result<(), Fail> {
+    let mut output = wide(alloc);
+    output.room = 12;
+    let lines = script(alloc, None)?;
+    let mut input = lines.as_bytes();
+    let end = try_batch(alloc, &mut input, &mut output, bench)?;
+    let is_told = end == Err(FrontFault::Write) && output.room == 0;
+    must(is_told, "another end, or the first line wasn't told")
+}
+
+fn opens_and_isnt_told<S: Alter + Drop, H: Shelf + Drop>(
     alloc: Global,
     store: Connection<S>,
     shelf: H,
 ) -> Result<(), Fail> {
     let mut bench = open(alloc, store, shelf)?;
-    let mut output = Narrow { room: 12 };
-    let lines = script(alloc, None)?;
-    let mut input = lines.as_bytes();
-    let end = try_batch(alloc, &mut input, &mut output, &mut bench)?;
-    must(end == Err(FrontFault::Write), "another end")?;
-    must(output.room == 0, "the first line wasn't told")?;
+    isnt_told(alloc, &mut bench)?;
     is_closed(alloc, &mut bench)
 }
 
 #[test]
 fn a_fault_that_cant_be_told_is_one_of_the_output(rt: HostRuntime) -> Result<(), Fail> {
     let stopping = FaultShelf::stop_from(shelf(rt.alloc())?, 1);
-    isnt_told(rt.alloc(), memory(rt.alloc())?, stopping)
+    opens_and_isnt_told(rt.alloc(), memory(rt.alloc())?, stopping)
 }

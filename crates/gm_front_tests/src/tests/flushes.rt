@@ -1,6 +1,7 @@
 //! Each answer is flushed before the next line is read.
 
 use super::{LABEL, REFUSED, open, try_batch};
+use gm_bench::Bench;
 use gm_shelf::Shelf;
 use gm_test_media::{memory, must, shelf};
 use sqlite::{Alter, Connection};
@@ -58,13 +59,11 @@ impl<'a> Read for Watching<'a> {
 // of one number have 8 and 14 bytes, and a refusal of `?` with one digit has 12.
 const FLUSHED: [usize; 8] = [0, 0, 8, 8, 22, 34, 46, 54];
 
-fn is_flushed<S: Alter + Drop, H: Shelf + Drop>(
+fn is_flushed<S: Alter, H: Shelf>(
     alloc: Global,
-    store: Connection<S>,
-    shelf: H,
+    bench: &mut Bench<S, H>,
     lines: &[u8],
 ) -> Result<(), Fail> {
-    let mut bench = open(alloc, store, shelf)?;
     let flushed = Cell::new(0usize);
     let mut output = Counted {
         written: 0,
@@ -76,22 +75,36 @@ fn is_flushed<S: Alter + Drop, H: Shelf + Drop>(
         flushed: &flushed,
         seen: Vec::new(alloc),
     };
-    let end = try_batch(alloc, &mut input, &mut output, &mut bench)?;
+    let end = try_batch(alloc, &mut input, &mut output, bench)?;
     must(end == Ok(REFUSED), "another end")?;
     must(input.seen.as_slice() == FLUSHED.as_slice(), "not flushed")?;
     must(flushed.get() == 54, "another length")
+}
+
+fn opens_and_is_flushed<S: Alter + Drop, H: Shelf + Drop>(
+    alloc: Global,
+    store: Connection<S>,
+    shelf: H,
+    lines: &[u8],
+) -> Result<(), Fail> {
+    let mut bench = open(alloc, store, shelf)?;
+    is_flushed(alloc, &mut bench, lines)
 }
 
 #[test]
 fn an_answer_is_flushed_before_the_next_line_is_read(rt: HostRuntime) -> Result<(), Fail> {
     let alloc = rt.alloc();
     let mut lines = Vec::new(alloc);
-    lines.extend_from_slice(b"\n")?;
-    lines.extend_from_slice(LABEL.as_bytes())?;
-    lines.extend_from_slice(b"   \n")?;
-    lines.extend_from_slice(LABEL.as_bytes())?;
-    lines.extend_from_slice(b"k/1\n")?;
-    lines.extend_from_slice(&[b'x'; 1025])?;
-    lines.extend_from_slice(b"\nk2 insert --did 2 gm0 b.img")?;
-    is_flushed(alloc, memory(alloc)?, shelf(alloc)?, lines.as_slice())
+    for piece in [
+        b"\n".as_slice(),
+        LABEL.as_bytes(),
+        b"   \n",
+        LABEL.as_bytes(),
+        b"k/1\n",
+        &[b'x'; 1025],
+        b"\nk2 insert --did 2 gm0 b.img",
+    ] {
+        lines.extend_from_slice(piece)?;
+    }
+    opens_and_is_flushed(alloc, memory(alloc)?, shelf(alloc)?, lines.as_slice())
 }

@@ -41,6 +41,14 @@ impl<'a> Read for Slow<'a> {
     }
 }
 
+#[derive(Clone, Copy)]
+struct Expected<'a> {
+    told: &'a [u8],
+    end: Result<BatchEnd, FrontFault>,
+    next: &'a [u8],
+    answers: &'static str,
+}
+
 // An input that fails behind so many bytes, also at its end.
 fn failing(lines: &[u8], passing: usize) -> Slow<'_> {
     Slow {
@@ -51,17 +59,30 @@ fn failing(lines: &[u8], passing: usize) -> Slow<'_> {
     }
 }
 
-fn takes<R: Read, S: Alter, H: Shelf>(
+// A batch of such an input, which is to be told this and to end so; what is asked next of the same
+// bench is answered so.
+fn takes<S: Alter, H: Shelf>(
     alloc: Global,
-    reader: &mut R,
     bench: &mut Bench<S, H>,
-    expected: &[u8],
-    end: Result<BatchEnd, FrontFault>,
+    mut input: Slow<'_>,
+    expected: Expected<'_>,
 ) -> Result<(), Fail> {
     let mut text = Vec::new(alloc);
-    let ended = try_batch(alloc, reader, &mut text, bench)?;
-    must(text.as_slice() == expected, "another text")?;
-    must(ended == end, "another end")
+    let ended = try_batch(alloc, &mut input, &mut text, bench)?;
+    must(text.as_slice() == expected.told, "another text")?;
+    must(ended == expected.end, "another end")?;
+    answers(alloc, bench, expected.next, expected.answers, DONE)
+}
+
+fn opens_and_takes<S: Alter + Drop, H: Shelf + Drop>(
+    alloc: Global,
+    store: Connection<S>,
+    shelf: H,
+    input: Slow<'_>,
+    expected: Expected<'_>,
+) -> Result<(), Fail> {
+    let mut bench = open(alloc, store, shelf)?;
+    takes(alloc, &mut bench, input, expected)
 }
 
 const TOLD: &str = "k1 ok 1\nk2 ok 2\nk3 ok 3\n";
@@ -77,77 +98,56 @@ fn told_after(answered: usize) -> &'static str {
 }
 
 // Each answer to the first batch has eight bytes.
-fn fails_after<S: Alter + Drop, H: Shelf + Drop>(
-    alloc: Global,
-    store: Connection<S>,
-    shelf: H,
-    lines: &[u8],
-    passing: usize,
-) -> Result<(), Fail> {
-    let mut bench = open(alloc, store, shelf)?;
+fn fails_behind(lines: &[u8], passing: usize) -> Result<Expected<'_>, Fail> {
     let answered = lines.iter().take(passing).filter(|b| **b == 10).count();
-    let expected = TOLD.as_bytes().get(..answered.saturating_mul(8));
-    let expected = expected.ok_or("too many lines")?;
-    let mut input = failing(lines, passing);
-    let end = Err(FrontFault::Read);
-    takes(alloc, &mut input, &mut bench, expected, end)?;
-    answers(alloc, &mut bench, lines, told_after(answered), DONE)
+    let told = TOLD.as_bytes().get(..answered.saturating_mul(8));
+    Ok(Expected {
+        told: told.ok_or("too many lines")?,
+        end: Err(FrontFault::Read),
+        next: lines,
+        answers: told_after(answered),
+    })
 }
 
 #[test]
 fn what_was_answered_before_an_input_failed_stays(rt: HostRuntime) -> Result<(), Fail> {
     let alloc = rt.alloc();
-    let lines = format!(in alloc; "{LABEL}{INSERT}{REMOVE}")?;
+    let text = format!(in alloc; "{LABEL}{INSERT}{REMOVE}")?;
+    let lines = text.as_bytes();
     for passing in 0..=lines.len() {
-        fails_after(
-            alloc,
-            memory(alloc)?,
-            shelf(alloc)?,
-            lines.as_bytes(),
-            passing,
-        )?;
+        let input = failing(lines, passing);
+        let expected = fails_behind(lines, passing)?;
+        opens_and_takes(alloc, memory(alloc)?, shelf(alloc)?, input, expected)?;
     }
     Ok(())
 }
 
-fn comes_slowly<S: Alter + Drop, H: Shelf + Drop>(
-    alloc: Global,
-    store: Connection<S>,
-    shelf: H,
-    lines: &[u8],
-) -> Result<(), Fail> {
-    let mut bench = open(alloc, store, shelf)?;
-    let mut input = Slow {
-        interrupts: true,
-        ..failing(lines, usize::MAX)
-    };
-    takes(alloc, &mut input, &mut bench, TOLD.as_bytes(), Ok(DONE))
-}
-
+// One that comes slowly is answered whole, and a long line isn't answered before its end is found.
 #[test]
-fn an_input_may_be_slow_and_interrupted(rt: HostRuntime) -> Result<(), Fail> {
+fn a_line_is_answered_once_its_end_is_found(rt: HostRuntime) -> Result<(), Fail> {
     let alloc = rt.alloc();
     let lines = format!(in alloc; "\n{LABEL}  \n{INSERT}{REMOVE}")?;
-    comes_slowly(alloc, memory(alloc)?, shelf(alloc)?, lines.as_bytes())
-}
-
-// No line is answered before its end is found.
-fn fails_within_a_line<S: Alter + Drop, H: Shelf + Drop>(
-    alloc: Global,
-    store: Connection<S>,
-    shelf: H,
-) -> Result<(), Fail> {
-    let mut bench = open(alloc, store, shelf)?;
+    let slow = Slow {
+        interrupts: true,
+        ..failing(lines.as_bytes(), usize::MAX)
+    };
+    let whole = Expected {
+        told: TOLD.as_bytes(),
+        end: Ok(DONE),
+        next: lines.as_bytes(),
+        answers: told_after(3),
+    };
+    opens_and_takes(alloc, memory(alloc)?, shelf(alloc)?, slow, whole)?;
     let long = [b'x'; 1030];
+    let nothing = Expected {
+        told: &[],
+        end: Err(FrontFault::Read),
+        answers: TOLD,
+        ..whole
+    };
     for passing in [0usize, 1, 1024, 1025, 1026] {
-        let mut input = failing(&long, passing);
-        let end = Err(FrontFault::Read);
-        takes(alloc, &mut input, &mut bench, &[], end)?;
+        let input = failing(&long, passing);
+        opens_and_takes(alloc, memory(alloc)?, shelf(alloc)?, input, nothing)?;
     }
     Ok(())
-}
-
-#[test]
-fn a_line_of_an_input_that_failed_within_it_has_no_answer(rt: HostRuntime) -> Result<(), Fail> {
-    fails_within_a_line(rt.alloc(), memory(rt.alloc())?, shelf(rt.alloc())?)
 }

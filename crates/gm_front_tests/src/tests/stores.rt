@@ -1,8 +1,8 @@
 //! A bench over a store of two files: which bytes a batch leaves as they are, and a batch whose
 //! store stops at each of its calls in turn.
 
-use super::faults::{done_of, goes_on, is_closed, script};
-use super::{DONE, LABEL, REFUSED, Told, answers, tell, try_open};
+use super::faults::{goes_on, plays};
+use super::{DONE, LABEL, REFUSED, answers, try_open};
 use gm_bench::{Bench, BenchFault};
 use gm_shelf::{MemShelf, Shelf};
 use gm_test_media::{ALL, Calls, StoreBytes, must, must_be_alike, shelf};
@@ -53,28 +53,16 @@ k2 refused 17
 k2 refused 1
 ";
 
-// The script, and how many of its commands were answered as done. The store is what stops.
-fn plays<S: Alter + Drop, H: Shelf + Drop>(
-    alloc: Global,
-    mut bench: Bench<S, H>,
-    and_more: bool,
-) -> Result<(u64, Connection<S>, H), Fail> {
-    let told: Told = tell(alloc, &mut bench, script(alloc, None)?.as_bytes())?;
-    let done = done_of(alloc, &told, BenchFault::Store.number())?;
-    if done < 4 && and_more {
-        is_closed(alloc, &mut bench)?;
-    }
-    let (store, shelf) = bench.close();
-    Ok((done, store, shelf))
-}
-
 fn serves<S: Alter + Drop, H: Shelf + Drop>(
     alloc: Global,
     mut bench: Bench<S, H>,
     job: Job,
 ) -> Result<(u64, Connection<S>, H), Fail> {
     match job {
-        Job::Play { and_more } => return plays(alloc, bench, and_more),
+        Job::Play { and_more } => {
+            let fault = BenchFault::Store.number();
+            return plays(alloc, bench, fault, and_more);
+        }
         Job::GoOn { done } => goes_on(alloc, &mut bench, done)?,
         Job::Label => answers(alloc, &mut bench, LABEL.as_bytes(), "k1 ok 1\n", DONE)?,
         Job::Idle => answers(alloc, &mut bench, IDLE.as_bytes(), IDLE_TOLD, REFUSED)?,

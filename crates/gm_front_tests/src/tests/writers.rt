@@ -13,10 +13,10 @@ use std::test::Fail;
 // Takes so many bytes at a time and in all, and is flushed so often. It may be interrupted before
 // each write. What is full fails, or takes nothing.
 #[derive(Drop)]
-struct Narrow {
+pub(super) struct Narrow {
     text: Vec<u8>,
     at_once: usize,
-    room: usize,
+    pub(super) room: usize,
     flushes: usize,
     fails: bool,
     interrupts: bool,
@@ -52,7 +52,7 @@ impl Write for Narrow {
 }
 
 // Takes all.
-fn wide(alloc: Global) -> Narrow {
+pub(super) fn wide(alloc: Global) -> Narrow {
     Narrow {
         text: Vec::new(alloc),
         at_once: usize::MAX,
@@ -70,129 +70,106 @@ const LAST_TOLD_AGAIN: &str = "k1 repeated 1\nk2 ok 2\n";
 
 const BOTH_TOLD_AGAIN: &str = "k1 repeated 1\nk2 repeated 2\n";
 
-// A batch of two lines, which is to end so with so much told, and with these bytes of its input
-// left.
+// How a batch of two lines is to end: what is told of it, which of its input is left, and what the
+// same lines are then answered.
+#[derive(Clone, Copy)]
+struct Expected<'a> {
+    told: &'a [u8],
+    end: Result<BatchEnd, FrontFault>,
+    left: &'static str,
+    again: &'static str,
+}
+
 fn tells<S: Alter, H: Shelf>(
     alloc: Global,
     bench: &mut Bench<S, H>,
     output: &mut Narrow,
-    expected: &[u8],
-    end: Result<BatchEnd, FrontFault>,
-    left: &str,
+    expected: Expected<'_>,
 ) -> Result<(), Fail> {
     let lines = format!(in alloc; "{LABEL}{INSERT}")?;
     let mut input = lines.as_bytes();
     let ended = try_batch(alloc, &mut input, output, bench)?;
-    must(output.text.as_slice() == expected, "another text")?;
-    must(ended == end, "another end")?;
-    must(input == left.as_bytes(), "another rest")
+    must(output.text.as_slice() == expected.told, "another text")?;
+    let is_over = ended == expected.end && input == expected.left.as_bytes();
+    must(is_over, "another end or rest")?;
+    answers(alloc, bench, lines.as_bytes(), expected.again, DONE)
 }
 
-fn repeats<S: Alter, H: Shelf>(
-    alloc: Global,
-    bench: &mut Bench<S, H>,
-    told: &'static str,
-) -> Result<(), Fail> {
-    let lines = format!(in alloc; "{LABEL}{INSERT}")?;
-    answers(alloc, bench, lines.as_bytes(), told, DONE)
-}
-
-// Each answer has eight bytes. A line is taken once the answers before it are told.
-fn is_full_after<S: Alter + Drop, H: Shelf + Drop>(
+fn opens_and_tells<S: Alter + Drop, H: Shelf + Drop>(
     alloc: Global,
     store: Connection<S>,
     shelf: H,
     output: &mut Narrow,
+    expected: Expected<'_>,
 ) -> Result<(), Fail> {
     let mut bench = open(alloc, store, shelf)?;
-    let room = output.room;
-    let expected = TOLD.as_bytes().get(..room).ok_or("too much room")?;
-    let left = if room < 8 { INSERT } else { "" };
-    let end = Err(FrontFault::Write);
-    tells(alloc, &mut bench, output, expected, end, left)?;
-    let again = if room < 8 {
-        LAST_TOLD_AGAIN
-    } else {
-        BOTH_TOLD_AGAIN
-    };
-    repeats(alloc, &mut bench, again)
+    tells(alloc, &mut bench, output, expected)
+}
+
+// What is expected of an output that fails behind so many bytes of the answers: each has eight, and
+// a line is taken once the answers before it are told.
+fn fails_behind(told: usize, fails_at: usize) -> Result<Expected<'static>, Fail> {
+    let first = fails_at < 8;
+    Ok(Expected {
+        told: TOLD.as_bytes().get(..told).ok_or("too much room")?,
+        end: Err(FrontFault::Write),
+        left: if first { INSERT } else { "" },
+        again: if first {
+            LAST_TOLD_AGAIN
+        } else {
+            BOTH_TOLD_AGAIN
+        },
+    })
 }
 
 #[test]
 fn what_an_output_has_no_room_for_was_done(rt: HostRuntime) -> Result<(), Fail> {
     let alloc = rt.alloc();
-    for fails in [true, false] {
-        for room in 0usize..16 {
-            for at_once in [1usize, 3, 16] {
-                let mut output = Narrow {
-                    at_once,
-                    room,
-                    fails,
-                    interrupts: at_once == 3,
-                    ..wide(alloc)
-                };
-                is_full_after(alloc, memory(alloc)?, shelf(alloc)?, &mut output)?;
-            }
-        }
+    for case in 0usize..96 {
+        let room = case % 16;
+        let at_once = [1usize, 3, 16][case / 16 % 3];
+        let mut output = Narrow {
+            at_once,
+            room,
+            fails: case < 48,
+            interrupts: at_once == 3,
+            ..wide(alloc)
+        };
+        let expected = fails_behind(room, room)?;
+        opens_and_tells(alloc, memory(alloc)?, shelf(alloc)?, &mut output, expected)?;
     }
     Ok(())
-}
-
-fn is_narrow<S: Alter + Drop, H: Shelf + Drop>(
-    alloc: Global,
-    store: Connection<S>,
-    shelf: H,
-    at_once: usize,
-) -> Result<(), Fail> {
-    let mut bench = open(alloc, store, shelf)?;
-    let mut output = Narrow {
-        at_once,
-        room: 16,
-        interrupts: true,
-        ..wide(alloc)
-    };
-    tells(
-        alloc,
-        &mut bench,
-        &mut output,
-        TOLD.as_bytes(),
-        Ok(DONE),
-        "",
-    )
 }
 
 #[test]
 fn an_output_may_be_narrow_and_interrupted(rt: HostRuntime) -> Result<(), Fail> {
+    let alloc = rt.alloc();
     for at_once in 1usize..10 {
-        is_narrow(rt.alloc(), memory(rt.alloc())?, shelf(rt.alloc())?, at_once)?;
+        let mut output = Narrow {
+            at_once,
+            room: 16,
+            interrupts: true,
+            ..wide(alloc)
+        };
+        let expected = Expected {
+            end: Ok(DONE),
+            ..fails_behind(16, 16)?
+        };
+        opens_and_tells(alloc, memory(alloc)?, shelf(alloc)?, &mut output, expected)?;
     }
     Ok(())
 }
 
-fn fails_flushing<S: Alter + Drop, H: Shelf + Drop>(
-    alloc: Global,
-    store: Connection<S>,
-    shelf: H,
-    flushes: usize,
-) -> Result<(), Fail> {
-    let mut bench = open(alloc, store, shelf)?;
-    let mut output = Narrow {
-        flushes,
-        ..wide(alloc)
-    };
-    let end = Err(FrontFault::Write);
-    if flushes == 0 {
-        tells(alloc, &mut bench, &mut output, b"k1 ok 1\n", end, INSERT)?;
-        return repeats(alloc, &mut bench, LAST_TOLD_AGAIN);
-    }
-    tells(alloc, &mut bench, &mut output, TOLD.as_bytes(), end, "")?;
-    repeats(alloc, &mut bench, BOTH_TOLD_AGAIN)
-}
-
 #[test]
 fn an_answer_that_cant_be_flushed_isnt_told(rt: HostRuntime) -> Result<(), Fail> {
+    let alloc = rt.alloc();
     for flushes in 0usize..2 {
-        fails_flushing(rt.alloc(), memory(rt.alloc())?, shelf(rt.alloc())?, flushes)?;
+        let mut output = Narrow {
+            flushes,
+            ..wide(alloc)
+        };
+        let expected = fails_behind(flushes * 8 + 8, flushes * 8)?;
+        opens_and_tells(alloc, memory(alloc)?, shelf(alloc)?, &mut output, expected)?;
     }
     Ok(())
 }

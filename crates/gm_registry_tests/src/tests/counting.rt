@@ -2,6 +2,7 @@
 
 use super::{accept, destroys, inserts, labels, labels_on, open, settle};
 use gm_changes::Change;
+use gm_test_media::must;
 use sqlite::{Connection, MemStore};
 use sqlite_trees::error::StoreError;
 use sqlite_trees::schema::Object;
@@ -152,33 +153,15 @@ impl<S: Alter> Alter for Counted<S> {
     }
 }
 
-// What `accept` is asked. The words are the key too.
-#[derive(Drop)]
-struct Call {
-    change: Change,
-    words: &'static str,
-}
-
-// The calls in their order. The first leaves a mirror and a component that no later one names.
-fn calls(alloc: Global) -> Result<Vec<Call>, Fail> {
-    let mut calls = Vec::new(alloc);
-    calls.push(Call {
-        change: labels_on(alloc, "gm9", "z.img", 9)?,
-        words: "label gm9 z.img",
-    })?;
-    calls.push(Call {
-        change: labels(alloc)?,
-        words: "label gm0 a.img",
-    })?;
-    calls.push(Call {
-        change: inserts(alloc)?,
-        words: "insert gm0 b.img",
-    })?;
-    calls.push(Call {
-        change: destroys(alloc)?,
-        words: "destroy gm0",
-    })?;
-    Ok(calls)
+// The changes in their order; the words of each are its key too. The first leaves a mirror and a
+// component that no later one names.
+fn change_at(alloc: Global, at: usize) -> Result<(Change, &'static str), Fail> {
+    match at {
+        0 => Ok((labels_on(alloc, "gm9", "z.img", 9)?, "label gm9 z.img")),
+        1 => Ok((labels(alloc)?, "label gm0 a.img")),
+        2 => Ok((inserts(alloc)?, "insert gm0 b.img")),
+        _ => Ok((destroys(alloc)?, "destroy gm0")),
+    }
 }
 
 fn nothing(alloc: Global) -> Result<Connection<Counted<MemStore>>, Fail> {
@@ -192,13 +175,18 @@ fn nothing(alloc: Global) -> Result<Connection<Counted<MemStore>>, Fail> {
     }
 }
 
-// How many rows a new registry writes for the first `accepted` calls, of which the first `settled`
-// are settled.
-fn written(alloc: Global, calls: &[Call], accepted: usize, settled: usize) -> Result<u64, Fail> {
-    let mut registry = open(nothing(alloc)?)?;
+// How many rows a new registry writes for the first `accepted` changes, of which the first
+// `settled` are settled.
+fn written<S: Alter + Drop>(
+    alloc: Global,
+    store: Connection<Counted<S>>,
+    accepted: usize,
+    settled: usize,
+) -> Result<u64, Fail> {
+    let mut registry = open(store)?;
     for at in 0..accepted {
-        let call = calls.get(at).ok_or("no such call")?;
-        accept(&mut registry, &call.change, call.words, call.words)?;
+        let (change, words) = change_at(alloc, at)?;
+        accept(&mut registry, &change, words, words)?;
         if at < settled {
             settle(&mut registry)?;
         }
@@ -206,18 +194,17 @@ fn written(alloc: Global, calls: &[Call], accepted: usize, settled: usize) -> Re
     Ok(registry.close().into_store().rows)
 }
 
-// How many rows one call writes, where those before it are settled: two runs differ in that call
-// alone.
-fn written_by(alloc: Global, calls: &[Call], at: usize) -> Result<u64, Fail> {
-    let after = at.checked_add(1).ok_or("no such call")?;
-    let with = written(alloc, calls, after, at)?;
-    let without = written(alloc, calls, at, at)?;
+// How many rows one change writes, where those before it are settled: two runs differ in that
+// change alone.
+fn written_by(alloc: Global, at: usize) -> Result<u64, Fail> {
+    let after = at.checked_add(1).ok_or("no such change")?;
+    let with = written(alloc, nothing(alloc)?, after, at)?;
+    let without = written(alloc, nothing(alloc)?, at, at)?;
     Ok(with.checked_sub(without).ok_or("fewer rows")?)
 }
 
 // A row for each part of the change, and the command's.
-fn named_by(calls: &[Call], at: usize) -> Result<u64, Fail> {
-    let change = &calls.get(at).ok_or("no such call")?.change;
+fn named_by(change: &Change) -> u64 {
     let lists = [
         change.components().len(),
         change.gone_components().len(),
@@ -228,26 +215,18 @@ fn named_by(calls: &[Call], at: usize) -> Result<u64, Fail> {
     for list in lists {
         rows = rows.saturating_add(list as u64);
     }
-    Ok(rows)
+    rows
 }
 
 #[test]
 fn an_accept_writes_the_rows_that_its_change_names(rt: HostRuntime) -> Result<(), Fail> {
-    let calls = calls(rt.alloc())?;
     // A mirror, a component, an intent and the command; in the second an intent more, of the
-    // component that was there.
-    for (at, rows) in [(1, 4), (2, 5)] {
-        assert_eq!(rt; written_by(rt.alloc(), &calls, at)?, rows, "call {at}");
-        assert_eq!(rt; named_by(&calls, at)?, rows, "call {at}");
+    // component that was there. By the third a mirror and two components are gone, and two intents
+    // and the command are new.
+    for (at, rows) in [(1usize, 4u64), (2, 5), (3, 6)] {
+        let (change, words) = change_at(rt.alloc(), at)?;
+        must(named_by(&change) == rows, words)?;
+        must(written_by(rt.alloc(), at)? == rows, words)?;
     }
-    Ok(())
-}
-
-#[test]
-fn an_accept_deletes_the_rows_that_its_change_names(rt: HostRuntime) -> Result<(), Fail> {
-    let calls = calls(rt.alloc())?;
-    // A mirror and two components are gone; two intents and the command are new.
-    assert_eq!(rt; written_by(rt.alloc(), &calls, 3)?, 6);
-    assert_eq!(rt; named_by(&calls, 3)?, 6);
     Ok(())
 }

@@ -73,7 +73,8 @@ pub(super) const EDITS: [&str; 39] = [
     "UPDATE commands SET of_total = -1 WHERE seq = 3",
 ];
 
-fn load<S: Alter>(
+// This has no clause, so that the proof of a test doesn't carry the state of each call.
+pub(super) fn load<S: Alter>(
     alloc: Global,
     registry: &mut Registry<S>,
 ) -> Result<(State, Vec<Intent>), StoreFault> {

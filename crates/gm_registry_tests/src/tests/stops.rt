@@ -104,7 +104,10 @@ fn serve<S: Alter + Drop>(
         Job::Look => {
             let count = accepted(&mut registry).ok();
             let mut store = registry.close();
-            let found = count.and_then(|commands| rows_in(commands, &mut store));
+            let found = match count {
+                Some(commands) => rows_in(commands, &mut store),
+                None => None,
+            };
             let told = Told {
                 found,
                 ..NOTHING_TOLD
@@ -238,17 +241,22 @@ fn check(alloc: Global, left: &StoreBytes, before: u64, reached: Reached) -> Res
     is_between(found, before, reached)
 }
 
+// The command behind so many, and its key.
+fn command_after(alloc: Global, before: u64) -> Result<(Change, &'static str), Fail> {
+    match before {
+        0 => Ok((labels(alloc)?, "k1")),
+        _ => Ok((inserts(alloc)?, "k2")),
+    }
+}
+
 // One run with a stop, and whether it came; the files are checked as they read and as a crash
 // leaves them.
 fn stop_at(alloc: Global, from: &StoreBytes, before: u64, calls: Calls) -> Result<bool, Fail> {
-    let (change, key) = if before == 0 {
-        (labels(alloc)?, "k1")
-    } else {
-        (inserts(alloc)?, "k2")
-    };
+    let (change, key) = command_after(alloc, before)?;
     let run = run_for(alloc, from, calls, &change, key)?;
-    check(alloc, &run.read, before, run.reached)?;
-    check(alloc, &run.crashed, before, run.reached)?;
+    for left in [&run.read, &run.crashed] {
+        check(alloc, left, before, run.reached)?;
+    }
     Ok(run.stopped)
 }
 
@@ -286,6 +294,5 @@ fn a_stop_while_a_registry_is_made(rt: HostRuntime) -> Result<(), Fail> {
 
 #[test]
 fn a_stop_within_a_command(rt: HostRuntime) -> Result<(), Fail> {
-    let from = one_command(rt.alloc())?;
-    stop_at_each(rt.alloc(), &from, 1)
+    stop_at_each(rt.alloc(), &one_command(rt.alloc())?, 1)
 }

@@ -6,7 +6,7 @@ use gm_changes::changed_by;
 use gm_commands::{BalanceWord, Command, NewComponent, NewMirror, Slice, words_of};
 use gm_registry::Registry;
 use gm_state::State;
-use gm_test_media::label;
+use gm_test_media::{label, must};
 use md5::{Digest, Md5};
 use sqlite::{Alter, Connection};
 use std::alloc::Global;
@@ -23,44 +23,42 @@ const PENDING: [u8; 16] = [
     0x08, 0x23, 0x52, 0x99, 0xd7, 0x5e, 0x8f, 0xc5, 0x61, 0xbb, 0x0c, 0xcb, 0xd9, 0x89, 0xcc, 0x9b,
 ];
 
+// Whether a file has twelve pages with this hash.
+fn must_be(bytes: &[u8], expected: [u8; 16]) -> Result<(), Fail> {
+    must(bytes.len() == 49152, "another length")?;
+    let hash: [u8; 16] = Md5::digest(bytes).into();
+    must(hash == expected, "other bytes")
+}
+
 #[test]
 fn a_registry_of_one_command_is_the_stored_file(rt: HostRuntime) -> Result<(), Fail> {
-    let left = one_command(rt.alloc())?;
-    let bytes = left.db.as_slice();
-    assert_eq!(rt; bytes.len(), 49152);
-    let hash: [u8; 16] = Md5::digest(bytes).into();
-    assert_eq!(rt; hash, STORED);
-    Ok(())
+    must_be(one_command(rt.alloc())?.db.as_slice(), STORED)
 }
 
-fn labels_plainly() -> Result<Command, Fail> {
-    Ok(Command::Label(NewMirror {
-        name: label("gm0")?,
-        provider: label("a.img")?,
-        mid: 7,
-        did: 1,
-        balance: BalanceWord::Load,
-        slice: Slice::new(4096).ok_or("no slice")?,
-        flags: NO_FLAGS,
-        hardcoded: false,
-    }))
-}
-
-fn inserts_plainly() -> Result<Command, Fail> {
-    Ok(Command::Insert(NewComponent {
-        name: label("gm0")?,
-        provider: label("b.img")?,
-        did: 2,
-        priority: 0,
-        hardcoded: false,
-    }))
-}
-
-fn removes() -> Result<Command, Fail> {
-    Ok(Command::Remove {
-        name: label("gm0")?,
-        provider: label("b.img")?,
-    })
+// The label, the insert and the remove of the file, by their places.
+fn command_at(place: usize) -> Result<Command, Fail> {
+    let name = label("gm0")?;
+    let provider = label("b.img")?;
+    match place {
+        0 => Ok(Command::Label(NewMirror {
+            name,
+            provider: label("a.img")?,
+            mid: 7,
+            did: 1,
+            balance: BalanceWord::Load,
+            slice: Slice::new(4096).ok_or("no slice")?,
+            flags: NO_FLAGS,
+            hardcoded: false,
+        })),
+        1 => Ok(Command::Insert(NewComponent {
+            name,
+            provider,
+            did: 2,
+            priority: 0,
+            hardcoded: false,
+        })),
+        _ => Ok(Command::Remove { name, provider }),
+    }
 }
 
 // Accepts a command, and answers the records after it.
@@ -82,12 +80,13 @@ fn stop_within_remove<S: Alter + Drop>(
     store: Connection<S>,
 ) -> Result<Connection<S>, Fail> {
     let mut registry = open(store)?;
-    let state = State::empty(alloc);
-    let state = accept_command(alloc, &mut registry, &state, &labels_plainly()?, "k1")?;
-    settle(&mut registry)?;
-    let state = accept_command(alloc, &mut registry, &state, &inserts_plainly()?, "k2")?;
-    settle(&mut registry)?;
-    accept_command(alloc, &mut registry, &state, &removes()?, "k3")?;
+    let mut state = State::empty(alloc);
+    for (place, key) in ["k1", "k2", "k3"].iter().enumerate() {
+        if place > 0 {
+            settle(&mut registry)?;
+        }
+        state = accept_command(alloc, &mut registry, &state, &command_at(place)?, key)?;
+    }
     Ok(registry.close())
 }
 
@@ -99,14 +98,14 @@ fn fresh_path(rt: &HostRuntime) -> Result<String, Fail> {
     Ok(path)
 }
 
+fn bytes_within_a_remove(rt: &HostRuntime) -> Result<Vec<u8>, Fail> {
+    let path = fresh_path(rt)?;
+    let store = Connection::open(rt, path.as_str())?;
+    stop_within_remove(rt.alloc(), store)?.close()?;
+    Ok(fs::read(rt, path.as_str())?)
+}
+
 #[test]
 fn a_registry_within_a_remove_is_the_stored_file(rt: HostRuntime) -> Result<(), Fail> {
-    let path = fresh_path(&rt)?;
-    let store = Connection::open(&rt, path.as_str())?;
-    stop_within_remove(rt.alloc(), store)?.close()?;
-    let bytes = fs::read(&rt, path.as_str())?;
-    assert_eq!(rt; bytes.len(), 49152);
-    let hash: [u8; 16] = Md5::digest(bytes.as_slice()).into();
-    assert_eq!(rt; hash, PENDING);
-    Ok(())
+    must_be(bytes_within_a_remove(&rt)?.as_slice(), PENDING)
 }

@@ -3,7 +3,7 @@
 use super::inserts;
 use super::loading::{EDITS, ROWS};
 use super::stops::{edited, one_command, run};
-use gm_test_media::StoreBytes;
+use gm_test_media::{StoreBytes, must};
 use std::alloc::Global;
 use std::test::Fail;
 
@@ -33,19 +33,13 @@ fn are_left_alone(alloc: Global, from: &StoreBytes, edits: &[&str]) -> Result<bo
 }
 
 #[test]
-fn another_store_keeps_its_bytes(rt: HostRuntime) -> Result<(), Fail> {
-    let registry = one_command(rt.alloc())?;
-    assert!(rt; !is_left_alone(rt.alloc(), &registry)?);
-    assert!(rt; are_left_alone(rt.alloc(), &registry, &OTHERS)?);
-    Ok(())
-}
-
-#[test]
-fn rows_that_say_no_state_keep_their_bytes(rt: HostRuntime) -> Result<(), Fail> {
-    let registry = one_command(rt.alloc())?;
-    let empty = edited(rt.alloc(), &registry, EMPTY)?;
-    let rows = edited(rt.alloc(), &empty, ROWS)?;
-    assert!(rt; !is_left_alone(rt.alloc(), &rows)?);
-    assert!(rt; are_left_alone(rt.alloc(), &rows, &EDITS)?);
-    Ok(())
+fn what_cannot_be_read_keeps_its_bytes(rt: HostRuntime) -> Result<(), Fail> {
+    let alloc = rt.alloc();
+    let registry = one_command(alloc)?;
+    must(!is_left_alone(alloc, &registry)?, "a registry is unread")?;
+    must(are_left_alone(alloc, &registry, &OTHERS)?, "another store")?;
+    let empty = edited(alloc, &registry, EMPTY)?;
+    let rows = edited(alloc, &empty, ROWS)?;
+    must(!is_left_alone(alloc, &rows)?, "a state is unread")?;
+    must(are_left_alone(alloc, &rows, &EDITS)?, "rows of no state")
 }

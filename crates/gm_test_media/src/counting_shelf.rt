@@ -9,7 +9,7 @@ use std::alloc::AllocError;
 /// How many calls were made and succeeded, a run as one, and how many sectors the writes had. An
 /// empty run is none.
 #[derive(Clone, Copy, Debug, PartialEq, Eq)]
-pub struct Calls {
+pub struct CallCounts {
     pub reads: u64,
     pub writes: u64,
     pub written: u64,
@@ -20,12 +20,12 @@ pub struct Calls {
 #[derive(Drop)]
 pub struct CountingShelf<H> {
     pub inner: H,
-    pub calls: Calls,
+    pub calls: CallCounts,
 }
 
 impl<H: Shelf> CountingShelf<H> {
     pub fn new(inner: H) -> CountingShelf<H> {
-        let calls = Calls {
+        let calls = CallCounts {
             reads: 0,
             writes: 0,
             written: 0,
