@@ -1,6 +1,6 @@
-//! The program's own words: which subcommands and options there are, what its help says of them, and
-//! which job they ask for. `job.rt` has the jobs, `command_line.rt` the table. The lines of a batch
-//! are other words (`gm_words`).
+//! The program's own words: which subcommands and options there are, what its help says of them,
+//! and which job they ask for. `job.rt` has the jobs, `command_line.rt` the table. The lines of a
+//! batch are other words (`gm_words`).
 #![tactic(auto)]
 
 mod command_line;

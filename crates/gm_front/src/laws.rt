@@ -12,9 +12,10 @@ ghost use Rattle.gm_front.specs.BatchRuns.{BatchLeaves};
 use gm_shelf::Shelf;
 use sqlite::Alter;
 
-/// A batch is a part of a schedule. A bench that is at rest behind accepted commands, as the law over
-/// schedules says, is so behind the batch as well, with those commands of its lines that were done;
-/// and where it failed at a line, whatever a stop then leaves leads on, with that command or without.
+/// A batch is a part of a schedule. A bench that is at rest behind accepted commands, as the law
+/// over schedules says, is so behind the batch as well, with those commands of its lines that were
+/// done; and where it failed at a line, whatever a stop then leaves leads on, with that command or
+/// without.
 pub fn whole_batch_law<S: Alter, H: Shelf>()
     ensures { (all : Sizes) (r : Held S) (h : H) (away : Image) (acc ack : List Entry)
         (input before now : Option (List ℕ)) (s : Held S) (k : H) (end : Result BatchEnd FrontFault)

@@ -3,9 +3,9 @@
 //! check of this crate needn't.
 //!
 //! `over_streams.rt` is all of it, for the jobs that `gm_command_line` reads from words. What is
-//! done at a bench, by `bench_command.rt`, is done in the folder and with the registry that `place.rt` opens
-//! and closes; `recover.rt`, `show.rt`, `audit.rt` and `batch.rt` have the commands. `taste.rt` has
-//! the one that looks at a folder without a registry.
+//! done at a bench, by `bench_command.rt`, is done in the folder and with the registry that
+//! `place.rt` opens and closes; `recover.rt`, `show.rt`, `audit.rt` and `batch.rt` have the
+//! commands. `taste.rt` has the one that looks at a folder without a registry.
 #![tactic(auto)]
 
 mod audit;

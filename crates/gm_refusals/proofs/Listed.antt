@@ -13,10 +13,10 @@ has_number n q = number_of q == n
 
 abbrev all : List Refusal
 all =
-    NoMirror ∷ NameTaken ∷ MidTaken ∷ Absent ∷ ProviderTaken ∷ CarriesMetadata ∷ TooSmall ∷ NotMember
-    ∷ DidTaken ∷ Full ∷ TooManyMirrors ∷ SomeLost ∷ LastActive ∷ AlreadyInactive ∷ NotInactive
-    ∷ NoneLost ∷ Inactive ∷ NotSynchronizing ∷ LastSyncid ∷ LastGenid ∷ NothingGiven ∷ NotAdoptable
-    ∷ WrongSize ∷ NoMetadata ∷ []
+    NoMirror ∷ NameTaken ∷ MidTaken ∷ Absent ∷ ProviderTaken ∷ CarriesMetadata ∷ TooSmall
+    ∷ NotMember ∷ DidTaken ∷ Full ∷ TooManyMirrors ∷ SomeLost ∷ LastActive ∷ AlreadyInactive
+    ∷ NotInactive ∷ NoneLost ∷ Inactive ∷ NotSynchronizing ∷ LastSyncid ∷ LastGenid
+    ∷ NothingGiven ∷ NotAdoptable ∷ WrongSize ∷ NoMetadata ∷ []
 
 of_its_number : (r : Refusal) → find (has_number (number_of r)) all ≡ Some r
 of_its_number NoMirror = refl
