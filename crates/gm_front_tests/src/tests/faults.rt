@@ -76,6 +76,11 @@ fn told_after(alloc: Global, accepted: u64) -> Result<String, Fail> {
     Ok(text)
 }
 
+fn is_told(alloc: Global, told: &Told, accepted: u64) -> Result<bool, Fail> {
+    let expected = told_after(alloc, accepted)?;
+    Ok(told.text.as_slice() == expected.as_bytes())
+}
+
 // What it is answered where the bench fails at the command at this place, by the fault of this
 // number.
 fn told_up_to(alloc: Global, place: u64, fault: u8) -> Result<String, Fail> {
@@ -107,8 +112,7 @@ fn stopped_by(told: &Told) -> Option<u8> {
 // How many of the commands were answered as done. Each is told, and so is the fault of this number.
 fn done_of(alloc: Global, told: &Told, fault: u8) -> Result<u64, Fail> {
     if told.end == Ok(REFUSED) {
-        let expected = told_after(alloc, 0)?;
-        must(told.text.as_slice() == expected.as_bytes(), "another text")?;
+        must(is_told(alloc, told, 0)?, "another text")?;
         must(told.left == 0, "something wasn't read")?;
         return Ok(4);
     }
@@ -126,15 +130,16 @@ const LATER: &str = "k/9\n  \nk8\nk9 clear c.img\nk9 clear\n";
 
 const LATER_LEFT: usize = 9;
 
+const CLOSED: BatchEnd = BatchEnd::Stopped(BenchFault::Closed);
+
 // A bench that has failed says so at the first command, whatever its key is, and not before.
 fn is_closed<S: Alter, H: Shelf>(alloc: Global, bench: &mut Bench<S, H>) -> Result<(), Fail> {
-    let closed = BatchEnd::Stopped(BenchFault::Closed);
     for _ in 0..2 {
         let expected = "? refused 1\nk8 refused 1\nk9 fault 4\n";
-        answers_some(alloc, bench, LATER.as_bytes(), expected, closed, LATER_LEFT)?;
+        answers_some(alloc, bench, LATER.as_bytes(), expected, CLOSED, LATER_LEFT)?;
     }
     let line = b"k/9 clear c.img".as_slice();
-    answers(alloc, bench, line, "? fault 4\n", closed)?;
+    answers(alloc, bench, line, "? fault 4\n", CLOSED)?;
     let status = try_status(alloc, bench)?;
     must(status.err() == Some(BenchFault::Closed), "viewed")?;
     answers(alloc, bench, b"\n".as_slice(), "", DONE)?;
@@ -143,19 +148,18 @@ fn is_closed<S: Alter, H: Shelf>(alloc: Global, bench: &mut Bench<S, H>) -> Resu
 
 // The script, and then more where the bench failed and that is asked; how many commands were
 // answered as done.
-pub(super) fn plays<S: Alter + Drop, H: Shelf + Drop>(
+pub(super) fn plays<S: Alter, H: Shelf>(
     alloc: Global,
-    mut bench: Bench<S, H>,
+    bench: &mut Bench<S, H>,
     fault: u8,
     and_more: bool,
-) -> Result<(u64, Connection<S>, H), Fail> {
-    let told = tell(alloc, &mut bench, script(alloc, None)?.as_bytes())?;
+) -> Result<u64, Fail> {
+    let told = tell(alloc, bench, script(alloc, None)?.as_bytes())?;
     let done = done_of(alloc, &told, fault)?;
     if done < 4 && and_more {
-        is_closed(alloc, &mut bench)?;
+        is_closed(alloc, bench)?;
     }
-    let (store, shelf) = bench.close();
-    Ok((done, store, shelf))
+    Ok(done)
 }
 
 // The same lines again, to a bench that was opened since: what was answered is repeated, and the
@@ -167,10 +171,9 @@ pub(super) fn goes_on<S: Alter, H: Shelf>(
 ) -> Result<(), Fail> {
     let told = tell(alloc, bench, script(alloc, None)?.as_bytes())?;
     must(told.end == Ok(REFUSED), "another end")?;
-    let accepted = told.text.as_slice() == told_after(alloc, done)?.as_bytes();
-    let next = told_after(alloc, done.saturating_add(1))?;
-    let next_too = told.text.as_slice() == next.as_bytes();
-    must(accepted || next_too, "another text of the same lines")?;
+    let next = done.saturating_add(1);
+    let holds = is_told(alloc, &told, done)? || is_told(alloc, &told, next)?;
+    must(holds, "another text of the same lines")?;
     shows(alloc, bench, NO_MIRRORS)
 }
 
@@ -181,8 +184,9 @@ fn stops_at<S: Alter + Drop>(
     stop: Stop,
     nth: u64,
 ) -> Result<u64, Fail> {
-    let bench = open(alloc, store, failing(stop, shelf, nth))?;
-    let (done, store, stopped) = plays(alloc, bench, fault_of(stop), true)?;
+    let mut bench = open(alloc, store, failing(stop, shelf, nth))?;
+    let done = plays(alloc, &mut bench, fault_of(stop), true)?;
+    let (store, stopped) = bench.close();
     let mut bench = open(alloc, store, stopped.into_inner())?;
     goes_on(alloc, &mut bench, done)?;
     Ok(done)

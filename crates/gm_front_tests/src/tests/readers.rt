@@ -41,12 +41,13 @@ impl<'a> Read for Slow<'a> {
     }
 }
 
+// How many of the three lines are answered, how that ends, and how many are repeated by a further
+// batch of all three.
 #[derive(Clone, Copy)]
-struct Expected<'a> {
-    told: &'a [u8],
+struct Expected {
+    answered: usize,
     end: Result<BatchEnd, FrontFault>,
-    next: &'a [u8],
-    answers: &'static str,
+    repeated: usize,
 }
 
 // An input that fails behind so many bytes, also at its end.
@@ -59,27 +60,29 @@ fn failing(lines: &[u8], passing: usize) -> Slow<'_> {
     }
 }
 
-// A batch of such an input, which is to be told this and to end so; what is asked next of the same
-// bench is answered so.
+// A batch of such an input, and one of the three lines. Each answer to the first has eight bytes.
 fn takes<S: Alter, H: Shelf>(
     alloc: Global,
     bench: &mut Bench<S, H>,
-    mut input: Slow<'_>,
-    expected: Expected<'_>,
+    input: &mut Slow<'_>,
+    expected: Expected,
 ) -> Result<(), Fail> {
     let mut text = Vec::new(alloc);
-    let ended = try_batch(alloc, &mut input, &mut text, bench)?;
-    must(text.as_slice() == expected.told, "another text")?;
+    let ended = try_batch(alloc, input, &mut text, bench)?;
+    let told = TOLD.as_bytes().get(..expected.answered.saturating_mul(8));
+    must(Some(text.as_slice()) == told, "another text")?;
     must(ended == expected.end, "another end")?;
-    answers(alloc, bench, expected.next, expected.answers, DONE)
+    let lines = format!(in alloc; "{LABEL}{INSERT}{REMOVE}")?;
+    let answered = told_after(expected.repeated);
+    answers(alloc, bench, lines.as_bytes(), answered, DONE)
 }
 
 fn opens_and_takes<S: Alter + Drop, H: Shelf + Drop>(
     alloc: Global,
     store: Connection<S>,
     shelf: H,
-    input: Slow<'_>,
-    expected: Expected<'_>,
+    input: &mut Slow<'_>,
+    expected: Expected,
 ) -> Result<(), Fail> {
     let mut bench = open(alloc, store, shelf)?;
     takes(alloc, &mut bench, input, expected)
@@ -97,57 +100,52 @@ fn told_after(answered: usize) -> &'static str {
     }
 }
 
-// Each answer to the first batch has eight bytes.
-fn fails_behind(lines: &[u8], passing: usize) -> Result<Expected<'_>, Fail> {
-    let answered = lines.iter().take(passing).filter(|b| **b == 10).count();
-    let told = TOLD.as_bytes().get(..answered.saturating_mul(8));
-    Ok(Expected {
-        told: told.ok_or("too many lines")?,
-        end: Err(FrontFault::Read),
-        next: lines,
-        answers: told_after(answered),
-    })
-}
-
 #[test]
 fn what_was_answered_before_an_input_failed_stays(rt: HostRuntime) -> Result<(), Fail> {
     let alloc = rt.alloc();
     let text = format!(in alloc; "{LABEL}{INSERT}{REMOVE}")?;
     let lines = text.as_bytes();
     for passing in 0..=lines.len() {
-        let input = failing(lines, passing);
-        let expected = fails_behind(lines, passing)?;
-        opens_and_takes(alloc, memory(alloc)?, shelf(alloc)?, input, expected)?;
+        let answered = lines.iter().take(passing).filter(|b| **b == 10).count();
+        let expected = Expected {
+            answered,
+            end: Err(FrontFault::Read),
+            repeated: answered,
+        };
+        let mut input = failing(lines, passing);
+        opens_and_takes(alloc, memory(alloc)?, shelf(alloc)?, &mut input, expected)?;
     }
     Ok(())
 }
 
-// One that comes slowly is answered whole, and a long line isn't answered before its end is found.
 #[test]
-fn a_line_is_answered_once_its_end_is_found(rt: HostRuntime) -> Result<(), Fail> {
+fn an_input_may_be_slow_and_interrupted(rt: HostRuntime) -> Result<(), Fail> {
     let alloc = rt.alloc();
     let lines = format!(in alloc; "\n{LABEL}  \n{INSERT}{REMOVE}")?;
-    let slow = Slow {
+    let mut slow = Slow {
         interrupts: true,
         ..failing(lines.as_bytes(), usize::MAX)
     };
-    let whole = Expected {
-        told: TOLD.as_bytes(),
+    let expected = Expected {
+        answered: 3,
         end: Ok(DONE),
-        next: lines.as_bytes(),
-        answers: told_after(3),
+        repeated: 3,
     };
-    opens_and_takes(alloc, memory(alloc)?, shelf(alloc)?, slow, whole)?;
-    let long = [b'x'; 1030];
-    let nothing = Expected {
-        told: &[],
-        end: Err(FrontFault::Read),
-        answers: TOLD,
-        ..whole
-    };
+    opens_and_takes(alloc, memory(alloc)?, shelf(alloc)?, &mut slow, expected)
+}
+
+// No line is answered before its end is found.
+#[test]
+fn a_line_of_an_input_that_failed_within_it_has_no_answer(rt: HostRuntime) -> Result<(), Fail> {
+    let alloc = rt.alloc();
     for passing in [0usize, 1, 1024, 1025, 1026] {
-        let input = failing(&long, passing);
-        opens_and_takes(alloc, memory(alloc)?, shelf(alloc)?, input, nothing)?;
+        let mut input = failing(&[b'x'; 1030], passing);
+        let expected = Expected {
+            answered: 0,
+            end: Err(FrontFault::Read),
+            repeated: 0,
+        };
+        opens_and_takes(alloc, memory(alloc)?, shelf(alloc)?, &mut input, expected)?;
     }
     Ok(())
 }

@@ -53,22 +53,21 @@ k2 refused 17
 k2 refused 1
 ";
 
-fn serves<S: Alter + Drop, H: Shelf + Drop>(
+// Does a job; how many commands of the script were answered as done.
+fn serves<S: Alter, H: Shelf>(
     alloc: Global,
-    mut bench: Bench<S, H>,
+    bench: &mut Bench<S, H>,
     job: Job,
-) -> Result<(u64, Connection<S>, H), Fail> {
+) -> Result<u64, Fail> {
     match job {
         Job::Play { and_more } => {
-            let fault = BenchFault::Store.number();
-            return plays(alloc, bench, fault, and_more);
+            return plays(alloc, bench, BenchFault::Store.number(), and_more);
         }
-        Job::GoOn { done } => goes_on(alloc, &mut bench, done)?,
-        Job::Label => answers(alloc, &mut bench, LABEL.as_bytes(), "k1 ok 1\n", DONE)?,
-        Job::Idle => answers(alloc, &mut bench, IDLE.as_bytes(), IDLE_TOLD, REFUSED)?,
+        Job::GoOn { done } => goes_on(alloc, bench, done)?,
+        Job::Label => answers(alloc, bench, LABEL.as_bytes(), "k1 ok 1\n", DONE)?,
+        Job::Idle => answers(alloc, bench, IDLE.as_bytes(), IDLE_TOLD, REFUSED)?,
     }
-    let (store, shelf) = bench.close();
-    Ok((4, store, shelf))
+    Ok(4)
 }
 
 // Opens a bench for a job. Where it can't be opened nothing was done.
@@ -79,7 +78,11 @@ fn perform<S: Alter + Drop, H: Shelf + Drop>(
     job: Job,
 ) -> Result<(u64, Connection<S>, H), Fail> {
     match try_open(alloc, store, shelf)? {
-        Ok(bench) => serves(alloc, bench, job),
+        Ok(mut bench) => {
+            let done = serves(alloc, &mut bench, job)?;
+            let (store, shelf) = bench.close();
+            Ok((done, store, shelf))
+        }
         Err(left) => {
             must(left.fault == BenchFault::Store, "another fault")?;
             Ok((0, left.store, left.shelf))

@@ -70,29 +70,35 @@ const LAST_TOLD_AGAIN: &str = "k1 repeated 1\nk2 ok 2\n";
 
 const BOTH_TOLD_AGAIN: &str = "k1 repeated 1\nk2 repeated 2\n";
 
-// How a batch of two lines is to end: what is told of it, which of its input is left, and what the
-// same lines are then answered.
+// How many bytes are told of a batch of two lines, how it ends, and whether it fails at the answer
+// to the first: then the second is left, since a line is taken once the answers before it are told.
+// Each answer has eight bytes.
 #[derive(Clone, Copy)]
-struct Expected<'a> {
-    told: &'a [u8],
+struct Expected {
+    told: usize,
     end: Result<BatchEnd, FrontFault>,
-    left: &'static str,
-    again: &'static str,
+    fails_at_first: bool,
 }
 
 fn tells<S: Alter, H: Shelf>(
     alloc: Global,
     bench: &mut Bench<S, H>,
     output: &mut Narrow,
-    expected: Expected<'_>,
+    expected: Expected,
 ) -> Result<(), Fail> {
     let lines = format!(in alloc; "{LABEL}{INSERT}")?;
     let mut input = lines.as_bytes();
     let ended = try_batch(alloc, &mut input, output, bench)?;
-    must(output.text.as_slice() == expected.told, "another text")?;
-    let is_over = ended == expected.end && input == expected.left.as_bytes();
+    let told = TOLD.as_bytes().get(..expected.told);
+    must(Some(output.text.as_slice()) == told, "another text")?;
+    let (left, again) = if expected.fails_at_first {
+        (INSERT, LAST_TOLD_AGAIN)
+    } else {
+        ("", BOTH_TOLD_AGAIN)
+    };
+    let is_over = ended == expected.end && input == left.as_bytes();
     must(is_over, "another end or rest")?;
-    answers(alloc, bench, lines.as_bytes(), expected.again, DONE)
+    answers(alloc, bench, lines.as_bytes(), again, DONE)
 }
 
 fn opens_and_tells<S: Alter + Drop, H: Shelf + Drop>(
@@ -100,26 +106,10 @@ fn opens_and_tells<S: Alter + Drop, H: Shelf + Drop>(
     store: Connection<S>,
     shelf: H,
     output: &mut Narrow,
-    expected: Expected<'_>,
+    expected: Expected,
 ) -> Result<(), Fail> {
     let mut bench = open(alloc, store, shelf)?;
     tells(alloc, &mut bench, output, expected)
-}
-
-// What is expected of an output that fails behind so many bytes of the answers: each has eight, and
-// a line is taken once the answers before it are told.
-fn fails_behind(told: usize, fails_at: usize) -> Result<Expected<'static>, Fail> {
-    let first = fails_at < 8;
-    Ok(Expected {
-        told: TOLD.as_bytes().get(..told).ok_or("too much room")?,
-        end: Err(FrontFault::Write),
-        left: if first { INSERT } else { "" },
-        again: if first {
-            LAST_TOLD_AGAIN
-        } else {
-            BOTH_TOLD_AGAIN
-        },
-    })
 }
 
 #[test]
@@ -135,7 +125,11 @@ fn what_an_output_has_no_room_for_was_done(rt: HostRuntime) -> Result<(), Fail> 
             interrupts: at_once == 3,
             ..wide(alloc)
         };
-        let expected = fails_behind(room, room)?;
+        let expected = Expected {
+            told: room,
+            end: Err(FrontFault::Write),
+            fails_at_first: room < 8,
+        };
         opens_and_tells(alloc, memory(alloc)?, shelf(alloc)?, &mut output, expected)?;
     }
     Ok(())
@@ -152,8 +146,9 @@ fn an_output_may_be_narrow_and_interrupted(rt: HostRuntime) -> Result<(), Fail> 
             ..wide(alloc)
         };
         let expected = Expected {
+            told: 16,
             end: Ok(DONE),
-            ..fails_behind(16, 16)?
+            fails_at_first: false,
         };
         opens_and_tells(alloc, memory(alloc)?, shelf(alloc)?, &mut output, expected)?;
     }
@@ -168,7 +163,11 @@ fn an_answer_that_cant_be_flushed_isnt_told(rt: HostRuntime) -> Result<(), Fail>
             flushes,
             ..wide(alloc)
         };
-        let expected = fails_behind(flushes * 8 + 8, flushes * 8)?;
+        let expected = Expected {
+            told: flushes * 8 + 8,
+            end: Err(FrontFault::Write),
+            fails_at_first: flushes == 0,
+        };
         opens_and_tells(alloc, memory(alloc)?, shelf(alloc)?, &mut output, expected)?;
     }
     Ok(())
