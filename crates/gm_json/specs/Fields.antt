@@ -1,0 +1,30 @@
+-- What the JSON is made of.
+use Rattle.std.specs.Prelude.{ℕ, Bool, List, [], ◌∷◌, map}
+use Rattle.serde_json.specs.Data.{Data, array, boolean, Members, member, no_members, number, object, string, unsigned}
+use Rattle.serde_json.specs.View.{items_of}
+
+-- a member of an object
+pub record Field : Type 0 where
+  pub key : List ℕ
+  pub value : Data
+
+abbrev pub number_at : List ℕ → ℕ → Field
+number_at key n = record { key = key; value = number (unsigned n) }
+
+abbrev pub text_at : List ℕ → List ℕ → Field
+text_at key text = record { key = key; value = string text }
+
+abbrev pub truth_at : List ℕ → Bool → Field
+truth_at key holds = record { key = key; value = boolean holds }
+
+-- a list with what is told of each
+abbrev pub each_at : {X : Type 0} → List ℕ → (X → Data) → List X → Field
+each_at key f xs = record { key = key; value = array (items_of (map f xs)) }
+
+abbrev pub members_of : List Field → Members
+members_of [] = no_members
+members_of (f ∷ fs) = member f.key f.value (members_of fs)
+
+-- the object with these members, in this order
+abbrev pub object_of : List Field → Data
+object_of fs = object (members_of fs)

@@ -1,0 +1,161 @@
+//! How the mirrors stand, and what is known of one.
+
+ghost use Rattle.std.specs.Prelude.{◌≡◌, IfOk, map, option_map};
+ghost use Rattle.std.specs.String.{string_bytes};
+ghost use Rattle.serde_json.specs.View.{items_of, items_view, view};
+ghost use Rattle.gm_state.specs.Records.{members};
+ghost use Rattle.gm_state.specs.States.{mirror_state_name, state_among};
+ghost use Rattle.gm_json.specs.Mirrors.{component_data, mirror_data, mirror_json, standing_component, standing_mirror, state_of, status_json};
+
+use gm_metadata::Label;
+use gm_state::{Component, Mirror, MirrorState, State, bytes_of, state_by};
+use serde_json::{Value, json};
+use std::alloc::{AllocError, Global};
+
+// The name of the state of a component.
+fn state_of(m: &Mirror, k: &Component) -> &'static str
+    ensures { result.now ≡ state_of m.now k.now }
+{
+    state_by(m.flags, k.disk).name()
+}
+
+// The name of the state of a mirror that has these components.
+fn mirror_state(m: &Mirror, members: &[Component]) -> &'static str
+    ensures { result.now ≡ mirror_state_name (state_among m.now members.now) }
+{
+    let active = members.iter().filter(|k| k.disk.is_active()).count();
+    let state = if active == usize::from(m.all) {
+        MirrorState::Complete
+    } else {
+        MirrorState::Degraded
+    };
+    state.name()
+}
+
+// A component in the status.
+fn standing_component(alloc: Global, m: &Mirror, k: &Component) -> Result<Value, AllocError>
+    ensures { IfOk result (λ v. view v ≡ standing_component m.now k.now) }
+{
+    json!(in alloc; {"name": k.provider.as_str(), "state": state_of(m, k)})
+}
+
+fn standing_components(
+    alloc: Global,
+    m: &Mirror,
+    members: &[Component],
+) -> Result<Vec<Value>, AllocError>
+    ensures { IfOk result (λ vs. items_view vs.items
+        ≡ items_of (map (standing_component m.now) members.now)) }
+{
+    let mut values = Vec::new(alloc);
+    for component in members {
+        values.push(standing_component(alloc, m, component)?)?;
+    }
+    Ok(values)
+}
+
+// A mirror with these components in the status.
+fn standing_mirror(
+    alloc: Global,
+    m: &Mirror,
+    members: &[Component],
+) -> Result<Value, AllocError>
+    ensures { IfOk result (λ v. view v ≡ standing_mirror m.now members.now) }
+{
+    let components = standing_components(alloc, m, members)?;
+    json!(in alloc; {
+        "components": components,
+        "name": m.name.as_str(),
+        "state": mirror_state(m, members)
+    })
+}
+
+fn standing_mirrors(alloc: Global, state: &State) -> Result<Vec<Value>, AllocError>
+    ensures { IfOk result (λ vs. items_view vs.items ≡ items_of
+        (map (λ m. standing_mirror m (members state.now.components m.name)) state.now.mirrors)) }
+{
+    let mut values = Vec::new(alloc);
+    for mirror in state.mirrors() {
+        let members = state.members(alloc, mirror.name)?;
+        values.push(standing_mirror(alloc, mirror, &members)?)?;
+    }
+    Ok(values)
+}
+
+/// How each mirror stands, and each of its components, in byte order of names.
+pub fn status_json(alloc: Global, state: &State) -> Result<String, AllocError>
+    ensures { IfOk result (λ text. string_bytes text ≡ status_json state.now) }
+{
+    let mirrors = standing_mirrors(alloc, state)?;
+    json!(in alloc; {"mirrors": mirrors})?.to_string(alloc)
+}
+
+// All that is known of a component.
+fn component_value(alloc: Global, m: &Mirror, k: &Component) -> Result<Value, AllocError>
+    ensures { IfOk result (λ v. view v ≡ component_data m.now k.now) }
+{
+    json!(in alloc; {
+        "did": k.did,
+        "flags": k.disk.flags().bits(),
+        "hardcoded": k.hardcoded,
+        "name": k.provider.as_str(),
+        "offset": bytes_of(k.disk.held()),
+        "priority": k.priority,
+        "provsize": bytes_of(k.sectors),
+        "state": state_of(m, k),
+        "syncid": k.syncid
+    })
+}
+
+fn component_values(
+    alloc: Global,
+    m: &Mirror,
+    members: &[Component],
+) -> Result<Vec<Value>, AllocError>
+    ensures { IfOk result (λ vs. items_view vs.items
+        ≡ items_of (map (component_data m.now) members.now)) }
+{
+    let mut values = Vec::new(alloc);
+    for component in members {
+        values.push(component_value(alloc, m, component)?)?;
+    }
+    Ok(values)
+}
+
+// All that is known of a mirror with these components.
+fn mirror_value(alloc: Global, m: &Mirror, members: &[Component]) -> Result<Value, AllocError>
+    ensures { IfOk result (λ v. view v ≡ mirror_data m.now members.now) }
+{
+    let components = component_values(alloc, m, members)?;
+    json!(in alloc; {
+        "all": m.all,
+        "balance": m.balance.name(),
+        "components": components,
+        "flags": m.flags.bits(),
+        "genid": m.genid,
+        "mediasize": bytes_of(m.data_sectors),
+        "mid": m.mid,
+        "name": m.name.as_str(),
+        "slice": m.slice,
+        "state": mirror_state(m, members),
+        "syncid": m.syncid
+    })
+}
+
+/// All that is known of the mirror of this name and of its components, in byte order of names;
+/// `None` where no mirror has the name. Flags are numbers, and sizes and offsets are in bytes.
+pub fn mirror_json(
+    alloc: Global,
+    state: &State,
+    name: Label,
+) -> Result<Option<String>, AllocError>
+    ensures { IfOk result
+        (λ text. option_map string_bytes text ≡ mirror_json state.now name) }
+{
+    let Some(mirror) = state.mirror(name) else {
+        return Ok(None);
+    };
+    let members = state.members(alloc, mirror.name)?;
+    let value = mirror_value(alloc, &mirror, &members)?;
+    Ok(Some(value.to_string(alloc)?))
+}
