@@ -3,8 +3,7 @@ use Rattle.std.specs.Prelude.{ℕ, List, [], ◌∷◌, codes}
 use Rattle.gm_state.specs.declared.intents.Reply.{Reply}
 use Rattle.gm_state.specs.declared.intents.Reply.TheVariants.{Plain, Copied}
 use Rattle.serde_json.specs.Data.{Data}
-use Rattle.serde_json.specs.Written.{compact_text}
-use Rattle.gm_json.specs.Fields.{number_at, object_of, text_at}
+use Rattle.gm_json.specs.Fields.{number_at, object_of, text_at, text_of}
 
 -- the command with this number was accepted
 abbrev pub done_data : ℕ → Reply → Data
@@ -43,16 +42,16 @@ error_data message = object_of (text_at (codes "error") message ∷ [])
 
 -- the texts
 abbrev pub done_json : ℕ → Reply → List ℕ
-done_json seq reply = compact_text (done_data seq reply)
+done_json seq reply = text_of (done_data seq reply)
 
 abbrev pub repeated_json : ℕ → List ℕ
-repeated_json seq = compact_text (repeated_data seq)
+repeated_json seq = text_of (repeated_data seq)
 
 abbrev pub refused_json : ℕ → List ℕ
-refused_json n = compact_text (refused_data n)
+refused_json n = text_of (refused_data n)
 
 abbrev pub fault_json : ℕ → List ℕ
-fault_json n = compact_text (fault_data n)
+fault_json n = text_of (fault_data n)
 
 abbrev pub error_json : List ℕ → List ℕ
-error_json message = compact_text (error_data message)
+error_json message = text_of (error_data message)

@@ -2,6 +2,7 @@
 use Rattle.std.specs.Prelude.{ℕ, Bool, List, [], ◌∷◌, map}
 use Rattle.serde_json.specs.Data.{Data, array, boolean, Members, member, no_members, number, object, string, unsigned}
 use Rattle.serde_json.specs.View.{items_of}
+use Rattle.serde_json.specs.Written.{compact_text}
 
 -- a member of an object
 pub record Field : Type 0 where
@@ -28,3 +29,7 @@ members_of (f ∷ fs) = member f.key f.value (members_of fs)
 -- the object with these members, in this order
 abbrev pub object_of : List Field → Data
 object_of fs = object (members_of fs)
+
+-- the text of an object, without a space
+unfoldable pub text_of : Data → List ℕ
+text_of d = compact_text d

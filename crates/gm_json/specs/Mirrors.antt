@@ -9,8 +9,7 @@ use Rattle.gm_state.specs.Lookups.{mirror_of}
 use Rattle.gm_state.specs.Records.{Records, members}
 use Rattle.gm_state.specs.States.{component_state_name, mirror_state_name, state_among, state_by}
 use Rattle.serde_json.specs.Data.{Data}
-use Rattle.serde_json.specs.Written.{compact_text}
-use Rattle.gm_json.specs.Fields.{each_at, number_at, object_of, text_at, truth_at}
+use Rattle.gm_json.specs.Fields.{each_at, number_at, object_of, text_at, text_of, truth_at}
 
 abbrev pub state_of : Mirror → Component → List ℕ
 state_of m k = component_state_name (state_by m.flags k.disk)
@@ -68,8 +67,8 @@ mirror_data m ks = object_of (
 
 -- the texts
 abbrev pub status_json : Records → List ℕ
-status_json s = compact_text (status_data s)
+status_json s = text_of (status_data s)
 
 abbrev pub mirror_json : Records → List ℕ → Option (List ℕ)
 mirror_json s name =
-    option_map (λ m. compact_text (mirror_data m (members s.components m.name))) (mirror_of s name)
+    option_map (λ m. text_of (mirror_data m (members s.components m.name))) (mirror_of s name)

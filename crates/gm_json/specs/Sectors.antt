@@ -6,8 +6,7 @@ use Rattle.gm_metadata.specs.Flags.{disk_bits, mirror_bits}
 use Rattle.gm_metadata.specs.declared.fault.DecodeFault.{DecodeFault}
 use Rattle.gm_metadata.specs.declared.metadata.Metadata.{Metadata}
 use Rattle.serde_json.specs.Data.{Data}
-use Rattle.serde_json.specs.Written.{compact_text}
-use Rattle.gm_json.specs.Fields.{number_at, object_of, text_at}
+use Rattle.gm_json.specs.Fields.{number_at, object_of, text_at, text_of}
 
 -- the provider that a component was hardcoded for, or nothing
 abbrev pub provider_name : Option (List ℕ) → List ℕ
@@ -40,7 +39,7 @@ decode_data fault = object_of (number_at (codes "decode") (fault_number fault) �
 
 -- the texts
 abbrev pub metadata_json : Metadata → List ℕ
-metadata_json m = compact_text (metadata_data m)
+metadata_json m = text_of (metadata_data m)
 
 abbrev pub decode_json : DecodeFault → List ℕ
-decode_json fault = compact_text (decode_data fault)
+decode_json fault = text_of (decode_data fault)

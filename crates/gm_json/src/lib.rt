@@ -10,6 +10,7 @@
 mod answers;
 mod mirrors;
 mod sectors;
+mod text;
 
 pub use answers::{done_json, error_json, fault_json, refused_json, repeated_json};
 pub use mirrors::{mirror_json, status_json};

@@ -5,8 +5,9 @@ ghost use Rattle.std.specs.String.{string_bytes};
 ghost use Rattle.serde_json.specs.View.{items_of, items_view, view};
 ghost use Rattle.gm_state.specs.Records.{members};
 ghost use Rattle.gm_state.specs.States.{mirror_state_name, state_among};
-ghost use Rattle.gm_json.specs.Mirrors.{component_data, mirror_data, mirror_json, standing_component, standing_mirror, state_of, status_json};
+ghost use Rattle.gm_json.specs.Mirrors.{component_data, mirror_data, mirror_json, standing_component, standing_mirror, state_of, status_data, status_json};
 
+use crate::text::text_of;
 use gm_metadata::Label;
 use gm_state::{Component, Mirror, MirrorState, State, bytes_of, state_by};
 use serde_json::{Value, json};
@@ -55,11 +56,7 @@ fn standing_components(
 }
 
 // A mirror with these components in the status.
-fn standing_mirror(
-    alloc: Global,
-    m: &Mirror,
-    members: &[Component],
-) -> Result<Value, AllocError>
+fn standing_mirror(alloc: Global, m: &Mirror, members: &[Component]) -> Result<Value, AllocError>
     ensures { IfOk result (λ v. view v ≡ standing_mirror m.now members.now) }
 {
     let components = standing_components(alloc, m, members)?;
@@ -82,12 +79,20 @@ fn standing_mirrors(alloc: Global, state: &State) -> Result<Vec<Value>, AllocErr
     Ok(values)
 }
 
+// How each mirror stands.
+fn status_value(alloc: Global, state: &State) -> Result<Value, AllocError>
+    ensures { IfOk result (λ v. view v ≡ status_data state.now) }
+{
+    let mirrors = standing_mirrors(alloc, state)?;
+    json!(in alloc; {"mirrors": mirrors})
+}
+
 /// How each mirror stands, and each of its components, in byte order of names.
 pub fn status_json(alloc: Global, state: &State) -> Result<String, AllocError>
     ensures { IfOk result (λ text. string_bytes text ≡ status_json state.now) }
 {
-    let mirrors = standing_mirrors(alloc, state)?;
-    json!(in alloc; {"mirrors": mirrors})?.to_string(alloc)
+    let value = status_value(alloc, state)?;
+    text_of(alloc, &value)
 }
 
 // All that is known of a component.
@@ -144,11 +149,7 @@ fn mirror_value(alloc: Global, m: &Mirror, members: &[Component]) -> Result<Valu
 
 /// All that is known of the mirror of this name and of its components, in byte order of names;
 /// `None` where no mirror has the name. Flags are numbers, and sizes and offsets are in bytes.
-pub fn mirror_json(
-    alloc: Global,
-    state: &State,
-    name: Label,
-) -> Result<Option<String>, AllocError>
+pub fn mirror_json(alloc: Global, state: &State, name: Label) -> Result<Option<String>, AllocError>
     ensures { IfOk result
         (λ text. option_map string_bytes text ≡ mirror_json state.now name) }
 {
@@ -157,5 +158,5 @@ pub fn mirror_json(
     };
     let members = state.members(alloc, mirror.name)?;
     let value = mirror_value(alloc, &mirror, &members)?;
-    Ok(Some(value.to_string(alloc)?))
+    Ok(Some(text_of(alloc, &value)?))
 }
