@@ -2,12 +2,13 @@
 
 ghost use Rattle.std.specs.Prelude.{◌≡◌, IfOk};
 ghost use Rattle.std.specs.String.{string_bytes};
-ghost use Rattle.serde_json.specs.View.{view};
-ghost use Rattle.gm_json.specs.Sectors.{decode_data, decode_json, metadata_data, metadata_json, provider_name};
+ghost use Rattle.serde_json.specs.View.{members_view, view};
+ghost use Rattle.gm_json.specs.Fields.{members_of};
+ghost use Rattle.gm_json.specs.Sectors.{decode_data, decode_json, first_fields, metadata_data, metadata_json, provider_name};
 
 use crate::text::text_of;
 use gm_metadata::{DecodeFault, Metadata};
-use serde_json::{Value, json};
+use serde_json::{Map, Value, json, put};
 use std::alloc::{AllocError, Global};
 
 // The provider that a component was hardcoded for.
@@ -20,26 +21,37 @@ fn provider_name(metadata: &Metadata) -> &str
     }
 }
 
+// The members from `all` to `mid`.
+fn first_members(alloc: Global, m: &Metadata) -> Result<Map<String, Value>, AllocError>
+    ensures { IfOk result (λ map. members_view map.entries ≡ members_of (first_fields m.now)) }
+{
+    let mut map = Map::new(alloc);
+    let balance = Value::try_from_str(alloc, m.balance.name())?;
+    put(&mut map, alloc, "all", Value::from(m.all))?;
+    put(&mut map, alloc, "balance", balance)?;
+    put(&mut map, alloc, "dflags", Value::from(m.dflags.bits()))?;
+    put(&mut map, alloc, "did", Value::from(m.did))?;
+    put(&mut map, alloc, "genid", Value::from(m.genid))?;
+    put(&mut map, alloc, "mediasize", Value::from(m.mediasize))?;
+    put(&mut map, alloc, "mflags", Value::from(m.mflags.bits()))?;
+    put(&mut map, alloc, "mid", Value::from(m.mid))?;
+    Ok(map)
+}
+
 fn metadata_value(alloc: Global, m: &Metadata) -> Result<Value, AllocError>
     ensures { IfOk result (λ v. view v ≡ metadata_data m.now) }
 {
-    json!(in alloc; {
-        "all": m.all,
-        "balance": m.balance.name(),
-        "dflags": m.dflags.bits(),
-        "did": m.did,
-        "genid": m.genid,
-        "mediasize": m.mediasize,
-        "mflags": m.mflags.bits(),
-        "mid": m.mid,
-        "name": m.name.as_str(),
-        "priority": m.priority,
-        "provider": provider_name(m),
-        "provsize": m.provsize,
-        "slice": m.slice,
-        "sync_offset": m.sync_offset,
-        "syncid": m.syncid
-    })
+    let name = Value::try_from_str(alloc, m.name.as_str())?;
+    let provider = Value::try_from_str(alloc, provider_name(m))?;
+    let mut map = first_members(alloc, m)?;
+    put(&mut map, alloc, "name", name)?;
+    put(&mut map, alloc, "priority", Value::from(m.priority))?;
+    put(&mut map, alloc, "provider", provider)?;
+    put(&mut map, alloc, "provsize", Value::from(m.provsize))?;
+    put(&mut map, alloc, "slice", Value::from(m.slice))?;
+    put(&mut map, alloc, "sync_offset", Value::from(m.sync_offset))?;
+    put(&mut map, alloc, "syncid", Value::from(m.syncid))?;
+    Ok(Value::Object(map))
 }
 
 fn decode_value(alloc: Global, fault: DecodeFault) -> Result<Value, AllocError>
