@@ -1,13 +1,8 @@
-// A library with one function.
+//! Tests of JSON, by texts that were written by hand: how mirrors stand, what is known of one, what
+//! a last sector says, and each kind of answer.
+//!
+//! They stand in a crate of their own, so that no library waits for them.
 #![tactic(auto)]
 
-ghost use Rattle.std.specs.Prelude.{◌≡◌};
-ghost use Rattle.gm_json_tests.specs.Echo.{echo_of};
-
-// The `ensures` clause is the contract: what `echo` returns is `echo_of` of its argument, a definition
-// in `specs/Echo.antt`, which a caller's clause can cite too.
-pub fn echo(x: usize) -> usize
-    ensures { result ≡ echo_of x }
-{
-    x
-}
+#[cfg(test)]
+mod tests;
