@@ -1,11 +1,11 @@
 -- A command that keeps its mirror: another record for it, and other components.
-use Rattle.std.proofs.Common.{◌≡◌, ◌≢◌, ◌∙◌, ◌⊎◌, inl, inr, ⊎_elim, ℕ, Bool, true, false, find, refl, sym, ap, subst, List, None, Some}
+use Rattle.std.proofs.Common.{◌≡◌, ◌≢◌, ◌<◌, ◌^◌, ◌∙◌, ◌⊎◌, inl, inr, ⊎_elim, ℕ, Bool, true, false, find, refl, sym, ap, subst, List, None, Some}
 use Rattle.gm_metadata.specs.Images.{Image, same_label}
 use Rattle.gm_state.specs.declared.records.Mirror.{Mirror}
 use Rattle.gm_state.specs.declared.records.Component.{Component}
 use Rattle.gm_state.specs.Intents.{is_last}
 use Rattle.gm_lists.specs.Ordered.{Has, Ascends, put}
-use Rattle.gm_state.specs.Records.{Records, IsState, IsMirror, held_by, members, name, provider}
+use Rattle.gm_state.specs.Records.{Records, IsState, IsMirror, MirrorFits, held_by, members, name, provider}
 use Rattle.gm_state.specs.World.{World, Sound, Below}
 use Rattle.gm_lists.proofs.Order.{same_refl, same_tells}
 use Rattle.gm_lists.proofs.Putting.{one, put_there, put_stays, put_cases, Ascends-put, length-put_same}
@@ -84,6 +84,17 @@ module _ (s : Records) (m m' : Mirror) (comps ks : List Component) (state : IsSt
           )
     ];
   }
+
+-- another record of the mirror fits, where its counts and its slice do
+pub fits_as : (m m' : Mirror) → MirrorFits m → m'.name ≡ m.name → m'.mid ≡ m.mid
+    → m'.genid < 2 ^ 32 → m'.syncid < 2 ^ 32 → m'.slice < 2 ^ 32 → MirrorFits m'
+fits_as m m' fits same_name same_mid genid syncid slice = record {
+  name = rw same_name fits.name;
+  mid = rw same_mid fits.mid;
+  genid = genid;
+  syncid = syncid;
+  slice = slice;
+}
 
 -- so the world turns by m' and ks, where mid differs from its shelf in data of them alone
 pub adjusts_turns_by : (u : World) (mid : Image) (m m' : Mirror) (comps ks : List Component)

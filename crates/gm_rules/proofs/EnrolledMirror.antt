@@ -17,7 +17,7 @@ use Rattle.gm_refusals.specs.Applies.{name_of}
 use Rattle.gm_rules.proofs.PlanOfStep.{Serves}
 use Rattle.gm_lists.proofs.PutInPlace.{Ascends-put_all}
 use Rattle.gm_lists.proofs.PutTogether.{put_all_or, filter-put_all, filter-put_all_out, put_ordered}
-use Rattle.gm_rules.proofs.RuledOut.{metas_has, metas_are}
+use Rattle.gm_rules.proofs.RuledOut.{metas_writes}
 use Rattle.gm_rules.proofs.StepOfMirror.{Turns, Writes, Were}
 
 -- The mirror and its components can be registered: none has the mirror's name or mid and there is
@@ -129,12 +129,7 @@ module _ (u : World) (m : Mirror) (ks : List Component) (list : ℕ → List ℕ
   }
 
   pub enroll_writes : Writes u u.shelf m ks (λ q. false) (metas ks)
-  enroll_writes = record {
-    each = metas_are u (λ q. false) ks ks (λ j i. i);
-    metas = λ j i. inl (metas_has ks j i);
-    clears = λ q e. absurd (let f : ⊥ = cc in f);
-    copied = λ q j e. refl;
-  }
+  enroll_writes = metas_writes u m ks
 
   pub enroll_were : Were u m ks list
   enroll_were = record {

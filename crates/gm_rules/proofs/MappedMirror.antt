@@ -59,7 +59,7 @@ stands_still m m' ks k rules h e = record {
   current = rw e (rules.current k h);
 }
 
-obeys : (m m' : Mirror) (o k : Component) → Stands m m' o k → Obeys m m' k
+pub obeys : (m m' : Mirror) (o k : Component) → Stands m m' o k → Obeys m m' k
 obeys m m' o k s = record {
   priority = s.priority;
   held = s.held;
@@ -165,23 +165,13 @@ module _ (u : World) (m m' : Mirror) (f : Component → Component) (sound : Soun
 
 -- ---- the command
 
--- What the command makes of mirror m and its components: m' of them, and f of each; and what it has
--- written.
+-- What the command makes of mirror m and its components, none of which holds more than it did; and
+-- what it has written.
 pub record Maps (u : World) (c : Command) (m m' : Mirror) (f : Component → Component)
     (ts : List Intent) : Type 0 where
-  pub here : Has u.state.mirrors m
-  pub there : (k : Component) → Has (members u.state.components m.name) k
-      → present u k.provider ≡ Some k.sectors
-  pub same_name : m'.name ≡ m.name
-  pub same_mid : m'.mid ≡ m.mid
-  pub same_data : m'.data_sectors ≡ m.data_sectors
-  pub keeps : Keeps f
-  pub alone : (k : Component) → Has u.state.components k → k.mirror ≢ m.name → f k ≡ k
-  pub fits : MirrorFits m'
-  pub all : m'.all ≤ 16
-  pub room : length (members u.state.components m.name) ≤ m'.all
-  pub active : (k : Component) × Has (members u.state.components m.name) k × ((f k).disk ≡ InSync)
-  pub each : (k : Component) → Has (members u.state.components m.name) k → Stands m m' k (f k)
+  pub shape : Reshapes u m m' f
+  pub holds : (k : Component) → Has (members u.state.components m.name) k
+      → held_by (f k).disk m.data_sectors ≤ held_by k.disk m.data_sectors
   pub named : name_of c ≡ Some m.name
   pub none : (q : List ℕ) → clears u.state c q ≡ false
   pub reply : ReplyFits (reply_to c u.state)
@@ -192,21 +182,8 @@ pub record Maps (u : World) (c : Command) (m m' : Mirror) (f : Component → Com
 
 module _ (u : World) (key : List ℕ) (c : Command) (m m' : Mirror) (f : Component → Component)
     (ts : List Intent) (sound : Sound u) (a : Maps u c m m' f ts) where
-  pub shape : Reshapes u m m' f
-  shape = record {
-    here = a.here;
-    there = a.there;
-    same_name = a.same_name;
-    same_mid = a.same_mid;
-    same_data = a.same_data;
-    keeps = a.keeps;
-    alone = a.alone;
-    fits = a.fits;
-    all = a.all;
-    room = a.room;
-    active = a.active;
-    each = λ k h. obeys m m' k (f k) (a.each k h);
-  }
+  abbrev shape : Reshapes u m m' f
+  shape = a.shape
 
   abbrev s : Records
   s = reshaped u m m' f sound shape
@@ -228,14 +205,14 @@ module _ (u : World) (key : List ℕ) (c : Command) (m m' : Mirror) (f : Compone
       → Below u.shelf (u.holds m.name) (f k).provider (held_by (f k).disk m'.data_sectors)
   below k h i l =
       let less : held_by (f k).disk m.data_sectors ≤ held_by k.disk m.data_sectors =
-      (a.each k h).holds in
+      a.holds k h in
       let l' : i < held_by (f k).disk m.data_sectors =
-      subst (λ (n : ℕ). i < held_by (f k).disk n) a.same_data l in
-      rw (a.keeps.provider k) (sound.whole m k (record { mirror = a.here; component = h }) i
+      subst (λ (n : ℕ). i < held_by (f k).disk n) a.shape.same_data l in
+      rw (a.shape.keeps.provider k) (sound.whole m k (record { mirror = a.shape.here; component = h }) i
       (omega arith))
 
   turns : Turns u u.shelf m' changed (clears u.state c) (u.holds m.name) s
-  turns = adjusts_turns u m m' all_changed changed (clears u.state c) sound a.here
+  turns = adjusts_turns u m m' all_changed changed (clears u.state c) sound a.shape.here
       (adjusts u m m' f sound shape) (sizes u m m' f sound shape)
       (λ j i. a.none j.provider)
       (of_each (λ j. Below u.shelf (u.holds m.name) j.provider (held_by j.disk m'.data_sectors))
@@ -248,7 +225,7 @@ module _ (u : World) (key : List ℕ) (c : Command) (m m' : Mirror) (f : Compone
       subst (λ (j : Component). u.shelf j.provider (j.sectors - 1) ≡ encoded (metadata m' j))
       (sym same)
       (subst (λ (x : Mirror). u.shelf k.provider (k.sectors - 1) ≡ encoded (metadata x k)) (sym e)
-      (sound.full m k (record { mirror = a.here; component = h })))
+      (sound.full m k (record { mirror = a.shape.here; component = h })))
 
   writes : Writes u u.shelf m' changed (clears u.state c) ts
   writes = record {
@@ -264,7 +241,7 @@ module _ (u : World) (key : List ℕ) (c : Command) (m m' : Mirror) (f : Compone
 
   serves : Serves u c m' changed
   serves = record {
-    named = λ j i. rw a.same_name a.named;
+    named = λ j i. rw a.shape.same_name a.named;
     written = has_sectors u m m' f sound shape;
     cleared = λ q e. not_both (clears u.state c q) e (a.none q);
     labels = λ q e. not_both (clears u.state c q) e (a.none q);
@@ -279,7 +256,7 @@ module _ (u : World) (key : List ℕ) (c : Command) (m m' : Mirror) (f : Compone
       → IsGood u.state (seen_of u) c → CanAnswer u key c → HasPlan u key c
   mapped_has is are new bare good answer =
       has u key c m' changed (u.holds m.name) s ts sound turns writes
-      (adjusts_were u m m' all_changed changed sound a.here (adjusts u m m' f sound shape))
+      (adjusts_were u m m' all_changed changed sound a.shape.here (adjusts u m m' f sound shape))
       plain serves answer is are good (new _) (bare _)
 
 -- ---- Meta of all of the components, or of one
@@ -372,21 +349,11 @@ replaced_has u key c m p g sound can keeps stands named none reply is are new ba
     let k : Component = can.member.0 in
     let f : Component → Component = at_p u m p g sound can keeps in
     let shape = one_reshapes u m p g sound can keeps (λ j h e. obeys m m j (g j) (stands j h e)) in
-    let rules = sound.state.each m can.here in
     mapped_has u key c m m f (Meta p ∷ []) sound (record {
-      here = shape.here;
-      there = shape.there;
-      same_name = refl;
-      same_mid = refl;
-      same_data = refl;
-      keeps = shape.keeps;
-      alone = shape.alone;
-      fits = shape.fits;
-      all = shape.all;
-      room = shape.room;
-      active = shape.active;
-      each = either u m p g sound can keeps (Stands m m) stands
-          (λ j h d. stands_still m m (members u.state.components m.name) j rules h refl);
+      shape = shape;
+      holds = either u m p g sound can keeps
+          (λ o k. held_by k.disk m.data_sectors ≤ held_by o.disk m.data_sectors)
+          (λ j h e. (stands j h e).holds) (λ j h d. omega arith);
       named = named;
       none = none;
       reply = reply;

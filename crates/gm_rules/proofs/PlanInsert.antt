@@ -25,13 +25,13 @@ use Rattle.gm_refusals.specs.Applies.{IsGood}
 use Rattle.gm_refusals.specs.Facts.{last_carries}
 use Rattle.gm_rules.specs.Step.{CanAnswer, HasPlan}
 use Rattle.gm_refusals.specs.WorldFacts.{seen_of, last_of}
-use Rattle.gm_rules.proofs.AdjustedMirror.{Adjusts, adjusts_turns, adjusts_were, adjusted}
+use Rattle.gm_rules.proofs.AdjustedMirror.{Adjusts, adjusts_turns, adjusts_were, adjusted, fits_as}
 use Rattle.gm_lists.proofs.Finding.{any_one, none_any, not_both}
 use Rattle.gm_refusals.proofs.NothingApplies.{there_from, none_from, fails_there, not_below, not_at, right_size}
 use Rattle.gm_state.proofs.FoundRecords.{named, new_name}
 use Rattle.gm_state.proofs.Presence.{present_size, some_and}
 use Rattle.gm_rules.proofs.PlanOfStep.{Serves, has, were_bare}
-use Rattle.gm_rules.proofs.RuledOut.{each_there, carries_nothing, metas_has, metas_are, metas_plain}
+use Rattle.gm_rules.proofs.RuledOut.{each_there, carries_nothing, metas_plain, metas_writes}
 use Rattle.gm_rules.proofs.StepOfMirror.{Turns, Writes}
 
 -- what the refusals of insert rule out
@@ -86,13 +86,8 @@ module _ (u : World) (key : List ℕ) (m : Mirror) (new : NewComponent) (sectors
 
   rules' : IsMirror m' ks
   rules' = record {
-    fits = record {
-      name = rules.fits.name;
-      mid = rules.fits.mid;
-      genid = rules.fits.genid;
-      syncid = rules.fits.syncid;
-      slice = rules.fits.slice;
-    };
+    fits = fits_as m m' rules.fits refl refl rules.fits.genid rules.fits.syncid
+        rules.fits.slice;
     members_fit = each ComponentFits fits rules.members_fit;
     some = rules.some;
     all = (let r : m.all < 16 = can.room in omega arith);
@@ -141,12 +136,7 @@ module _ (u : World) (key : List ℕ) (m : Mirror) (new : NewComponent) (sectors
       (λ j o. sound.whole m j (record { mirror = can.here; component = o })))
 
   writes : Writes u u.shelf m' ks (λ q. false) (metas ks)
-  writes = record {
-    each = metas_are u (λ q. false) ks ks (λ j i. i);
-    metas = λ j i. inl (metas_has ks j i);
-    clears = λ q e. absurd (let f : ⊥ = cc in f);
-    copied = λ q j e. refl;
-  }
+  writes = metas_writes u m' ks
 
   serves : m.name ≡ new.name → Serves u (Insert new) m' ks
   serves is = record {

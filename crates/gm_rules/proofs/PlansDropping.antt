@@ -23,6 +23,7 @@ use Rattle.gm_refusals.specs.Applies.{IsGood}
 use Rattle.gm_rules.specs.Step.{CanAnswer, HasPlan}
 use Rattle.gm_refusals.specs.WorldFacts.{seen_of}
 use Rattle.gm_changes.proofs.MakesChange.{without_all-filter}
+use Rattle.gm_rules.proofs.AdjustedMirror.{fits_as}
 use Rattle.gm_rules.proofs.FilteredMirror.{filtered_has}
 use Rattle.gm_refusals.proofs.NothingApplies.{one_more_loss}
 use Rattle.gm_rules.proofs.PlanOfStep.{one_plain}
@@ -60,13 +61,8 @@ remove_has u key n p sound answer good =
       same_data = refl;
       same_syncid = refl;
       alone = λ j i d. ap not (differ j.provider p (not_on u m p sound.state can j i d));
-      fits = record {
-        name = rules.fits.name;
-        mid = rules.fits.mid;
-        genid = rules.fits.genid;
-        syncid = rules.fits.syncid;
-        slice = rules.fits.slice;
-      };
+      fits = fits_as m (record m { all = m.all - 1 }) rules.fits refl refl rules.fits.genid rules.fits.syncid
+          rules.fits.slice;
       all = (let r : m.all ≤ 16 = rules.all in omega arith);
       room = (let a : length ks + 1 ≤ length old = length-filter_lt stays old k can.member.1 goes in
           let b : length old ≤ m.all = rules.room in omega arith);
@@ -150,13 +146,8 @@ lost_has u key n ps sound answer good =
       same_data = refl;
       same_syncid = refl;
       alone = others_stay u m ps sound (good refusals.NotMember refl);
-      fits = record {
-        name = rules.fits.name;
-        mid = rules.fits.mid;
-        genid = omega arith;
-        syncid = rules.fits.syncid;
-        slice = rules.fits.slice;
-      };
+      fits = fits_as m (record m { genid = m.genid + 1 }) rules.fits refl refl (omega arith) rules.fits.syncid
+          rules.fits.slice;
       all = rules.all;
       room = (let a : length ks ≤ length old = length-filter_le stays old in
           let b : length old ≤ m.all = rules.room in omega arith);

@@ -26,7 +26,8 @@ use Rattle.gm_refusals.specs.WorldFacts.{seen_of}
 use Rattle.gm_refusals.proofs.NothingApplies.{one_more_sync}
 use Rattle.gm_changes.proofs.KeptComponents.{Keeps, keeps_configured, keeps_deactivated, keeps_id, keeps_where, mapped_members, put_mapped, where_of}
 use Rattle.gm_lists.proofs.Mapped.{map_id}
-use Rattle.gm_rules.proofs.MappedMirror.{Stands, mapped_has, metas_each, metas_of, replaced_has, stands_still}
+use Rattle.gm_rules.proofs.AdjustedMirror.{fits_as}
+use Rattle.gm_rules.proofs.MappedMirror.{Stands, mapped_has, metas_each, metas_of, obeys, replaced_has, stands_still}
 use Rattle.gm_rules.proofs.RuledOut.{CanTouch, each_there, by_name, component_at, in_use, other_active, other_in_use}
 use Rattle.gm_state.proofs.FoundRecords.{is_member}
 
@@ -103,25 +104,23 @@ forget_has u key n sound answer good =
     let same : Component → Component = λ k. k in
     let m' : Mirror = record m { all = length ks } in
     mapped_has u key (Forget m.name) m m' same (metas (map same ks)) sound (record {
-      here = here;
-      there = each_there u [] ks (good refusals.Absent refl);
-      same_name = refl;
-      same_mid = refl;
-      same_data = refl;
-      keeps = keeps_id;
-      alone = λ k h d. refl;
-      fits = record {
-        name = rules.fits.name;
-        mid = rules.fits.mid;
-        genid = rules.fits.genid;
-        syncid = rules.fits.syncid;
-        slice = rules.fits.slice;
+      shape = record {
+        here = here;
+        there = each_there u [] ks (good refusals.Absent refl);
+        same_name = refl;
+        same_mid = refl;
+        same_data = refl;
+        keeps = keeps_id;
+        alone = λ k h d. refl;
+        fits = fits_as m m' rules.fits refl refl rules.fits.genid rules.fits.syncid
+            rules.fits.slice;
+        all = (let a : length ks ≤ m.all = rules.room in let b : m.all ≤ 16 = rules.all in
+            omega arith);
+        room = omega arith;
+        active = rules.active;
+        each = λ k h. obeys m m' k k (stands_still m m' ks k rules h refl);
       };
-      all = (let a : length ks ≤ m.all = rules.room in let b : m.all ≤ 16 = rules.all in
-          omega arith);
-      room = omega arith;
-      active = rules.active;
-      each = λ k h. stands_still m m' ks k rules h refl;
+      holds = λ k h. omega arith;
       named = refl;
       none = λ q. refl;
       reply = tt;
@@ -192,33 +191,33 @@ deactivate_has u key n p sound answer good =
     let small : m.syncid < 4294967295 =
     one_more_sync u.state m.name m sound.state found
     (good refusals.LastSyncid refl) in
+    let stands : (k : Component) → Has ks k → Stands m m' k (f k) =
+    λ k h. rw (mine k h) (stands_deactivated m m' ks p rules refl k h) in
     mapped_has u key (Deactivate m.name p) m m' f (metas (map f ks)) sound (record {
-      here = here;
-      there = each_there u (p ∷ []) ks (good refusals.Absent refl);
-      same_name = refl;
-      same_mid = refl;
-      same_data = refl;
-      keeps = keeps;
-      alone = λ k h d. rw (differ k.mirror m.name d) refl;
-      fits = record {
-        name = rules.fits.name;
-        mid = rules.fits.mid;
-        genid = rules.fits.genid;
-        syncid = omega arith;
-        slice = rules.fits.slice;
+      shape = record {
+        here = here;
+        there = each_there u (p ∷ []) ks (good refusals.Absent refl);
+        same_name = refl;
+        same_mid = refl;
+        same_data = refl;
+        keeps = keeps;
+        alone = λ k h d. rw (differ k.mirror m.name d) refl;
+        fits = fits_as m m' rules.fits refl refl rules.fits.genid (omega arith)
+            rules.fits.slice;
+        all = rules.all;
+        room = rules.room;
+        active = (
+          active.0,
+          active.1,
+          rw (
+            mine active.0 active.1,
+            differ active.0.provider p active.3,
+            active.2,
+          ) refl,
+        );
+        each = λ k h. obeys m m' k (f k) (stands k h);
       };
-      all = rules.all;
-      room = rules.room;
-      active = (
-        active.0,
-        active.1,
-        rw (
-          mine active.0 active.1,
-          differ active.0.provider p active.3,
-          active.2,
-        ) refl,
-      );
-      each = λ k h. rw (mine k h) (stands_deactivated m m' ks p rules refl k h);
+      holds = λ k h. (stands k h).holds;
       named = refl;
       none = λ q. refl;
       reply = tt;
@@ -262,37 +261,33 @@ configure_has u key n settings sound answer good =
     let mine : (k : Component) → Has ks k → is_mine k ≡ true =
     λ k h. (Has-filter is_mine u.state.components k h).1 in
     mapped_has u key (Configure m.name settings) m m' f (metas (map f ks)) sound (record {
-      here = here;
-      there = each_there u (preferred settings.preference) ks
-          (good refusals.Absent refl);
-      same_name = refl;
-      same_mid = refl;
-      same_data = refl;
-      keeps = keeps;
-      alone = λ k h d. rw (differ k.mirror m.name d) refl;
-      fits = record {
-        name = rules.fits.name;
-        mid = rules.fits.mid;
-        genid = rules.fits.genid;
-        syncid = rules.fits.syncid;
-        slice =
-            slice_fits settings.slice m.slice answer.fits.1 rules.fits.slice;
+      shape = record {
+        here = here;
+        there = each_there u (preferred settings.preference) ks
+            (good refusals.Absent refl);
+        same_name = refl;
+        same_mid = refl;
+        same_data = refl;
+        keeps = keeps;
+        alone = λ k h d. rw (differ k.mirror m.name d) refl;
+        fits = fits_as m m' rules.fits refl refl rules.fits.genid rules.fits.syncid
+            (slice_fits settings.slice m.slice answer.fits.1 rules.fits.slice);
+        all = rules.all;
+        room = rules.room;
+        active = (
+          rules.active.0,
+          rules.active.1,
+          rw (mine rules.active.0 rules.active.1) rules.active.2,
+        );
+        each = λ k h. rw (mine k h) (record {
+          priority = priority_fits settings.preference k answer.fits.2
+              (rules.members_fit k h).priority;
+          held = rules.held k h;
+          syncid = rules.syncids k h;
+          current = rules.current k h;
+        });
       };
-      all = rules.all;
-      room = rules.room;
-      active = (
-        rules.active.0,
-        rules.active.1,
-        rw (mine rules.active.0 rules.active.1) rules.active.2,
-      );
-      each = λ k h. rw (mine k h) (record {
-        priority = priority_fits settings.preference k answer.fits.2
-            (rules.members_fit k h).priority;
-        held = rules.held k h;
-        holds = omega arith;
-        syncid = rules.syncids k h;
-        current = rules.current k h;
-      });
+      holds = λ k h. rw (mine k h) (omega arith);
       named = refl;
       none = λ q. refl;
       reply = tt;

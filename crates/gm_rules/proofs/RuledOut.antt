@@ -24,7 +24,7 @@ use Rattle.gm_lists.proofs.Lists.{Has-filter, filter-Has}
 use Rattle.gm_lists.proofs.Finding.{none_any, some_other, find_one, not_both}
 use Rattle.gm_refusals.proofs.NothingApplies.{there_from}
 use Rattle.gm_state.proofs.FoundRecords.{named}
-use Rattle.gm_rules.proofs.StepOfMirror.{IsOne}
+use Rattle.gm_rules.proofs.StepOfMirror.{IsOne, Writes}
 use Rattle.gm_rules.proofs.PlanOfStep.{IsPlain, ArePlain}
 use Rattle.gm_state.proofs.FoundRecords.{active_is}
 use Rattle.gm_refusals.proofs.NothingApplies.{on_one}
@@ -170,6 +170,16 @@ metas_are u gone all [] sub t h = absurd h
 metas_are u gone all (k ∷ ks) sub t (inl s) =
     subst (λ (x : Intent). IsOne u u.shelf all gone x) s (k, sub k (inl refl), refl)
 metas_are u gone all (k ∷ ks) sub t (inr h) = metas_are u gone all ks (λ j g. sub j (inr g)) t h
+
+-- they are all that is written of a mirror, where nothing is copied or cleared
+pub metas_writes : (u : World) (m : Mirror) (ks : List Component)
+    → Writes u u.shelf m ks (λ q. false) (metas ks)
+metas_writes u m ks = record {
+  each = metas_are u (λ q. false) ks ks (λ k h. h);
+  metas = λ k h. inl (metas_has ks k h);
+  clears = λ q e. absurd (let f : ⊥ = cc in f);
+  copied = λ q j e. refl;
+}
 
 pub metas_plain : (ks : List Component) → ArePlain (metas ks)
 metas_plain [] t h = absurd h
