@@ -14,7 +14,7 @@ use Rattle.gm_state.proofs.NoMembers.{no_members}
 use Rattle.gm_state.proofs.Presence.{present_size, some_and}
 use Rattle.gm_changes.specs.After.{metas, clears, reply_to}
 use Rattle.gm_refusals.specs.Applies.{name_of}
-use Rattle.gm_rules.proofs.PlanOfStep.{Serves}
+use Rattle.gm_rules.proofs.PlanOfStep.{Serves, serves_kept}
 use Rattle.gm_lists.proofs.PutInPlace.{Ascends-put_all}
 use Rattle.gm_lists.proofs.PutTogether.{put_all_or, filter-put_all, filter-put_all_out, put_ordered}
 use Rattle.gm_rules.proofs.RuledOut.{metas_writes}
@@ -141,11 +141,6 @@ module _ (u : World) (m : Mirror) (ks : List Component) (list : ℕ → List ℕ
   pub enroll_serves : (c : Command) → name_of c ≡ Some m.name
       → ((q : List ℕ) → clears u.state c q ≡ false) → ReplyFits (reply_to c u.state)
       → Serves u c m ks
-  enroll_serves c named keeps reply = record {
-    named = λ k h. named;
-    written = λ k h. some_and (present u k.provider) k.sectors (λ x. 0 < x) (can.there k h)
-        (let b : m.data_sectors + 1 ≤ k.sectors = can.rules.sizes k h in omega arith);
-    cleared = λ q e. not_both (clears u.state c q) e (keeps q);
-    labels = λ q e. not_both (clears u.state c q) e (keeps q);
-    reply = reply;
-  }
+  enroll_serves c named keeps reply = serves_kept u c m ks keeps (λ k h. named)
+      (λ k h. some_and (present u k.provider) k.sectors (λ x. 0 < x) (can.there k h)
+      (let b : m.data_sectors + 1 ≤ k.sectors = can.rules.sizes k h in omega arith)) reply

@@ -29,7 +29,7 @@ use Rattle.gm_rules.proofs.AdjustedMirror.{Adjusts, adjusts_turns, adjusts_were,
 use Rattle.gm_changes.proofs.KeptComponents.{Keeps, keeps_either, keeps_id, mapped_members, put-again}
 use Rattle.gm_lists.proofs.Lists.{Has-map}
 use Rattle.gm_lists.proofs.Mapped.{Ascends-map, map_id, put-map}
-use Rattle.gm_rules.proofs.PlanOfStep.{IsPlain, ArePlain, Serves, has}
+use Rattle.gm_rules.proofs.PlanOfStep.{IsPlain, ArePlain, Serves, has, serves_kept}
 use Rattle.gm_rules.proofs.RuledOut.{CanTouch, metas_has, not_on}
 use Rattle.gm_rules.proofs.StepOfMirror.{Turns, Writes, IsOne}
 
@@ -240,13 +240,8 @@ module _ (u : World) (key : List ℕ) (c : Command) (m m' : Mirror) (f : Compone
   }
 
   serves : Serves u c m' changed
-  serves = record {
-    named = λ j i. rw a.shape.same_name a.named;
-    written = has_sectors u m m' f sound shape;
-    cleared = λ q e. not_both (clears u.state c q) e (a.none q);
-    labels = λ q e. not_both (clears u.state c q) e (a.none q);
-    reply = a.reply;
-  }
+  serves = serves_kept u c m' changed a.none (λ j i. rw a.shape.same_name a.named)
+      (has_sectors u m m' f sound shape) a.reply
 
   plain : ArePlain ts
   plain t h = subst IsPlain (a.metas t h).2 tt

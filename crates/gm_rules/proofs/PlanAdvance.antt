@@ -37,7 +37,7 @@ use Rattle.gm_rules.proofs.AdjustedMirror.{adjusts_turns_by, adjusts_were}
 use Rattle.gm_changes.proofs.KeptComponents.{Keeps}
 use Rattle.gm_changes.proofs.LendingComponent.{is_copying, lender}
 use Rattle.gm_rules.proofs.MappedMirror.{Obeys, Reshapes, adjusts, at_p, each_of, either, has_sectors, off, one_components, one_mirrors, one_reshapes, reshaped, sizes}
-use Rattle.gm_rules.proofs.PlanOfStep.{Brings, IsPlain, Serves, has_by}
+use Rattle.gm_rules.proofs.PlanOfStep.{Brings, IsPlain, Serves, has_by, serves_kept}
 use Rattle.gm_rules.proofs.RuledOut.{CanTouch, by_name, component_at, each_there}
 use Rattle.gm_state.proofs.FoundRecords.{is_member}
 use Rattle.gm_rules.proofs.StepOfMirror.{IsOne, Turns, Writes, not_last}
@@ -380,13 +380,7 @@ module _ (u : World) (key : List ℕ) (m : Mirror) (k j : Component) (sound : So
       rw (at_name, at) (omega arith, most, omega arith)
 
   serves : Serves u c m ks
-  serves = record {
-    named = λ i h. refl;
-    written = has_sectors u m m f sound shape;
-    cleared = λ q e. not_both (clears u.state c q) e refl;
-    labels = λ q e. not_both (clears u.state c q) e refl;
-    reply = replies;
-  }
+  serves = serves_kept u c m ks (λ q. refl) (λ i h. refl) (has_sectors u m m f sound shape) replies
 
   pub filling_has : source_of u.state k.provider ≡ Some j.provider → IsGood u.state (seen_of u) c
       → CanAnswer u key c → HasPlan u key c

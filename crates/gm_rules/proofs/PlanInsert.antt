@@ -30,7 +30,7 @@ use Rattle.gm_lists.proofs.Finding.{any_one, none_any, not_both}
 use Rattle.gm_refusals.proofs.NothingApplies.{there_from, none_from, fails_there, not_below, not_at, right_size}
 use Rattle.gm_state.proofs.FoundRecords.{named, new_name}
 use Rattle.gm_state.proofs.Presence.{present_size, some_and}
-use Rattle.gm_rules.proofs.PlanOfStep.{Serves, has, were_bare}
+use Rattle.gm_rules.proofs.PlanOfStep.{Serves, has, serves_kept, were_bare}
 use Rattle.gm_rules.proofs.RuledOut.{each_there, carries_nothing, metas_plain, metas_writes}
 use Rattle.gm_rules.proofs.StepOfMirror.{Turns, Writes}
 
@@ -139,17 +139,12 @@ module _ (u : World) (key : List ℕ) (m : Mirror) (new : NewComponent) (sectors
   writes = metas_writes u m' ks
 
   serves : m.name ≡ new.name → Serves u (Insert new) m' ks
-  serves is = record {
-    named = λ j i. ap Some (sym is);
-    written = each (λ j. IsSomeAnd (present u j.provider) (λ x. 0 < x))
-        (some_and (present u new.provider) sectors (λ x. 0 < x) can.size
-        (let b : m.data_sectors + 1 ≤ sectors = can.big in omega arith))
-        (λ j o. some_and (present u j.provider) j.sectors (λ x. 0 < x) (can.there j o)
-        (let b : m.data_sectors + 1 ≤ j.sectors = rules.sizes j o in omega arith));
-    cleared = λ q e. absurd (let f : ⊥ = cc in f);
-    labels = λ q e. absurd (let f : ⊥ = cc in f);
-    reply = tt;
-  }
+  serves is = serves_kept u (Insert new) m' ks (λ q. refl) (λ j i. ap Some (sym is))
+      (each (λ j. IsSomeAnd (present u j.provider) (λ x. 0 < x))
+      (some_and (present u new.provider) sectors (λ x. 0 < x) can.size
+      (let b : m.data_sectors + 1 ≤ sectors = can.big in omega arith))
+      (λ j o. some_and (present u j.provider) j.sectors (λ x. 0 < x) (can.there j o)
+      (let b : m.data_sectors + 1 ≤ j.sectors = rules.sizes j o in omega arith))) tt
 
   insert_plan : mirror_of u.state new.name ≡ Some m → IsGood u.state (seen_of u) (Insert new)
       → CanAnswer u key (Insert new) → HasPlan u key (Insert new)

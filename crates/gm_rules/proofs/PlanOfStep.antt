@@ -149,6 +149,20 @@ pub record Serves (u : World) (c : Command) (m : Mirror) (ks : List Component) :
   pub labels : (q : List ℕ) → clears u.state c q ≡ true → IsTrue (is_label q)
   pub reply : ReplyFits (reply_to c u.state)
 
+-- so does one that clears nothing
+pub serves_kept : (u : World) (c : Command) (m : Mirror) (ks : List Component)
+    → ((q : List ℕ) → clears u.state c q ≡ false)
+    → ((k : Component) → Has ks k → name_of c ≡ Some m.name)
+    → ((k : Component) → Has ks k → IsSomeAnd (present u k.provider) (λ n. 0 < n))
+    → ReplyFits (reply_to c u.state) → Serves u c m ks
+serves_kept u c m ks keeps named written reply = record {
+  named = named;
+  written = written;
+  cleared = λ q e. not_both (clears u.state c q) e (keeps q);
+  labels = λ q e. not_both (clears u.state c q) e (keeps q);
+  reply = reply;
+}
+
 module _ (u : World) (key : List ℕ) (c : Command) (mid : Image) (m : Mirror) (ks : List Component)
     (list : ℕ → List ℕ) (s : Records) (ts : List Intent) (sound : Sound u)
     (t : Turns u mid m ks (clears u.state c) list s)
