@@ -9,24 +9,28 @@ pub record Field : Type 0 where
   pub key : List ℕ
   pub value : Data
 
+-- one that is a number
 abbrev pub number_at : List ℕ → ℕ → Field
 number_at key n = record { key = key; value = number (unsigned n) }
 
+-- one that is a text
 abbrev pub text_at : List ℕ → List ℕ → Field
 text_at key text = record { key = key; value = string text }
 
+-- one that is true or false
 abbrev pub truth_at : List ℕ → Bool → Field
 truth_at key holds = record { key = key; value = boolean holds }
 
--- a list with what is told of each
+-- one that is a list of what is told of each
 abbrev pub each_at : {X : Type 0} → List ℕ → (X → Data) → List X → Field
 each_at key f xs = record { key = key; value = array (items_of (map f xs)) }
 
+-- the members, in this order
 abbrev pub members_of : List Field → Members
 members_of [] = no_members
 members_of (f ∷ fs) = member f.key f.value (members_of fs)
 
--- the object with these members, in this order
+-- the object of them
 abbrev pub object_of : List Field → Data
 object_of fs = object (members_of fs)
 

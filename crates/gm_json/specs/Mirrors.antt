@@ -11,6 +11,7 @@ use Rattle.gm_state.specs.States.{component_state_name, mirror_state_name, state
 use Rattle.serde_json.specs.Data.{Data}
 use Rattle.gm_json.specs.Fields.{each_at, number_at, object_of, text_at, text_of, truth_at}
 
+-- the name of the state of a component
 abbrev pub state_of : Mirror → Component → List ℕ
 state_of m k = component_state_name (state_by m.flags k.disk)
 

@@ -9,8 +9,8 @@ ghost use Rattle.gm_json.specs.Fields.{text_of};
 use serde_json::Value;
 use std::alloc::{AllocError, Global};
 
-#[tactic(auto, unfolding(crate::specs::Fields::text_of))]
 /// The compact text of a value that has no float.
+#[tactic(auto, unfolding(crate::specs::Fields::text_of))]
 pub(crate) fn text_of(alloc: Global, value: &Value) -> Result<String, AllocError>
     requires { has_float (view value.now) ≡ false }
     ensures { IfOk result (λ text. string_bytes text ≡ text_of (view value.now)) }
