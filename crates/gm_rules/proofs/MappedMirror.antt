@@ -208,7 +208,8 @@ module _ (u : World) (key : List ℕ) (c : Command) (m m' : Mirror) (f : Compone
       a.holds k h in
       let l' : i < held_by (f k).disk m.data_sectors =
       subst (λ (n : ℕ). i < held_by (f k).disk n) a.shape.same_data l in
-      rw (a.shape.keeps.provider k) (sound.whole m k (record { mirror = a.shape.here; component = h }) i
+      rw (a.shape.keeps.provider k)
+      (sound.whole m k (record { mirror = a.shape.here; component = h }) i
       (omega arith))
 
   turns : Turns u u.shelf m' changed (clears u.state c) (u.holds m.name) s

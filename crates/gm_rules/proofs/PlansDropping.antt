@@ -61,8 +61,8 @@ remove_has u key n p sound answer good =
       same_data = refl;
       same_syncid = refl;
       alone = λ j i d. ap not (differ j.provider p (not_on u m p sound.state can j i d));
-      fits = fits_as m (record m { all = m.all - 1 }) rules.fits refl refl rules.fits.genid rules.fits.syncid
-          rules.fits.slice;
+      fits = fits_as m (record m { all = m.all - 1 })
+          rules.fits refl refl rules.fits.genid rules.fits.syncid rules.fits.slice;
       all = (let r : m.all ≤ 16 = rules.all in omega arith);
       room = (let a : length ks + 1 ≤ length old = length-filter_lt stays old k can.member.1 goes in
           let b : length old ≤ m.all = rules.room in omega arith);
@@ -146,8 +146,8 @@ lost_has u key n ps sound answer good =
       same_data = refl;
       same_syncid = refl;
       alone = others_stay u m ps sound (good refusals.NotMember refl);
-      fits = fits_as m (record m { genid = m.genid + 1 }) rules.fits refl refl (omega arith) rules.fits.syncid
-          rules.fits.slice;
+      fits = fits_as m (record m { genid = m.genid + 1 })
+          rules.fits refl refl (omega arith) rules.fits.syncid rules.fits.slice;
       all = rules.all;
       room = (let a : length ks ≤ length old = length-filter_le stays old in
           let b : length old ≤ m.all = rules.room in omega arith);
