@@ -1,0 +1,14 @@
+//! What a request over HTTP asks of gmbench, read from any reader, and the bytes of a response.
+//!
+//! It knows no bench and no mirrors, only their labels. `request.rt` reads a request;
+//! `specs/Requests.antt` says what its bytes ask. `status.rt` has the answers' codes, and
+//! `responses.rt` writes one; `specs/Responses.antt` has its bytes.
+#![tactic(auto)]
+
+mod request;
+mod responses;
+mod status;
+
+pub use request::{Request, RequestFault};
+pub use responses::response;
+pub use status::{Allowed, Status};
