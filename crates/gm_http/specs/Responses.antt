@@ -17,7 +17,7 @@ code_of Internal = 500
 code_of Unavailable = 503
 
 -- the standard phrase of its code
-abbrev pub phrase_of : Status → List ℕ
+unfoldable pub phrase_of : Status → List ℕ
 phrase_of status = unwrap_or (reason_phrase (code_of status)) []
 
 abbrev pub method_name : Allowed → List ℕ
@@ -40,7 +40,7 @@ allow_line Internal = []
 allow_line Unavailable = []
 
 -- the head, an empty line and the body
-abbrev pub response_bytes : Status → List ℕ → List ℕ
+unfoldable pub response_bytes : Status → List ℕ → List ℕ
 response_bytes status body =
     head_line (codes "HTTP/1.1 " ++ decimal (code_of status) ++ codes " " ++ phrase_of status)
     ++ head_line (codes "Content-Type: application/json")

@@ -6,6 +6,7 @@ ghost use Rattle.gm_http.specs.Responses.{allow_line, phrase_of, response_bytes}
 use crate::status::{Allowed, Status};
 use std::alloc::{AllocError, Global};
 
+#[tactic(auto, unfolding(crate::specs::Responses::phrase_of))]
 fn phrase(status: Status) -> &'static str
     ensures { result.now ≡ phrase_of status }
 {
