@@ -1,1 +1,7 @@
+pub mod Bodies
+pub mod Fields
+pub mod Heads
+pub mod Input
+pub mod Requests
 pub mod Responses
+pub mod Routes

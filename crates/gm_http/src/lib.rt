@@ -5,8 +5,13 @@
 //! `responses.rt` writes one; `specs/Responses.antt` has its bytes.
 #![tactic(auto)]
 
+mod bodies;
+mod fields;
+mod head;
+mod input;
 mod request;
 mod responses;
+mod routes;
 mod status;
 
 pub use request::{Request, RequestFault};

@@ -1,7 +1,20 @@
 //! What a request asks.
 
+ghost use Rattle.std.specs.Prelude.{◌≡◌, IfOk, IfSome};
+ghost use Rattle.gm_http.specs.Input.{IsHead, Takes};
+ghost use Rattle.gm_http.specs.Requests.{Asks, HasHead, asked_by, asked_of, called, sent, taken};
+
+use crate::bodies::call_of;
+use crate::fields::length_by;
+use crate::head::read_head;
+use crate::input::fill;
+use crate::routes::{Target, target_of};
 use crate::status::Allowed;
 use gm_metadata::Label;
+use httparse::spans::{EMPTY_HEADER_SPAN, HeaderSpan, RequestSpans};
+use std::alloc::{AllocError, Global};
+use std::io::Read;
+use std::str;
 
 /// What a request asks.
 #[derive(Drop)]

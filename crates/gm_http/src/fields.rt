@@ -1,0 +1,61 @@
+//! What the fields of a head say of its body.
+
+ghost use Rattle.std.specs.Prelude.{◌≡◌, ◌<◌, ◌≤◌, ◌^◌, All, IfOk, IfSome, IsTrue, list_all, length, map};
+ghost use Rattle.std.specs.Str.{str_eq_ignore_ascii_case};
+ghost use Rattle.httparse.specs.Spans.{IsHeaderWithin, header_bytes};
+ghost use Rattle.gm_http.specs.Fields.{length_by, number_of, values_of};
+
+use httparse::spans::HeaderSpan;
+use std::alloc::{AllocError, Global};
+use std::str;
+
+#[tactic(auto, unfolding(crate::specs::Fields::number_of))]
+fn number_of(text: &[u8]) -> Option<u64>
+    ensures { result ≡ number_of text.now }
+{
+    if text.len() > 10 || !text.iter().all(|byte| byte.is_ascii_digit()) {
+        return None;
+    }
+    str::from_utf8(text).ok()?.parse().ok()
+}
+
+// The values of the fields of a name, in upper or in lower case.
+fn values_of<'b>(
+    alloc: Global,
+    bytes: &'b [u8],
+    headers: &[HeaderSpan],
+    name: &[u8],
+) -> Result<Vec<&'b [u8]>, AllocError>
+    requires { All (IsHeaderWithin (length bytes.now)) headers.now }
+    ensures { IfOk result (λ found. map (λ value. value.now) found.items
+        ≡ values_of name.now (map (header_bytes bytes.now) headers.now)) }
+{
+    let mut values = Vec::new(alloc);
+    for header in headers {
+        if header.name.of(bytes).eq_ignore_ascii_case(name) {
+            values.push(header.value.of(bytes))?;
+        }
+    }
+    Ok(values)
+}
+
+/// The length that a body has by the fields; `None` where it is sent in chunks, or they don't give
+/// just one length of 1 to 10 decimal digits.
+pub(crate) fn length_by(
+    alloc: Global,
+    bytes: &[u8],
+    headers: &[HeaderSpan],
+) -> Result<Option<u64>, AllocError>
+    requires { All (IsHeaderWithin (length bytes.now)) headers.now }
+    ensures { IfOk result (λ found.
+        found ≡ length_by (map (header_bytes bytes.now) headers.now)) }
+{
+    if !values_of(alloc, bytes, headers, b"transfer-encoding")?.is_empty() {
+        return Ok(None);
+    }
+    let lengths = values_of(alloc, bytes, headers, b"content-length")?;
+    match lengths.as_slice() {
+        [value] => Ok(number_of(value)),
+        _ => Ok(None),
+    }
+}

@@ -1,0 +1,64 @@
+//! The head of a request.
+
+ghost use Rattle.std.specs.Prelude.{◌≡◌, ◌≤◌, ◌<◌, ℕ, List, [], IfSome, IfNone, IfOk, length, vec_len};
+ghost use Rattle.httparse.specs.Grammar.{HasNoRequest};
+ghost use Rattle.httparse.specs.Spans.{IsRequestOf, IsRequestWithin, RequestOverflows};
+ghost use Rattle.gm_http.specs.Input.{HasNoHead, IsHead, Takes};
+ghost use Rattle.gm_http.specs.Heads.{Looks};
+
+use crate::input::take_some;
+use crate::request::RequestFault;
+use httparse::Status;
+use httparse::spans::{HeaderSpan, RequestSpans, parse_request};
+use std::io::Read;
+
+/// What bytes are that an input begins with.
+enum Beginning {
+    /// A head, and what follows it.
+    Head(RequestSpans),
+    /// A head may come of them.
+    Open,
+    /// Whatever follows, there is no head of at most 64 fields.
+    Never,
+}
+
+// What the bytes are.
+fn look(bytes: &[u8], headers: &mut [HeaderSpan; 64]) -> Beginning
+    ensures { Looks bytes.now headers.new result }
+{
+    match parse_request(bytes, headers) {
+        Ok(Status::Complete(spans)) => Beginning::Head(spans),
+        Ok(Status::Partial) => Beginning::Open,
+        Err(_) => Beginning::Never,
+    }
+}
+
+/// Reads the head of a request, of at most 8,192 bytes and 64 fields, and what comes with it;
+/// `None` where the input has no such head. Reads nothing once that is decided.
+pub(crate) fn read_head<R: Read>(
+    reader: &mut R,
+    bytes: &mut Vec<u8>,
+    headers: &mut [HeaderSpan; 64],
+) -> Result<Option<RequestSpans>, RequestFault>
+    requires { bytes.old.items ≡ [] }
+    ensures takes { OnOk result
+        (Takes (R.remaining reader.old) (R.remaining reader.new) [] bytes.new.items) }
+    ensures most { OnOk result (vec_len bytes.new ≤ 8192) }
+    ensures head { IfOk result (λ found. IfSome found (λ spans.
+        IsHead bytes.new.items headers.new spans)) }
+    ensures none { IfOk result (λ found. IfNone found
+        (IfSome (R.remaining reader.old) HasNoHead)) }
+{
+    while bytes.len() < 8192 {
+        let missing = 8192 - bytes.len();
+        if !take_some(reader, bytes, missing)? {
+            return Ok(None);
+        }
+        match look(bytes, headers) {
+            Beginning::Head(spans) => return Ok(Some(spans)),
+            Beginning::Open => {}
+            Beginning::Never => return Ok(None),
+        }
+    }
+    Ok(None)
+}
