@@ -1,2 +1,5 @@
+pub mod Beginnings
+pub mod Digits
 mod Heads
 pub mod Members
+pub mod Parts

@@ -5,7 +5,7 @@ use Rattle.std.specs.Str.{is_utf8}
 use Rattle.gm_http.specs.declared.bodies.Call as declared
 use Rattle.serde_json.specs.Data.{Data, Items, no_items, item, Members, no_members, member}
 use Rattle.serde_json.specs.Find.{get, as_str, as_array, as_object}
-use Rattle.serde_json.specs.Read.{read_text}
+use Rattle.serde_json.specs.Read.{read}
 
 -- a key and the words of a command
 pub record Call : Type 0 where
@@ -46,4 +46,4 @@ call_in d = if has_two d
 
 -- the call that a JSON text holds
 unfoldable pub call_of : List ℕ → Option Call
-call_of bytes = if is_utf8 bytes then option_and_then call_in (read_text bytes) else None
+call_of bytes = if is_utf8 bytes then option_and_then call_in (read bytes) else None

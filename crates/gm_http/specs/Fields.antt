@@ -1,14 +1,15 @@
 -- What the fields of a head say of its body. A field is a pair of its name and its value.
-use Rattle.std.specs.Prelude.{ℕ, List, [], ◌∷◌, length, nat_le, ◌&&◌, Option, Some, None, codes, filter, map, if◌then◌else◌}
+use Rattle.std.specs.Prelude.{ℕ, List, [], ◌∷◌, length, nat_le, ◌&&◌, Option, Some, None, codes, if◌then◌else◌}
 use Rattle.std.specs.Char.{is_ascii_digit}
 use Rattle.std.specs.List.{list_all}
 use Rattle.std.specs.Str.{str_eq_ignore_ascii_case}
 use Rattle.std.specs.Str.Parse.{digits_value}
 
 -- the values of the fields of a name, whether in upper or in lower case
-unfoldable pub values_of : List ℕ → List (List ℕ × List ℕ) → List (List ℕ)
-values_of name fields =
-    map (λ field. field.1) (filter (λ field. str_eq_ignore_ascii_case field.0 name) fields)
+abbrev pub values_of : List ℕ → List (List ℕ × List ℕ) → List (List ℕ)
+values_of name [] = []
+values_of name (field ∷ fields) = if str_eq_ignore_ascii_case field.0 name
+    then field.1 ∷ values_of name fields else values_of name fields
 
 -- the number of 1 to 10 decimal digits
 unfoldable pub number_of : List ℕ → Option ℕ

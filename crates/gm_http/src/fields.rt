@@ -1,6 +1,6 @@
 //! What the fields of a head say of its body.
 
-ghost use Rattle.std.specs.Prelude.{◌≡◌, ◌<◌, ◌≤◌, ◌^◌, All, IfOk, IfSome, IsTrue, list_all, length, map};
+ghost use Rattle.std.specs.Prelude.{◌≡◌, All, IfOk, length, map};
 ghost use Rattle.std.specs.Str.{str_eq_ignore_ascii_case};
 ghost use Rattle.httparse.specs.Spans.{IsHeaderWithin, header_bytes};
 ghost use Rattle.gm_http.specs.Fields.{length_by, number_of, values_of};
@@ -9,7 +9,6 @@ use httparse::spans::HeaderSpan;
 use std::alloc::{AllocError, Global};
 use std::str;
 
-#[tactic(auto, unfolding(crate::specs::Fields::number_of))]
 fn number_of(text: &[u8]) -> Option<u64>
     ensures { result ≡ number_of text.now }
 {
@@ -17,6 +16,12 @@ fn number_of(text: &[u8]) -> Option<u64>
         return None;
     }
     str::from_utf8(text).ok()?.parse().ok()
+}
+
+fn is_named(given: &[u8], name: &[u8]) -> bool
+    ensures { result ≡ str_eq_ignore_ascii_case given.now name.now }
+{
+    given.eq_ignore_ascii_case(name)
 }
 
 // The values of the fields of a name, in upper or in lower case.
@@ -32,7 +37,7 @@ fn values_of<'b>(
 {
     let mut values = Vec::new(alloc);
     for header in headers {
-        if header.name.of(bytes).eq_ignore_ascii_case(name) {
+        if is_named(header.name.of(bytes), name) {
             values.push(header.value.of(bytes))?;
         }
     }

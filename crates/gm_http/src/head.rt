@@ -1,6 +1,6 @@
 //! The head of a request.
 
-ghost use Rattle.std.specs.Prelude.{◌≡◌, ◌≤◌, ◌<◌, ℕ, List, [], IfSome, IfNone, IfOk, length, vec_len};
+ghost use Rattle.std.specs.Prelude.{◌≡◌, ◌≤◌, ◌<◌, ℕ, List, [], IfSome, IfNone, IfOk, OnOk, length, vec_len};
 ghost use Rattle.httparse.specs.Grammar.{HasNoRequest};
 ghost use Rattle.httparse.specs.Spans.{IsRequestOf, IsRequestWithin, RequestOverflows};
 ghost use Rattle.gm_http.specs.Input.{HasNoHead, IsHead, Takes};
@@ -33,6 +33,7 @@ fn look(bytes: &[u8], headers: &mut [HeaderSpan; 64]) -> Beginning
     }
 }
 
+#[tactic(auto, using(crate::proofs::Beginnings::nothing_is_no_request, crate::proofs::Beginnings::takes_nothing, crate::proofs::Beginnings::takes_more, crate::proofs::Beginnings::ended, crate::proofs::Beginnings::full, crate::proofs::Beginnings::never))]
 /// Reads the head of a request, of at most 8,192 bytes and 64 fields, and what comes with it;
 /// `None` where the input has no such head. Reads nothing once that is decided.
 pub(crate) fn read_head<R: Read>(

@@ -1,7 +1,7 @@
 //! The routes, and what a target names by them.
 
 ghost use Rattle.std.specs.Prelude.{◌≡◌, IfOk, option_map};
-ghost use Rattle.gm_http.specs.Routes.{label_between, method_of, named_on, route_of, routes, target_of};
+ghost use Rattle.gm_http.specs.Routes.{before, behind, label_between, method_of, named_on, route_of, routes, target_of};
 
 use crate::status::Allowed;
 use gm_metadata::Label;
@@ -48,11 +48,26 @@ fn route_of(router: &Router<Route>, text: &str) -> Option<Route>
     }
 }
 
+// What stands behind a beginning.
+fn behind<'a>(front: &str, text: &'a str) -> Option<&'a str>
+    ensures { option_map (λ part. part.now) result ≡ behind front.now text.now }
+{
+    text.strip_prefix(front)
+}
+
+// What stands before an end.
+fn before<'a>(back: &str, text: &'a str) -> Option<&'a str>
+    ensures { option_map (λ part. part.now) result ≡ before back.now text.now }
+{
+    text.strip_suffix(back)
+}
+
 // The label between a beginning and an end of a text.
+#[tactic(auto, unfolding(crate::specs::Routes::label_between))]
 fn label_between(front: &str, back: &str, text: &str) -> Option<Label>
     ensures { result ≡ label_between front.now back.now text.now }
 {
-    Label::new(text.strip_prefix(front)?.strip_suffix(back)?)
+    Label::new(before(back, behind(front, text)?)?)
 }
 
 fn named_on(route: Route, text: &str) -> Option<Target>
