@@ -59,26 +59,26 @@ input_is input rest bytes t = t.consumed ∙ ap (λ l. l ++ rest) (sym t.kept)
 -- the input has ended, and no head came
 pub ended : (a b : Option (List ℕ)) (bytes : List ℕ) → Takes a b [] bytes → IsAtEnd b
     → HasNoRequest bytes → IfSome a HasNoHead
-ended None b bytes t end no = tt
-ended (Some input) None bytes t end no = absurd t.consumed
-ended (Some input) (Some rest) bytes t end no = λ h body has.
+ended None b bytes t end none = tt
+ended (Some input) None bytes t end none = absurd t.consumed
+ended (Some input) (Some rest) bytes t end none = λ h body has.
     let whole : input ≡ bytes =
     input_is input rest bytes t ∙ ap (λ l. bytes ++ l) end ∙ append-nil bytes in
-    no h body (subst (λ l. ReadsRequest l h body) whole has.reads)
+    none h body (subst (λ l. ReadsRequest l h body) whole has.reads)
 
 -- so many bytes have no head at their front
 pub full : (a b : Option (List ℕ)) (bytes : List ℕ) → Takes a b [] bytes → 8192 ≤ length bytes
     → HasNoRequest bytes → IfSome a HasNoHead
-full None b bytes t long no = tt
-full (Some input) None bytes t long no = absurd t.consumed
-full (Some input) (Some rest) bytes t long no = λ h body has.
+full None b bytes t long none = tt
+full (Some input) None bytes t long none = absurd t.consumed
+full (Some input) (Some rest) bytes t long none = λ h body has.
     let n = length (print_request h) in
     let both : print_request h ++ body ≡ bytes ++ rest =
     sym has.reads.1 ∙ input_is input rest bytes t in
     let front : print_request h ≡ take n bytes =
     sym (take-append_seam (print_request h) body) ∙ ap (take n) both
     ∙ take-append-le n bytes rest (omega (arith, has.short)) in
-    no h (drop n bytes) (has.reads.0, sym (take-append-drop n bytes)
+    none h (drop n bytes) (has.reads.0, sym (take-append-drop n bytes)
     ∙ ap (λ l. l ++ drop n bytes) (sym front))
 
 -- whatever follows, the fields are too many

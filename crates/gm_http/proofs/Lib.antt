@@ -1,4 +1,5 @@
 pub mod Beginnings
+pub mod Calls
 pub mod Digits
 mod Heads
 pub mod Members

@@ -1,21 +1,43 @@
 //! What the fields of a head say of its body.
 
 ghost use Rattle.std.specs.Prelude.{◌≡◌, All, IfOk, length, map};
+ghost use Rattle.std.specs.Char.{is_ascii_digit};
+ghost use Rattle.std.specs.List.{list_all};
 ghost use Rattle.std.specs.Str.{str_eq_ignore_ascii_case};
 ghost use Rattle.httparse.specs.Spans.{IsHeaderWithin, header_bytes};
-ghost use Rattle.gm_http.specs.Fields.{length_by, number_of, values_of};
+ghost use Rattle.gm_http.specs.Fields.{length_by, number_of, only_number, values_of};
 
 use httparse::spans::HeaderSpan;
 use std::alloc::{AllocError, Global};
 use std::str;
 
+fn all_digits(text: &[u8]) -> bool
+    ensures { result ≡ list_all is_ascii_digit text.now }
+{
+    text.iter().all(|byte| byte.is_ascii_digit())
+}
+
+#[tactic(auto, using(crate::proofs::Digits::number_of_long, crate::proofs::Digits::number_of_other))]
 fn number_of(text: &[u8]) -> Option<u64>
     ensures { result ≡ number_of text.now }
 {
-    if text.len() > 10 || !text.iter().all(|byte| byte.is_ascii_digit()) {
+    if text.len() > 10 {
+        return None;
+    }
+    if !all_digits(text) {
         return None;
     }
     str::from_utf8(text).ok()?.parse().ok()
+}
+
+// The number that a single value is.
+fn only_number(values: &[&[u8]]) -> Option<u64>
+    ensures { result ≡ only_number (map (λ value. value.now) values.now) }
+{
+    match values {
+        [value] => number_of(value),
+        _ => None,
+    }
 }
 
 fn is_named(given: &[u8], name: &[u8]) -> bool
@@ -59,8 +81,5 @@ pub(crate) fn length_by(
         return Ok(None);
     }
     let lengths = values_of(alloc, bytes, headers, b"content-length")?;
-    match lengths.as_slice() {
-        [value] => Ok(number_of(value)),
-        _ => Ok(None),
-    }
+    Ok(only_number(&lengths))
 }

@@ -1,0 +1,21 @@
+-- When bytes hold no call, since they aren't a text.
+use Rattle.std.proofs.Common.{◌≡◌, ℕ, List, Bool, true, false, refl, Option, None}
+use Rattle.std.specs.Prelude.{option_and_then}
+use Rattle.std.specs.Str.{IsUtf8, is_utf8}
+use Rattle.std.proofs.lemmas.Bool.{cases_Bool}
+use Rattle.std.proofs.lemmas.Str.{IsUtf8-from_is_utf8, is_utf8-from_IsUtf8}
+use mathlib.Core.Logic.{⊎_elim}
+use Rattle.serde_json.specs.Read.{read}
+use Rattle.gm_http.specs.Bodies.{call_in, call_of}
+
+pub call_of_text : (bytes : List ℕ) → IsUtf8 bytes
+    → call_of bytes ≡ option_and_then call_in (read bytes)
+unfolding call_of
+call_of_text bytes is = rw (is_utf8-from_IsUtf8 bytes is) refl
+
+pub call_of_other : (bytes : List ℕ) → (IsUtf8 bytes → ⊥) → call_of bytes ≡ None
+unfolding call_of
+call_of_other bytes isnt =
+    let no_text : is_utf8 bytes ≡ false =
+    ⊎_elim (λ e. absurd (isnt (IsUtf8-from_is_utf8 bytes e))) (λ e. e) (cases_Bool (is_utf8 bytes)) in
+    rw no_text refl
