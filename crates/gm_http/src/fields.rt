@@ -27,7 +27,10 @@ fn number_of(text: &[u8]) -> Option<u64>
     if !all_digits(text) {
         return None;
     }
-    str::from_utf8(text).ok()?.parse().ok()
+    let Ok(digits) = str::from_utf8(text) else {
+        return None;
+    };
+    digits.parse().ok()
 }
 
 // The number that a single value is.
