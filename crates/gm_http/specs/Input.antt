@@ -1,11 +1,11 @@
 -- What was read of an input.
-use Rattle.std.specs.Prelude.{◌≡◌, ◌≤◌, ℕ, List, ◌++◌, length, Option}
+use Rattle.std.specs.Prelude.{◌≡◌, ◌≤◌, ℕ, List, ◌++◌, length, drop, Option}
 use Rattle.std.specs.Io.KnownBytes.{Consumes}
 use Rattle.httparse.specs.Grammar.{RequestHead, print_request}
 use Rattle.httparse.specs.Spans.{IsRequestAt, IsRequestWithin}
 use Rattle.httparse.specs.declared.spans.HeaderSpan.{HeaderSpan}
 use Rattle.httparse.specs.declared.spans.RequestSpans.{RequestSpans}
-use Rattle.gm_http.specs.Requests.{HasHead}
+use Rattle.gm_http.specs.Requests.{Asked, HasHead, asked_by}
 
 -- bytes were taken from the front of an input, and stand behind those that were there
 pub record Takes (old new : Option (List ℕ)) (was now : List ℕ) : Type 0 where
@@ -25,3 +25,14 @@ pub record IsHead
 -- an input that has no head
 abbrev pub HasNoHead : List ℕ → Type 0
 HasNoHead input = (h : RequestHead) (body : List ℕ) → HasHead input h body → ⊥
+
+-- what a head asks that stands at the front of the bytes, with the rest behind them
+abbrev pub AsksAtHead : List ℕ → List HeaderSpan → RequestSpans → List ℕ → Asked → Type 0
+AsksAtHead bytes headers spans rest asked = (h : RequestHead) → IsRequestAt bytes headers spans h
+    → asked ≡ asked_by h (drop spans.len bytes ++ rest)
+
+-- at most so many bytes were taken from the front of an input
+pub record TakesUpTo (most : ℕ) (old new : Option (List ℕ)) : Type 0 where
+  pub taken : List ℕ
+  pub consumed : Consumes old new taken
+  pub within : length taken ≤ most

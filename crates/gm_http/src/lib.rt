@@ -14,6 +14,6 @@ mod responses;
 mod routes;
 mod status;
 
-pub use request::{Request, RequestFault};
+pub use request::{Request, RequestFault, read_request};
 pub use responses::response;
 pub use status::{Allowed, Status};

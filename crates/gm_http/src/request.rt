@@ -1,8 +1,13 @@
 //! What a request asks.
 
-ghost use Rattle.std.specs.Prelude.{◌≡◌, IfOk, IfSome};
-ghost use Rattle.gm_http.specs.Input.{IsHead, Takes};
-ghost use Rattle.gm_http.specs.Requests.{Asks, HasHead, asked_by, asked_of, called, sent, taken};
+ghost use Rattle.std.specs.Prelude.{◌≡◌, ◌≤◌, ◌+◌, ◌++◌, All, IfOk, IfSome, IsUtf8, OnOk, drop, length, map, max};
+ghost use Rattle.std.specs.Str.{bytes_eq};
+ghost use Rattle.httparse.specs.Spans.{IsHeaderWithin, IsWithin, header_bytes, span_bytes};
+ghost use Rattle.gm_http.specs.Fields.{length_by};
+ghost use Rattle.gm_http.specs.Input.{AsksAtHead, IsHead, Takes, TakesUpTo};
+ghost use Rattle.gm_http.specs.Requests.{Asks, asked_of, sent};
+ghost use Rattle.gm_http.specs.Responses.{method_name};
+ghost use Rattle.gm_http.specs.Routes.{target_of};
 
 use crate::bodies::call_of;
 use crate::fields::length_by;
@@ -48,4 +53,128 @@ pub enum RequestFault {
     Memory,
     /// The reader failed.
     Read,
+}
+
+impl From<AllocError> for RequestFault {
+    ghost use Rattle.std.specs.Prelude.{◌≡◌};
+    ghost use Rattle.gm_http.specs.declared.request.RequestFault.TheVariants.{Memory};
+
+    ghost from_gives = { λ _ fault. fault ≡ Memory };
+
+    fn from(_: AllocError) -> RequestFault {
+        RequestFault::Memory
+    }
+}
+
+// What the target names that these spans are of.
+fn target_at(
+    alloc: Global,
+    bytes: &[u8],
+    spans: &RequestSpans,
+) -> Result<Option<Target>, RequestFault>
+    requires within { IsWithin (length bytes.now) spans.now.path }
+    requires text { IsUtf8 (span_bytes bytes.now spans.now.path) }
+    ensures { IfOk result (λ target.
+        target ≡ target_of (span_bytes bytes.now spans.now.path)) }
+{
+    let Ok(text) = str::from_utf8(spans.path.of(bytes)) else {
+        return Ok(None);
+    };
+    Ok(target_of(alloc, text)?)
+}
+
+// Whether the method is this one.
+fn has_method(bytes: &[u8], spans: &RequestSpans, method: Allowed) -> bool
+    requires { IsWithin (length bytes.now) spans.now.method }
+    ensures { result ≡ bytes_eq (span_bytes bytes.now spans.now.method) (method_name method) }
+{
+    spans.method.of(bytes) == method.name().as_bytes()
+}
+
+// What the body asks that begins at `start`, by the fields of its head.
+fn read_call<R: Read>(
+    alloc: Global,
+    reader: &mut R,
+    bytes: &mut Vec<u8>,
+    headers: &[HeaderSpan],
+    start: usize,
+) -> Result<Request, RequestFault>
+    requires within { All (IsHeaderWithin (length bytes.old.items)) headers.now }
+    requires start { start ≤ length bytes.old.items }
+    ensures asks { IfOk result (λ request. IfSome (R.remaining reader.old) (λ rest.
+        asked_of request ≡ sent (length_by (map (header_bytes bytes.old.items) headers.now))
+        (drop start bytes.old.items ++ rest))) }
+    ensures takes { OnOk result
+        (Takes (R.remaining reader.old) (R.remaining reader.new) bytes.old.items bytes.new.items) }
+    ensures most { OnOk result
+        (length bytes.new.items ≤ max (length bytes.old.items) (start + 65536)) }
+{
+    let Some(length) = length_by(alloc, bytes, headers)? else {
+        return Ok(Request::BadRequest);
+    };
+    if length > 65_536 {
+        return Ok(Request::TooLarge);
+    }
+    let end = start + length as usize;
+    fill(reader, bytes, end)?;
+    if bytes.len() < end {
+        return Ok(Request::BadRequest);
+    }
+    match call_of(alloc, &bytes[start..end])? {
+        Some(call) => Ok(Request::Command {
+            key: call.key,
+            words: call.words,
+        }),
+        None => Ok(Request::BadRequest),
+    }
+}
+
+// What a head asks that stands at the front of what was read.
+fn read_rest<R: Read>(
+    alloc: Global,
+    reader: &mut R,
+    bytes: &mut Vec<u8>,
+    headers: &[HeaderSpan; 64],
+    spans: &RequestSpans,
+) -> Result<Request, RequestFault>
+    requires { IsHead bytes.old.items headers.now spans.now }
+    ensures asks { IfOk result (λ request. IfSome (R.remaining reader.old) (λ rest.
+        AsksAtHead bytes.old.items headers.now spans.now rest (asked_of request))) }
+    ensures takes { OnOk result
+        (Takes (R.remaining reader.old) (R.remaining reader.new) bytes.old.items bytes.new.items) }
+    ensures most { OnOk result
+        (length bytes.new.items ≤ max (length bytes.old.items) (8192 + 65536)) }
+{
+    let Some(target) = target_at(alloc, bytes, spans)? else {
+        return Ok(Request::NotFound);
+    };
+    let method = target.method();
+    if !has_method(bytes, spans, method) {
+        return Ok(Request::NotAllowed(method));
+    }
+    match target {
+        Target::Status => Ok(Request::Status),
+        Target::Mirror(name) => Ok(Request::Mirror(name)),
+        Target::Metadata(name) => Ok(Request::Metadata(name)),
+        Target::Commands => {
+            read_call(alloc, reader, bytes, &headers[..spans.headers], spans.len)
+        }
+    }
+}
+
+/// Reads one request. A request that is answered without its body isn't read to its end, and none
+/// waits for a byte past it; what the reader gives beyond is ignored. Fails where the reader does,
+/// or for want of memory.
+pub fn read_request<R: Read>(alloc: Global, reader: &mut R) -> Result<Request, RequestFault>
+    ensures asks { IfOk result (λ request. IfSome (R.remaining reader.old) (λ input.
+        Asks input (asked_of request))) }
+    ensures front { OnOk result
+        (TakesUpTo (8192 + 65536) (R.remaining reader.old) (R.remaining reader.new)) }
+{
+    let mut bytes = Vec::new(alloc);
+    let mut headers = [EMPTY_HEADER_SPAN; 64];
+    match read_head(reader, &mut bytes, &mut headers)? {
+        Some(spans) => read_rest(alloc, reader, &mut bytes, &headers, &spans),
+        None => Ok(Request::BadRequest),
+    }
 }

@@ -6,7 +6,7 @@ ghost use Rattle.gm_http.specs.Routes.{before, behind, label_between, method_of,
 use crate::status::Allowed;
 use gm_metadata::Label;
 use matchit::{InsertError, Router};
-use std::alloc::Global;
+use std::alloc::{AllocError, Global};
 
 /// A route by itself.
 #[derive(Clone, Copy)]
@@ -100,10 +100,12 @@ impl Target {
 /// What a target names; `None` where no route takes it, or a part in braces isn't a label. Fails
 /// for want of memory alone, since the routes are well formed and don't meet.
 #[tactic(auto, unfolding(crate::specs::Routes::target_of))]
-pub(crate) fn target_of(alloc: Global, text: &str) -> Result<Option<Target>, InsertError>
+pub(crate) fn target_of(alloc: Global, text: &str) -> Result<Option<Target>, AllocError>
     ensures { IfOk result (λ target. target ≡ target_of text.now) }
 {
-    let router = router(alloc)?;
+    let Ok(router) = router(alloc) else {
+        return Err(AllocError);
+    };
     let Some(route) = route_of(&router, text) else {
         return Ok(None);
     };

@@ -1,7 +1,7 @@
 //! The codes of responses.
 
 ghost use Rattle.std.specs.Prelude.{◌≡◌};
-ghost use Rattle.gm_http.specs.Responses.{code_of};
+ghost use Rattle.gm_http.specs.Responses.{code_of, method_name};
 
 use http::StatusCode;
 
@@ -10,6 +10,17 @@ use http::StatusCode;
 pub enum Allowed {
     Get,
     Post,
+}
+
+impl Allowed {
+    pub(crate) fn name(self) -> &'static str
+        ensures { result.now ≡ method_name self }
+    {
+        match self {
+            Allowed::Get => "GET",
+            Allowed::Post => "POST",
+        }
+    }
 }
 
 /// How a request went, as a response says it.
