@@ -1,3 +1,4 @@
+pub mod Asking
 pub mod Beginnings
 pub mod Calls
 pub mod Digits

@@ -152,10 +152,10 @@ fn read_rest<R: Read>(
     if !has_method(bytes, spans, method) {
         return Ok(Request::NotAllowed(method));
     }
-    match target {
+    match &target {
         Target::Status => Ok(Request::Status),
-        Target::Mirror(name) => Ok(Request::Mirror(name)),
-        Target::Metadata(name) => Ok(Request::Metadata(name)),
+        Target::Mirror(name) => Ok(Request::Mirror(*name)),
+        Target::Metadata(name) => Ok(Request::Metadata(*name)),
         Target::Commands => {
             read_call(alloc, reader, bytes, &headers[..spans.headers], spans.len)
         }

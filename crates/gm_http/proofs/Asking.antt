@@ -1,0 +1,134 @@
+-- What is asked, by what was read of an input.
+use Rattle.std.proofs.Common.{◌≡◌, ◌∙◌, ◌<◌, ◌≤◌, ◌+◌, ◌-◌, ℕ, Bool, true, false, sym, ap, subst, refl, arith, inl, inr, List, [], ◌++◌, length, take, drop, map, Option, Some, None, Result, Ok, Err, IfOk, IfSome, append_assoc, length-append, nat_lt}
+use Rattle.std.specs.Prelude.{slice_range, if◌then◌else◌}
+use Rattle.std.specs.Str.{bytes_eq}
+use Rattle.std.proofs.lemmas.Bool.Decides.{nat_tests}
+use Rattle.std.proofs.lemmas.List.{length-drop, take-append-le, drop-append-le}
+use Rattle.httparse.proofs.GrammarLemmas.{ReadsRequest-append}
+use Rattle.httparse.specs.Grammar.{ReadsRequest, RequestHead}
+use Rattle.httparse.specs.Spans.{IsRequestAt, header_bytes, name_and_value, span_bytes}
+use Rattle.httparse.specs.declared.spans.HeaderSpan.{HeaderSpan}
+use Rattle.httparse.specs.declared.spans.RequestSpans.{RequestSpans}
+use Rattle.gm_http.specs.declared.routes.Target.{Target}
+use Rattle.gm_http.specs.declared.routes.Target.TheVariants.{Commands}
+use Rattle.gm_http.specs.Bodies.{call_of}
+use Rattle.gm_http.specs.Fields.{length_by}
+use Rattle.gm_http.specs.Input.{AsksAtHead, HasNoHead, IsHead, Takes, TakesUpTo}
+use Rattle.gm_http.specs.Requests.{Asked, Asks, BadRequest, HasHead, NotAllowed, NotFound, asked_at, asked_by, called, sent, taken}
+use Rattle.gm_http.specs.Responses.{method_name}
+use Rattle.gm_http.specs.Routes.{method_of, target_of}
+use Rattle.gm_http.proofs.Beginnings.{input_is}
+
+pub for_each : {A : Type 0} (a : Option A) (P : A → Type 0) → ((x : A) → P x) → IfSome a P
+for_each None P all = tt
+for_each (Some x) P all = all x
+
+pub in_each : {A T E : Type 0} (r : Result T E) (a : Option A) (P Q : T → A → Type 0)
+    → ((t : T) (x : A) → P t x → Q t x) → IfOk r (λ t. IfSome a (P t)) → IfOk r (λ t. IfSome a (Q t))
+in_each (Err e) a P Q step h = tt
+in_each (Ok t) None P Q step h = tt
+in_each (Ok t) (Some x) P Q step h = step t x h
+
+-- the whole body was read
+sent_whole : (body : List ℕ) (n : ℕ) → n ≤ 65536 → n ≤ length body
+    → sent (Some n) body ≡ called (call_of (take n body))
+sent_whole body n fits whole =
+    let small : nat_lt 65536 n ≡ false = grind (arith, nat_tests) in
+    let all : nat_lt (length body) n ≡ false = grind (arith, nat_tests) in
+    rw (small, all) refl
+
+pub whole_body : (a b : Option (List ℕ)) (was now : List ℕ) (start n : ℕ) (field : Option ℕ)
+    (asked : Asked) → Takes a b was now → start ≤ length was → n ≤ 65536 → start + n ≤ length now
+    → field ≡ Some n → asked ≡ called (call_of (slice_range now start (start + n)))
+    → IfSome a (λ rest. asked ≡ sent field (drop start was ++ rest))
+whole_body None b was now start n field asked t begins fits whole is asks = tt
+whole_body (Some rest) None was now start n field asked t begins fits whole is asks =
+    absurd t.consumed
+whole_body (Some rest) (Some left) was now start n field asked t begins fits whole is asks =
+    let behind : drop start was ++ rest ≡ drop start now ++ left =
+    ap (λ l. drop start was ++ l) t.consumed ∙ sym (append_assoc (drop start was) t.more left)
+    ∙ ap (λ l. l ++ left) (sym (drop-append-le start was t.more begins) ∙ ap (drop start) (sym t.kept)) in
+    let there : n ≤ length (drop start now) = rw length-drop (omega arith) in
+    let enough : n ≤ length (drop start now ++ left) = rw length-append (omega arith) in
+    let front : take n (drop start now ++ left) ≡ slice_range now start (start + n) =
+    take-append-le n (drop start now) left there
+    ∙ ap (λ k. take k (drop start now)) (omega arith) in
+    asks ∙ ap (λ l. called (call_of l)) (sym front) ∙ sym (sent_whole _ n fits enough)
+    ∙ ap (sent (Some n)) (sym behind) ∙ ap (λ f. sent f (drop start was ++ rest)) (sym is)
+
+-- no target
+pub asked_nowhere : (bytes : List ℕ) (headers : List HeaderSpan) (spans : RequestSpans)
+    (rest : List ℕ) → None ≡ target_of (span_bytes bytes spans.path)
+    → AsksAtHead bytes headers spans rest NotFound
+unfolding asked_by
+asked_nowhere bytes headers spans rest is = λ h at.
+    let found : None ≡ target_of h.target = is ∙ ap target_of at.path in
+    ap (λ t. asked_at t h (drop spans.len bytes ++ rest)) found
+
+-- a target by another method than its own
+pub asked_otherwise : (bytes : List ℕ) (headers : List HeaderSpan) (spans : RequestSpans)
+    (rest : List ℕ) (target : Target) → Some target ≡ target_of (span_bytes bytes spans.path)
+    → bytes_eq (span_bytes bytes spans.method) (method_name (method_of target)) ≡ false
+    → AsksAtHead bytes headers spans rest (NotAllowed (method_of target))
+unfolding asked_by
+asked_otherwise bytes headers spans rest target is other = λ h at.
+    let found : Some target ≡ target_of h.target = is ∙ ap target_of at.path in
+    let isnt : bytes_eq h.method (method_name (method_of target)) ≡ false = rw at.method at other in
+    let now : NotAllowed (method_of target)
+        ≡ asked_at (Some target) h (drop spans.len bytes ++ rest) = rw isnt refl in
+    now ∙ ap (λ t. asked_at t h (drop spans.len bytes ++ rest)) found
+
+-- a target by its own method
+pub asked_duly : (bytes : List ℕ) (headers : List HeaderSpan) (spans : RequestSpans)
+    (rest : List ℕ) (target : Target) (asked : Asked)
+    → Some target ≡ target_of (span_bytes bytes spans.path)
+    → bytes_eq (span_bytes bytes spans.method) (method_name (method_of target)) ≡ true
+    → ((h : RequestHead) → IsRequestAt bytes headers spans h
+    → asked ≡ taken target h (drop spans.len bytes ++ rest))
+    → AsksAtHead bytes headers spans rest asked
+unfolding asked_by
+asked_duly bytes headers spans rest target asked is own asks = λ h at.
+    let found : Some target ≡ target_of h.target = is ∙ ap target_of at.path in
+    let so : bytes_eq h.method (method_name (method_of target)) ≡ true = rw at.method at own in
+    let now : taken target h (drop spans.len bytes ++ rest)
+        ≡ asked_at (Some target) h (drop spans.len bytes ++ rest) = rw so refl in
+    asks h at ∙ now ∙ ap (λ t. asked_at t h (drop spans.len bytes ++ rest)) found
+
+-- a command, by the fields and what follows the head
+pub asked_to_do : (bytes : List ℕ) (headers : List HeaderSpan) (spans : RequestSpans)
+    (rest : List ℕ) (asked : Asked) → Some Commands ≡ target_of (span_bytes bytes spans.path)
+    → bytes_eq (span_bytes bytes spans.method) (method_name (method_of Commands)) ≡ true
+    → asked ≡ sent (length_by (map (header_bytes bytes) (take spans.headers headers)))
+    (drop spans.len bytes ++ rest)
+    → AsksAtHead bytes headers spans rest asked
+asked_to_do bytes headers spans rest asked is own asks =
+    asked_duly bytes headers spans rest Commands asked is own (λ h at.
+    asks ∙ ap (λ fields. sent (length_by fields) (drop spans.len bytes ++ rest)) at.fields)
+
+-- no head, a bad request
+pub asks_nothing : (a : Option (List ℕ)) → IfSome a HasNoHead
+    → IfSome a (λ input. Asks input BadRequest)
+asks_nothing None none = tt
+asks_nothing (Some input) none = inl (refl, none)
+
+-- a head, and what it and the rest ask
+pub asks_at_head : (a b : Option (List ℕ)) (bytes : List ℕ) (headers : List HeaderSpan)
+    (spans : RequestSpans) (asked : Asked) → Takes a b [] bytes → IsHead bytes headers spans
+    → IfSome b (λ rest. AsksAtHead bytes headers spans rest asked)
+    → IfSome a (λ input. Asks input asked)
+asks_at_head None b bytes headers spans asked t is asks = tt
+asks_at_head (Some input) None bytes headers spans asked t is asks = absurd t.consumed
+asks_at_head (Some input) (Some rest) bytes headers spans asked t is asks =
+    let body = drop spans.len bytes ++ rest in
+    let reads : ReadsRequest (bytes ++ rest) is.head body =
+    ReadsRequest-append bytes is.head (drop spans.len bytes) rest is.at.reads in
+    let whole : ReadsRequest input is.head body =
+    subst (λ l. ReadsRequest l is.head body) (sym (input_is input rest bytes t)) reads in
+    let has : HasHead input is.head body =
+        record { reads = whole; short = is.short; few = is.few } in
+    inr (is.head, body, has, asks is.head is.at)
+
+pub takes_up_to : (most : ℕ) (a b : Option (List ℕ)) (bytes : List ℕ) → Takes a b [] bytes
+    → length bytes ≤ most → TakesUpTo most a b
+takes_up_to most a b bytes t short =
+    record { taken = t.more; consumed = t.consumed; within = rw t.kept at short }
