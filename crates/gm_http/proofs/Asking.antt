@@ -9,12 +9,13 @@ use Rattle.httparse.specs.Grammar.{ReadsRequest, RequestHead}
 use Rattle.httparse.specs.Spans.{IsRequestAt, header_bytes, name_and_value, span_bytes}
 use Rattle.httparse.specs.declared.spans.HeaderSpan.{HeaderSpan}
 use Rattle.httparse.specs.declared.spans.RequestSpans.{RequestSpans}
+use Rattle.gm_http.specs.declared.request.Request.{Request}
 use Rattle.gm_http.specs.declared.routes.Target.{Target}
 use Rattle.gm_http.specs.declared.routes.Target.TheVariants.{Commands}
 use Rattle.gm_http.specs.Bodies.{call_of}
 use Rattle.gm_http.specs.Fields.{length_by}
 use Rattle.gm_http.specs.Input.{AsksAtHead, HasNoHead, IsHead, Takes, TakesUpTo}
-use Rattle.gm_http.specs.Requests.{Asked, Asks, BadRequest, HasHead, NotAllowed, NotFound, asked_at, asked_by, called, sent, taken}
+use Rattle.gm_http.specs.Requests.{Asked, Asks, BadRequest, HasHead, NotAllowed, NotFound, asked_at, asked_by, asked_of, called, sent, taken}
 use Rattle.gm_http.specs.Responses.{method_name}
 use Rattle.gm_http.specs.Routes.{method_of, target_of}
 use Rattle.gm_http.proofs.Beginnings.{input_is}
@@ -22,12 +23,6 @@ use Rattle.gm_http.proofs.Beginnings.{input_is}
 pub for_each : {A : Type 0} (a : Option A) (P : A → Type 0) → ((x : A) → P x) → IfSome a P
 for_each None P all = tt
 for_each (Some x) P all = all x
-
-pub in_each : {A T E : Type 0} (r : Result T E) (a : Option A) (P Q : T → A → Type 0)
-    → ((t : T) (x : A) → P t x → Q t x) → IfOk r (λ t. IfSome a (P t)) → IfOk r (λ t. IfSome a (Q t))
-in_each (Err e) a P Q step h = tt
-in_each (Ok t) None P Q step h = tt
-in_each (Ok t) (Some x) P Q step h = step t x h
 
 -- the whole body was read
 sent_whole : (body : List ℕ) (n : ℕ) → n ≤ 65536 → n ≤ length body
@@ -95,14 +90,19 @@ asked_duly bytes headers spans rest target asked is own asks = λ h at.
     asks h at ∙ now ∙ ap (λ t. asked_at t h (drop spans.len bytes ++ rest)) found
 
 -- a command, by the fields and what follows the head
-pub asked_to_do : (bytes : List ℕ) (headers : List HeaderSpan) (spans : RequestSpans)
-    (rest : List ℕ) (asked : Asked) → Some Commands ≡ target_of (span_bytes bytes spans.path)
+pub asked_to_do : {E : Type 0} (r : Result Request E) (a : Option (List ℕ)) (bytes : List ℕ)
+    (headers : List HeaderSpan) (spans : RequestSpans)
+    → Some Commands ≡ target_of (span_bytes bytes spans.path)
     → bytes_eq (span_bytes bytes spans.method) (method_name (method_of Commands)) ≡ true
-    → asked ≡ sent (length_by (map (header_bytes bytes) (take spans.headers headers)))
-    (drop spans.len bytes ++ rest)
-    → AsksAtHead bytes headers spans rest asked
-asked_to_do bytes headers spans rest asked is own asks =
-    asked_duly bytes headers spans rest Commands asked is own (λ h at.
+    → IfOk r (λ request. IfSome a (λ rest. asked_of request
+    ≡ sent (length_by (map (header_bytes bytes) (take spans.headers headers)))
+    (drop spans.len bytes ++ rest)))
+    → IfOk r (λ request. IfSome a (λ rest.
+    AsksAtHead bytes headers spans rest (asked_of request)))
+asked_to_do (Err e) a bytes headers spans is own asks = tt
+asked_to_do (Ok request) None bytes headers spans is own asks = tt
+asked_to_do (Ok request) (Some rest) bytes headers spans is own asks =
+    asked_duly bytes headers spans rest Commands (asked_of request) is own (λ h at.
     asks ∙ ap (λ fields. sent (length_by fields) (drop spans.len bytes ++ rest)) at.fields)
 
 -- no head, a bad request

@@ -4,7 +4,7 @@ use Rattle.httparse.specs.Spans.{header_bytes, span_bytes}
 use Rattle.gm_http.specs.declared.routes.Target.TheVariants.{Commands, Metadata, Mirror, Status}
 use Rattle.gm_http.specs.Responses.{method_name}
 use Rattle.gm_http.specs.Routes.{method_of, target_of}
-use Rattle.gm_http.proofs.Asking.{asked_duly, asked_nowhere, asked_otherwise, asked_to_do, for_each, in_each}
+use Rattle.gm_http.proofs.Asking.{asked_duly, asked_nowhere, asked_otherwise, asked_to_do, for_each}
 use Rattle.gm_http.proofs.request.read_rest.Goals as goal
 
 pub returns-in_default-clause-asks : goal.returns-in_default-clause-asks
@@ -45,4 +45,4 @@ returns-in-Commands-clause-asks g c =
     let at : Some Commands ≡ target_of (span_bytes c.args.bytes.now.items c.args.spans.now.path) = search rules in
     let own : bytes_eq (span_bytes c.args.bytes.now.items c.args.spans.now.method)
         (method_name (method_of Commands)) ≡ true = search rules in
-    in_each _ _ _ _ (λ request rest asks. asked_to_do _ _ _ rest _ at own asks) c.read_call.ensures.asks
+    asked_to_do _ _ _ _ _ at own c.read_call.ensures.asks
