@@ -104,31 +104,3 @@ asked_to_do (Ok request) None bytes headers spans is own asks = tt
 asked_to_do (Ok request) (Some rest) bytes headers spans is own asks =
     asked_duly bytes headers spans rest Commands (asked_of request) is own (λ h at.
     asks ∙ ap (λ fields. sent (length_by fields) (drop spans.len bytes ++ rest)) at.fields)
-
--- no head, a bad request
-pub asks_nothing : (a : Option (List ℕ)) → IfSome a HasNoHead
-    → IfSome a (λ input. Asks input BadRequest)
-asks_nothing None none = tt
-asks_nothing (Some input) none = inl (refl, none)
-
--- a head, and what it and the rest ask
-pub asks_at_head : (a b : Option (List ℕ)) (bytes : List ℕ) (headers : List HeaderSpan)
-    (spans : RequestSpans) (asked : Asked) → Takes a b [] bytes → IsHead bytes headers spans
-    → IfSome b (λ rest. AsksAtHead bytes headers spans rest asked)
-    → IfSome a (λ input. Asks input asked)
-asks_at_head None b bytes headers spans asked t is asks = tt
-asks_at_head (Some input) None bytes headers spans asked t is asks = absurd t.consumed
-asks_at_head (Some input) (Some rest) bytes headers spans asked t is asks =
-    let body = drop spans.len bytes ++ rest in
-    let reads : ReadsRequest (bytes ++ rest) is.head body =
-    ReadsRequest-append bytes is.head (drop spans.len bytes) rest is.at.reads in
-    let whole : ReadsRequest input is.head body =
-    subst (λ l. ReadsRequest l is.head body) (sym (input_is input rest bytes t)) reads in
-    let has : HasHead input is.head body =
-        record { reads = whole; short = is.short; few = is.few } in
-    inr (is.head, body, has, asks is.head is.at)
-
-pub takes_up_to : (most : ℕ) (a b : Option (List ℕ)) (bytes : List ℕ) → Takes a b [] bytes
-    → length bytes ≤ most → TakesUpTo most a b
-takes_up_to most a b bytes t short =
-    record { taken = t.more; consumed = t.consumed; within = rw t.kept at short }

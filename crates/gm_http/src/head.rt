@@ -12,6 +12,12 @@ use httparse::Status;
 use httparse::spans::{HeaderSpan, RequestSpans, parse_request};
 use std::io::Read;
 
+/// How many bytes a head has at most.
+const MOST_BYTES: usize = 8192;
+
+/// How many fields a head has at most.
+pub(crate) const MOST_FIELDS: usize = 64;
+
 /// What bytes are that an input begins with.
 enum Beginning {
     /// A head, and what follows it.
@@ -23,7 +29,7 @@ enum Beginning {
 }
 
 // What the bytes are.
-fn look(bytes: &[u8], headers: &mut [HeaderSpan; 64]) -> Beginning
+fn look(bytes: &[u8], headers: &mut [HeaderSpan; MOST_FIELDS]) -> Beginning
     ensures { Looks bytes.now headers.new result }
 {
     match parse_request(bytes, headers) {
@@ -39,7 +45,7 @@ fn look(bytes: &[u8], headers: &mut [HeaderSpan; 64]) -> Beginning
 pub(crate) fn read_head<R: Read>(
     reader: &mut R,
     bytes: &mut Vec<u8>,
-    headers: &mut [HeaderSpan; 64],
+    headers: &mut [HeaderSpan; MOST_FIELDS],
 ) -> Result<Option<RequestSpans>, RequestFault>
     requires { bytes.old.items ≡ [] }
     ensures takes { OnOk result
@@ -50,8 +56,8 @@ pub(crate) fn read_head<R: Read>(
     ensures none { IfOk result (λ found. IfNone found
         (IfSome (R.remaining reader.old) HasNoHead)) }
 {
-    while bytes.len() < 8192 {
-        let missing = 8192 - bytes.len();
+    while bytes.len() < MOST_BYTES {
+        let missing = MOST_BYTES - bytes.len();
         if !take_some(reader, bytes, missing)? {
             return Ok(None);
         }

@@ -11,7 +11,7 @@ ghost use Rattle.gm_http.specs.Routes.{target_of};
 
 use crate::bodies::call_of;
 use crate::fields::length_by;
-use crate::head::read_head;
+use crate::head::{MOST_FIELDS, read_head};
 use crate::input::fill;
 use crate::routes::{Target, target_of};
 use crate::status::Allowed;
@@ -20,6 +20,9 @@ use httparse::spans::{EMPTY_HEADER_SPAN, HeaderSpan, RequestSpans};
 use std::alloc::{AllocError, Global};
 use std::io::Read;
 use std::str;
+
+/// How many bytes a body has at most.
+const MOST_BODY: u64 = 65_536;
 
 /// What a request asks.
 #[derive(Drop)]
@@ -112,7 +115,7 @@ fn read_call<R: Read>(
     let Some(length) = length_by(alloc, bytes, headers)? else {
         return Ok(Request::BadRequest);
     };
-    if length > 65_536 {
+    if length > MOST_BODY {
         return Ok(Request::TooLarge);
     }
     let end = start + length as usize;
@@ -134,7 +137,7 @@ fn read_rest<R: Read>(
     alloc: Global,
     reader: &mut R,
     bytes: &mut Vec<u8>,
-    headers: &[HeaderSpan; 64],
+    headers: &[HeaderSpan; MOST_FIELDS],
     spans: &RequestSpans,
 ) -> Result<Request, RequestFault>
     requires { IsHead bytes.old.items headers.now spans.now }
@@ -172,7 +175,7 @@ pub fn read_request<R: Read>(alloc: Global, reader: &mut R) -> Result<Request, R
         (TakesUpTo (8192 + 65536) (R.remaining reader.old) (R.remaining reader.new)) }
 {
     let mut bytes = Vec::new(alloc);
-    let mut headers = [EMPTY_HEADER_SPAN; 64];
+    let mut headers = [EMPTY_HEADER_SPAN; MOST_FIELDS];
     match read_head(reader, &mut bytes, &mut headers)? {
         Some(spans) => read_rest(alloc, reader, &mut bytes, &headers, &spans),
         None => Ok(Request::BadRequest),
