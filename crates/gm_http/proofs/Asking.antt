@@ -4,7 +4,7 @@ use Rattle.std.specs.Prelude.{slice_range, if◌then◌else◌}
 use Rattle.std.specs.Str.{bytes_eq}
 use Rattle.std.proofs.lemmas.Bool.Decides.{nat_tests}
 use Rattle.std.proofs.lemmas.List.{length-drop, take-append-le, drop-append-le}
-use Rattle.httparse.proofs.GrammarLemmas.{ReadsRequest-append}
+use Rattle.httparse.proofs.GrammarLemmas.{request_unique}
 use Rattle.httparse.specs.Grammar.{ReadsRequest, RequestHead}
 use Rattle.httparse.specs.Spans.{IsRequestAt, header_bytes, name_and_value, span_bytes}
 use Rattle.httparse.specs.declared.spans.HeaderSpan.{HeaderSpan}
@@ -104,3 +104,12 @@ asked_to_do (Ok request) None bytes headers spans is own asks = tt
 asked_to_do (Ok request) (Some rest) bytes headers spans is own asks =
     asked_duly bytes headers spans rest Commands (asked_of request) is own (λ h at.
     asks ∙ ap (λ fields. sent (length_by fields) (drop spans.len bytes ++ rest)) at.fields)
+
+-- an input asks just one thing, since its head is one
+pub asks_one : (input : List ℕ) (a b : Asked) → Asks input a → Asks input b → a ≡ b
+asks_one input a b (inl x) (inl y) = x.0 ∙ sym y.0
+asks_one input a b (inl x) (inr y) = absurd (x.1 _ _ y.2)
+asks_one input a b (inr x) (inl y) = absurd (y.1 _ _ x.2)
+asks_one input a b (inr (h, body, has, is)) (inr (k, rest, too, so)) =
+    let same = request_unique input h k body rest has.reads too.reads in
+    is ∙ ap (λ g. asked_by g body) same.0 ∙ ap (asked_by k) same.1 ∙ sym so

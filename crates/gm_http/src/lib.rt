@@ -9,11 +9,13 @@ mod bodies;
 mod fields;
 mod head;
 mod input;
+mod laws;
 mod request;
 mod responses;
 mod routes;
 mod status;
 
+pub use laws::one_request;
 pub use request::{Request, RequestFault, read_request};
 pub use responses::response;
 pub use status::{Allowed, Status};

@@ -31,5 +31,9 @@ pub fn response(alloc: Global, status: Status, body: &str) -> Result<String, All
     let phrase = phrase(status);
     let length = body.len();
     let allow = allow(status);
-    format!(in alloc; "HTTP/1.1 {code} {phrase}\r\nContent-Type: application/json\r\nContent-Length: {length}\r\n{allow}Connection: close\r\n\r\n{body}")
+    format!(
+        in alloc;
+        "HTTP/1.1 {code} {phrase}\r\nContent-Type: application/json\r\n\
+         Content-Length: {length}\r\n{allow}Connection: close\r\n\r\n{body}"
+    )
 }
