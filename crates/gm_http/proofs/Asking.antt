@@ -1,12 +1,12 @@
 -- What is asked, by what was read of an input.
-use Rattle.std.proofs.Common.{◌≡◌, ◌∙◌, ◌<◌, ◌≤◌, ◌+◌, ◌-◌, ℕ, Bool, true, false, sym, ap, subst, refl, arith, inl, inr, List, [], ◌++◌, length, take, drop, map, Option, Some, None, Result, Ok, Err, IfOk, IfSome, append_assoc, length-append, nat_lt}
-use Rattle.std.specs.Prelude.{slice_range, if◌then◌else◌}
+use Rattle.std.proofs.Common.{◌≡◌, ◌∙◌, ◌≤◌, ◌+◌, ℕ, true, false, sym, ap, refl, arith, inl, inr, List, ◌++◌, length, take, drop, map, Option, Some, None, Result, Ok, Err, IfOk, IfSome, append_assoc, length-append, nat_lt}
+use Rattle.std.specs.Prelude.{slice_range}
 use Rattle.std.specs.Str.{bytes_eq}
 use Rattle.std.proofs.lemmas.Bool.Decides.{nat_tests}
 use Rattle.std.proofs.lemmas.List.{length-drop, take-append-le, drop-append-le}
 use Rattle.httparse.proofs.GrammarLemmas.{request_unique}
-use Rattle.httparse.specs.Grammar.{ReadsRequest, RequestHead}
-use Rattle.httparse.specs.Spans.{IsRequestAt, header_bytes, name_and_value, span_bytes}
+use Rattle.httparse.specs.Grammar.{RequestHead}
+use Rattle.httparse.specs.Spans.{IsRequestAt, header_bytes, span_bytes}
 use Rattle.httparse.specs.declared.spans.HeaderSpan.{HeaderSpan}
 use Rattle.httparse.specs.declared.spans.RequestSpans.{RequestSpans}
 use Rattle.gm_http.specs.declared.request.Request.{Request}
@@ -14,11 +14,10 @@ use Rattle.gm_http.specs.declared.routes.Target.{Target}
 use Rattle.gm_http.specs.declared.routes.Target.TheVariants.{Commands}
 use Rattle.gm_http.specs.Bodies.{call_of}
 use Rattle.gm_http.specs.Fields.{length_by}
-use Rattle.gm_http.specs.Input.{AsksAtHead, HasNoHead, IsHead, Takes, TakesUpTo}
-use Rattle.gm_http.specs.Requests.{Asked, Asks, BadRequest, HasHead, NotAllowed, NotFound, asked_at, asked_by, asked_of, called, sent, taken}
+use Rattle.gm_http.specs.Input.{AsksAtHead, Takes}
+use Rattle.gm_http.specs.Requests.{Asked, Asks, NotAllowed, NotFound, asked_at, asked_by, asked_of, called, sent, taken}
 use Rattle.gm_http.specs.Responses.{method_name}
 use Rattle.gm_http.specs.Routes.{method_of, target_of}
-use Rattle.gm_http.proofs.Beginnings.{input_is}
 
 pub for_each : {A : Type 0} (a : Option A) (P : A → Type 0) → ((x : A) → P x) → IfSome a P
 for_each None P all = tt
@@ -70,7 +69,7 @@ asked_otherwise bytes headers spans rest target is other = λ h at.
     let found : Some target ≡ target_of h.target = is ∙ ap target_of at.path in
     let isnt : bytes_eq h.method (method_name (method_of target)) ≡ false = rw at.method at other in
     let now : NotAllowed (method_of target)
-        ≡ asked_at (Some target) h (drop spans.len bytes ++ rest) = rw isnt refl in
+    ≡ asked_at (Some target) h (drop spans.len bytes ++ rest) = rw isnt refl in
     now ∙ ap (λ t. asked_at t h (drop spans.len bytes ++ rest)) found
 
 -- a target by its own method
@@ -86,7 +85,7 @@ asked_duly bytes headers spans rest target asked is own asks = λ h at.
     let found : Some target ≡ target_of h.target = is ∙ ap target_of at.path in
     let so : bytes_eq h.method (method_name (method_of target)) ≡ true = rw at.method at own in
     let now : taken target h (drop spans.len bytes ++ rest)
-        ≡ asked_at (Some target) h (drop spans.len bytes ++ rest) = rw so refl in
+    ≡ asked_at (Some target) h (drop spans.len bytes ++ rest) = rw so refl in
     asks h at ∙ now ∙ ap (λ t. asked_at t h (drop spans.len bytes ++ rest)) found
 
 -- a command, by the fields and what follows the head

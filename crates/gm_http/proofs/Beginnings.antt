@@ -1,15 +1,14 @@
 -- What the bytes that were read say of the input that they stand at the front of.
-use Rattle.std.proofs.Common.{◌≡◌, ◌∙◌, ◌<◌, ◌≤◌, ◌+◌, ℕ, sym, ap, subst, refl, arith, List, [], ◌∷◌, ◌++◌, length, take, drop, map, min, Option, Some, None, IfSome, append-nil, append_assoc, length-append, take-append-drop}
+use Rattle.std.proofs.Common.{◌≡◌, ◌∙◌, ◌≤◌, ℕ, sym, ap, subst, arith, List, [], ◌++◌, length, take, drop, map, min, Option, Some, None, IfSome, append-nil, append_assoc, length-append, take-append-drop}
 use Rattle.std.proofs.lemmas.List.{length-map, length-take, take-append-le}
 use Rattle.std.proofs.Math.Seq.{take-append_seam}
 use Rattle.std.proofs.KnownBytes.{Consumes-nil, Consumes-trans}
-use Rattle.std.specs.Io.KnownBytes.{Consumes, IsAtEnd}
-use Rattle.httparse.specs.Grammar.{HasNoRequest, IsRequestHead, ReadsRequest, RequestHead, print_request}
+use Rattle.std.specs.Io.KnownBytes.{IsAtEnd}
+use Rattle.httparse.specs.Grammar.{HasNoRequest, ReadsRequest, RequestHead, print_request}
 use Rattle.httparse.specs.Spans.{IsRequestAt, IsRequestOf, IsRequestWithin, RequestOverflows, header_bytes, name_and_value}
 use Rattle.httparse.specs.declared.spans.HeaderSpan.{HeaderSpan}
 use Rattle.httparse.specs.declared.spans.RequestSpans.{RequestSpans}
 use Rattle.gm_http.specs.Input.{HasNoHead, IsHead, Takes}
-use Rattle.gm_http.specs.Requests.{HasHead}
 
 -- there are no more fields than room for them
 fields_fit : {bytes : List ℕ} {headers : List HeaderSpan} {r : RequestSpans} {h : RequestHead}
@@ -17,7 +16,7 @@ fields_fit : {bytes : List ℕ} {headers : List HeaderSpan} {r : RequestSpans} {
 fields_fit {bytes} {headers} {r} {h} at room =
     let a = ap length at.fields in
     let b : length (map (header_bytes bytes) (take r.headers headers))
-        ≡ length (take r.headers headers) = length-map _ _ in
+    ≡ length (take r.headers headers) = length-map _ _ in
     let c : length (map name_and_value h.fields) ≡ length h.fields = length-map _ _ in
     let d : length (take r.headers headers) ≡ min r.headers (length headers) = length-take _ _ in
     omega arith
@@ -78,8 +77,11 @@ full (Some input) (Some rest) bytes t long none = λ h body has.
     let front : print_request h ≡ take n bytes =
     sym (take-append_seam (print_request h) body) ∙ ap (take n) both
     ∙ take-append-le n bytes rest (omega (arith, has.short)) in
-    none h (drop n bytes) (has.reads.0, sym (take-append-drop n bytes)
-    ∙ ap (λ l. l ++ drop n bytes) (sym front))
+    none h (drop n bytes) (
+      has.reads.0,
+      sym (take-append-drop n bytes)
+          ∙ ap (λ l. l ++ drop n bytes) (sym front),
+    )
 
 -- whatever follows, the fields are too many
 pub never : (a b : Option (List ℕ)) (bytes : List ℕ) → Takes a b [] bytes

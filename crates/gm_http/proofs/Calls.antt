@@ -1,5 +1,5 @@
 -- When bytes hold no call, since they aren't a text.
-use Rattle.std.proofs.Common.{◌≡◌, ℕ, List, Bool, true, false, refl, Option, None}
+use Rattle.std.proofs.Common.{◌≡◌, ℕ, List, false, refl, None}
 use Rattle.std.specs.Prelude.{option_and_then}
 use Rattle.std.specs.Str.{IsUtf8, is_utf8}
 use Rattle.std.proofs.lemmas.Bool.{cases_Bool}

@@ -1,5 +1,5 @@
 -- The number that a text of at most ten digits is.
-use Rattle.std.proofs.Common.{◌≡◌, ◌≢◌, ◌∙◌, ◌<◌, ◌≤◌, ◌^◌, ◌&&◌, ℕ, Bool, true, false, zero, suc, nat_le, refl, sym, ap, subst, arith, List, [], ◌∷◌, length, get_or, true≢false, lit<, Option, Some, None, Result, Ok, Err}
+use Rattle.std.proofs.Common.{◌≡◌, ◌≢◌, ◌∙◌, ◌<◌, ◌≤◌, ◌^◌, ◌&&◌, ℕ, Bool, true, false, zero, suc, nat_le, refl, sym, ap, arith, List, [], ◌∷◌, length, true≢false, lit<, Some, None, Result, Ok, Err}
 use Rattle.std.specs.Result.{result_ok}
 use Rattle.std.specs.Char.{digit_value, is_ascii_digit}
 use Rattle.std.specs.List.{list_all}

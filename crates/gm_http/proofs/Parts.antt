@@ -1,5 +1,5 @@
 -- What strips of a text leave, as functions.
-use Rattle.std.proofs.Common.{◌≡◌, ◌≢◌, ◌-◌, ◌∙◌, ℕ, List, length, drop, take, Option, Some, None, MatchOption, true, false, refl, sym, ap, cond, Bor}
+use Rattle.std.proofs.Common.{◌≡◌, ◌-◌, ◌∙◌, ℕ, List, length, drop, take, Option, Some, None, MatchOption, true, false, refl, ap, Bor}
 use Rattle.std.specs.Prelude.{nat_eq, option_map}
 use Rattle.std.specs.List.{starts_with, ends_with}
 use Rattle.std.specs.Str.Pattern.{FindsTextPrefix, FindsTextSuffix, StripsPrefix, StripsSuffix}

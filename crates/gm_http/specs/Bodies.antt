@@ -1,5 +1,5 @@
 -- The call that the body of a request holds.
-use Rattle.std.specs.Prelude.{◌≡◌, ◌==◌, ◌+◌, ℕ, Bool, false, List, [], ◌∷◌, Option, Some, None, codes, option_map, option_and_then, map, string_bytes, if◌then◌else◌}
+use Rattle.std.specs.Prelude.{◌==◌, ◌+◌, ℕ, Bool, false, List, [], ◌∷◌, Option, Some, None, codes, option_map, option_and_then, map, string_bytes, if◌then◌else◌}
 use Rattle.std.specs.Option.{option_map_or}
 use Rattle.std.specs.Str.{is_utf8}
 use Rattle.gm_http.specs.declared.bodies.Call as declared

@@ -1,5 +1,5 @@
 -- The routes, and what a target names by them.
-use Rattle.std.specs.Prelude.{ℕ, ◌-◌, List, [], ◌∷◌, length, drop, take, nat_eq, Option, Some, None, Result, Ok, Err, codes, option_map, option_and_then, if◌then◌else◌}
+use Rattle.std.specs.Prelude.{ℕ, ◌-◌, List, [], length, drop, take, nat_eq, Option, Some, None, Result, Ok, Err, codes, option_map, option_and_then, if◌then◌else◌}
 use Rattle.std.specs.List.{starts_with, ends_with}
 use Rattle.matchit.specs.Seek.{first}
 use Rattle.matchit.specs.Rows.{RowsOf}

@@ -31,8 +31,7 @@ pub fn response(alloc: Global, status: Status, body: &str) -> Result<String, All
     let phrase = phrase(status);
     let length = body.len();
     let allow = allow(status);
-    format!(
-        in alloc;
+    format!(in alloc;
         "HTTP/1.1 {code} {phrase}\r\nContent-Type: application/json\r\n\
          Content-Length: {length}\r\n{allow}Connection: close\r\n\r\n{body}"
     )

@@ -76,11 +76,7 @@ fn named_on(route: Route, text: &str) -> Option<Target>
     match route {
         Route::Status => Some(Target::Status),
         Route::Mirror => Some(Target::Mirror(label_between("/mirrors/", "", text)?)),
-        Route::Metadata => Some(Target::Metadata(label_between(
-            "/providers/",
-            "/metadata",
-            text,
-        )?)),
+        Route::Metadata => Some(Target::Metadata(label_between("/providers/", "/metadata", text)?)),
         Route::Commands => Some(Target::Commands),
     }
 }

@@ -1,4 +1,4 @@
-use Rattle.std.proofs.Common.{◌≡◌, ◌≤◌, ◌-◌, [], length, vec_len}
+use Rattle.std.proofs.Common.{◌≤◌, ◌-◌, [], vec_len}
 use Rattle.httparse.specs.Grammar.{HasNoRequest}
 use Rattle.gm_http.specs.Input.{Takes}
 use Rattle.gm_http.proofs.head.read_head.Given as goal

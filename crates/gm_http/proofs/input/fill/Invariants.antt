@@ -1,4 +1,4 @@
-use Rattle.std.proofs.Common.{◌≡◌, ◌≤◌, ◌-◌, length, max, vec_len}
+use Rattle.std.proofs.Common.{◌≤◌, ◌-◌, max, vec_len}
 use Rattle.gm_http.specs.Input.{Takes}
 use Rattle.gm_http.proofs.input.fill.Given as goal
 

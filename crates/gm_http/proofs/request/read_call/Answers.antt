@@ -1,4 +1,4 @@
-use Rattle.std.proofs.Common.{rules, arith, ◌≡◌, ◌∙◌, ◌≤◌, ◌+◌, ap, sym, Some, None, length, map}
+use Rattle.std.proofs.Common.{rules, ◌≡◌, ◌≤◌, ◌+◌, ap, Some, None, length, map}
 use Rattle.std.specs.Prelude.{slice_range}
 use Rattle.httparse.specs.Spans.{header_bytes}
 use Rattle.gm_http.specs.Bodies.{call_of, texts_in}
@@ -11,7 +11,7 @@ pub returns-in-Some-2-clause-asks : goal.returns-in-Some-2-clause-asks
 returns-in-Some-2-clause-asks g c =
     let small : c.in-Some.length ≤ 65536 = search rules in
     let field : length_by (map (header_bytes c.args.bytes.now.items) c.args.headers.now)
-        ≡ Some c.in-Some.length = search rules in
+    ≡ Some c.in-Some.length = search rules in
     let whole : c.args.start + c.in-Some.length ≤ length c.fill.new.bytes.items = search rules in
     let call : Some (texts_in c.in-Some-2.call) ≡ call_of (slice_range c.fill.new.bytes.items
     c.args.start (c.args.start + c.in-Some.length)) = search rules in
@@ -22,7 +22,7 @@ pub returns-in-None-clause-asks : goal.returns-in-None-clause-asks
 returns-in-None-clause-asks g c =
     let small : c.in-Some.length ≤ 65536 = search rules in
     let field : length_by (map (header_bytes c.args.bytes.now.items) c.args.headers.now)
-        ≡ Some c.in-Some.length = search rules in
+    ≡ Some c.in-Some.length = search rules in
     let whole : c.args.start + c.in-Some.length ≤ length c.fill.new.bytes.items = search rules in
     let call : None ≡ call_of (slice_range c.fill.new.bytes.items
     c.args.start (c.args.start + c.in-Some.length)) = search rules in
