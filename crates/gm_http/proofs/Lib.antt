@@ -2,6 +2,8 @@ pub mod Asking
 pub mod Beginnings
 pub mod Calls
 pub mod Digits
-mod Heads
+pub mod Heads
 pub mod Members
+pub mod OnRoutes
 pub mod Parts
+pub mod Walks

@@ -1,8 +1,10 @@
 //! What a request over HTTP asks of gmbench, read from any reader, and the bytes of a response.
 //!
-//! It knows no bench and no mirrors, only their labels. `request.rt` reads a request;
-//! `specs/Requests.antt` says what its bytes ask. `status.rt` has the answers' codes, and
-//! `responses.rt` writes one; `specs/Responses.antt` has its bytes.
+//! It knows no bench and no mirrors, only their labels. `request.rt` reads a request: `head.rt` its
+//! head, `routes.rt` its target, `fields.rt` the length of its body and `bodies.rt` what that
+//! holds. `specs/Requests.antt` says what all of it asks, and is what to read first. `status.rt`
+//! has the codes of responses, `responses.rt` writes one, and `specs/Responses.antt` has its bytes.
+//! `laws.rt` says what holds of all requests.
 #![tactic(auto)]
 
 mod bodies;
@@ -15,7 +17,7 @@ mod responses;
 mod routes;
 mod status;
 
-pub use laws::one_request;
+pub use laws::{one_request, targets};
 pub use request::{Request, RequestFault, read_request};
 pub use responses::response;
 pub use status::{Allowed, Status};
