@@ -1,6 +1,7 @@
 -- Which fault of a medium a fault of the bench comes from.
-use Rattle.std.proofs.Common.{◌≡◌, inl, inr, ℕ, ◌≤◌, ◌<◌, List, Option, Some, None, refl, subst, arith}
-use Rattle.std.specs.Prelude.{IsSomeAnd}
+use Rattle.std.proofs.Common.{◌≡◌, inl, inr, ℕ, ◌≤◌, ◌<◌, List, Option, Some, None, Result, Ok, Err, refl, sym, subst, arith}
+use Rattle.std.specs.Prelude.{IsSomeAnd, IsErrOf}
+use Rattle.std.specs.Result.{IsErrAnd}
 use Rattle.gm_metadata.specs.Images.{Sizes}
 use Rattle.gm_state.specs.declared.intents.Intent.{Intent}
 use Rattle.gm_state.specs.declared.intents.Intent.TheVariants.{Meta, Clear, Copy}
@@ -12,6 +13,12 @@ use Rattle.gm_shelf.specs.declared.fault.ShelfFault.{ShelfFault}
 use Rattle.gm_shelf.specs.declared.fault.ShelfFault.TheVariants as shelf
 use Rattle.gm_bench.specs.declared.fault.BenchFault.TheVariants.{Disk, Absent, Unreadable}
 use Rattle.gm_bench.specs.Faults.{of_store, of_shelf}
+
+-- what `?` passes on is the fault that it was given
+pub fault_is : {T E : Type 0} (r : Result T E) (given e : E) → IsErrAnd r (λ x. x ≡ given)
+    → IsErrOf r e → given ≡ e
+fault_is (Ok x) given e passed is = cc
+fault_is (Err x) given e passed is = let same : x ≡ given = passed in cc
 
 pub of_unreadable : (f : StoreFault) → of_store f ≡ Unreadable → f ≡ store.Unreadable
 of_unreadable store.Memory e = cc

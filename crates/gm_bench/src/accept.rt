@@ -90,10 +90,9 @@ impl<S: Alter, H: Shelf> Media<S, H> {
         ensures accepts { Accepts S.Store H.Shelf self.old self.new result
             (λ a. IsUndone (answer_of a)) }
     {
-        match self.ask(alloc, command) {
-            Ok(Ok(planned)) => self.commit(planned, key, words),
-            Ok(Err(refusal)) => Ok(Accepted::Refused(CallRefusal::ByRules(refusal))),
-            Err(fault) => Err(fault),
+        match self.ask(alloc, command)? {
+            Ok(planned) => self.commit(planned, key, words),
+            Err(refusal) => Ok(Accepted::Refused(CallRefusal::ByRules(refusal))),
         }
     }
 
@@ -127,11 +126,10 @@ impl<S: Alter, H: Shelf> Media<S, H> {
         ensures accepts { Accepts S.Store H.Shelf self.old self.new result
             (λ a. IsUndone (answer_of a)) }
     {
-        match self.is_full() {
-            Ok(true) => Ok(Accepted::Refused(CallRefusal::NoRoom)),
-            Ok(false) => self.choose(alloc, key, words, command),
-            Err(fault) => Err(fault),
+        if self.is_full()? {
+            return Ok(Accepted::Refused(CallRefusal::NoRoom));
         }
+        self.choose(alloc, key, words, command)
     }
 
     // Answers a command whose key has the form of one.

@@ -51,10 +51,8 @@ fn is_as_registered<H: Shelf>(
     let Some(metadata) = metadata_of(state, component.provider) else {
         return Ok(false);
     };
-    match last_of(shelf, component.provider, u64::from(component.sectors)) {
-        Ok(last) => Ok(same(&last, &encode(&metadata))),
-        Err(fault) => Err(fault),
-    }
+    let last = last_of(shelf, component.provider, u64::from(component.sectors))?;
+    Ok(same(&last, &encode(&metadata)))
 }
 
 /// The names of the components that the shelf shows otherwise than they are registered, in byte
@@ -96,13 +94,7 @@ impl<S: Alter, H: Shelf> Media<S, H> {
             → HasTables S.Store self.old.registry t → AreTablesOf t s ts → ⊥ }
         ensures asks { Asks S.Store H.Shelf self.old self.new result }
     {
-        let (state, _) = match self.load(alloc) {
-            Ok(loaded) => loaded,
-            Err(fault) => return Err(fault),
-        };
-        match amiss_on(alloc, &mut self.shelf, &state) {
-            Ok(names) => Ok(names),
-            Err(fault) => Err(fault),
-        }
+        let (state, _) = self.load(alloc)?;
+        amiss_on(alloc, &mut self.shelf, &state)
     }
 }

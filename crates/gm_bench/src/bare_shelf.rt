@@ -55,10 +55,7 @@ pub fn taste_shelf<H: Shelf>(alloc: Global, shelf: &mut H) -> Result<Tasted, Ben
         → IfOk result (IsTastedOn (H.size shelf.old) (H.view shelf.old).seen) }
     ensures looks { Looks H.Shelf shelf.old shelf.new result }
 {
-    let providers = match providers_on(alloc, shelf) {
-        Ok(providers) => providers,
-        Err(fault) => return Err(fault),
-    };
+    let providers = providers_on(alloc, shelf)?;
     match taste(alloc, &providers) {
         Ok(tasted) => Ok(tasted),
         Err(_) => Err(BenchFault::Memory),

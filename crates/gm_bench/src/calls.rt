@@ -86,13 +86,11 @@ impl<S: Alter, H: Shelf> Bench<S, H> {
         ensures closes { ClosesOnFault self.old self.new result }
     {
         match mem::replace(&mut self.progress, Progress::Failed) {
-            Progress::Pending(work) => match self.media.apply(&work.part, &work.intents) {
-                Ok(()) => {
-                    self.progress = Progress::Applied(work);
-                    Ok(())
-                }
-                Err(fault) => Err(fault),
-            },
+            Progress::Pending(work) => {
+                self.media.apply(&work.part, &work.intents)?;
+                self.progress = Progress::Applied(work);
+                Ok(())
+            }
             _ => Err(BenchFault::Closed),
         }
     }
@@ -114,13 +112,11 @@ impl<S: Alter, H: Shelf> Bench<S, H> {
         ensures closes { ClosesOnFault self.old self.new result }
     {
         match mem::replace(&mut self.progress, Progress::Failed) {
-            Progress::Applied(_) => match self.media.settle() {
-                Ok(()) => {
-                    self.progress = Progress::Ready;
-                    Ok(())
-                }
-                Err(fault) => Err(fault),
-            },
+            Progress::Applied(_) => {
+                self.media.settle()?;
+                self.progress = Progress::Ready;
+                Ok(())
+            }
             _ => Err(BenchFault::Closed),
         }
     }
@@ -147,13 +143,8 @@ impl<S: Alter, H: Shelf> Bench<S, H> {
         ensures carries { CarriesOut S.Store H.Shelf self.old self.new result }
         ensures closes { ClosesOnFault self.old self.new result }
     {
-        match self.apply() {
-            Ok(()) => match self.settle() {
-                Ok(()) => Ok(()),
-                Err(fault) => Err(fault),
-            },
-            Err(fault) => Err(fault),
-        }
+        self.apply()?;
+        self.settle()
     }
 
     /// `accept`, `apply` and `settle` in turn. What was accepted before a fault is carried out by
@@ -175,15 +166,13 @@ impl<S: Alter, H: Shelf> Bench<S, H> {
         ensures runs { RunsOnce S.Store H.Shelf self.old self.new result }
         ensures closes { ClosesOnFault self.old self.new result }
     {
-        match self.accept(alloc, key, command) {
-            Ok(answer) => match self.phase() {
-                Phase::Pending => match self.carry_out() {
-                    Ok(()) => Ok(answer),
-                    Err(fault) => Err(fault),
-                },
-                _ => Ok(answer),
-            },
-            Err(fault) => Err(fault),
+        let answer = self.accept(alloc, key, command)?;
+        match self.phase() {
+            Phase::Pending => {
+                self.carry_out()?;
+                Ok(answer)
+            }
+            _ => Ok(answer),
         }
     }
 }

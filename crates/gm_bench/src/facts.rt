@@ -101,10 +101,10 @@ pub(crate) fn fact_of<H: Shelf>(
 {
     match shelf.sectors(provider) {
         None => Ok(None),
-        Some(sectors) => match fact_there(shelf, against, provider, sectors) {
-            Ok(fact) => Ok(Some(fact)),
-            Err(fault) => Err(fault),
-        },
+        Some(sectors) => {
+            let fact = fact_there(shelf, against, provider, sectors)?;
+            Ok(Some(fact))
+        }
     }
 }
 

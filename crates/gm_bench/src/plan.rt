@@ -102,10 +102,10 @@ fn decide_on(
         → (size : Sizes) → TellSizes facts.now size → IsPlanAtHand size r) }
 {
     match decide_part(alloc, part, count, facts, command) {
-        Ok(Ok(change)) => match plan(alloc, part, change) {
-            Ok(planned) => Ok(Ok(planned)),
-            Err(fault) => Err(fault),
-        },
+        Ok(Ok(change)) => {
+            let planned = plan(alloc, part, change)?;
+            Ok(Ok(planned))
+        }
         Ok(Err(refusal)) => Ok(Err(refusal)),
         Err(_) => Err(BenchFault::Memory),
     }
@@ -171,10 +171,7 @@ impl<S: Alter, H: Shelf> Media<S, H> {
         ensures registry { self.new.registry ≡ self.old.registry }
         ensures looks { Looks H.Shelf self.old.shelf self.new.shelf result }
     {
-        match facts_of(alloc, &mut self.shelf, against, names) {
-            Ok(facts) => Ok(facts),
-            Err(fault) => Err(fault),
-        }
+        facts_of(alloc, &mut self.shelf, against, names)
     }
 
     // What the shelf says of the providers that a command needs, of which the part is known.
@@ -193,10 +190,7 @@ impl<S: Alter, H: Shelf> Media<S, H> {
         ensures looks { Looks H.Shelf self.old.shelf self.new.shelf result }
     {
         match needed(alloc, part, command) {
-            Ok(names) => match self.look_at(alloc, against, &names) {
-                Ok(facts) => Ok(facts),
-                Err(fault) => Err(fault),
-            },
+            Ok(names) => self.look_at(alloc, against, &names),
             Err(_) => Err(BenchFault::Memory),
         }
     }
@@ -219,23 +213,15 @@ impl<S: Alter, H: Shelf> Media<S, H> {
         ensures asks { Asks S.Store H.Shelf self.old self.new result }
     {
         let providers = adopted_from(command);
-        let first = match self.look_at(alloc, &None, providers) {
-            Ok(first) => first,
-            Err(fault) => return Err(fault),
-        };
+        let first = self.look_at(alloc, &None, providers)?;
         let mids = match found_mids(alloc, &first, providers) {
             Ok(mids) => mids,
             Err(_) => return Err(BenchFault::Memory),
         };
-        let part = match self.part(alloc, command, &mids) {
-            Ok(part) => part,
-            Err(fault) => return Err(fault),
-        };
+        let part = self.part(alloc, command, &mids)?;
         let against = compared_with(adopt_source(&first, providers));
-        match self.look(alloc, &part.state, command, &against) {
-            Ok(facts) => Ok(Gathered { part, facts }),
-            Err(fault) => Err(fault),
-        }
+        let facts = self.look(alloc, &part.state, command, &against)?;
+        Ok(Gathered { part, facts })
     }
 
     /// What the rules answer, with what is carried out once that is accepted. It writes nothing.
@@ -259,14 +245,8 @@ impl<S: Alter, H: Shelf> Media<S, H> {
             → IsHonestToAdopt H.Shelf self.old.shelf command.now → ⊥ }
         ensures asks { Asks S.Store H.Shelf self.old self.new result }
     {
-        let known = match self.gather(alloc, command) {
-            Ok(known) => known,
-            Err(fault) => return Err(fault),
-        };
+        let known = self.gather(alloc, command)?;
         let part = &known.part;
-        match decide_on(alloc, &part.state, part.mirrors, &known.facts, command) {
-            Ok(decided) => Ok(decided),
-            Err(fault) => Err(fault),
-        }
+        decide_on(alloc, &part.state, part.mirrors, &known.facts, command)
     }
 }

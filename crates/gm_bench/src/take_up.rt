@@ -51,13 +51,8 @@ impl<S: Alter, H: Shelf> Media<S, H> {
         ensures keep { Keep S.Store H.Shelf self.old.registry self.new.registry
             self.old.shelf self.new.shelf }
     {
-        match self.apply(part, intents) {
-            Ok(()) => match self.settle() {
-                Ok(()) => Ok(()),
-                Err(fault) => Err(fault),
-            },
-            Err(fault) => Err(fault),
-        }
+        self.apply(part, intents)?;
+        self.settle()
     }
 
     /// The whole state and the pending intents. It writes nothing.
@@ -118,10 +113,7 @@ impl<S: Alter, H: Shelf> Media<S, H> {
     {
         match first_absent(&self.shelf, state, intents) {
             Some(provider) => Err(BenchFault::Absent(provider)),
-            None => match self.finish(state, intents) {
-                Ok(()) => Ok(()),
-                Err(fault) => Err(fault),
-            },
+            None => self.finish(state, intents),
         }
     }
 
@@ -147,12 +139,8 @@ impl<S: Alter, H: Shelf> Media<S, H> {
         ensures keep { Keep S.Store H.Shelf self.old.registry self.new.registry
             self.old.shelf self.new.shelf }
     {
-        match self.load(alloc) {
-            Ok((state, intents)) => match self.check_and_finish(&state, &intents) {
-                Ok(()) => Ok(intents.len() as u64),
-                Err(fault) => Err(fault),
-            },
-            Err(fault) => Err(fault),
-        }
+        let (state, intents) = self.load(alloc)?;
+        self.check_and_finish(&state, &intents)?;
+        Ok(intents.len() as u64)
     }
 }

@@ -10,18 +10,18 @@ returns-in_default-clause-told g c h state m o =
     (g.H.Shelf.view c.args.shelf.now).seen m c.args.component.now o
     (sym c.metadata_of.ensures.value ∙ c.in_default.is))
 
-pub returns-in-Ok-clause-told : goal.returns-in-Ok-clause-told
-returns-in-Ok-clause-told g c h state m o =
+pub returns-clause-told : goal.returns-clause-told
+returns-clause-told g c h state m o =
     let size = g.H.Shelf.size c.args.shelf.now in
     let seen = (g.H.Shelf.view c.args.shelf.now).seen in
     let k = c.args.component.now in
     let sized : size k.provider ≡ Some k.sectors =
     c.has_its_size.ensures.0 c.if-not-has_its_size.false in
-    let told : IsTrue c.same.result ↔ (c.in-Ok.last ≡ encoded c.in-Some.metadata) =
-    subst (λ x. IsTrue c.same.result ↔ (c.in-Ok.last ≡ x)) c.encode.ensures.sector
+    let told : IsTrue c.same.result ↔ (c.in_ok-last.last ≡ encoded c.in-Some.metadata) =
+    subst (λ x. IsTrue c.same.result ↔ (c.in_ok-last.last ≡ x)) c.encode.ensures.sector
     c.same.ensures in
-    let shown : c.in-Ok.last ≡ last_of k.sectors (seen k.provider) =
-    subst (λ (n : ℕ). c.in-Ok.last ≡ last_of n (seen k.provider)) c.from.ensures
-    (c.in-Ok.ensures.bytes h) in
-    by_last c.args.state.now state size seen m k o c.in-Some.metadata c.in-Ok.last c.same.result
+    let shown : c.in_ok-last.last ≡ last_of k.sectors (seen k.provider) =
+    subst (λ (n : ℕ). c.in_ok-last.last ≡ last_of n (seen k.provider)) c.from.ensures
+    (c.in_ok-last.ensures.bytes h) in
+    by_last c.args.state.now state size seen m k o c.in-Some.metadata c.in_ok-last.last c.same.result
     sized (sym c.metadata_of.ensures.value ∙ c.in-Some.is) shown told

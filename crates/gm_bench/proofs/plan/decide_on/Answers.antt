@@ -2,24 +2,24 @@ use Rattle.std.proofs.Common.{◌≡◌, ◌≤◌, Err, IfOk, length, ap, subst
 use Rattle.gm_state.specs.Records.{IsState}
 use Rattle.gm_changes.specs.Decides.{Makes}
 use Rattle.gm_refusals.specs.Seen.{seen_in}
-use Rattle.gm_bench.specs.declared.fault.BenchFault.TheVariants.{Unreadable}
+use Rattle.gm_bench.proofs.Causes.{fault_is}
 use Rattle.gm_bench.proofs.PlannedAlone.{planned_hand, planned_state}
 use Rattle.gm_bench.proofs.plan.decide_on.Goals as goal
 
-pub returns-in-Err-plan-clause-readable : goal.returns-in-Err-plan-clause-readable
-returns-in-Err-plan-clause-readable c is fits state few most itself =
+pub returns-in_err-planned-in-Ok-Ok-clause-readable : goal.returns-in_err-planned-in-Ok-Ok-clause-readable
+returns-in_err-planned-in-Ok-Ok-clause-readable c is fits state few most itself =
     let part = c.args.part.now in
     let facts = c.args.facts.now in
     let command = c.args.command.now in
     let alone = subst (λ r. IfOk r (λ ch. IsState part → length part.mirrors ≤ c.args.count
     → c.args.count ≤ 64 → Makes part (seen_in facts) command ch)) c.in-Ok-Ok.field-0-is
     c.in-Ok-Ok.ensures.alone in
-    let fault : c.in-Err-plan.fault ≡ Unreadable = cc in
-    c.in-Err-plan.ensures.readable (ap Err fault)
+    c.in_err-planned-in-Ok-Ok.ensures.readable (ap Err (fault_is c.from_residual.result _ _
+    c.from_residual.ensures.1 is))
     (planned_state part facts command c.in-Ok-Ok.change state fits (alone state few most) itself)
 
-pub returns-in-Ok-clause-at_hand : goal.returns-in-Ok-clause-at_hand
-returns-in-Ok-clause-at_hand c fits state few most size tells =
+pub returns-in_ok-planned-in-Ok-Ok-clause-at_hand : goal.returns-in_ok-planned-in-Ok-Ok-clause-at_hand
+returns-in_ok-planned-in-Ok-Ok-clause-at_hand c fits state few most size tells =
     let part = c.args.part.now in
     let facts = c.args.facts.now in
     let command = c.args.command.now in
@@ -27,4 +27,4 @@ returns-in-Ok-clause-at_hand c fits state few most size tells =
     → c.args.count ≤ 64 → Makes part (seen_in facts) command ch)) c.in-Ok-Ok.field-0-is
     c.in-Ok-Ok.ensures.alone in
     planned_hand part facts command c.in-Ok-Ok.change state fits (alone state few most)
-    c.in-Ok.planned.work.intents.items size c.in-Ok.ensures.planned.2 tells
+    c.in_ok-planned-in-Ok-Ok.planned.work.intents.items size c.in_ok-planned-in-Ok-Ok.ensures.planned.2 tells

@@ -2,16 +2,16 @@ use Rattle.std.proofs.Common.{rules, ◌≡◌, ◌∙◌, Err, List, refl, sym,
 use Rattle.sqlite.specs.Held.{Held}
 use Rattle.gm_state.specs.declared.intents.Intent.{Intent}
 use Rattle.gm_bench.specs.declared.answer.Work.{Work}
-use Rattle.gm_bench.specs.declared.fault.BenchFault.TheVariants.{Disk}
 use Rattle.gm_bench.specs.declared.phase.Progress.TheVariants.{Applied}
 use Rattle.gm_bench.specs.Owed.{ApplyDoes}
 use Rattle.gm_bench.specs.Recovering.{Cover, IsAt}
+use Rattle.gm_bench.proofs.Causes.{fault_is}
 use Rattle.gm_bench.proofs.Phases.{pending_work}
 use Rattle.gm_bench.proofs.bench.Bench.apply.Goals as goal
 use Rattle.gm_bench.specs.Presence.{AreAtHand}
 
-pub returns-in-Ok-clause-does : goal.returns-in-Ok-clause-does
-returns-in-Ok-clause-does g c h work is =
+pub returns-in-Pending-clause-does : goal.returns-in-Pending-clause-does
+returns-in-Pending-clause-does g c h work is =
     let view = g.H.Shelf.view in
     let size = g.H.Shelf.size in
     let r = c.args.self.now.media.registry in
@@ -21,7 +21,7 @@ returns-in-Ok-clause-does g c h work is =
     let does : ApplyDoes g.S.Store view size r shelf after c.in-Pending.work = λ away u w at.
     let at1 = subst (λ (ts : List Intent). IsAt g.S.Store view size r shelf away ts u w)
     (sym hands) at.at in
-    let it = c.in-Ok.ensures.done h away u w at1
+    let it = c.in_ok-apply-in-Pending.ensures.done h away u w at1
     (subst (λ (ts : List Intent). Cover c.in-Pending.work.part w.state ts)
     (sym hands) at.cover) in
     let at2 = subst (λ (k : Held g.row.S.Denot).
@@ -39,8 +39,8 @@ returns-in-Ok-clause-does g c h work is =
     subst (λ (x : Work). (Applied c.in-Pending.work ≡ Applied x)
     × ApplyDoes g.S.Store view size r shelf after x) same (refl, does)
 
-pub returns-in-Pending-clause-carries : goal.returns-in-Pending-clause-carries
-returns-in-Pending-clause-carries g c =
+pub returns-in_err-apply-in-Pending-clause-carries : goal.returns-in_err-apply-in-Pending-clause-carries
+returns-in_err-apply-in-Pending-clause-carries g c =
     record {
       keep = search rules;
       unreadable = search rules;
@@ -53,6 +53,6 @@ returns-in-Pending-clause-carries g c =
           in
           let here : AreAtHand size c.in-Pending.work.intents.items =
           subst (λ (x : Work). AreAtHand size x.intents.items) (sym same) hand in
-          let fault : c.in-Err.fault ≡ Disk = cc in
-          c.in-Err.ensures.disk (subst (AreAtHand size) (sym hands) here) (ap Err fault));
+          c.in_err-apply-in-Pending.ensures.disk (subst (AreAtHand size) (sym hands) here)
+          (ap Err (fault_is c.from_residual.result _ _ c.from_residual.ensures.1 told)));
     }

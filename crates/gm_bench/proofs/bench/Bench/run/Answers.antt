@@ -1,6 +1,6 @@
 use Rattle.std.proofs.Common.{rules, ◌≡◌, ◌∙◌, ◌<◌, Err, inl, refl, sym, ap, subst, arith}
 use Rattle.gm_registry.specs.Registry.{DiskKept}
-use Rattle.gm_bench.specs.declared.fault.BenchFault.TheVariants.{Disk}
+use Rattle.gm_bench.proofs.Causes.{fault_is}
 use Rattle.gm_bench.proofs.Phases.{not_pending, has_pending}
 use Rattle.gm_bench.proofs.Carried.{rest_answers, work, is_work, carried_answers, carried_leaves}
 use Rattle.gm_metadata.specs.Images.{Sizes}
@@ -9,77 +9,77 @@ use Rattle.gm_bench.proofs.bench.Bench.run.Goals as goal
 use Rattle.gm_bench.specs.declared.phase.Phase.TheVariants as phase
 use Rattle.gm_bench.specs.Phases.{phase_after}
 
-pub returns-in-Ok-carry_out-clause-answers : goal.returns-in-Ok-carry_out-clause-answers
-returns-in-Ok-carry_out-clause-answers g c h clean =
+pub returns-in_ok-carry_out-in-Pending-clause-answers : goal.returns-in_ok-carry_out-in-Pending-clause-answers
+returns-in_ok-carry_out-in-Pending-clause-answers g c h clean =
     let mid : DiskKept g.S.Store c.accept.new.self.media.registry =
     omega (arith, clean, c.carry_out.ensures.carries.keep.clean) in
-    let told = c.in-Ok.ensures.answers h mid in
+    let told = c.in_ok-answer.ensures.answers h mid in
     let pending = sym c.phase.ensures ∙ c.in-Pending.is in
     carried_answers g.S.Store g.H.Shelf.view g.H.Shelf.size c.args.self.now.media.registry
     c.accept.new.self.media.registry c.args.self.now.media.shelf c.accept.new.self.media.shelf
-    c.args.key.now c.args.command.now c.in-Ok.answer c.accept.new.self.progress told pending
+    c.args.key.now c.args.command.now c.in_ok-answer.answer c.accept.new.self.progress told pending
     c.carry_out.new.self.media.registry c.carry_out.new.self.media.shelf
-    (c.in-Ok-carry_out.ensures.does (c.accept.ensures.accepts.only.keeps.honest h) clean
+    (c.in_ok-carry_out-in-Pending.ensures.does (c.accept.ensures.accepts.only.keeps.honest h) clean
     (work g.S.Store g.H.Shelf.view g.H.Shelf.size c.args.self.now.media.registry
     c.accept.new.self.media.registry c.args.self.now.media.shelf c.accept.new.self.media.shelf
-    c.args.key.now c.args.command.now c.in-Ok.answer c.accept.new.self.progress told pending)
+    c.args.key.now c.args.command.now c.in_ok-answer.answer c.accept.new.self.progress told pending)
     (is_work g.S.Store g.H.Shelf.view g.H.Shelf.size c.args.self.now.media.registry
     c.accept.new.self.media.registry c.args.self.now.media.shelf c.accept.new.self.media.shelf
-    c.args.key.now c.args.command.now c.in-Ok.answer c.accept.new.self.progress told pending))
+    c.args.key.now c.args.command.now c.in_ok-answer.answer c.accept.new.self.progress told pending))
 
-pub returns-in-Ok-carry_out-clause-leaves : goal.returns-in-Ok-carry_out-clause-leaves
-returns-in-Ok-carry_out-clause-leaves g c h clean =
+pub returns-in_ok-carry_out-in-Pending-clause-leaves : goal.returns-in_ok-carry_out-in-Pending-clause-leaves
+returns-in_ok-carry_out-in-Pending-clause-leaves g c h clean =
     let mid : DiskKept g.S.Store c.accept.new.self.media.registry =
     omega (arith, clean, c.carry_out.ensures.carries.keep.clean) in
-    let told = c.in-Ok.ensures.answers h mid in
+    let told = c.in_ok-answer.ensures.answers h mid in
     let pending = sym c.phase.ensures ∙ c.in-Pending.is in
     carried_leaves g.S.Store g.H.Shelf.view g.H.Shelf.size c.args.self.now.media.registry
     c.accept.new.self.media.registry c.args.self.now.media.shelf c.accept.new.self.media.shelf
-    c.args.key.now c.args.command.now c.in-Ok.answer c.accept.new.self.progress told pending
+    c.args.key.now c.args.command.now c.in_ok-answer.answer c.accept.new.self.progress told pending
     c.carry_out.new.self.media.registry c.carry_out.new.self.media.shelf
     c.accept.ensures.accepts.only.keeps.size
     (c.accept.ensures.leaves h mid)
     (c.carry_out.ensures.leaves (c.accept.ensures.accepts.only.keeps.honest h) clean
     (work g.S.Store g.H.Shelf.view g.H.Shelf.size c.args.self.now.media.registry
     c.accept.new.self.media.registry c.args.self.now.media.shelf c.accept.new.self.media.shelf
-    c.args.key.now c.args.command.now c.in-Ok.answer c.accept.new.self.progress told pending)
+    c.args.key.now c.args.command.now c.in_ok-answer.answer c.accept.new.self.progress told pending)
     (is_work g.S.Store g.H.Shelf.view g.H.Shelf.size c.args.self.now.media.registry
     c.accept.new.self.media.registry c.args.self.now.media.shelf c.accept.new.self.media.shelf
-    c.args.key.now c.args.command.now c.in-Ok.answer c.accept.new.self.progress told pending))
+    c.args.key.now c.args.command.now c.in_ok-answer.answer c.accept.new.self.progress told pending))
 
-pub returns-in-Err-carry_out-clause-leaves : goal.returns-in-Err-carry_out-clause-leaves
-returns-in-Err-carry_out-clause-leaves g c h clean =
+pub returns-in_err-carry_out-in-Pending-clause-leaves : goal.returns-in_err-carry_out-in-Pending-clause-leaves
+returns-in_err-carry_out-in-Pending-clause-leaves g c h clean =
     let mid : DiskKept g.S.Store c.accept.new.self.media.registry =
     omega (arith, clean, c.carry_out.ensures.carries.keep.clean) in
-    let told = c.in-Ok.ensures.answers h mid in
+    let told = c.in_ok-answer.ensures.answers h mid in
     let pending = sym c.phase.ensures ∙ c.in-Pending.is in
     carried_leaves g.S.Store g.H.Shelf.view g.H.Shelf.size c.args.self.now.media.registry
     c.accept.new.self.media.registry c.args.self.now.media.shelf c.accept.new.self.media.shelf
-    c.args.key.now c.args.command.now c.in-Ok.answer c.accept.new.self.progress told pending
+    c.args.key.now c.args.command.now c.in_ok-answer.answer c.accept.new.self.progress told pending
     c.carry_out.new.self.media.registry c.carry_out.new.self.media.shelf
     c.accept.ensures.accepts.only.keeps.size
     (c.accept.ensures.leaves h mid)
     (c.carry_out.ensures.leaves (c.accept.ensures.accepts.only.keeps.honest h) clean
     (work g.S.Store g.H.Shelf.view g.H.Shelf.size c.args.self.now.media.registry
     c.accept.new.self.media.registry c.args.self.now.media.shelf c.accept.new.self.media.shelf
-    c.args.key.now c.args.command.now c.in-Ok.answer c.accept.new.self.progress told pending)
+    c.args.key.now c.args.command.now c.in_ok-answer.answer c.accept.new.self.progress told pending)
     (is_work g.S.Store g.H.Shelf.view g.H.Shelf.size c.args.self.now.media.registry
     c.accept.new.self.media.registry c.args.self.now.media.shelf c.accept.new.self.media.shelf
-    c.args.key.now c.args.command.now c.in-Ok.answer c.accept.new.self.progress told pending))
+    c.args.key.now c.args.command.now c.in_ok-answer.answer c.accept.new.self.progress told pending))
 
 pub returns-in_default-clause-answers : goal.returns-in_default-clause-answers
 returns-in_default-clause-answers g c h clean =
     rest_answers g.S.Store g.H.Shelf.view g.H.Shelf.size c.args.self.now.media.registry
     c.accept.new.self.media.registry c.args.self.now.media.shelf c.accept.new.self.media.shelf
-    c.args.key.now c.args.command.now c.in-Ok.answer c.accept.new.self.progress
-    (c.in-Ok.ensures.answers h clean)
-    (not_pending c.in-Ok.answer c.accept.new.self.progress c.in-Ok.ensures.phase
+    c.args.key.now c.args.command.now c.in_ok-answer.answer c.accept.new.self.progress
+    (c.in_ok-answer.ensures.answers h clean)
+    (not_pending c.in_ok-answer.answer c.accept.new.self.progress c.in_ok-answer.ensures.phase
     (λ e. c.in_default.not-Pending (c.phase.ensures ∙ e)))
 
 pub returns-in_default-clause-ready : goal.returns-in_default-clause-ready
 returns-in_default-clause-ready g c = (
-  c.in-Ok.ensures.ready,
-  not_pending c.in-Ok.answer c.accept.new.self.progress c.in-Ok.ensures.phase
+  c.in_ok-answer.ensures.ready,
+  not_pending c.in_ok-answer.answer c.accept.new.self.progress c.in_ok-answer.ensures.phase
       (λ e. c.in_default.not-Pending (c.phase.ensures ∙ e)),
 )
 
@@ -93,8 +93,8 @@ returns-in_default-clause-leaves g c h clean away u at =
       carrying = inl (refl, refl);
     }
 
-pub returns-in-Err-clause-leaves : goal.returns-in-Err-clause-leaves
-returns-in-Err-clause-leaves g c h clean away u at =
+pub returns-in_err-answer-clause-leaves : goal.returns-in_err-answer-clause-leaves
+returns-in_err-answer-clause-leaves g c h clean away u at =
     record {
       registry = c.accept.new.self.media.registry;
       shelf = c.accept.new.self.media.shelf;
@@ -103,8 +103,8 @@ returns-in-Err-clause-leaves g c h clean away u at =
       carrying = inl (refl, refl);
     }
 
-pub returns-in-Err-carry_out-clause-runs : goal.returns-in-Err-carry_out-clause-runs
-returns-in-Err-carry_out-clause-runs g c =
+pub returns-in_err-carry_out-in-Pending-clause-runs : goal.returns-in_err-carry_out-in-Pending-clause-runs
+returns-in_err-carry_out-in-Pending-clause-runs g c =
     record {
       keep = search rules;
       undone = search rules;
@@ -113,33 +113,34 @@ returns-in-Err-carry_out-clause-runs g c =
           omega (arith, clean, c.carry_out.ensures.carries.keep.clean) in
           let pending = has_pending c.accept.new.self.progress
           (sym c.phase.ensures ∙ c.in-Pending.is) in
-          let fault : c.in-Err-carry_out.fault ≡ Disk = cc in
           let more : (g.H.Shelf.view c.accept.new.self.media.shelf).faults
           < (g.H.Shelf.view c.carry_out.new.self.media.shelf).faults =
-          c.in-Err-carry_out.ensures.carries.disk pending.0 pending.1
+          c.in_err-carry_out-in-Pending.ensures.carries.disk pending.0 pending.1
           (subst (λ (z : Sizes). AreAtHand z pending.0.intents.items)
           (sym c.accept.ensures.accepts.only.keeps.size)
-          (c.in-Ok.ensures.rows.at_hand mid t s has records pending.0 pending.1)) (ap Err fault) in
+          (c.in_ok-answer.ensures.rows.at_hand mid t s has records pending.0 pending.1))
+          (ap Err (fault_is c.from_residual-in_err-carry_out-in-Pending.result _ _
+          c.from_residual-in_err-carry_out-in-Pending.ensures.1 told)) in
           omega (arith, c.accept.ensures.accepts.only.keeps.count, more));
     }
 
-pub returns-in-Err-clause-runs : goal.returns-in-Err-clause-runs
-returns-in-Err-clause-runs g c =
+pub returns-in_err-answer-clause-runs : goal.returns-in_err-answer-clause-runs
+returns-in_err-answer-clause-runs g c =
     record {
       keep = search rules;
       undone = search rules;
       disk = λ clean t s has records told. (
-          let fault : c.in-Err.fault ≡ Disk = cc in
-          c.in-Err.ensures.accepts.disk (ap Err fault));
+          c.in_err-answer.ensures.accepts.disk (ap Err (fault_is
+          c.from_residual.result _ _ c.from_residual.ensures.1 told)));
     }
 
-pub returns-in-Ok-carry_out-clause-runs : goal.returns-in-Ok-carry_out-clause-runs
-returns-in-Ok-carry_out-clause-runs g c =
+pub returns-in_ok-carry_out-in-Pending-clause-runs : goal.returns-in_ok-carry_out-in-Pending-clause-runs
+returns-in_ok-carry_out-in-Pending-clause-runs g c =
     record {
       keep = search rules;
       undone = λ clean undone. (
-          let pending : phase_after c.in-Ok.answer ≡ phase.Pending =
-          sym c.in-Ok.ensures.phase ∙ (sym c.phase.ensures ∙ c.in-Pending.is) in
+          let pending : phase_after c.in_ok-answer.answer ≡ phase.Pending =
+          sym c.in_ok-answer.ensures.phase ∙ (sym c.phase.ensures ∙ c.in-Pending.is) in
           let none : ⊥ = cc in
           absurd none);
       disk = search rules;

@@ -1,4 +1,5 @@
 use Rattle.std.proofs.Common.{◌∙◌, sym}
+use Rattle.std.proofs.lemmas.Result.{on_ok_weaker}
 use Rattle.gm_registry.proofs.CallsLeave.{saved}
 use Rattle.gm_bench.proofs.Found.{ready, covered}
 use Rattle.gm_bench.proofs.RegistryLeaves.{still_only}
@@ -16,34 +17,14 @@ pub returns-in-Some-clause-moments : goal.returns-in-Some-clause-moments
 returns-in-Some-clause-moments g c h away u w at same =
     λ x l. at.leads x ((g.met.H.Shelf.lawful c.args.self.now.shelf h).only_now x l)
 
-pub returns-in-Err-clause-leaves : goal.returns-in-Err-clause-leaves
-returns-in-Err-clause-leaves g c h clean away u w at same =
-    let lawful = g.met.H.Shelf.lawful c.args.self.now.shelf h in
-    let here = ready g.S.Store g.H.Shelf.view g.H.Shelf.size c.args.self.now.registry
-    c.args.self.now.shelf away c.args.intents.now u w at lawful c.args.state.now same
-    (sym c.first_absent.ensures ∙ c.in-None.is) in
-    c.finish.ensures.leaves h clean away u w here
-    (covered g.S.Store g.H.Shelf.view g.H.Shelf.size c.args.self.now.registry
-    c.args.self.now.shelf away c.args.intents.now u w at lawful c.args.state.now same)
-
-pub returns-in-Err-clause-disk : goal.returns-in-Err-clause-disk
-returns-in-Err-clause-disk g c t of is =
+pub returns-in-None-clause-disk : goal.returns-in-None-clause-disk
+returns-in-None-clause-disk g c t of is =
     let size = g.H.Shelf.size c.args.self.now.shelf in
-    c.in-Err.ensures.disk (at_hand c.args.state.now size of.state c.args.intents.now
+    c.finish.ensures.disk (at_hand c.args.state.now size of.state c.args.intents.now
     of.readable.each (sym c.first_absent.ensures ∙ c.in-None.is)) is
 
-pub returns-in-Err-clause-moments : goal.returns-in-Err-clause-moments
-returns-in-Err-clause-moments g c h away u w at same =
-    let lawful = g.met.H.Shelf.lawful c.args.self.now.shelf h in
-    c.finish.ensures.moments h away u w
-    (ready g.S.Store g.H.Shelf.view g.H.Shelf.size c.args.self.now.registry
-    c.args.self.now.shelf away c.args.intents.now u w at lawful c.args.state.now same
-    (sym c.first_absent.ensures ∙ c.in-None.is))
-    (covered g.S.Store g.H.Shelf.view g.H.Shelf.size c.args.self.now.registry c.args.self.now.shelf
-    away c.args.intents.now u w at lawful c.args.state.now same)
-
-pub returns-in-Ok-clause-leaves : goal.returns-in-Ok-clause-leaves
-returns-in-Ok-clause-leaves g c h clean away u w at same =
+pub returns-in-None-clause-leaves : goal.returns-in-None-clause-leaves
+returns-in-None-clause-leaves g c h clean away u w at same =
     let lawful = g.met.H.Shelf.lawful c.args.self.now.shelf h in
     let here = ready g.S.Store g.H.Shelf.view g.H.Shelf.size c.args.self.now.registry
     c.args.self.now.shelf away c.args.intents.now u w at lawful c.args.state.now same
@@ -52,18 +33,18 @@ returns-in-Ok-clause-leaves g c h clean away u w at same =
     (covered g.S.Store g.H.Shelf.view g.H.Shelf.size c.args.self.now.registry
     c.args.self.now.shelf away c.args.intents.now u w at lawful c.args.state.now same)
 
-pub returns-in-Ok-clause-done : goal.returns-in-Ok-clause-done
-returns-in-Ok-clause-done g c h clean away u w at same =
+pub returns-in-None-clause-done : goal.returns-in-None-clause-done
+returns-in-None-clause-done g c h clean = on_ok_weaker c.finish.result (λ done away u w at same. (
     let lawful = g.met.H.Shelf.lawful c.args.self.now.shelf h in
-    let here = ready g.S.Store g.H.Shelf.view g.H.Shelf.size c.args.self.now.registry
+    done away u w (ready g.S.Store g.H.Shelf.view g.H.Shelf.size c.args.self.now.registry
     c.args.self.now.shelf away c.args.intents.now u w at lawful c.args.state.now same
-    (sym c.first_absent.ensures ∙ c.in-None.is) in
-    c.in-Ok.ensures.done h clean away u w here
+    (sym c.first_absent.ensures ∙ c.in-None.is))
     (covered g.S.Store g.H.Shelf.view g.H.Shelf.size c.args.self.now.registry
-    c.args.self.now.shelf away c.args.intents.now u w at lawful c.args.state.now same)
+    c.args.self.now.shelf away c.args.intents.now u w at lawful c.args.state.now same)))
+    (c.finish.ensures.done h clean)
 
-pub returns-in-Ok-clause-moments : goal.returns-in-Ok-clause-moments
-returns-in-Ok-clause-moments g c h away u w at same =
+pub returns-in-None-clause-moments : goal.returns-in-None-clause-moments
+returns-in-None-clause-moments g c h away u w at same =
     let lawful = g.met.H.Shelf.lawful c.args.self.now.shelf h in
     c.finish.ensures.moments h away u w
     (ready g.S.Store g.H.Shelf.view g.H.Shelf.size c.args.self.now.registry

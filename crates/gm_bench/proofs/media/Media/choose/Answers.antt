@@ -4,16 +4,16 @@ use Rattle.gm_registry.proofs.CallsLeave.{saved}
 use Rattle.gm_refusals.specs.Applies.{IsLeast}
 use Rattle.gm_refusals.specs.WorldFacts.{seen_of}
 use Rattle.gm_bench.specs.Accepting.{LeavesStep, IsAnswered}
-use Rattle.gm_bench.specs.declared.fault.BenchFault.TheVariants.{Unreadable}
 use Rattle.gm_bench.specs.Planning.{IsPlanned, IsDecided, IsPlanAtHand}
 use Rattle.gm_bench.specs.Presence.{AreAtHand}
 use Rattle.gm_bench.proofs.CallAnswers.{least}
+use Rattle.gm_bench.proofs.Causes.{fault_is}
 use Rattle.gm_bench.proofs.DecidesOnly.{still, unstepped, then_step, ok_then}
 use Rattle.gm_bench.proofs.Phases.{with_done, with_hand}
 use Rattle.gm_bench.proofs.media.Media.choose.Goals as goal
 
-pub returns-in-Ok-Ok-clause-leaves : goal.returns-in-Ok-Ok-clause-leaves
-returns-in-Ok-Ok-clause-leaves g c h clean away u words at can =
+pub returns-in-Ok-clause-leaves : goal.returns-in-Ok-clause-leaves
+returns-in-Ok-clause-leaves g c h clean away u words at can =
     let view = g.H.Shelf.view in
     let size = g.H.Shelf.size in
     let lawful = g.met.H.Shelf.lawful c.args.self.now.shelf h in
@@ -22,9 +22,9 @@ returns-in-Ok-Ok-clause-leaves g c h clean away u words at can =
     let quiet = (c.ask.ensures.asks.only.reads h).quiet in
     let asked : DiskKept g.S.Store c.ask.new.self.registry =
     omega (arith, clean, c.commit.ensures.clean) in
-    let d = c.in-Ok-Ok.ensures.decides h asked away u at in
-    let planned : IsPlanned u c.args.command.now c.in-Ok-Ok.planned =
-    subst (λ r. IsDecided u c.args.command.now r) c.in-Ok-Ok.field-0-is d.0 in
+    let d = c.in_ok-planned.ensures.decides h asked away u at in
+    let planned : IsPlanned u c.args.command.now c.in-Ok.planned =
+    subst (λ r. IsDecided u c.args.command.now r) c.in-Ok.is d.0 in
     let at1 = still g.S.Store view size c.args.self.now.registry c.args.self.now.shelf
     c.ask.new.self.shelf away u at lawful quiet c.ask.ensures.asks.only.keeps.size
     c.ask.new.self.registry
@@ -41,17 +41,17 @@ returns-in-Ok-Ok-clause-leaves g c h clean away u words at can =
     c.commit.new.self.registry c.ask.new.self.shelf c.args.key.now c.args.command.now quiet only
     leaves)
 
-pub returns-in-Ok-Ok-clause-done : goal.returns-in-Ok-Ok-clause-done
-returns-in-Ok-Ok-clause-done g c h clean = ok_then _ _ (λ a told away u words at can. (
+pub returns-in-Ok-clause-done : goal.returns-in-Ok-clause-done
+returns-in-Ok-clause-done g c h clean = ok_then _ _ (λ a told away u words at can. (
     let view = g.H.Shelf.view in
     let size = g.H.Shelf.size in
     let lawful = g.met.H.Shelf.lawful c.args.self.now.shelf h in
     let quiet = (c.ask.ensures.asks.only.reads h).quiet in
     let asked : DiskKept g.S.Store c.ask.new.self.registry =
     omega (arith, clean, c.commit.ensures.clean) in
-    let d = c.in-Ok-Ok.ensures.decides h asked away u at in
-    let planned : IsPlanned u c.args.command.now c.in-Ok-Ok.planned =
-    subst (λ r. IsDecided u c.args.command.now r) c.in-Ok-Ok.field-0-is d.0 in
+    let d = c.in_ok-planned.ensures.decides h asked away u at in
+    let planned : IsPlanned u c.args.command.now c.in-Ok.planned =
+    subst (λ r. IsDecided u c.args.command.now r) c.in-Ok.is d.0 in
     let at1 = still g.S.Store view size c.args.self.now.registry c.args.self.now.shelf
     c.ask.new.self.shelf away u at lawful quiet c.ask.ensures.asks.only.keeps.size
     c.ask.new.self.registry
@@ -60,31 +60,6 @@ returns-in-Ok-Ok-clause-done g c h clean = ok_then _ _ (λ a told away u words a
     c.args.key.now c.args.command.now a) (sym c.commit.ensures.shelf)
     (told away c.args.command.now u words at1 planned can)))
     c.commit.result (c.commit.ensures.done (c.ask.ensures.asks.only.keeps.honest h) clean)
-
-pub returns-in-Ok-Err-clause-leaves : goal.returns-in-Ok-Err-clause-leaves
-returns-in-Ok-Err-clause-leaves g c h clean away u words at can =
-    unstepped g.S.Store g.H.Shelf.view g.H.Shelf.size c.args.self.now.registry c.args.self.now.shelf
-    c.ask.new.self.shelf away u at (g.met.H.Shelf.lawful c.args.self.now.shelf h)
-    (c.ask.ensures.asks.only.reads h).quiet c.ask.ensures.asks.only.keeps.size
-    c.ask.new.self.registry c.args.key.now c.args.command.now
-    (saved g.S.Store g.met.S.Store.settled c.args.self.now.registry at.tables at.has).crash
-    clean (c.ask.ensures.asks.store.left at.tables at.has)
-
-pub returns-in-Ok-Err-clause-done : goal.returns-in-Ok-Err-clause-done
-returns-in-Ok-Err-clause-done g c h clean away u words at can =
-    let lawful = g.met.H.Shelf.lawful c.args.self.now.shelf h in
-    let d = c.in-Ok-Err.ensures.decides h clean away u at in
-    let l = (at.leads (g.H.Shelf.view c.args.self.now.shelf).seen lawful.holds_now).0 in
-    let least_is : IsLeast u.state (seen_of u) c.args.command.now c.in-Ok-Err.refusal =
-    subst (λ r. IsDecided u c.args.command.now r) c.in-Ok-Err.field-0-is d.0 in
-    let at1 = still g.S.Store g.H.Shelf.view g.H.Shelf.size c.args.self.now.registry
-    c.args.self.now.shelf c.ask.new.self.shelf away u at lawful
-    (c.ask.ensures.asks.only.reads h).quiet c.ask.ensures.asks.only.keeps.size
-    c.ask.new.self.registry d.1 in (
-      least u at.tables l.sound l.records c.args.key.now c.args.command.now can.key_ok can.free
-          can.room c.in-Ok-Err.refusal least_is,
-      at1,
-    )
 
 pub returns-in-Err-clause-leaves : goal.returns-in-Err-clause-leaves
 returns-in-Err-clause-leaves g c h clean away u words at can =
@@ -95,37 +70,62 @@ returns-in-Err-clause-leaves g c h clean away u words at can =
     (saved g.S.Store g.met.S.Store.settled c.args.self.now.registry at.tables at.has).crash
     clean (c.ask.ensures.asks.store.left at.tables at.has)
 
-pub returns-in-Ok-Ok-clause-readable : goal.returns-in-Ok-Ok-clause-readable
-returns-in-Ok-Ok-clause-readable g c fits clean is t s has records few written honest =
+pub returns-in-Err-clause-done : goal.returns-in-Err-clause-done
+returns-in-Err-clause-done g c h clean away u words at can =
+    let lawful = g.met.H.Shelf.lawful c.args.self.now.shelf h in
+    let d = c.in_ok-planned.ensures.decides h clean away u at in
+    let l = (at.leads (g.H.Shelf.view c.args.self.now.shelf).seen lawful.holds_now).0 in
+    let least_is : IsLeast u.state (seen_of u) c.args.command.now c.in-Err.refusal =
+    subst (λ r. IsDecided u c.args.command.now r) c.in-Err.is d.0 in
+    let at1 = still g.S.Store g.H.Shelf.view g.H.Shelf.size c.args.self.now.registry
+    c.args.self.now.shelf c.ask.new.self.shelf away u at lawful
+    (c.ask.ensures.asks.only.reads h).quiet c.ask.ensures.asks.only.keeps.size
+    c.ask.new.self.registry d.1 in (
+      least u at.tables l.sound l.records c.args.key.now c.args.command.now can.key_ok can.free
+          can.room c.in-Err.refusal least_is,
+      at1,
+    )
+
+pub returns-in_err-planned-clause-leaves : goal.returns-in_err-planned-clause-leaves
+returns-in_err-planned-clause-leaves g c h clean away u words at can =
+    unstepped g.S.Store g.H.Shelf.view g.H.Shelf.size c.args.self.now.registry c.args.self.now.shelf
+    c.ask.new.self.shelf away u at (g.met.H.Shelf.lawful c.args.self.now.shelf h)
+    (c.ask.ensures.asks.only.reads h).quiet c.ask.ensures.asks.only.keeps.size
+    c.ask.new.self.registry c.args.key.now c.args.command.now
+    (saved g.S.Store g.met.S.Store.settled c.args.self.now.registry at.tables at.has).crash
+    clean (c.ask.ensures.asks.store.left at.tables at.has)
+
+pub returns-in-Ok-clause-readable : goal.returns-in-Ok-clause-readable
+returns-in-Ok-clause-readable g c fits clean is t s has records few written honest =
     let asked : DiskKept g.S.Store c.ask.new.self.registry =
     omega (arith, clean, c.commit.ensures.clean) in
     c.commit.ensures.readable clean is t
-    (c.in-Ok-Ok.ensures.at_hand asked t s has records).0 few
+    (c.in_ok-planned.ensures.at_hand asked t s has records).0 few
 
-pub returns-in-Err-clause-readable : goal.returns-in-Err-clause-readable
-returns-in-Err-clause-readable g c fits clean is t s has records few written honest =
-    let fault : c.in-Err.fault ≡ Unreadable = cc in
-    c.in-Err.ensures.readable clean (ap Err fault) t s has records fits honest
+pub returns-in_err-planned-clause-readable : goal.returns-in_err-planned-clause-readable
+returns-in_err-planned-clause-readable g c fits clean is t s has records few written honest =
+    c.in_err-planned.ensures.readable clean (ap Err (fault_is c.from_residual.result _ _
+    c.from_residual.ensures.1 is)) t s has records fits honest
 
-pub returns-in-Ok-Ok-clause-at_hand : goal.returns-in-Ok-Ok-clause-at_hand
-returns-in-Ok-Ok-clause-at_hand g c fits clean =
+pub returns-in-Ok-clause-at_hand : goal.returns-in-Ok-clause-at_hand
+returns-in-Ok-clause-at_hand g c fits clean =
     let size = g.H.Shelf.size c.args.self.now.shelf in
     let asked : DiskKept g.S.Store c.ask.new.self.registry =
     omega (arith, clean, c.commit.ensures.clean) in
     ok_then _ _ (λ a done t s has records. (
-    let planned : AreAtHand size c.in-Ok-Ok.planned.work.intents.items =
-    subst (λ r. IsPlanAtHand size r) c.in-Ok-Ok.field-0-is
-    ((c.in-Ok-Ok.ensures.at_hand asked t s has records).1 fits) in
-    with_hand size c.in-Ok-Ok.planned.work a done planned)) c.commit.result c.commit.ensures.work
+    let planned : AreAtHand size c.in-Ok.planned.work.intents.items =
+    subst (λ r. IsPlanAtHand size r) c.in-Ok.is
+    ((c.in_ok-planned.ensures.at_hand asked t s has records).1 fits) in
+    with_hand size c.in-Ok.planned.work a done planned)) c.commit.result c.commit.ensures.work
 
-pub returns-in-Ok-Ok-clause-accepts : goal.returns-in-Ok-Ok-clause-accepts
-returns-in-Ok-Ok-clause-accepts g c =
+pub returns-in-Ok-clause-accepts : goal.returns-in-Ok-clause-accepts
+returns-in-Ok-clause-accepts g c =
     record {
       only = search rules;
       disk = search rules;
       kept = search rules;
       undone = λ clean. (
-          ok_then _ _ (λ a done undone. absurd (with_done c.in-Ok-Ok.planned.work a done undone))
+          ok_then _ _ (λ a done undone. absurd (with_done c.in-Ok.planned.work a done undone))
           c.commit.result
           c.commit.ensures.work);
       clean = search rules;

@@ -1,18 +1,18 @@
 use Rattle.std.proofs.Common.{rules, ◌≡◌, ◌<◌, Err, length, sym, ap, subst, arith}
-use Rattle.gm_bench.specs.declared.fault.BenchFault.TheVariants.{Unreadable}
 use Rattle.gm_rules.specs.Step.{CanAnswer}
 use Rattle.gm_registry.specs.Registry.{DiskKept}
 use Rattle.gm_registry.specs.Replies.{count_of}
 use Rattle.gm_registry.proofs.CallsLeave.{saved}
 use Rattle.gm_shelf.specs.Disk.{IsQuiet}
 use Rattle.gm_bench.proofs.CallAnswers.{as_many, free_key, too_many}
+use Rattle.gm_bench.proofs.Causes.{fault_is}
 use Rattle.gm_bench.proofs.DecidesOnly.{nothing_then, quiet_same, still, unstepped, then_step, ok_then, many_of, room_of, reads_then}
 use Rattle.gm_bench.specs.Planning.{IsWorkAtHand}
 use Rattle.gm_bench.specs.ShelfFacts.{IsHonestToAdopt}
 use Rattle.gm_bench.proofs.media.Media.decide.Goals as goal
 
-pub returns-in-Ok-true-clause-leaves : goal.returns-in-Ok-true-clause-leaves
-returns-in-Ok-true-clause-leaves g c h clean away u words key_ok fits at free =
+pub returns-then-branch-clause-leaves : goal.returns-then-branch-clause-leaves
+returns-then-branch-clause-leaves g c h clean away u words key_ok fits at free =
     unstepped g.S.Store g.H.Shelf.view g.H.Shelf.size c.args.self.now.registry c.args.self.now.shelf
     c.is_full.new.self.shelf away u at (g.met.H.Shelf.lawful c.args.self.now.shelf h)
     (quiet_same g.H.Shelf.view c.args.self.now.shelf c.is_full.new.self.shelf
@@ -21,15 +21,15 @@ returns-in-Ok-true-clause-leaves g c h clean away u words key_ok fits at free =
     (saved g.S.Store g.met.S.Store.settled c.args.self.now.registry at.tables at.has).crash
     clean (c.is_full.ensures.reads.left at.tables at.has)
 
-pub returns-in-Ok-true-clause-done : goal.returns-in-Ok-true-clause-done
-returns-in-Ok-true-clause-done g c h clean away u words key_ok fits at free =
+pub returns-then-branch-clause-done : goal.returns-then-branch-clause-done
+returns-then-branch-clause-done g c h clean away u words key_ok fits at free =
     let lawful = g.met.H.Shelf.lawful c.args.self.now.shelf h in
     let l = (at.leads (g.H.Shelf.view c.args.self.now.shelf).seen lawful.holds_now).0 in
     let no_key = free_key u at.tables l.sound l.records c.args.key.now c.args.command.now free in
-    let told = c.in-Ok-true.ensures.told clean at.tables at.has in
+    let told = c.in_ok-is_full.ensures.told clean at.tables at.has in
     let many = as_many u at.tables l.sound l.records c.args.key.now c.args.command.now in
-    let much = many_of c.in-Ok-true.field-0 (count_of at.tables)
-    told.0 c.in-Ok-true.field-0-test in (
+    let much = many_of c.in_ok-is_full.field-0 (count_of at.tables)
+    told.0 c.if-branch.true in (
       too_many u at.tables l.sound l.records c.args.key.now c.args.command.now key_ok no_key
           (omega (arith, many, much)),
       still g.S.Store g.H.Shelf.view g.H.Shelf.size c.args.self.now.registry c.args.self.now.shelf
@@ -39,8 +39,8 @@ returns-in-Ok-true-clause-done g c h clean away u words key_ok fits at free =
           c.is_full.new.self.registry told.1,
     )
 
-pub returns-in-Ok-false-clause-leaves : goal.returns-in-Ok-false-clause-leaves
-returns-in-Ok-false-clause-leaves g c h clean away u words key_ok fits at free =
+pub returns-clause-leaves : goal.returns-clause-leaves
+returns-clause-leaves g c h clean away u words key_ok fits at free =
     let view = g.H.Shelf.view in
     let size = g.H.Shelf.size in
     let lawful = g.met.H.Shelf.lawful c.args.self.now.shelf h in
@@ -48,10 +48,10 @@ returns-in-Ok-false-clause-leaves g c h clean away u words key_ok fits at free =
     let no_key = free_key u at.tables l.sound l.records c.args.key.now c.args.command.now free in
     let counted : DiskKept g.S.Store c.is_full.new.self.registry =
     omega (arith, clean, c.choose.ensures.accepts.clean) in
-    let told = c.in-Ok-false.ensures.told counted at.tables at.has in
+    let told = c.in_ok-is_full.ensures.told counted at.tables at.has in
     let many = as_many u at.tables l.sound l.records c.args.key.now c.args.command.now in
-    let few = room_of c.in-Ok-false.field-0 (count_of at.tables) told.0
-    c.in-Ok-false.field-0-test in
+    let few = room_of c.in_ok-is_full.field-0 (count_of at.tables) told.0
+    c.if-branch.false in
     let room : length u.answered < 100000 = omega (arith, many, few) in
     let can : CanAnswer u c.args.key.now c.args.command.now =
     record { key_ok = key_ok; free = no_key; room = room; fits = fits } in
@@ -71,8 +71,8 @@ returns-in-Ok-false-clause-leaves g c h clean away u words key_ok fits at free =
     (saved g.S.Store g.met.S.Store.settled c.args.self.now.registry at.tables at.has).crash
     (c.choose.ensures.leaves h1 clean away u words at1 can)
 
-pub returns-in-Ok-false-clause-done : goal.returns-in-Ok-false-clause-done
-returns-in-Ok-false-clause-done g c h clean =
+pub returns-clause-done : goal.returns-clause-done
+returns-clause-done g c h clean =
     let h1 = subst g.H.Shelf.honest (sym c.is_full.ensures.shelf) h in
     ok_then _ _ (λ a answered away u words key_ok fits at free. (
     let view = g.H.Shelf.view in
@@ -82,10 +82,10 @@ returns-in-Ok-false-clause-done g c h clean =
     let no_key = free_key u at.tables l.sound l.records c.args.key.now c.args.command.now free in
     let counted : DiskKept g.S.Store c.is_full.new.self.registry =
     omega (arith, clean, c.choose.ensures.accepts.clean) in
-    let told = c.in-Ok-false.ensures.told counted at.tables at.has in
+    let told = c.in_ok-is_full.ensures.told counted at.tables at.has in
     let many = as_many u at.tables l.sound l.records c.args.key.now c.args.command.now in
-    let few = room_of c.in-Ok-false.field-0 (count_of at.tables) told.0
-    c.in-Ok-false.field-0-test in
+    let few = room_of c.in_ok-is_full.field-0 (count_of at.tables) told.0
+    c.if-branch.false in
     let room : length u.answered < 100000 = omega (arith, many, few) in
     let can : CanAnswer u c.args.key.now c.args.command.now =
     record { key_ok = key_ok; free = no_key; room = room; fits = fits } in
@@ -96,8 +96,8 @@ returns-in-Ok-false-clause-done g c h clean =
     c.is_full.new.self.shelf away u at lawful quiet same c.is_full.new.self.registry told.1 in
     answered away u words at1 can)) c.choose.result (c.choose.ensures.done h1 clean)
 
-pub returns-in-Err-clause-leaves : goal.returns-in-Err-clause-leaves
-returns-in-Err-clause-leaves g c h clean away u words key_ok fits at free =
+pub returns-in_err-is_full-clause-leaves : goal.returns-in_err-is_full-clause-leaves
+returns-in_err-is_full-clause-leaves g c h clean away u words key_ok fits at free =
     unstepped g.S.Store g.H.Shelf.view g.H.Shelf.size c.args.self.now.registry c.args.self.now.shelf
     c.is_full.new.self.shelf away u at (g.met.H.Shelf.lawful c.args.self.now.shelf h)
     (quiet_same g.H.Shelf.view c.args.self.now.shelf c.is_full.new.self.shelf
@@ -106,38 +106,38 @@ returns-in-Err-clause-leaves g c h clean away u words key_ok fits at free =
     (saved g.S.Store g.met.S.Store.settled c.args.self.now.registry at.tables at.has).crash
     clean (c.is_full.ensures.reads.left at.tables at.has)
 
-pub returns-in-Ok-false-clause-readable : goal.returns-in-Ok-false-clause-readable
-returns-in-Ok-false-clause-readable g c fits clean is t s has records few written honest =
+pub returns-clause-readable : goal.returns-clause-readable
+returns-clause-readable g c fits clean is t s has records few written honest =
     let counted : DiskKept g.S.Store c.is_full.new.self.registry =
     omega (arith, clean, c.choose.ensures.accepts.clean) in
-    let told = c.in-Ok-false.ensures.told counted t has in
+    let told = c.in_ok-is_full.ensures.told counted t has in
     c.choose.ensures.readable fits clean is t s told.1 records few written
     (subst (λ (k : g.row.H.Denot). IsHonestToAdopt g.H.Shelf k c.args.command.now)
     (sym c.is_full.ensures.shelf) honest)
 
-pub returns-in-Err-clause-readable : goal.returns-in-Err-clause-readable
-returns-in-Err-clause-readable g c fits clean is t s has records few written honest =
-    let fault : c.in-Err.fault ≡ Unreadable = cc in
-    c.in-Err.ensures.readable clean (ap Err fault) t has few
+pub returns-in_err-is_full-clause-readable : goal.returns-in_err-is_full-clause-readable
+returns-in_err-is_full-clause-readable g c fits clean is t s has records few written honest =
+    c.in_err-is_full.ensures.readable clean (ap Err (fault_is c.from_residual.result _ _
+    c.from_residual.ensures.1 is)) t has few
 
-pub returns-in-Ok-false-clause-at_hand : goal.returns-in-Ok-false-clause-at_hand
-returns-in-Ok-false-clause-at_hand g c fits clean =
+pub returns-clause-at_hand : goal.returns-clause-at_hand
+returns-clause-at_hand g c fits clean =
     let counted : DiskKept g.S.Store c.is_full.new.self.registry =
     omega (arith, clean, c.choose.ensures.accepts.clean) in
     ok_then _ _ (λ a handy t s has records.
     subst (λ (k : g.row.H.Denot). IsWorkAtHand (g.H.Shelf.size k) a) c.is_full.ensures.shelf
-    (handy t s (c.in-Ok-false.ensures.told counted t has).1 records))
+    (handy t s (c.in_ok-is_full.ensures.told counted t has).1 records))
     c.choose.result (c.choose.ensures.at_hand fits clean)
 
-pub returns-in-Ok-false-clause-accepts : goal.returns-in-Ok-false-clause-accepts
-returns-in-Ok-false-clause-accepts g c =
+pub returns-clause-accepts : goal.returns-clause-accepts
+returns-clause-accepts g c =
     record {
       only = search rules;
       disk = search rules;
       kept = λ clean is t has. (
           let counted : DiskKept g.S.Store c.is_full.new.self.registry =
           omega (arith, clean, c.choose.ensures.accepts.clean) in
-          let told = c.in-Ok-false.ensures.told counted t has in
+          let told = c.in_ok-is_full.ensures.told counted t has in
           nothing_then g.S.Store c.args.self.now.registry c.is_full.new.self.registry
           c.choose.new.self.registry (c.is_full.ensures.reads.left t has)
           (c.choose.ensures.accepts.kept clean is t told.1));
@@ -146,7 +146,7 @@ returns-in-Ok-false-clause-accepts g c =
           omega (arith, clean, c.choose.ensures.accepts.clean) in
           ok_then _ _ (λ a reads undone. reads_then g.S.Store c.args.self.now.registry
           c.is_full.new.self.registry c.choose.new.self.registry
-          (λ t has. (c.in-Ok-false.ensures.told counted t has).1) c.is_full.ensures.reads
+          (λ t has. (c.in_ok-is_full.ensures.told counted t has).1) c.is_full.ensures.reads
           (reads undone)) c.choose.result (c.choose.ensures.accepts.undone clean));
       clean = search rules;
     }

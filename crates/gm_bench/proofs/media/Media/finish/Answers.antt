@@ -3,9 +3,9 @@ use Rattle.gm_bench.specs.Leading.{AllLead}
 use Rattle.gm_bench.proofs.RegistryLeaves.{then_only}
 use Rattle.gm_bench.proofs.media.Media.finish.Goals as goal
 
-pub returns-in-Err-settle-clause-leaves : goal.returns-in-Err-settle-clause-leaves
-returns-in-Err-settle-clause-leaves g c h clean away u w at cover =
-    let m = c.in-Ok.ensures.done h away u w at cover in
+pub returns-clause-leaves : goal.returns-clause-leaves
+returns-clause-leaves g c h clean away u w at cover =
+    let m = c.in_ok-apply.ensures.done h away u w at cover in
     then_only g.S.Store g.H.Shelf.view g.H.Shelf.size c.args.self.now.registry
     c.apply.new.self.registry c.settle.new.self.registry c.args.self.now.shelf
     c.apply.new.self.shelf c.settle.new.self.shelf away u w c.settle.ensures.shelf
@@ -14,26 +14,8 @@ returns-in-Err-settle-clause-leaves g c h clean away u w at cover =
     (c.settle.ensures.leaves (c.apply.ensures.keeps.honest h) clean away c.args.intents.now u w m.0
     m.1)
 
-pub returns-in-Ok-settle-clause-leaves : goal.returns-in-Ok-settle-clause-leaves
-returns-in-Ok-settle-clause-leaves g c h clean away u w at cover =
-    let m = c.in-Ok.ensures.done h away u w at cover in
-    then_only g.S.Store g.H.Shelf.view g.H.Shelf.size c.args.self.now.registry
-    c.apply.new.self.registry c.settle.new.self.registry c.args.self.now.shelf
-    c.apply.new.self.shelf c.settle.new.self.shelf away u w c.settle.ensures.shelf
-    c.apply.ensures.keeps.size
-    (c.apply.ensures.leaves h away u w at cover)
-    (c.settle.ensures.leaves (c.apply.ensures.keeps.honest h) clean away c.args.intents.now u w m.0
-    m.1)
-
-pub returns-in-Err-settle-clause-moments : goal.returns-in-Err-settle-clause-moments
-returns-in-Err-settle-clause-moments g c h away u w at cover =
-    subst (λ (x : g.row.H.Denot). AllLead at.tables c.args.intents.now
-    (g.H.Shelf.size c.args.self.now.shelf) away
-    ((g.H.Shelf.view x).left_since (g.H.Shelf.view c.args.self.now.shelf).moment) u w)
-    (sym c.settle.ensures.shelf) (c.apply.ensures.moments h away u w at cover)
-
-pub returns-in-Ok-settle-clause-moments : goal.returns-in-Ok-settle-clause-moments
-returns-in-Ok-settle-clause-moments g c h away u w at cover =
+pub returns-clause-moments : goal.returns-clause-moments
+returns-clause-moments g c h away u w at cover =
     subst (λ (x : g.row.H.Denot). AllLead at.tables c.args.intents.now
     (g.H.Shelf.size c.args.self.now.shelf) away
     ((g.H.Shelf.view x).left_since (g.H.Shelf.view c.args.self.now.shelf).moment) u w)

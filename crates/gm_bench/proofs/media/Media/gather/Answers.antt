@@ -7,35 +7,35 @@ use Rattle.gm_refusals.specs.PartOf.{IsPartOf, part_of}
 use Rattle.gm_refusals.specs.Seen.{seen_in}
 use Rattle.gm_refusals.specs.WorldFacts.{needed_by}
 use Rattle.gm_registry.specs.Registry.{DiskKept, HasTables}
-use Rattle.gm_bench.specs.declared.fault.BenchFault.TheVariants.{Unreadable}
 use Rattle.gm_bench.specs.AdoptScope.{adopted_from, compared_with}
 use Rattle.gm_bench.specs.ShelfFacts.{Tell, TellSizes}
 use Rattle.gm_metadata.specs.Images.{Sizes}
 use Rattle.gm_refusals.proofs.PartAgrees.{whole_is_part}
+use Rattle.gm_bench.proofs.Causes.{fault_is}
 use Rattle.gm_bench.proofs.FactsLookedUp.{itself_told}
 use Rattle.gm_bench.proofs.PlannedAlone.{read_state, read_few, read_most}
 use Rattle.gm_bench.proofs.GatheredFacts.{are_records, gathered}
 use Rattle.gm_bench.proofs.FactsAreWorlds.{tell_moved}
 use Rattle.gm_bench.proofs.media.Media.gather.Goals as goal
 
-pub returns-in-Err-part-clause-readable : goal.returns-in-Err-part-clause-readable
-returns-in-Err-part-clause-readable g c clean is t s has records =
+pub returns-in_err-part-clause-readable : goal.returns-in_err-part-clause-readable
+returns-in_err-part-clause-readable g c clean is t s has records =
     let has1 : HasTables g.S.Store c.look_at.new.self.registry t =
     subst (λ (k : Held g.row.S.Denot). HasTables g.S.Store k t)
     (sym c.look_at.ensures.registry) has in
-    let fault : c.in-Err-part.fault ≡ Unreadable = cc in
-    c.in-Err-part.ensures.readable clean (ap Err fault) t s has1 records
+    c.in_err-part.ensures.readable clean (ap Err (fault_is c.from_residual-in_err-part.result _ _
+    c.from_residual-in_err-part.ensures.1 is)) t s has1 records
 
-pub returns-in-Ok-look-clause-known : goal.returns-in-Ok-look-clause-known
-returns-in-Ok-look-clause-known g c h clean away u at =
+pub returns-clause-known : goal.returns-clause-known
+returns-clause-known g c h clean away u at =
     let view = g.H.Shelf.view in
     let size = g.H.Shelf.size in
     let shelf = c.args.self.now.shelf in
     let read = c.look_at.new.self.shelf in
     let command = c.args.command.now in
-    let first = c.in-Ok.first in
-    let facts = c.in-Ok-look.facts in
-    let part = c.in-Ok-part.part.state in
+    let first = c.in_ok-first.first in
+    let facts = c.in_ok-facts.facts in
+    let part = c.in_ok-part.part.state in
     let against = c.compared_with-against.result in
     let quiet = (c.look_at.ensures.looks.only.reads h).quiet in
     let has : HasTables g.S.Store c.look_at.new.self.registry at.tables =
@@ -46,9 +46,9 @@ returns-in-Ok-look-clause-known g c h clean away u at =
     let clean1 : DiskKept g.S.Store c.part.new.self.registry =
     subst (λ (k : Held g.row.S.Denot). DiskKept g.S.Store k) c.look.ensures.registry clean in
     let h1 : g.H.Shelf.honest read = c.look_at.ensures.looks.only.keeps.honest h in
-    let known = c.in-Ok-part.ensures.part clean1 at.tables u.state has records in
+    let known = c.in_ok-part.ensures.part clean1 at.tables u.state has records in
     let mids : c.deref.result.now ≡ found_mids (seen_in first) (adopted_from command) =
-    c.deref.ensures.value ∙ (c.in-Ok-found_mids.ensures
+    c.deref.ensures.value ∙ (c.in-Ok.ensures
     ∙ ap (found_mids (seen_in first)) c.adopted_from-providers.ensures) in
     let source : against ≡ option_map compared_with
     (source_in (seen_in first) (adopted_from command)) =
@@ -57,7 +57,7 @@ returns-in-Ok-look-clause-known g c h clean away u at =
     c.adopted_from-providers.ensures) in
     let before : (q : List ℕ) → Has (adopted_from command) q
     → Tell first (size shelf) (view shelf).seen None q =
-    λ q k. c.in-Ok.ensures.tell h q (subst (λ (l : List (List ℕ)). Has l q)
+    λ q k. c.in_ok-first.ensures.tell h q (subst (λ (l : List (List ℕ)). Has l q)
     (sym c.adopted_from-providers.ensures) k) in
     let h2 : g.H.Shelf.honest c.part.new.self.shelf =
     subst g.H.Shelf.honest (sym c.part.ensures.shelf) h1 in
@@ -65,7 +65,7 @@ returns-in-Ok-look-clause-known g c h clean away u at =
     → Tell facts (size read) (view read).seen against q =
     subst (λ (k : g.row.H.Denot). (s : Records) → IsPartOf part command s → (q : List ℕ)
     → Has (needed_by s command) q → Tell facts (size k) (view k).seen against q)
-    c.part.ensures.shelf (c.in-Ok-look.ensures.tell h2) in
+    c.part.ensures.shelf (c.in_ok-facts.ensures.tell h2) in
     let both = gathered g.S.Store view size c.args.self.now.registry shelf away u at
     (g.met.H.Shelf.lawful shelf h) first facts command part against source
     (known.0.state ∙ ap (part_of u.state command) mids) before
@@ -77,25 +77,25 @@ returns-in-Ok-look-clause-known g c h clean away u at =
           (sym c.look.ensures.registry) known.1,
     )
 
-pub returns-in-Ok-look-clause-serves : goal.returns-in-Ok-look-clause-serves
-returns-in-Ok-look-clause-serves g c clean t s has records =
+pub returns-clause-serves : goal.returns-clause-serves
+returns-clause-serves g c clean t s has records =
     let view = g.H.Shelf.view in
     let size = g.H.Shelf.size in
     let shelf = c.args.self.now.shelf in
     let read = c.look_at.new.self.shelf in
     let command = c.args.command.now in
-    let first = c.in-Ok.first in
-    let facts = c.in-Ok-look.facts in
-    let part = c.in-Ok-part.part.state in
+    let first = c.in_ok-first.first in
+    let facts = c.in_ok-facts.facts in
+    let part = c.in_ok-part.part.state in
     let against = c.compared_with-against.result in
     let has1 : HasTables g.S.Store c.look_at.new.self.registry t =
     subst (λ (k : Held g.row.S.Denot). HasTables g.S.Store k t)
     (sym c.look_at.ensures.registry) has in
     let clean1 : DiskKept g.S.Store c.part.new.self.registry =
     subst (λ (k : Held g.row.S.Denot). DiskKept g.S.Store k) c.look.ensures.registry clean in
-    let said = c.in-Ok-part.ensures.part clean1 t s has1 records in
+    let said = c.in_ok-part.ensures.part clean1 t s has1 records in
     let state : IsState part =
-    read_state s command c.deref.result.now records.state c.in-Ok-part.part said.0 in
+    read_state s command c.deref.result.now records.state c.in_ok-part.part said.0 in
     let source : against ≡ option_map compared_with
     (source_in (seen_in first) (adopted_from command)) =
     c.compared_with-against.ensures ∙ ap (option_map compared_with)
@@ -103,22 +103,22 @@ returns-in-Ok-look-clause-serves g c clean t s has records =
     c.adopted_from-providers.ensures) in
     let before : g.H.Shelf.honest shelf → (q : List ℕ) → Has (adopted_from command) q
     → Tell first (size shelf) (view shelf).seen None q =
-    λ h q k. c.in-Ok.ensures.tell h q (subst (λ (l : List (List ℕ)). Has l q)
+    λ h q k. c.in_ok-first.ensures.tell h q (subst (λ (l : List (List ℕ)). Has l q)
     (sym c.adopted_from-providers.ensures) k) in
     let then : g.H.Shelf.honest read → (q : List ℕ) → Has (needed_by part command) q
     → Tell facts (size read) (view read).seen against q =
     subst (λ (k : g.row.H.Denot). g.H.Shelf.honest k → (q : List ℕ)
     → Has (needed_by part command) q → Tell facts (size k) (view k).seen against q)
     c.part.ensures.shelf
-    (λ h. c.in-Ok-look.ensures.tell h part (whole_is_part part command state)) in
+    (λ h. c.in_ok-facts.ensures.tell h part (whole_is_part part command state)) in
     let sizes : TellSizes facts (size shelf) =
     subst (λ (z : Sizes). TellSizes facts z) c.look_at.ensures.looks.only.keeps.size
     (subst (λ (k : g.row.H.Denot). TellSizes facts (size k)) c.part.ensures.shelf
-    c.in-Ok-look.ensures.sizes) in (
+    c.in_ok-facts.ensures.sizes) in (
       record {
         state = state;
-        few = read_few s command c.deref.result.now records.state c.in-Ok-part.part said.0;
-        most = read_most s command c.deref.result.now records.state c.in-Ok-part.part said.0;
+        few = read_few s command c.deref.result.now records.state c.in_ok-part.part said.0;
+        most = read_most s command c.deref.result.now records.state c.in_ok-part.part said.0;
         sizes = sizes;
         itself = λ honest. itself_told g.H.Shelf shelf facts first command against part
             (size shelf) (view shelf).seen honest source before

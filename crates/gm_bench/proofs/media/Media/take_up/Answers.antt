@@ -1,8 +1,8 @@
 use Rattle.std.proofs.Common.{◌<◌, Err, rules, ◌≡◌, ◌∙◌, length, sym, ap, subst, arith, List}
-use Rattle.gm_bench.specs.declared.fault.BenchFault.TheVariants.{Disk, Absent, Unreadable}
 use Rattle.gm_registry.specs.Registry.{DiskKept}
 use Rattle.gm_registry.proofs.CallsLeave.{saved}
 use Rattle.gm_bench.specs.Recovering.{LeavesOnly}
+use Rattle.gm_bench.proofs.Causes.{fault_is}
 use Rattle.gm_bench.proofs.RegistryLeaves.{read_only}
 use Rattle.gm_bench.proofs.TakenUp.{absent_back, moved, moments_back, leaves_back}
 use Rattle.gm_bench.proofs.media.Media.take_up.Goals as goal
@@ -11,104 +11,104 @@ use Rattle.gm_state.proofs.SameRows.{same_mirror, same_component}
 use Rattle.gm_rows.specs.ReadableTables.{AreTablesOf}
 use Rattle.gm_registry.proofs.OneReading.{one_reading}
 
-pub returns-in-Ok-check_and_finish-clause-leaves : goal.returns-in-Ok-check_and_finish-clause-leaves
-returns-in-Ok-check_and_finish-clause-leaves g c h clean away ts u w at =
-    let view = g.H.Shelf.view in
-    let size = g.H.Shelf.size in
-    let clean1 : DiskKept g.S.Store c.load.new.self.registry =
-    omega (arith, clean, c.check_and_finish.ensures.keep.clean) in
-    let said = c.in-Ok.ensures.says h clean1 away ts u w at in
-    let are : c.deref.result.now ≡ ts = c.deref.ensures.value ∙ said.1 in
-    let found = moved g.S.Store view size c.args.self.now.registry c.load.new.self.registry
-    c.args.self.now.shelf c.load.new.self.shelf away ts u w at c.load.ensures.shelf
-    c.deref.result.now are said.2 in
-    let h1 : g.H.Shelf.honest c.load.new.self.shelf =
-    subst g.H.Shelf.honest (sym c.load.ensures.shelf) h in
-    leaves_back g.S.Store view size c.args.self.now.registry c.load.new.self.registry
-    c.args.self.now.shelf c.load.new.self.shelf away ts u w at c.load.ensures.shelf
-    c.deref.result.now are c.check_and_finish.new.self.registry
-    c.check_and_finish.new.self.shelf
-    (saved g.S.Store g.met.S.Store.settled c.args.self.now.registry at.tables at.has).crash
-    (c.check_and_finish.ensures.moments h1 away u w found said.0)
-    (c.check_and_finish.ensures.leaves h1 clean away u w found said.0)
-
-pub returns-in-Ok-check_and_finish-clause-moments :
-    goal.returns-in-Ok-check_and_finish-clause-moments
-returns-in-Ok-check_and_finish-clause-moments g c h clean away ts u w at =
-    let view = g.H.Shelf.view in
-    let size = g.H.Shelf.size in
-    let clean1 : DiskKept g.S.Store c.load.new.self.registry =
-    omega (arith, clean, c.check_and_finish.ensures.keep.clean) in
-    let said = c.in-Ok.ensures.says h clean1 away ts u w at in
-    let are : c.deref.result.now ≡ ts = c.deref.ensures.value ∙ said.1 in
-    let found = moved g.S.Store view size c.args.self.now.registry c.load.new.self.registry
-    c.args.self.now.shelf c.load.new.self.shelf away ts u w at c.load.ensures.shelf
-    c.deref.result.now are said.2 in
-    let h1 : g.H.Shelf.honest c.load.new.self.shelf =
-    subst g.H.Shelf.honest (sym c.load.ensures.shelf) h in
-    moments_back g.S.Store view size c.args.self.now.registry c.load.new.self.registry
-    c.args.self.now.shelf c.load.new.self.shelf away ts u w at c.load.ensures.shelf
-    c.deref.result.now are c.check_and_finish.new.self.shelf
-    (c.check_and_finish.ensures.moments h1 away u w found said.0)
-
-pub returns-in-Ok-check_and_finish-clause-done : goal.returns-in-Ok-check_and_finish-clause-done
-returns-in-Ok-check_and_finish-clause-done g c h clean away ts u w at =
-    let view = g.H.Shelf.view in
-    let size = g.H.Shelf.size in
-    let clean1 : DiskKept g.S.Store c.load.new.self.registry =
-    omega (arith, clean, c.check_and_finish.ensures.keep.clean) in
-    let said = c.in-Ok.ensures.says h clean1 away ts u w at in
-    let are : c.deref.result.now ≡ ts = c.deref.ensures.value ∙ said.1 in
-    let found = moved g.S.Store view size c.args.self.now.registry c.load.new.self.registry
-    c.args.self.now.shelf c.load.new.self.shelf away ts u w at c.load.ensures.shelf
-    c.deref.result.now are said.2 in
-    let h1 : g.H.Shelf.honest c.load.new.self.shelf =
-    subst g.H.Shelf.honest (sym c.load.ensures.shelf) h in
-    let items : c.len.result ≡ length c.in-Ok.intents.items = search rules in
-    let many : c.len.result ≡ length ts = items ∙ ap length said.1 in
-    (many, c.in-Ok-check_and_finish.ensures.done h1 clean away u w found said.0)
-
-pub returns-in-Ok-clause-leaves : goal.returns-in-Ok-clause-leaves
-returns-in-Ok-clause-leaves g c h clean away ts u w at =
-    let view = g.H.Shelf.view in
-    let size = g.H.Shelf.size in
-    let clean1 : DiskKept g.S.Store c.load.new.self.registry =
-    omega (arith, clean, c.check_and_finish.ensures.keep.clean) in
-    let said = c.in-Ok.ensures.says h clean1 away ts u w at in
-    let are : c.deref.result.now ≡ ts = c.deref.ensures.value ∙ said.1 in
-    let found = moved g.S.Store view size c.args.self.now.registry c.load.new.self.registry
-    c.args.self.now.shelf c.load.new.self.shelf away ts u w at c.load.ensures.shelf
-    c.deref.result.now are said.2 in
-    let h1 : g.H.Shelf.honest c.load.new.self.shelf =
-    subst g.H.Shelf.honest (sym c.load.ensures.shelf) h in
-    leaves_back g.S.Store view size c.args.self.now.registry c.load.new.self.registry
-    c.args.self.now.shelf c.load.new.self.shelf away ts u w at c.load.ensures.shelf
-    c.deref.result.now are c.check_and_finish.new.self.registry
-    c.check_and_finish.new.self.shelf
-    (saved g.S.Store g.met.S.Store.settled c.args.self.now.registry at.tables at.has).crash
-    (c.check_and_finish.ensures.moments h1 away u w found said.0)
-    (c.check_and_finish.ensures.leaves h1 clean away u w found said.0)
-
-pub returns-in-Ok-clause-moments : goal.returns-in-Ok-clause-moments
-returns-in-Ok-clause-moments g c h clean away ts u w at =
-    let view = g.H.Shelf.view in
-    let size = g.H.Shelf.size in
-    let clean1 : DiskKept g.S.Store c.load.new.self.registry =
-    omega (arith, clean, c.check_and_finish.ensures.keep.clean) in
-    let said = c.in-Ok.ensures.says h clean1 away ts u w at in
-    let are : c.deref.result.now ≡ ts = c.deref.ensures.value ∙ said.1 in
-    let found = moved g.S.Store view size c.args.self.now.registry c.load.new.self.registry
-    c.args.self.now.shelf c.load.new.self.shelf away ts u w at c.load.ensures.shelf
-    c.deref.result.now are said.2 in
-    let h1 : g.H.Shelf.honest c.load.new.self.shelf =
-    subst g.H.Shelf.honest (sym c.load.ensures.shelf) h in
-    moments_back g.S.Store view size c.args.self.now.registry c.load.new.self.registry
-    c.args.self.now.shelf c.load.new.self.shelf away ts u w at c.load.ensures.shelf
-    c.deref.result.now are c.check_and_finish.new.self.shelf
-    (c.check_and_finish.ensures.moments h1 away u w found said.0)
-
 pub returns-clause-leaves : goal.returns-clause-leaves
 returns-clause-leaves g c h clean away ts u w at =
+    let view = g.H.Shelf.view in
+    let size = g.H.Shelf.size in
+    let clean1 : DiskKept g.S.Store c.load.new.self.registry =
+    omega (arith, clean, c.check_and_finish.ensures.keep.clean) in
+    let said = c.in_ok-state.ensures.says h clean1 away ts u w at in
+    let are : c.deref.result.now ≡ ts = c.deref.ensures.value ∙ said.1 in
+    let found = moved g.S.Store view size c.args.self.now.registry c.load.new.self.registry
+    c.args.self.now.shelf c.load.new.self.shelf away ts u w at c.load.ensures.shelf
+    c.deref.result.now are said.2 in
+    let h1 : g.H.Shelf.honest c.load.new.self.shelf =
+    subst g.H.Shelf.honest (sym c.load.ensures.shelf) h in
+    leaves_back g.S.Store view size c.args.self.now.registry c.load.new.self.registry
+    c.args.self.now.shelf c.load.new.self.shelf away ts u w at c.load.ensures.shelf
+    c.deref.result.now are c.check_and_finish.new.self.registry
+    c.check_and_finish.new.self.shelf
+    (saved g.S.Store g.met.S.Store.settled c.args.self.now.registry at.tables at.has).crash
+    (c.check_and_finish.ensures.moments h1 away u w found said.0)
+    (c.check_and_finish.ensures.leaves h1 clean away u w found said.0)
+
+pub returns-clause-moments :
+    goal.returns-clause-moments
+returns-clause-moments g c h clean away ts u w at =
+    let view = g.H.Shelf.view in
+    let size = g.H.Shelf.size in
+    let clean1 : DiskKept g.S.Store c.load.new.self.registry =
+    omega (arith, clean, c.check_and_finish.ensures.keep.clean) in
+    let said = c.in_ok-state.ensures.says h clean1 away ts u w at in
+    let are : c.deref.result.now ≡ ts = c.deref.ensures.value ∙ said.1 in
+    let found = moved g.S.Store view size c.args.self.now.registry c.load.new.self.registry
+    c.args.self.now.shelf c.load.new.self.shelf away ts u w at c.load.ensures.shelf
+    c.deref.result.now are said.2 in
+    let h1 : g.H.Shelf.honest c.load.new.self.shelf =
+    subst g.H.Shelf.honest (sym c.load.ensures.shelf) h in
+    moments_back g.S.Store view size c.args.self.now.registry c.load.new.self.registry
+    c.args.self.now.shelf c.load.new.self.shelf away ts u w at c.load.ensures.shelf
+    c.deref.result.now are c.check_and_finish.new.self.shelf
+    (c.check_and_finish.ensures.moments h1 away u w found said.0)
+
+pub returns-clause-done : goal.returns-clause-done
+returns-clause-done g c h clean away ts u w at =
+    let view = g.H.Shelf.view in
+    let size = g.H.Shelf.size in
+    let clean1 : DiskKept g.S.Store c.load.new.self.registry =
+    omega (arith, clean, c.check_and_finish.ensures.keep.clean) in
+    let said = c.in_ok-state.ensures.says h clean1 away ts u w at in
+    let are : c.deref.result.now ≡ ts = c.deref.ensures.value ∙ said.1 in
+    let found = moved g.S.Store view size c.args.self.now.registry c.load.new.self.registry
+    c.args.self.now.shelf c.load.new.self.shelf away ts u w at c.load.ensures.shelf
+    c.deref.result.now are said.2 in
+    let h1 : g.H.Shelf.honest c.load.new.self.shelf =
+    subst g.H.Shelf.honest (sym c.load.ensures.shelf) h in
+    let items : c.len.result ≡ length c.in_ok-state.intents.items = search rules in
+    let many : c.len.result ≡ length ts = items ∙ ap length said.1 in
+    (many, c.in_ok-check_and_finish.ensures.done h1 clean away u w found said.0)
+
+pub returns-in_err-check_and_finish-clause-leaves : goal.returns-in_err-check_and_finish-clause-leaves
+returns-in_err-check_and_finish-clause-leaves g c h clean away ts u w at =
+    let view = g.H.Shelf.view in
+    let size = g.H.Shelf.size in
+    let clean1 : DiskKept g.S.Store c.load.new.self.registry =
+    omega (arith, clean, c.check_and_finish.ensures.keep.clean) in
+    let said = c.in_ok-state.ensures.says h clean1 away ts u w at in
+    let are : c.deref.result.now ≡ ts = c.deref.ensures.value ∙ said.1 in
+    let found = moved g.S.Store view size c.args.self.now.registry c.load.new.self.registry
+    c.args.self.now.shelf c.load.new.self.shelf away ts u w at c.load.ensures.shelf
+    c.deref.result.now are said.2 in
+    let h1 : g.H.Shelf.honest c.load.new.self.shelf =
+    subst g.H.Shelf.honest (sym c.load.ensures.shelf) h in
+    leaves_back g.S.Store view size c.args.self.now.registry c.load.new.self.registry
+    c.args.self.now.shelf c.load.new.self.shelf away ts u w at c.load.ensures.shelf
+    c.deref.result.now are c.check_and_finish.new.self.registry
+    c.check_and_finish.new.self.shelf
+    (saved g.S.Store g.met.S.Store.settled c.args.self.now.registry at.tables at.has).crash
+    (c.check_and_finish.ensures.moments h1 away u w found said.0)
+    (c.check_and_finish.ensures.leaves h1 clean away u w found said.0)
+
+pub returns-in_err-check_and_finish-clause-moments : goal.returns-in_err-check_and_finish-clause-moments
+returns-in_err-check_and_finish-clause-moments g c h clean away ts u w at =
+    let view = g.H.Shelf.view in
+    let size = g.H.Shelf.size in
+    let clean1 : DiskKept g.S.Store c.load.new.self.registry =
+    omega (arith, clean, c.check_and_finish.ensures.keep.clean) in
+    let said = c.in_ok-state.ensures.says h clean1 away ts u w at in
+    let are : c.deref.result.now ≡ ts = c.deref.ensures.value ∙ said.1 in
+    let found = moved g.S.Store view size c.args.self.now.registry c.load.new.self.registry
+    c.args.self.now.shelf c.load.new.self.shelf away ts u w at c.load.ensures.shelf
+    c.deref.result.now are said.2 in
+    let h1 : g.H.Shelf.honest c.load.new.self.shelf =
+    subst g.H.Shelf.honest (sym c.load.ensures.shelf) h in
+    moments_back g.S.Store view size c.args.self.now.registry c.load.new.self.registry
+    c.args.self.now.shelf c.load.new.self.shelf away ts u w at c.load.ensures.shelf
+    c.deref.result.now are c.check_and_finish.new.self.shelf
+    (c.check_and_finish.ensures.moments h1 away u w found said.0)
+
+pub returns-in_err-state-clause-leaves : goal.returns-in_err-state-clause-leaves
+returns-in_err-state-clause-leaves g c h clean away ts u w at =
     let view = g.H.Shelf.view in
     let size = g.H.Shelf.size in
     let lawful = g.met.H.Shelf.lawful c.args.self.now.shelf h in
@@ -122,63 +122,66 @@ returns-clause-leaves g c h clean away ts u w at =
     clean (c.load.ensures.reads.left at.tables at.has)
     (λ x l. at.leads x (lawful.only_now x l)) at.leads)
 
-pub returns-in-Ok-check_and_finish-clause-tells : goal.returns-in-Ok-check_and_finish-clause-tells
-returns-in-Ok-check_and_finish-clause-tells g c =
+pub returns-clause-tells : goal.returns-clause-tells
+returns-clause-tells g c =
     record {
       there = λ clean t s ts has of. (
           let clean1 : DiskKept g.S.Store c.load.new.self.registry =
           omega (arith, clean, c.check_and_finish.ensures.keep.clean) in
-          let said = c.in-Ok.ensures.loaded clean1 t has in
-          let same = one_reading same_mirror same_component t c.in-Ok.state s c.in-Ok.intents.items
+          let said = c.in_ok-state.ensures.loaded clean1 t has in
+          let same = one_reading same_mirror same_component t c.in_ok-state.state s c.in_ok-state.intents.items
           ts
           said.0 of in
           absent_back _ _ _ _ _ _ _ same.0 (ap g.H.Shelf.size c.load.ensures.shelf)
-          (c.deref.ensures.value ∙ same.1) c.in-Ok-check_and_finish.ensures.there);
+          (c.deref.ensures.value ∙ same.1) c.in_ok-check_and_finish.ensures.there);
       absent = search rules;
       disk = search rules;
       unreadable = search rules;
       closed = search rules;
     }
 
-pub returns-in-Ok-clause-tells : goal.returns-in-Ok-clause-tells
-returns-in-Ok-clause-tells g c =
+pub returns-in_err-check_and_finish-clause-tells : goal.returns-in_err-check_and_finish-clause-tells
+returns-in_err-check_and_finish-clause-tells g c =
     record {
       there = search rules;
       absent = λ clean p is t s ts has of. (
           let clean1 : DiskKept g.S.Store c.load.new.self.registry =
           omega (arith, clean, c.check_and_finish.ensures.keep.clean) in
-          let said = c.in-Ok.ensures.loaded clean1 t has in
-          let same = one_reading same_mirror same_component t c.in-Ok.state s c.in-Ok.intents.items
+          let said = c.in_ok-state.ensures.loaded clean1 t has in
+          let same = one_reading same_mirror same_component t c.in_ok-state.state s c.in_ok-state.intents.items
           ts
           said.0 of in
-          let fault : c.in-Err-check_and_finish.fault ≡ Absent p = cc in
+          let fault = fault_is c.from_residual-in_err-check_and_finish.result _ _
+          c.from_residual-in_err-check_and_finish.ensures.1 is in
           absent_back _ _ _ _ _ _ _ same.0 (ap g.H.Shelf.size c.load.ensures.shelf)
-          (c.deref.ensures.value ∙ same.1) (c.in-Err-check_and_finish.ensures.absent p
+          (c.deref.ensures.value ∙ same.1) (c.in_err-check_and_finish.ensures.absent p
           (ap Err fault)).0);
       disk = λ clean t has is. (
           let view = g.H.Shelf.view in
           let clean1 : DiskKept g.S.Store c.load.new.self.registry =
           omega (arith, clean, c.check_and_finish.ensures.keep.clean) in
-          let said = c.in-Ok.ensures.loaded clean1 t has in
-          let of : AreTablesOf t c.in-Ok.state c.deref.result.now =
-          subst (λ (ts : List Intent). AreTablesOf t c.in-Ok.state ts)
+          let said = c.in_ok-state.ensures.loaded clean1 t has in
+          let of : AreTablesOf t c.in_ok-state.state c.deref.result.now =
+          subst (λ (ts : List Intent). AreTablesOf t c.in_ok-state.state ts)
           (sym c.deref.ensures.value) said.0 in
-          let fault : c.in-Err-check_and_finish.fault ≡ Disk = cc in
+          let fault = fault_is c.from_residual-in_err-check_and_finish.result _ _
+          c.from_residual-in_err-check_and_finish.ensures.1 is in
           subst (λ (x : g.row.H.Denot). (view x).faults <
           (view c.check_and_finish.new.self.shelf).faults)
-          c.load.ensures.shelf (c.in-Err-check_and_finish.ensures.disk t of (ap Err fault)));
+          c.load.ensures.shelf (c.in_err-check_and_finish.ensures.disk t of (ap Err fault)));
       unreadable = search rules;
       closed = search rules;
     }
 
-pub returns-clause-tells : goal.returns-clause-tells
-returns-clause-tells g c =
+pub returns-in_err-state-clause-tells : goal.returns-in_err-state-clause-tells
+returns-in_err-state-clause-tells g c =
     record {
       there = search rules;
       absent = search rules;
       disk = search rules;
       unreadable = λ clean is. (
-          let fault : c.in-Err.fault ≡ Unreadable = cc in
-          c.in-Err.ensures.unreadable clean (ap Err fault));
+          let fault = fault_is c.from_residual.result _ _
+          c.from_residual.ensures.1 is in
+          c.in_err-state.ensures.unreadable clean (ap Err fault));
       closed = search rules;
     }
