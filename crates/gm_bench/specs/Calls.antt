@@ -10,6 +10,7 @@ use Rattle.gm_state.specs.Records.{Records}
 use Rattle.gm_commands.specs.declared.command.Command.{Command}
 use Rattle.gm_rows.specs.ReadableTables.{AreRecordsOf}
 use Rattle.gm_registry.specs.Replies.{AreWrittenUnder, count_of}
+use Rattle.gm_bench.specs.Benches.{media_of, progress_of, redone_of, registry_of, shelf_of}
 use Rattle.gm_bench.specs.ShelfFacts.{IsHonestToAdopt}
 use Rattle.gm_registry.specs.Registry.{DiskKept, HasTables, LeavesNothingNew, Reads, WasClean}
 use Rattle.gm_bench.specs.declared.bench.Bench.{Bench}
@@ -82,59 +83,59 @@ pub record Keep {S H : Type 0} (s : StoreGhosts S) (h : ShelfGhosts H) (r t : He
 -- absent: that comes at an opening alone.
 pub record ClosesOnFault {S H T : Type 0} (old new : Bench S H)
     (result : Result T BenchFault) : Type 0 where
-  pub closed : old.progress ≡ Failed → IsErrOf result Closed × (new ≡ old)
-  pub reopen : IsErrOf result Closed → old.progress ≡ Failed
-  pub failed : OnErr result (new.progress ≡ Failed)
+  pub closed : progress_of old ≡ Failed → IsErrOf result Closed × (new ≡ old)
+  pub reopen : IsErrOf result Closed → progress_of old ≡ Failed
+  pub failed : OnErr result (progress_of new ≡ Failed)
   pub absent : (p : List ℕ) → IsErrOf result (Absent p) → ⊥
-  pub redone : new.redone ≡ old.redone
+  pub redone : redone_of new ≡ redone_of old
 
 module _ {S H T : Type 0} (s : StoreGhosts S) (h : ShelfGhosts H) (old new : Bench S H)
     (result : Result T BenchFault) where
   -- A call that looks changes neither medium, and a stop within it leaves what leads on as before.
   pub record LooksOn : Type 0 where
-    pub stays : OnOk result (new.progress ≡ old.progress)
-    pub does : h.honest old.media.shelf → DiskKept s new.media.registry
-        → OnOk result (LookDoes s h.view h.size old.media.registry new.media.registry
-        old.media.shelf new.media.shelf)
-    pub leaves : h.honest old.media.shelf → DiskKept s new.media.registry
-        → LookLeaves s h.view h.size old.media.registry new.media.registry
-        old.media.shelf new.media.shelf
-    pub store : Reads s old.media.registry new.media.registry
-    pub only : ReadsOnly h old.media.shelf new.media.shelf
-    pub disk : TellsDisk h old.media.shelf new.media.shelf result
+    pub stays : OnOk result (progress_of new ≡ progress_of old)
+    pub does : h.honest (shelf_of old) → DiskKept s (registry_of new)
+        → OnOk result (LookDoes s h.view h.size (registry_of old) (registry_of new)
+        (shelf_of old) (shelf_of new))
+    pub leaves : h.honest (shelf_of old) → DiskKept s (registry_of new)
+        → LookLeaves s h.view h.size (registry_of old) (registry_of new)
+        (shelf_of old) (shelf_of new)
+    pub store : Reads s (registry_of old) (registry_of new)
+    pub only : ReadsOnly h (shelf_of old) (shelf_of new)
+    pub disk : TellsDisk h (shelf_of old) (shelf_of new) result
 
   -- A call that carries out what is pending tells of the disk only where that failed, wherever the
   -- providers of its intents are at hand.
   pub record CarriesOut : Type 0 where
-    pub keep : Keep s h old.media.registry new.media.registry old.media.shelf new.media.shelf
+    pub keep : Keep s h (registry_of old) (registry_of new) (shelf_of old) (shelf_of new)
     pub unreadable : IsErrOf result Unreadable → ⊥
-    pub disk : (work : Work) → old.progress ≡ Pending work
-        → AreAtHand (h.size old.media.shelf) work.intents.items
-        → TellsDisk h old.media.shelf new.media.shelf result
+    pub disk : (work : Work) → progress_of old ≡ Pending work
+        → AreAtHand (h.size (shelf_of old)) work.intents.items
+        → TellsDisk h (shelf_of old) (shelf_of new) result
 
 -- A command that is handed in, by the registry's rows and the shelf's sizes alone: what is then
 -- pending is at hand.
 pub record TellsOfRows {S H : Type 0} (s : StoreGhosts S) (h : ShelfGhosts H) (old new : Bench S H)
     (result : Result Answer BenchFault) (key : List ℕ) (c : Command) : Type 0 where
-  pub readable : TellsUnreadable s h old.media new.media result key c
-  pub at_hand : TellsAtHand s h old.media new.media result (λ a. (work : Work)
-      → new.progress ≡ Pending work → AreAtHand (h.size old.media.shelf) work.intents.items)
+  pub readable : TellsUnreadable s h (media_of old) (media_of new) result key c
+  pub at_hand : TellsAtHand s h (media_of old) (media_of new) result (λ a. (work : Work)
+      → progress_of new ≡ Pending work → AreAtHand (h.size (shelf_of old)) work.intents.items)
 
 -- A command that is run: where an answer says that nothing was done it only read the registry, and
 -- where the registry's rows say a state it tells of the disk only where that failed.
 pub record RunsOnce {S H : Type 0} (s : StoreGhosts S) (h : ShelfGhosts H) (old new : Bench S H)
     (result : Result Answer BenchFault) : Type 0 where
-  pub keep : Keep s h old.media.registry new.media.registry old.media.shelf new.media.shelf
-  pub undone : DiskKept s new.media.registry
-      → IfOk result (λ a. IsUndone a → Reads s old.media.registry new.media.registry)
-  pub disk : DiskKept s new.media.registry → (t : Tables) (r : Records)
-      → HasTables s old.media.registry t → AreRecordsOf t r
-      → TellsDisk h old.media.shelf new.media.shelf result
+  pub keep : Keep s h (registry_of old) (registry_of new) (shelf_of old) (shelf_of new)
+  pub undone : DiskKept s (registry_of new)
+      → IfOk result (λ a. IsUndone a → Reads s (registry_of old) (registry_of new))
+  pub disk : DiskKept s (registry_of new) → (t : Tables) (r : Records)
+      → HasTables s (registry_of old) t → AreRecordsOf t r
+      → TellsDisk h (shelf_of old) (shelf_of new) result
 
 -- A call that settles writes the registry alone, and its faults are want of memory and the store's.
 pub record Settles {S H T : Type 0} (s : StoreGhosts S) (old new : Bench S H)
     (result : Result T BenchFault) : Type 0 where
-  pub shelf : new.media.shelf ≡ old.media.shelf
+  pub shelf : shelf_of new ≡ shelf_of old
   pub unreadable : IsErrOf result Unreadable → ⊥
   pub disk : IsErrOf result Disk → ⊥
-  pub clean : WasClean s old.media.registry new.media.registry
+  pub clean : WasClean s (registry_of old) (registry_of new)

@@ -2,6 +2,7 @@ pub mod Accepting
 pub mod AdoptScope
 pub mod Agreeing
 pub mod Audits
+pub mod Benches
 pub mod Calls
 pub mod Faults
 pub mod Leading

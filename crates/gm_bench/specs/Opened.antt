@@ -19,6 +19,7 @@ use Rattle.gm_bench.specs.declared.fault.BenchFault.{BenchFault}
 use Rattle.gm_bench.specs.declared.fault.BenchFault.TheVariants.{Absent, Closed, Disk, Unreadable}
 use Rattle.gm_bench.specs.declared.media.Media.{Media}
 use Rattle.gm_bench.specs.declared.phase.Progress.TheVariants.{Ready}
+use Rattle.gm_bench.specs.Benches.{progress_of, redone_of, registry_of, shelf_of}
 use Rattle.gm_bench.specs.Calls.{TellsDisk}
 use Rattle.gm_bench.specs.Faults.{IsBeforeWrites}
 use Rattle.gm_bench.specs.Owed.{IsLeft, OpenDoes}
@@ -59,13 +60,13 @@ module _ {S H : Type 0} (s : StoreGhosts S) (h : ShelfGhosts H) (store : Held S)
   -- The bench is at rest in the world that was left; the number is that of the intents that were
   -- pending; and each image that they need is there.
   pub record IsOpened (b : Bench S H) : Type 0 where
-    pub ready : b.progress ≡ Ready
-    pub does : h.honest shelf → IsOpen s store → DiskKept s b.media.registry
-        → OpenDoes s h.view h.size store b.media.registry shelf b.media.shelf
-    pub redone : h.honest shelf → IsOpen s store → DiskKept s b.media.registry
+    pub ready : progress_of b ≡ Ready
+    pub does : h.honest shelf → IsOpen s store → DiskKept s (registry_of b)
+        → OpenDoes s h.view h.size store (registry_of b) shelf (shelf_of b)
+    pub redone : h.honest shelf → IsOpen s store → DiskKept s (registry_of b)
         → (away : Image) (u w : World) → (left : IsLeft s h.view h.size store shelf away u w)
-        → b.redone ≡ length left.recovers.intents
-    pub there : IsOpen s store → DiskKept s b.media.registry
+        → redone_of b ≡ length left.recovers.intents
+    pub there : IsOpen s store → DiskKept s (registry_of b)
         → (t : Tables) (r : Records) (ts : List Intent)
         → IsStored (stored s store) t → AreTablesOf t r ts
         → first_absent r (h.size shelf) ts ≡ None

@@ -11,6 +11,7 @@ ghost use Rattle.gm_rows.specs.ReadableTables.{AreTablesOf};
 ghost use Rattle.gm_registry.specs.Registry.{DiskKept, IsOpen, LeavesAlone, WasClean, stored};
 ghost use Rattle.gm_rows.specs.Schema.{registry_schema};
 ghost use Rattle.sqlite_catalog.specs.Listing.{IsSound};
+ghost use Rattle.gm_bench.specs.Benches.{progress_of, redone_of, registry_of, shelf_of};
 ghost use Rattle.gm_bench.specs.Faults.{IsBeforeWrites};
 ghost use Rattle.gm_bench.specs.Owed.{IsLeft, OpenDoes, OpenLeaves};
 ghost use Rattle.gm_bench.specs.Presence.{first_absent};
@@ -55,19 +56,19 @@ impl<S: Alter, H: Shelf> Bench<S, H> {
     ) -> Result<Bench<S, H>, OpenFault<S, H>>
         requires { store.in_transaction ≡ false }
         ensures leaves { H.honest shelf → IsOpen S.Store store → MatchResult result
-            (λ b. DiskKept S.Store b.media.registry → OpenLeaves S.Store H.view H.size
-            store b.media.registry shelf b.media.shelf)
+            (λ b. DiskKept S.Store (registry_of b) → OpenLeaves S.Store H.view H.size
+            store (registry_of b) shelf (shelf_of b))
             (λ e. DiskKept S.Store e.store → OpenLeaves S.Store H.view H.size
             store e.store shelf e.shelf) }
         // Neither medium of a store with other tables is touched.
         ensures foreign { IsOpen S.Store store → IsForeign (stored S.Store store)
-            → MatchResult result (λ b. DiskKept S.Store b.media.registry → ⊥)
+            → MatchResult result (λ b. DiskKept S.Store (registry_of b) → ⊥)
             (λ e. DiskKept S.Store e.store → LeavesAlone S.Store store e.store
             × (e.shelf ≡ shelf)) }
         ensures opened { IfOk result (IsOpened S.Store H.Shelf store shelf) }
         ensures unopened { IfErr result (IsUnopened S.Store H.Shelf store shelf) }
         ensures keep { MatchResult result
-            (λ b. Keep S.Store H.Shelf store b.media.registry shelf b.media.shelf)
+            (λ b. Keep S.Store H.Shelf store (registry_of b) shelf (shelf_of b))
             (λ e. Keep S.Store H.Shelf store e.store shelf e.shelf) }
     {
         let registry = match Registry::open(store) {
@@ -97,21 +98,21 @@ impl<S: Alter, H: Shelf> Bench<S, H> {
 
     /// What it may be asked next.
     pub fn phase(&self) -> Phase
-        ensures { result ≡ phase_of self.now.progress }
+        ensures { result ≡ phase_of (progress_of self.now) }
     {
         self.progress.phase()
     }
 
     /// How many intents the opening carried out that an earlier run had left pending.
     pub fn redone(&self) -> u64
-        ensures { result ≡ self.now.redone }
+        ensures { result ≡ redone_of self.now }
     {
         self.redone
     }
 
     /// Gives the store and the shelf back.
     pub fn close(self) -> (Connection<S>, H)
-        ensures { (result.0 ≡ self.media.registry) × (result.1 ≡ self.media.shelf) }
+        ensures { (result.0 ≡ registry_of self) × (result.1 ≡ shelf_of self) }
     {
         (self.media.registry.close(), self.media.shelf)
     }

@@ -6,6 +6,7 @@ ghost use Rattle.gm_shelf.specs.Disk.{AreReads};
 ghost use Rattle.gm_state.specs.Rows.{Tables};
 ghost use Rattle.gm_state.specs.World.{World};
 ghost use Rattle.gm_registry.specs.Registry.{DiskKept, HasTables, LeavesNothingNew, WasClean, Reads};
+ghost use Rattle.gm_bench.specs.Benches.{media_of, progress_of, registry_of, shelf_of};
 ghost use Rattle.gm_bench.specs.declared.answer.Accepted.{Accepted};
 ghost use Rattle.gm_bench.specs.declared.answer.Work.{Work};
 ghost use Rattle.gm_bench.specs.Owed.{AcceptAnswers, AcceptLeaves, ApplyDoes, ApplyLeaves, SettleDoes, SettleLeaves, RunAnswers, RunLeaves};
@@ -34,21 +35,22 @@ impl<S: Alter, H: Shelf> Bench<S, H> {
         key: &str,
         command: &Command,
     ) -> Result<Answer, BenchFault>
-        requires { TakesCommands self.old.progress }
-        ensures answers { H.honest self.old.media.shelf → DiskKept S.Store self.new.media.registry
+        requires { TakesCommands (progress_of self.old) }
+        ensures answers { H.honest (shelf_of self.old) → DiskKept S.Store (registry_of self.new)
             → IfOk result (λ a. (it : Accepted) × (a ≡ answer_of it)
-            × (self.new.progress ≡ progress_after it)
+            × (progress_of self.new ≡ progress_after it)
             × AcceptAnswers S.Store H.view H.size
-            self.old.media.registry self.new.media.registry
-            self.old.media.shelf self.new.media.shelf key.now command.now it) }
-        ensures leaves { H.honest self.old.media.shelf → DiskKept S.Store self.new.media.registry
-            → AcceptLeaves S.Store H.view H.size self.old.media.registry self.new.media.registry
-            self.old.media.shelf self.new.media.shelf key.now command.now }
-        ensures ready { OnOk result (self.old.progress ≡ Progress.Ready) }
-        ensures phase { IfOk result (λ a. phase_of self.new.progress ≡ phase_after a) }
+            (registry_of self.old) (registry_of self.new)
+            (shelf_of self.old) (shelf_of self.new) key.now command.now it) }
+        ensures leaves { H.honest (shelf_of self.old) → DiskKept S.Store (registry_of self.new)
+            → AcceptLeaves S.Store H.view H.size (registry_of self.old) (registry_of self.new)
+            (shelf_of self.old) (shelf_of self.new) key.now command.now }
+        ensures ready { OnOk result (progress_of self.old ≡ Progress.Ready) }
+        ensures phase { IfOk result (λ a. phase_of (progress_of self.new) ≡ phase_after a) }
         // Also of files: by the registry's rows and the sizes alone.
         ensures rows { TellsOfRows S.Store H.Shelf self.old self.new result key.now command.now }
-        ensures accepts { Accepts S.Store H.Shelf self.old.media self.new.media result IsUndone }
+        ensures accepts { Accepts S.Store H.Shelf (media_of self.old) (media_of self.new) result
+            IsUndone }
         ensures closes { ClosesOnFault self.old self.new result }
     {
         match self.progress {
@@ -70,18 +72,18 @@ impl<S: Alter, H: Shelf> Bench<S, H> {
 
     /// Carries out what is pending. It writes the shelf alone.
     pub fn apply(&mut self) -> Result<(), BenchFault>
-        requires { HasWork self.old.progress }
-        ensures does { H.honest self.old.media.shelf → (work : Work)
-            → self.old.progress ≡ Progress.Pending work
-            → OnOk result ((self.new.progress ≡ Progress.Applied work)
-            × ApplyDoes S.Store H.view H.size self.old.media.registry
-            self.old.media.shelf self.new.media.shelf work) }
-        ensures leaves { H.honest self.old.media.shelf → (work : Work)
-            → self.old.progress ≡ Progress.Pending work
-            → ApplyLeaves S.Store H.view H.size self.old.media.registry
-            self.old.media.shelf self.new.media.shelf work }
-        ensures phase { OnOk result (phase_of self.new.progress ≡ Phase.Applied) }
-        ensures registry { self.new.media.registry ≡ self.old.media.registry }
+        requires { HasWork (progress_of self.old) }
+        ensures does { H.honest (shelf_of self.old) → (work : Work)
+            → progress_of self.old ≡ Progress.Pending work
+            → OnOk result ((progress_of self.new ≡ Progress.Applied work)
+            × ApplyDoes S.Store H.view H.size (registry_of self.old)
+            (shelf_of self.old) (shelf_of self.new) work) }
+        ensures leaves { H.honest (shelf_of self.old) → (work : Work)
+            → progress_of self.old ≡ Progress.Pending work
+            → ApplyLeaves S.Store H.view H.size (registry_of self.old)
+            (shelf_of self.old) (shelf_of self.new) work }
+        ensures phase { OnOk result (phase_of (progress_of self.new) ≡ Phase.Applied) }
+        ensures registry { registry_of self.new ≡ registry_of self.old }
         ensures carries { CarriesOut S.Store H.Shelf self.old self.new result }
         ensures closes { ClosesOnFault self.old self.new result }
     {
@@ -97,17 +99,17 @@ impl<S: Alter, H: Shelf> Bench<S, H> {
 
     /// Forgets what was pending, once it is carried out. It writes the registry alone.
     pub fn settle(&mut self) -> Result<(), BenchFault>
-        requires { HasDone self.old.progress }
-        ensures does { H.honest self.old.media.shelf → DiskKept S.Store self.new.media.registry
-            → (work : Work) → self.old.progress ≡ Progress.Applied work
-            → OnOk result ((self.new.progress ≡ Progress.Ready)
-            × SettleDoes S.Store H.view H.size self.old.media.registry self.new.media.registry
-            self.old.media.shelf work) }
-        ensures leaves { H.honest self.old.media.shelf → DiskKept S.Store self.new.media.registry
-            → (work : Work) → self.old.progress ≡ Progress.Applied work
-            → SettleLeaves S.Store H.view H.size self.old.media.registry self.new.media.registry
-            self.old.media.shelf work }
-        ensures phase { OnOk result (self.new.progress ≡ Progress.Ready) }
+        requires { HasDone (progress_of self.old) }
+        ensures does { H.honest (shelf_of self.old) → DiskKept S.Store (registry_of self.new)
+            → (work : Work) → progress_of self.old ≡ Progress.Applied work
+            → OnOk result ((progress_of self.new ≡ Progress.Ready)
+            × SettleDoes S.Store H.view H.size (registry_of self.old) (registry_of self.new)
+            (shelf_of self.old) work) }
+        ensures leaves { H.honest (shelf_of self.old) → DiskKept S.Store (registry_of self.new)
+            → (work : Work) → progress_of self.old ≡ Progress.Applied work
+            → SettleLeaves S.Store H.view H.size (registry_of self.old) (registry_of self.new)
+            (shelf_of self.old) work }
+        ensures phase { OnOk result (progress_of self.new ≡ Progress.Ready) }
         ensures settles { Settles S.Store self.old self.new result }
         ensures closes { ClosesOnFault self.old self.new result }
     {
@@ -123,23 +125,23 @@ impl<S: Alter, H: Shelf> Bench<S, H> {
 
     // `apply` and `settle` in turn.
     fn carry_out(&mut self) -> Result<(), BenchFault>
-        requires { HasWork self.old.progress }
-        ensures does { H.honest self.old.media.shelf → DiskKept S.Store self.new.media.registry
-            → (work : Work) → self.old.progress ≡ Progress.Pending work
+        requires { HasWork (progress_of self.old) }
+        ensures does { H.honest (shelf_of self.old) → DiskKept S.Store (registry_of self.new)
+            → (work : Work) → progress_of self.old ≡ Progress.Pending work
             → OnOk result ((away : Image) (u w : World)
-            → IsAtWork S.Store H.view H.size self.old.media.registry self.old.media.shelf away
+            → IsAtWork S.Store H.view H.size (registry_of self.old) (shelf_of self.old) away
             work u w
-            → IsAt S.Store H.view H.size self.new.media.registry self.new.media.shelf away
+            → IsAt S.Store H.view H.size (registry_of self.new) (shelf_of self.new) away
             [] w w) }
-        ensures leaves { H.honest self.old.media.shelf → DiskKept S.Store self.new.media.registry
-            → (work : Work) → self.old.progress ≡ Progress.Pending work
+        ensures leaves { H.honest (shelf_of self.old) → DiskKept S.Store (registry_of self.new)
+            → (work : Work) → progress_of self.old ≡ Progress.Pending work
             → (away : Image) (u w : World)
-            → IsAtWork S.Store H.view H.size self.old.media.registry self.old.media.shelf away
+            → IsAtWork S.Store H.view H.size (registry_of self.old) (shelf_of self.old) away
             work u w
             → LeavesOnly S.Store H.view H.size
-            self.old.media.registry self.new.media.registry
-            self.old.media.shelf self.new.media.shelf away u w }
-        ensures phase { OnOk result (self.new.progress ≡ Progress.Ready) }
+            (registry_of self.old) (registry_of self.new)
+            (shelf_of self.old) (shelf_of self.new) away u w }
+        ensures phase { OnOk result (progress_of self.new ≡ Progress.Ready) }
         ensures carries { CarriesOut S.Store H.Shelf self.old self.new result }
         ensures closes { ClosesOnFault self.old self.new result }
     {
@@ -150,19 +152,19 @@ impl<S: Alter, H: Shelf> Bench<S, H> {
     /// `accept`, `apply` and `settle` in turn. What was accepted before a fault is carried out by
     /// the next opening.
     pub fn run(&mut self, alloc: Global, key: &str, command: &Command) -> Result<Answer, BenchFault>
-        requires { TakesCommands self.old.progress }
-        ensures answers { H.honest self.old.media.shelf → DiskKept S.Store self.new.media.registry
+        requires { TakesCommands (progress_of self.old) }
+        ensures answers { H.honest (shelf_of self.old) → DiskKept S.Store (registry_of self.new)
             → IfOk result (λ a. RunAnswers S.Store H.view H.size
-            self.old.media.registry self.new.media.registry
-            self.old.media.shelf self.new.media.shelf key.now command.now a) }
-        ensures leaves { H.honest self.old.media.shelf → DiskKept S.Store self.new.media.registry
-            → RunLeaves S.Store H.view H.size self.old.media.registry self.new.media.registry
-            self.old.media.shelf self.new.media.shelf key.now command.now }
+            (registry_of self.old) (registry_of self.new)
+            (shelf_of self.old) (shelf_of self.new) key.now command.now a) }
+        ensures leaves { H.honest (shelf_of self.old) → DiskKept S.Store (registry_of self.new)
+            → RunLeaves S.Store H.view H.size (registry_of self.old) (registry_of self.new)
+            (shelf_of self.old) (shelf_of self.new) key.now command.now }
         ensures ready { OnOk result
-            ((self.old.progress ≡ Progress.Ready) × (self.new.progress ≡ Progress.Ready)) }
+            ((progress_of self.old ≡ Progress.Ready) × (progress_of self.new ≡ Progress.Ready)) }
         // Also of files: by the registry's rows alone.
-        ensures readable { TellsUnreadable S.Store H.Shelf self.old.media self.new.media result
-            key.now command.now }
+        ensures readable { TellsUnreadable S.Store H.Shelf (media_of self.old) (media_of self.new)
+            result key.now command.now }
         ensures runs { RunsOnce S.Store H.Shelf self.old self.new result }
         ensures closes { ClosesOnFault self.old self.new result }
     {

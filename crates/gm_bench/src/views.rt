@@ -7,6 +7,7 @@ ghost use Rattle.gm_state.specs.Records.{Records};
 ghost use Rattle.gm_state.specs.Rows.{Tables};
 ghost use Rattle.gm_rows.specs.ReadableTables.{AreTablesOf};
 ghost use Rattle.gm_registry.specs.Registry.{DiskKept, HasTables, Reads};
+ghost use Rattle.gm_bench.specs.Benches.{registry_of, shelf_of};
 ghost use Rattle.gm_bench.specs.Audits.{IsAudit};
 ghost use Rattle.gm_bench.specs.ShelfFacts.{last_sector};
 ghost use Rattle.gm_bench.specs.Owed.{LookDoes, LookLeaves};
@@ -27,13 +28,13 @@ impl<S: Alter, H: Shelf> Bench<S, H> {
     /// carried out. `Closed` after an earlier fault; any other fault closes the bench.
     pub fn view(&mut self, alloc: Global) -> Result<State, BenchFault>
         // The records that the registry holds, whatever the images hold.
-        ensures shows { DiskKept S.Store self.new.media.registry
+        ensures shows { DiskKept S.Store (registry_of self.new)
             → IfOk result (λ state. (t : Tables) (s : Records) (ts : List Intent)
-            → HasTables S.Store self.old.media.registry t → AreTablesOf t s ts → state ≡ s) }
-        ensures unreadable { DiskKept S.Store self.new.media.registry
+            → HasTables S.Store (registry_of self.old) t → AreTablesOf t s ts → state ≡ s) }
+        ensures unreadable { DiskKept S.Store (registry_of self.new)
             → IsErrOf result BenchFault.Unreadable → (t : Tables) (s : Records) (ts : List Intent)
-            → HasTables S.Store self.old.media.registry t → AreTablesOf t s ts → ⊥ }
-        ensures shelf { self.new.media.shelf ≡ self.old.media.shelf }
+            → HasTables S.Store (registry_of self.old) t → AreTablesOf t s ts → ⊥ }
+        ensures shelf { shelf_of self.new ≡ shelf_of self.old }
         ensures looks { LooksOn S.Store H.Shelf self.old self.new result }
         ensures closes { ClosesOnFault self.old self.new result }
     {
@@ -53,11 +54,11 @@ impl<S: Alter, H: Shelf> Bench<S, H> {
     /// The last sector of a provider; None where it is absent or has no sectors. `Closed` after an
     /// earlier fault; any other fault closes the bench.
     pub fn last_sector(&mut self, provider: Label) -> Result<Option<[u8; 512]>, BenchFault>
-        ensures shows { H.honest self.old.media.shelf → IfOk result (λ found. found
-            ≡ last_sector (H.size self.old.media.shelf) (H.view self.old.media.shelf).seen
+        ensures shows { H.honest (shelf_of self.old) → IfOk result (λ found. found
+            ≡ last_sector (H.size (shelf_of self.old)) (H.view (shelf_of self.old)).seen
             provider) }
         ensures unreadable { IsErrOf result BenchFault.Unreadable → ⊥ }
-        ensures registry { self.new.media.registry ≡ self.old.media.registry }
+        ensures registry { registry_of self.new ≡ registry_of self.old }
         ensures looks { LooksOn S.Store H.Shelf self.old self.new result }
         ensures closes { ClosesOnFault self.old self.new result }
     {
@@ -81,14 +82,14 @@ impl<S: Alter, H: Shelf> Bench<S, H> {
     /// any other fault closes the bench.
     pub fn audit(&mut self, alloc: Global) -> Result<Vec<Label>, BenchFault>
         // By the records that the registry holds and by what the shelf shows, whoever wrote it.
-        ensures audits { H.honest self.old.media.shelf → DiskKept S.Store self.new.media.registry
+        ensures audits { H.honest (shelf_of self.old) → DiskKept S.Store (registry_of self.new)
             → IfOk result (λ names. (t : Tables) (s : Records) (ts : List Intent)
-            → HasTables S.Store self.old.media.registry t → AreTablesOf t s ts
-            → IsAudit s (H.size self.old.media.shelf) (H.view self.old.media.shelf).seen
+            → HasTables S.Store (registry_of self.old) t → AreTablesOf t s ts
+            → IsAudit s (H.size (shelf_of self.old)) (H.view (shelf_of self.old)).seen
             names.items) }
-        ensures unreadable { DiskKept S.Store self.new.media.registry
+        ensures unreadable { DiskKept S.Store (registry_of self.new)
             → IsErrOf result BenchFault.Unreadable → (t : Tables) (s : Records) (ts : List Intent)
-            → HasTables S.Store self.old.media.registry t → AreTablesOf t s ts → ⊥ }
+            → HasTables S.Store (registry_of self.old) t → AreTablesOf t s ts → ⊥ }
         ensures looks { LooksOn S.Store H.Shelf self.old self.new result }
         ensures closes { ClosesOnFault self.old self.new result }
     {

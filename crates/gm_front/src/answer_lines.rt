@@ -5,6 +5,7 @@ ghost use Rattle.std.specs.Io.KnownBytes.{Appends, Keeps};
 ghost use Rattle.gm_metadata.specs.Images.{Image};
 ghost use Rattle.gm_state.specs.World.{World};
 ghost use Rattle.gm_registry.specs.Registry.{DiskKept};
+ghost use Rattle.gm_bench.specs.Benches.{progress_of, redone_of, registry_of, shelf_of};
 ghost use Rattle.gm_bench.specs.Calls.{Keep};
 ghost use Rattle.gm_bench.specs.declared.phase.Progress.TheVariants.{Failed};
 ghost use Rattle.gm_bench.specs.Phases.{TakesCommands};
@@ -118,23 +119,23 @@ pub fn batch<R: Read, W: Write, S: Alter, H: Shelf>(
     writer: &mut W,
     bench: &mut Bench<S, H>,
 ) -> Result<BatchEnd, FrontFault>
-    requires { TakesCommands bench.old.progress }
-    ensures does { H.honest bench.old.media.shelf → DiskKept S.Store bench.new.media.registry
+    requires { TakesCommands (progress_of bench.old) }
+    ensures does { H.honest (shelf_of bench.old) → DiskKept S.Store (registry_of bench.new)
         → (away : Image) (u : World)
-        → IsAt S.Store H.view H.size bench.old.media.registry bench.old.media.shelf away [] u u
+        → IsAt S.Store H.view H.size (registry_of bench.old) (shelf_of bench.old) away [] u u
         → Batches S.Store H.view H.size (R.remaining reader.old)
         (W.contents writer.old) (W.contents writer.new)
-        bench.new.media.registry bench.new.media.shelf away u result }
-    ensures progress { IfOk result (λ end.
-        bench.new.progress ≡ progress_at bench.old.progress end) }
-    ensures phase { TakesCommands bench.new.progress }
-    ensures closed { bench.old.progress ≡ Failed → bench.new ≡ bench.old }
+        (registry_of bench.new) (shelf_of bench.new) away u result }
+    ensures progress { IfOk result (λ end. (progress_of bench.new) ≡ progress_at (progress_of
+        bench.old) end) }
+    ensures phase { TakesCommands (progress_of bench.new) }
+    ensures closed { progress_of bench.old ≡ Failed → bench.new ≡ bench.old }
     ensures reopen { result ≡ Ok (BatchEnd.Stopped BenchFault.Closed)
-        → bench.old.progress ≡ Failed }
+        → progress_of bench.old ≡ Failed }
     ensures absent { (p : List ℕ) → result ≡ Ok (BatchEnd.Stopped (BenchFault.Absent p)) → ⊥ }
-    ensures redone { bench.new.redone ≡ bench.old.redone }
-    ensures keep { Keep S.Store H.Shelf bench.old.media.registry bench.new.media.registry
-        bench.old.media.shelf bench.new.media.shelf }
+    ensures redone { redone_of bench.new ≡ redone_of bench.old }
+    ensures keep { Keep S.Store H.Shelf (registry_of bench.old) (registry_of bench.new)
+        (shelf_of bench.old) (shelf_of bench.new) }
 {
     let mut line = [0u8; 1024];
     let mut refused = false;

@@ -5,6 +5,7 @@ ghost use Rattle.std.specs.String.{string_bytes};
 ghost use Rattle.gm_metadata.specs.Images.{Image};
 ghost use Rattle.gm_state.specs.World.{World};
 ghost use Rattle.gm_registry.specs.Registry.{DiskKept};
+ghost use Rattle.gm_bench.specs.Benches.{progress_of, redone_of, registry_of, shelf_of};
 ghost use Rattle.gm_bench.specs.Calls.{Keep};
 ghost use Rattle.gm_bench.specs.declared.phase.Progress.TheVariants.{Failed};
 ghost use Rattle.gm_bench.specs.Phases.{TakesCommands};
@@ -106,21 +107,21 @@ pub(crate) fn ask<'a, S: Alter, H: Shelf>(
     bench: &mut Bench<S, H>,
     request: &Request<'a>,
 ) -> Outcome<'a>
-    requires { TakesCommands bench.old.progress }
-    ensures comes { H.honest bench.old.media.shelf → DiskKept S.Store bench.new.media.registry
+    requires { TakesCommands (progress_of bench.old) }
+    ensures comes { H.honest (shelf_of bench.old) → DiskKept S.Store (registry_of bench.new)
         → (away : Image) (u : World)
-        → IsAt S.Store H.view H.size bench.old.media.registry bench.old.media.shelf away [] u u
-        → ComesTo S.Store H.view H.size bench.old.media.registry bench.new.media.registry
-        bench.old.media.shelf bench.new.media.shelf away u (asked_of request.now) result }
-    ensures progress { bench.new.progress ≡ progress_after bench.old.progress result }
-    ensures closed { bench.old.progress ≡ Failed → bench.new ≡ bench.old }
+        → IsAt S.Store H.view H.size (registry_of bench.old) (shelf_of bench.old) away [] u u
+        → ComesTo S.Store H.view H.size (registry_of bench.old) (registry_of bench.new)
+        (shelf_of bench.old) (shelf_of bench.new) away u (asked_of request.now) result }
+    ensures progress { progress_of bench.new ≡ progress_after (progress_of bench.old) result }
+    ensures closed { progress_of bench.old ≡ Failed → bench.new ≡ bench.old }
     ensures reopen { (key : _) → result ≡ Outcome.Failed key BenchFault.Closed
-        → bench.old.progress ≡ Failed }
+        → progress_of bench.old ≡ Failed }
     ensures absent { (key : _) (p : List ℕ)
         → result ≡ Outcome.Failed key (BenchFault.Absent p) → ⊥ }
-    ensures redone { bench.new.redone ≡ bench.old.redone }
-    ensures keep { Keep S.Store H.Shelf bench.old.media.registry bench.new.media.registry
-        bench.old.media.shelf bench.new.media.shelf }
+    ensures redone { redone_of bench.new ≡ redone_of bench.old }
+    ensures keep { Keep S.Store H.Shelf (registry_of bench.old) (registry_of bench.new)
+        (shelf_of bench.old) (shelf_of bench.new) }
 {
     match *request {
         Request::Nothing => Outcome::Nothing,

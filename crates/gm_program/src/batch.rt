@@ -1,6 +1,7 @@
 //! The command `batch`, which hands the commands of an input in to a bench.
 
 ghost use Rattle.std.specs.Prelude.{◌≡◌, IfOk};
+ghost use Rattle.gm_bench.specs.Benches.{progress_of};
 ghost use Rattle.gm_bench.specs.Phases.{TakesCommands};
 ghost use Rattle.gm_program.specs.Reports.{MayEnd};
 ghost use Rattle.gm_program.specs.Statuses.{status_of_end};
@@ -34,7 +35,7 @@ pub fn hand_in<S: Alter, H: Shelf, I: Read, O: Write>(
     input: &mut I,
     output: &mut O,
 ) -> Result<Status, Fault>
-    requires { TakesCommands bench.old.progress }
+    requires { TakesCommands (progress_of bench.old) }
     ensures { IfOk result (MayEnd Work.Batch) }
 {
     status_of_end(batch(alloc, input, output, bench))

@@ -1,6 +1,7 @@
 //! What is done at an open bench, and how it is told.
 
 ghost use Rattle.std.specs.Prelude.{IfOk};
+ghost use Rattle.gm_bench.specs.Benches.{progress_of};
 ghost use Rattle.gm_bench.specs.Phases.{TakesCommands};
 ghost use Rattle.gm_program.specs.Reports.{MayEnd};
 
@@ -31,7 +32,7 @@ pub fn perform<S: Alter, H: Shelf, I: Read, O: Write>(
     input: &mut I,
     output: &mut O,
 ) -> Result<Report, Fault>
-    requires { TakesCommands bench.old.progress }
+    requires { TakesCommands (progress_of bench.old) }
     ensures { IfOk result (λ report. MayEnd work report.status) }
 {
     match work {

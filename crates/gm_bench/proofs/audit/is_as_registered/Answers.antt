@@ -23,5 +23,5 @@ returns-clause-told g c h state m o =
     let shown : c.in_ok-last.last ≡ last_of k.sectors (seen k.provider) =
     subst (λ (n : ℕ). c.in_ok-last.last ≡ last_of n (seen k.provider)) c.from.ensures
     (c.in_ok-last.ensures.bytes h) in
-    by_last c.args.state.now state size seen m k o c.in-Some.metadata c.in_ok-last.last c.same.result
-    sized (sym c.metadata_of.ensures.value ∙ c.in-Some.is) shown told
+    by_last c.args.state.now state size seen m k o c.in-Some.metadata c.in_ok-last.last
+    c.same.result sized (sym c.metadata_of.ensures.value ∙ c.in-Some.is) shown told

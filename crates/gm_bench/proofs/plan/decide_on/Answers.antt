@@ -6,7 +6,8 @@ use Rattle.gm_bench.proofs.Causes.{fault_is}
 use Rattle.gm_bench.proofs.PlannedAlone.{planned_hand, planned_state}
 use Rattle.gm_bench.proofs.plan.decide_on.Goals as goal
 
-pub returns-in_err-planned-in-Ok-Ok-clause-readable : goal.returns-in_err-planned-in-Ok-Ok-clause-readable
+pub returns-in_err-planned-in-Ok-Ok-clause-readable :
+    goal.returns-in_err-planned-in-Ok-Ok-clause-readable
 returns-in_err-planned-in-Ok-Ok-clause-readable c is fits state few most itself =
     let part = c.args.part.now in
     let facts = c.args.facts.now in
@@ -18,7 +19,8 @@ returns-in_err-planned-in-Ok-Ok-clause-readable c is fits state few most itself 
     c.from_residual.ensures.1 is))
     (planned_state part facts command c.in-Ok-Ok.change state fits (alone state few most) itself)
 
-pub returns-in_ok-planned-in-Ok-Ok-clause-at_hand : goal.returns-in_ok-planned-in-Ok-Ok-clause-at_hand
+pub returns-in_ok-planned-in-Ok-Ok-clause-at_hand :
+    goal.returns-in_ok-planned-in-Ok-Ok-clause-at_hand
 returns-in_ok-planned-in-Ok-Ok-clause-at_hand c fits state few most size tells =
     let part = c.args.part.now in
     let facts = c.args.facts.now in
@@ -27,4 +29,5 @@ returns-in_ok-planned-in-Ok-Ok-clause-at_hand c fits state few most size tells =
     → c.args.count ≤ 64 → Makes part (seen_in facts) command ch)) c.in-Ok-Ok.field-0-is
     c.in-Ok-Ok.ensures.alone in
     planned_hand part facts command c.in-Ok-Ok.change state fits (alone state few most)
-    c.in_ok-planned-in-Ok-Ok.planned.work.intents.items size c.in_ok-planned-in-Ok-Ok.ensures.planned.2 tells
+    c.in_ok-planned-in-Ok-Ok.planned.work.intents.items size
+    c.in_ok-planned-in-Ok-Ok.ensures.planned.2 tells

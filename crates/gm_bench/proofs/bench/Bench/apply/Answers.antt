@@ -39,7 +39,8 @@ returns-in-Pending-clause-does g c h work is =
     subst (λ (x : Work). (Applied c.in-Pending.work ≡ Applied x)
     × ApplyDoes g.S.Store view size r shelf after x) same (refl, does)
 
-pub returns-in_err-apply-in-Pending-clause-carries : goal.returns-in_err-apply-in-Pending-clause-carries
+pub returns-in_err-apply-in-Pending-clause-carries :
+    goal.returns-in_err-apply-in-Pending-clause-carries
 returns-in_err-apply-in-Pending-clause-carries g c =
     record {
       keep = search rules;

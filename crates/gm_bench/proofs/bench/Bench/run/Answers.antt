@@ -9,7 +9,8 @@ use Rattle.gm_bench.proofs.bench.Bench.run.Goals as goal
 use Rattle.gm_bench.specs.declared.phase.Phase.TheVariants as phase
 use Rattle.gm_bench.specs.Phases.{phase_after}
 
-pub returns-in_ok-carry_out-in-Pending-clause-answers : goal.returns-in_ok-carry_out-in-Pending-clause-answers
+pub returns-in_ok-carry_out-in-Pending-clause-answers :
+    goal.returns-in_ok-carry_out-in-Pending-clause-answers
 returns-in_ok-carry_out-in-Pending-clause-answers g c h clean =
     let mid : DiskKept g.S.Store c.accept.new.self.media.registry =
     omega (arith, clean, c.carry_out.ensures.carries.keep.clean) in
@@ -25,9 +26,11 @@ returns-in_ok-carry_out-in-Pending-clause-answers g c h clean =
     c.args.key.now c.args.command.now c.in_ok-answer.answer c.accept.new.self.progress told pending)
     (is_work g.S.Store g.H.Shelf.view g.H.Shelf.size c.args.self.now.media.registry
     c.accept.new.self.media.registry c.args.self.now.media.shelf c.accept.new.self.media.shelf
-    c.args.key.now c.args.command.now c.in_ok-answer.answer c.accept.new.self.progress told pending))
+    c.args.key.now c.args.command.now c.in_ok-answer.answer c.accept.new.self.progress told
+    pending))
 
-pub returns-in_ok-carry_out-in-Pending-clause-leaves : goal.returns-in_ok-carry_out-in-Pending-clause-leaves
+pub returns-in_ok-carry_out-in-Pending-clause-leaves :
+    goal.returns-in_ok-carry_out-in-Pending-clause-leaves
 returns-in_ok-carry_out-in-Pending-clause-leaves g c h clean =
     let mid : DiskKept g.S.Store c.accept.new.self.media.registry =
     omega (arith, clean, c.carry_out.ensures.carries.keep.clean) in
@@ -45,9 +48,11 @@ returns-in_ok-carry_out-in-Pending-clause-leaves g c h clean =
     c.args.key.now c.args.command.now c.in_ok-answer.answer c.accept.new.self.progress told pending)
     (is_work g.S.Store g.H.Shelf.view g.H.Shelf.size c.args.self.now.media.registry
     c.accept.new.self.media.registry c.args.self.now.media.shelf c.accept.new.self.media.shelf
-    c.args.key.now c.args.command.now c.in_ok-answer.answer c.accept.new.self.progress told pending))
+    c.args.key.now c.args.command.now c.in_ok-answer.answer c.accept.new.self.progress told
+    pending))
 
-pub returns-in_err-carry_out-in-Pending-clause-leaves : goal.returns-in_err-carry_out-in-Pending-clause-leaves
+pub returns-in_err-carry_out-in-Pending-clause-leaves :
+    goal.returns-in_err-carry_out-in-Pending-clause-leaves
 returns-in_err-carry_out-in-Pending-clause-leaves g c h clean =
     let mid : DiskKept g.S.Store c.accept.new.self.media.registry =
     omega (arith, clean, c.carry_out.ensures.carries.keep.clean) in
@@ -65,7 +70,8 @@ returns-in_err-carry_out-in-Pending-clause-leaves g c h clean =
     c.args.key.now c.args.command.now c.in_ok-answer.answer c.accept.new.self.progress told pending)
     (is_work g.S.Store g.H.Shelf.view g.H.Shelf.size c.args.self.now.media.registry
     c.accept.new.self.media.registry c.args.self.now.media.shelf c.accept.new.self.media.shelf
-    c.args.key.now c.args.command.now c.in_ok-answer.answer c.accept.new.self.progress told pending))
+    c.args.key.now c.args.command.now c.in_ok-answer.answer c.accept.new.self.progress told
+    pending))
 
 pub returns-in_default-clause-answers : goal.returns-in_default-clause-answers
 returns-in_default-clause-answers g c h clean =
@@ -103,7 +109,8 @@ returns-in_err-answer-clause-leaves g c h clean away u at =
       carrying = inl (refl, refl);
     }
 
-pub returns-in_err-carry_out-in-Pending-clause-runs : goal.returns-in_err-carry_out-in-Pending-clause-runs
+pub returns-in_err-carry_out-in-Pending-clause-runs :
+    goal.returns-in_err-carry_out-in-Pending-clause-runs
 returns-in_err-carry_out-in-Pending-clause-runs g c =
     record {
       keep = search rules;
@@ -134,7 +141,8 @@ returns-in_err-answer-clause-runs g c =
           c.from_residual.result _ _ c.from_residual.ensures.1 told)));
     }
 
-pub returns-in_ok-carry_out-in-Pending-clause-runs : goal.returns-in_ok-carry_out-in-Pending-clause-runs
+pub returns-in_ok-carry_out-in-Pending-clause-runs :
+    goal.returns-in_ok-carry_out-in-Pending-clause-runs
 returns-in_ok-carry_out-in-Pending-clause-runs g c =
     record {
       keep = search rules;

@@ -9,7 +9,8 @@ returns-in-Applied-clause-leaves g c h clean work is away u w at shelf =
     u w) c.settle.ensures.shelf
     (c.settle.ensures.leaves h clean away work.intents.items u w at.at shelf)
 
-pub returns-in_err-settle-in-Applied-clause-leaves : goal.returns-in_err-settle-in-Applied-clause-leaves
+pub returns-in_err-settle-in-Applied-clause-leaves :
+    goal.returns-in_err-settle-in-Applied-clause-leaves
 returns-in_err-settle-in-Applied-clause-leaves g c h clean work is away u w at shelf =
     subst (λ (k : g.row.H.Denot). LeavesOnly g.S.Store g.H.Shelf.view g.H.Shelf.size
     c.args.self.now.media.registry c.settle.new.self.registry c.args.self.now.media.shelf k away

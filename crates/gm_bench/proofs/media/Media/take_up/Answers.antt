@@ -68,7 +68,8 @@ returns-clause-done g c h clean away ts u w at =
     let many : c.len.result ≡ length ts = items ∙ ap length said.1 in
     (many, c.in_ok-check_and_finish.ensures.done h1 clean away u w found said.0)
 
-pub returns-in_err-check_and_finish-clause-leaves : goal.returns-in_err-check_and_finish-clause-leaves
+pub returns-in_err-check_and_finish-clause-leaves :
+    goal.returns-in_err-check_and_finish-clause-leaves
 returns-in_err-check_and_finish-clause-leaves g c h clean away ts u w at =
     let view = g.H.Shelf.view in
     let size = g.H.Shelf.size in
@@ -89,7 +90,8 @@ returns-in_err-check_and_finish-clause-leaves g c h clean away ts u w at =
     (c.check_and_finish.ensures.moments h1 away u w found said.0)
     (c.check_and_finish.ensures.leaves h1 clean away u w found said.0)
 
-pub returns-in_err-check_and_finish-clause-moments : goal.returns-in_err-check_and_finish-clause-moments
+pub returns-in_err-check_and_finish-clause-moments :
+    goal.returns-in_err-check_and_finish-clause-moments
 returns-in_err-check_and_finish-clause-moments g c h clean away ts u w at =
     let view = g.H.Shelf.view in
     let size = g.H.Shelf.size in
@@ -129,9 +131,8 @@ returns-clause-tells g c =
           let clean1 : DiskKept g.S.Store c.load.new.self.registry =
           omega (arith, clean, c.check_and_finish.ensures.keep.clean) in
           let said = c.in_ok-state.ensures.loaded clean1 t has in
-          let same = one_reading same_mirror same_component t c.in_ok-state.state s c.in_ok-state.intents.items
-          ts
-          said.0 of in
+          let same = one_reading same_mirror same_component t c.in_ok-state.state s
+          c.in_ok-state.intents.items ts said.0 of in
           absent_back _ _ _ _ _ _ _ same.0 (ap g.H.Shelf.size c.load.ensures.shelf)
           (c.deref.ensures.value ∙ same.1) c.in_ok-check_and_finish.ensures.there);
       absent = search rules;
@@ -148,9 +149,8 @@ returns-in_err-check_and_finish-clause-tells g c =
           let clean1 : DiskKept g.S.Store c.load.new.self.registry =
           omega (arith, clean, c.check_and_finish.ensures.keep.clean) in
           let said = c.in_ok-state.ensures.loaded clean1 t has in
-          let same = one_reading same_mirror same_component t c.in_ok-state.state s c.in_ok-state.intents.items
-          ts
-          said.0 of in
+          let same = one_reading same_mirror same_component t c.in_ok-state.state s
+          c.in_ok-state.intents.items ts said.0 of in
           let fault = fault_is c.from_residual-in_err-check_and_finish.result _ _
           c.from_residual-in_err-check_and_finish.ensures.1 is in
           absent_back _ _ _ _ _ _ _ same.0 (ap g.H.Shelf.size c.load.ensures.shelf)
