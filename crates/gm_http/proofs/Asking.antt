@@ -1,5 +1,5 @@
 -- What is asked, by what was read of an input.
-use Rattle.std.proofs.Common.{◌≡◌, ◌∙◌, ◌≤◌, ◌+◌, ℕ, true, false, sym, ap, refl, arith, inl, inr, List, ◌++◌, length, take, drop, map, Option, Some, None, Result, Ok, Err, IfOk, IfSome, append_assoc, length-append, nat_lt}
+use Rattle.std.proofs.Common.{◌≡◌, ◌∙◌, ◌≤◌, ◌+◌, ℕ, Bool, true, false, sym, ap, refl, arith, inl, inr, List, ◌++◌, length, take, drop, map, Option, Some, None, Result, Ok, Err, IfOk, IfSome, append_assoc, length-append, nat_lt}
 use Rattle.std.specs.Prelude.{slice_range}
 use Rattle.std.specs.Str.{bytes_eq}
 use Rattle.std.proofs.lemmas.Bool.Decides.{nat_tests}
@@ -41,7 +41,8 @@ whole_body (Some rest) None was now start n field asked t begins fits whole is a
 whole_body (Some rest) (Some left) was now start n field asked t begins fits whole is asks =
     let behind : drop start was ++ rest ≡ drop start now ++ left =
     ap (λ l. drop start was ++ l) t.consumed ∙ sym (append_assoc (drop start was) t.more left)
-    ∙ ap (λ l. l ++ left) (sym (drop-append-le start was t.more begins) ∙ ap (drop start) (sym t.kept)) in
+    ∙ ap (λ l. l ++ left)
+    (sym (drop-append-le start was t.more begins) ∙ ap (drop start) (sym t.kept)) in
     let there : n ≤ length (drop start now) = rw length-drop (omega arith) in
     let enough : n ≤ length (drop start now ++ left) = rw length-append (omega arith) in
     let front : take n (drop start now ++ left) ≡ slice_range now start (start + n) =
@@ -50,9 +51,18 @@ whole_body (Some rest) (Some left) was now start n field asked t begins fits who
     asks ∙ ap (λ l. called (call_of l)) (sym front) ∙ sym (sent_whole _ n fits enough)
     ∙ ap (sent (Some n)) (sym behind) ∙ ap (λ f. sent f (drop start was ++ rest)) (sym is)
 
+-- what the target names that these spans are of
+abbrev pub IsTargetAt : List ℕ → RequestSpans → Option Target → Type 0
+IsTargetAt bytes spans target = target ≡ target_of (span_bytes bytes spans.path)
+
+-- whether the method is the one that a target takes
+abbrev pub IsByItsMethod : List ℕ → RequestSpans → Target → Bool → Type 0
+IsByItsMethod bytes spans target answer =
+    bytes_eq (span_bytes bytes spans.method) (method_name (method_of target)) ≡ answer
+
 -- no target
 pub asked_nowhere : (bytes : List ℕ) (headers : List HeaderSpan) (spans : RequestSpans)
-    (rest : List ℕ) → None ≡ target_of (span_bytes bytes spans.path)
+    (rest : List ℕ) → IsTargetAt bytes spans None
     → AsksAtHead bytes headers spans rest NotFound
 unfolding asked_by
 asked_nowhere bytes headers spans rest is = λ h at.
@@ -61,8 +71,8 @@ asked_nowhere bytes headers spans rest is = λ h at.
 
 -- a target by another method than its own
 pub asked_otherwise : (bytes : List ℕ) (headers : List HeaderSpan) (spans : RequestSpans)
-    (rest : List ℕ) (target : Target) → Some target ≡ target_of (span_bytes bytes spans.path)
-    → bytes_eq (span_bytes bytes spans.method) (method_name (method_of target)) ≡ false
+    (rest : List ℕ) (target : Target) → IsTargetAt bytes spans (Some target)
+    → IsByItsMethod bytes spans target false
     → AsksAtHead bytes headers spans rest (NotAllowed (method_of target))
 unfolding asked_by
 asked_otherwise bytes headers spans rest target is other = λ h at.
@@ -75,8 +85,8 @@ asked_otherwise bytes headers spans rest target is other = λ h at.
 -- a target by its own method
 pub asked_duly : (bytes : List ℕ) (headers : List HeaderSpan) (spans : RequestSpans)
     (rest : List ℕ) (target : Target) (asked : Asked)
-    → Some target ≡ target_of (span_bytes bytes spans.path)
-    → bytes_eq (span_bytes bytes spans.method) (method_name (method_of target)) ≡ true
+    → IsTargetAt bytes spans (Some target)
+    → IsByItsMethod bytes spans target true
     → ((h : RequestHead) → IsRequestAt bytes headers spans h
     → asked ≡ taken target h (drop spans.len bytes ++ rest))
     → AsksAtHead bytes headers spans rest asked
@@ -91,8 +101,8 @@ asked_duly bytes headers spans rest target asked is own asks = λ h at.
 -- a command, by the fields and what follows the head
 pub asked_to_do : {E : Type 0} (r : Result Request E) (a : Option (List ℕ)) (bytes : List ℕ)
     (headers : List HeaderSpan) (spans : RequestSpans)
-    → Some Commands ≡ target_of (span_bytes bytes spans.path)
-    → bytes_eq (span_bytes bytes spans.method) (method_name (method_of Commands)) ≡ true
+    → IsTargetAt bytes spans (Some Commands)
+    → IsByItsMethod bytes spans Commands true
     → IfOk r (λ request. IfSome a (λ rest. asked_of request
     ≡ sent (length_by (map (header_bytes bytes) (take spans.headers headers)))
     (drop spans.len bytes ++ rest)))

@@ -92,3 +92,6 @@ never (Some input) (Some rest) bytes t many = λ h body has.
     let over = many rest h body
     (subst (λ l. ReadsRequest l h body) (input_is input rest bytes t) has.reads) in
     omega (arith, over, has.few)
+
+-- what a read of a head needs
+pub ruleset readings = (nothing_is_no_request, takes_nothing, takes_more, ended, full, never)

@@ -17,5 +17,6 @@ pub call_of_other : (bytes : List ℕ) → (IsUtf8 bytes → ⊥) → call_of by
 unfolding call_of
 call_of_other bytes isnt =
     let no_text : is_utf8 bytes ≡ false =
-    ⊎_elim (λ e. absurd (isnt (IsUtf8-from_is_utf8 bytes e))) (λ e. e) (cases_Bool (is_utf8 bytes)) in
+    ⊎_elim (λ e. absurd (isnt (IsUtf8-from_is_utf8 bytes e))) (λ e. e)
+    (cases_Bool (is_utf8 bytes)) in
     rw no_text refl

@@ -74,8 +74,9 @@ number_of_nothing : number_of [] ≡ None
 unfolding number_of
 number_of_nothing = refl
 
-pub number_read : {E : Type 0} (text : List ℕ) (r : Result ℕ E) → list_all is_ascii_digit text ≡ true
-    → length text ≤ 10 → ParsesUnsigned 64 10 text r → result_ok r ≡ number_of text
+pub number_read : {E : Type 0} (text : List ℕ) (r : Result ℕ E)
+    → list_all is_ascii_digit text ≡ true → length text ≤ 10
+    → ParsesUnsigned 64 10 text r → result_ok r ≡ number_of text
 number_read text (Ok n) h short told =
     let plain = rw (unsigned text h) at told in
     ap Some plain.1 ∙ sym (number_of_digits text h short plain.0.0.0)
@@ -83,3 +84,6 @@ number_read [] (Err e) h short told = sym number_of_nothing
 number_read (b ∷ text) (Err e) h short told =
     let plain = rw (unsigned (b ∷ text) h) at told in
     absurd (plain ((omega arith, all_digits (b ∷ text) h), small (b ∷ text) h short))
+
+-- texts that are no numbers
+pub ruleset no_numbers = (number_of_long, number_of_other)

@@ -1,5 +1,5 @@
 -- Which texts are targets of mirrors and providers.
-use Rattle.std.proofs.Common.{◌≡◌, ◌∙◌, ◌-◌, ℕ, true, false, refl, sym, ap, subst, arith, List, [], ◌∷◌, ◌++◌, length, drop, take, Option, Some, None, IsTrue, codes, nat_eq, append-nil, length-append}
+use Rattle.std.proofs.Common.{◌≡◌, ◌∙◌, ◌-◌, ℕ, true, refl, sym, ap, arith, List, [], ◌++◌, length, take, Option, Some, None, IsTrue, codes, nat_eq, append-nil, length-append}
 use Rattle.std.specs.Prelude.{option_and_then, option_map, if◌then◌else◌}
 use Rattle.std.specs.List.{starts_with, ends_with}
 use Rattle.std.proofs.Math.Seq.{drop-append_seam, take-append_seam}
@@ -11,7 +11,6 @@ use Rattle.matchit.specs.Route.{scan}
 use Rattle.gm_metadata.specs.Labels.{is_label}
 use Rattle.gm_http.specs.declared.routes.Route.{Route}
 use Rattle.gm_http.specs.declared.routes.Route.TheVariants as route
-use Rattle.gm_http.specs.declared.routes.Target.{Target}
 use Rattle.gm_http.specs.declared.routes.Target.TheVariants as target
 use Rattle.gm_http.specs.Routes.{before, behind, label_between, named_on, route_of, routes, target_of}
 use Rattle.gm_http.proofs.Walks.{label_letters, seek_end, seek_label, seek_label_before, segment_label, walk}
@@ -69,9 +68,11 @@ unfolding label_between
 between_tells front back text name h =
     let a = and_then_tells _ _ _ h in
     let b = and_then_tells _ _ _ a.1 in
-    let label = label_tells a.0 name a.2 in
-    (behind_tells front text b.0 b.1
-    ∙ ap (λ l. front ++ l) (before_tells back b.0 a.0 b.2 ∙ ap (λ l. l ++ back) label.0), label.1)
+    let label = label_tells a.0 name a.2 in (
+      behind_tells front text b.0 b.1
+          ∙ ap (λ l. front ++ l) (before_tells back b.0 a.0 b.2 ∙ ap (λ l. l ++ back) label.0),
+      label.1,
+    )
 
 -- ---- the routes
 
@@ -93,7 +94,8 @@ metadata_route : (name : List ℕ) → is_label name ≡ true
     → route_of (codes "/providers/" ++ (name ++ codes "/metadata")) ≡ Some route.Metadata
 unfolding route_of scan
 metadata_route name h =
-    ap (option_map (λ r. r.value)) (walk (codes "/providers/") (name ++ codes "/metadata") routes refl
+    ap (option_map (λ r. r.value))
+    (walk (codes "/providers/") (name ++ codes "/metadata") routes refl
     ∙ seek_label_before _ name (codes "/metadata") h refl
     (segment_label name (codes "metadata") (label_letters name h))
     (seek_end (codes "/metadata") _ _ refl refl))
@@ -124,7 +126,8 @@ unfolding target_of
 metadata_target name h =
     let text = codes "/providers/" ++ (name ++ codes "/metadata") in
     ap (option_and_then (λ r. named_on r text)) (metadata_route name h)
-    ∙ ap (option_map target.Metadata) (label_stands (codes "/providers/") name (codes "/metadata") h)
+    ∙ ap (option_map target.Metadata)
+    (label_stands (codes "/providers/") name (codes "/metadata") h)
 
 mirror_is : (o : Option (List ℕ)) (name : List ℕ)
     → option_map target.Mirror o ≡ Some (target.Mirror name) → o ≡ Some name

@@ -1,13 +1,12 @@
 -- How a path walks over rows: along bytes that no parameter takes, and through one at their end.
-use Rattle.std.proofs.Common.{◌≡◌, ◌≢◌, ◌∙◌, ◌+◌, ◌-◌, ◌<◌, ◌==◌, ◌&&◌, ℕ, Bool, true, false, zero, suc, refl, sym, ap, subst, arith, List, [], ◌∷◌, ◌++◌, length, drop, take, cond, true≢false, Option, Some, None, nat_lt, nat_eq, codes, length-append, append-nil}
+use Rattle.std.proofs.Common.{◌≡◌, ◌∙◌, ◌-◌, ◌<◌, ◌==◌, ◌&&◌, ℕ, Bool, true, false, zero, suc, refl, sym, ap, arith, List, [], ◌∷◌, ◌++◌, length, drop, cond, true≢false, Option, Some, None, nat_lt, nat_eq, length-append, append-nil}
 use Rattle.std.specs.List.{ends_with, list_all}
 use Rattle.std.proofs.lemmas.Bool.Decides.{Decides-eqb}
 use Rattle.std.proofs.lemmas.Slice.Eq.{ends_is}
 use Rattle.std.proofs.lemmas.Bool.Decides.{nat_tests}
 use Rattle.std.proofs.Math.Seq.{drop-length, drop-append_seam}
-use Rattle.matchit.proofs.OnLiterals.{matchit_on_literals}
 use Rattle.matchit.specs.Rows.{RowsOf, param_token, catch_all_token}
-use Rattle.matchit.specs.Seek.{cuts, first, has_slash, or_else, own, param_step, seek, segment, step, longest_suffix}
+use Rattle.matchit.specs.Seek.{cuts, has_slash, or_else, own, param_step, seek, segment, step, longest_suffix}
 use Rattle.gm_metadata.specs.Labels.{is_label, is_label_byte}
 
 abbrev pub is_none : {A : Type 0} → List A → Bool
@@ -71,10 +70,14 @@ module _ {K : Type 0} where
   seek_nothing k [] = refl
   seek_nothing (suc k) (b ∷ path) = seek_nothing k path
   seek_nothing zero (b ∷ path) =
-      simp (seek_nothing 0 path, no_step (b ∷ path),
-      seek_nothing (((param_step {K = K} [] (b ∷ path)).0) - 1) path)
+      simp (
+        seek_nothing 0 path,
+        no_step (b ∷ path),
+        seek_nothing (((param_step {K = K} [] (b ∷ path)).0) - 1) path,
+      )
 
-  pub seek_past : (k : ℕ) (rows : RowsOf K) (path : List ℕ) → seek k rows path ≡ seek 0 rows (drop k path)
+  pub seek_past : (k : ℕ) (rows : RowsOf K) (path : List ℕ)
+      → seek k rows path ≡ seek 0 rows (drop k path)
   unfolding seek
   seek_past zero rows path = refl
   seek_past (suc k) rows [] = refl
@@ -100,14 +103,20 @@ module _ {K : Type 0} where
   seek_plain b rows path h =
       let no_param : step param_token rows ≡ [] = nothing _ (both _ _ h).0 in
       let no_catch : step catch_all_token rows ≡ [] = nothing _ (both _ _ h).1 in
-      simp (no_param, no_catch, no_step (b ∷ path),
-      seek_nothing (((param_step {K = K} [] (b ∷ path)).0) - 1) path, or_none)
+      simp (
+        no_param,
+        no_catch,
+        no_step (b ∷ path),
+        seek_nothing (((param_step {K = K} [] (b ∷ path)).0) - 1) path,
+        or_none,
+      )
 
   pub walk : (bytes path : List ℕ) (rows : RowsOf K) → are_plain bytes rows ≡ true
       → seek 0 rows (bytes ++ path) ≡ seek 0 (walked bytes rows) path
   walk [] path rows h = refl
   walk (b ∷ bytes) path rows h =
-      seek_plain b rows (bytes ++ path) (both _ _ h).0 ∙ walk bytes path (step b rows) (both _ _ h).1
+      seek_plain b rows (bytes ++ path) (both _ _ h).0
+      ∙ walk bytes path (step b rows) (both _ _ h).1
 
   -- the parameter takes all that is left
   to_end : (key : K) (b : ℕ) (rest : List ℕ) → has_slash (b ∷ rest) ≡ false
@@ -155,8 +164,12 @@ module _ {K : Type 0} where
       ap (λ k. seek k ((back, key) ∷ []) (rest ++ back)) (one_less rest)
       ∙ seek_past (length rest) ((back, key) ∷ []) (rest ++ back)
       ∙ ap (seek 0 ((back, key) ∷ [])) (drop-append_seam rest back) ∙ ends in
-      simp (small, seek_nothing 0 (rest ++ back),
-      to_slash key (b ∷ rest) (b ∷ (rest ++ back)) back cut (omega arith) begins, went)
+      simp (
+        small,
+        seek_nothing 0 (rest ++ back),
+        to_slash key (b ∷ rest) (b ∷ (rest ++ back)) back cut (omega arith) begins,
+        went,
+      )
 
   -- a route without a parameter takes its own text
   pub seek_end : (bytes : List ℕ) (rows : RowsOf K) (key : K) → are_plain bytes rows ≡ true

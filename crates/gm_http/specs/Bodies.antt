@@ -41,7 +41,8 @@ words_in d = option_and_then texts_of (option_and_then as_array (get (codes "wor
 -- an object of just the members `key` and `words`
 unfoldable pub call_in : Data → Option Call
 call_in d = if has_two d
-    then option_and_then (λ k. option_map (λ ws. record { key = k; words = ws }) (words_in d)) (key_in d)
+    then option_and_then (λ k. option_map (λ ws. record { key = k; words = ws }) (words_in d))
+    (key_in d)
     else None
 
 -- the call that a JSON text holds

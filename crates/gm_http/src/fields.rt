@@ -17,7 +17,7 @@ fn all_digits(text: &[u8]) -> bool
     text.iter().all(|byte| byte.is_ascii_digit())
 }
 
-#[tactic(auto, using(crate::proofs::Digits::number_of_long, crate::proofs::Digits::number_of_other))]
+#[tactic(auto, using(crate::proofs::Digits::no_numbers))]
 fn number_of(text: &[u8]) -> Option<u64>
     ensures { result ≡ number_of text.now }
 {

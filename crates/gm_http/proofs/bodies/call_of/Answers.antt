@@ -13,5 +13,6 @@ pub returns-in-Ok-from_str : goal.returns-in-Ok-from_str
 returns-in-Ok-from_str c =
     let told : read c.args.bytes.now ≡ Some (view c.in-Ok-from_str.value) = search rules in
     let held = sym (call_of_text _ c.in-Ok.ensures.cases.1 ∙ ap (option_and_then call_in) told) in
-    subst (λ (call : Option Call). IfOk c.call_in.result (λ found. option_map texts_in found ≡ call))
+    subst (λ (call : Option Call). IfOk c.call_in.result
+    (λ found. option_map texts_in found ≡ call))
     held c.call_in.ensures

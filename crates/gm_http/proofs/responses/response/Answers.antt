@@ -5,5 +5,6 @@ use Rattle.gm_http.proofs.responses.response.Goals as goal
 pub returns : goal.returns
 returns c =
     subst (λ (made : List ℕ). IfOk c.format.result (λ text. string_bytes text ≡ made))
-    (pieces_are_response _ _ _ _ _ c.code-code.ensures c.phrase-phrase.ensures c.allow-allow.ensures)
+    (pieces_are_response _ _ _ _ _ c.code-code.ensures c.phrase-phrase.ensures
+    c.allow-allow.ensures)
     (search rules)
