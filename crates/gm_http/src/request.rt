@@ -81,7 +81,7 @@ fn target_at(
         target ≡ target_of (span_bytes bytes.now spans.now.path)) }
 {
     let Ok(text) = str::from_utf8(spans.path.of(bytes)) else {
-        return Ok(None);
+        unreachable!();
     };
     Ok(target_of(alloc, text)?)
 }
