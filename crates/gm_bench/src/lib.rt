@@ -4,11 +4,12 @@
 //!
 //! Read `specs/Leading.antt` first, what tables and an image lead to, then `specs/Recovering.antt`
 //! and `specs/Accepting.antt`, what a call may leave, `specs/Owed.antt`, what each call owes,
-//! `specs/Calls.antt` and `specs/Opened.antt`, what all calls of a kind leave and tell beside that,
-//! and `specs/Schedule.antt`, what a whole run is, with `specs/Losing.antt`, an opening without a
-//! provider; then `bench` and `calls`, whose calls are those of `media` in turn. `laws` says what
-//! holds of every run. `views` has the calls that only look, of which `audit` holds the images
-//! against the registry (`specs/Audits.antt`); `bare_shelf` looks at a shelf that has no bench.
+//! `specs/Calls.antt` and `specs/Opened.antt`, what all calls of a kind leave and tell beside that
+//! (`specs/Benches.antt` names what is in a bench), and `specs/Schedule.antt`, what a whole run is,
+//! with `specs/Losing.antt`, an opening without a provider; then `bench` and `calls`, whose calls
+//! are those of `media` in turn. `laws` says what holds of every run. `views` has the calls that
+//! only look, of which `audit` holds the images against the registry (`specs/Audits.antt`);
+//! `bare_shelf` looks at a shelf that has no bench.
 #![tactic(auto)]
 
 mod accept;

@@ -106,7 +106,8 @@ idle_by : (tree : ℕ) (olds news : List Row) (b : Bool)
 idle_by tree olds news true = refl
 idle_by tree olds news false = refl
 
-idle : (tree : ℕ) (olds news : List Row) → works registry_schema Enforced 0 tree olds news ≡ []
+-- no foreign key acts
+pub idle : (tree : ℕ) (olds news : List Row) → works registry_schema Enforced 0 tree olds news ≡ []
 idle tree olds news = idle_by tree olds news (length news == 0)
 
 one_of : (e : Bool) → (e && true) || false ≡ true → e ≡ true

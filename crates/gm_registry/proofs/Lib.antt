@@ -15,6 +15,7 @@ pub mod PendingRows
 pub mod ReadsInTurn
 pub mod RecordsUnder
 pub mod RisingRowids
+pub mod SettlingFails
 pub mod SomeReads
 pub mod Stored
 pub mod TextMeanings

@@ -2,9 +2,10 @@
 //! in one of its own.
 
 ghost use Rattle.std.specs.Prelude.{◌≡◌, [], ◌∷◌};
-ghost use Rattle.gm_state.specs.Rows.{intent_row, intent_rows};
+ghost use Rattle.gm_state.specs.Rows.{Tables, intent_row, intent_rows};
 ghost use Rattle.gm_registry.specs.Changes.{with_intents, settled};
-ghost use Rattle.gm_registry.specs.Registry.{LeavesNothingNew, KeepsCommit, MakesInside, Writes};
+ghost use Rattle.gm_registry.specs.Registry.{DiskKept, HasTables, LeavesNothingNew, KeepsCommit, MakesInside, StoreFailed, Writes};
+ghost use Rattle.gm_rows.specs.Faults.{OnOther};
 
 use gm_state::Intent;
 use sqlite::{Alter, Connection, Error, ErrorCode, Transaction, params};
@@ -94,6 +95,9 @@ pub(crate) fn put_intents<S: Alter>(
 
 /// Deletes all intents, in one transaction.
 pub(crate) fn settle_on<S: Alter>(conn: &mut Connection<S>) -> Result<usize, Error>
+    ensures store { DiskKept S.Store conn.new
+        → OnOther result ((t : Tables) → HasTables S.Store conn.old t
+        → StoreFailed S.Store conn.old conn.new) }
     ensures writes { Writes S.Store conn.old conn.new result settled }
 {
     conn.execute("DELETE FROM intents", &[])

@@ -151,8 +151,12 @@ impl<S: Alter> Registry<S> {
 
     /// Deletes the pending intents, in one transaction.
     pub fn settle(&mut self) -> Result<(), StoreFault>
-        ensures writes { Writes S.Store self.old self.new result settled }
         ensures fault { IfErr result (λ e. e ≢ StoreFault.Unreadable) }
+        // On a disk that didn't fail, without a limit on steps, it is never `Store`.
+        ensures store { DiskKept S.Store self.new
+            → OnStore result ((t : Tables) → HasTables S.Store self.old t
+            → StoreFailed S.Store self.old self.new) }
+        ensures writes { Writes S.Store self.old self.new result settled }
     {
         settle_on(&mut self.conn)?;
         Ok(())

@@ -38,15 +38,19 @@ both true b e = (refl, e)
 both false b e = absurd (let f : false ≡ true = e in cc)
 
 module _ (old new : State) (sql : List ℕ) (params : Row) (e : Error) where
-  store_failed : IsTrue old.is_open → Fails old new ⊥ e → IsReadFault old new e
-  store_failed is_open (OutOfMemory, is, more, rolled, tells) = inl is
-  store_failed is_open (Io, is, more, rolled, tells) = inr (inl more)
-  store_failed is_open (Corrupt, is, more, rolled, tells) = inr (inl more)
-  store_failed is_open (Full, is, more, rolled, tells) = inr (inl more)
-  store_failed is_open (Broken, is, more, rolled, tells) = absurd (true≢false (sym is_open ∙ more))
-  store_failed is_open (Unstorable, is, more, rolled, tells) = absurd more
+  -- a failure of the store, where nothing is too big for it but under a limit on steps
+  pub store_failed : (too_big : Type 0) → (too_big → IsSome old.step_limit) → IsTrue old.is_open
+      → Fails old new too_big e → IsReadFault old new e
+  store_failed too_big limited is_open (OutOfMemory, is, more, rolled, tells) = inl is
+  store_failed too_big limited is_open (Io, is, more, rolled, tells) = inr (inl more)
+  store_failed too_big limited is_open (Corrupt, is, more, rolled, tells) = inr (inl more)
+  store_failed too_big limited is_open (Full, is, more, rolled, tells) = inr (inl more)
+  store_failed too_big limited is_open (Broken, is, more, rolled, tells) =
+      absurd (true≢false (sym is_open ∙ more))
+  store_failed too_big limited is_open (Unstorable, is, more, rolled, tells) =
+      inr (inr (limited more))
 
-  never_misread : IsPlain (understood old.now.schema sql)
+  pub never_misread : IsPlain (understood old.now.schema sql)
       → is_all_of sql (length params) (understood old.now.schema sql) ≡ true
       → IsNoStatement old sql params e → ⊥
   never_misread plain all (inl (fault, is, told)) = subst IsPlain is plain
@@ -79,7 +83,8 @@ module _ (old new : State) (sql : List ℕ) (params : Row) (e : Error) where
         absurd (never_misread (subst (λ s. IsPlain (understood s sql)) (sym has) plain)
         (subst (λ s. is_all_of sql (length params) (understood s sql) ≡ true) (sym has) all)
         none.0)
-    read_fault is_open (inl (inr fails)) = store_failed is_open fails
+    read_fault is_open (inl (inr fails)) =
+        store_failed ⊥ (λ none. absurd none) is_open fails
     read_fault is_open (inr (c, it, h)) =
         let known = sym it.is ∙ ap (λ s. understood s sql) has in
         let bare = subst IsPlain (sym known) plain in

@@ -10,6 +10,7 @@ use Rattle.gm_registry.specs.Changes.{settled}
 use Rattle.gm_registry.proofs.TextMeanings.{settle_is}
 use Rattle.gm_registry.proofs.CountedThrough.{settles_counted}
 use Rattle.gm_registry.proofs.CallsLeave.{writes}
+use Rattle.gm_registry.proofs.SettlingFails.{settling_failed}
 use Rattle.gm_registry.proofs.intents.settle_on.Goals as goal
 
 pub returns : goal.returns
@@ -28,4 +29,7 @@ returns g c =
     settle_is.plain (λ old new text count it. it) settled settles_counted (λ e. let f = e in
     cc) (λ name e. let f = e in cc) old t was db h) c.execute.ensures.survives)
     c.execute.ensures.survives.clean in
-    record { writes = it }
+    record {
+      writes = it;
+      store = λ clean. settling_failed old new c.execute.result (c.execute.ensures.runs clean);
+    }
