@@ -1,5 +1,5 @@
 -- Which fault of a medium a fault of the bench comes from.
-use Rattle.std.proofs.Common.{◌≡◌, inl, inr, ℕ, ◌≤◌, ◌<◌, List, Option, Some, None, Result, Ok, Err, refl, sym, subst, arith}
+use Rattle.std.proofs.Common.{◌≡◌, inl, inr, ℕ, ◌≤◌, ◌<◌, List, Option, Some, None, Result, Ok, Err, refl, subst, arith}
 use Rattle.std.specs.Prelude.{IsSomeAnd, IsErrOf}
 use Rattle.std.specs.Result.{IsErrAnd}
 use Rattle.gm_metadata.specs.Images.{Sizes}

@@ -1,4 +1,4 @@
-use Rattle.std.proofs.Common.{◌≡◌, ◌≤◌, Err, IfOk, length, ap, subst}
+use Rattle.std.proofs.Common.{◌≤◌, Err, IfOk, length, ap, subst}
 use Rattle.gm_state.specs.Records.{IsState}
 use Rattle.gm_changes.specs.Decides.{Makes}
 use Rattle.gm_refusals.specs.Seen.{seen_in}

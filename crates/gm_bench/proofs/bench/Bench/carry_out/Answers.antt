@@ -1,4 +1,4 @@
-use Rattle.std.proofs.Common.{rules, ◌≡◌, [], Err, refl, sym, ap, subst}
+use Rattle.std.proofs.Common.{rules, [], Err, refl, sym, ap, subst}
 use Rattle.std.proofs.lemmas.Result.{on_ok_weaker}
 use Rattle.sqlite.specs.Held.{Held}
 use Rattle.gm_bench.specs.Recovering.{IsAt, IsAtWork, LeavesOnly}

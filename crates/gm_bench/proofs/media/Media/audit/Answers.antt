@@ -1,4 +1,4 @@
-use Rattle.std.proofs.Common.{◌≡◌, ◌∙◌, Err, sym, ap, subst}
+use Rattle.std.proofs.Common.{◌∙◌, Err, sym, ap, subst}
 use Rattle.gm_shelf.specs.Disk.{IsQuiet}
 use Rattle.gm_state.specs.Records.{Records}
 use Rattle.gm_state.proofs.SameRows.{same_mirror, same_component}

@@ -1,4 +1,4 @@
-use Rattle.std.proofs.Common.{rules, ◌≡◌, Err, sym, ap, subst, arith}
+use Rattle.std.proofs.Common.{rules, Err, sym, ap, subst, arith}
 use Rattle.gm_registry.specs.Registry.{DiskKept}
 use Rattle.gm_registry.proofs.CallsLeave.{saved}
 use Rattle.gm_refusals.specs.Applies.{IsLeast}

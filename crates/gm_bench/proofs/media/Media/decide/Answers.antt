@@ -1,4 +1,4 @@
-use Rattle.std.proofs.Common.{rules, ◌≡◌, ◌<◌, Err, length, sym, ap, subst, arith}
+use Rattle.std.proofs.Common.{rules, ◌<◌, Err, length, sym, ap, subst, arith}
 use Rattle.gm_rules.specs.Step.{CanAnswer}
 use Rattle.gm_registry.specs.Registry.{DiskKept}
 use Rattle.gm_registry.specs.Replies.{count_of}
