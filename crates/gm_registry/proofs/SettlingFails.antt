@@ -1,5 +1,5 @@
 -- Why the deletion of all pending intents fails: the tables themselves never refuse it.
-use Rattle.std.proofs.Common.{◌≡◌, ◌⊎◌, inl, inr, ℕ, zero, suc, ◌==◌, Bool, true, false, ◌||◌, if◌then◌else◌, List, [], ◌∷◌, length, Option, Some, None, Result, Ok, Err, IsSome, IsTrue, refl, sym, ap, subst, subst₂, ◌∙◌, append-nil, arith}
+use Rattle.std.proofs.Common.{◌≡◌, ◌⊎◌, inl, inr, ℕ, zero, suc, ◌==◌, Bool, true, false, ◌||◌, if◌then◌else◌, List, [], ◌∷◌, length, Option, Some, None, Result, Ok, Err, IsSome, IsTrue, refl, sym, ap, subst, subst₂, ◌∙◌, arith}
 use Rattle.std.specs.Prelude.{nat_lt, is_some}
 use Rattle.std.specs.List.{AllByRecursion}
 use Rattle.std.proofs.lemmas.List.{length-append}
@@ -32,12 +32,11 @@ use Rattle.sqlite.specs.Term.{col}
 use Rattle.sqlite_schema.specs.declared.program.Program.{Program}
 use Rattle.sqlite.specs.Does.{Does}
 use Rattle.sqlite.specs.Rows.{Task, Written, Queried, Deletes}
-use Rattle.sqlite.specs.Effect.{Database, is_query}
+use Rattle.sqlite.specs.Effect.{is_query}
 use Rattle.sqlite.specs.Calls.{IsWrite}
 use Rattle.sqlite.specs.Listing.{understood}
-use Rattle.sqlite.specs.State.{State, mode_of, text_of, shows_rows, is_pragma, Executes, ExecutesIn, IsNotRun, IsMisplaced, IsUnchanged, Fails, RunsCommand}
+use Rattle.sqlite.specs.State.{State, mode_of, text_of, shows_rows, is_pragma, Executes, ExecutesIn, IsNotRun, IsMisplaced, IsUnchanged, Fails}
 use Rattle.sqlite.specs.declared.error.Error.{Error}
-use Rattle.sqlite_resolve.specs.declared.compiled.Compiled.{Compiled}
 use Rattle.sqlite.proofs.Callers.{command_of, one_step, IsPlain}
 use Rattle.sqlite_rows.proofs.Failing.{IsReadFault, is_all_of, never_misread, store_failed}
 use Rattle.sqlite_rows.proofs.Finding.{scan}
