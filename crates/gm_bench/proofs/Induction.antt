@@ -33,6 +33,7 @@ use Rattle.gm_bench.specs.Leading.{AreAmong, whole, Leads, KeepsClaims, AllLead}
 use Rattle.gm_bench.specs.Recovering.{Recovers, IsAt, IsShelfOf, LeavesOnly}
 use Rattle.gm_bench.specs.Accepting.{LeavesStep, OrStep}
 use Rattle.gm_bench.specs.Schedule.{Phase, Event, Accept_returned, Accept_stopped, Apply_returned, Apply_stopped, Settle_returned, Settle_stopped, Run_returned, Run_stopped, Look_returned, Look_stopped, Open_returned, Open_stopped, Now, none, skips, keeps, Moved, Without_returned, Without_stopped, Without_carrying, Entry, Handed_in, Without, IsNew, IsButMoved, IsStepTo, IsStepWithout, Reached, IsLastStep, ArePending, LeavesCommit, IsMove, HasCount, IsLeftIn, IsStop, IsRunStop, IsOpenOver, after_answer, after_run, with_media, Happens, IsStart, Runs, AtRest, OnTheWay, Stopped, Headline, Within}
+use Rattle.gm_bench.proofs.Looks.{looked_at}
 use Rattle.gm_bench.proofs.WorldAtRest.{rest_leads, rest_claims}
 
 -- ---- the world that a schedule starts in
@@ -460,19 +461,6 @@ module _ {S H : Type 0} (g : Ghosts S) (view : H → View) (size : H → Sizes) 
 
   -- ---- a look
 
-  abbrev looked_at : (r s : Held S) (h k : H) (away : Image) (ts : List Intent) (u w : World)
-      → LookDoes g view size r s h k → IsAt g view size r h away ts u w
-      → IsAt g view size s k away ts u w
-  looked_at r s h k away ts u w does at = record {
-    tables = at.tables;
-    has = does.tables at.tables at.has;
-    sizes = at.sizes ∙ sym does.sizes;
-    at_hand = subst (λ (z : Sizes). (t : Intent) → Has ts t
-        → IsAtHand z t) (sym does.sizes) at.at_hand;
-    leads = subst (λ (z : Sizes). AllLead at.tables ts z away (view k).may_leave u w)
-        (sym does.sizes) (λ x l. at.leads x (does.images x l));
-  }
-
   abbrev looked_on : (r s : Held S) (h k : H) (away : Image) (work : Work) (acc ack : List Entry)
       → LookDoes g view size r s h k → OnTheWay g view size all r h away work acc ack
       → OnTheWay g view size all s k away work acc ack
@@ -482,7 +470,7 @@ module _ {S H : Type 0} (g : Ghosts S) (view : H → View) (size : H → Sizes) 
     reached = o.reached;
     last = o.last;
     at = record {
-      at = looked_at r s h k away work.intents.items o.before o.world does o.at.at;
+      at = looked_at g view size r s h k away work.intents.items o.before o.world does o.at.at;
       cover = o.at.cover;
     };
     told = o.told;
@@ -497,7 +485,7 @@ module _ {S H : Type 0} (g : Ghosts S) (view : H → View) (size : H → Sizes) 
       record {
         world = o.world;
         reached = o.reached;
-        at = looked_at r s h k m.away [] o.world o.world does o.at;
+        at = looked_at g view size r s h k m.away [] o.world o.world does o.at;
         told = o.told;
       } in
       subst (λ (p : Phase (Held S) H). AtPhase m (with_media p s k)) (sym phase) after
