@@ -1,0 +1,10 @@
+use Rattle.gm_front.proofs.service.serve_one.Goals as goal
+
+pub returns-in-Ok-clause-serves : goal.returns-in-Ok-clause-serves
+returns-in-Ok-clause-serves g c = λ honest kept away u at.
+    let serves = rw c.in-Ok.is at (c.serve_request.ensures.serves honest kept away u at) in
+    rw c.code.ensures serves
+
+pub returns-in-Err-clause-serves : goal.returns-in-Err-clause-serves
+returns-in-Err-clause-serves g c = λ honest kept away u at.
+    rw c.in-Err.is at (c.serve_request.ensures.serves honest kept away u at)

@@ -1,0 +1,147 @@
+//! One request over HTTP, answered.
+
+ghost use Rattle.std.specs.Prelude.{◌≡◌, ℕ, List, [], Err, IfOk, IfErr, None, OnErr};
+ghost use Rattle.std.specs.Io.KnownBytes.{Appends};
+ghost use Rattle.gm_metadata.specs.Images.{Image};
+ghost use Rattle.gm_state.specs.World.{World};
+ghost use Rattle.gm_registry.specs.Registry.{DiskKept};
+ghost use Rattle.gm_http.specs.Responses.{code_of};
+ghost use Rattle.gm_bench.specs.Benches.{progress_of, redone_of, registry_of, shelf_of};
+ghost use Rattle.gm_bench.specs.Calls.{Keep};
+ghost use Rattle.gm_bench.specs.declared.phase.Progress.TheVariants.{Failed};
+ghost use Rattle.gm_bench.specs.Phases.{TakesCommands};
+ghost use Rattle.gm_bench.specs.Recovering.{IsAt};
+ghost use Rattle.gm_front.specs.Batch.{AppendsFront};
+ghost use Rattle.gm_front.specs.Demands.{fault_told};
+ghost use Rattle.gm_front.specs.Findings.{progress_behind, told_of};
+ghost use Rattle.gm_front.specs.Services.{Serves, bytes_of, code_told};
+
+use crate::answer_lines::{FrontFault, write_whole};
+use crate::demand::demand_of;
+use crate::finding::{Finding, find};
+use gm_bench::{Bench, BenchFault};
+use gm_http::{RequestFault, Status, read_request, response};
+use gm_shelf::Shelf;
+use sqlite::Alter;
+use std::alloc::Global;
+use std::io::{Read, Write};
+
+/// A response that was written whole.
+#[derive(Clone, Copy, Debug, PartialEq, Eq)]
+pub struct Response {
+    pub status: Status,
+    /// How many bytes its body has.
+    pub length: usize,
+}
+
+/// How a request was served.
+#[derive(Clone, Copy)]
+pub struct Served {
+    /// The response, or why not all of it was written.
+    pub response: Result<Response, FrontFault>,
+    /// Why the bench failed, where it did.
+    pub fault: Option<BenchFault>,
+}
+
+// Writes the response that tells a finding.
+fn tell<W: Write>(alloc: Global, writer: &mut W, finding: &Finding) -> Result<Response, FrontFault>
+    ensures ok { IfOk result (λ response. (response.status ≡ (told_of finding.now).status)
+        × Appends (W.contents writer.old) (W.contents writer.new) (bytes_of (told_of finding.now))) }
+    ensures front { OnErr result (AppendsFront (W.contents writer.old) (W.contents writer.new)
+        (bytes_of (told_of finding.now))) }
+    ensures fault { IfErr result (λ e. e ≡ FrontFault.Read → ⊥) }
+{
+    let Ok(told) = finding.told(alloc) else {
+        return Err(FrontFault::Memory);
+    };
+    let Ok(text) = response(alloc, told.status, &told.body) else {
+        return Err(FrontFault::Memory);
+    };
+    write_whole(writer, text.as_bytes())?;
+    match writer.flush() {
+        Ok(()) => Ok(Response {
+            status: told.status,
+            length: told.body.len(),
+        }),
+        Err(_) => Err(FrontFault::Write),
+    }
+}
+
+// A request that wasn't put to the bench.
+fn unserved(fault: FrontFault) -> Served
+    ensures response { result.response ≡ Err fault }
+    ensures none { result.fault ≡ None }
+{
+    Served {
+        response: Err(fault),
+        fault: None,
+    }
+}
+
+/// Reads one request, asks the bench what it demands, and writes the response. Asks for a bench in
+/// phase Ready or Failed.
+pub fn serve_request<R: Read, W: Write, S: Alter, H: Shelf>(
+    alloc: Global,
+    reader: &mut R,
+    writer: &mut W,
+    bench: &mut Bench<S, H>,
+) -> Served
+    requires { TakesCommands (progress_of bench.old) }
+    ensures serves { H.honest (shelf_of bench.old) → DiskKept S.Store (registry_of bench.new)
+        → (away : Image) (u : World)
+        → IsAt S.Store H.view H.size (registry_of bench.old) (shelf_of bench.old) away [] u u
+        → Serves S.Store H.view H.size (R.remaining reader.old)
+        (W.contents writer.old) (W.contents writer.new)
+        (registry_of bench.old) (registry_of bench.new)
+        (shelf_of bench.old) (shelf_of bench.new) away u (code_told result.response) }
+    ensures progress { progress_of bench.new ≡ progress_behind (progress_of bench.old) result.fault }
+    ensures phase { TakesCommands (progress_of bench.new) }
+    ensures closed { progress_of bench.old ≡ Failed → bench.new ≡ bench.old }
+    ensures redone { redone_of bench.new ≡ redone_of bench.old }
+    ensures keep { Keep S.Store H.Shelf (registry_of bench.old) (registry_of bench.new)
+        (shelf_of bench.old) (shelf_of bench.new) }
+{
+    let request = match read_request(alloc, reader) {
+        Ok(request) => request,
+        Err(RequestFault::Memory) => return unserved(FrontFault::Memory),
+        Err(RequestFault::Read) => return unserved(FrontFault::Read),
+    };
+    let Ok(demand) = demand_of(alloc, request) else {
+        return unserved(FrontFault::Memory);
+    };
+    let finding = find(alloc, bench, &demand);
+    let response = tell(alloc, writer, &finding);
+    Served {
+        response,
+        fault: finding.fault(),
+    }
+}
+
+/// Serves one request, and answers the status of the response. A `Read` fault asked the bench
+/// nothing and wrote nothing; behind any other a beginning of the response was written, and what
+/// the bench accepted stays accepted.
+pub fn serve_one<R: Read, W: Write, S: Alter, H: Shelf>(
+    alloc: Global,
+    reader: &mut R,
+    writer: &mut W,
+    bench: &mut Bench<S, H>,
+) -> Result<u16, FrontFault>
+    requires { TakesCommands (progress_of bench.old) }
+    ensures serves { H.honest (shelf_of bench.old) → DiskKept S.Store (registry_of bench.new)
+        → (away : Image) (u : World)
+        → IsAt S.Store H.view H.size (registry_of bench.old) (shelf_of bench.old) away [] u u
+        → Serves S.Store H.view H.size (R.remaining reader.old)
+        (W.contents writer.old) (W.contents writer.new)
+        (registry_of bench.old) (registry_of bench.new)
+        (shelf_of bench.old) (shelf_of bench.new) away u result }
+    ensures phase { TakesCommands (progress_of bench.new) }
+    ensures closed { progress_of bench.old ≡ Failed → bench.new ≡ bench.old }
+    ensures redone { redone_of bench.new ≡ redone_of bench.old }
+    ensures keep { Keep S.Store H.Shelf (registry_of bench.old) (registry_of bench.new)
+        (shelf_of bench.old) (shelf_of bench.new) }
+{
+    match serve_request(alloc, reader, writer, bench).response {
+        Ok(response) => Ok(response.status.code()),
+        Err(fault) => Err(fault),
+    }
+}
