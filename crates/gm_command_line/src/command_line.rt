@@ -1,6 +1,7 @@
 //! The table of the program's own words, for `clap`, and what they ask for.
 
-use crate::job::{Job, Work};
+use crate::job::{Job, Service, Work};
+use clap::builder::ValueParser;
 use clap::error::ErrorKind;
 use clap::{Arg, ArgAction, ArgMatches, Command, Error};
 use gm_metadata::Label;
@@ -8,9 +9,9 @@ use std::alloc::{AllocError, Global};
 
 // What the help of the program says below its commands.
 const MORE: &str =
-    "recover, status, list, audit and batch take --registry FILE --shelf DIR: the registry, which is made
-where there is none, and the folder with the images. Each first carries out what a run that stopped
-left pending. dump and taste look at images alone, and write nothing.
+    "recover, status, list, audit, batch and serve take --registry FILE --shelf DIR: the registry, which
+is made where there is none, and the folder with the images. Each first carries out what a run that
+stopped left pending. dump and taste look at images alone, and write nothing.
 
 Exit statuses:
   0  done
@@ -51,6 +52,22 @@ Each line is answered before the next is read:
   KEY refused N     nothing was written
   KEY fault N       a fault, which ends the batch";
 
+// What the help of `serve` says below its options.
+const REQUESTS: &str =
+    "It prints the line `listening on 127.0.0.1:PORT`, and answers one request a connection, one
+connection after the other:
+  GET  /status                     how the mirrors stand
+  GET  /mirrors/NAME               all that is known of a mirror
+  GET  /providers/PROV/metadata    what the last sector of an image says
+  POST /commands                   carries out {\"key\":\"KEY\",\"words\":[\"COMMAND\",..]},
+                                   the words of a batch's line, cut at its spaces
+
+Who can reach the port can change the images: it asks nobody who they are.
+
+Example:
+  gmbench serve --registry registry --shelf images --port 8080 --count 1 &
+  curl http://127.0.0.1:8080/status";
+
 fn shelf_option<'a>(alloc: Global) -> Arg<'a> {
     Arg::new(alloc, "shelf")
         .long("shelf")
@@ -77,6 +94,32 @@ fn provider_name<'a>(alloc: Global) -> Arg<'a> {
         .action(ArgAction::Set)
 }
 
+fn port_option<'a>(alloc: Global) -> Arg<'a> {
+    Arg::new(alloc, "port")
+        .long("port")
+        .value_name("P")
+        .help("The port on 127.0.0.1; 0 stands for one that is free")
+        .required(true)
+        .action(ArgAction::Set)
+        .value_parser(ValueParser::unsigned(0, 65_535))
+}
+
+fn count_option<'a>(alloc: Global) -> Arg<'a> {
+    Arg::new(alloc, "count")
+        .long("count")
+        .value_name("N")
+        .help("How many connections are served")
+        .action(ArgAction::Set)
+        .value_parser(ValueParser::unsigned(1, 4_294_967_295))
+}
+
+fn log_option<'a>(alloc: Global) -> Arg<'a> {
+    Arg::new(alloc, "log")
+        .long("log")
+        .help("Logs a line for each connection, on standard error")
+        .action(ArgAction::SetTrue)
+}
+
 // What a subcommand takes.
 #[derive(Clone, Copy)]
 enum Takes {
@@ -84,6 +127,7 @@ enum Takes {
     Folder,
     Bench,
     BenchAndLines,
+    BenchAndRequests,
 }
 
 // A subcommand, and what the help says of it.
@@ -100,7 +144,7 @@ const DUMP: Subcommand = Subcommand {
     takes: Takes::Image,
 };
 
-const SUBCOMMANDS: [Subcommand; 7] = [
+const SUBCOMMANDS: [Subcommand; 8] = [
     DUMP,
     Subcommand {
         name: "taste",
@@ -132,6 +176,11 @@ const SUBCOMMANDS: [Subcommand; 7] = [
         about: "Carries out the commands of standard input, a line each",
         takes: Takes::BenchAndLines,
     },
+    Subcommand {
+        name: "serve",
+        about: "Answers requests over HTTP, on 127.0.0.1 alone",
+        takes: Takes::BenchAndRequests,
+    },
 ];
 
 fn with_bench<'a>(alloc: Global, command: Command<'a>) -> Result<Command<'a>, AllocError> {
@@ -148,6 +197,10 @@ impl Subcommand {
             Takes::Folder => command.arg(shelf_option(alloc)),
             Takes::Bench => with_bench(alloc, command),
             Takes::BenchAndLines => with_bench(alloc, command.after_help(LINES)),
+            Takes::BenchAndRequests => with_bench(alloc, command.after_help(REQUESTS))?
+                .arg(port_option(alloc))?
+                .arg(count_option(alloc))?
+                .arg(log_option(alloc)),
         }
     }
 }
@@ -197,14 +250,24 @@ fn taste_of<'a>(matches: &ArgMatches<'a>) -> Job<'a> {
     }
 }
 
+// How `serve` is to be done. clap has seen to it that the numbers are there and in range.
+fn service_of(given: &ArgMatches<'_>) -> Service {
+    Service {
+        port: given.get_one("port").unwrap_or(0),
+        count: given.get_one("count").unwrap_or(u32::MAX),
+        logs: given.get_flag("log"),
+    }
+}
+
 // The work at a bench that a subcommand is for; none where it is for no bench.
-fn work_of(name: &str) -> Option<Work> {
+fn work_of(name: &str, given: &ArgMatches<'_>) -> Option<Work> {
     match name {
         "recover" => Some(Work::Recover),
         "status" => Some(Work::Status),
         "list" => Some(Work::List),
         "audit" => Some(Work::Audit),
         "batch" => Some(Work::Batch),
+        "serve" => Some(Work::Serve(service_of(given))),
         _ => None,
     }
 }
@@ -225,7 +288,7 @@ pub fn job_of<'a>(alloc: Global, words: &'a [&'a str]) -> Result<Job<'a>, Error>
     }
     let matches = program_command(alloc)?.try_get_matches_from(words)?;
     match matches.subcommand() {
-        Some((name, given)) => match work_of(name) {
+        Some((name, given)) => match work_of(name, given) {
             Some(work) => Ok(at_bench_of(work, given)),
             None if name == "taste" => Ok(taste_of(given)),
             None => dump_of(alloc, given),

@@ -2,6 +2,17 @@
 
 use gm_metadata::Label;
 
+/// Where requests over HTTP are taken, and how many.
+#[derive(Clone, Copy, Debug, PartialEq, Eq)]
+pub struct Service {
+    /// The port on 127.0.0.1, or 0 for one that is free.
+    pub port: u16,
+    /// How many connections are served, 1 at least.
+    pub count: u32,
+    /// Whether a line is logged for each.
+    pub logs: bool,
+}
+
 /// What is to be done at a bench whose opening carried out what was pending.
 #[derive(Clone, Copy, Debug, PartialEq, Eq)]
 pub enum Work {
@@ -15,6 +26,8 @@ pub enum Work {
     Audit,
     /// Hand in the commands of an input, and answer each.
     Batch,
+    /// Serve requests over HTTP.
+    Serve(Service),
 }
 
 /// What the program is asked to do.

@@ -7,4 +7,4 @@ mod command_line;
 mod job;
 
 pub use command_line::job_of;
-pub use job::{Job, Work};
+pub use job::{Job, Service, Work};

@@ -37,10 +37,12 @@ IsTasting t report =
     (report.status ≡ (if list_any (λ x. of_metadata x.reason) t.left.items then Refused else Done))
     × (string_bytes report.text ≡ tasting_text t)
 
--- what shows mirrors is done; an audit may find damage, and of a batch a line may be refused
+-- what shows mirrors or serves requests is done; an audit may find damage, and of a batch a line may
+-- be refused
 abbrev pub MayEnd : Work → Status → Type 0
 MayEnd work.Recover status = status ≡ Done
 MayEnd work.Status status = status ≡ Done
 MayEnd work.List status = status ≡ Done
 MayEnd work.Audit status = (status ≡ Done) ⊎ (status ≡ Refused)
 MayEnd work.Batch status = (status ≡ Done) ⊎ (status ≡ Refused)
+MayEnd (work.Serve service) status = status ≡ Done

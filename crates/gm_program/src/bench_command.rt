@@ -1,6 +1,6 @@
 //! What is done at an open bench, and how it is told.
 
-ghost use Rattle.std.specs.Prelude.{IfOk};
+ghost use Rattle.std.specs.Prelude.{◌≡◌, IfOk};
 ghost use Rattle.gm_bench.specs.Benches.{progress_of};
 ghost use Rattle.gm_bench.specs.Phases.{TakesCommands};
 ghost use Rattle.gm_program.specs.Reports.{MayEnd};
@@ -9,7 +9,9 @@ use crate::audit::audit_report;
 use crate::batch::hand_in;
 use crate::exit::{Fault, Status};
 use crate::recover::recovered;
+use crate::serve::serve;
 use crate::show::{list_report, status_report};
+use crate::streams::Streams;
 use gm_bench::Bench;
 use gm_command_line::Work;
 use gm_shelf::Shelf;
@@ -24,17 +26,28 @@ pub struct Report {
     pub text: String,
 }
 
-/// Does the work. A batch reads the input, and prints its answers at once.
-pub fn perform<S: Alter, H: Shelf, I: Read, O: Write>(
+// That something was done, and all of it printed.
+fn told(alloc: Global, status: Status) -> Report
+    ensures { result.status ≡ status }
+{
+    Report {
+        status,
+        text: String::new(alloc),
+    }
+}
+
+/// Does the work. A batch reads the input, and prints its answers at once; what serves requests
+/// takes them from connections.
+pub fn perform<S: Alter, H: Shelf, I: Read, O: Write, E: Write>(
     work: Work,
-    alloc: Global,
+    rt: &HostRuntime,
     bench: &mut Bench<S, H>,
-    input: &mut I,
-    output: &mut O,
+    streams: &mut Streams<'_, I, O, E>,
 ) -> Result<Report, Fault>
     requires { TakesCommands (progress_of bench.old) }
     ensures { IfOk result (λ report. MayEnd work report.status) }
 {
+    let alloc = rt.alloc();
     match work {
         Work::Recover => recovered(alloc, bench.redone()),
         Work::Status => {
@@ -50,11 +63,12 @@ pub fn perform<S: Alter, H: Shelf, I: Read, O: Write>(
             audit_report(alloc, &names)
         }
         Work::Batch => {
-            let status = hand_in(alloc, bench, input, output)?;
-            Ok(Report {
-                status,
-                text: String::new(alloc),
-            })
+            let status = hand_in(alloc, bench, streams.input, streams.output)?;
+            Ok(told(alloc, status))
+        }
+        Work::Serve(service) => {
+            let status = serve(rt, service, bench, streams)?;
+            Ok(told(alloc, status))
         }
     }
 }

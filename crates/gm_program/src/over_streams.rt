@@ -2,6 +2,7 @@
 
 use crate::exit::{DumpRefusal, Fault, Status};
 use crate::place::{Place, work_at};
+use crate::streams::Streams;
 use crate::taste::taste_folder;
 use clap::Error;
 use clap::error::ErrorKind;
@@ -68,40 +69,37 @@ fn dump<O: Write>(
     }
 }
 
-fn perform<I: Read, O: Write>(
+fn perform<I: Read, O: Write, E: Write>(
     rt: &HostRuntime,
     job: Job<'_>,
-    input: &mut I,
-    output: &mut O,
+    streams: &mut Streams<'_, I, O, E>,
 ) -> Result<Status, Fault> {
     match job {
         Job::Introduce => {
-            writeln!(output, "gmbench: GEOM_MIRROR version 4")?;
+            writeln!(streams.output, "gmbench: GEOM_MIRROR version 4")?;
             Ok(Status::Done)
         }
-        Job::Dump { folder, provider } => dump(rt, folder, provider, output),
-        Job::Taste { folder } => taste_folder(rt, folder, output),
+        Job::Dump { folder, provider } => dump(rt, folder, provider, streams.output),
+        Job::Taste { folder } => taste_folder(rt, folder, streams.output),
         Job::AtBench {
             work,
             registry,
             folder,
-        } => work_at(rt, Place { registry, folder }, work, input, output),
+        } => work_at(rt, Place { registry, folder }, work, streams),
     }
 }
 
 fn run<I: Read, O: Write, E: Write>(
     rt: &HostRuntime,
     words: &[&str],
-    input: &mut I,
-    output: &mut O,
-    complaints: &mut E,
+    streams: &mut Streams<'_, I, O, E>,
 ) -> Result<Status, Fault> {
     let done = match job_of(rt.alloc(), words) {
-        Ok(job) => perform(rt, job, input, output),
-        Err(error) => explain(&error, output, complaints),
+        Ok(job) => perform(rt, job, streams),
+        Err(error) => explain(&error, streams.output, streams.complaints),
     };
     // What was printed before a fault is to be seen as well.
-    let flushed = output.flush();
+    let flushed = streams.output.flush();
     let status = done?;
     flushed?;
     Ok(status)
@@ -109,24 +107,22 @@ fn run<I: Read, O: Write, E: Write>(
 
 /// Runs the program on its words, without its own name, and answers how it ends.
 ///
-/// A batch takes its commands from `input`. Lines go to `output`; faults, and complaints about the
-/// words, go to `complaints`.
+/// A batch takes its commands from the input. Lines go to the output; faults, and complaints about
+/// the words, go to the complaints.
 pub fn program<I, O, E>(
     rt: &HostRuntime,
     words: &[&str],
-    input: &mut I,
-    output: &mut O,
-    complaints: &mut E,
+    streams: &mut Streams<'_, I, O, E>,
 ) -> Status
 where
     I: Read,
     O: Write,
     E: Write,
 {
-    match run(rt, words, input, output, complaints) {
+    match run(rt, words, streams) {
         Ok(status) => status,
         Err(fault) => {
-            let _ = writeln!(complaints, "{fault}");
+            let _ = writeln!(streams.complaints, "{fault}");
             Status::Fault
         }
     }

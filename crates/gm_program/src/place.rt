@@ -8,12 +8,12 @@ ghost use Rattle.gm_program.specs.Reports.{MayEnd};
 
 use crate::bench_command::{Report, perform};
 use crate::exit::{Fault, Status};
+use crate::streams::Streams;
 use gm_bench::{Bench, BenchFault};
 use gm_command_line::Work;
 use gm_shelf::{FileId, FileShelf, Shelf};
 use sqlite::{Alter, Connection, Error, ErrorCode, FileStore};
 use sqlite_disk::Disk;
-use std::alloc::Global;
 use std::fs::{self, File};
 use std::io::{self, ErrorKind, Read, Write};
 
@@ -92,22 +92,21 @@ fn leave_out_registry(
 
 // Opens a bench, which carries out what is pending, has the work done at it, and gives its store
 // back with the report.
-fn at_bench<S: Alter + Drop, H: Shelf + Drop, I: Read, O: Write>(
-    alloc: Global,
+fn at_bench<S: Alter + Drop, H: Shelf + Drop, I: Read, O: Write, E: Write>(
+    rt: &HostRuntime,
     store: Connection<S>,
     shelf: H,
     work: Work,
-    input: &mut I,
-    output: &mut O,
+    streams: &mut Streams<'_, I, O, E>,
 ) -> Result<(Result<Report, Fault>, Connection<S>), BenchFault>
     ensures { IfOk result (λ it. IfOk it.0 (λ report. MayEnd work report.status)) }
 {
     if !store.is_autocommit() {
         return Err(BenchFault::Store);
     }
-    match Bench::open(alloc, store, shelf) {
+    match Bench::open(rt.alloc(), store, shelf) {
         Ok(mut bench) => {
-            let report = perform(work, alloc, &mut bench, input, output);
+            let report = perform(work, rt, &mut bench, streams);
             let (store, _) = bench.close();
             Ok((report, store))
         }
@@ -116,17 +115,16 @@ fn at_bench<S: Alter + Drop, H: Shelf + Drop, I: Read, O: Write>(
 }
 
 // Has the work done at a store of two files, and closes it. Of two faults the first is told.
-fn at_files<D: Disk + Drop, H: Shelf + Drop, I: Read, O: Write>(
-    alloc: Global,
+fn at_files<D: Disk + Drop, H: Shelf + Drop, I: Read, O: Write, E: Write>(
+    rt: &HostRuntime,
     store: Connection<FileStore<D>>,
     shelf: H,
     work: Work,
-    input: &mut I,
-    output: &mut O,
+    streams: &mut Streams<'_, I, O, E>,
 ) -> Result<Report, Fault>
     ensures { IfOk result (λ report. MayEnd work report.status) }
 {
-    let (report, store) = at_bench(alloc, store, shelf, work, input, output)?;
+    let (report, store) = at_bench(rt, store, shelf, work, streams)?;
     let closed = store.close().map_err(store_fault);
     let report = report?;
     closed?;
@@ -134,37 +132,35 @@ fn at_files<D: Disk + Drop, H: Shelf + Drop, I: Read, O: Write>(
 }
 
 // Alone in naming a registry over files.
-fn report_of<I: Read, O: Write>(
+fn report_of<I: Read, O: Write, E: Write>(
     rt: &HostRuntime,
     registry: &str,
     mut shelf: FileShelf<HostRuntime>,
     work: Work,
-    input: &mut I,
-    output: &mut O,
+    streams: &mut Streams<'_, I, O, E>,
 ) -> Result<Report, Fault>
     ensures { IfOk result (λ report. MayEnd work report.status) }
 {
     let store = Connection::open(rt, registry).map_err(store_fault)?;
     leave_out_registry(rt, registry, &mut shelf)?;
-    at_files(rt.alloc(), store, shelf, work, input, output)
+    at_files(rt, store, shelf, work, streams)
 }
 
 /// Opens the bench of a place, which carries out what is pending, has the work done at it, and
 /// closes its store, so that the registry's file alone holds everything. Then it prints the text of
 /// the report.
-pub fn work_at<I: Read, O: Write>(
+pub fn work_at<I: Read, O: Write, E: Write>(
     rt: &HostRuntime,
     place: Place<'_>,
     work: Work,
-    input: &mut I,
-    output: &mut O,
+    streams: &mut Streams<'_, I, O, E>,
 ) -> Result<Status, Fault>
     ensures { IfOk result (MayEnd work) }
 {
     let _held = HeldFolder::hold(rt, place.folder)?;
     // A folder that can't be listed is told before the registry is looked for.
     let shelf = FileShelf::open(rt, place.folder)?;
-    let report = report_of(rt, place.registry, shelf, work, input, output)?;
-    output.write_all(report.text.as_bytes())?;
+    let report = report_of(rt, place.registry, shelf, work, streams)?;
+    streams.output.write_all(report.text.as_bytes())?;
     Ok(report.status)
 }

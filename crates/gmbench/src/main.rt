@@ -6,7 +6,7 @@
 mod stack;
 mod streams;
 
-use gm_program::{Fault, Status, program};
+use gm_program::{Fault, Status, Streams, program};
 use stack::take_stack;
 use std::env;
 use std::io::{BufReader, BufWriter, ErrorKind, Write};
@@ -30,13 +30,12 @@ fn run(rt: &HostRuntime) -> Result<Status, Fault> {
     let words: Vec<&str> = given.iter().map(|word| word.as_str()).collect(alloc)?;
     let mut input = BufReader::new(alloc, rt.stdin())?;
     let mut output = BufWriter::new(alloc, rt.stdout())?;
-    Ok(program(
-        rt,
-        words.as_slice(),
-        &mut input,
-        &mut output,
-        &mut complaints,
-    ))
+    let mut streams = Streams {
+        input: &mut input,
+        output: &mut output,
+        complaints: &mut complaints,
+    };
+    Ok(program(rt, words.as_slice(), &mut streams))
 }
 
 fn main(rt: HostRuntime) -> ExitCode {
