@@ -1,11 +1,7 @@
-//! The tests: stops of the shelf within a script of commands, within an advance and within an
-//! adoption; what an advance writes; stops of the store; what a bench answers behind a fault, which
-//! phases its calls lead through, and audits and tastings.
+//! The tests: stops of the shelf within an advance and within an adoption; what an advance writes;
+//! which phases the calls of a bench lead through; and audits and tastings.
 
 mod adopting;
 mod advancing;
-mod faults;
 mod looking;
 mod phases;
-mod stops;
-mod store;

@@ -1,11 +1,9 @@
 //! An adoption whose shelf stops at each of its calls in turn, and what is found behind it.
 
-use crate::support::{
-    Asked, IN_SYNC, SYNCHRONIZING, is_over, is_stopped, metadata, must_say, open,
-};
 use gm_metadata::{Metadata, encode};
 use gm_shelf::{FaultShelf, Shelf};
 use gm_state::Reply;
+use gm_test_bench::{Asked, IN_SYNC, SYNCHRONIZING, is_over, is_stopped, metadata, must_say, open};
 use gm_test_media::{label, memory, must, sector, shelf};
 use sqlite::{Alter, Connection};
 use std::alloc::Global;

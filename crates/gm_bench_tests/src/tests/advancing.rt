@@ -1,14 +1,14 @@
 //! Advances: one whose shelf stops at each of its calls in turn, and what its target then claims;
 //! what is written where sectors are equal, and what an opening carries out.
 
-use crate::support::{
-    Asked, IN_SYNC, INSERT, SYNCHRONIZING, is_over, is_stopped, metadata, must_hold, of_two, open,
-    try_accept,
-};
 use gm_bench::Answer;
 use gm_metadata::{Metadata, encode};
 use gm_shelf::{FaultShelf, MemShelf, Shelf};
 use gm_state::Reply;
+use gm_test_bench::{
+    Asked, IN_SYNC, INSERT, SYNCHRONIZING, is_over, is_stopped, metadata, must_hold, of_two, open,
+    try_accept,
+};
 use gm_test_media::{CountingShelf, add, image, memory, must, sector};
 use sqlite::{Alter, Connection};
 use std::alloc::Global;

@@ -1,8 +1,8 @@
 //! An audit and a tasting whose shelf stops at each of their looks. Neither changes anything.
 
-use crate::support::{INSERT, of_two, open, try_audit};
 use gm_bench::{Bench, BenchFault, Phase, taste_shelf};
 use gm_shelf::{FaultShelf, MemShelf, Shelf};
+use gm_test_bench::{INSERT, of_two, open, try_audit};
 use gm_test_media::{add, memory, must, shelf};
 use gm_words::tasting_text;
 use sqlite::{Alter, Connection};

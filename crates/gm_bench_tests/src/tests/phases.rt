@@ -1,12 +1,12 @@
 //! A command whose calls are made one by one, and what the bench shows between them.
 
-use crate::support::{
-    IN_SYNC, LABEL, metadata, must_be, open, try_accept, try_apply, try_last, try_settle, try_view,
-};
 use gm_bench::{Answer, Bench, Phase};
 use gm_metadata::Metadata;
 use gm_shelf::{MemShelf, Shelf};
 use gm_state::Reply;
+use gm_test_bench::{
+    IN_SYNC, LABEL, metadata, must_be, open, try_accept, try_apply, try_last, try_settle, try_view,
+};
 use gm_test_media::{add, image, label, memory, must};
 use sqlite::{Alter, Connection};
 use std::alloc::Global;

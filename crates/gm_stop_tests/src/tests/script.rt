@@ -2,15 +2,15 @@
 //! finds, against a table that is written down.
 
 use super::faults::{Left, Stop, plays, stop_at};
-use crate::support::{
-    FORCED, IN_SYNC, INACTIVE, INSERT, LABEL, SYNCHRONIZING, metadata, must_be, must_keep_data,
-    open, runs, try_accept, try_apply, try_last, try_run, try_settle, try_view,
-};
 use gm_bench::{Answer, Bench, BenchFault, Phase};
 use gm_metadata::{Balance, DiskFlags, Metadata};
 use gm_refusals::{CallRefusal, Refusal};
 use gm_shelf::Shelf;
 use gm_state::{Reply, State, metadata_of};
+use gm_test_bench::{
+    FORCED, IN_SYNC, INACTIVE, INSERT, LABEL, SYNCHRONIZING, metadata, must_be, must_keep_data,
+    open, runs, try_accept, try_apply, try_last, try_run, try_settle, try_view,
+};
 use gm_test_media::{label, memory, must, shelf};
 use sqlite::{Alter, Connection};
 use std::alloc::Global;

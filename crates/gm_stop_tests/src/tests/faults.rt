@@ -1,12 +1,12 @@
 //! A shelf that stops, since its device failed or memory is wanting: the call that meets the stop
 //! says which, every later one does nothing, and both media stay.
 
-use super::stops::{Played, check, play};
-use crate::support::{
-    open, try_accept, try_apply, try_audit, try_last, try_open, try_run, try_settle, try_view,
-};
+use super::script::{Played, check, play};
 use gm_bench::{Bench, BenchFault, Phase};
 use gm_shelf::{FaultShelf, MemShelf, Shelf};
+use gm_test_bench::{
+    open, try_accept, try_apply, try_audit, try_last, try_open, try_run, try_settle, try_view,
+};
 use gm_test_media::{label, memory, must, must_be_alike, shelf};
 use sqlite::{Alter, Connection};
 use std::alloc::Global;

@@ -2,10 +2,10 @@
 //! is found when both media are opened again.
 
 use super::faults::must_be_closed;
-use super::stops::{Played, must_go_on, play};
-use crate::support::{must_keep_data, try_open};
+use super::script::{Played, must_go_on, play};
 use gm_bench::{Bench, BenchFault};
 use gm_shelf::{MemShelf, Shelf};
+use gm_test_bench::{must_keep_data, try_open};
 use gm_test_media::{ALL, Calls, StoreBytes, must, shelf};
 use sqlite::{Alter, Connection, Files, Options};
 use sqlite_disk::{Crash, Disk, Fuse, Memory};

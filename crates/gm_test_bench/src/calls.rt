@@ -1,5 +1,4 @@
-//! What the tests of the bench share: images, commands, calls, and what a last sector is expected
-//! to say. The expected values are worked out by hand.
+//! The calls of a bench as tests make them, and what a last sector is expected to say.
 
 use gm_bench::{Answer, Bench, BenchFault, OpenFault, Phase};
 use gm_commands::Command;
@@ -45,7 +44,7 @@ pub const INACTIVE: DiskFlags = DiskFlags {
     inactive: true,
 };
 
-// A command, what it is answered, and whether it was.
+/// A command, what it is answered, and whether it was.
 #[derive(Clone, Copy)]
 pub struct Asked {
     pub key: &'static str,
@@ -64,7 +63,7 @@ fn command(alloc: Global, words: &str) -> Result<Command, Fail> {
     Ok(read_words(alloc, &pieces)?.ok().ok_or("no command")?)
 }
 
-// What the last sector of a component of gm0 says, where the mirror counts so many.
+/// What the last sector of a component of gm0 says, where the mirror counts so many.
 pub fn metadata(did: u32, all: u8, dflags: DiskFlags) -> Result<Metadata, Fail> {
     Ok(Metadata {
         name: label("gm0")?,
@@ -85,8 +84,6 @@ pub fn metadata(did: u32, all: u8, dflags: DiskFlags) -> Result<Metadata, Fail> 
     })
 }
 
-// The tests go over any store and shelf, and these have no clause, so that a proof carries neither
-// what those in memory are made of nor the state of each call.
 pub fn try_open<S: Alter + Drop, H: Shelf + Drop>(
     alloc: Global,
     store: Connection<S>,
@@ -122,7 +119,7 @@ pub fn try_run<S: Alter, H: Shelf>(
     }
 }
 
-// Runs a command that is to be answered so.
+/// Runs a command that is to be answered so.
 pub fn runs<S: Alter, H: Shelf>(
     alloc: Global,
     bench: &mut Bench<S, H>,
@@ -186,7 +183,7 @@ pub fn try_last<S: Alter, H: Shelf>(
     bench.last_sector(provider)
 }
 
-// Whether an image of four sectors has the data that it was made with.
+/// Whether an image of four sectors has the data that it was made with.
 pub fn must_keep_data<H: Shelf>(shelf: &mut H, name: &str) -> Result<(), Fail> {
     for place in 0u8..3 {
         let held = sector(shelf, name, u64::from(place))?;
@@ -195,7 +192,7 @@ pub fn must_keep_data<H: Shelf>(shelf: &mut H, name: &str) -> Result<(), Fail> {
     Ok(())
 }
 
-// Whether its last sector says this, or carries nothing.
+/// Whether its last sector says this, or carries nothing.
 pub fn must_say<H: Shelf>(shelf: &mut H, name: &str, said: Option<Metadata>) -> Result<(), Fail> {
     must_be(&sector(shelf, name, 3)?, said)
 }
@@ -208,12 +205,13 @@ pub fn must_be(last: &[u8; 512], said: Option<Metadata>) -> Result<(), Fail> {
     must(*last == expected, "a last sector says something else")
 }
 
-// The label and the insert that most tests begin with.
+/// The label that most tests begin with.
 pub const LABEL: &str = "label --mid 7 --did 1 gm0 a.img";
 
+/// The insert behind it.
 pub const INSERT: &str = "insert --did 2 gm0 b.img";
 
-// gm0 on a.img and b.img, by k1 and by k2, which says these words.
+/// gm0 on a.img and b.img, by k1 and by k2, which says these words.
 pub fn of_two<S: Alter + Drop, H: Shelf + Drop>(
     alloc: Global,
     store: Connection<S>,
@@ -238,7 +236,7 @@ pub fn of_two<S: Alter + Drop, H: Shelf + Drop>(
     Ok(bench.close())
 }
 
-// Runs a command over a shelf that may stop; whether the stop came.
+/// Runs a command over a shelf that may stop; whether the stop came.
 pub fn is_stopped<S: Alter, H: Shelf>(
     alloc: Global,
     bench: &mut Bench<S, H>,
@@ -257,8 +255,8 @@ pub fn is_stopped<S: Alter, H: Shelf>(
     }
 }
 
-// The same command of a bench that was opened since: it is done, unless it was accepted before, and
-// then repeated.
+/// The same command of a bench that was opened since: it is done, unless it was accepted before, and
+/// then repeated.
 pub fn is_over<S: Alter + Drop, H: Shelf + Drop>(
     alloc: Global,
     store: Connection<S>,
@@ -281,7 +279,7 @@ pub fn is_over<S: Alter + Drop, H: Shelf + Drop>(
     Ok(shelf)
 }
 
-// What the last sectors of a.img and b.img say; the data are as they were.
+/// What the last sectors of a.img and b.img say; the data are as they were.
 pub fn must_hold<H: Shelf>(
     shelf: &mut H,
     first: Option<Metadata>,

@@ -1,0 +1,3 @@
+//! The tests: requests over loopback.
+
+mod loopback;
