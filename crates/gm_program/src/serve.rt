@@ -50,7 +50,9 @@ fn serve_connection<S: Alter, H: Shelf, E: Write>(
     if logs {
         write_line(rt, log, incoming.beginning(), &served);
     }
-    let _ = end(rt, stream);
+    if served.response.is_ok() {
+        let _ = end(rt, stream);
+    }
     served.fault
 }
 

@@ -15,16 +15,16 @@ if has_python 'a server beside batches'; then
     echo 'z label --mid 7 --did 1 gm0 a.img' >>"$work/rounds"
     fresh_bench by-batch
     at_bench batch <"$work/rounds"
-    cp "$work/output" "$work/by-batch"
+    cp "$work/output" "$work/told-by-batch"
     at_bench list
     cp "$work/output" "$work/list-by-batch"
     cp "$bench/images/b.img" "$work/b-by-batch"
     fresh_bench by-server
     begin_server --count 1001
-    python3 -B "$tests/serving/many.py" "$port" "$work/rounds" >"$work/by-server" 2>&1
+    python3 -B "$tests/serving/many.py" "$port" "$work/rounds" >"$work/told-by-server" 2>&1
     end_server
     expect 'a server of 1,001 connections' 0 '' ''
-    expect_same 'it answered as a batch does' "$work/by-batch" "$work/by-server"
+    expect_same 'it answered as a batch does' "$work/told-by-batch" "$work/told-by-server"
     at_bench list
     expect_same 'and registered the same' "$work/list-by-batch" "$work/output"
     expect_same 'and left the same image' "$work/b-by-batch" "$bench/images/b.img"

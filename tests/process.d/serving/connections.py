@@ -56,7 +56,7 @@ while True:
     answer += some
 took = time.monotonic() - begun
 check("a request behind a silent client and one that stops", answer, EMPTY)
-print("ok it had its answer in time" if 9 < took < 24 else f"failed it had its answer in time: after {took:.1f} seconds")
+print("ok it had its answer in time" if 9 < took < 23 else f"failed it had its answer in time: after {took:.1f} seconds")
 for name, connection in [("the silent client", silent), ("the one that stops", dripping)]:
     check(f"{name} is told nothing", connection.recv(100), b"")
     connection.close()

@@ -36,7 +36,7 @@ if has_python 'connections to a server'; then
     sed 's/^[A-Z][a-z][a-z], [0-9][0-9] [A-Z][a-z][a-z] 2[0-9]* [0-9:]* GMT /TIME /' "$work/complaints" >"$work/times"
     cp "$work/times" "$work/complaints"
     expect 'what is logged' 0 '' "TIME GET /status 200 14
-TIME POST /commands 409 33
+TIME POST /commands 409 31
 TIME GET /?[2J? 400 23
 TIME - - 400 23"
 

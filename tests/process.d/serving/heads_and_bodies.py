@@ -53,7 +53,7 @@ for length in ["", "+5", "-5", "5x", "0x5", "5 5", "5,5", "00000000037", "111111
     tell(f"the length '{length}'", post(BODY, length=length), response(400))
 tell("spaces round a length", post(BODY, length=f" \t{len(BODY)} \t"), REFUSED)
 tell("a length with zeros before it", post(BODY, length=f"{len(BODY):010}"), REFUSED)
-wide = BODY.replace(",", "," + " " * (65_536 - len(BODY)))
+wide = BODY.replace(",", "," + " " * (65_536 - len(BODY)), 1)
 tell("a body of 65,536 bytes", post(wide), REFUSED)
 tell("a length of 65,537", post(BODY, length=65_537), response(413))
 tell("a length of 9,999,999,999", post(BODY, length=9_999_999_999), response(413))
