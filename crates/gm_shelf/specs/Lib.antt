@@ -11,4 +11,5 @@ pub mod Lawful
 pub mod Memory
 pub mod Picks
 pub mod Stopping
+pub mod Turns
 pub mod Walks

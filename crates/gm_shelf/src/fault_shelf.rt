@@ -1,36 +1,42 @@
 //! A shelf whose calls fail, to see what a stop leaves.
 
-ghost use Rattle.std.specs.Prelude.{◌≡◌, ◌<◌, ◌-◌, ◌↔◌, IsSome, IsSomeAnd, IsTrue};
+ghost use Rattle.std.specs.Prelude.{◌≡◌, ◌<◌, IsSome, IsSomeAnd, if◌then◌else◌};
 ghost use Rattle.gm_shelf.specs.Stopping.{with_failures, lawful_with};
 
-use crate::fault::{ShelfFault, check_place, check_provider, device_failed};
+use crate::fault::{ShelfFault, check_place, check_provider};
 use crate::shelf::Shelf;
+use crate::turns::{Plan, Turn};
 use gm_metadata::Label;
 use std::alloc::AllocError;
 
-/// Wraps a shelf: from some read, write or sync on each one fails before it acts.
+/// Wraps a shelf, and fails its reads, writes and syncs from the nth on, or the nth alone.
+///
+/// A call for a place that isn't there takes its turn too, and answers `Absent` or `Range` whatever
+/// that is. A run takes a turn for each of its sectors, and ends at the one that fails; one that is
+/// empty or goes past the end takes none.
 #[derive(Drop)]
 pub struct FaultShelf<H> {
     inner: H,
-    // how many calls still pass
-    passing: u64,
+    plan: Plan,
     failures: u64,
 }
 
 impl<H: Shelf> FaultShelf<H> {
     ghost use Rattle.gm_shelf.specs.Faults.{last_count};
-    ghost use Rattle.gm_shelf.specs.FaultShelves.{inner_of, passing_of, failures_of};
+    ghost use Rattle.gm_shelf.specs.FaultShelves.{inner_of, turn_of, failures_of};
+    ghost use Rattle.gm_shelf.specs.Turns.{AreTurns};
 
     /// Every read, write and sync from the nth on, counted from 1, fails before it acts.
     /// An nth of 0 is as one of 1.
     pub fn stop_from(inner: H, nth: u64) -> FaultShelf<H>
         ensures inner { inner_of result ≡ inner }
-        ensures passing { passing_of result ≡ nth - 1 }
+        ensures turns { AreTurns nth
+            Turn.FailsBeforeActing Turn.FailsBeforeActing (turn_of result) }
         ensures failures { failures_of result ≡ 0 }
     {
         FaultShelf {
             inner,
-            passing: nth.saturating_sub(1),
+            plan: Plan::at(nth, Turn::FailsBeforeActing, Turn::FailsBeforeActing),
             failures: 0,
         }
     }
@@ -40,12 +46,49 @@ impl<H: Shelf> FaultShelf<H> {
     /// device's. An nth of 0 is as one of 1.
     pub fn starve_from(inner: H, nth: u64) -> FaultShelf<H>
         ensures inner { inner_of result ≡ inner }
-        ensures passing { passing_of result ≡ nth - 1 }
+        ensures turns { AreTurns nth
+            Turn.FailsBeforeActing Turn.FailsBeforeActing (turn_of result) }
         ensures failures { failures_of result ≡ last_count }
     {
         FaultShelf {
             failures: u64::MAX,
             ..FaultShelf::stop_from(inner, nth)
+        }
+    }
+
+    /// The nth read, write or sync, counted from 1, acts, and then fails; every later one fails
+    /// before it acts. An nth of 0 is as one of 1. Where the wrapped shelf itself fails the nth,
+    /// that is its answer, and isn't counted again.
+    pub fn stop_after(inner: H, nth: u64) -> FaultShelf<H>
+        ensures inner { inner_of result ≡ inner }
+        ensures turns { AreTurns nth Turn.ActsAndFails Turn.FailsBeforeActing (turn_of result) }
+        ensures failures { failures_of result ≡ 0 }
+    {
+        FaultShelf {
+            inner,
+            plan: Plan::at(nth, Turn::ActsAndFails, Turn::FailsBeforeActing),
+            failures: 0,
+        }
+    }
+
+    /// The nth read, write or sync alone fails, counted from 1: after it acted or before, as
+    /// `acted` says. All others pass. An nth of 0 is as one of 1. Where the wrapped shelf itself
+    /// fails an nth that acts, that is its answer, and isn't counted again.
+    pub fn fail_once(inner: H, nth: u64, acted: bool) -> FaultShelf<H>
+        ensures inner { inner_of result ≡ inner }
+        ensures turns { let turn = (if acted then Turn.ActsAndFails else Turn.FailsBeforeActing) in
+            AreTurns nth turn Turn.Passes (turn_of result) }
+        ensures failures { failures_of result ≡ 0 }
+    {
+        let turn = if acted {
+            Turn::ActsAndFails
+        } else {
+            Turn::FailsBeforeActing
+        };
+        FaultShelf {
+            inner,
+            plan: Plan::at(nth, turn, Turn::Passes),
+            failures: 0,
         }
     }
 
@@ -55,25 +98,15 @@ impl<H: Shelf> FaultShelf<H> {
     {
         let FaultShelf {
             inner,
-            passing: _,
+            plan: _,
             failures: _,
         } = self;
         inner
     }
 }
 
-// Whether one more call passes.
-fn passes(passing: &mut u64) -> bool
-    ensures test { IsTrue result ↔ (0 < passing.old) }
-    ensures counts { passing.new ≡ passing.old - 1 }
-{
-    let some = *passing > 0;
-    *passing = passing.saturating_sub(1);
-    some
-}
-
 impl<H: Shelf> Shelf for FaultShelf<H> {
-    ghost use Rattle.gm_shelf.specs.FaultShelves.{PassesOrStops};
+    ghost use Rattle.gm_shelf.specs.FaultShelves.{TakesTurn};
 
     ghost honest = { λ s. H.honest s.inner };
 
@@ -82,15 +115,15 @@ impl<H: Shelf> Shelf for FaultShelf<H> {
     ghost size = { λ s. H.size s.inner };
 
     ghost read_gives = { λ s p i answer out t.
-        PassesOrStops (H.read_gives s.inner p i answer out t.inner)
+        TakesTurn (λ given. H.read_gives s.inner p i given out t.inner)
         (IsSomeAnd (H.size s.inner p) (λ n. i < n)) answer s t };
 
     ghost write_gives = { λ s p i sector answer t.
-        PassesOrStops (H.write_gives s.inner p i sector answer t.inner)
+        TakesTurn (λ given. H.write_gives s.inner p i sector given t.inner)
         (IsSomeAnd (H.size s.inner p) (λ n. i < n)) answer s t };
 
     ghost sync_gives = { λ s p answer t.
-        PassesOrStops (H.sync_gives s.inner p answer t.inner)
+        TakesTurn (λ given. H.sync_gives s.inner p given t.inner)
         (IsSome (H.size s.inner p)) answer s t };
 
     ghost lawful = { λ s h. lawful_with _ _ (H.lawful s.inner h) };
@@ -104,29 +137,29 @@ impl<H: Shelf> Shelf for FaultShelf<H> {
     }
 
     fn read(&mut self, provider: Label, place: u64, out: &mut [u8; 512]) -> Result<(), ShelfFault> {
-        if passes(&mut self.passing) {
-            self.inner.read(provider, place, out)?;
-            return Ok(());
+        let turn = self.plan.take_turn();
+        match turn {
+            Turn::FailsBeforeActing => check_place(self.inner.sectors(provider), place)?,
+            Turn::Passes | Turn::ActsAndFails => self.inner.read(provider, place, out)?,
         }
-        check_place(self.inner.sectors(provider), place)?;
-        Err(device_failed(&mut self.failures))
+        turn.answer(&mut self.failures)
     }
 
     fn write(&mut self, provider: Label, place: u64, sector: &[u8; 512]) -> Result<(), ShelfFault> {
-        if passes(&mut self.passing) {
-            self.inner.write(provider, place, sector)?;
-            return Ok(());
+        let turn = self.plan.take_turn();
+        match turn {
+            Turn::FailsBeforeActing => check_place(self.inner.sectors(provider), place)?,
+            Turn::Passes | Turn::ActsAndFails => self.inner.write(provider, place, sector)?,
         }
-        check_place(self.inner.sectors(provider), place)?;
-        Err(device_failed(&mut self.failures))
+        turn.answer(&mut self.failures)
     }
 
     fn sync(&mut self, provider: Label) -> Result<(), ShelfFault> {
-        if passes(&mut self.passing) {
-            self.inner.sync(provider)?;
-            return Ok(());
+        let turn = self.plan.take_turn();
+        match turn {
+            Turn::FailsBeforeActing => check_provider(self.inner.sectors(provider))?,
+            Turn::Passes | Turn::ActsAndFails => self.inner.sync(provider)?,
         }
-        check_provider(self.inner.sectors(provider))?;
-        Err(device_failed(&mut self.failures))
+        turn.answer(&mut self.failures)
     }
 }

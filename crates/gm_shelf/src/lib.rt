@@ -6,7 +6,8 @@
 //! Three shelves keep to the law: `file_shelf.rt` is a folder of image files, of whose contents
 //! nothing is claimed (`folder_images.rt` lists them, `open_files.rt` opens them, and `file_id.rt`
 //! tells which file a file is); `mem_shelf.rt` is a disk in memory, of which `crash_image.rt` makes
-//! the images that a crash may leave; and `fault_shelf.rt` makes the calls of another shelf fail.
+//! the images that a crash may leave; and `fault_shelf.rt` makes calls of another shelf fail, those
+//! that `turns.rt` says.
 #![tactic(auto)]
 
 mod contents;
@@ -22,6 +23,7 @@ mod mem_shelf;
 mod open_files;
 mod provider_names;
 mod shelf;
+mod turns;
 
 pub use fault::ShelfFault;
 pub use fault_shelf::FaultShelf;
