@@ -1,6 +1,7 @@
-//! `files.rt` tries the shelf over files, `memory.rt` the one in memory and the one that stops,
-//! `faults.rt` the texts.
+//! `files.rt` tries the shelf over files, `memory.rt` the one in memory, `failing.rt` the one whose
+//! calls fail, and `faults.rt` the texts.
 
+mod failing;
 mod faults;
 mod files;
 mod memory;
