@@ -17,7 +17,6 @@ use gm_metadata::Label;
 use std::alloc::AllocError;
 use std::fs::File;
 use std::io::{self, ErrorKind};
-use std::os::unix::fs::FileExt;
 use std::rt::Files;
 
 /// The images of a folder, each file's bytes 512 to a sector. Nothing is claimed of what a file
@@ -151,9 +150,7 @@ impl<R: Files<File = File> + AllocGlobal + Clone + Drop> Shelf for FileShelf<R> 
     fn read(&mut self, provider: Label, place: u64, out: &mut [u8; 512]) -> Result<(), ShelfFault> {
         let image = image_in(&self.images, provider)?;
         let at = offset_in(image.length, place)?;
-        let done = self
-            .files
-            .with(provider, image, |file| file.read_exact_at(out, at));
+        let done = self.files.with(provider, image, |file| file.read(out, at));
         outcome(done, &mut self.failures)?;
         Ok(())
     }
@@ -163,7 +160,7 @@ impl<R: Files<File = File> + AllocGlobal + Clone + Drop> Shelf for FileShelf<R> 
         let at = offset_in(image.length, place)?;
         let done = self
             .files
-            .with(provider, image, |file| file.write_all_at(sector, at));
+            .with(provider, image, |file| file.write(sector, at));
         outcome(done, &mut self.failures)?;
         Ok(())
     }
@@ -181,7 +178,7 @@ impl<R: Files<File = File> + AllocGlobal + Clone + Drop> Shelf for FileShelf<R> 
             return Ok(());
         }
         let done = self.files.with(provider, image, |file| {
-            file.read_exact_at(out.as_flattened_mut(), at)
+            file.read(out.as_flattened_mut(), at)
         });
         outcome(done, &mut self.failures)?;
         Ok(())
@@ -200,7 +197,7 @@ impl<R: Files<File = File> + AllocGlobal + Clone + Drop> Shelf for FileShelf<R> 
             return Ok(());
         }
         let done = self.files.with(provider, image, |file| {
-            file.write_all_at(sectors.as_flattened(), at)
+            file.write(sectors.as_flattened(), at)
         });
         outcome(done, &mut self.failures)?;
         Ok(())
@@ -208,7 +205,7 @@ impl<R: Files<File = File> + AllocGlobal + Clone + Drop> Shelf for FileShelf<R> 
 
     fn sync(&mut self, provider: Label) -> Result<(), ShelfFault> {
         let image = image_in(&self.images, provider)?;
-        let done = self.files.sync(provider, image);
+        let done = self.files.with(provider, image, |file| file.sync());
         outcome(done, &mut self.failures)?;
         Ok(())
     }

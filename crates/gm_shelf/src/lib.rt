@@ -4,10 +4,11 @@
 //! Begin with `shelf.rt`, the trait `Shelf` and its law; `fault.rt` has the four faults and when
 //! each comes. `last_sector.rt` writes a last sector so that it is old or new at every moment.
 //! Three shelves keep to the law: `file_shelf.rt` is a folder of image files, of whose contents
-//! nothing is claimed (`folder_images.rt` lists them, `open_files.rt` opens them, and `file_id.rt`
-//! tells which file a file is); `mem_shelf.rt` is a disk in memory, of which `crash_image.rt` makes
-//! the images that a crash may leave; and `fault_shelf.rt` makes calls of another shelf fail, those
-//! that `turns.rt` says.
+//! nothing is claimed (`folder_images.rt` lists them, `open_files.rt` opens them,
+//! `whole_transfers.rt` reads and writes them within `size_limit.rt`, and `file_id.rt` tells which
+//! file a file is); `mem_shelf.rt` is a disk in memory, of which `crash_image.rt` makes the images
+//! that a crash may leave; and `fault_shelf.rt` makes the calls of another shelf fail, in the order
+//! that `turns.rt` tells.
 #![tactic(auto)]
 
 mod contents;
@@ -23,7 +24,9 @@ mod mem_shelf;
 mod open_files;
 mod provider_names;
 mod shelf;
+mod size_limit;
 mod turns;
+mod whole_transfers;
 
 pub use fault::ShelfFault;
 pub use fault_shelf::FaultShelf;

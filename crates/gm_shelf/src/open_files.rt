@@ -5,15 +5,17 @@ ghost use Rattle.std.specs.String.{string_bytes};
 
 use crate::file_id::FileId;
 use crate::folder_images::ImageFile;
+use crate::size_limit::check_size;
+use crate::whole_transfers::{read_whole, sync_whole, write_whole};
 use gm_metadata::Label;
 use std::collections::BTreeMap;
 use std::fs::{self, File, Metadata, OpenOptions};
 use std::io::{self, ErrorKind};
-use std::os::unix::fs::MetadataExt;
 use std::rt::Files;
 
-/// How many files of its folder a `FileShelf` keeps open at once.
-pub const OPEN_FILES: usize = 256;
+/// How many files of its folder a `FileShelf` keeps open at once. With what else a program holds
+/// that is well below 64, which is little for a system to allow.
+pub const OPEN_FILES: usize = 32;
 
 /// What images are opened for.
 #[derive(Clone, Copy, Debug, PartialEq, Eq)]
@@ -24,27 +26,49 @@ pub(crate) enum Access {
     Writing,
 }
 
+/// A file that is open.
+#[derive(Drop)]
+pub(crate) struct OpenFile {
+    file: File,
+    // Whether it was written since its last sync.
+    is_unsynced: bool,
+}
+
+impl OpenFile {
+    /// Fills all of this from the file, from this offset on.
+    pub(crate) fn read(&self, out: &mut [u8], offset: u64) -> io::Result<()> {
+        read_whole(&self.file, out, offset)
+    }
+
+    /// Writes all of these bytes to the file, from this offset on. A write for which the system
+    /// would end the process isn't begun.
+    pub(crate) fn write(&mut self, bytes: &[u8], offset: u64) -> io::Result<()> {
+        check_size(offset.saturating_add(bytes.len() as u64))?;
+        self.is_unsynced = true;
+        write_whole(&self.file, bytes, offset)
+    }
+
+    /// Writes through what the file holds.
+    pub(crate) fn sync(&mut self) -> io::Result<()> {
+        sync_whole(&self.file)?;
+        self.is_unsynced = false;
+        Ok(())
+    }
+}
+
 /// The files of a folder that are open.
 #[derive(Drop)]
 pub(crate) struct OpenFiles<R: Files<File = File> + AllocGlobal + Clone + Drop> {
     pub(crate) rt: R,
     pub(crate) folder: String,
     access: Access,
-    opened: BTreeMap<Label, File>,
+    opened: BTreeMap<Label, OpenFile>,
 }
 
-// A file that has another one in its place is gone.
-fn check_file(found: &Metadata, image: ImageFile) -> io::Result<()> {
-    if !found.is_file() || FileId::of(found) != image.file {
-        return Err(io::Error::from(ErrorKind::NotFound));
-    }
-    Ok(())
-}
-
-// A file that lost its name, or is shorter than it was, is no image any more.
-fn check_image(file: &File, image: ImageFile) -> io::Result<()> {
-    let found = file.metadata()?;
-    if found.nlink() == 0 || found.len() < image.length {
+// A file that has another one in its place is gone, and one that is shorter than it was is no image
+// any more.
+fn check_image(found: &Metadata, image: ImageFile) -> io::Result<()> {
+    if !found.is_file() || FileId::of(found) != image.file || found.len() < image.length {
         return Err(io::Error::from(ErrorKind::NotFound));
     }
     Ok(())
@@ -63,23 +87,61 @@ impl<R: Files<File = File> + AllocGlobal + Clone + Drop> OpenFiles<R> {
         })
     }
 
-    // The file is looked at before it is opened, since to open what isn't one may wait for ever,
-    // and again once it is open, since it may have changed its place meanwhile.
-    fn open(&self, name: Label, image: ImageFile) -> io::Result<File> {
+    fn path_of(&self, name: Label) -> io::Result<String> {
         let folder = self.folder.as_str();
-        let path = format!(in self.rt.alloc(); "{folder}/{name}")?;
-        check_file(&fs::symlink_metadata(&self.rt, path.as_str())?, image)?;
+        Ok(format!(in self.rt.alloc(); "{folder}/{name}")?)
+    }
+
+    // Looks at what stands under the name of an image, without following a link.
+    fn look(&self, name: Label, image: ImageFile) -> io::Result<()> {
+        let path = self.path_of(name)?;
+        check_image(&fs::symlink_metadata(&self.rt, path.as_str())?, image)
+    }
+
+    // Opens what was looked at. It is looked at again once it is open, since it may have changed
+    // its place meanwhile, and so is its name, which may be that of a link by now.
+    fn open(&self, name: Label, image: ImageFile) -> io::Result<OpenFile> {
+        let path = self.path_of(name)?;
         let file = OpenOptions::new()
             .read(true)
             .write(self.access == Access::Writing)
             .open(&self.rt, path.as_str())?;
-        check_file(&file.metadata()?, image)?;
-        Ok(file)
+        check_image(&file.metadata()?, image)?;
+        self.look(name, image)?;
+        Ok(OpenFile {
+            file,
+            is_unsynced: false,
+        })
     }
 
-    /// Acts on the file of an image, which is opened at its first use and kept, until a look finds
-    /// that it is none any more. Where too many are open, another one is closed.
-    pub(crate) fn with<F: FnOnce(&File) -> io::Result<()>>(
+    // The name of an open file that holds nothing to be synced.
+    fn synced(&self) -> Option<Label> {
+        let mut synced = self.opened.iter().filter(|(_, open)| !open.is_unsynced);
+        synced.next().map(|(name, _)| *name)
+    }
+
+    // Where as many are open as may be, closes one: rather one that holds nothing to be synced,
+    // since an error in writing it through would be told to nobody behind that.
+    fn make_room(&mut self) -> io::Result<()>
+        ensures { self.new.folder ≡ self.old.folder }
+    {
+        if self.opened.len() < OPEN_FILES {
+            return Ok(());
+        }
+        if let Some(name) = self.synced() {
+            self.opened.remove(&name);
+            return Ok(());
+        }
+        match self.opened.pop_first() {
+            Some((_, mut first)) => first.sync(),
+            None => Ok(()),
+        }
+    }
+
+    /// Acts on the file of an image, which is opened at its first use and kept. Each time its name
+    /// is looked at before: where the image isn't there, or something else is in its place, nothing
+    /// is done. Where too many are open, another one is closed.
+    pub(crate) fn with<F: FnOnce(&mut OpenFile) -> io::Result<()>>(
         &mut self,
         name: Label,
         image: ImageFile,
@@ -88,30 +150,12 @@ impl<R: Files<File = File> + AllocGlobal + Clone + Drop> OpenFiles<R> {
         requires { F.IsAlwaysCallable act }
         ensures { self.new.folder ≡ self.old.folder }
     {
-        if let Some(file) = self.opened.get(&name) {
-            let looked = check_image(file, image);
-            if looked.is_ok() {
-                return act(file);
-            }
-            self.opened.remove(&name);
-            return looked;
+        self.look(name, image)?;
+        if let Some(file) = self.opened.get_mut(&name) {
+            return act(file);
         }
         let file = self.open(name, image)?;
-        check_image(&file, image)?;
-        if self.opened.len() >= OPEN_FILES {
-            let _ = self.opened.pop_first();
-        }
+        self.make_room()?;
         act(self.opened.entry(name)?.or_insert(file))
-    }
-
-    /// Writes through what the file of an image holds. One that is open was looked at when it was
-    /// written, and isn't looked at again.
-    pub(crate) fn sync(&mut self, name: Label, image: ImageFile) -> io::Result<()>
-        ensures { self.new.folder ≡ self.old.folder }
-    {
-        if let Some(file) = self.opened.get(&name) {
-            return file.sync_data();
-        }
-        self.with(name, image, |file| file.sync_data())
     }
 }

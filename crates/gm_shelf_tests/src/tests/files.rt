@@ -112,6 +112,7 @@ fn a_file_that_goes_is_a_device_that_fails(rt: HostRuntime) -> Result<(), Fail> 
     let mut shelf = FileShelf::open(&rt, folder.as_str())?;
     let mut sector = [0; 512];
     shelf.read(label("after")?, 1, &mut sector)?;
+    shelf.read(label("short")?, 1, &mut sector)?;
     fs::remove_file(&rt, path_in(&rt, &folder, "before")?.as_str())?;
     fs::remove_file(&rt, path_in(&rt, &folder, "after")?.as_str())?;
     put_file(&rt, &folder, "short", &[7; 512])?;
@@ -227,9 +228,6 @@ fn each_fault_is_told_as_what_it_is(rt: HostRuntime) -> Result<(), Fail> {
     assert_eq!(rt; answers_of(&mut shelf, a, 2), [range, range, Ok(())]);
     assert_eq!(rt; answers_of(&mut shelf, a, 1), [Ok(()), Ok(()), Ok(())]);
     fs::remove_file(&rt, path_in(&rt, &folder, "a.img")?.as_str())?;
-    // It is found to be gone where it is read or written; what was written to it can be synced
-    // until then.
-    assert_eq!(rt; answers_of(&mut shelf, a, 2), [range, range, Ok(())]);
     assert_eq!(rt; answers_of(&mut shelf, a, 1), [device, device, device]);
     assert_eq!(rt; answers_of(&mut shelf, a, 2), [range, range, device]);
     fs::remove_dir_all(&rt, folder.as_str())?;
@@ -270,31 +268,61 @@ fn an_entry_that_cant_be_looked_at_fails_the_opening(rt: HostRuntime) -> Result<
     Ok(())
 }
 
-// Another file and a link to the very file, put where the image was.
+// Moves a file within the folder.
+fn move_file(rt: &HostRuntime, folder: &String, from: &str, to: &str) -> io::Result<()> {
+    let (from, to) = (path_in(rt, folder, from)?, path_in(rt, folder, to)?);
+    fs::rename(rt, from.as_str(), to.as_str())
+}
+
+// It is used again once it is back.
+#[test]
+fn an_image_that_is_moved_away_is_neither_read_nor_written(rt: HostRuntime) -> Result<(), Fail> {
+    let folder = new_folder(&rt, "moved")?;
+    put_file(&rt, &folder, "a.img", &[7; 1024])?;
+    let a = label("a.img")?;
+    let mut shelf = FileShelf::open(&rt, folder.as_str())?;
+    shelf.write(a, 0, &[8; 512])?;
+    move_file(&rt, &folder, "a.img", "elsewhere")?;
+    fails_at(&rt, &mut shelf, a);
+    assert!(rt; holds(&rt, &folder, "elsewhere", 1, &[7; 512])?);
+    assert!(rt; fs::metadata(&rt, path_in(&rt, &folder, "a.img")?.as_str()).is_err());
+    move_file(&rt, &folder, "elsewhere", "a.img")?;
+    assert_eq!(rt; answers_of(&mut shelf, a, 1), [Ok(()), Ok(()), Ok(())]);
+    fs::remove_dir_all(&rt, folder.as_str())?;
+    Ok(())
+}
+
+// Another file, a link to the very file and a folder, put where images were that weren't open yet
+// (0) and that were (1).
 #[test]
 fn what_takes_the_place_of_an_image_is_none(rt: HostRuntime) -> Result<(), Fail> {
     let folder = new_folder(&rt, "place")?;
-    for name in ["other", "link", "folder"] {
+    let names = ["other0", "link0", "folder0", "other1", "link1", "folder1"];
+    for name in names {
         put_file(&rt, &folder, name, &[7; 1024])?;
     }
     let mut shelf = FileShelf::open(&rt, folder.as_str())?;
-    for name in ["other", "link", "folder"] {
+    for name in names {
+        if name.ends_with("1") {
+            shelf.write(label(name)?, 0, &[7; 512])?;
+        }
         let away = format!(in rt.alloc(); "{name} away")?;
-        let (from, to) = (
-            path_in(&rt, &folder, name)?,
-            path_in(&rt, &folder, away.as_str())?,
-        );
-        fs::rename(&rt, from.as_str(), to.as_str())?;
+        move_file(&rt, &folder, name, away.as_str())?;
+        if name.starts_with("other") {
+            put_file(&rt, &folder, name, &[8; 1024])?;
+        } else if name.starts_with("link") {
+            symlink(&rt, away.as_str(), path_in(&rt, &folder, name)?.as_str())?;
+        } else {
+            fs::create_dir(&rt, path_in(&rt, &folder, name)?.as_str())?;
+        }
     }
-    put_file(&rt, &folder, "other", &[8; 1024])?;
-    symlink(&rt, "link away", path_in(&rt, &folder, "link")?.as_str())?;
-    fs::create_dir(&rt, path_in(&rt, &folder, "folder")?.as_str())?;
-    for name in ["other", "link", "folder"] {
+    for name in names {
+        let away = format!(in rt.alloc(); "{name} away")?;
         fails_at(&rt, &mut shelf, label(name)?);
+        assert!(rt; holds(&rt, &folder, away.as_str(), 1, &[7; 512])?);
     }
-    assert!(rt; holds(&rt, &folder, "other", 1, &[8; 512])?);
-    for name in ["other away", "link away", "folder away"] {
-        assert!(rt; holds(&rt, &folder, name, 1, &[7; 512])?);
+    for name in ["other0", "other1"] {
+        assert!(rt; holds(&rt, &folder, name, 1, &[8; 512])?);
     }
     fs::remove_dir_all(&rt, folder.as_str())?;
     Ok(())
