@@ -65,10 +65,10 @@ pub(crate) struct OpenFiles<R: Files<File = File> + AllocGlobal + Clone + Drop> 
     opened: BTreeMap<Label, OpenFile>,
 }
 
-// A file that has another one in its place is gone, and one that is shorter than it was is no image
-// any more.
+// A file that has another one in its place is gone, and one whose length changed is no image any
+// more: its last sector is another one.
 fn check_image(found: &Metadata, image: ImageFile) -> io::Result<()> {
-    if !found.is_file() || FileId::of(found) != image.file || found.len() < image.length {
+    if !found.is_file() || FileId::of(found) != image.file || found.len() != image.length {
         return Err(io::Error::from(ErrorKind::NotFound));
     }
     Ok(())

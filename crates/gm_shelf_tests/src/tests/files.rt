@@ -106,7 +106,7 @@ fn fails_at(rt: &impl Abort, shelf: &mut FileShelf<HostRuntime>, name: Label) {
 #[test]
 fn a_file_that_goes_is_a_device_that_fails(rt: HostRuntime) -> Result<(), Fail> {
     let folder = new_folder(&rt, "goes")?;
-    for name in ["before", "after", "short"] {
+    for name in ["before", "after", "short", "long"] {
         put_file(&rt, &folder, name, &[7; 1024])?;
     }
     let mut shelf = FileShelf::open(&rt, folder.as_str())?;
@@ -116,11 +116,13 @@ fn a_file_that_goes_is_a_device_that_fails(rt: HostRuntime) -> Result<(), Fail> 
     fs::remove_file(&rt, path_in(&rt, &folder, "before")?.as_str())?;
     fs::remove_file(&rt, path_in(&rt, &folder, "after")?.as_str())?;
     put_file(&rt, &folder, "short", &[7; 512])?;
-    for name in ["before", "after", "short"] {
+    put_file(&rt, &folder, "long", &[7; 1536])?;
+    for name in ["before", "after", "short", "long"] {
         fails_at(&rt, &mut shelf, label(name)?);
     }
     assert!(rt; holds(&rt, &folder, "short", 0, &[7; 512])?);
     assert!(rt; !holds(&rt, &folder, "short", 1, &[7; 512])?);
+    assert!(rt; holds(&rt, &folder, "long", 1, &[7; 512])?);
     for name in ["before", "after"] {
         assert!(rt; fs::metadata(&rt, path_in(&rt, &folder, name)?.as_str()).is_err());
     }
