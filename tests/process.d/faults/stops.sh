@@ -40,6 +40,18 @@ expect 'a recovery behind it' 0 'recovered 2' ''
 at_bench batch <"$work/lines"
 expect 'the same batch behind that' 0 "$(lines 'k1 repeated 1\nk2 repeated 2\nk3 ok 3')" ''
 
+# The same where the system would end the process for such a write: it isn't begun.
+fresh_bench limited
+dd if=/dev/zero of="$bench/images/b.img" bs=512 count=1 seek=32767 2>/dev/null
+(
+    ulimit -f 8192
+    exec timeout 20 "$gmbench" batch --registry "$registry" --shelf "$bench/images" <"$work/lines"
+) >"$work/output" 2>"$work/complaints"
+status=$?
+expect 'a batch with a limit of the length of files' 3 "$(lines 'k1 ok 1\nk2 fault 3')" 'gmbench: F3 disk'
+at_bench recover
+expect 'a recovery without that limit' 0 'recovered 2' ''
+
 # Here b.img can't even be opened to be looked at, so that its insertion isn't accepted.
 fresh_bench forbidden
 if has_another_user; then
