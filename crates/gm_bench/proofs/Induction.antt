@@ -135,7 +135,7 @@ step_present u w key c r step = λ i q. if step.there q i then step.sizes q i el
 abbrev with_there : World → (List ℕ → Bool) → World
 with_there w there = record w { there = there }
 
-stays : (w : World) → IsButMoved w w
+pub stays : (w : World) → IsButMoved w w
 stays w = record { state = refl; holds = refl; answered = refl; shelf = refl; size = refl }
 
 moved_on : (u w : World) (there : List ℕ → Bool) → IsButMoved w u
@@ -295,7 +295,7 @@ module _ {S H : Type 0} (g : Ghosts S) (view : H → View) (size : H → Sizes) 
       ])
 
   -- what a stop within a call leaves, where each pair leads to w
-  stopped : (r s : Held S) (h k : H) (db : Trees) (l : H) (away : Image) (u w : World)
+  pub stopped : (r s : Held S) (h k : H) (db : Trees) (l : H) (away : Image) (u w : World)
       (acc ack : List Entry) → Reached all acc w → IsButMoved u w ⊎ ArePending all acc u w
       → present w ≡ size h → Within ack acc → LeavesOnly g view size r s h k away u w
       → IsStop g view size r s h k db l

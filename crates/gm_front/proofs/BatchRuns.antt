@@ -7,25 +7,27 @@ use Rattle.gm_shelf.specs.Disk.{View}
 use Rattle.gm_state.specs.World.{World}
 use Rattle.gm_rules.specs.AbstractCalls as run
 use Rattle.gm_rules.specs.Step.{Step}
+use Rattle.gm_bench.specs.Owed.{LeavesRun}
 use Rattle.gm_bench.specs.Schedule.{Entry, Handed_in, Within, none, skips, keeps, Reached, AtRest}
 use Rattle.gm_bench.proofs.Induction.{one_step, run_stopped}
 use Rattle.gm_front.specs.declared.answer_lines.BatchEnd.{BatchEnd}
 use Rattle.gm_front.specs.declared.answer_lines.BatchEnd.TheVariants as end
 use Rattle.gm_front.specs.declared.answer_lines.FrontFault.{FrontFault}
 use Rattle.gm_front.specs.Batch.{Replies, Answers, AreAnswered, Stops, Batches}
-use Rattle.gm_front.specs.BatchRuns.{with_asked, calls_of, with_calls, IsAtRestBehind, StopsAtLine, BatchLeaves}
+use Rattle.gm_front.specs.BatchRuns.{with_asked, calls_of, StopsAtLine, BatchLeaves}
+use Rattle.gm_front.specs.HandedIn.{with_calls, IsAtRestBehind, IsStoppedAt}
 use Rattle.gm_front.specs.Request.{Asked, Nothing, Wrong, Call, asked}
 
 module _ (all : Sizes) where
   -- some of these calls lead to the world w, accepted and acknowledged
-  record Leads (asks : List run.Call) (acc ack : List Entry) (w : World) : Type 0 where
-    calls : List run.Call
-    among : Within calls asks
-    reached : Reached all (with_calls calls acc) w
-    told : Within (with_calls calls ack) (with_calls calls acc)
+  pub record Leads (asks : List run.Call) (acc ack : List Entry) (w : World) : Type 0 where
+    pub calls : List run.Call
+    pub among : Within calls asks
+    pub reached : Reached all (with_calls calls acc) w
+    pub told : Within (with_calls calls ack) (with_calls calls acc)
 
   -- a call, and then what leads on from where it leads
-  one_call : (call : run.Call) (answer : run.Answer) (asks : List run.Call) (u v w : World)
+  pub one_call : (call : run.Call) (answer : run.Answer) (asks : List run.Call) (u v w : World)
       (acc ack : List Entry)
       → run.Calls u call v answer
       → ((more told : List Entry) → Reached all more v → Within told more → Leads asks more told w)
@@ -82,7 +84,7 @@ module _ (all : Sizes) where
         (text : List ℕ) (refused : Bool)
         → (rest : AtRest g view size all r h away acc ack)
         → AreAnswered g view size s k away rest.world lines text refused
-        → IsAtRestBehind g view size all lines s k away acc ack
+        → IsAtRestBehind g view size all (calls_of lines) s k away acc ack
     at_rest r s h k away acc ack lines text refused rest a =
         let l = all_lines lines rest.world a.world text refused acc ack a.answers rest.reached
         rest.told in
@@ -91,6 +93,17 @@ module _ (all : Sizes) where
           among = l.among;
           rest = record { world = a.world; reached = l.reached; at = a.at; told = l.told };
         }
+
+    -- a bench that was at rest failed at this call
+    pub stopped_at : (call : run.Call) (r s : Held S) (h k : H) (away : Image)
+        (acc ack : List Entry) → (rest : AtRest g view size all r h away acc ack)
+        → LeavesRun g view size r s h k away rest.world call.key call.command
+        → IsStoppedAt g view size all call r s h k away acc ack rest
+    stopped_at call r s h k away acc ack rest left = record {
+      left = left;
+      leads = λ db later after found stop. run_stopped g view size all call r s h k db later away
+          acc ack after rest found left stop;
+    }
 
     stops : (r s : Held S) (h k : H) (away : Image) (acc ack : List Entry) (input : Option (List ℕ))
         (Told : List ℕ → Type 0) (fault : _)
@@ -114,16 +127,11 @@ module _ (all : Sizes) where
           call = record { key = it.key; command = it.command };
           read = it.read;
           asks = it.asks;
-          stopped = record {
-            registry = it.registry;
-            shelf = it.shelf;
-            behind = record { calls = l.calls; among = l.among; rest = behind };
-            left = it.left;
-            leads = λ db later after left stop. run_stopped g view size all
-                (record { key = it.key; command = it.command }) it.registry s it.shelf k db later
-                away (with_calls l.calls acc) (with_calls l.calls ack) after behind left it.left
-                stop;
-          };
+          registry = it.registry;
+          shelf = it.shelf;
+          behind = record { calls = l.calls; among = l.among; rest = behind };
+          stopped = stopped_at (record { key = it.key; command = it.command }) it.registry s
+              it.shelf k away (with_calls l.calls acc) (with_calls l.calls ack) behind it.left;
         }
 
     pub batch_leaves : (r : Held S) (h : H) (away : Image) (acc ack : List Entry)

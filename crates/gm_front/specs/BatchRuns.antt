@@ -3,16 +3,15 @@
 use Rattle.std.specs.Prelude.{◌≡◌, ◌⊎◌, ℕ, List, [], ◌∷◌, ◌++◌, Option, Result, Ok, Err}
 use Rattle.sqlite_trees.specs.declared.store.Store.{Ghosts}
 use Rattle.sqlite.specs.Held.{Held}
-use Rattle.sqlite.specs.Tree.{Trees}
 use Rattle.gm_metadata.specs.Images.{Image, Sizes}
 use Rattle.gm_shelf.specs.Disk.{View}
 use Rattle.gm_rules.specs.AbstractCalls as run
-use Rattle.gm_bench.specs.Owed.{LeavesRun}
-use Rattle.gm_bench.specs.Schedule.{Entry, Handed_in, Within, IsLeftIn, IsRunStop, AtRest, Stopped}
+use Rattle.gm_bench.specs.Schedule.{Entry}
 use Rattle.gm_front.specs.declared.answer_lines.BatchEnd.{BatchEnd}
 use Rattle.gm_front.specs.declared.answer_lines.BatchEnd.TheVariants as end
 use Rattle.gm_front.specs.declared.answer_lines.FrontFault.{FrontFault}
 use Rattle.gm_front.specs.Batch.{AreLines, AreFirst}
+use Rattle.gm_front.specs.HandedIn.{with_calls, IsAtRestBehind, IsStoppedAt}
 use Rattle.gm_front.specs.Request.{Asked, Nothing, Wrong, Call, asked}
 
 -- what a line asks for, and then these calls
@@ -26,33 +25,8 @@ abbrev pub calls_of : List (List ℕ) → List run.Call
 calls_of [] = []
 calls_of (line ∷ lines) = with_asked (asked line) (calls_of lines)
 
--- entries, the newest first, behind which these calls were handed in one after another
-abbrev pub with_calls : List run.Call → List Entry → List Entry
-with_calls [] entries = entries
-with_calls (call ∷ calls) entries = with_calls calls (Handed_in call ∷ entries)
-
 module _ {S H : Type 0} (g : Ghosts S) (view : H → View) (size : H → Sizes) (all : Sizes) where
-  -- Some calls of the lines are done, and the bench is at rest behind them.
-  pub record IsAtRestBehind (lines : List (List ℕ)) (s : Held S) (k : H) (away : Image)
-      (acc ack : List Entry) : Type 0 where
-    pub calls : List run.Call
-    pub among : Within calls (calls_of lines)
-    pub rest : AtRest g view size all s k away (with_calls calls acc) (with_calls calls ack)
-
-  -- Behind those of the lines the bench failed at one more call: whatever a stop leaves leads on,
-  -- with that call or without.
-  pub record IsStoppedBehind (lines : List (List ℕ)) (call : run.Call) (s : Held S) (k : H)
-      (away : Image) (acc ack : List Entry) : Type 0 where
-    pub registry : Held S
-    pub shelf : H
-    pub behind : IsAtRestBehind lines registry shelf away acc ack
-    pub left : LeavesRun g view size registry s shelf k away behind.rest.world call.key call.command
-    pub leads : (db : Trees) (l : H) (after : List Entry)
-        → IsLeftIn db (Handed_in call) (with_calls behind.calls acc) after
-        → IsRunStop g view size registry s shelf k away behind.rest.world call left db l
-        → Stopped g view size all db l away after (with_calls behind.calls ack)
-
-  -- the bench failed at the call of some line
+  -- The bench failed at the call of some line, behind those of the lines before it.
   pub record StopsAtLine (input : Option (List ℕ)) (s : Held S) (k : H) (away : Image)
       (acc ack : List Entry) : Type 0 where
     pub lines : List (List ℕ)
@@ -60,14 +34,19 @@ module _ {S H : Type 0} (g : Ghosts S) (view : H → View) (size : H → Sizes) 
     pub call : run.Call
     pub read : AreFirst input (lines ++ line ∷ [])
     pub asks : asked line ≡ Call call.key call.command
-    pub stopped : IsStoppedBehind lines call s k away acc ack
+    pub registry : Held S
+    pub shelf : H
+    pub behind : IsAtRestBehind g view size all (calls_of lines) registry shelf away acc ack
+    pub stopped : IsStoppedAt g view size all call registry s shelf k away
+        (with_calls behind.calls acc) (with_calls behind.calls ack) behind.rest
 
   -- what a batch leaves of a bench that was at rest behind these entries
   abbrev pub BatchLeaves : Option (List ℕ) → Held S → H → Image → List Entry → List Entry
       → Result BatchEnd FrontFault → Type 0
-  BatchLeaves input s k away acc ack (Ok (end.Ended refused)) =
-      (lines : List (List ℕ)) × AreLines input lines × IsAtRestBehind lines s k away acc ack
+  BatchLeaves input s k away acc ack (Ok (end.Ended refused)) = (lines : List (List ℕ))
+      × AreLines input lines × IsAtRestBehind g view size all (calls_of lines) s k away acc ack
   BatchLeaves input s k away acc ack (Ok (end.Stopped fault)) = StopsAtLine input s k away acc ack
   BatchLeaves input s k away acc ack (Err fault) =
-      ((lines : List (List ℕ)) × AreFirst input lines × IsAtRestBehind lines s k away acc ack)
+      ((lines : List (List ℕ)) × AreFirst input lines
+      × IsAtRestBehind g view size all (calls_of lines) s k away acc ack)
       ⊎ StopsAtLine input s k away acc ack

@@ -2,7 +2,9 @@ pub mod Batch
 pub mod BatchRuns
 pub mod Demands
 pub mod Findings
+pub mod HandedIn
 pub mod Input
 pub mod Outcomes
 pub mod Request
+pub mod ServedRuns
 pub mod Services

@@ -1,4 +1,4 @@
-//! What holds of every batch.
+//! What holds of every batch, and of every request that is served.
 
 ghost use Rattle.std.specs.Prelude.{ℕ, List, Option, Result};
 ghost use Rattle.sqlite.specs.Held.{Held};
@@ -8,6 +8,8 @@ ghost use Rattle.gm_front.specs.declared.answer_lines.BatchEnd.{BatchEnd};
 ghost use Rattle.gm_front.specs.declared.answer_lines.FrontFault.{FrontFault};
 ghost use Rattle.gm_front.specs.Batch.{Batches};
 ghost use Rattle.gm_front.specs.BatchRuns.{BatchLeaves};
+ghost use Rattle.gm_front.specs.ServedRuns.{ServedLeaves};
+ghost use Rattle.gm_front.specs.Services.{Serves};
 
 use gm_shelf::Shelf;
 use sqlite::Alter;
@@ -22,4 +24,16 @@ pub fn whole_batch_law<S: Alter, H: Shelf>()
         → (rest : AtRest S.Store H.view H.size all r h away acc ack)
         → Batches S.Store H.view H.size input before now s k away rest.world end
         → BatchLeaves S.Store H.view H.size all input s k away acc ack end }
+{}
+
+/// A request is a part of a schedule. A bench that is at rest behind accepted commands, as the law
+/// over schedules says, is so behind the request as well, with its command where that was done; and
+/// where the bench failed at what it demands, whatever a stop then leaves leads on, with that
+/// command or without.
+pub fn served_request_law<S: Alter, H: Shelf>()
+    ensures { (all : Sizes) (r s : Held S) (h k : H) (away : Image) (acc ack : List Entry)
+        (input before now : Option (List ℕ)) (end : Result ℕ FrontFault)
+        → (rest : AtRest S.Store H.view H.size all r h away acc ack)
+        → Serves S.Store H.view H.size input before now r s h k away rest.world end
+        → ServedLeaves S.Store H.view H.size all input r s h k away acc ack rest end }
 {}

@@ -7,7 +7,8 @@
 //!
 //! Of a request, which `gm_http` reads, `demand.rt` says what it demands of the bench, `finding.rt`
 //! what that comes to and what is told of it, and `service.rt` serves it; `specs/Demands.antt` says
-//! what is told in which world, and `specs/Services.antt` what serving one owes.
+//! what is told in which world, `specs/Services.antt` what serving one owes, and `laws.rt` that it
+//! too is a part of a schedule.
 //!
 //! The words of commands and the texts of mirrors are those of `gm_words`, and can be taken from
 //! here.
@@ -24,6 +25,6 @@ mod service;
 
 pub use answer_lines::{BatchEnd, FrontFault, batch};
 pub use gm_words::{WordsFault, dump_text, list_text, read_words, status_text};
-pub use laws::whole_batch_law;
+pub use laws::{served_request_law, whole_batch_law};
 pub use lines::{Line, next_line};
 pub use service::{Response, Served, serve_one, serve_request};

@@ -1,0 +1,114 @@
+-- A request as a part of a schedule.
+use Rattle.std.proofs.Common.{◌≡◌, inl, inr, ℕ, List, [], Option, Result, Ok, Err, sym, subst}
+use Rattle.std.specs.Io.KnownBytes.{Appends}
+use Rattle.sqlite_trees.specs.declared.store.Store.{Ghosts}
+use Rattle.sqlite.specs.Held.{Held}
+use Rattle.sqlite.specs.Tree.{Trees}
+use Rattle.gm_metadata.specs.Images.{Image, Sizes}
+use Rattle.gm_shelf.specs.Disk.{View}
+use Rattle.gm_state.specs.World.{World}
+use Rattle.gm_bench.specs.declared.fault.BenchFault.{BenchFault}
+use Rattle.gm_bench.specs.Recovering.{IsAt, LeavesOnly}
+use Rattle.gm_bench.specs.Schedule.{Entry, IsStop, none, AtRest, Stopped}
+use Rattle.gm_bench.proofs.Induction.{stays, stopped}
+use Rattle.gm_front.specs.declared.answer_lines.FrontFault.{FrontFault}
+use Rattle.gm_front.specs.declared.answer_lines.FrontFault.TheVariants.{Memory, Read, Write}
+use Rattle.gm_front.specs.Batch.{AppendsFront}
+use Rattle.gm_front.specs.Demands.{Demand, TurnedDown, AllMirrors, OneMirror, LastSector, NoCommand, Carry, Told, Responds, demand_of}
+use Rattle.gm_front.specs.Findings.{Fails}
+use Rattle.gm_front.specs.HandedIn.{IsAtRestBehind}
+use Rattle.gm_front.specs.ServedRuns.{calls_in, IsStoppedIn, IsServed, ServedLeaves}
+use Rattle.gm_front.specs.Services.{Serves, Tells}
+use Rattle.gm_front.proofs.BatchRuns.{one_call, stopped_at}
+
+module _ {S H : Type 0} (g : Ghosts S) (view : H → View) (size : H → Sizes) (all : Sizes)
+    (r s : Held S) (h k : H) (away : Image) (acc ack : List Entry)
+    (rest : AtRest g view size all r h away acc ack) where
+  -- the bench is at rest in the same world
+  stayed : (w : World) → w ≡ rest.world → IsAt g view size s k away [] w w
+      → IsAtRestBehind g view size all [] s k away acc ack
+  stayed w same at = record {
+    calls = [];
+    among = none;
+    rest = record {
+      world = rest.world;
+      reached = rest.reached;
+      at = subst (λ (v : World). IsAt g view size s k away [] v v) same at;
+      told = rest.told;
+    };
+  }
+
+  -- what was demanded is responded to, and the bench is at rest in the world that this leaves
+  rests : (d : Demand) (w : World) (told : Told) → Responds rest.world d w told
+      → IsAt g view size s k away [] w w
+      → IsAtRestBehind g view size all (calls_in d) s k away acc ack
+  rests (TurnedDown status message) w told responds at = stayed w responds.0 at
+  rests AllMirrors w told responds at = stayed w responds.0 at
+  rests (OneMirror name) w told responds at = stayed w responds.0 at
+  rests (LastSector provider) w told responds at = stayed w responds.0 at
+  rests NoCommand w told responds at = stayed w responds.0 at
+  rests (Carry key command) w told responds at =
+      let l = one_call all (record { key = key; command = command }) responds.0 [] rest.world w w
+      acc ack responds.1
+      (λ more told reached within. record {
+        calls = [];
+        among = none;
+        reached = reached;
+        told = within;
+      })
+      rest.reached rest.told in
+      record {
+        calls = l.calls;
+        among = l.among;
+        rest = record { world = w; reached = l.reached; at = at; told = l.told };
+      }
+
+  -- a look that failed, or was stopped
+  looked : LeavesOnly g view size r s h k away rest.world rest.world → (db : Trees) (l : H)
+      → IsStop g view size r s h k db l → Stopped g view size all db l away acc ack
+  looked left db l stop =
+      stopped g view size all r s h k db l away rest.world rest.world acc ack rest.reached
+      (inl (stays rest.world)) rest.at.sizes rest.told left stop
+
+  fails : (d : Demand) (fault : BenchFault) → Fails g view size r s h k away rest.world d fault
+      → IsStoppedIn g view size all d r s h k away acc ack rest
+  fails (TurnedDown status message) fault f = looked f.left
+  fails AllMirrors fault f = looked f.left
+  fails (OneMirror name) fault f = looked f.left
+  fails (LastSector provider) fault f = looked f.left
+  fails NoCommand fault f = looked f.left
+  fails (Carry key command) fault f =
+      stopped_at all g view size (record { key = key; command = command }) r s h k away acc ack rest
+      f.left
+
+  served : (input : Option (List ℕ)) (Wrote : List ℕ → Type 0) (IsCode : ℕ → Type 0)
+      → Tells g view size input Wrote r s h k away rest.world IsCode
+      → IsServed g view size all input r s h k away acc ack rest
+  served input Wrote IsCode (inl (told, code, it)) = record {
+    asked = it.asked;
+    asks = it.asks;
+    leaves = inl (rests (demand_of it.asked) it.found.world told it.found.responds it.found.at);
+  }
+  served input Wrote IsCode (inr (fault, code, it)) = record {
+    asked = it.asked;
+    asks = it.asks;
+    leaves = inr (fails (demand_of it.asked) fault it.failed);
+  }
+
+  -- nothing was put to the bench
+  untouched : s ≡ r → k ≡ h → AtRest g view size all s k away acc ack
+  untouched same there =
+      subst (λ (q : Held S). AtRest g view size all q k away acc ack) (sym same)
+      (subst (λ (q : H). AtRest g view size all r q away acc ack) (sym there) rest)
+
+  pub served_leaves : (input before now : Option (List ℕ)) (end : Result ℕ FrontFault)
+      → Serves g view size input before now r s h k away rest.world end
+      → ServedLeaves g view size all input r s h k away acc ack rest end
+  served_leaves input before now (Ok code) it =
+      served input (Appends before now) (λ n. code ≡ n) it
+  served_leaves input before now (Err Read) it = untouched it.0 it.1
+  served_leaves input before now (Err Memory) (inl it) = inl (untouched it.0 it.1)
+  served_leaves input before now (Err Memory) (inr it) =
+      inr (served input (AppendsFront before now) (λ n. Unit {0}) it)
+  served_leaves input before now (Err Write) it =
+      served input (AppendsFront before now) (λ n. Unit {0}) it
