@@ -8,9 +8,7 @@ use gm_apply::apply;
 use gm_metadata::{Balance, Label, MirrorFlags, decode, encode};
 use gm_shelf::{FaultShelf, MemShelf, Shelf, ShelfFault};
 use gm_state::{Component, Disk, Intent, Mirror, State, metadata};
-use std::alloc::Global;
 use std::process::Abort;
-use std::test::Fail;
 
 // The mirror's data: what the first byte of each sector is.
 const DATA: [u8; 2] = [7, 8];
@@ -19,13 +17,19 @@ const DATA: [u8; 2] = [7, 8];
 // sector and a sync, a write and a sync.
 const CALLS: u64 = 9;
 
-fn label(text: &str) -> Result<Label, Fail> {
-    Ok(Label::new(text).ok_or("no label")?)
+// What fails ends a test at once, here and below: so a proof has no way out of each call to go
+// through, on which all that is held would be let go.
+fn must(rt: &impl Abort, holds: bool, what: &str) {
+    assert!(rt; holds, "{what}");
 }
 
-fn mirror() -> Result<Mirror, Fail> {
-    Ok(Mirror {
-        name: label("gm0")?,
+fn label(rt: &impl Abort, text: &str) -> Label {
+    Label::new(text).expect(rt, "no label")
+}
+
+fn mirror(rt: &impl Abort) -> Mirror {
+    Mirror {
+        name: label(rt, "gm0"),
         mid: 7,
         all: 2,
         genid: 0,
@@ -37,182 +41,206 @@ fn mirror() -> Result<Mirror, Fail> {
             no_autosync: false,
             no_failsync: false,
         },
-    })
+    }
 }
 
-fn component(provider: &str, did: u32, disk: Disk) -> Result<Component, Fail> {
-    Ok(Component {
-        provider: label(provider)?,
-        mirror: label("gm0")?,
+fn component(rt: &impl Abort, provider: &str, did: u32, disk: Disk) -> Component {
+    Component {
+        provider: label(rt, provider),
+        mirror: label(rt, "gm0"),
         did,
         syncid: 1,
         priority: 0,
         disk,
         hardcoded: false,
         sectors: 3,
-    })
+    }
 }
 
 // The mirror of a and b as it is when b was filled.
-fn filled(alloc: Global) -> Result<State, Fail> {
-    let mirrors = vec![in alloc; mirror()?]?;
-    let components = vec![in alloc;
-        component("a", 1, Disk::InSync)?,
-        component("b", 2, Disk::InSync)?,
-    ]?;
-    Ok(State::new(mirrors, components).ok_or("a state")?)
+fn filled(rt: &(impl Abort + AllocGlobal)) -> State {
+    let components = [
+        component(rt, "a", 1, Disk::InSync),
+        component(rt, "b", 2, Disk::InSync),
+    ];
+    let mirrors = [mirror(rt)].to_vec(rt.alloc()).expect(rt, "no memory");
+    let components = components.to_vec(rt.alloc()).expect(rt, "no memory");
+    State::new(mirrors, components).expect(rt, "a state")
 }
 
-fn last_sector(provider: &str, did: u32, disk: Disk) -> Result<[u8; 512], Fail> {
-    Ok(encode(&metadata(&mirror()?, &component(provider, did, disk)?)))
+fn last_sector(rt: &impl Abort, provider: &str, did: u32, disk: Disk) -> [u8; 512] {
+    encode(&metadata(&mirror(rt), &component(rt, provider, did, disk)))
 }
 
-fn add(
-    rt: &impl Abort,
+fn add(rt: &impl Abort, shelf: &mut MemShelf, provider: &str, sectors: Vec<[u8; 512]>) {
+    let provider = label(rt, provider);
+    assert!(rt; shelf.sectors(provider).is_none());
+    must(rt, shelf.add(provider, sectors).is_ok(), "no memory");
+}
+
+fn add_copy(
+    rt: &(impl Abort + AllocGlobal),
     shelf: &mut MemShelf,
     provider: &str,
-    sectors: Vec<[u8; 512]>,
-) -> Result<(), Fail> {
-    let provider = label(provider)?;
-    assert!(rt; shelf.sectors(provider).is_none());
-    shelf.add(provider, sectors)?;
-    Ok(())
+    sectors: &[[u8; 512]],
+) {
+    let sectors = sectors.to_vec(rt.alloc()).expect(rt, "no memory");
+    add(rt, shelf, provider, sectors);
+}
+
+// Carries intents out, where that is to serve.
+fn applies<H: Shelf>(rt: &(impl Abort + AllocGlobal), shelf: &mut H, intents: &[Intent]) {
+    must(rt, try_apply(rt, shelf, intents).is_ok(), "not carried out");
+}
+
+// Carries them out over the mirror of a and b. It has no clause, so that a proof doesn't carry what
+// the call promises.
+fn try_apply<H: Shelf>(
+    rt: &(impl Abort + AllocGlobal),
+    shelf: &mut H,
+    intents: &[Intent],
+) -> Result<(), ShelfFault> {
+    apply(shelf, &filled(rt), intents)
 }
 
 // Of b nothing is copied yet.
-fn shelf_before(rt: &impl Abort, alloc: Global) -> Result<MemShelf, Fail> {
-    let mut shelf = MemShelf::new(alloc);
-    let a = last_sector("a", 1, Disk::InSync)?;
-    let b = last_sector(
-        "b",
-        2,
-        Disk::Copying {
-            forced: false,
-            held: 0,
-        },
-    )?;
-    let a = vec![in alloc; [DATA[0]; 512], [DATA[1]; 512], a]?;
-    let b = vec![in alloc; [0; 512], [0; 512], b]?;
-    add(rt, &mut shelf, "a", a)?;
-    add(rt, &mut shelf, "b", b)?;
-    Ok(shelf)
+fn shelf_before(rt: &(impl Abort + AllocGlobal)) -> MemShelf {
+    let mut shelf = MemShelf::new(rt.alloc());
+    let a = last_sector(rt, "a", 1, Disk::InSync);
+    let not_begun = Disk::Copying {
+        forced: false,
+        held: 0,
+    };
+    let b = last_sector(rt, "b", 2, not_begun);
+    add_copy(rt, &mut shelf, "a", &[[DATA[0]; 512], [DATA[1]; 512], a]);
+    add_copy(rt, &mut shelf, "b", &[[0; 512], [0; 512], b]);
+    shelf
 }
 
-fn copy_and_meta() -> Result<[Intent; 2], Fail> {
+fn copy_and_meta(rt: &impl Abort) -> [Intent; 2] {
+    let (source, target) = (label(rt, "a"), label(rt, "b"));
     let copy = Intent::Copy {
-        source: label("a")?,
-        target: label("b")?,
+        source,
+        target,
         first: 0,
         end: 2,
     };
-    let meta = Intent::Meta {
-        provider: label("b")?,
-    };
-    Ok([copy, meta])
+    [copy, Intent::Meta { provider: target }]
 }
 
-fn sector_of(shelf: &mut MemShelf, provider: &str, place: u64) -> Result<[u8; 512], Fail> {
+fn sector_of<H: Shelf>(rt: &impl Abort, shelf: &mut H, provider: &str, place: u64) -> [u8; 512] {
     let mut sector = [0; 512];
-    shelf.read(label(provider)?, place, &mut sector)?;
-    Ok(sector)
+    let read = shelf.read(label(rt, provider), place, &mut sector);
+    must(rt, read.is_ok(), "not read");
+    sector
 }
 
-// Each data sector that the provider's metadata claim holds the mirror's data.
-fn assert_claims(rt: &impl Abort, shelf: &mut MemShelf, provider: &str) -> Result<(), Fail> {
-    let metadata = decode(&sector_of(shelf, provider, 2)?)
-        .ok()
-        .ok_or("no metadata")?;
-    let claimed = if metadata.dflags.synchronizing {
+// A sector has this byte in each of its places.
+fn must_hold<H: Shelf>(rt: &impl Abort, shelf: &mut H, provider: &str, place: u64, byte: u8) {
+    let sector = sector_of(rt, shelf, provider, place);
+    must(rt, sector == [byte; 512], "another sector");
+}
+
+// How many data sectors the provider's metadata claim.
+fn claimed<H: Shelf>(rt: &impl Abort, shelf: &mut H, provider: &str) -> u64 {
+    let decoded = decode(&sector_of(rt, shelf, provider, 2)).ok();
+    let metadata = decoded.expect(rt, "no metadata");
+    if metadata.dflags.synchronizing {
         metadata.sync_offset / 512
     } else {
         2
-    };
+    }
+}
+
+// Each data sector that the provider's metadata claim holds the mirror's data.
+fn must_hold_claimed<H: Shelf>(rt: &impl Abort, shelf: &mut H, provider: &str) {
+    let claimed = claimed(rt, shelf, provider);
     for (place, byte) in DATA.iter().enumerate() {
         if (place as u64) < claimed {
-            assert_eq!(rt; sector_of(shelf, provider, place as u64)?, [*byte; 512]);
+            must_hold(rt, shelf, provider, place as u64, *byte);
         }
     }
-    Ok(())
 }
 
 // Both providers hold what they hold at the end.
-fn assert_filled(rt: &impl Abort, shelf: &mut MemShelf) -> Result<(), Fail> {
+fn must_be_filled<H: Shelf>(rt: &impl Abort, shelf: &mut H) {
     for (provider, did) in [("a", 1), ("b", 2)] {
         for (place, byte) in DATA.iter().enumerate() {
-            assert_eq!(rt; sector_of(shelf, provider, place as u64)?, [*byte; 512]);
+            must_hold(rt, shelf, provider, place as u64, *byte);
         }
-        let last = last_sector(provider, did, Disk::InSync)?;
-        assert_eq!(rt; sector_of(shelf, provider, 2)?, last);
+        let last = last_sector(rt, provider, did, Disk::InSync);
+        must(
+            rt,
+            sector_of(rt, shelf, provider, 2) == last,
+            "another last sector",
+        );
     }
-    Ok(())
 }
 
-// What stands after a run that was stopped at this call, and whether it ended.
-fn stopped_at(rt: &impl Abort, alloc: Global, nth: u64) -> Result<MemShelf, Fail> {
-    let mut stops = FaultShelf::stop_from(shelf_before(rt, alloc)?, nth);
-    let done = apply(&mut stops, &filled(alloc)?, &copy_and_meta()?);
+// What stands after a run that was stopped at this call.
+fn stopped_at(rt: &(impl Abort + AllocGlobal), nth: u64) -> MemShelf {
+    let mut stops = FaultShelf::stop_from(shelf_before(rt), nth);
+    let done = try_apply(rt, &mut stops, &copy_and_meta(rt));
     let wanted = if nth > CALLS {
         Ok(())
     } else {
         Err(ShelfFault::Device)
     };
-    assert_eq!(rt; done, wanted);
-    Ok(stops.into_inner())
+    must(rt, done == wanted, "another end");
+    stops.into_inner()
+}
+
+// Carries the copy and the metadata out to their end.
+fn fills<H: Shelf>(rt: &(impl Abort + AllocGlobal), shelf: &mut H) {
+    applies(rt, shelf, &copy_and_meta(rt));
+    must_be_filled(rt, shelf);
 }
 
 #[test]
-fn a_whole_run_fills_the_component(rt: HostRuntime) -> Result<(), Fail> {
-    let alloc = rt.alloc();
-    let mut shelf = shelf_before(&rt, alloc)?;
-    apply(&mut shelf, &filled(alloc)?, &copy_and_meta()?)?;
-    assert_filled(&rt, &mut shelf)
+fn a_whole_run_fills_the_component(rt: HostRuntime) {
+    fills(&rt, &mut shelf_before(&rt));
+}
+
+// An image claims what it holds, and leads on.
+fn claims_and_leads_on<H: Shelf>(rt: &(impl Abort + AllocGlobal), image: &mut H) {
+    must_hold_claimed(rt, image, "a");
+    must_hold_claimed(rt, image, "b");
+    fills(rt, image);
 }
 
 #[test]
-fn every_image_claims_what_it_holds_and_leads_on(rt: HostRuntime) -> Result<(), Fail> {
-    let alloc = rt.alloc();
+fn every_image_claims_what_it_holds_and_leads_on(rt: HostRuntime) {
     for nth in 1..CALLS + 2 {
-        let shelf = stopped_at(&rt, alloc, nth)?;
+        let shelf = stopped_at(&rt, nth);
         // At most two sectors are unsynced at any time, each written once.
         for picks in 0..4u32 {
             let pick = [picks & 1, picks >> 1 & 1];
-            let mut image = shelf.crash_image(&pick)?;
-            assert_claims(&rt, &mut image, "a")?;
-            assert_claims(&rt, &mut image, "b")?;
-            apply(&mut image, &filled(alloc)?, &copy_and_meta()?)?;
-            assert_filled(&rt, &mut image)?;
+            let image = shelf.crash_image(&pick);
+            claims_and_leads_on(&rt, &mut image.expect(&rt, "no memory"));
         }
     }
-    Ok(())
 }
 
 #[test]
-fn a_shelf_without_the_provider_or_its_sectors(rt: HostRuntime) -> Result<(), Fail> {
-    let alloc = rt.alloc();
-    let state = filled(alloc)?;
-    let provider = label("a")?;
-    let mut shelf = MemShelf::new(alloc);
-    let absent = apply(&mut shelf, &state, &[Intent::Meta { provider }]);
-    assert_eq!(rt; absent, Err(ShelfFault::Absent));
-    add(&rt, &mut shelf, "a", Vec::new(alloc))?;
-    let range = apply(&mut shelf, &state, &[Intent::Clear { provider }]);
-    assert_eq!(rt; range, Err(ShelfFault::Range));
-    Ok(())
+fn a_shelf_without_the_provider_or_its_sectors(rt: HostRuntime) {
+    let provider = label(&rt, "a");
+    let mut shelf = MemShelf::new(rt.alloc());
+    let absent = try_apply(&rt, &mut shelf, &[Intent::Meta { provider }]);
+    must(&rt, absent == Err(ShelfFault::Absent), "not absent");
+    add(&rt, &mut shelf, "a", Vec::new(rt.alloc()));
+    let range = try_apply(&rt, &mut shelf, &[Intent::Clear { provider }]);
+    must(&rt, range == Err(ShelfFault::Range), "not too short");
+}
+
+fn clears<H: Shelf>(rt: &(impl Abort + AllocGlobal), shelf: &mut H) {
+    let provider = label(rt, "b");
+    applies(rt, shelf, &[Intent::Clear { provider }]);
+    for (provider, place, byte) in [("b", 2, 0), ("b", 1, 0), ("a", 1, DATA[1])] {
+        must_hold(rt, shelf, provider, place, byte);
+    }
 }
 
 #[test]
-fn a_clear_leaves_zeros(rt: HostRuntime) -> Result<(), Fail> {
-    let alloc = rt.alloc();
-    let mut shelf = shelf_before(&rt, alloc)?;
-    apply(
-        &mut shelf,
-        &filled(alloc)?,
-        &[Intent::Clear {
-            provider: label("b")?,
-        }],
-    )?;
-    assert_eq!(rt; sector_of(&mut shelf, "b", 2)?, [0; 512]);
-    assert_eq!(rt; sector_of(&mut shelf, "b", 1)?, [0; 512]);
-    assert_eq!(rt; sector_of(&mut shelf, "a", 1)?, [DATA[1]; 512]);
-    Ok(())
+fn a_clear_leaves_zeros(rt: HostRuntime) {
+    clears(&rt, &mut shelf_before(&rt));
 }
