@@ -7,8 +7,18 @@ mod files;
 mod memory;
 
 use gm_metadata::Label;
+use std::process::Abort;
 use std::test::Fail;
 
 fn label(text: &str) -> Result<Label, Fail> {
     Ok(Label::new(text).ok_or("no label")?)
+}
+
+// Ends a test with these words where it doesn't hold.
+fn must(rt: &impl Abort, holds: bool, what: &str) {
+    assert!(rt; holds, "{what}");
+}
+
+fn named(rt: &impl Abort, text: &str) -> Label {
+    Label::new(text).expect(rt, "no label")
 }
