@@ -1,15 +1,14 @@
 //! How many rows of tables one accepted command writes, counted below the connection.
 
-use super::{accept, destroys, inserts, labels, labels_on, open, settle};
+use super::{accepts, destroys, inserts, labels, labels_on, must, opened, settles};
 use gm_changes::Change;
-use gm_test_media::must;
 use sqlite::{Connection, MemStore};
 use sqlite_trees::error::StoreError;
 use sqlite_trees::schema::Object;
 use sqlite_trees::store::{Alter, Direction, Shape, Store};
 use sqlite_value::row::Row;
 use std::alloc::{AllocError, Global};
-use std::test::Fail;
+use std::process::Abort;
 
 // A store, and how many times a row was put into one of its tables or deleted from one. The entries
 // of its indexes aren't counted.
@@ -153,54 +152,65 @@ impl<S: Alter> Alter for Counted<S> {
     }
 }
 
-// The changes in their order; the words of each are its key too. The first leaves a mirror and a
-// component that no later one names.
-fn change_at(alloc: Global, at: usize) -> Result<(Change, &'static str), Fail> {
+// The changes in their order. The first leaves a mirror and a component that no later one names.
+fn change_at(rt: &(impl Abort + AllocGlobal), at: usize) -> Change {
     match at {
-        0 => Ok((labels_on(alloc, "gm9", "z.img", 9)?, "label gm9 z.img")),
-        1 => Ok((labels(alloc)?, "label gm0 a.img")),
-        2 => Ok((inserts(alloc)?, "insert gm0 b.img")),
-        _ => Ok((destroys(alloc)?, "destroy gm0")),
+        0 => labels_on(rt, "gm9", "z.img", 9),
+        1 => labels(rt),
+        2 => inserts(rt),
+        _ => destroys(rt),
     }
 }
 
-fn nothing(alloc: Global) -> Result<Connection<Counted<MemStore>>, Fail> {
+// Their words, each its key too.
+const WORDS: [&str; 4] = [
+    "label gm9 z.img",
+    "label gm0 a.img",
+    "insert gm0 b.img",
+    "destroy gm0",
+];
+
+fn nothing(rt: &(impl Abort + AllocGlobal)) -> Connection<Counted<MemStore>> {
     let store = Counted {
-        store: MemStore::new(alloc, &[])?,
+        store: MemStore::new(rt.alloc(), &[]).expect(rt, "no memory"),
         rows: 0,
     };
-    match Connection::over(alloc, store) {
-        Ok(store) => Ok(store),
-        Err(_) => Err("not opened")?,
+    match Connection::over(rt.alloc(), store) {
+        Ok(store) => store,
+        Err(_) => panic!(rt; "not opened"),
     }
 }
 
-// How many rows a new registry writes for the first `accepted` changes, of which the first
-// `settled` are settled.
-fn written<S: Alter + Drop>(
-    alloc: Global,
-    store: Connection<Counted<S>>,
+// Has a new registry accept the first `accepted` changes, and settle the first `settled` of them.
+fn serves<S: Alter + Drop>(
+    rt: &(impl Abort + AllocGlobal),
+    store: Connection<S>,
     accepted: usize,
     settled: usize,
-) -> Result<u64, Fail> {
-    let mut registry = open(store)?;
-    for at in 0..accepted {
-        let (change, words) = change_at(alloc, at)?;
-        accept(&mut registry, &change, words, words)?;
+) -> Connection<S> {
+    let mut registry = opened(rt, store);
+    for (at, words) in WORDS.iter().enumerate().take(accepted) {
+        accepts(rt, &mut registry, &change_at(rt, at), words, words);
         if at < settled {
-            settle(&mut registry)?;
+            settles(rt, &mut registry);
         }
     }
-    Ok(registry.close().into_store().rows)
+    registry.close()
+}
+
+// How many rows that writes.
+fn written(rt: &(impl Abort + AllocGlobal), accepted: usize, settled: usize) -> u64 {
+    let store = serves(rt, nothing(rt), accepted, settled);
+    store.into_store().rows
 }
 
 // How many rows one change writes, where those before it are settled: two runs differ in that
 // change alone.
-fn written_by(alloc: Global, at: usize) -> Result<u64, Fail> {
-    let after = at.checked_add(1).ok_or("no such change")?;
-    let with = written(alloc, nothing(alloc)?, after, at)?;
-    let without = written(alloc, nothing(alloc)?, at, at)?;
-    Ok(with.checked_sub(without).ok_or("fewer rows")?)
+fn written_by(rt: &(impl Abort + AllocGlobal), at: usize) -> u64 {
+    let after = at.checked_add(1).expect(rt, "no such change");
+    let with = written(rt, after, at);
+    let without = written(rt, at, at);
+    with.checked_sub(without).expect(rt, "fewer rows")
 }
 
 // A row for each part of the change, and the command's.
@@ -219,14 +229,12 @@ fn named_by(change: &Change) -> u64 {
 }
 
 #[test]
-fn an_accept_writes_the_rows_that_its_change_names(rt: HostRuntime) -> Result<(), Fail> {
+fn an_accept_writes_the_rows_that_its_change_names(rt: HostRuntime) {
     // A mirror, a component, an intent and the command; in the second an intent more, of the
     // component that was there. By the third a mirror and two components are gone, and two intents
     // and the command are new.
     for (at, rows) in [(1usize, 4u64), (2, 5), (3, 6)] {
-        let (change, words) = change_at(rt.alloc(), at)?;
-        must(named_by(&change) == rows, words)?;
-        must(written_by(rt.alloc(), at)? == rows, words)?;
+        must(&rt, named_by(&change_at(&rt, at)) == rows, "other parts");
+        must(&rt, written_by(&rt, at) == rows, "other rows");
     }
-    Ok(())
 }

@@ -1,14 +1,13 @@
 //! Tables that say a state, and tables that say none.
 
-use super::{NO_FLAGS, open};
+use super::{in_memory, label, must, opened};
 use gm_metadata::{Balance, MirrorFlags};
 use gm_registry::Registry;
 use gm_rows::StoreFault;
 use gm_state::{Component, Disk, Intent, Mirror, State};
-use gm_test_media::{label, memory, must};
 use sqlite::{Alter, Connection};
 use std::alloc::Global;
-use std::test::Fail;
+use std::process::Abort;
 
 // gm0 with three components, of which one is copied to; gm1 with one; gm2 with three, of which one
 // takes no part.
@@ -81,18 +80,23 @@ pub(super) fn load<S: Alter>(
     registry.load(alloc)
 }
 
+// Runs statements of somebody else's.
+pub(super) fn edits<S: Alter>(rt: &impl Abort, store: &mut Connection<S>, sql: &str) {
+    must(rt, store.execute_batch(sql).is_ok(), sql);
+}
+
 // A registry with the rows, of which these were edited.
-fn edited<S: Alter + Drop>(store: Connection<S>, sql: &str) -> Result<Registry<S>, Fail> {
-    let mut store = open(store)?.close();
-    store.execute_batch(ROWS)?;
-    store.execute_batch(sql)?;
-    Ok(open(store)?)
+fn edited<S: Alter + Drop>(rt: &impl Abort, store: Connection<S>, sql: &str) -> Registry<S> {
+    let mut store = opened(rt, store).close();
+    edits(rt, &mut store, ROWS);
+    edits(rt, &mut store, sql);
+    opened(rt, store)
 }
 
 // gm0 as its row says it.
-fn gm0() -> Result<Mirror, Fail> {
-    Ok(Mirror {
-        name: label("gm0")?,
+fn gm0(rt: &impl Abort) -> Mirror {
+    Mirror {
+        name: label(rt, "gm0"),
         mid: 7,
         all: 3,
         genid: 0,
@@ -104,14 +108,14 @@ fn gm0() -> Result<Mirror, Fail> {
             no_autosync: false,
             no_failsync: true,
         },
-    })
+    }
 }
 
 // b.img as its row says it.
-fn b_img() -> Result<Component, Fail> {
-    Ok(Component {
-        provider: label("b.img")?,
-        mirror: label("gm0")?,
+fn b_img(rt: &impl Abort) -> Component {
+    Component {
+        provider: label(rt, "b.img"),
+        mirror: label(rt, "gm0"),
         did: 2,
         syncid: 1,
         priority: 255,
@@ -121,56 +125,56 @@ fn b_img() -> Result<Component, Fail> {
         },
         hardcoded: true,
         sectors: 5,
-    })
+    }
 }
 
 // What the rows of intents say, in the order of their numbers.
-fn intents() -> Result<[Intent; 3], Fail> {
-    Ok([
+fn intents(rt: &impl Abort) -> [Intent; 3] {
+    let b = label(rt, "b.img");
+    [
         Intent::Copy {
-            source: label("a.img")?,
-            target: label("b.img")?,
+            source: label(rt, "a.img"),
+            target: b,
             first: 1,
             end: 3,
         },
-        Intent::Meta {
-            provider: label("b.img")?,
-        },
+        Intent::Meta { provider: b },
         Intent::Clear {
-            provider: label("x.img")?,
+            provider: label(rt, "x.img"),
         },
-    ])
+    ]
 }
 
-fn say_a_state<S: Alter + Drop>(alloc: Global, store: Connection<S>) -> Result<(), Fail> {
-    let mut registry = edited(store, "")?;
-    let (state, pending) = load(alloc, &mut registry)?;
-    must(state.mirrors().len() == 3, "mirrors")?;
-    must(state.components().len() == 7, "components")?;
-    must(state.mirror(label("gm0")?) == Some(gm0()?), "gm0")?;
-    must(state.component(label("b.img")?) == Some(b_img()?), "b.img")?;
-    must(pending.as_slice() == intents()?.as_slice(), "intents")
+fn must_be_the_rows(rt: &impl Abort, state: &State, pending: &[Intent]) {
+    must(rt, state.mirrors().len() == 3, "mirrors");
+    must(rt, state.components().len() == 7, "components");
+    let mirror = state.mirror(label(rt, "gm0"));
+    must(rt, mirror == Some(gm0(rt)), "gm0");
+    let component = state.component(label(rt, "b.img"));
+    must(rt, component == Some(b_img(rt)), "b.img");
+    must(rt, pending == intents(rt).as_slice(), "intents");
 }
 
-#[test]
-fn rows_say_a_state(rt: HostRuntime) -> Result<(), Fail> {
-    say_a_state(rt.alloc(), memory(rt.alloc())?)
-}
-
-fn say_none<S: Alter + Drop>(
-    alloc: Global,
-    store: Connection<S>,
-    edit: &'static str,
-) -> Result<(), Fail> {
-    let mut registry = edited(store, edit)?;
-    let fault = load(alloc, &mut registry).err();
-    must(fault == Some(StoreFault::Unreadable), edit)
+fn say_a_state<S: Alter + Drop>(rt: &(impl Abort + AllocGlobal), store: Connection<S>) {
+    let mut registry = edited(rt, store, "");
+    let (state, pending) = load(rt.alloc(), &mut registry).expect(rt, "not loaded");
+    must_be_the_rows(rt, &state, &pending);
 }
 
 #[test]
-fn edited_rows_say_none(rt: HostRuntime) -> Result<(), Fail> {
+fn rows_say_a_state(rt: HostRuntime) {
+    say_a_state(&rt, in_memory(&rt));
+}
+
+fn say_none<S: Alter + Drop>(rt: &(impl Abort + AllocGlobal), store: Connection<S>, edit: &str) {
+    let mut registry = edited(rt, store, edit);
+    let fault = load(rt.alloc(), &mut registry).err();
+    must(rt, fault == Some(StoreFault::Unreadable), edit);
+}
+
+#[test]
+fn edited_rows_say_none(rt: HostRuntime) {
     for edit in EDITS {
-        say_none(rt.alloc(), memory(rt.alloc())?, edit)?;
+        say_none(&rt, in_memory(&rt), edit);
     }
-    Ok(())
 }

@@ -1,14 +1,14 @@
 //! A store of two files, of which one stops at each of its calls in turn, and what is found when it
 //! is opened again.
 
-use super::{accept, accepted, inserts, labels, loads, number, settle};
+use super::{accept, accepted, got, inserts, labels, loads, must, number, settle};
 use gm_changes::Change;
 use gm_registry::Registry;
 use gm_test_media::{ALL, Calls, StoreBytes};
 use sqlite::{Alter, Connection, Files, Options};
-use sqlite_disk::{Crash, Disk};
+use sqlite_disk::{Crash, Disk, Fuse, Memory};
 use std::alloc::Global;
-use std::test::Fail;
+use std::process::Abort;
 
 // A run is over long before it makes so many calls of one file.
 const MANY: u64 = 400;
@@ -169,130 +169,133 @@ pub(super) struct Outcome {
     crashed: StoreBytes,
 }
 
+// Copies of the bytes, of which each serves so many calls.
+fn files_of(
+    rt: &(impl Abort + AllocGlobal),
+    from: &StoreBytes,
+    calls: Calls,
+) -> Files<Fuse<Memory>> {
+    got(rt, from.files(rt.alloc(), calls))
+}
+
+fn bytes_of(rt: &(impl Abort + AllocGlobal), files: &Files<Fuse<Memory>>) -> StoreBytes {
+    got(rt, StoreBytes::of(rt.alloc(), files))
+}
+
 fn run_for(
-    alloc: Global,
+    rt: &(impl Abort + AllocGlobal),
     from: &StoreBytes,
     calls: Calls,
     change: &Change,
     key: &str,
-) -> Result<Outcome, Fail> {
+) -> Outcome {
     let job = Job::Run(change, key);
-    let (told, stopped, mut left) = perform_on_files(alloc, from.files(alloc, calls)?, &job);
-    let read = StoreBytes::of(alloc, &left)?;
+    let files = files_of(rt, from, calls);
+    let (told, stopped, mut left) = perform_on_files(rt.alloc(), files, &job);
+    let read = bytes_of(rt, &left);
     left.log.crash();
     left.db.crash();
-    let crashed = StoreBytes::of(alloc, &left)?;
-    Ok(Outcome {
+    Outcome {
         reached: told.reached,
         stopped,
         read,
-        crashed,
-    })
+        crashed: bytes_of(rt, &left),
+    }
 }
 
 // A run over files that don't stop.
 pub(super) fn run(
-    alloc: Global,
+    rt: &(impl Abort + AllocGlobal),
     from: &StoreBytes,
     change: &Change,
     key: &str,
-) -> Result<Outcome, Fail> {
-    run_for(alloc, from, ALL, change, key)
+) -> Outcome {
+    run_for(rt, from, ALL, change, key)
 }
 
 // The files after these statements of somebody else's.
 pub(super) fn edited(
-    alloc: Global,
+    rt: &(impl Abort + AllocGlobal),
     from: &StoreBytes,
     statements: &str,
-) -> Result<StoreBytes, Fail> {
+) -> StoreBytes {
     let job = Job::Edit(statements);
-    let (told, stopped, left) = perform_on_files(alloc, from.files(alloc, ALL)?, &job);
-    if stopped || !told.edited {
-        return Err("not edited")?;
-    }
-    StoreBytes::of(alloc, &left)
+    let files = files_of(rt, from, ALL);
+    let (told, stopped, left) = perform_on_files(rt.alloc(), files, &job);
+    must(rt, told.edited && !stopped, "not edited");
+    bytes_of(rt, &left)
 }
 
 // Each command puts a component more, and asks for the metadata of all.
-fn is_between(found: Found, before: u64, reached: Reached) -> Result<(), Fail> {
+fn must_be_between(rt: &impl Abort, found: Found, before: u64, reached: Reached) {
     let count = found.commands;
-    if count != before && count.checked_sub(1) != Some(before) {
-        return Err("neither before nor after")?;
-    }
-    if i64::try_from(count) != Ok(found.components) {
-        return Err("half a transaction")?;
-    }
-    if found.intents != 0 && (count == before || found.intents != found.components) {
-        return Err("intents of no command, or some of them")?;
-    }
-    if reached.accepted && count == before {
-        return Err("an acknowledged command is lost")?;
-    }
-    if reached.settled && found.intents != 0 {
-        return Err("settled intents are back")?;
-    }
-    Ok(())
+    let is_known = count == before || count.checked_sub(1) == Some(before);
+    must(rt, is_known, "neither before nor after");
+    let is_whole = i64::try_from(count) == Ok(found.components);
+    must(rt, is_whole, "half a transaction");
+    let of_all = count != before && found.intents == found.components;
+    must(
+        rt,
+        found.intents == 0 || of_all,
+        "intents of no command, or some of them",
+    );
+    let is_kept = !reached.accepted || count != before;
+    must(rt, is_kept, "an acknowledged command is lost");
+    let is_settled = !reached.settled || found.intents == 0;
+    must(rt, is_settled, "settled intents are back");
 }
 
-fn check(alloc: Global, left: &StoreBytes, before: u64, reached: Reached) -> Result<(), Fail> {
-    let (told, _, _) = perform_on_files(alloc, left.files(alloc, ALL)?, &Job::Look);
-    let found = told.found.ok_or("not opened again")?;
-    is_between(found, before, reached)
+fn check(rt: &(impl Abort + AllocGlobal), left: &StoreBytes, before: u64, reached: Reached) {
+    let files = files_of(rt, left, ALL);
+    let (told, _, _) = perform_on_files(rt.alloc(), files, &Job::Look);
+    let found = told.found.expect(rt, "not opened again");
+    must_be_between(rt, found, before, reached);
 }
 
-// The command behind so many, and its key.
-fn command_after(alloc: Global, before: u64) -> Result<(Change, &'static str), Fail> {
-    match before {
-        0 => Ok((labels(alloc)?, "k1")),
-        _ => Ok((inserts(alloc)?, "k2")),
-    }
+// The command behind so many.
+fn command_after(rt: &(impl Abort + AllocGlobal), before: u64) -> Change {
+    if before == 0 { labels(rt) } else { inserts(rt) }
+}
+
+// Its key.
+fn key_after(before: u64) -> &'static str {
+    if before == 0 { "k1" } else { "k2" }
 }
 
 // One run with a stop, and whether it came; the files are checked as they read and as a crash
 // leaves them.
-fn stop_at(alloc: Global, from: &StoreBytes, before: u64, calls: Calls) -> Result<bool, Fail> {
-    let (change, key) = command_after(alloc, before)?;
-    let run = run_for(alloc, from, calls, &change, key)?;
-    for left in [&run.read, &run.crashed] {
-        check(alloc, left, before, run.reached)?;
-    }
-    Ok(run.stopped)
+fn stop_at(rt: &(impl Abort + AllocGlobal), from: &StoreBytes, before: u64, calls: Calls) -> bool {
+    let change = command_after(rt, before);
+    let run = run_for(rt, from, calls, &change, key_after(before));
+    check(rt, &run.read, before, run.reached);
+    check(rt, &run.crashed, before, run.reached);
+    run.stopped
 }
 
 // Stops at each call of the first file, then of the second, until a run ends without a stop.
-fn stop_at_each(alloc: Global, from: &StoreBytes, before: u64) -> Result<(), Fail> {
+fn stop_at_each(rt: &(impl Abort + AllocGlobal), from: &StoreBytes, before: u64) {
     let mut log_ended = false;
     let mut db_ended = false;
     for calls in 0..MANY {
-        if !log_ended {
-            log_ended = !stop_at(alloc, from, before, Calls { log: calls, ..ALL })?;
-        }
-        if !db_ended {
-            db_ended = !stop_at(alloc, from, before, Calls { db: calls, ..ALL })?;
-        }
+        log_ended = log_ended || !stop_at(rt, from, before, Calls { log: calls, ..ALL });
+        db_ended = db_ended || !stop_at(rt, from, before, Calls { db: calls, ..ALL });
     }
-    if !log_ended || !db_ended {
-        return Err("no run ended")?;
-    }
-    Ok(())
+    must(rt, log_ended && db_ended, "no run ended");
 }
 
 // A registry with one component, settled.
-pub(super) fn one_command(alloc: Global) -> Result<StoreBytes, Fail> {
-    let run = run(alloc, &StoreBytes::new(alloc), &labels(alloc)?, "k1")?;
-    if run.stopped || !run.reached.settled {
-        return Err("it stopped")?;
-    }
-    Ok(run.read)
+pub(super) fn one_command(rt: &(impl Abort + AllocGlobal)) -> StoreBytes {
+    let run = run(rt, &StoreBytes::new(rt.alloc()), &labels(rt), "k1");
+    must(rt, run.reached.settled && !run.stopped, "it stopped");
+    run.read
 }
 
 #[test]
-fn a_stop_while_a_registry_is_made(rt: HostRuntime) -> Result<(), Fail> {
-    stop_at_each(rt.alloc(), &StoreBytes::new(rt.alloc()), 0)
+fn a_stop_while_a_registry_is_made(rt: HostRuntime) {
+    stop_at_each(&rt, &StoreBytes::new(rt.alloc()), 0);
 }
 
 #[test]
-fn a_stop_within_a_command(rt: HostRuntime) -> Result<(), Fail> {
-    stop_at_each(rt.alloc(), &one_command(rt.alloc())?, 1)
+fn a_stop_within_a_command(rt: HostRuntime) {
+    stop_at_each(&rt, &one_command(&rt), 1);
 }

@@ -1,15 +1,14 @@
 //! The files that registries are, byte for byte.
 
 use super::stops::one_command;
-use super::{NO_FLAGS, accept, bare, change, open, settle};
+use super::{NO_FLAGS, accepts, bare, change, got, label, must, opened, settles};
 use gm_changes::changed_by;
 use gm_commands::{BalanceWord, Command, NewComponent, NewMirror, Slice, words_of};
 use gm_registry::Registry;
 use gm_state::State;
-use gm_test_media::{label, must};
 use md5::{Digest, Md5};
 use sqlite::{Alter, Connection};
-use std::alloc::Global;
+use std::process::Abort;
 use std::test::Fail;
 use std::{env, fs};
 
@@ -24,70 +23,76 @@ const PENDING: [u8; 16] = [
 ];
 
 // Whether a file has twelve pages with this hash.
-fn must_be(bytes: &[u8], expected: [u8; 16]) -> Result<(), Fail> {
-    must(bytes.len() == 49152, "another length")?;
+fn must_be(rt: &impl Abort, bytes: &[u8], expected: [u8; 16]) {
+    must(rt, bytes.len() == 49152, "another length");
     let hash: [u8; 16] = Md5::digest(bytes).into();
-    must(hash == expected, "other bytes")
+    must(rt, hash == expected, "other bytes");
 }
 
 #[test]
-fn a_registry_of_one_command_is_the_stored_file(rt: HostRuntime) -> Result<(), Fail> {
-    must_be(one_command(rt.alloc())?.db.as_slice(), STORED)
+fn a_registry_of_one_command_is_the_stored_file(rt: HostRuntime) {
+    must_be(&rt, one_command(&rt).db.as_slice(), STORED);
+}
+
+fn label_command(rt: &impl Abort) -> Command {
+    Command::Label(NewMirror {
+        name: label(rt, "gm0"),
+        provider: label(rt, "a.img"),
+        mid: 7,
+        did: 1,
+        balance: BalanceWord::Load,
+        slice: Slice::new(4096).expect(rt, "no slice"),
+        flags: NO_FLAGS,
+        hardcoded: false,
+    })
 }
 
 // The label, the insert and the remove of the file, by their places.
-fn command_at(place: usize) -> Result<Command, Fail> {
-    let name = label("gm0")?;
-    let provider = label("b.img")?;
+fn command_at(rt: &impl Abort, place: usize) -> Command {
+    let name = label(rt, "gm0");
+    let provider = label(rt, "b.img");
     match place {
-        0 => Ok(Command::Label(NewMirror {
-            name,
-            provider: label("a.img")?,
-            mid: 7,
-            did: 1,
-            balance: BalanceWord::Load,
-            slice: Slice::new(4096).ok_or("no slice")?,
-            flags: NO_FLAGS,
-            hardcoded: false,
-        })),
-        1 => Ok(Command::Insert(NewComponent {
+        0 => label_command(rt),
+        1 => Command::Insert(NewComponent {
             name,
             provider,
             did: 2,
             priority: 0,
             hardcoded: false,
-        })),
-        _ => Ok(Command::Remove { name, provider }),
+        }),
+        _ => Command::Remove { name, provider },
     }
 }
 
 // Accepts a command, and answers the records after it.
 fn accept_command<S: Alter>(
-    alloc: Global,
+    rt: &(impl Abort + AllocGlobal),
     registry: &mut Registry<S>,
     state: &State,
     command: &Command,
     key: &str,
-) -> Result<State, Fail> {
-    let change = change(alloc, state, &[bare("a.img")?, bare("b.img")?], command)?;
-    let words = words_of(alloc, command)?;
-    accept(registry, &change, key, words.as_str())?;
-    Ok(changed_by(alloc, state, &change)?.ok_or("no state")?)
+) -> State {
+    let facts = [bare(rt, "a.img"), bare(rt, "b.img")];
+    let change = change(rt, state, &facts, command);
+    let words = words_of(rt.alloc(), command).expect(rt, "no memory");
+    accepts(rt, registry, &change, key, words.as_str());
+    let after = changed_by(rt.alloc(), state, &change).expect(rt, "no memory");
+    after.expect(rt, "no state")
 }
 
 fn stop_within_remove<S: Alter + Drop>(
-    alloc: Global,
+    rt: &(impl Abort + AllocGlobal),
     store: Connection<S>,
-) -> Result<Connection<S>, Fail> {
-    let mut registry = open(store)?;
-    let mut state = State::empty(alloc);
+) -> Connection<S> {
+    let mut registry = opened(rt, store);
+    let mut state = State::empty(rt.alloc());
     for (place, key) in ["k1", "k2", "k3"].iter().enumerate() {
         if place > 0 {
-            settle(&mut registry)?;
+            settles(rt, &mut registry);
         }
-        state = accept_command(alloc, &mut registry, &state, &command_at(place)?, key)?;
+        state = accept_command(rt, &mut registry, &state, &command_at(rt, place), key);
     }
-    Ok(registry.close())
+    registry.close()
 }
 
 // A path in the folder for temporary files, where there is nothing.
@@ -98,14 +103,12 @@ fn fresh_path(rt: &HostRuntime) -> Result<String, Fail> {
     Ok(path)
 }
 
-fn bytes_within_a_remove(rt: &HostRuntime) -> Result<Vec<u8>, Fail> {
-    let path = fresh_path(rt)?;
-    let store = Connection::open(rt, path.as_str())?;
-    stop_within_remove(rt.alloc(), store)?.close()?;
-    Ok(fs::read(rt, path.as_str())?)
-}
-
 #[test]
-fn a_registry_within_a_remove_is_the_stored_file(rt: HostRuntime) -> Result<(), Fail> {
-    must_be(bytes_within_a_remove(&rt)?.as_slice(), PENDING)
+fn a_registry_within_a_remove_is_the_stored_file(rt: HostRuntime) {
+    let path = got(&rt, fresh_path(&rt));
+    let store = Connection::open(&rt, path.as_str()).expect(&rt, "no store");
+    let closed = stop_within_remove(&rt, store).close();
+    must(&rt, closed.is_ok(), "not closed");
+    let bytes = fs::read(&rt, path.as_str()).expect(&rt, "not read");
+    must_be(&rt, bytes.as_slice(), PENDING);
 }

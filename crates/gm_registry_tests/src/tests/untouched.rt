@@ -1,11 +1,10 @@
 //! Stores that can't be read, which an opening and a loading leave as they are.
 
-use super::inserts;
 use super::loading::{EDITS, ROWS};
 use super::stops::{edited, one_command, run};
-use gm_test_media::{StoreBytes, must};
-use std::alloc::Global;
-use std::test::Fail;
+use super::{inserts, must};
+use gm_test_media::StoreBytes;
+use std::process::Abort;
 
 // Each makes another store of a registry; the last gives `intents` a column more.
 const OTHERS: [&str; 3] = [
@@ -18,28 +17,24 @@ const OTHERS: [&str; 3] = [
 const EMPTY: &str = "DELETE FROM commands; DELETE FROM components; DELETE FROM mirrors";
 
 // Whether it says no state, and each byte of the database is as it was.
-fn is_left_alone(alloc: Global, from: &StoreBytes) -> Result<bool, Fail> {
-    let run = run(alloc, from, &inserts(alloc)?, "k9")?;
-    Ok(!run.reached.loaded && !run.stopped && run.read.db == from.db)
+fn is_left_alone(rt: &(impl Abort + AllocGlobal), from: &StoreBytes) -> bool {
+    let run = run(rt, from, &inserts(rt), "k9");
+    !run.reached.loaded && !run.stopped && run.read.db == from.db
 }
 
-fn are_left_alone(alloc: Global, from: &StoreBytes, edits: &[&str]) -> Result<bool, Fail> {
+fn are_left_alone(rt: &(impl Abort + AllocGlobal), from: &StoreBytes, edits: &[&str]) {
     for edit in edits {
-        if !is_left_alone(alloc, &edited(alloc, from, edit)?)? {
-            return Ok(false);
-        }
+        must(rt, is_left_alone(rt, &edited(rt, from, edit)), edit);
     }
-    Ok(true)
 }
 
 #[test]
-fn what_cannot_be_read_keeps_its_bytes(rt: HostRuntime) -> Result<(), Fail> {
-    let alloc = rt.alloc();
-    let registry = one_command(alloc)?;
-    must(!is_left_alone(alloc, &registry)?, "a registry is unread")?;
-    must(are_left_alone(alloc, &registry, &OTHERS)?, "another store")?;
-    let empty = edited(alloc, &registry, EMPTY)?;
-    let rows = edited(alloc, &empty, ROWS)?;
-    must(!is_left_alone(alloc, &rows)?, "a state is unread")?;
-    must(are_left_alone(alloc, &rows, &EDITS)?, "rows of no state")
+fn what_cannot_be_read_keeps_its_bytes(rt: HostRuntime) {
+    let registry = one_command(&rt);
+    must(&rt, !is_left_alone(&rt, &registry), "a registry is unread");
+    are_left_alone(&rt, &registry, &OTHERS);
+    let empty = edited(&rt, &registry, EMPTY);
+    let rows = edited(&rt, &empty, ROWS);
+    must(&rt, !is_left_alone(&rt, &rows), "a state is unread");
+    are_left_alone(&rt, &rows, &EDITS);
 }
