@@ -6,8 +6,8 @@ use gm_json::{
 };
 use gm_metadata::{Balance, DecodeFault, DiskFlags, Label, Metadata, MirrorFlags};
 use gm_state::{Component, Disk, Mirror, Reply, State, metadata};
-use std::alloc::Global;
-use std::test::Fail;
+use std::alloc::AllocError;
+use std::process::Abort;
 
 const NO_STATUS: &str = r#"{"mirrors":[]}"#;
 
@@ -51,8 +51,16 @@ const METADATA: &str = concat!(
     r#""slice":8192,"sync_offset":1024,"syncid":6}"#
 );
 
-fn label(text: &str) -> Result<Label, Fail> {
-    Ok(Label::new(text).ok_or("no label")?)
+// What fails ends a test at once, here and below: so a proof has no way out of each call to go
+// through, on which all that is held would be let go.
+fn label(rt: &impl Abort, text: &str) -> Label {
+    Label::new(text).expect(rt, "no label")
+}
+
+// What is told is this text.
+fn must_be(rt: &impl Abort, told: Result<String, AllocError>, text: &str) {
+    let told = told.expect(rt, "no memory");
+    assert!(rt; told.as_str() == text, "{text}");
 }
 
 fn mirror_flags(set: bool) -> MirrorFlags {
@@ -90,11 +98,19 @@ fn new_component(mirror: Label, provider: Label) -> Component {
     }
 }
 
-fn new_state(alloc: Global) -> Result<State, Fail> {
-    let name = label("gm0")?;
-    let mirrors = vec![in alloc; new_mirror(name)]?;
-    let components = vec![in alloc; new_component(name, label("a.img")?)]?;
-    Ok(State::new(mirrors, components).ok_or("no state")?)
+fn state_of(
+    rt: &(impl Abort + AllocGlobal),
+    mirrors: &[Mirror],
+    components: &[Component],
+) -> State {
+    let mirrors = mirrors.to_vec(rt.alloc()).expect(rt, "no memory");
+    let components = components.to_vec(rt.alloc()).expect(rt, "no memory");
+    State::new(mirrors, components).expect(rt, "no state")
+}
+
+fn new_state(rt: &(impl Abort + AllocGlobal)) -> State {
+    let (name, a) = (label(rt, "gm0"), label(rt, "a.img"));
+    state_of(rt, &[new_mirror(name)], &[new_component(name, a)])
 }
 
 // The mirror gm0 whose second component is being copied to.
@@ -134,16 +150,14 @@ fn target(mirror: Label, provider: Label) -> Component {
     }
 }
 
-fn two_mirrors(alloc: Global) -> Result<State, Fail> {
-    let (first, second) = (label("gm0")?, label("gm1")?);
-    let (a, b, c) = (label("a.img")?, label("b.img")?, label("c.img")?);
-    let mirrors = vec![in alloc; new_mirror(second), copied_mirror(first)]?;
-    let components = vec![in alloc;
-        new_component(second, c),
-        target(first, b),
-        source(first, a),
-    ]?;
-    Ok(State::new(mirrors, components).ok_or("no state")?)
+fn two_mirrors(rt: &(impl Abort + AllocGlobal)) -> State {
+    let (first, second) = (label(rt, "gm0"), label(rt, "gm1"));
+    let components = [
+        new_component(second, label(rt, "c.img")),
+        target(first, label(rt, "b.img")),
+        source(first, label(rt, "a.img")),
+    ];
+    state_of(rt, &[new_mirror(second), copied_mirror(first)], &components)
 }
 
 // Each field has a value that no other one has.
@@ -176,52 +190,46 @@ fn hardcoded(name: Label, provider: Label) -> Metadata {
 }
 
 #[test]
-fn a_status_tells_how_mirrors_stand(rt: HostRuntime) -> Result<(), Fail> {
-    let alloc = rt.alloc();
-    assert_eq!(rt;
-        status_json(alloc, &State::empty(alloc))?.as_str(),
-        NO_STATUS
-    );
-    assert_eq!(rt;
-        status_json(alloc, &new_state(alloc)?)?.as_str(),
-        NEW_STATUS
-    );
-    assert_eq!(rt; status_json(alloc, &two_mirrors(alloc)?)?.as_str(), STATUS);
-    Ok(())
-}
-
-#[test]
-fn a_mirror_is_told_by_its_name(rt: HostRuntime) -> Result<(), Fail> {
-    let alloc = rt.alloc();
-    let name = label("gm0")?;
+fn a_status_tells_how_mirrors_stand(rt: HostRuntime) {
+    let none = State::empty(rt.alloc());
     for (state, text) in [
-        (new_state(alloc)?, NEW_MIRROR),
-        (two_mirrors(alloc)?, MIRROR),
+        (&none, NO_STATUS),
+        (&new_state(&rt), NEW_STATUS),
+        (&two_mirrors(&rt), STATUS),
     ] {
-        let told = mirror_json(alloc, &state, name)?;
-        assert!(rt; told.is_some_and(|told| told.as_str() == text));
-        assert!(rt; mirror_json(alloc, &state, label("gm")?)?.is_none());
+        must_be(&rt, status_json(rt.alloc(), state), text);
     }
-    Ok(())
+}
+
+// The mirror gm0 is told so, and one of another name isn't.
+fn must_tell(rt: &(impl Abort + AllocGlobal), state: &State, text: &str) {
+    let told = mirror_json(rt.alloc(), state, label(rt, "gm0"));
+    let told = told.expect(rt, "no memory");
+    assert!(rt; told.is_some_and(|told| told.as_str() == text), "{text}");
+    let other = mirror_json(rt.alloc(), state, label(rt, "gm"));
+    assert!(rt; other.expect(rt, "no memory").is_none());
 }
 
 #[test]
-fn a_sector_is_told_by_what_it_says(rt: HostRuntime) -> Result<(), Fail> {
-    let alloc = rt.alloc();
-    let name = label("gm0")?;
-    let new = metadata(&new_mirror(name), &new_component(name, label("a.img")?));
-    let old = hardcoded(name, label("b.img")?);
+fn a_mirror_is_told_by_its_name(rt: HostRuntime) {
+    must_tell(&rt, &new_state(&rt), NEW_MIRROR);
+    must_tell(&rt, &two_mirrors(&rt), MIRROR);
+}
+
+#[test]
+fn a_sector_is_told_by_what_it_says(rt: HostRuntime) {
+    let (name, a) = (label(&rt, "gm0"), label(&rt, "a.img"));
+    let new = metadata(&new_mirror(name), &new_component(name, a));
+    let old = hardcoded(name, label(&rt, "b.img"));
     for (said, text) in [(new, NEW_METADATA), (old, METADATA)] {
-        assert_eq!(rt; metadata_json(alloc, &said)?.as_str(), text);
+        must_be(&rt, metadata_json(rt.alloc(), &said), text);
     }
-    let fault = decode_json(alloc, DecodeFault::Hash)?;
-    assert_eq!(rt; fault.as_str(), r#"{"decode":3}"#);
-    Ok(())
+    let fault = decode_json(rt.alloc(), DecodeFault::Hash);
+    must_be(&rt, fault, r#"{"decode":3}"#);
 }
 
 #[test]
-fn a_command_is_answered(rt: HostRuntime) -> Result<(), Fail> {
-    let alloc = rt.alloc();
+fn a_command_is_answered(rt: HostRuntime) {
     let copied = Reply::Copied { held: 3, total: 4 };
     for (number, reply, text) in [
         (1, Reply::Plain, r#"{"answer":"ok","seq":1}"#),
@@ -232,30 +240,23 @@ fn a_command_is_answered(rt: HostRuntime) -> Result<(), Fail> {
         ),
         (2, copied, r#"{"answer":"ok","copied":3,"of":4,"seq":2}"#),
     ] {
-        assert_eq!(rt; done_json(alloc, number, reply)?.as_str(), text);
+        must_be(&rt, done_json(rt.alloc(), number, reply), text);
     }
-    assert_eq!(rt;
-        repeated_json(alloc, 1)?.as_str(),
-        r#"{"answer":"repeated","seq":1}"#
-    );
-    assert_eq!(rt;
-        refused_json(alloc, 17)?.as_str(),
-        r#"{"answer":"refused","number":17}"#
-    );
-    Ok(())
+    let repeated = repeated_json(rt.alloc(), 1);
+    must_be(&rt, repeated, r#"{"answer":"repeated","seq":1}"#);
+    let refused = refused_json(rt.alloc(), 17);
+    must_be(&rt, refused, r#"{"answer":"refused","number":17}"#);
 }
 
 #[test]
-fn what_fails_is_told(rt: HostRuntime) -> Result<(), Fail> {
-    let alloc = rt.alloc();
+fn what_fails_is_told(rt: HostRuntime) {
     for (message, text) in [
         ("bad request", r#"{"error":"bad request"}"#),
         ("not found", r#"{"error":"not found"}"#),
         ("method not allowed", r#"{"error":"method not allowed"}"#),
         ("too large", r#"{"error":"too large"}"#),
     ] {
-        assert_eq!(rt; error_json(alloc, message)?.as_str(), text);
+        must_be(&rt, error_json(rt.alloc(), message), text);
     }
-    assert_eq!(rt; fault_json(alloc, 4)?.as_str(), r#"{"fault":4}"#);
-    Ok(())
+    must_be(&rt, fault_json(rt.alloc(), 4), r#"{"fault":4}"#);
 }
