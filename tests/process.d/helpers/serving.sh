@@ -1,13 +1,7 @@
 # A server that is under way, and requests to it. They are made by Python, since a shell can't end one side of a connection.
 
 . "$helpers/under_way.sh"
-
-# Whether there is a Python; else says that the test of this name is skipped.
-has_python() {
-    python3 -c 'import socket' 2>/dev/null && return 0
-    skip "$1" 'there is no python3 here'
-    return 1
-}
+. "$helpers/python.sh"
 
 # Starts a server at that bench with these options, for at most 120 seconds, and learns its port.
 begin_server() {
@@ -38,12 +32,9 @@ stop_server() {
     fi
 }
 
-# Runs a Python script of that folder against the server, and counts its lines: `ok NAME`, or `failed NAME: WHY`.
+# Runs a script of that folder against the server.
 requests() {
-    python3 -B "$tests/serving/$1" "$port" >"$work/told" 2>&1 || echo "failed $1: it ended with $?" >>"$work/told"
-    cat "$work/told"
-    passed=$((passed + $(grep -c '^ok ' "$work/told")))
-    failed=$((failed + $(grep -vc '^ok ' "$work/told")))
+    run_script "serving/$1" "$port"
 }
 
 # Sends the bytes of a file to the server, and keeps what it answers.

@@ -1,0 +1,25 @@
+. "$helpers/bench.sh"
+. "$helpers/python.sh"
+
+# ---- calls for memory that are refused, one in each run
+
+# Into the program a library is preloaded that refuses the Nth call of malloc, calloc or realloc. N goes over all the calls
+# of a run, or where there are too many over as many as fit, which are chosen by a fixed seed; the counts are printed. Tried
+# are a batch of eight lines (a label, an insert, an advance, refused and repeated lines), a request that is served, status,
+# list, audit, taste and dump, and a recovery of two writes. Each run tells what it tells with ample memory, or the fault;
+# the next opening ends well, and the same lines are answered right behind it.
+case ${HOSTILE:-some} in
+    all) most=1000000 ;;
+    *) most=250 ;;
+esac
+if has_python 'calls for memory that are refused'; then
+    if command -v cc >/dev/null && cc -O1 -fPIC -shared -fno-builtin -o "$work/refused_memory.so" \
+        "$tests/hostile/refused_memory.c" 2>"$work/complaints"; then
+        fresh_bench bench
+        stopped_remove pending
+        run_script hostile/refused_memory.py "$gmbench" "$work/refused_memory.so" "$work" $most
+    else
+        skip 'calls for memory that are refused' 'there is no C compiler here'
+    fi
+fi
+finish
