@@ -7,7 +7,7 @@
 # F2 or F6, or well and with the records that SQLite reads there; no image is changed.
 case ${HOSTILE:-some} in
     all) stride=1 ;;
-    *) stride=29 ;;
+    *) stride=97 ;;
 esac
 if has_python 'registries that are damaged'; then
     if python3 -c 'import sqlite3' 2>/dev/null; then

@@ -132,7 +132,7 @@ KEYS = [b"k1", b"k2", b"K1", b"a" * 32, b"a" * 33, b"k/1", b".", b"-", b"_", b"k
 
 
 def name():
-    return rng.choice([b"gm1", b"none.img", b"gm0", b"x" * 15, b"x" * 16, b"-gm1", b"-", b"a/b", b"label", b".", b"..",
+    return rng.choice([b"gm1", b"none.img", b"gm2", b"x" * 15, b"x" * 16, b"-gm1", b"-", b"a/b", b"label", b".", b"..",
                        bytes(rng.choice(formats.LETTERS) for _ in range(rng.randint(1, 16)))])
 
 

@@ -10,7 +10,7 @@
 # the next opening ends well, and the same lines are answered right behind it.
 case ${HOSTILE:-some} in
     all) most=1000000 ;;
-    *) most=250 ;;
+    *) most=80 ;;
 esac
 if has_python 'calls for memory that are refused'; then
     if command -v cc >/dev/null && cc -O1 -fPIC -shared -fno-builtin -o "$work/refused_memory.so" \

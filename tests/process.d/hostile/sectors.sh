@@ -7,7 +7,7 @@
 # any bytes.
 case ${HOSTILE:-some} in
     all) tasted=100000 dumped=5000 ;;
-    *) tasted=30000 dumped=1200 ;;
+    *) tasted=10000 dumped=400 ;;
 esac
 if has_python 'last sectors that are made at random'; then
     run_script hostile/sectors.py "$gmbench" "$work" $tasted $dumped
