@@ -6,18 +6,19 @@ mod flushes;
 mod many_mirrors;
 mod readers;
 mod repeats;
+mod requests;
 mod stores;
 mod worked_rows;
 mod writers;
 
 use gm_bench::{Bench, BenchFault, OpenFault, Phase};
 use gm_front::{BatchEnd, FrontFault, batch};
-use gm_shelf::Shelf;
-use gm_test_media::must;
+use gm_shelf::{MemShelf, Shelf};
+use gm_test_media::{memory, shelf};
 use gm_words::status_text;
-use sqlite::{Alter, Connection};
-use std::alloc::Global;
+use sqlite::{Alter, Connection, MemStore};
 use std::io::{Read, Write};
+use std::process::Abort;
 use std::test::Fail;
 
 const LABEL: &str = "k1 label --mid 7 --did 1 gm0 a.img\n";
@@ -37,39 +38,60 @@ const DONE: BatchEnd = BatchEnd::Ended { refused: false };
 
 const REFUSED: BatchEnd = BatchEnd::Ended { refused: true };
 
+// What fails ends a test at once, here and below: so a proof has no way out of each call to go
+// through, on which all that is held would be let go.
+fn must(rt: &impl Abort, holds: bool, what: &str) {
+    assert!(rt; holds, "{what}");
+}
+
+// What is there in place of a failure.
+fn got<T>(rt: &impl Abort, outcome: Result<T, Fail>) -> T {
+    match outcome {
+        Ok(value) => value,
+        Err(_) => panic!(rt; "it failed"),
+    }
+}
+
+fn in_memory(rt: &(impl Abort + AllocGlobal)) -> Connection<MemStore> {
+    got(rt, memory(rt.alloc()))
+}
+
+// a.img, b.img and c.img.
+fn images(rt: &(impl Abort + AllocGlobal)) -> MemShelf {
+    got(rt, shelf(rt.alloc()))
+}
+
 // The tests go over any store and shelf, and these have no clause, so that a proof carries neither
 // what those in memory are made of nor the state of each call.
 fn try_open<S: Alter + Drop, H: Shelf + Drop>(
-    alloc: Global,
+    rt: &(impl Abort + AllocGlobal),
     store: Connection<S>,
     shelf: H,
-) -> Result<Result<Bench<S, H>, OpenFault<S, H>>, Fail> {
-    if !store.is_autocommit() {
-        return Err("within a transaction")?;
-    }
-    Ok(Bench::open(alloc, store, shelf))
+) -> Result<Bench<S, H>, OpenFault<S, H>> {
+    assert!(rt; store.is_autocommit());
+    Bench::open(rt.alloc(), store, shelf)
 }
 
 fn open<S: Alter + Drop, H: Shelf + Drop>(
-    alloc: Global,
+    rt: &(impl Abort + AllocGlobal),
     store: Connection<S>,
     shelf: H,
-) -> Result<Bench<S, H>, Fail> {
-    match try_open(alloc, store, shelf)? {
-        Ok(bench) => Ok(bench),
-        Err(left) => Err(left.fault)?,
+) -> Bench<S, H> {
+    match try_open(rt, store, shelf) {
+        Ok(bench) => bench,
+        Err(_) => panic!(rt; "not opened"),
     }
 }
 
 fn try_batch<R: Read, W: Write, S: Alter, H: Shelf>(
-    alloc: Global,
+    rt: &(impl Abort + AllocGlobal),
     reader: &mut R,
     writer: &mut W,
     bench: &mut Bench<S, H>,
-) -> Result<Result<BatchEnd, FrontFault>, Fail> {
+) -> Result<BatchEnd, FrontFault> {
     match bench.phase() {
-        Phase::Ready | Phase::Failed => Ok(batch(alloc, reader, writer, bench)),
-        Phase::Pending | Phase::Applied => Err("a batch in another phase")?,
+        Phase::Ready | Phase::Failed => batch(rt.alloc(), reader, writer, bench),
+        Phase::Pending | Phase::Applied => panic!(rt; "a batch in another phase"),
     }
 }
 
@@ -82,60 +104,59 @@ struct Told {
 }
 
 fn tell<S: Alter, H: Shelf>(
-    alloc: Global,
+    rt: &(impl Abort + AllocGlobal),
     bench: &mut Bench<S, H>,
     input: &[u8],
-) -> Result<Told, Fail> {
+) -> Told {
     let mut reader = input;
-    let mut text = Vec::new(alloc);
-    let end = try_batch(alloc, &mut reader, &mut text, bench)?;
+    let mut text = Vec::new(rt.alloc());
+    let end = try_batch(rt, &mut reader, &mut text, bench);
     let left = reader.len();
-    Ok(Told { text, end, left })
+    Told { text, end, left }
 }
 
 // Hands a batch over, which is told this, ends so, and leaves so many bytes of its input.
 fn answers_some<S: Alter, H: Shelf>(
-    alloc: Global,
+    rt: &(impl Abort + AllocGlobal),
     bench: &mut Bench<S, H>,
     input: &[u8],
-    expected: &'static str,
+    expected: &str,
     end: BatchEnd,
     left: usize,
-) -> Result<(), Fail> {
-    let told = tell(alloc, bench, input)?;
+) {
+    let told = tell(rt, bench, input);
     let is_told = told.text.as_slice() == expected.as_bytes();
     must(
+        rt,
         is_told && told.end == Ok(end) && told.left == left,
         expected,
-    )
+    );
 }
 
 // Hands one over that is taken whole.
 fn answers<S: Alter, H: Shelf>(
-    alloc: Global,
+    rt: &(impl Abort + AllocGlobal),
     bench: &mut Bench<S, H>,
     input: &[u8],
-    expected: &'static str,
+    expected: &str,
     end: BatchEnd,
-) -> Result<(), Fail> {
-    answers_some(alloc, bench, input, expected, end, 0)
+) {
+    answers_some(rt, bench, input, expected, end, 0);
 }
 
 fn try_status<S: Alter, H: Shelf>(
-    alloc: Global,
+    rt: &(impl Abort + AllocGlobal),
     bench: &mut Bench<S, H>,
-) -> Result<Result<String, BenchFault>, Fail> {
-    match bench.view(alloc) {
-        Ok(state) => Ok(Ok(status_text(alloc, &state)?)),
-        Err(fault) => Ok(Err(fault)),
-    }
+) -> Result<String, BenchFault> {
+    let state = bench.view(rt.alloc())?;
+    Ok(status_text(rt.alloc(), &state).expect(rt, "no memory"))
 }
 
 fn shows<S: Alter, H: Shelf>(
-    alloc: Global,
+    rt: &(impl Abort + AllocGlobal),
     bench: &mut Bench<S, H>,
-    status: &'static str,
-) -> Result<(), Fail> {
-    let text = try_status(alloc, bench)??;
-    must(text.as_str() == status, status)
+    status: &str,
+) {
+    let text = try_status(rt, bench).expect(rt, "no status");
+    must(rt, text.as_str() == status, status);
 }

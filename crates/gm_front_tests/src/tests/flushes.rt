@@ -1,14 +1,12 @@
 //! Each answer is flushed before the next line is read.
 
-use super::{LABEL, REFUSED, open, try_batch};
+use super::{LABEL, REFUSED, images, in_memory, must, open, try_batch};
 use gm_bench::Bench;
 use gm_shelf::Shelf;
-use gm_test_media::{memory, must, shelf};
 use sqlite::{Alter, Connection};
-use std::alloc::Global;
 use std::cell::Cell;
 use std::io::{self, ErrorKind, Read, Write};
-use std::test::Fail;
+use std::process::Abort;
 
 // Counts what is written, and keeps for the input how much of it is flushed.
 #[derive(Drop)]
@@ -60,10 +58,10 @@ impl<'a> Read for Watching<'a> {
 const FLUSHED: [usize; 8] = [0, 0, 8, 8, 22, 34, 46, 54];
 
 fn is_flushed<S: Alter, H: Shelf>(
-    alloc: Global,
+    rt: &(impl Abort + AllocGlobal),
     bench: &mut Bench<S, H>,
     lines: &[u8],
-) -> Result<(), Fail> {
+) {
     let flushed = Cell::new(0usize);
     let mut output = Counted {
         written: 0,
@@ -73,28 +71,30 @@ fn is_flushed<S: Alter, H: Shelf>(
         rest: lines,
         begins: true,
         flushed: &flushed,
-        seen: Vec::new(alloc),
+        seen: Vec::new(rt.alloc()),
     };
-    let end = try_batch(alloc, &mut input, &mut output, bench)?;
-    must(end == Ok(REFUSED), "another end")?;
-    must(input.seen.as_slice() == FLUSHED.as_slice(), "not flushed")?;
-    must(flushed.get() == 54, "another length")
+    let end = try_batch(rt, &mut input, &mut output, bench);
+    must(rt, end == Ok(REFUSED), "another end");
+    must(
+        rt,
+        input.seen.as_slice() == FLUSHED.as_slice(),
+        "not flushed",
+    );
+    must(rt, flushed.get() == 54, "another length");
 }
 
 fn opens_and_is_flushed<S: Alter + Drop, H: Shelf + Drop>(
-    alloc: Global,
+    rt: &(impl Abort + AllocGlobal),
     store: Connection<S>,
     shelf: H,
     lines: &[u8],
-) -> Result<(), Fail> {
-    let mut bench = open(alloc, store, shelf)?;
-    is_flushed(alloc, &mut bench, lines)
+) {
+    let mut bench = open(rt, store, shelf);
+    is_flushed(rt, &mut bench, lines);
 }
 
-#[test]
-fn an_answer_is_flushed_before_the_next_line_is_read(rt: HostRuntime) -> Result<(), Fail> {
-    let alloc = rt.alloc();
-    let mut lines = Vec::new(alloc);
+fn seven_lines(rt: &(impl Abort + AllocGlobal)) -> Vec<u8> {
+    let mut lines = Vec::new(rt.alloc());
     for piece in [
         b"\n".as_slice(),
         LABEL.as_bytes(),
@@ -104,7 +104,13 @@ fn an_answer_is_flushed_before_the_next_line_is_read(rt: HostRuntime) -> Result<
         &[b'x'; 1025],
         b"\nk2 insert --did 2 gm0 b.img",
     ] {
-        lines.extend_from_slice(piece)?;
+        lines.extend_from_slice(piece).expect(rt, "no memory");
     }
-    opens_and_is_flushed(alloc, memory(alloc)?, shelf(alloc)?, lines.as_slice())
+    lines
+}
+
+#[test]
+fn an_answer_is_flushed_before_the_next_line_is_read(rt: HostRuntime) {
+    let lines = seven_lines(&rt);
+    opens_and_is_flushed(&rt, in_memory(&rt), images(&rt), lines.as_slice());
 }

@@ -1,18 +1,16 @@
 //! Inputs that come slowly, and inputs that fail.
 
-use super::{DONE, INSERT, LABEL, REMOVE, answers, open, try_batch};
+use super::{DONE, INSERT, LABEL, REMOVE, answers, images, in_memory, must, open, try_batch};
 use gm_bench::Bench;
 use gm_front::{BatchEnd, FrontFault};
 use gm_shelf::Shelf;
-use gm_test_media::{memory, must, shelf};
 use sqlite::{Alter, Connection};
-use std::alloc::Global;
 use std::io::{self, ErrorKind, Read};
-use std::test::Fail;
+use std::process::Abort;
 
 // Gives a byte at a time, so many of them, and then fails. It may be interrupted before each.
 #[derive(Drop)]
-struct Slow<'a> {
+pub(super) struct Slow<'a> {
     rest: &'a [u8],
     passing: usize,
     interrupts: bool,
@@ -51,7 +49,7 @@ struct Expected {
 }
 
 // An input that fails behind so many bytes, also at its end.
-fn failing(lines: &[u8], passing: usize) -> Slow<'_> {
+pub(super) fn failing(lines: &[u8], passing: usize) -> Slow<'_> {
     Slow {
         rest: lines,
         passing,
@@ -60,32 +58,41 @@ fn failing(lines: &[u8], passing: usize) -> Slow<'_> {
     }
 }
 
+// The three lines.
+fn three_lines(rt: &(impl Abort + AllocGlobal)) -> String {
+    format!(in rt.alloc(); "{LABEL}{INSERT}{REMOVE}").expect(rt, "no memory")
+}
+
 // A batch of such an input, and one of the three lines. Each answer to the first has eight bytes.
 fn takes<S: Alter, H: Shelf>(
-    alloc: Global,
+    rt: &(impl Abort + AllocGlobal),
     bench: &mut Bench<S, H>,
     input: &mut Slow<'_>,
     expected: Expected,
-) -> Result<(), Fail> {
-    let mut text = Vec::new(alloc);
-    let ended = try_batch(alloc, input, &mut text, bench)?;
+) {
+    let mut text = Vec::new(rt.alloc());
+    let ended = try_batch(rt, input, &mut text, bench);
     let told = TOLD.as_bytes().get(..expected.answered.saturating_mul(8));
-    must(Some(text.as_slice()) == told, "another text")?;
-    must(ended == expected.end, "another end")?;
-    let lines = format!(in alloc; "{LABEL}{INSERT}{REMOVE}")?;
+    must(rt, Some(text.as_slice()) == told, "another text");
+    must(rt, ended == expected.end, "another end");
     let answered = told_after(expected.repeated);
-    answers(alloc, bench, lines.as_bytes(), answered, DONE)
+    answers(rt, bench, three_lines(rt).as_bytes(), answered, DONE);
 }
 
 fn opens_and_takes<S: Alter + Drop, H: Shelf + Drop>(
-    alloc: Global,
+    rt: &(impl Abort + AllocGlobal),
     store: Connection<S>,
     shelf: H,
     input: &mut Slow<'_>,
     expected: Expected,
-) -> Result<(), Fail> {
-    let mut bench = open(alloc, store, shelf)?;
-    takes(alloc, &mut bench, input, expected)
+) {
+    let mut bench = open(rt, store, shelf);
+    takes(rt, &mut bench, input, expected);
+}
+
+// The same over memory.
+fn are_taken(rt: &(impl Abort + AllocGlobal), mut input: Slow<'_>, expected: Expected) {
+    opens_and_takes(rt, in_memory(rt), images(rt), &mut input, expected);
 }
 
 const TOLD: &str = "k1 ok 1\nk2 ok 2\nk3 ok 3\n";
@@ -101,9 +108,8 @@ fn told_after(answered: usize) -> &'static str {
 }
 
 #[test]
-fn what_was_answered_before_an_input_failed_stays(rt: HostRuntime) -> Result<(), Fail> {
-    let alloc = rt.alloc();
-    let text = format!(in alloc; "{LABEL}{INSERT}{REMOVE}")?;
+fn what_was_answered_before_an_input_failed_stays(rt: HostRuntime) {
+    let text = three_lines(&rt);
     let lines = text.as_bytes();
     for passing in 0..=lines.len() {
         let answered = lines.iter().take(passing).filter(|b| **b == 10).count();
@@ -112,17 +118,14 @@ fn what_was_answered_before_an_input_failed_stays(rt: HostRuntime) -> Result<(),
             end: Err(FrontFault::Read),
             repeated: answered,
         };
-        let mut input = failing(lines, passing);
-        opens_and_takes(alloc, memory(alloc)?, shelf(alloc)?, &mut input, expected)?;
+        are_taken(&rt, failing(lines, passing), expected);
     }
-    Ok(())
 }
 
 #[test]
-fn an_input_may_be_slow_and_interrupted(rt: HostRuntime) -> Result<(), Fail> {
-    let alloc = rt.alloc();
-    let lines = format!(in alloc; "\n{LABEL}  \n{INSERT}{REMOVE}")?;
-    let mut slow = Slow {
+fn an_input_may_be_slow_and_interrupted(rt: HostRuntime) {
+    let lines = format!(in rt.alloc(); "\n{LABEL}  \n{INSERT}{REMOVE}").expect(&rt, "no memory");
+    let slow = Slow {
         interrupts: true,
         ..failing(lines.as_bytes(), usize::MAX)
     };
@@ -131,21 +134,18 @@ fn an_input_may_be_slow_and_interrupted(rt: HostRuntime) -> Result<(), Fail> {
         end: Ok(DONE),
         repeated: 3,
     };
-    opens_and_takes(alloc, memory(alloc)?, shelf(alloc)?, &mut slow, expected)
+    are_taken(&rt, slow, expected);
 }
 
 // No line is answered before its end is found.
 #[test]
-fn a_line_of_an_input_that_failed_within_it_has_no_answer(rt: HostRuntime) -> Result<(), Fail> {
-    let alloc = rt.alloc();
+fn a_line_of_an_input_that_failed_within_it_has_no_answer(rt: HostRuntime) {
     for passing in [0usize, 1, 1024, 1025, 1026] {
-        let mut input = failing(&[b'x'; 1030], passing);
         let expected = Expected {
             answered: 0,
             end: Err(FrontFault::Read),
             repeated: 0,
         };
-        opens_and_takes(alloc, memory(alloc)?, shelf(alloc)?, &mut input, expected)?;
+        are_taken(&rt, failing(&[b'x'; 1030], passing), expected);
     }
-    Ok(())
 }

@@ -3,18 +3,17 @@
 
 mod rows;
 
-use super::{Told, open, tell, try_status};
+use super::{Told, got, in_memory, must, open, tell, try_status};
 use gm_bench::{Bench, taste_shelf};
 use gm_front::BatchEnd;
-use gm_metadata::{Balance, DiskFlags, Metadata, MirrorFlags, decode, encode};
+use gm_metadata::{Balance, DiskFlags, Label, Metadata, MirrorFlags, decode, encode};
 use gm_shelf::{MemShelf, Shelf};
-use gm_test_media::{add, label, memory, must, sector};
+use gm_test_media::{add, sector};
 use gm_words::tasting_text;
 use rows::ROWS;
 use sqlite::{Alter, Connection};
-use std::alloc::Global;
 use std::io::Write;
-use std::test::Fail;
+use std::process::Abort;
 
 // What the sectors of an image hold before its last one.
 #[derive(Clone, Copy)]
@@ -128,12 +127,12 @@ fn data_sector(data: Data, place: u64) -> [u8; 512] {
     sector
 }
 
-fn last_sector(said: Option<Said>) -> Result<[u8; 512], Fail> {
+fn last_sector(rt: &impl Abort, said: Option<Said>) -> [u8; 512] {
     let Some(said) = said else {
-        return Ok([0; 512]);
+        return [0; 512];
     };
-    Ok(encode(&Metadata {
-        name: label("gm0")?,
+    encode(&Metadata {
+        name: Label::new("gm0").expect(rt, "no label"),
         mid: 7,
         did: said.did,
         all: 2,
@@ -148,61 +147,74 @@ fn last_sector(said: Option<Said>) -> Result<[u8; 512], Fail> {
         dflags: NO_DISK_FLAGS,
         provider: None,
         provsize: 2048,
-    }))
+    })
 }
 
-fn sectors_of(alloc: Global, image: &Image) -> Result<Vec<[u8; 512]>, Fail> {
-    let mut sectors = Vec::new(alloc);
+fn sectors_of(rt: &(impl Abort + AllocGlobal), image: &Image) -> Vec<[u8; 512]> {
+    let mut sectors = Vec::new(rt.alloc());
     for place in 1..image.sectors {
-        sectors.push(data_sector(image.data, place.saturating_sub(1)))?;
+        let sector = data_sector(image.data, place.saturating_sub(1));
+        sectors.push(sector).expect(rt, "no memory");
     }
-    sectors.push(last_sector(image.last)?)?;
-    Ok(sectors)
+    sectors
+        .push(last_sector(rt, image.last))
+        .expect(rt, "no memory");
+    sectors
 }
 
-fn shelf_of(alloc: Global, images: &str) -> Result<MemShelf, Fail> {
-    let mut shelf = MemShelf::new(alloc);
+fn shelf_of(rt: &(impl Abort + AllocGlobal), images: &str) -> MemShelf {
+    let mut shelf = MemShelf::new(rt.alloc());
     for word in images.split(' ') {
         if let Some(image) = image_of(word) {
-            add(&mut shelf, image.name, sectors_of(alloc, &image)?)?;
+            got(rt, add(&mut shelf, image.name, sectors_of(rt, &image)));
         }
     }
-    Ok(shelf)
+    shelf
+}
+
+fn sector_at<H: Shelf>(rt: &impl Abort, shelf: &mut H, name: &str, place: u64) -> [u8; 512] {
+    got(rt, sector(shelf, name, place))
 }
 
 // Whether the sectors of an image before its last one are plain.
-fn is_plain<H: Shelf>(shelf: &mut H, image: &Image) -> Result<bool, Fail> {
+fn is_plain<H: Shelf>(rt: &impl Abort, shelf: &mut H, image: &Image) -> bool {
     for place in 1..image.sectors {
         let place = place.saturating_sub(1);
-        if sector(shelf, image.name, place)? != data_sector(Data::Plain, place) {
-            return Ok(false);
+        if sector_at(rt, shelf, image.name, place) != data_sector(Data::Plain, place) {
+            return false;
         }
     }
-    Ok(true)
+    true
+}
+
+fn push(rt: &impl Abort, text: &mut String, more: &str) {
+    text.push_str(more).expect(rt, "no memory");
 }
 
 // Appends what an image says, and what it holds.
-fn push_said<H: Shelf>(text: &mut String, shelf: &mut H, image: &Image) -> Result<(), Fail> {
-    let name = image.name;
-    let data = if is_plain(shelf, image)? {
+fn push_said<H: Shelf>(rt: &impl Abort, text: &mut String, shelf: &mut H, image: &Image) {
+    let data = if is_plain(rt, shelf, image) {
         "plain"
     } else {
         "other"
     };
-    match decode(&sector(shelf, name, image.sectors.saturating_sub(1))?) {
-        Err(fault) => {
-            let number = fault.number();
-            writeln!(text, "{name}: fault {number}, {data}")?;
-        }
-        Ok(metadata) => {
-            push_metadata(text, name, &metadata)?;
-            writeln!(text, "{data}")?;
-        }
-    }
-    Ok(())
+    let last = sector_at(rt, shelf, image.name, image.sectors.saturating_sub(1));
+    push_last(rt, text, image.name, &last);
+    push(rt, text, data);
+    push(rt, text, "\n");
 }
 
-fn push_metadata(text: &mut String, name: &str, metadata: &Metadata) -> Result<(), Fail> {
+fn push_last(rt: &impl Abort, text: &mut String, name: &str, last: &[u8; 512]) {
+    match decode(last) {
+        Err(fault) => {
+            let number = fault.number();
+            write!(text, "{name}: fault {number}, ").expect(rt, "no memory");
+        }
+        Ok(metadata) => push_metadata(rt, text, name, &metadata),
+    }
+}
+
+fn push_metadata(rt: &impl Abort, text: &mut String, name: &str, metadata: &Metadata) {
     let (did, all) = (metadata.did, metadata.all);
     let (genid, syncid) = (metadata.genid, metadata.syncid);
     let (flags, offset) = (metadata.dflags.bits(), metadata.sync_offset);
@@ -210,92 +222,90 @@ fn push_metadata(text: &mut String, name: &str, metadata: &Metadata) -> Result<(
     write!(
         text,
         "{name}: did {did} of {all}, genid {genid}, syncid {syncid}, "
-    )?;
+    )
+    .expect(rt, "no memory");
     write!(
         text,
         "flags {flags}, offset {offset}, {mediasize} of {provsize} bytes, "
-    )?;
-    Ok(())
+    )
+    .expect(rt, "no memory");
 }
 
 // Appends what each image says, and what a taste tells of them.
 fn push_images<H: Shelf>(
-    alloc: Global,
+    rt: &(impl Abort + AllocGlobal),
     text: &mut String,
     shelf: &mut H,
     images: &str,
-) -> Result<(), Fail> {
+) {
     for word in images.split(' ') {
         if let Some(image) = image_of(word) {
-            push_said(text, shelf, &image)?;
+            push_said(rt, text, shelf, &image);
         } else {
-            must(word == "taste", "no such image")?;
-            push_taste(alloc, text, shelf)?;
+            must(rt, word == "taste", "no such image");
+            push_taste(rt, text, shelf);
         }
     }
-    Ok(())
 }
 
-fn push_taste<H: Shelf>(alloc: Global, text: &mut String, shelf: &mut H) -> Result<(), Fail> {
-    let tasted = taste_shelf(alloc, shelf)?;
-    text.push_str(tasting_text(alloc, &tasted)?.as_str())?;
-    Ok(())
+fn push_taste<H: Shelf>(rt: &(impl Abort + AllocGlobal), text: &mut String, shelf: &mut H) {
+    let tasted = taste_shelf(rt.alloc(), shelf).expect(rt, "no taste");
+    let told = tasting_text(rt.alloc(), &tasted).expect(rt, "no memory");
+    push(rt, text, told.as_str());
 }
 
-// Appends how a batch ended that was taken whole.
-fn push_end(text: &mut String, told: &Told) -> Result<(), Fail> {
-    must(told.left == 0, "something wasn't read")?;
-    text.push_str(match told.end {
+// How a batch ended that was taken whole.
+fn end_of(rt: &impl Abort, told: &Told) -> &'static str {
+    must(rt, told.left == 0, "something wasn't read");
+    match told.end {
         Ok(BatchEnd::Ended { refused: true }) => "with a refusal\n",
         Ok(BatchEnd::Ended { refused: false }) => "without a refusal\n",
         _ => "with a fault\n",
-    })?;
-    Ok(())
+    }
 }
 
 // Hands the lines in, and appends what is found of them and of the registry.
 fn push_answers<S: Alter, H: Shelf>(
-    alloc: Global,
+    rt: &(impl Abort + AllocGlobal),
     text: &mut String,
     bench: &mut Bench<S, H>,
     lines: &str,
-) -> Result<(), Fail> {
-    let told = tell(alloc, bench, lines.as_bytes())?;
+) {
+    let told = tell(rt, bench, lines.as_bytes());
     for byte in told.text.iter() {
-        text.push(char::from(*byte))?;
+        text.push(char::from(*byte)).expect(rt, "no memory");
     }
-    push_end(text, &told)?;
-    text.push_str(try_status(alloc, bench)??.as_str())?;
-    Ok(())
+    push(rt, text, end_of(rt, &told));
+    let status = try_status(rt, bench).expect(rt, "no status");
+    push(rt, text, status.as_str());
 }
 
 // What is found of a row, as a text.
 fn push_found<S: Alter + Drop, H: Shelf + Drop>(
-    alloc: Global,
+    rt: &(impl Abort + AllocGlobal),
     text: &mut String,
     store: Connection<S>,
     shelf: H,
     row: &Row,
-) -> Result<(), Fail> {
-    let mut bench = open(alloc, store, shelf)?;
-    push_answers(alloc, text, &mut bench, row.lines)?;
+) {
+    let mut bench = open(rt, store, shelf);
+    push_answers(rt, text, &mut bench, row.lines);
     let (_, mut shelf) = bench.close();
-    push_images(alloc, text, &mut shelf, row.images)
+    push_images(rt, text, &mut shelf, row.images);
 }
 
-fn must_find(alloc: Global, row: &Row) -> Result<(), Fail> {
-    let shelf = shelf_of(alloc, row.images)?;
-    let mut text = String::new(alloc);
-    push_found(alloc, &mut text, memory(alloc)?, shelf, row)?;
-    must(text.as_str().trim() == row.found, row.shows)
+fn must_find(rt: &(impl Abort + AllocGlobal), row: &Row) {
+    let mut text = String::new(rt.alloc());
+    push_found(rt, &mut text, in_memory(rt), shelf_of(rt, row.images), row);
+    must(rt, text.as_str().trim() == row.found, row.shows);
 }
 
 #[test]
-fn each_row_is_found_as_worked_out_by_hand(rt: HostRuntime) -> Result<(), Fail> {
+fn each_row_is_found_as_worked_out_by_hand(rt: HostRuntime) {
     let mut count = 0u64;
     for text in ROWS.split('=').skip(1) {
-        must_find(rt.alloc(), &row_of(text).ok_or("no row")?)?;
+        must_find(&rt, &row_of(text).expect(&rt, "no row"));
         count = count.saturating_add(1);
     }
-    must(count == 24, "another count of rows")
+    must(&rt, count == 24, "another count of rows");
 }

@@ -1,20 +1,19 @@
 //! Outputs that take little at a time, and outputs that fail.
 
-use super::{DONE, INSERT, LABEL, answers, open, try_batch};
+use super::{DONE, INSERT, LABEL, answers, images, in_memory, must, open, try_batch};
 use gm_bench::Bench;
 use gm_front::{BatchEnd, FrontFault};
 use gm_shelf::Shelf;
-use gm_test_media::{memory, must, shelf};
 use sqlite::{Alter, Connection};
 use std::alloc::Global;
 use std::io::{self, ErrorKind, Write};
-use std::test::Fail;
+use std::process::Abort;
 
 // Takes so many bytes at a time and in all, and is flushed so often. It may be interrupted before
 // each write. What is full fails, or takes nothing.
 #[derive(Drop)]
 pub(super) struct Narrow {
-    text: Vec<u8>,
+    pub(super) text: Vec<u8>,
     at_once: usize,
     pub(super) room: usize,
     flushes: usize,
@@ -64,6 +63,14 @@ pub(super) fn wide(alloc: Global) -> Narrow {
     }
 }
 
+// Takes so many bytes, and then fails.
+pub(super) fn with_room(alloc: Global, room: usize) -> Narrow {
+    Narrow {
+        room,
+        ..wide(alloc)
+    }
+}
+
 const TOLD: &str = "k1 ok 1\nk2 ok 2\n";
 
 const LAST_TOLD_AGAIN: &str = "k1 repeated 1\nk2 ok 2\n";
@@ -80,95 +87,99 @@ struct Expected {
     fails_at_first: bool,
 }
 
-fn tells<S: Alter, H: Shelf>(
-    alloc: Global,
-    bench: &mut Bench<S, H>,
-    output: &mut Narrow,
-    expected: Expected,
-) -> Result<(), Fail> {
-    let lines = format!(in alloc; "{LABEL}{INSERT}")?;
-    let mut input = lines.as_bytes();
-    let ended = try_batch(alloc, &mut input, output, bench)?;
-    let told = TOLD.as_bytes().get(..expected.told);
-    must(Some(output.text.as_slice()) == told, "another text")?;
-    let (left, again) = if expected.fails_at_first {
+// What is left of the two lines behind a batch that ended so, and what both are then answered.
+fn left_and_told_again(fails_at_first: bool) -> (&'static str, &'static str) {
+    if fails_at_first {
         (INSERT, LAST_TOLD_AGAIN)
     } else {
         ("", BOTH_TOLD_AGAIN)
-    };
+    }
+}
+
+fn tells<S: Alter, H: Shelf>(
+    rt: &(impl Abort + AllocGlobal),
+    bench: &mut Bench<S, H>,
+    output: &mut Narrow,
+    expected: Expected,
+) {
+    let lines = format!(in rt.alloc(); "{LABEL}{INSERT}").expect(rt, "no memory");
+    let mut input = lines.as_bytes();
+    let ended = try_batch(rt, &mut input, output, bench);
+    let told = TOLD.as_bytes().get(..expected.told);
+    must(rt, Some(output.text.as_slice()) == told, "another text");
+    let (left, again) = left_and_told_again(expected.fails_at_first);
     let is_over = ended == expected.end && input == left.as_bytes();
-    must(is_over, "another end or rest")?;
-    answers(alloc, bench, lines.as_bytes(), again, DONE)
+    must(rt, is_over, "another end or rest");
+    answers(rt, bench, lines.as_bytes(), again, DONE);
 }
 
 fn opens_and_tells<S: Alter + Drop, H: Shelf + Drop>(
-    alloc: Global,
+    rt: &(impl Abort + AllocGlobal),
     store: Connection<S>,
     shelf: H,
     output: &mut Narrow,
     expected: Expected,
-) -> Result<(), Fail> {
-    let mut bench = open(alloc, store, shelf)?;
-    tells(alloc, &mut bench, output, expected)
+) {
+    let mut bench = open(rt, store, shelf);
+    tells(rt, &mut bench, output, expected);
+}
+
+// The same over memory.
+fn are_told(rt: &(impl Abort + AllocGlobal), mut output: Narrow, expected: Expected) {
+    opens_and_tells(rt, in_memory(rt), images(rt), &mut output, expected);
 }
 
 #[test]
-fn what_an_output_has_no_room_for_was_done(rt: HostRuntime) -> Result<(), Fail> {
-    let alloc = rt.alloc();
+fn what_an_output_has_no_room_for_was_done(rt: HostRuntime) {
     for case in 0usize..96 {
         let room = case % 16;
         let at_once = [1usize, 3, 16][case / 16 % 3];
-        let mut output = Narrow {
+        let output = Narrow {
             at_once,
             room,
             fails: case < 48,
             interrupts: at_once == 3,
-            ..wide(alloc)
+            ..wide(rt.alloc())
         };
         let expected = Expected {
             told: room,
             end: Err(FrontFault::Write),
             fails_at_first: room < 8,
         };
-        opens_and_tells(alloc, memory(alloc)?, shelf(alloc)?, &mut output, expected)?;
+        are_told(&rt, output, expected);
     }
-    Ok(())
 }
 
 #[test]
-fn an_output_may_be_narrow_and_interrupted(rt: HostRuntime) -> Result<(), Fail> {
-    let alloc = rt.alloc();
+fn an_output_may_be_narrow_and_interrupted(rt: HostRuntime) {
     for at_once in 1usize..10 {
-        let mut output = Narrow {
+        let output = Narrow {
             at_once,
             room: 16,
             interrupts: true,
-            ..wide(alloc)
+            ..wide(rt.alloc())
         };
         let expected = Expected {
             told: 16,
             end: Ok(DONE),
             fails_at_first: false,
         };
-        opens_and_tells(alloc, memory(alloc)?, shelf(alloc)?, &mut output, expected)?;
+        are_told(&rt, output, expected);
     }
-    Ok(())
 }
 
 #[test]
-fn an_answer_that_cant_be_flushed_isnt_told(rt: HostRuntime) -> Result<(), Fail> {
-    let alloc = rt.alloc();
+fn an_answer_that_cant_be_flushed_isnt_told(rt: HostRuntime) {
     for flushes in 0usize..2 {
-        let mut output = Narrow {
+        let output = Narrow {
             flushes,
-            ..wide(alloc)
+            ..wide(rt.alloc())
         };
         let expected = Expected {
             told: flushes * 8 + 8,
             end: Err(FrontFault::Write),
             fails_at_first: flushes == 0,
         };
-        opens_and_tells(alloc, memory(alloc)?, shelf(alloc)?, &mut output, expected)?;
+        are_told(&rt, output, expected);
     }
-    Ok(())
 }
