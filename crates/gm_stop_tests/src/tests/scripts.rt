@@ -1,0 +1,239 @@
+//! The scripts of commands that are stopped, as texts. What is found after each command is worked
+//! out by hand.
+//!
+//! A station stands behind an equals sign, and has three parts with bars between them: the command
+//! that leads there, which the first station lacks; for how many writes it asks; and what is found
+//! there. Those are the mirrors, as a status shows them, and of each image what its last sector says
+//! and whose data it has.
+
+use super::got;
+use gm_metadata::encode;
+use gm_shelf::MemShelf;
+use gm_state::Reply;
+use gm_test_bench::{IN_SYNC, metadata};
+use gm_test_media::add;
+use std::process::Abort;
+
+/// What the images carry at the start of a script.
+#[derive(Clone, Copy)]
+pub(super) enum Start {
+    /// No metadata.
+    Bare,
+    /// Those of a mirror that no registry knows.
+    OfAMirror,
+}
+
+/// A script: what it starts from, and its stations.
+#[derive(Clone, Copy)]
+pub(super) struct Script {
+    start: Start,
+    stations: &'static str,
+}
+
+/// A command, for how many writes it asks, and what is found behind it.
+#[derive(Clone, Copy)]
+pub(super) struct Station {
+    pub(super) words: &'static str,
+    pub(super) writes: u64,
+    pub(super) found: &'static str,
+}
+
+/// A mirror of two that is filled, of which one component goes out of use and comes back.
+pub(super) const FILLED: Script = Script {
+    start: Start::Bare,
+    stations: "= | 0 |
+no mirrors
+a.img: nothing, data of a.img
+b.img: nothing, data of b.img
+c.img: nothing, data of c.img
+= label --mid 7 --did 1 gm0 a.img | 1 |
+gm0             COMPLETE 1/1
+  a.img           ACTIVE
+a.img: did 1 of 1, genid 0, syncid 1, balance 2, flags 0, data of a.img
+b.img: nothing, data of b.img
+c.img: nothing, data of c.img
+= insert --did 2 gm0 b.img | 2 |
+gm0             DEGRADED 1/2
+  a.img           ACTIVE
+  b.img           SYNCHRONIZING 0 of 3
+a.img: did 1 of 2, genid 0, syncid 1, balance 2, flags 0, data of a.img
+b.img: did 2 of 2, genid 0, syncid 1, balance 2, flags 2, data of b.img
+c.img: nothing, data of c.img
+= advance gm0 b.img | 2 |
+gm0             COMPLETE 2/2
+  a.img           ACTIVE
+  b.img           ACTIVE
+a.img: did 1 of 2, genid 0, syncid 1, balance 2, flags 0, data of a.img
+b.img: did 2 of 2, genid 0, syncid 1, balance 2, flags 0, data of a.img
+c.img: nothing, data of c.img
+= deactivate gm0 b.img | 2 |
+gm0             DEGRADED 1/2
+  a.img           ACTIVE
+  b.img           INACTIVE
+a.img: did 1 of 2, genid 0, syncid 2, balance 2, flags 0, data of a.img
+b.img: did 2 of 2, genid 0, syncid 1, balance 2, flags 8, data of a.img
+c.img: nothing, data of c.img
+= activate gm0 b.img | 1 |
+gm0             DEGRADED 1/2
+  a.img           ACTIVE
+  b.img           SYNCHRONIZING 0 of 3
+a.img: did 1 of 2, genid 0, syncid 2, balance 2, flags 0, data of a.img
+b.img: did 2 of 2, genid 0, syncid 2, balance 2, flags 2, data of a.img
+c.img: nothing, data of c.img
+",
+};
+
+/// A mirror of two that loses a component.
+pub(super) const LOST: Script = Script {
+    start: Start::Bare,
+    stations: "= | 0 |
+no mirrors
+a.img: nothing, data of a.img
+b.img: nothing, data of b.img
+c.img: nothing, data of c.img
+= label --mid 7 --did 1 gm0 a.img | 1 |
+gm0             COMPLETE 1/1
+  a.img           ACTIVE
+a.img: did 1 of 1, genid 0, syncid 1, balance 2, flags 0, data of a.img
+b.img: nothing, data of b.img
+c.img: nothing, data of c.img
+= insert --did 2 gm0 b.img | 2 |
+gm0             DEGRADED 1/2
+  a.img           ACTIVE
+  b.img           SYNCHRONIZING 0 of 3
+a.img: did 1 of 2, genid 0, syncid 1, balance 2, flags 0, data of a.img
+b.img: did 2 of 2, genid 0, syncid 1, balance 2, flags 2, data of b.img
+c.img: nothing, data of c.img
+= advance gm0 b.img | 2 |
+gm0             COMPLETE 2/2
+  a.img           ACTIVE
+  b.img           ACTIVE
+a.img: did 1 of 2, genid 0, syncid 1, balance 2, flags 0, data of a.img
+b.img: did 2 of 2, genid 0, syncid 1, balance 2, flags 0, data of a.img
+c.img: nothing, data of c.img
+= lost gm0 b.img | 1 |
+gm0             DEGRADED 1/2
+  a.img           ACTIVE
+a.img: did 1 of 2, genid 1, syncid 1, balance 2, flags 0, data of a.img
+b.img: did 2 of 2, genid 0, syncid 1, balance 2, flags 0, data of a.img
+c.img: nothing, data of c.img
+= forget gm0 | 1 |
+gm0             COMPLETE 1/1
+  a.img           ACTIVE
+a.img: did 1 of 1, genid 1, syncid 1, balance 2, flags 0, data of a.img
+b.img: did 2 of 2, genid 0, syncid 1, balance 2, flags 0, data of a.img
+c.img: nothing, data of c.img
+",
+};
+
+/// A mirror that is found on images, and taken apart.
+pub(super) const ADOPTED: Script = Script {
+    start: Start::OfAMirror,
+    stations: "= | 0 |
+no mirrors
+a.img: did 1 of 2, genid 0, syncid 1, balance 2, flags 0, data of a.img
+b.img: did 2 of 2, genid 0, syncid 1, balance 2, flags 0, data of b.img
+c.img: did 3 of 2, genid 0, syncid 1, balance 2, flags 0, data of c.img
+= adopt gm0 a.img b.img | 2 |
+gm0             DEGRADED 1/2
+  a.img           ACTIVE
+  b.img           SYNCHRONIZING 0 of 3
+a.img: did 1 of 2, genid 0, syncid 1, balance 2, flags 0, data of a.img
+b.img: did 2 of 2, genid 0, syncid 1, balance 2, flags 2, data of b.img
+c.img: did 3 of 2, genid 0, syncid 1, balance 2, flags 0, data of c.img
+= configure --balance split gm0 | 2 |
+gm0             DEGRADED 1/2
+  a.img           ACTIVE
+  b.img           SYNCHRONIZING 0 of 3
+a.img: did 1 of 2, genid 0, syncid 1, balance 3, flags 0, data of a.img
+b.img: did 2 of 2, genid 0, syncid 1, balance 3, flags 2, data of b.img
+c.img: did 3 of 2, genid 0, syncid 1, balance 2, flags 0, data of c.img
+= rebuild gm0 b.img | 1 |
+gm0             DEGRADED 1/2
+  a.img           ACTIVE
+  b.img           SYNCHRONIZING 0 of 3
+a.img: did 1 of 2, genid 0, syncid 1, balance 3, flags 0, data of a.img
+b.img: did 2 of 2, genid 0, syncid 1, balance 3, flags 6, data of b.img
+c.img: did 3 of 2, genid 0, syncid 1, balance 2, flags 0, data of c.img
+= remove gm0 b.img | 2 |
+gm0             COMPLETE 1/1
+  a.img           ACTIVE
+a.img: did 1 of 1, genid 0, syncid 1, balance 3, flags 0, data of a.img
+b.img: nothing, data of b.img
+c.img: did 3 of 2, genid 0, syncid 1, balance 2, flags 0, data of c.img
+= clear c.img | 1 |
+gm0             COMPLETE 1/1
+  a.img           ACTIVE
+a.img: did 1 of 1, genid 0, syncid 1, balance 3, flags 0, data of a.img
+b.img: nothing, data of b.img
+c.img: nothing, data of c.img
+= destroy gm0 | 1 |
+no mirrors
+a.img: nothing, data of a.img
+b.img: nothing, data of b.img
+c.img: nothing, data of c.img
+",
+};
+
+// The keys of the commands, and of two that aren't in any script.
+const KEYS: [&str; 8] = ["k1", "k2", "k3", "k4", "k5", "k6", "k7", "k8"];
+
+/// The key of the command at this place, from 0 on.
+pub(super) fn key_at(rt: &impl Abort, place: u64) -> &'static str {
+    KEYS.get(place as usize).copied().expect(rt, "no key")
+}
+
+// The number that one digit says.
+fn digit(text: &str) -> Option<u64> {
+    let byte = *text.as_bytes().first()?;
+    Some(u64::from(byte.checked_sub(b'0')?))
+}
+
+impl Script {
+    /// The station behind so many commands, where there is one.
+    pub(super) fn find(self, commands: u64) -> Option<Station> {
+        // Nothing stands before the first equals sign.
+        let text = self.stations.split('=').skip(1).nth(commands as usize)?;
+        let mut parts = text.split('|');
+        Some(Station {
+            words: parts.next()?.trim(),
+            writes: digit(parts.next()?.trim())?,
+            found: parts.next()?.trim(),
+        })
+    }
+
+    /// The station behind so many commands.
+    pub(super) fn station(self, rt: &impl Abort, commands: u64) -> Station {
+        self.find(commands).expect(rt, "no station")
+    }
+
+    /// How many commands it has.
+    pub(super) fn length(self) -> u64 {
+        (self.stations.split('=').count() as u64).saturating_sub(2)
+    }
+
+    /// Its images at the start. Each sector of data has a number of its own in each byte.
+    pub(super) fn shelf(self, rt: &(impl Abort + AllocGlobal)) -> MemShelf {
+        let mut shelf = MemShelf::new(rt.alloc());
+        for (name, did) in [("a.img", 1u8), ("b.img", 2), ("c.img", 3)] {
+            let first = did * 10;
+            let last = match self.start {
+                Start::Bare => [0; 512],
+                Start::OfAMirror => encode(&got(rt, metadata(u32::from(did), 2, IN_SYNC))),
+            };
+            let sectors = [[first; 512], [first + 1; 512], [first + 2; 512], last];
+            let sectors = Vec::from_array(rt.alloc(), sectors).expect(rt, "no memory");
+            got(rt, add(&mut shelf, name, sectors));
+        }
+        shelf
+    }
+}
+
+/// What a command with these words is answered beside its number.
+pub(super) fn reply_to(words: &str) -> Reply {
+    if words.starts_with("advance") {
+        Reply::Copied { held: 3, total: 3 }
+    } else {
+        Reply::Plain
+    }
+}
