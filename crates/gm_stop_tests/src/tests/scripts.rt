@@ -126,7 +126,7 @@ c.img: nothing, data of c.img
 ",
 };
 
-/// A mirror that is found on images, and taken apart.
+/// A mirror that is found on images, filled, and taken apart.
 pub(super) const ADOPTED: Script = Script {
     start: Start::OfAMirror,
     stations: "= | 0 |
@@ -155,28 +155,35 @@ gm0             DEGRADED 1/2
 a.img: did 1 of 2, genid 0, syncid 1, balance 3, flags 0, data of a.img
 b.img: did 2 of 2, genid 0, syncid 1, balance 3, flags 6, data of b.img
 c.img: did 3 of 2, genid 0, syncid 1, balance 2, flags 0, data of c.img
+= advance gm0 b.img | 2 |
+gm0             COMPLETE 2/2
+  a.img           ACTIVE
+  b.img           ACTIVE
+a.img: did 1 of 2, genid 0, syncid 1, balance 3, flags 0, data of a.img
+b.img: did 2 of 2, genid 0, syncid 1, balance 3, flags 0, data of a.img
+c.img: did 3 of 2, genid 0, syncid 1, balance 2, flags 0, data of c.img
 = remove gm0 b.img | 2 |
 gm0             COMPLETE 1/1
   a.img           ACTIVE
 a.img: did 1 of 1, genid 0, syncid 1, balance 3, flags 0, data of a.img
-b.img: nothing, data of b.img
+b.img: nothing, data of a.img
 c.img: did 3 of 2, genid 0, syncid 1, balance 2, flags 0, data of c.img
 = clear c.img | 1 |
 gm0             COMPLETE 1/1
   a.img           ACTIVE
 a.img: did 1 of 1, genid 0, syncid 1, balance 3, flags 0, data of a.img
-b.img: nothing, data of b.img
+b.img: nothing, data of a.img
 c.img: nothing, data of c.img
 = destroy gm0 | 1 |
 no mirrors
 a.img: nothing, data of a.img
-b.img: nothing, data of b.img
+b.img: nothing, data of a.img
 c.img: nothing, data of c.img
 ",
 };
 
 // The keys of the commands, and of two that aren't in any script.
-const KEYS: [&str; 8] = ["k1", "k2", "k3", "k4", "k5", "k6", "k7", "k8"];
+const KEYS: [&str; 9] = ["k1", "k2", "k3", "k4", "k5", "k6", "k7", "k8", "k9"];
 
 /// The key of the command at this place, from 0 on.
 pub(super) fn key_at(rt: &impl Abort, place: u64) -> &'static str {

@@ -269,13 +269,13 @@ fn a_shelf_that_acts_and_stops_while_a_component_is_lost(rt: HostRuntime) {
     stop_twice(&rt, LOST, Stop::Behind, Stop::OnceBehind, 1500);
 }
 
-// An adopt, a configure, a rebuild, a remove, a clear and a destroy.
+// An adopt, a configure, a rebuild, an advance, a remove, a clear and a destroy.
 #[test]
 fn a_shelf_that_stops_while_a_mirror_is_taken_apart(rt: HostRuntime) {
-    stop_twice(&rt, ADOPTED, Stop::Before, Stop::OnceBefore, 800);
+    stop_twice(&rt, ADOPTED, Stop::Before, Stop::OnceBefore, 500);
 }
 
 #[test]
 fn a_shelf_that_acts_and_stops_while_a_mirror_is_taken_apart(rt: HostRuntime) {
-    stop_twice(&rt, ADOPTED, Stop::Behind, Stop::OnceBehind, 800);
+    stop_twice(&rt, ADOPTED, Stop::Behind, Stop::OnceBehind, 500);
 }
