@@ -1,4 +1,4 @@
--- What a request makes of a schedule: its command, where that is done, is accepted and acknowledged.
+-- What a request makes of a schedule: a command of its that is done is accepted and acknowledged.
 use Rattle.std.specs.Prelude.{◌⊎◌, ℕ, List, [], ◌∷◌, Option, Result, Ok, Err, IfSome}
 use Rattle.sqlite_trees.specs.declared.store.Store.{Ghosts}
 use Rattle.sqlite.specs.Held.{Held}
@@ -19,8 +19,8 @@ calls_in (Carry key command) = record { key = key; command = command } ∷ []
 calls_in _ = []
 
 module _ {S H : Type 0} (g : Ghosts S) (view : H → View) (size : H → Sizes) (all : Sizes) where
-  -- The bench, which was at rest with the registry r and the shelf h, failed at what is demanded: at
-  -- a command; or at a look, behind which whatever a stop leaves leads on as before.
+  -- The bench, which was at rest with the registry r and the shelf h, failed at what is demanded:
+  -- at a command; or at a look, behind which whatever a stop leaves leads on as before.
   abbrev pub IsStoppedIn : Demand → (r s : Held S) (h k : H) (away : Image) (acc ack : List Entry)
       → AtRest g view size all r h away acc ack → Type 0
   IsStoppedIn (Carry key command) r s h k away acc ack rest =

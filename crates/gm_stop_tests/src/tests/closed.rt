@@ -1,5 +1,5 @@
-//! A bench that its shelf closed, since its device failed or memory is wanting: each later call does
-//! nothing, and both media stay. And one that was closed between two calls.
+//! A bench that its shelf closed, since its device failed or memory is wanting: each later call
+//! does nothing, and both media stay. And one that was closed between two calls.
 
 use super::media::{Job, Media, Told, fresh, look};
 use super::scripts::{ADOPTED, FILLED, LOST, Script};

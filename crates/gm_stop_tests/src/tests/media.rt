@@ -23,8 +23,8 @@ pub(super) struct Media {
 }
 
 /// So many calls of a script, each an accepting, a carrying out or a settling, after so many
-/// commands of it that were done before; of none only the opening is asked. Where a fault closes the
-/// bench, it may be asked each call once more.
+/// commands of it that were done before; of none only the opening is asked. Where a fault closes
+/// the bench, it may be asked each call once more.
 #[derive(Clone, Copy)]
 pub(super) struct Job {
     pub(super) script: Script,

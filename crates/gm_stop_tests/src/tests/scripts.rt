@@ -3,8 +3,8 @@
 //!
 //! A station stands behind an equals sign, and has three parts with bars between them: the command
 //! that leads there, which the first station lacks; for how many writes it asks; and what is found
-//! there. Those are the mirrors, as a status shows them, and of each image what its last sector says
-//! and whose data it has.
+//! there. Those are the mirrors, as a status shows them, and of each image what its last sector
+//! says and whose data it has.
 
 use super::got;
 use gm_metadata::encode;

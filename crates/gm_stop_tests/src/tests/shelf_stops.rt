@@ -1,5 +1,5 @@
-//! Scripts whose shelf stops at each of its calls in turn, in each way, and the openings behind that,
-//! which stop so too: whatever a crash then leaves is found to be a station of the script.
+//! Scripts whose shelf stops at each of its calls in turn, in each way, and the openings behind
+//! that, which stop so too: whatever a crash then leaves is found to be a station of the script.
 
 use super::found::must_claim_truly;
 use super::media::{Job, Left, Media, Told, copy_of, crash_image, fresh, look, perform_on_files};
