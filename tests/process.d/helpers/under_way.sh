@@ -9,6 +9,13 @@ wait_for() {
     done
 }
 
+# Waits until a file has that many lines, for at most 10 seconds.
+wait_for_lines() {
+    for _ in 1 2 3 4 5 6 7 8 9 10 11 12 13 14 15 16 17 18 19 20; do
+        [ "$(wc -l <"$2")" -ge "$1" ] || sleep 0.5
+    done
+}
+
 # Sends lines to the batch that is under way, or to nobody where it has ended.
 send() {
     (

@@ -61,9 +61,7 @@ for kind in $changes; do
     expect "nothing is pending behind it" 0 'recovered 0' ''
     fresh_bench "$kind-once-it-is-open"
     begin_batch "k0 clear b.img\n$label$insert"
-    for _ in 1 2 3 4 5 6 7 8 9 10; do
-        [ "$(wc -l <"$bench/answers")" = 3 ] || sleep 0.2
-    done
+    wait_for_lines 3 "$bench/answers"
     expect_disk_fault "an image that was open $kind" "$(lines 'k0 refused 29\nk1 ok 1\nk2 ok 2')" \
         'k3 advance gm0 b.img\n' "$kind"
     at_bench recover

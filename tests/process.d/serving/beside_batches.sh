@@ -55,18 +55,15 @@ if has_python 'a server beside batches'; then
         number=$((number + 1))
     done >"$work/fill"
     begin_server
-    python3 -B "$tests/serving/many.py" "$port" "$work/fill" >"$work/filled" 2>/dev/null &
-    filling=$!
-    wait_for "$work/filled"
-    sleep 0.2
-    pkill -9 -P "$under_way"
-    wait "$under_way" "$filling" 2>/dev/null
+    server=$(pgrep -P "$under_way")
+    python3 -B "$tests/serving/many.py" "$port" "$work/fill" 100 "$server" >"$work/filled" 2>&1
+    wait "$under_way" 2>/dev/null
     answered=$(grep -c copied "$work/filled")
     at_bench audit
     expect 'no image is amiss behind a server that was killed' 0 '' ''
     at_bench batch <"$work/fill"
     repeated=$(grep -c repeated "$work/output")
-    if [ "$repeated" -ge "$answered" ] && [ "$repeated" -le $((answered + 1)) ] && [ "$repeated" -lt 256 ]; then
+    if [ "$answered" = 100 ] && { [ "$repeated" = 100 ] || [ "$repeated" = 101 ]; }; then
         pass 'what it answered is done, and at most one line more'
     else
         fail 'what it answered is done, and at most one line more' "$answered answered, $repeated done"
