@@ -6,28 +6,34 @@ use Rattle.gm_state.specs.World.{World, Sound}
 use Rattle.gm_refusals.specs.Applies.{IsGood}
 use Rattle.gm_rules.specs.Step.{CanAnswer, HasPlan}
 use Rattle.gm_refusals.specs.WorldFacts.{seen_of}
-use Rattle.gm_rules.proofs.PlanLabel.{label_has}
-use Rattle.gm_rules.proofs.PlanInsert.{insert_has}
-use Rattle.gm_rules.proofs.PlansDropping.{lost_has, remove_has}
-use Rattle.gm_rules.proofs.PlansKeeping.{deactivate_has, activate_has, forget_has, rebuild_has, configure_has}
-use Rattle.gm_rules.proofs.PlanAdvance.{advance_has}
-use Rattle.gm_rules.proofs.PlanClear.{clear_has}
-use Rattle.gm_rules.proofs.PlanDestroy.{destroy_has}
-use Rattle.gm_rules.proofs.PlanAdopt.{adopt_has}
+use Rattle.gm_rules.proofs.PlanOf.{Allowed, PlanOf}
+use Rattle.gm_rules.proofs.PlanOfStep.{has_plan}
+use Rattle.gm_rules.proofs.PlanLabel.{label_plan}
+use Rattle.gm_rules.proofs.PlanInsert.{insert_plan}
+use Rattle.gm_rules.proofs.PlansDropping.{lost_plan, remove_plan}
+use Rattle.gm_rules.proofs.PlansKeeping.{deactivate_plan, activate_plan, forget_plan, rebuild_plan, configure_plan}
+use Rattle.gm_rules.proofs.PlanAdvance.{advance_plan}
+use Rattle.gm_rules.proofs.PlanClear.{clear_plan}
+use Rattle.gm_rules.proofs.PlanDestroy.{destroy_plan}
+use Rattle.gm_rules.proofs.PlanAdopt.{adopt_plan}
+
+plan_of : (u : World) (c : Command) → Allowed u c → PlanOf u c
+plan_of u (Label new) may = label_plan u new may
+plan_of u (Insert new) may = insert_plan u new may
+plan_of u (Remove n p) may = remove_plan u n p may
+plan_of u (Deactivate n p) may = deactivate_plan u n p may
+plan_of u (Activate n p) may = activate_plan u n p may
+plan_of u (Forget n) may = forget_plan u n may
+plan_of u (Rebuild n p) may = rebuild_plan u n p may
+plan_of u (Configure n settings) may = configure_plan u n settings may
+plan_of u (Clear p) may = clear_plan u p may
+plan_of u (Destroy n) may = destroy_plan u n may
+plan_of u (Lost n ps) may = lost_plan u n ps may
+plan_of u (Advance n p) may = advance_plan u n p may
+plan_of u (Adopt n ps) may = adopt_plan u n ps may
 
 pub every_plan : (u : World) (key : List ℕ) (c : Command) → Sound u → CanAnswer u key c
     → IsGood u.state (seen_of u) c → HasPlan u key c
-every_plan u key (Label new) sound answer good = label_has u key new sound answer good
-every_plan u key (Insert new) sound answer good = insert_has u key new sound answer good
-every_plan u key (Remove n p) sound answer good = remove_has u key n p sound answer good
-every_plan u key (Deactivate n p) sound answer good = deactivate_has u key n p sound answer good
-every_plan u key (Activate n p) sound answer good = activate_has u key n p sound answer good
-every_plan u key (Forget n) sound answer good = forget_has u key n sound answer good
-every_plan u key (Rebuild n p) sound answer good = rebuild_has u key n p sound answer good
-every_plan u key (Configure n settings) sound answer good =
-    configure_has u key n settings sound answer good
-every_plan u key (Clear p) sound answer good = clear_has u key p sound answer good
-every_plan u key (Destroy n) sound answer good = destroy_has u key n sound answer good
-every_plan u key (Lost n ps) sound answer good = lost_has u key n ps sound answer good
-every_plan u key (Advance n p) sound answer good = advance_has u key n p sound answer good
-every_plan u key (Adopt n ps) sound answer good = adopt_has u key n ps sound answer good
+every_plan u key c sound can good =
+    has_plan u key c sound can good
+    (plan_of u c (record { sound = sound; fits = can.fits; good = good }))

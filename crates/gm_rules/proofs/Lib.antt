@@ -1,9 +1,9 @@
-pub mod AdjustedMirror
 pub mod AdoptedEqual
 pub mod AdoptedState
 pub mod EnrolledMirror
 pub mod EveryPlan
 pub mod FilteredMirror
+pub mod FoundMembers
 pub mod MappedMirror
 pub mod OneMoreAnswer
 pub mod PlanAdopt
@@ -12,10 +12,12 @@ pub mod PlanClear
 pub mod PlanDestroy
 pub mod PlanInsert
 pub mod PlanLabel
+pub mod PlanOf
 pub mod PlanOfStep
 pub mod PlansDropping
 pub mod PlansKeeping
 pub mod RuledOut
-pub mod StepOfMirror
-pub mod FoundMembers
 pub mod StandIn
+pub mod StepOfMirror
+pub mod TurnedMirror
+pub mod WrittenIntents

@@ -1,37 +1,32 @@
 -- A command that keeps the components of its mirror: the mirror has another record, and each
 -- component is changed where it stands.
-use Rattle.std.proofs.Common.{◌≡◌, ◌≢◌, ◌∙◌, ◌⊎◌, inl, inr, ⊎_elim, ℕ, ◌<◌, ◌≤◌, ◌+◌, ◌-◌, ◌^◌, false, refl, sym, ap, subst, arith, List, [], ◌∷◌, Some, length, map, cond}
-use Rattle.std.specs.Prelude.{IsSomeAnd}
+use Rattle.std.proofs.Common.{◌≡◌, ◌≢◌, ◌∙◌, ◌⊎◌, inl, inr, ⊎_elim, ℕ, ◌<◌, ◌≤◌, ◌-◌, ◌+◌, ◌^◌, Bool, true, false, refl, sym, ap, subst, arith, List, [], ◌∷◌, Option, Some, None, IfSome, length, map, cond}
+use Rattle.std.proofs.lemmas.Bool.{cases_Bool}
 use Rattle.std.proofs.lemmas.List.{length-map}
 use Rattle.gm_metadata.specs.Images.{same_label}
 use Rattle.gm_metadata.specs.Reading.{encoded}
 use Rattle.gm_commands.specs.declared.command.Command.{Command}
-use Rattle.gm_state.specs.declared.intents.Intent.{Intent}
 use Rattle.gm_state.specs.declared.intents.Intent.TheVariants.{Meta}
 use Rattle.gm_state.specs.declared.records.Mirror.{Mirror}
 use Rattle.gm_state.specs.declared.records.Component.{Component}
 use Rattle.gm_state.specs.declared.records.Disk.TheVariants.{InSync, Inactive}
-use Rattle.gm_lists.specs.Ordered.{Has, put}
-use Rattle.gm_state.specs.Records.{Records, IsMirror, MirrorFits, ComponentFits, held_by, held_of, members, name, provider}
+use Rattle.gm_lists.specs.Ordered.{Has, Ascends, put, put_all}
+use Rattle.gm_state.specs.Records.{Records, IsMirror, ComponentFits, held_by, held_of, members, name, provider}
 use Rattle.gm_state.specs.Lookups.{metadata}
 use Rattle.gm_state.specs.World.{World, Sound, Below, ReplyFits, present}
 use Rattle.gm_lists.proofs.Order.{same_is, same_from, same_tells, differ}
-use Rattle.gm_lists.proofs.Lists.{Has-filter}
-use Rattle.gm_lists.proofs.Finding.{not_both}
-use Rattle.gm_lists.proofs.Lists.{map-Has}
-use Rattle.gm_state.proofs.Presence.{present_size, some_and}
-use Rattle.gm_changes.specs.After.{after, clears, intents_of, metas, reply_to}
-use Rattle.gm_refusals.specs.Applies.{name_of}
-use Rattle.gm_refusals.specs.Applies.{IsGood}
-use Rattle.gm_rules.specs.Step.{CanAnswer, HasPlan, NewData, WereBare}
+use Rattle.gm_lists.proofs.Lists.{Has-filter, Has-map, map-Has}
+use Rattle.gm_lists.proofs.Putting.{one}
+use Rattle.gm_lists.proofs.Mapped.{map_id, put-map}
+use Rattle.gm_lists.proofs.PutInPlace.{Ascends-put_all}
+use Rattle.gm_changes.specs.After.{after, clears, fills, intents_of, metas, reply_to}
+use Rattle.gm_changes.proofs.KeptComponents.{Keeps, keeps_either, keeps_id, keeps_where, mapped_members, members_put, put-again, put_mapped, where_of}
+use Rattle.gm_refusals.specs.Applies.{is_awaited}
 use Rattle.gm_refusals.specs.WorldFacts.{seen_of}
-use Rattle.gm_rules.proofs.AdjustedMirror.{Adjusts, adjusts_turns, adjusts_were, adjusted}
-use Rattle.gm_changes.proofs.KeptComponents.{Keeps, keeps_either, keeps_id, mapped_members, put-again}
-use Rattle.gm_lists.proofs.Lists.{Has-map}
-use Rattle.gm_lists.proofs.Mapped.{Ascends-map, map_id, put-map}
-use Rattle.gm_rules.proofs.PlanOfStep.{IsPlain, ArePlain, Serves, has, serves_kept}
-use Rattle.gm_rules.proofs.RuledOut.{CanTouch, metas_has, not_on}
-use Rattle.gm_rules.proofs.StepOfMirror.{Turns, Writes, IsOne}
+use Rattle.gm_rules.specs.Step.{NewData, WereBare}
+use Rattle.gm_rules.proofs.PlanOf.{PlanOf, Stretch, IsLent, TakesNothing, is_copied, with_copied, written}
+use Rattle.gm_rules.proofs.RuledOut.{CanTouch, Names}
+use Rattle.gm_rules.proofs.TurnedMirror.{Adjusts, Renews, adjusts_data, adjusts_turns, renewed_fits, with_put}
 
 -- component k keeps the rules of m', which was m
 pub record Obeys (m m' : Mirror) (k : Component) : Type 0 where
@@ -40,329 +35,342 @@ pub record Obeys (m m' : Mirror) (k : Component) : Type 0 where
   pub syncid : k.syncid ≤ m'.syncid
   pub current : k.disk ≢ Inactive → k.syncid ≡ m'.syncid
 
--- so does component k, which was o, and it holds no more than it did
-pub record Stands (m m' : Mirror) (o k : Component) : Type 0 where
-  pub priority : k.priority < 2 ^ 8
-  pub held : held_of k.disk < m.data_sectors
-  pub holds : held_by k.disk m.data_sectors ≤ held_by o.disk m.data_sectors
-  pub syncid : k.syncid ≤ m'.syncid
-  pub current : k.disk ≢ Inactive → k.syncid ≡ m'.syncid
-
--- one that isn't changed, where the mirror's syncid isn't either
-pub stands_still : (m m' : Mirror) (ks : List Component) (k : Component) → IsMirror m ks → Has ks k
-    → m'.syncid ≡ m.syncid → Stands m m' k k
-stands_still m m' ks k rules h e = record {
+-- so it does where it isn't changed, and the mirror's syncid isn't either
+pub obeys_still : (m m' : Mirror) (ks : List Component) (k : Component) → IsMirror m ks → Has ks k
+    → m'.syncid ≡ m.syncid → Obeys m m' k
+obeys_still m m' ks k rules h e = record {
   priority = (rules.members_fit k h).priority;
   held = rules.held k h;
-  holds = omega arith;
   syncid = rw e (rules.syncids k h);
   current = rw e (rules.current k h);
 }
 
-pub obeys : (m m' : Mirror) (o k : Component) → Stands m m' o k → Obeys m m' k
-obeys m m' o k s = record {
-  priority = s.priority;
-  held = s.held;
-  syncid = s.syncid;
-  current = s.current;
-}
+-- the components of other mirrors are as they were
+members_others : (n : List ℕ) (g : Component → Component) → Keeps g → (ks : List Component)
+    → Ascends provider ks → (n' : List ℕ) → n' ≢ n
+    → members (put_all provider (map g (members ks n)) ks) n' ≡ members ks n'
+members_others n g keeps ks order n' d =
+    ap (λ (l : List Component). members l n') (put_mapped n g keeps ks order)
+    ∙ mapped_members (where_of n g) (keeps_where n g keeps) ks n'
+    ∙ map_id (where_of n g) (members ks n') (λ k i.
+    let r = Has-filter (λ (j : Component). same_label j.mirror n') ks k i in
+    rw (differ k.mirror n (λ e. d (sym (same_is k.mirror n' r.1) ∙ e))) refl)
 
-pub obeys_still : (m : Mirror) (ks : List Component) (k : Component) → IsMirror m ks → Has ks k
-    → Obeys m m k
-obeys_still m ks k rules h = obeys m m k k (stands_still m m ks k rules h refl)
+-- ---- the command
 
--- ---- the records
-
--- What becomes of mirror m and its components: m' of the one, and f of each of the others.
-pub record Reshapes (u : World) (m m' : Mirror) (f : Component → Component) : Type 0 where
-  pub here : Has u.state.mirrors m
-  pub there : (k : Component) → Has (members u.state.components m.name) k
-      → present u k.provider ≡ Some k.sectors
-  pub same_name : m'.name ≡ m.name
-  pub same_mid : m'.mid ≡ m.mid
-  pub same_data : m'.data_sectors ≡ m.data_sectors
-  pub keeps : Keeps f
-  pub alone : (k : Component) → Has u.state.components k → k.mirror ≢ m.name → f k ≡ k
-  pub fits : MirrorFits m'
-  pub all : m'.all ≤ 16
+-- What the command makes of mirror m and its components: m' of the one, and g of each of the
+-- others.
+pub record Reshapes (u : World) (m m' : Mirror) (g : Component → Component) : Type 0 where
+  pub same : Renews m m'
+  pub keeps : Keeps g
   pub room : length (members u.state.components m.name) ≤ m'.all
-  pub active : (k : Component) × Has (members u.state.components m.name) k × ((f k).disk ≡ InSync)
-  pub each : (k : Component) → Has (members u.state.components m.name) k → Obeys m m' (f k)
+  pub active : (k : Component) × Has (members u.state.components m.name) k × ((g k).disk ≡ InSync)
+  pub each : (k : Component) → Has (members u.state.components m.name) k → Obeys m m' (g k)
 
-module _ (u : World) (m m' : Mirror) (f : Component → Component) (sound : Sound u)
-    (a : Reshapes u m m' f) where
+abbrev pub reshaped : World → Mirror → Mirror → (Component → Component) → Records
+reshaped u m m' g = with_put u.state m'
+    (put_all provider (map g (members u.state.components m.name)) u.state.components)
+
+-- It may copy data to them, and those told are the ones whose metadata it writes.
+pub record Maps (u : World) (c : Command) (m m' : Mirror) (g : Component → Component)
+    (stretch : Option Stretch) (told : List Component) : Type 0 where
+  pub shape : Reshapes u m m' g
+  pub waits : (k : Component) → is_awaited c k ≡ true
+  pub below : (k : Component) → Has (members u.state.components m.name) k
+      → Below (with_copied stretch u.shelf) (u.holds m.name) k.provider
+      (held_by (g k).disk m.data_sectors)
+  pub after_is : reshaped u m m' g ≡ after (seen_of u) c u.state
+  pub intents : written stretch [] told ≡ intents_of c u.state (reshaped u m m' g)
+  pub reply : ReplyFits (reply_to c u.state)
+  pub new : (w : World) → NewData u c w
+  pub bare : (w : World) → WereBare c u w
+  pub lent : IfSome stretch (IsLent m' (map g (members u.state.components m.name)) told)
+  pub filled : (q : List ℕ) (j : ℕ) → is_copied stretch q j ≡ fills u.state c q j
+  pub none : (q : List ℕ) → false ≡ clears u.state c q
+  pub told_are : (k : Component) → Has told k
+      → Has (map g (members u.state.components m.name)) k
+  pub all_told : (k : Component) → Has (members u.state.components m.name) k → Has told (g k)
+      ⊎ ((m' ≡ m) × (g k ≡ k))
+
+module _ (u : World) (c : Command) (m m' : Mirror) (g : Component → Component)
+    (stretch : Option Stretch) (told : List Component) (of : Names u c m)
+    (a : Maps u c m m' g stretch told) where
+  abbrev shape : Reshapes u m m' g
+  shape = a.shape
+
+  abbrev sound : Sound u
+  sound = of.may.sound
+
   abbrev old : List Component
   old = members u.state.components m.name
 
   abbrev ks : List Component
-  ks = map f old
+  ks = map g old
 
   abbrev comps : List Component
-  comps = map f u.state.components
+  comps = put_all provider ks u.state.components
 
-  pub rules : IsMirror m old
-  rules = sound.state.each m a.here
+  abbrev rules : IsMirror m old
+  rules = of.rules
 
-  -- for each of ks: it is f of an old one
-  pub each_of : (P : Component → Type 0) → ((k : Component) → Has old k → P (f k)) → (j : Component)
+  -- for each of ks: it is g of an old one
+  each_of : (P : Component → Type 0) → ((k : Component) → Has old k → P (g k)) → (j : Component)
       → Has ks j → P j
-  each_of P h j i = let r = Has-map f old j i in subst P r.2 (h r.0 r.1)
+  each_of P h j i = let r = Has-map g old j i in subst P r.2 (h r.0 r.1)
 
-  same_dids : (k : Component) → Has old k → (j : Component) → Has ks j → (f k).did ≡ j.did → f k ≡ j
-  same_dids k h = each_of (λ j. (f k).did ≡ j.did
-      → f k ≡ j) (λ l g e. ap f (rules.dids k h l g (sym (a.keeps.did k) ∙ e ∙ a.keeps.did l)))
+  same_dids : (k : Component) → Has old k → (j : Component) → Has ks j → (g k).did ≡ j.did → g k ≡ j
+  same_dids k h = each_of (λ j. (g k).did ≡ j.did → g k ≡ j)
+      (λ l i e. ap g (rules.dids k h l i (sym (shape.keeps.did k) ∙ e ∙ shape.keeps.did l)))
 
   rules' : IsMirror m' ks
   rules' = record {
-    fits = a.fits;
+    fits = renewed_fits m m' shape.same rules.fits;
     members_fit = each_of ComponentFits (λ k i. let r = rules.members_fit k i in
         record {
-          provider = rw (a.keeps.provider k) r.provider;
-          did = rw (a.keeps.did k) r.did;
-          priority = (a.each k i).priority;
+          provider = rw (shape.keeps.provider k) r.provider;
+          did = rw (shape.keeps.did k) r.did;
+          priority = (shape.each k i).priority;
         });
-    some = rw a.same_data rules.some;
-    all = a.all;
-    room = rw (length-map old f) a.room;
-    active = (f a.active.0, map-Has f old a.active.0 a.active.1, a.active.2);
+    some = rw shape.same.sectors rules.some;
+    all = shape.same.all;
+    room = rw (length-map old g) shape.room;
+    active = (g shape.active.0, map-Has g old shape.active.0 shape.active.1, shape.active.2);
     sizes = each_of (λ j. m'.data_sectors + 1 ≤ j.sectors)
-        (λ k i. rw (a.same_data, a.keeps.sectors k) (rules.sizes k i));
-    limits = each_of (λ j. j.sectors ≤ 1048576) (λ k i. rw (a.keeps.sectors k) (rules.limits k i));
+        (λ k i. rw (shape.same.sectors, shape.keeps.sectors k) (rules.sizes k i));
+    limits = each_of (λ j. j.sectors ≤ 1048576)
+        (λ k i. rw (shape.keeps.sectors k) (rules.limits k i));
     held = each_of (λ j. held_of j.disk < m'.data_sectors)
-        (λ k i. rw a.same_data (a.each k i).held);
+        (λ k i. rw shape.same.sectors (shape.each k i).held);
     dids = each_of (λ i. (j : Component) → Has ks j → i.did ≡ j.did → i ≡ j) same_dids;
-    syncids = each_of (λ j. j.syncid ≤ m'.syncid) (λ k i. (a.each k i).syncid);
-    current = each_of (λ j. j.disk ≢ Inactive → j.syncid ≡ m'.syncid) (λ k i. (a.each k i).current);
+    syncids = each_of (λ j. j.syncid ≤ m'.syncid) (λ k i. (shape.each k i).syncid);
+    current = each_of (λ j. j.disk ≢ Inactive → j.syncid ≡ m'.syncid)
+        (λ k i. (shape.each k i).current);
   }
 
-  pub adjusts : Adjusts u.state m m' comps ks
+  adjusts : Adjusts u.state m m' comps ks
   adjusts = record {
-    same_name = a.same_name;
-    same_mid = a.same_mid;
-    same_data = a.same_data;
-    in_order = Ascends-map f provider a.keeps.provider u.state.components
-        sound.state.components_in_order;
-    mine = mapped_members f a.keeps u.state.components m.name;
-    others = λ n d. mapped_members f a.keeps u.state.components n
-        ∙ map_id f (members u.state.components n) (λ k i.
-        let r = Has-filter (λ (j : Component). same_label j.mirror n) u.state.components k i in
-        a.alone k r.0 (λ e. d (sym (same_is k.mirror n r.1) ∙ e)));
+    here = of.here;
+    same = shape.same;
+    in_order = Ascends-put_all provider ks u.state.components sound.state.components_in_order;
+    mine = members_put m.name g shape.keeps u.state.components sound.state.components_in_order;
+    others = λ n d. members_others m.name g shape.keeps u.state.components
+        sound.state.components_in_order n d;
     rules = rules';
   }
 
-  abbrev pub reshaped : Records
-  reshaped = adjusted u.state m m' comps ks sound.state a.here adjusts
-
-  pub sizes : (k : Component) → Has ks k → u.size k.provider ≡ Some k.sectors
-  sizes = each_of (λ j. u.size j.provider ≡ Some j.sectors)
-      (λ k i. rw (a.keeps.provider k, a.keeps.sectors k)
-      (present_size u k.provider k.sectors (a.there k i)))
-
-  pub has_sectors : (k : Component) → Has ks k → IsSomeAnd (present u k.provider) (λ x. 0 < x)
-  has_sectors = each_of (λ j. IsSomeAnd (present u j.provider) (λ x. 0 < x))
-      (λ k h. rw (a.keeps.provider k) (some_and (present u k.provider) k.sectors (λ x. 0 < x)
-      (a.there k h) (let b : m.data_sectors + 1 ≤ k.sectors = rules.sizes k h in omega arith)))
-
--- ---- the command
-
--- What the command makes of mirror m and its components, none of which holds more than it did; and
--- what it has written.
-pub record Maps (u : World) (c : Command) (m m' : Mirror) (f : Component → Component)
-    (ts : List Intent) : Type 0 where
-  pub shape : Reshapes u m m' f
-  pub holds : (k : Component) → Has (members u.state.components m.name) k
-      → held_by (f k).disk m.data_sectors ≤ held_by k.disk m.data_sectors
-  pub named : name_of c ≡ Some m.name
-  pub none : (q : List ℕ) → clears u.state c q ≡ false
-  pub reply : ReplyFits (reply_to c u.state)
-  pub metas : (t : Intent) → Has ts t
-      → (k : Component) × Has (map f (members u.state.components m.name)) k × (Meta k.provider ≡ t)
-  pub written : (k : Component) → Has (members u.state.components m.name) k
-      → Has ts (Meta (f k).provider) ⊎ ((m' ≡ m) × (f k ≡ k))
-
-module _ (u : World) (key : List ℕ) (c : Command) (m m' : Mirror) (f : Component → Component)
-    (ts : List Intent) (sound : Sound u) (a : Maps u c m m' f ts) where
-  abbrev shape : Reshapes u m m' f
-  shape = a.shape
-
-  abbrev s : Records
-  s = reshaped u m m' f sound shape
-
-  abbrev mine : List Component
-  mine = members u.state.components m.name
-
-  abbrev changed : List Component
-  changed = map f mine
-
-  abbrev all_changed : List Component
-  all_changed = map f u.state.components
-
-  of_each : (P : Component → Type 0) → ((k : Component) → Has mine k → P (f k)) → (j : Component)
-      → Has changed j → P j
-  of_each = each_of u m m' f sound shape
-
-  below : (k : Component) → Has mine k
-      → Below u.shelf (u.holds m.name) (f k).provider (held_by (f k).disk m'.data_sectors)
-  below k h i l =
-      let less : held_by (f k).disk m.data_sectors ≤ held_by k.disk m.data_sectors =
-      a.holds k h in
-      let l' : i < held_by (f k).disk m.data_sectors =
-      subst (λ (n : ℕ). i < held_by (f k).disk n) a.shape.same_data l in
-      rw (a.shape.keeps.provider k)
-      (sound.whole m k (record { mirror = a.shape.here; component = h }) i
-      (omega arith))
-
-  turns : Turns u u.shelf m' changed (clears u.state c) (u.holds m.name) s
-  turns = adjusts_turns u m m' all_changed changed (clears u.state c) sound a.shape.here
-      (adjusts u m m' f sound shape) (sizes u m m' f sound shape)
-      (λ j i. a.none j.provider)
-      (of_each (λ j. Below u.shelf (u.holds m.name) j.provider (held_by j.disk m'.data_sectors))
-      below)
-
   -- a last sector that isn't written says the same as before
-  as_it_was : (k : Component) → Has mine k → m' ≡ m → f k ≡ k
-      → u.shelf (f k).provider ((f k).sectors - 1) ≡ encoded (metadata m' (f k))
+  as_it_was : (k : Component) → Has old k → m' ≡ m → g k ≡ k
+      → u.shelf (g k).provider ((g k).sectors - 1) ≡ encoded (metadata m' (g k))
   as_it_was k h e same =
       subst (λ (j : Component). u.shelf j.provider (j.sectors - 1) ≡ encoded (metadata m' j))
       (sym same)
       (subst (λ (x : Mirror). u.shelf k.provider (k.sectors - 1) ≡ encoded (metadata x k)) (sym e)
-      (sound.full m k (record { mirror = a.shape.here; component = h })))
+      (sound.full m k (record { mirror = of.here; component = h })))
 
-  writes : Writes u u.shelf m' changed (clears u.state c) ts
-  writes = record {
-    each = λ t h. let r = a.metas t h in
-        subst (λ (x : Intent). IsOne u u.shelf changed (clears u.state c) x) r.2 (r.0, r.1, refl);
-    metas = of_each (λ j. Has ts (Meta j.provider)
+  pub maps_plan : PlanOf u c
+  maps_plan = record {
+    mirror = m';
+    components = ks;
+    list = u.holds m.name;
+    records = reshaped u m m' g;
+    stretch = stretch;
+    gone = [];
+    told = told;
+    turns = adjusts_turns u.state m m' comps ks sound.state adjusts;
+    after_is = a.after_is;
+    intents = a.intents;
+    named = λ j i. rw shape.same.name of.named;
+    reply = a.reply;
+    there = each_of (λ j. present u j.provider ≡ Some j.sectors)
+        (λ k i. rw (shape.keeps.provider k, shape.keeps.sectors k)
+        (of.there k i (a.waits k)));
+    below = each_of (λ j. Below (with_copied stretch u.shelf) (u.holds m.name) j.provider
+        (held_by j.disk m'.data_sectors))
+        (λ k i. rw (shape.keeps.provider k, shape.same.sectors) (a.below k i));
+    same_data = adjusts_data u m m' comps ks sound adjusts;
+    new = λ w e. a.new w;
+    bare = λ w e. a.bare w;
+    lent = a.lent;
+    filled = a.filled;
+    cleared = λ q h. absurd h;
+    all_gone = a.none;
+    told_are = a.told_are;
+    all_told = each_of (λ j. Has told j
         ⊎ (u.shelf j.provider (j.sectors - 1) ≡ encoded (metadata m' j)))
-        (λ k i. ⊎_elim (λ (h : Has ts (Meta (f k).provider)). inl h)
-        (λ (e : (m' ≡ m) × (f k ≡ k)). inr (as_it_was k i e.0 e.1)) (a.written k i));
-    clears = λ q e. not_both (clears u.state c q) e (a.none q);
-    copied = λ q j e. refl;
+        (λ k i. ⊎_elim (λ (h : Has told (g k)). inl h)
+        (λ (e : (m' ≡ m) × (g k ≡ k)). inr (as_it_was k i e.0 e.1)) (a.all_told k i));
   }
 
-  serves : Serves u c m' changed
-  serves = serves_kept u c m' changed a.none (λ j i. rw a.shape.same_name a.named)
-      (has_sectors u m m' f sound shape) a.reply
+-- a component that holds no more than it did has its data
+less_below : (u : World) (m : Mirror) (k : Component) (n : ℕ) → Sound u → Has u.state.mirrors m
+    → Has (members u.state.components m.name) k → n ≤ held_by k.disk m.data_sectors
+    → Below u.shelf (u.holds m.name) k.provider n
+less_below u m k n sound here h less i l =
+    sound.whole m k (record { mirror = here; component = h }) i (omega arith)
 
-  plain : ArePlain ts
-  plain t h = subst IsPlain (a.metas t h).2 tt
+-- ---- all of the components are written
 
-  pub mapped_has : s ≡ after (seen_of u) c u.state → ts ≡ intents_of c u.state s
-      → ((w : World) → NewData u c w) → ((w : World) → WereBare c u w)
-      → IsGood u.state (seen_of u) c → CanAnswer u key c → HasPlan u key c
-  mapped_has is are new bare good answer =
-      has u key c m' changed (u.holds m.name) s ts sound turns writes
-      (adjusts_were u m m' all_changed changed sound a.shape.here (adjusts u m m' f sound shape))
-      plain serves answer is are good (new _) (bare _)
+-- None of them holds more than it did.
+pub record Rewrites (u : World) (c : Command) (m m' : Mirror)
+    (g : Component → Component) : Type 0 where
+  pub shape : Reshapes u m m' g
+  pub waits : (k : Component) → is_awaited c k ≡ true
+  pub holds : (k : Component) → Has (members u.state.components m.name) k
+      → held_by (g k).disk m.data_sectors ≤ held_by k.disk m.data_sectors
+  pub after_is : reshaped u m m' g ≡ after (seen_of u) c u.state
+  pub intents : (s : Records) → metas (members s.components m.name) ≡ intents_of c u.state s
+  pub none : (q : List ℕ) → false ≡ clears u.state c q
+  pub takes_nothing : TakesNothing u c
 
--- ---- Meta of all of the components, or of one
+pub rewrites_plan : (u : World) (c : Command) (m m' : Mirror) (g : Component → Component)
+    → Names u c m → Rewrites u c m m' g → PlanOf u c
+rewrites_plan u c m m' g of a =
+    let ks : List Component = map g (members u.state.components m.name) in
+    maps_plan u c m m' g None ks of (record {
+      shape = a.shape;
+      waits = a.waits;
+      below = λ k h. less_below u m k _ of.may.sound of.here h (a.holds k h);
+      after_is = a.after_is;
+      intents = subst (λ (l : List Component). metas l ≡ intents_of c u.state (reshaped u m m' g))
+          (members_put m.name g a.shape.keeps u.state.components
+          of.may.sound.state.components_in_order) (a.intents (reshaped u m m' g));
+      reply = a.takes_nothing.1;
+      new = a.takes_nothing.2;
+      bare = a.takes_nothing.3;
+      lent = tt;
+      filled = a.takes_nothing.0;
+      none = a.none;
+      told_are = λ k h. h;
+      all_told = λ k h. inl (map-Has g (members u.state.components m.name) k h);
+    })
 
-pub metas_of : (ks : List Component) (t : Intent) → Has (metas ks) t
-    → (k : Component) × Has ks k × (Meta k.provider ≡ t)
-metas_of ks t h = Has-map (λ (k : Component). Meta k.provider) ks t h
+-- ---- one component is changed and written
 
-pub metas_each : (f : Component → Component) (ks : List Component) (k : Component) → Has ks k
-    → Has (metas (map f ks)) (Meta (f k).provider)
-metas_each f ks k h = metas_has (map f ks) (f k) (map-Has f ks k h)
+-- a provider is one component's
+one_member : (u : World) (m : Mirror) → Sound u → (j k : Component)
+    → Has (members u.state.components m.name) j → Has (members u.state.components m.name) k
+    → j.provider ≡ k.provider → j ≡ k
+one_member u m sound j k h i e =
+    let is_mine : Component → Bool = λ c. same_label c.mirror m.name in
+    one provider u.state.components sound.state.components_in_order j k
+    (Has-filter is_mine u.state.components j h).0 (Has-filter is_mine u.state.components k i).0 e
 
--- ---- one component changed
+-- g of the component on p
+abbrev pub at_p : List ℕ → (Component → Component) → Component → Component
+at_p p g k = cond (same_label k.provider p) (g k) k
 
-module _ (u : World) (m : Mirror) (p : List ℕ) (g : Component → Component) (sound : Sound u)
-    (can : CanTouch u m p) (keeps : Keeps g) where
-  -- g of the one on p
-  abbrev pub at_p : Component → Component
-  at_p k = cond (same_label k.provider p) (g k) k
+module _ (u : World) (c : Command) (m : Mirror) (p : List ℕ) (g : Component → Component)
+    (of : Names u c m) (can : CanTouch u m p) (keeps : Keeps g) where
+  abbrev mine : List Component
+  mine = members u.state.components m.name
 
-  rules_before : IsMirror m (members u.state.components m.name)
-  rules_before = sound.state.each m can.here
-
-  pub on : (k : Component) → k.provider ≡ p → at_p k ≡ g k
+  on : (k : Component) → k.provider ≡ p → at_p p g k ≡ g k
   on k e = rw (same_from k.provider p e) refl
 
-  pub off : (k : Component) → k.provider ≢ p → at_p k ≡ k
+  pub off : (k : Component) → k.provider ≢ p → at_p p g k ≡ k
   off k d = rw (differ k.provider p d) refl
 
-  pub kept : Keeps at_p
+  kept : Keeps (at_p p g)
   kept = keeps_either (λ k. same_label k.provider p) g (λ k. k) keeps keeps_id
 
-  -- what holds of g of the one on p, and of the others, holds of each
-  pub either : (P : Component → Component → Type 0)
-      → ((k : Component) → Has (members u.state.components m.name) k → k.provider ≡ p → P k (g k))
-      → ((k : Component) → Has (members u.state.components m.name) k → k.provider ≢ p → P k k)
-      → (k : Component) → Has (members u.state.components m.name) k → P k (at_p k)
-  either P h rest k i =
-      elim (same_tells k.provider p) [ inl e ↦ rw e.0 (h k i e.1) | inr e ↦ rw e.0 (rest k i e.1) ]
+  only : (j : Component) → Has mine j → j.provider ≡ p → can.member.0 ≡ j
+  only j h e = one_member u m of.may.sound can.member.0 j can.member.1 h (can.member.2 ∙ sym e)
 
-  pub one_reshapes : ((k : Component) → Has (members u.state.components m.name) k → k.provider ≡ p
-      → Obeys m m (g k)) → Reshapes u m m at_p
-  one_reshapes fits = record {
-    here = can.here;
-    there = can.there;
-    same_name = refl;
-    same_mid = refl;
-    same_data = refl;
+  -- what holds of g of the one on p, and of the others, holds of each
+  pub either : (P : Component → Component → Type 0) → P can.member.0 (g can.member.0)
+      → ((k : Component) → Has mine k → k.provider ≢ p → P k k) → (k : Component) → Has mine k
+      → P k (at_p p g k)
+  either P new rest k i =
+      elim (same_tells k.provider p) [
+        | inl e ↦ rw e.0 (subst (λ (j : Component). P j (g j)) (only k i e.1) new)
+        | inr e ↦ rw e.0 (rest k i e.1)
+      ]
+
+  pub one_reshapes : Obeys m m (g can.member.0) → Reshapes u m m (at_p p g)
+  one_reshapes obeys = record {
+    same = record {
+      name = refl;
+      mid = refl;
+      sectors = refl;
+      counts = (of.rules.fits.genid, of.rules.fits.syncid, of.rules.fits.slice);
+      all = of.rules.all;
+    };
     keeps = kept;
-    alone = λ j h d. off j (not_on u m p sound.state can j h d);
-    fits = rules_before.fits;
-    all = rules_before.all;
-    room = rules_before.room;
+    room = of.rules.room;
     active = (
       can.active.0,
       can.active.1,
       ap (λ (j : Component). j.disk) (off can.active.0 can.active.3) ∙ can.active.2,
     );
-    each = either (λ o k. Obeys m m k) fits
-        (λ j h d. obeys_still m (members u.state.components m.name) j rules_before h);
+    each = either (λ o k. Obeys m m k) obeys (λ j h d. obeys_still m m mine j of.rules h refl);
   }
 
-  pub one_mirrors : put name m u.state.mirrors ≡ u.state.mirrors
-  one_mirrors = put-again name u.state.mirrors sound.state.mirrors_in_order m can.here
-
-  pub one_components : put provider (g can.member.0) u.state.components
-      ≡ map at_p u.state.components
-  one_components =
+  -- the records are those with that one put in its place
+  pub one_put : reshaped u m m (at_p p g)
+      ≡ record u.state { components = put provider (g can.member.0) u.state.components }
+  one_put =
       let k : Component = can.member.0 in
+      let in_order = of.may.sound.state.components_in_order in
+      let f : Component → Component = where_of m.name (at_p p g) in
       let in_all = Has-filter (λ (j : Component). same_label j.mirror m.name) u.state.components k
       can.member.1 in
-      put-map at_p provider u.state.components sound.state.components_in_order (g k) k in_all.0
-      (keeps.provider k) (on k can.member.2) (λ j h d. off j (λ e. d (e ∙ sym can.member.2)))
+      let mirrors : put name m u.state.mirrors ≡ u.state.mirrors =
+      put-again name u.state.mirrors of.may.sound.state.mirrors_in_order m of.here in
+      let all : put_all provider (map (at_p p g) mine) u.state.components
+      ≡ map f u.state.components = put_mapped m.name (at_p p g) kept u.state.components in_order in
+      let one : put provider (g k) u.state.components ≡ map f u.state.components =
+      put-map f provider u.state.components in_order (g k) k in_all.0 (keeps.provider k)
+      (rw in_all.1 (on k can.member.2))
+      (λ j h d. elim (cases_Bool (same_label j.mirror m.name)) [
+        | inl e ↦ rw e (off j (λ e. d (e ∙ sym can.member.2)))
+        | inr e ↦ rw e refl
+      ]) in
+      rw (mirrors, one, all) refl
 
-pub replaced_has : (u : World) (key : List ℕ) (c : Command) (m : Mirror) (p : List ℕ) (g : Component
-    → Component) → Sound u → (can : CanTouch u m p) → Keeps g
-    → ((k : Component) → Has (members u.state.components m.name) k → k.provider ≡ p
-    → Stands m m k (g k))
-    → name_of c ≡ Some m.name → ((q : List ℕ) → clears u.state c q ≡ false)
-    → ReplyFits (reply_to c u.state)
-    → record {
-      mirrors = u.state.mirrors;
-      components = put provider (g can.member.0) u.state.components;
-    }
-    ≡ after (seen_of u) c u.state
-    → ((s : Records) → Meta p ∷ [] ≡ intents_of c u.state s) → ((w : World) → NewData u c w)
-    → ((w : World) → WereBare c u w)
-    → IsGood u.state (seen_of u) c → CanAnswer u key c → HasPlan u key c
-replaced_has u key c m p g sound can keeps stands named none reply is are new bare good answer =
+  -- the changed one is written, the others are as they were
+  pub one_told : (k : Component) → Has (g can.member.0 ∷ []) k → Has (map (at_p p g) mine) k
+  one_told k h = ⊎_elim (λ (e : g can.member.0 ≡ k).
+      subst (λ (j : Component). Has (map (at_p p g) mine) j) (on can.member.0 can.member.2 ∙ e)
+      (map-Has (at_p p g) mine can.member.0 can.member.1)) (λ (o : ⊥). absurd o) h
+
+  pub all_but_one : (k : Component) → Has mine k
+      → Has (g can.member.0 ∷ []) (at_p p g k) ⊎ ((m ≡ m) × (at_p p g k ≡ k))
+  all_but_one = either (λ o j. Has (g can.member.0 ∷ []) j ⊎ ((m ≡ m) × (j ≡ o)))
+      (inl (inl refl)) (λ j h d. inr (refl, refl))
+
+-- It holds nothing any more.
+pub record Restarts (u : World) (c : Command) (m : Mirror) (p : List ℕ) (g : Component → Component)
+    (k : Component) : Type 0 where
+  pub keeps : Keeps g
+  pub waits : (k : Component) → is_awaited c k ≡ true
+  pub obeys : Obeys m m (g k)
+  pub holds : held_by (g k).disk m.data_sectors ≡ 0
+  pub after_is : record u.state { components = put provider (g k) u.state.components }
+      ≡ after (seen_of u) c u.state
+  pub intents : (s : Records) → Meta p ∷ [] ≡ intents_of c u.state s
+  pub none : (q : List ℕ) → false ≡ clears u.state c q
+  pub takes_nothing : TakesNothing u c
+
+pub restarts_plan : (u : World) (c : Command) (m : Mirror) (p : List ℕ) (g : Component → Component)
+    → Names u c m → (can : CanTouch u m p) → Restarts u c m p g can.member.0 → PlanOf u c
+restarts_plan u c m p g of can a =
     let k : Component = can.member.0 in
-    let f : Component → Component = at_p u m p g sound can keeps in
-    let shape = one_reshapes u m p g sound can keeps (λ j h e. obeys m m j (g j) (stands j h e)) in
-    mapped_has u key c m m f (Meta p ∷ []) sound (record {
-      shape = shape;
-      holds = either u m p g sound can keeps
+    let holds : held_by (g k).disk m.data_sectors ≡ 0 = a.holds in
+    maps_plan u c m m (at_p p g) None (g k ∷ []) of (record {
+      shape = one_reshapes u c m p g of can a.keeps a.obeys;
+      waits = a.waits;
+      below = λ j h. less_below u m j _ of.may.sound of.here h (either u c m p g of can a.keeps
           (λ o k. held_by k.disk m.data_sectors ≤ held_by o.disk m.data_sectors)
-          (λ j h e. (stands j h e).holds) (λ j h d. omega arith);
-      named = named;
-      none = none;
-      reply = reply;
-      metas = λ t h. ⊎_elim (λ (e : Meta p ≡ t). (
-        f k,
-        map-Has f (members u.state.components m.name) k can.member.1,
-        ap Meta (shape.keeps.provider k ∙ can.member.2) ∙ e,
-      )) (λ (e : ⊥). absurd e) h;
-      written = either u m p g sound can keeps (λ o j. Has (Meta p ∷ []) (Meta j.provider)
-          ⊎ ((m ≡ m) × (j ≡ o)))
-          (λ j h e. inl (inl (ap Meta (sym (keeps.provider j ∙ e))))) (λ j h d. inr (refl, refl));
-    }) (rw (one_mirrors u m p g sound can keeps, ← one_components u m p g sound can keeps) is)
-    (are (record {
-      mirrors = put name m u.state.mirrors;
-      components = map f u.state.components;
-    })) new bare good answer
+          (omega (arith, holds)) (λ j h d. omega arith) j h);
+      after_is = one_put u c m p g of can a.keeps ∙ a.after_is;
+      intents = ap (λ (q : List ℕ). Meta q ∷ []) (a.keeps.provider k ∙ can.member.2)
+          ∙ a.intents (reshaped u m m (at_p p g));
+      reply = a.takes_nothing.1;
+      new = a.takes_nothing.2;
+      bare = a.takes_nothing.3;
+      lent = tt;
+      filled = a.takes_nothing.0;
+      none = a.none;
+      told_are = one_told u c m p g of can a.keeps;
+      all_told = all_but_one u c m p g of can a.keeps;
+    })

@@ -1,33 +1,32 @@
--- What the refusals of a command rule out, and the intents that write its components.
-use Rattle.std.proofs.Common.{◌≡◌, ◌≢◌, ◌∙◌, inl, inr, ℕ, ◌<◌, ◌-◌, ◌==◌, ◌&&◌, ◌||◌, Bool, true, false, not, refl, sym, ap, subst, arith, List, [], ◌∷◌, Option, Some, None, is_none, eqb-true, filter}
+-- What the refusals of a command rule out.
+use Rattle.std.proofs.Common.{◌≡◌, ◌≢◌, ◌∙◌, ⊎_elim, ℕ, ◌<◌, ◌≤◌, ◌-◌, ◌==◌, ◌&&◌, Bool, true, false, not, refl, sym, ap, subst, arith, List, [], ◌∷◌, Option, Some, None, is_none, is_some, eqb-true, filter, length}
 use Rattle.std.specs.List.{list_any, list_all}
 use Rattle.std.proofs.lemmas.Bool.{ne_eqb, or_parts}
 use Rattle.gm_metadata.specs.Images.{same_label}
 use Rattle.gm_metadata.specs.Sector.{carries}
-use Rattle.gm_state.specs.declared.intents.Intent.{Intent}
-use Rattle.gm_state.specs.declared.intents.Intent.TheVariants.{Meta, Clear}
+use Rattle.gm_commands.specs.declared.command.Command.{Command}
 use Rattle.gm_state.specs.declared.records.Mirror.{Mirror}
 use Rattle.gm_state.specs.declared.records.Component.{Component}
 use Rattle.gm_state.specs.declared.records.Disk.TheVariants.{InSync, Inactive}
-use Rattle.gm_state.specs.Records.{Records, IsState, members, provider}
+use Rattle.gm_state.specs.Records.{Records, IsMirror, IsState, members, provider}
 use Rattle.gm_state.specs.Lookups.{mirror_of, component_of, is_active, is_inactive}
-use Rattle.gm_lists.specs.Ordered.{Has}
+use Rattle.gm_lists.specs.Ordered.{Has, put}
 use Rattle.gm_state.specs.World.{World, present}
-use Rattle.gm_refusals.specs.Seen.{has_size}
-use Rattle.gm_refusals.specs.Applies.{is_on_any}
-use Rattle.gm_changes.specs.After.{metas, clears_of}
-use Rattle.gm_refusals.specs.Facts.{last_carries}
-use Rattle.gm_refusals.specs.WorldFacts.{last_of}
-use Rattle.gm_lists.proofs.Order.{same_is}
-use Rattle.gm_lists.proofs.Putting.{one}
+use Rattle.gm_state.proofs.EncodedSectors.{bears_carries}
+use Rattle.gm_state.proofs.FoundRecords.{active_is, named, new_name}
+use Rattle.gm_lists.proofs.Order.{same_is, same_from, same_refl}
+use Rattle.gm_lists.proofs.Putting.{one, put_or}
 use Rattle.gm_lists.proofs.Lists.{Has-filter, filter-Has}
-use Rattle.gm_lists.proofs.Finding.{none_any, some_other, find_one, not_both}
-use Rattle.gm_refusals.proofs.NothingApplies.{there_from}
-use Rattle.gm_state.proofs.FoundRecords.{named}
-use Rattle.gm_rules.proofs.StepOfMirror.{IsOne, Writes}
-use Rattle.gm_rules.proofs.PlanOfStep.{IsPlain, ArePlain}
-use Rattle.gm_state.proofs.FoundRecords.{active_is}
-use Rattle.gm_refusals.proofs.NothingApplies.{on_one}
+use Rattle.gm_lists.proofs.Finding.{any_one, found_none, none_any, some_other, find_one, not_both}
+use Rattle.gm_refusals.specs.declared.refusals.Refusal.TheVariants as refusals
+use Rattle.gm_refusals.specs.Refusals.{is_listed}
+use Rattle.gm_refusals.specs.Seen.{Seen, has_size, is_there_and}
+use Rattle.gm_refusals.specs.Applies.{IsGood, awaited, has_wrong_size, is_awaited, is_member_of, is_on_any, looked_at, name_of, providers_of}
+use Rattle.gm_refusals.specs.Facts.{last_carries}
+use Rattle.gm_refusals.specs.WorldFacts.{last_of, seen_of}
+use Rattle.gm_refusals.proofs.NothingApplies.{fails_there, none_from, not_at, on_one, right_size, there_from}
+use Rattle.gm_rules.specs.Step.{NewAreBare}
+use Rattle.gm_rules.proofs.PlanOf.{Allowed, PlanOf}
 
 pub has_size_is : (o : Option ℕ) (n : ℕ) → not (has_size o n) ≡ false → o ≡ Some n
 has_size_is None n e = absurd (let h : ⊥ = cc in h)
@@ -38,61 +37,116 @@ has_size_is (Some k) n e = by (k == n) refl
     by false t = absurd (let f : not (k == n) ≡ false = e in
         let g : not false ≡ false = rw t at f in let h : ⊥ = cc in h)
 
--- the components are there with their sizes
-all_there : (size : List ℕ → Option ℕ) (ks : List Component)
-    → list_any (λ k. not (has_size (size k.provider) k.sectors)) ks ≡ false → (k : Component)
-    → Has ks k → size k.provider ≡ Some k.sectors
-all_there size ks e k h =
-    has_size_is (size k.provider) k.sectors
-    (none_any (λ k. not (has_size (size k.provider) k.sectors)) ks e k h)
+-- the components that a command waits for are there with their sizes
+pub awaited_there : (s : Records) (x : Seen) (c : Command) → IsGood s x c
+    → is_listed c refusals.Absent ≡ true → (k : Component) → Has (awaited s c) k
+    → x.size k.provider ≡ Some k.sectors
+awaited_there s x c good absent k h =
+    has_size_is (x.size k.provider) k.sectors
+    (none_any (λ j. not (has_size (x.size j.provider) j.sectors)) (awaited s c)
+    (or_parts (list_any (λ p. is_none (x.size p)) (looked_at c)) _
+    (good refusals.Absent absent)).1 k h)
 
--- so are those that a command waits for, which looks at the providers ps and names a mirror with
--- the components ks
-pub awaited_there : (u : World) (ps : List (List ℕ)) (awaits : Component
-    → Bool) (ks : List Component)
-    → (list_any (λ p. is_none (present u p)) ps || list_any
-    (λ k. not (has_size (present u k.provider) k.sectors)) (filter awaits ks)) ≡ false
-    → (k : Component) → Has ks k → awaits k ≡ true → present u k.provider ≡ Some k.sectors
-awaited_there u ps awaits ks e k h a =
-    let missing : List Component
-    → Bool = list_any (λ k. not (has_size (present u k.provider) k.sectors)) in
-    all_there (present u) (filter awaits ks)
-    (or_parts (list_any (λ p. is_none (present u p)) ps) (missing (filter awaits ks)) e).1 k
-    (filter-Has awaits ks k h a)
+-- ---- a command that takes providers
 
--- where it waits for each
-pub each_there : (u : World) (ps : List (List ℕ)) (ks : List Component)
-    → (list_any (λ p. is_none (present u p)) ps || list_any
-    (λ k. not (has_size (present u k.provider) k.sectors)) (filter (λ k. true) ks)) ≡ false
-    → (k : Component) → Has ks k → present u k.provider ≡ Some k.sectors
-each_there u ps ks e k h = awaited_there u ps (λ k. true) ks e k h refl
+-- a provider of a fit size on which no component is
+pub record IsFree (s : Records) (x : Seen) (p : List ℕ) : Type 0 where
+  pub none : component_of s p ≡ None
+  pub sectors : ℕ
+  pub size : x.size p ≡ Some sectors
+  pub some : 2 ≤ sectors
+  pub limit : sectors ≤ 1048576
 
--- a provider that carries no metadata: its last sector doesn't
-pub carries_nothing : (u : World) (p : List ℕ) (n : ℕ) → present u p ≡ Some n → 0 < n
-    → last_carries (last_of u p) ≡ false → carries (u.shelf p (n - 1)) ≡ false
-carries_nothing u p n size some off =
-    let apart : (n == 0) ≡ false = ne_eqb n 0 (λ e. omega arith) in
-    let told : last_carries (last_of u p) ≡ carries (u.shelf p (n - 1)) = rw (size, apart) refl in
-    sym told ∙ off
+pub is_free : (s : Records) (x : Seen) (c : Command) → IsGood s x c → looked_at c ≡ providers_of c
+    → is_listed c refusals.Absent ≡ true → is_listed c refusals.ProviderTaken ≡ true
+    → is_listed c refusals.WrongSize ≡ true → (p : List ℕ) → Has (providers_of c) p → IsFree s x p
+is_free s x c good same absent taken wrong p h =
+    let all : Has (looked_at c) p = rw same h in
+    let size = there_from (x.size p) (none_any (λ q. is_none (x.size q)) (looked_at c)
+    (or_parts (list_any (λ q. is_none (x.size q)) (looked_at c)) _
+    (good refusals.Absent absent)).0 p all) in
+    let range = right_size size.0 (fails_there (x.size p) size.0 has_wrong_size size.1
+    (none_any (λ q. is_there_and (x.size q) has_wrong_size) (looked_at c)
+    (good refusals.WrongSize wrong) p all)) in
+    record {
+      none = none_from (component_of s p) (none_any (λ q. is_some (component_of s q))
+          (providers_of c) (good refusals.ProviderTaken taken) p h);
+      sectors = size.0;
+      size = size.1;
+      some = range.0;
+      limit = range.1;
+    }
 
--- ---- a command that names a mirror, and one of its components
+-- where none of them carries metadata, a component that is made of one wasn't bearing any
+pub put_bare : (u : World) (k : Component) → present u k.provider ≡ Some k.sectors
+    → 0 < k.sectors → list_any (λ p. last_carries (last_of u p)) (k.provider ∷ []) ≡ false
+    → (w : World) → w.state.components ≡ put provider k u.state.components → NewAreBare u w
+put_bare u k size some off w is j h none d bears =
+    let apart : (k.sectors == 0) ≡ false = ne_eqb k.sectors 0 (λ e. omega arith) in
+    let told : last_carries (last_of u k.provider) ≡ carries (u.shelf k.provider (k.sectors - 1)) =
+    rw (size, apart) refl in
+    let bare : carries (u.shelf k.provider (k.sectors - 1)) ≡ false =
+    sym told ∙ any_one (λ p. last_carries (last_of u p)) k.provider off in
+    ⊎_elim
+    (λ (e : k ≡ j). not_both (carries (u.shelf j.provider (j.sectors - 1)))
+    (bears_carries _ d bears)
+    (subst (λ (c : Component). carries (u.shelf c.provider (c.sectors - 1)) ≡ false) e bare))
+    (λ (old : Has u.state.components j). not_both (same_label j.provider j.provider)
+    (same_refl j.provider) (new_name u.state j.provider none j old))
+    (put_or provider k u.state.components j
+    (subst (λ (l : List Component). Has l j) is h))
 
--- what holds of each registered mirror holds of the one that is named
-pub by_name : (s : Records) (n : List ℕ) (P : List ℕ → Type 0) → is_none (mirror_of s n) ≡ false
-    → ((m : Mirror) → Has s.mirrors m → mirror_of s m.name ≡ Some m → P m.name) → P n
-by_name s n P there each =
-    let found = there_from (mirror_of s n) there in
-    let at = named s n found.0 found.1 in
-    subst P at.1
-    (each found.0 at.0 (subst (λ (a : List ℕ). mirror_of s a ≡ Some found.0)
-    (sym at.1) found.1))
+-- a mirror that is new: none has its name, and there is room for it
+pub no_namesake : (s : Records) (n : List ℕ) → is_some (mirror_of s n) ≡ false → (a : Mirror)
+    → Has s.mirrors a → a.name ≢ n
+no_namesake s n free a h e = not_both (same_label a.name n) (same_from a.name n e)
+    (found_none (λ (m : Mirror). same_label m.name n) s.mirrors
+    (none_from (mirror_of s n) free) a h)
 
--- What the refusals of a command on one component of a mirror rule out: all its components are
--- there, p is one of them, and another is ACTIVE.
-pub record CanTouch (u : World) (m : Mirror) (p : List ℕ) : Type 0 where
+pub one_more_mirror : (s : Records) → IsState s → (length s.mirrors == 64) ≡ false
+    → length s.mirrors < 64
+one_more_mirror s state off =
+    let count : length s.mirrors ≤ 64 = state.count in
+    let apart : length s.mirrors ≢ 64 = not_at (length s.mirrors) 64 off in omega arith
+
+-- ---- a command that names a mirror
+
+-- What is known where the command c, which nothing refuses, names the mirror m.
+pub record Names (u : World) (c : Command) (m : Mirror) : Type 0 where
+  pub may : Allowed u c
+  pub named : name_of c ≡ Some m.name
   pub here : Has u.state.mirrors m
-  pub there : (k : Component) → Has (members u.state.components m.name) k
+  pub found : mirror_of u.state m.name ≡ Some m
+  pub rules : IsMirror m (members u.state.components m.name)
+  pub there : (k : Component) → Has (members u.state.components m.name) k → is_awaited c k ≡ true
       → present u k.provider ≡ Some k.sectors
+
+-- what such a command shows of each registered mirror it shows of the one that it names
+pub by_name : (u : World) (c : List ℕ → Command) (n : List ℕ) → Allowed u (c n)
+    → ((a : List ℕ) → name_of (c a) ≡ Some a) → ((a : List ℕ) → is_listed (c a) refusals.NoMirror
+    ≡ true) → ((a : List ℕ) → is_listed (c a) refusals.Absent ≡ true)
+    → ((m : Mirror) → Names u (c m.name) m → PlanOf u (c m.name)) → PlanOf u (c n)
+by_name u c n may name no_mirror absent each =
+    let some : is_none (mirror_of u.state n) ≡ false =
+    rw (name n) at (may.good refusals.NoMirror (no_mirror n)) in
+    let found = there_from (mirror_of u.state n) some in
+    let m : Mirror = found.0 in
+    let at = named u.state n m found.1 in
+    subst (λ (a : List ℕ). mirror_of u.state a ≡ Some m → Allowed u (c a) → PlanOf u (c a)) at.1
+    (λ found may. each m (record {
+      may = may;
+      named = name m.name;
+      here = at.0;
+      found = found;
+      rules = may.sound.state.each m at.0;
+      there = λ k h waits. awaited_there u.state (seen_of u) (c m.name) may.good (absent m.name) k
+          (filter-Has (λ (j : Component). is_awaited (c m.name) j) _ k
+          (subst (λ (o : Option (List ℕ)).
+          Has (filter (λ j. is_member_of o j) u.state.components) k) (sym (name m.name)) h) waits);
+    })) found.1 may
+
+-- One of its components is on p, and another is ACTIVE.
+pub record CanTouch (u : World) (m : Mirror) (p : List ℕ) : Type 0 where
   pub member : (k : Component) × Has (members u.state.components m.name) k × (k.provider ≡ p)
   pub active : (k : Component) × Has (members u.state.components m.name) k × (k.disk ≡ InSync)
       × (k.provider ≢ p)
@@ -155,52 +209,3 @@ module _ (u : World) (m : Mirror) (p : List ℕ) (state : IsState u.state)
       one provider u.state.components state.components_in_order can.member.0 j in_all.0 h
       (can.member.2 ∙ sym e) in
       d (sym (ap (λ (c : Component). c.mirror) same) ∙ same_is can.member.0.mirror m.name in_all.1)
-
--- ---- Meta of each of the components, and Clear of each
-
-pub metas_has : (ks : List Component) (k : Component) → Has ks k → Has (metas ks) (Meta k.provider)
-metas_has [] k h = absurd h
-metas_has (j ∷ js) k (inl s) = inl (ap (λ (x : Component). Meta x.provider) s)
-metas_has (j ∷ js) k (inr h) = inr (metas_has js k h)
-
-pub metas_are : (u : World) (gone : List ℕ → Bool) (all ks : List Component)
-    → ((k : Component) → Has ks k → Has all k) → (t : Intent) → Has (metas ks) t
-    → IsOne u u.shelf all gone t
-metas_are u gone all [] sub t h = absurd h
-metas_are u gone all (k ∷ ks) sub t (inl s) =
-    subst (λ (x : Intent). IsOne u u.shelf all gone x) s (k, sub k (inl refl), refl)
-metas_are u gone all (k ∷ ks) sub t (inr h) = metas_are u gone all ks (λ j g. sub j (inr g)) t h
-
--- they are all that is written of a mirror, where nothing is copied or cleared
-pub metas_writes : (u : World) (m : Mirror) (ks : List Component)
-    → Writes u u.shelf m ks (λ q. false) (metas ks)
-metas_writes u m ks = record {
-  each = metas_are u (λ q. false) ks ks (λ k h. h);
-  metas = λ k h. inl (metas_has ks k h);
-  clears = λ q e. absurd (let f : ⊥ = cc in f);
-  copied = λ q j e. refl;
-}
-
-pub metas_plain : (ks : List Component) → ArePlain (metas ks)
-metas_plain [] t h = absurd h
-metas_plain (k ∷ ks) t (inl s) = subst IsPlain s tt
-metas_plain (k ∷ ks) t (inr h) = metas_plain ks t h
-
-pub clears_has : (ks : List Component) (k : Component) → Has ks k
-    → Has (clears_of ks) (Clear k.provider)
-clears_has [] k h = absurd h
-clears_has (j ∷ js) k (inl s) = inl (ap (λ (x : Component). Clear x.provider) s)
-clears_has (j ∷ js) k (inr h) = inr (clears_has js k h)
-
-pub clears_are : (u : World) (gone : List ℕ → Bool) (all ks : List Component)
-    → ((k : Component) → Has ks k → gone k.provider ≡ true) → (t : Intent) → Has (clears_of ks) t
-    → IsOne u u.shelf all gone t
-clears_are u gone all [] sub t h = absurd h
-clears_are u gone all (k ∷ ks) sub t (inl s) =
-    subst (λ (x : Intent). IsOne u u.shelf all gone x) s (sub k (inl refl))
-clears_are u gone all (k ∷ ks) sub t (inr h) = clears_are u gone all ks (λ j g. sub j (inr g)) t h
-
-pub clears_plain : (ks : List Component) → ArePlain (clears_of ks)
-clears_plain [] t h = absurd h
-clears_plain (k ∷ ks) t (inl s) = subst IsPlain s tt
-clears_plain (k ∷ ks) t (inr h) = clears_plain ks t h

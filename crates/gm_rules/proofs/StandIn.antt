@@ -1,6 +1,6 @@
 -- A sound world that has any state, and of which facts are as far as a command that nothing refuses
 -- asks them: so what holds of each plan holds of what is decided from a state and facts alone.
-use Rattle.std.proofs.Common.{◌≡◌, ◌≢◌, ◌∙◌, ◌⊎◌, inl, inr, ⊎_elim, ℕ, zero, suc, ◌+◌, ◌-◌, ◌<◌, ◌≤◌, ◌==◌, ◌&&◌, ◌||◌, nat_le, Bool, true, false, not, refl, sym, ap, ap₂, subst, arith, eq-eqb, eqb-true, leb-true, leb-false, List, [], ◌∷◌, Option, Some, None, is_none, is_some, unwrap_or, if◌then◌else◌}
+use Rattle.std.proofs.Common.{◌≡◌, ◌≢◌, ◌∙◌, ◌⊎◌, inl, inr, ⊎_elim, ℕ, zero, suc, ◌+◌, ◌-◌, ◌<◌, ◌≤◌, ◌==◌, ◌&&◌, nat_le, Bool, true, false, not, refl, sym, ap, ap₂, subst, arith, eq-eqb, eqb-true, leb-true, leb-false, List, [], ◌∷◌, Option, Some, None, unwrap_or, if◌then◌else◌}
 use Rattle.std.specs.Prelude.{IsSomeAnd}
 use Rattle.std.specs.List.{list_any}
 use Rattle.std.specs.Str.{bytes_eq}
@@ -29,15 +29,15 @@ use Rattle.gm_lists.proofs.Lists.{Has-filter, filter-Has, Has-map}
 use Rattle.gm_state.proofs.TestsTellRules.{member}
 use Rattle.gm_refusals.specs.declared.facts.Fact.{Fact}
 use Rattle.gm_refusals.specs.declared.refusals.Refusal.{Refusal}
-use Rattle.gm_refusals.specs.declared.refusals.Refusal.TheVariants.{Absent, NameTaken, ProviderTaken, NotMember, WrongSize, NotAdoptable}
+use Rattle.gm_refusals.specs.declared.refusals.Refusal.TheVariants.{Absent, NameTaken, NotMember, NotAdoptable}
 use Rattle.gm_refusals.specs.Facts.{fact_of, size_in, last_in, equals_in}
-use Rattle.gm_refusals.specs.Seen.{seen_in, has_size, is_there_and}
+use Rattle.gm_refusals.specs.Seen.{seen_in, has_size}
 use Rattle.gm_refusals.specs.Refusals.{own, is_listed}
-use Rattle.gm_refusals.specs.Applies.{IsGood, awaited, has_wrong_size, is_awaited, is_member_of, looked_at, members_named, name_of, preferred}
+use Rattle.gm_refusals.specs.Applies.{IsGood, awaited, is_awaited, is_member_of, looked_at, members_named, name_of, providers_of}
 use Rattle.gm_refusals.specs.Adoptable.{source_in, data_of, has_twice, is_adoptable, adopted, adopted_mirror}
 use Rattle.gm_refusals.specs.WorldFacts.{last_of, seen_of}
 use Rattle.gm_refusals.proofs.Listed.{listed}
-use Rattle.gm_refusals.proofs.NothingApplies.{fails_there, none_from, right_size, there_from}
+use Rattle.gm_refusals.proofs.NothingApplies.{none_from}
 use Rattle.gm_refusals.proofs.SeenAlike.{SeeAlike, same_source}
 use Rattle.gm_refusals.proofs.TakenProviders.{taken_name}
 use Rattle.gm_changes.specs.After.{after, intents_of}
@@ -47,7 +47,7 @@ use Rattle.gm_rules.specs.Step.{CanAnswer, HasPlan}
 use Rattle.gm_rules.proofs.AdoptedState.{is_adopted, roomy, size_is}
 use Rattle.gm_rules.proofs.EveryPlan.{every_plan}
 use Rattle.gm_rules.proofs.FoundMembers.{IsAdoptable, adoptable, member_found}
-use Rattle.gm_rules.proofs.RuledOut.{has_size_is}
+use Rattle.gm_rules.proofs.RuledOut.{IsFree, awaited_there, has_size_is, is_free}
 use Rattle.gm_rules.proofs.StepOfMirror.{held_within}
 
 moved : (size size' : Sizes) → ((p : List ℕ) (n : ℕ) → size p ≡ Some n → size' p ≡ Some n)
@@ -212,19 +212,13 @@ module _ (s : Records) (facts : List Fact) where
 
     -- ---- what is seen in it is what the facts say
 
-    -- no component is on a provider of this size, or one of this size is
-    record IsFree (p : List ℕ) : Type 0 where
-      none : component_of s p ≡ None
-      sectors : ℕ
-      size : size_in facts p ≡ Some sectors
-      some : 2 ≤ sectors
-
+    -- a component of its size is on the provider
     record IsHeld (p : List ℕ) : Type 0 where
       component : Component
       at : component_of s p ≡ Some component
       size : size_in facts p ≡ Some component.sectors
 
-    free_size : (p : List ℕ) → IsFree p → size_in facts p ≡ present stand_in p
+    free_size : (p : List ℕ) → IsFree s (seen_in facts) p → size_in facts p ≡ present stand_in p
     free_size p f = rw f.none refl
 
     held_size : (p : List ℕ) → IsHeld p → size_in facts p ≡ present stand_in p
@@ -233,7 +227,7 @@ module _ (s : Records) (facts : List Fact) where
         eq-eqb h.component.sectors h.component.sectors refl in
         rw (h.at, h.size, same) refl
 
-    free_last : (p : List ℕ) → IsFree p → last_in facts p ≡ last_of stand_in p
+    free_last : (p : List ℕ) → IsFree s (seen_in facts) p → last_in facts p ≡ last_of stand_in p
     free_last p f =
         elim (option_cases (fact_of facts p)) [
           | inl none ↦
@@ -260,102 +254,46 @@ module _ (s : Records) (facts : List Fact) where
         record {
           component = k;
           at = found_at k all.0;
-          size = has_size_is (size_in facts k.provider) k.sectors
-              (none_any (λ j. not (has_size (size_in facts j.provider) j.sectors)) (awaited s c)
-              (or_parts (list_any (λ p. is_none (size_in facts p)) (looked_at c)) _
-              (good Absent (listed_absent c))).1 k h);
+          size = awaited_there s (seen_in facts) c good (listed_absent c) k h;
         }
-
-    free_by : (ps : List (List ℕ)) (rest : Bool)
-        → list_any (λ p. is_some (component_of s p)) ps ≡ false
-        → list_any (λ p. is_there_and (size_in facts p) has_wrong_size) ps ≡ false
-        → (list_any (λ p. is_none (size_in facts p)) ps || rest) ≡ false → (p : List ℕ) → Has ps p
-        → IsFree p
-    free_by ps rest taken wrong gone p h =
-        let size = there_from (size_in facts p) (none_any (λ q. is_none (size_in facts q)) ps
-        (or_parts (list_any (λ q. is_none (size_in facts q)) ps) rest gone).0 p h) in
-        record {
-          none = none_from (component_of s p)
-              (none_any (λ q. is_some (component_of s q)) ps taken p h);
-          sectors = size.0;
-          size = size.1;
-          some = (right_size size.0 (fails_there (size_in facts p) size.0 has_wrong_size size.1
-              (none_any (λ q. is_there_and (size_in facts q) has_wrong_size) ps wrong p h))).0;
-        }
-
-    held_in : (c : Command) (ps : List (List ℕ)) → IsGood s (seen_in facts) c
-        → (has_twice ps || list_any (λ p. not (list_any (λ k. same_label k.provider p)
-        (members_named s c))) ps) ≡ false → ((k : Component) → is_awaited c k ≡ true)
-        → (p : List ℕ) → Has ps p → IsHeld p
-    held_in c ps good members_all waits p h =
-        let some = some_any (λ (k : Component). same_label k.provider p) (members_named s c)
-        (not-false _ (none_any (λ q. not (list_any (λ k. same_label k.provider q)
-        (members_named s c))) ps (or_parts (has_twice ps) _ members_all).1 p h)) in
-        subst IsHeld (same_is some.0.provider p some.2)
-        (held_awaited c good some.0 (filter-Has (λ (j : Component). is_awaited c j)
-        (members_named s c) some.0 some.1 (waits some.0)))
 
     -- a command looks at free providers, or at those of components, and then it asks nothing of
     -- what last sectors say
     abbrev Looks : Command → Type 0
-    Looks c = ((p : List ℕ) → Has (looked_at c) p → IsFree p)
+    Looks c = ((p : List ℕ) → Has (looked_at c) p → IsFree s (seen_in facts) p)
         ⊎ (((p : List ℕ) → Has (looked_at c) p → IsHeld p) × (list_any asks_last (own c) ≡ false))
 
+    on_members : (c : Command) → IsGood s (seen_in facts) c → looked_at c ≡ providers_of c
+        → is_listed c NotMember ≡ true → ((k : Component) → is_awaited c k ≡ true)
+        → list_any asks_last (own c) ≡ false → Looks c
+    on_members c good same listed waits off = inr (
+      λ p h.
+          let some = some_any (λ (k : Component). same_label k.provider p) (members_named s c)
+          (not-false _ (none_any (λ q. not (list_any (λ k. same_label k.provider q)
+          (members_named s c))) (providers_of c) (or_parts (has_twice (providers_of c)) _
+          (good NotMember listed)).1 p (subst (λ (ps : List (List ℕ)). Has ps p) same h))) in
+          subst IsHeld (same_is some.0.provider p some.2)
+          (held_awaited c good some.0 (filter-Has (λ (j : Component). is_awaited c j)
+          (members_named s c) some.0 some.1 (waits some.0))),
+      off,
+    )
+
     looks : (c : Command) → IsGood s (seen_in facts) c → Looks c
-    looks (Label new) good =
-        inl (free_by (new.provider ∷ []) _ (good ProviderTaken refl)
-        (good WrongSize refl)
-        (good Absent refl))
-    looks (Insert new) good =
-        inl (free_by (new.provider ∷ []) _ (good ProviderTaken refl)
-        (good WrongSize refl)
-        (good Absent refl))
-    looks (Remove n p) good =
-        inr (
-          held_in (Remove n p) (p ∷ []) good (good NotMember refl)
-              (λ k. refl),
-          refl,
-        )
-    looks (Deactivate n p) good =
-        inr (
-          held_in (Deactivate n p) (p ∷ []) good (good NotMember refl)
-              (λ k. refl),
-          refl,
-        )
-    looks (Activate n p) good =
-        inr (
-          held_in (Activate n p) (p ∷ []) good (good NotMember refl)
-              (λ k. refl),
-          refl,
-        )
+    looks (Label new) good = inl (is_free s (seen_in facts) (Label new) good refl refl refl refl)
+    looks (Insert new) good = inl (is_free s (seen_in facts) (Insert new) good refl refl refl refl)
+    looks (Remove n p) good = on_members (Remove n p) good refl refl (λ k. refl) refl
+    looks (Deactivate n p) good = on_members (Deactivate n p) good refl refl (λ k. refl) refl
+    looks (Activate n p) good = on_members (Activate n p) good refl refl (λ k. refl) refl
     looks (Forget n) good = inr (λ p h. absurd h, refl)
-    looks (Rebuild n p) good =
-        inr (
-          held_in (Rebuild n p) (p ∷ []) good (good NotMember refl)
-              (λ k. refl),
-          refl,
-        )
+    looks (Rebuild n p) good = on_members (Rebuild n p) good refl refl (λ k. refl) refl
     looks (Configure n settings) good =
-        inr (
-          held_in (Configure n settings) (preferred settings.preference) good
-              (good NotMember refl) (λ k. refl),
-          refl,
-        )
-    looks (Clear p) good =
-        inl (free_by (p ∷ []) _ (good ProviderTaken refl)
-        (good WrongSize refl) (good Absent refl))
+        on_members (Configure n settings) good refl refl (λ k. refl) refl
+    looks (Clear p) good = inl (is_free s (seen_in facts) (Clear p) good refl refl refl refl)
     looks (Destroy n) good = inr (λ p h. absurd h, refl)
     looks (Lost n ps) good = inr (λ p h. absurd h, refl)
-    looks (Advance n p) good =
-        inr (
-          held_in (Advance n p) (p ∷ []) good (good NotMember refl)
-              (λ k. refl),
-          refl,
-        )
+    looks (Advance n p) good = on_members (Advance n p) good refl refl (λ k. refl) refl
     looks (Adopt n ps) good =
-        inl (free_by ps _ (good ProviderTaken refl)
-        (good WrongSize refl)
-        (good Absent refl))
+        inl (is_free s (seen_in facts) (Adopt n ps) good refl refl refl refl)
 
     alike : (c : Command) → IsGood s (seen_in facts) c → Looks c → (r : Refusal) → Has (own c) r
         → AskAlike s c (seen_in facts) (seen_of stand_in) r
@@ -414,7 +352,7 @@ module _ (s : Records) (facts : List Fact) where
     -- ---- an adoption
 
     -- a sector of data of a free provider
-    free_data : (p : List ℕ) (f : IsFree p) (i : ℕ) → i + 1 < f.sectors
+    free_data : (p : List ℕ) (f : IsFree s (seen_in facts) p) (i : ℕ) → i + 1 < f.sectors
         → stand_in.shelf p i ≡ data_by None (equals_in facts p) i
     free_data p f i low =
         let inner : (f.sectors == i + 1) ≡ false =
@@ -425,7 +363,8 @@ module _ (s : Records) (facts : List Fact) where
         else data_by None (equals_in facts p) i) inner
 
     -- the world's first sectors are equal where the facts say so
-    agree_told : (b p : List ℕ) (d : ℕ) (from : IsFree b) (to : IsFree p) → d < from.sectors
+    agree_told : (b p : List ℕ) (d : ℕ) (from : IsFree s (seen_in facts) b)
+        (to : IsFree s (seen_in facts) p) → d < from.sectors
         → d < to.sectors → d ≤ equals_in facts b → (k : ℕ) → k ≤ d
         → nat_le k (equals_in facts p) ≡ agree stand_in.shelf b p k
     agree_told b p d from to l m all zero low = le_told 0 (equals_in facts p) (omega arith)
@@ -448,10 +387,8 @@ module _ (s : Records) (facts : List Fact) where
         ]
 
     module _ (n : List ℕ) (ps : List (List ℕ)) (good : IsGood s (seen_in facts) (Adopt n ps)) where
-      adopt_free : (p : List ℕ) → Has ps p → IsFree p
-      adopt_free = free_by ps _ (good ProviderTaken refl)
-          (good WrongSize refl)
-          (good Absent refl)
+      adopt_free : (p : List ℕ) → Has ps p → IsFree s (seen_in facts) p
+      adopt_free = is_free s (seen_in facts) (Adopt n ps) good refl refl refl refl
 
       fit : is_adoptable (seen_in facts) n ps ≡ true
       fit = not-false _ (good NotAdoptable refl)
