@@ -4,6 +4,7 @@ pub mod Calls
 pub mod Digits
 pub mod Heads
 pub mod Members
+pub mod Named
 pub mod OnRoutes
 pub mod Parts
 pub mod Walks

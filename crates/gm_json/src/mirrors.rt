@@ -7,10 +7,10 @@ ghost use Rattle.gm_state.specs.Records.{members};
 ghost use Rattle.gm_state.specs.States.{mirror_state_name, state_among};
 ghost use Rattle.gm_json.specs.Mirrors.{component_data, mirror_data, mirror_json, standing_component, standing_mirror, state_of, status_data, status_json};
 
-use crate::text::text_of;
+use crate::text::{put_text, text_of};
 use gm_metadata::Label;
 use gm_state::{Component, Mirror, MirrorState, State, bytes_of, state_by};
-use serde_json::{Value, json};
+use serde_json::{Map, Value, json, put};
 use std::alloc::{AllocError, Global};
 
 // The name of the state of a component.
@@ -37,7 +37,10 @@ fn mirror_state(m: &Mirror, members: &[Component]) -> &'static str
 fn standing_component(alloc: Global, m: &Mirror, k: &Component) -> Result<Value, AllocError>
     ensures { IfOk result (λ v. view v ≡ standing_component m.now k.now) }
 {
-    json!(in alloc; {"name": k.provider.as_str(), "state": state_of(m, k)})
+    let mut map = Map::new(alloc);
+    put_text(&mut map, alloc, "name", k.provider.as_str())?;
+    put_text(&mut map, alloc, "state", state_of(m, k))?;
+    Ok(Value::Object(map))
 }
 
 fn standing_components(
@@ -60,11 +63,11 @@ fn standing_mirror(alloc: Global, m: &Mirror, members: &[Component]) -> Result<V
     ensures { IfOk result (λ v. view v ≡ standing_mirror m.now members.now) }
 {
     let components = standing_components(alloc, m, members)?;
-    json!(in alloc; {
-        "components": components,
-        "name": m.name.as_str(),
-        "state": mirror_state(m, members)
-    })
+    let mut map = Map::new(alloc);
+    put(&mut map, alloc, "components", Value::Array(components))?;
+    put_text(&mut map, alloc, "name", m.name.as_str())?;
+    put_text(&mut map, alloc, "state", mirror_state(m, members))?;
+    Ok(Value::Object(map))
 }
 
 fn standing_mirrors(alloc: Global, state: &State) -> Result<Vec<Value>, AllocError>
@@ -99,17 +102,27 @@ pub fn status_json(alloc: Global, state: &State) -> Result<String, AllocError>
 fn component_value(alloc: Global, m: &Mirror, k: &Component) -> Result<Value, AllocError>
     ensures { IfOk result (λ v. view v ≡ component_data m.now k.now) }
 {
-    json!(in alloc; {
-        "did": k.did,
-        "flags": k.disk.flags().bits(),
-        "hardcoded": k.hardcoded,
-        "name": k.provider.as_str(),
-        "offset": bytes_of(k.disk.held()),
-        "priority": k.priority,
-        "provsize": bytes_of(k.sectors),
-        "state": state_of(m, k),
-        "syncid": k.syncid
-    })
+    let mut map = Map::new(alloc);
+    put(&mut map, alloc, "did", Value::from(k.did))?;
+    put(&mut map, alloc, "flags", Value::from(k.disk.flags().bits()))?;
+    put(&mut map, alloc, "hardcoded", Value::from(k.hardcoded))?;
+    put_text(&mut map, alloc, "name", k.provider.as_str())?;
+    put(
+        &mut map,
+        alloc,
+        "offset",
+        Value::from(bytes_of(k.disk.held())),
+    )?;
+    put(&mut map, alloc, "priority", Value::from(k.priority))?;
+    put(
+        &mut map,
+        alloc,
+        "provsize",
+        Value::from(bytes_of(k.sectors)),
+    )?;
+    put_text(&mut map, alloc, "state", state_of(m, k))?;
+    put(&mut map, alloc, "syncid", Value::from(k.syncid))?;
+    Ok(Value::Object(map))
 }
 
 fn component_values(
@@ -131,20 +144,25 @@ fn component_values(
 fn mirror_value(alloc: Global, m: &Mirror, members: &[Component]) -> Result<Value, AllocError>
     ensures { IfOk result (λ v. view v ≡ mirror_data m.now members.now) }
 {
+    let mut map = Map::new(alloc);
+    put(&mut map, alloc, "all", Value::from(m.all))?;
+    put_text(&mut map, alloc, "balance", m.balance.name())?;
     let components = component_values(alloc, m, members)?;
-    json!(in alloc; {
-        "all": m.all,
-        "balance": m.balance.name(),
-        "components": components,
-        "flags": m.flags.bits(),
-        "genid": m.genid,
-        "mediasize": bytes_of(m.data_sectors),
-        "mid": m.mid,
-        "name": m.name.as_str(),
-        "slice": m.slice,
-        "state": mirror_state(m, members),
-        "syncid": m.syncid
-    })
+    put(&mut map, alloc, "components", Value::Array(components))?;
+    put(&mut map, alloc, "flags", Value::from(m.flags.bits()))?;
+    put(&mut map, alloc, "genid", Value::from(m.genid))?;
+    put(
+        &mut map,
+        alloc,
+        "mediasize",
+        Value::from(bytes_of(m.data_sectors)),
+    )?;
+    put(&mut map, alloc, "mid", Value::from(m.mid))?;
+    put_text(&mut map, alloc, "name", m.name.as_str())?;
+    put(&mut map, alloc, "slice", Value::from(m.slice))?;
+    put_text(&mut map, alloc, "state", mirror_state(m, members))?;
+    put(&mut map, alloc, "syncid", Value::from(m.syncid))?;
+    Ok(Value::Object(map))
 }
 
 /// All that is known of the mirror of this name and of its components, in byte order of names;

@@ -6,7 +6,7 @@ ghost use Rattle.serde_json.specs.View.{members_view, view};
 ghost use Rattle.gm_json.specs.Fields.{members_of};
 ghost use Rattle.gm_json.specs.Sectors.{decode_data, decode_json, first_fields, metadata_data, metadata_json, provider_name};
 
-use crate::text::text_of;
+use crate::text::{put_text, text_of};
 use gm_metadata::{DecodeFault, Metadata};
 use serde_json::{Map, Value, json, put};
 use std::alloc::{AllocError, Global};
@@ -26,9 +26,8 @@ fn first_members(alloc: Global, m: &Metadata) -> Result<Map<String, Value>, Allo
     ensures { IfOk result (λ map. members_view map.entries ≡ members_of (first_fields m.now)) }
 {
     let mut map = Map::new(alloc);
-    let balance = Value::try_from_str(alloc, m.balance.name())?;
     put(&mut map, alloc, "all", Value::from(m.all))?;
-    put(&mut map, alloc, "balance", balance)?;
+    put_text(&mut map, alloc, "balance", m.balance.name())?;
     put(&mut map, alloc, "dflags", Value::from(m.dflags.bits()))?;
     put(&mut map, alloc, "did", Value::from(m.did))?;
     put(&mut map, alloc, "genid", Value::from(m.genid))?;
@@ -41,12 +40,10 @@ fn first_members(alloc: Global, m: &Metadata) -> Result<Map<String, Value>, Allo
 fn metadata_value(alloc: Global, m: &Metadata) -> Result<Value, AllocError>
     ensures { IfOk result (λ v. view v ≡ metadata_data m.now) }
 {
-    let name = Value::try_from_str(alloc, m.name.as_str())?;
-    let provider = Value::try_from_str(alloc, provider_name(m))?;
     let mut map = first_members(alloc, m)?;
-    put(&mut map, alloc, "name", name)?;
+    put_text(&mut map, alloc, "name", m.name.as_str())?;
     put(&mut map, alloc, "priority", Value::from(m.priority))?;
-    put(&mut map, alloc, "provider", provider)?;
+    put_text(&mut map, alloc, "provider", provider_name(m))?;
     put(&mut map, alloc, "provsize", Value::from(m.provsize))?;
     put(&mut map, alloc, "slice", Value::from(m.slice))?;
     put(&mut map, alloc, "sync_offset", Value::from(m.sync_offset))?;

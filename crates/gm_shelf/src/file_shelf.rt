@@ -151,8 +151,7 @@ impl<R: Files<File = File> + AllocGlobal + Clone + Drop> Shelf for FileShelf<R> 
         let image = image_in(&self.images, provider)?;
         let at = offset_in(image.length, place)?;
         let done = self.files.with(provider, image, |file| file.read(out, at));
-        outcome(done, &mut self.failures)?;
-        Ok(())
+        outcome(done, &mut self.failures)
     }
 
     fn write(&mut self, provider: Label, place: u64, sector: &[u8; 512]) -> Result<(), ShelfFault> {
@@ -161,8 +160,7 @@ impl<R: Files<File = File> + AllocGlobal + Clone + Drop> Shelf for FileShelf<R> 
         let done = self
             .files
             .with(provider, image, |file| file.write(sector, at));
-        outcome(done, &mut self.failures)?;
-        Ok(())
+        outcome(done, &mut self.failures)
     }
 
     // One read of all the sectors.
@@ -180,8 +178,7 @@ impl<R: Files<File = File> + AllocGlobal + Clone + Drop> Shelf for FileShelf<R> 
         let done = self.files.with(provider, image, |file| {
             file.read(out.as_flattened_mut(), at)
         });
-        outcome(done, &mut self.failures)?;
-        Ok(())
+        outcome(done, &mut self.failures)
     }
 
     // One write of all the sectors.
@@ -199,14 +196,12 @@ impl<R: Files<File = File> + AllocGlobal + Clone + Drop> Shelf for FileShelf<R> 
         let done = self.files.with(provider, image, |file| {
             file.write(sectors.as_flattened(), at)
         });
-        outcome(done, &mut self.failures)?;
-        Ok(())
+        outcome(done, &mut self.failures)
     }
 
     fn sync(&mut self, provider: Label) -> Result<(), ShelfFault> {
         let image = image_in(&self.images, provider)?;
         let done = self.files.with(provider, image, |file| file.sync());
-        outcome(done, &mut self.failures)?;
-        Ok(())
+        outcome(done, &mut self.failures)
     }
 }

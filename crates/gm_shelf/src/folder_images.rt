@@ -40,6 +40,12 @@ struct Found {
     image: ImageFile,
 }
 
+// The image that something of this name with these attributes is, where it is one.
+fn image_by(name: Label, found: &Metadata) -> Option<Found> {
+    let image = image_with(found)?;
+    Some(Found { name, image })
+}
+
 // The image that an entry of a folder is, where it is one.
 fn image_of<R: Files + Drop>(entry: io::Result<DirEntry<R>>) -> io::Result<Option<Found>> {
     let entry = match entry {
@@ -51,7 +57,7 @@ fn image_of<R: Files + Drop>(entry: io::Result<DirEntry<R>>) -> io::Result<Optio
         return Ok(None);
     };
     match entry.metadata() {
-        Ok(found) => Ok(image_with(&found).map(|image| Found { name, image })),
+        Ok(found) => Ok(image_by(name, &found)),
         Err(e) if e.kind() == ErrorKind::NotFound => Ok(None),
         Err(e) => Err(e),
     }

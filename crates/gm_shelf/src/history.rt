@@ -3,7 +3,7 @@
 use gm_metadata::Label;
 
 /// One thing that was done to a shelf in memory.
-#[derive(Debug, Drop)]
+#[derive(Drop)]
 pub(crate) enum Event {
     /// A provider came, with these sectors.
     Added(Label, Vec<[u8; 512]>),

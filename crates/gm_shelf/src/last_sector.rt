@@ -79,6 +79,5 @@ pub fn write_meta<H: Shelf>(
     ensures keeps { Keeps H.Shelf shelf.old shelf.new }
     ensures counted { (H.view shelf.new).faults ≡ faults_after result (H.view shelf.old).faults }
 {
-    write_last(shelf, provider, &encode(metadata))?;
-    Ok(())
+    write_last(shelf, provider, &encode(metadata))
 }

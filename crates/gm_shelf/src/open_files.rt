@@ -18,7 +18,7 @@ use std::rt::Files;
 pub const OPEN_FILES: usize = 32;
 
 /// What images are opened for.
-#[derive(Clone, Copy, Debug, PartialEq, Eq)]
+#[derive(Clone, Copy)]
 pub(crate) enum Access {
     /// To be read alone, so that files and media that can't be written will do.
     Reading,
@@ -104,7 +104,7 @@ impl<R: Files<File = File> + AllocGlobal + Clone + Drop> OpenFiles<R> {
         let path = self.path_of(name)?;
         let file = OpenOptions::new()
             .read(true)
-            .write(self.access == Access::Writing)
+            .write(matches!(self.access, Access::Writing))
             .open(&self.rt, path.as_str())?;
         check_image(&file.metadata()?, image)?;
         self.look(name, image)?;

@@ -44,3 +44,8 @@ pub joined_as : {X Y A : Type 0} (f : X → List A) (g : Y
     → join_by g separator ys ≡ join_by f separator xs
 joined_as f g separator xs ys same =
     join_of g separator ys ∙ (ap (join_by (λ x. x) separator) same ∙ sym (join_of f separator xs))
+
+-- a text that grew by one piece more
+pub also : {A : Type 0} (piece : List A) {made text more : List A} → text ≡ made
+    → more ≡ text ++ piece → more ≡ made ++ piece
+also piece so next = next ∙ ap (λ t. t ++ piece) so

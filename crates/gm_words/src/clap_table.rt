@@ -7,7 +7,7 @@ ghost use Rattle.clap.specs.Walk.{Text, texts};
 ghost use Rattle.clap.specs.Words.{app_of, new_app, rule_of, with_rule, with_subcommand};
 ghost use Rattle.clap.specs.declared.builder.command.Command.TheViews.{out-Command};
 ghost use Rattle.gm_words.specs.Table.{commands, name, names, optional, possible, table, wanted};
-ghost use Rattle.gm_words.specs.Kinds.{command_of_kind, with_rows, with_words};
+ghost use Rattle.gm_words.specs.Kinds.{command_of_kind, with_row, with_rows, with_words};
 ghost use Rattle.gm_words.specs.Alike.{ReadsAlike};
 
 use clap::{Arg, ArgAction, Command};
@@ -231,6 +231,18 @@ fn with_command<'a>(command: Command<'a>, more: Command<'a>) -> Result<Command<'
     command.subcommand(more)
 }
 
+// The command with this one as a subcommand too.
+fn with_row<'a>(
+    alloc: Global,
+    command: Command<'a>,
+    row: (&'static str, Kind),
+) -> Result<Command<'a>, AllocError>
+    ensures { IfOk result (λ c. app_of c ≡ with_row (app_of command.entry) row.entry) }
+{
+    let more = command_of_kind(alloc, row.0, row.1)?;
+    with_command(command, more)
+}
+
 // The command with these as its subcommands too.
 fn with_rows<'a>(
     alloc: Global,
@@ -240,9 +252,8 @@ fn with_rows<'a>(
     ensures { IfOk result (λ c. app_of c ≡ with_rows (app_of command.entry) rows.now) }
 {
     let mut command = command;
-    for (word, kind) in rows {
-        let more = command_of_kind(alloc, word, *kind)?;
-        command = with_command(command, more)?;
+    for row in rows {
+        command = with_row(alloc, command, *row)?;
     }
     Ok(command)
 }

@@ -113,7 +113,6 @@ fn balance_at(matches: &ArgMatches<'_>, id: &str) -> Option<BalanceWord>
     balance(text_at(matches, id)?)
 }
 
-#[tactic(auto, unfolding(crate::specs::Spelling::label_at, crate::specs::Spelling::label_in))]
 fn label_at(matches: &ArgMatches<'_>, id: &str) -> Option<Label>
     ensures { result ≡ label_at id.now (rows_of (found_of matches.now)) }
 {
@@ -215,7 +214,7 @@ fn settings_at(matches: &ArgMatches<'_>) -> Option<Settings>
 }
 
 // The names that tell a component.
-#[derive(Clone, Copy, Debug)]
+#[derive(Clone, Copy)]
 struct ComponentNames {
     name: Label,
     provider: Label,
@@ -300,7 +299,6 @@ fn several_at(alloc: Global, matches: &ArgMatches<'_>) -> Result<Option<SeveralN
 }
 
 // The command of this word that has one name or a component's, of which clap found these.
-#[tactic(auto, unfolding(crate::specs::Spelling::named_of))]
 fn named_of(word: &str, matches: &ArgMatches<'_>) -> Option<Command>
     ensures { result ≡ named_of word.now (rows_of (found_of matches.now)) }
 {
