@@ -13,7 +13,9 @@ use Rattle.gm_state.specs.Rows.{Tables, CommandRow, component_row}
 use Rattle.gm_changes.specs.Decides.{Changed}
 use Rattle.gm_rows.specs.Schema.{registry_schema}
 use Rattle.gm_rows.specs.Tables.{HasRows, HasCounted, SeesTables, IsInside, AreNumbered, numbers_of}
-use Rattle.gm_registry.specs.Changes.{with_component, without_component, with_components, without_components, with_some_mirror, without_some_mirror, with_records, with_change, settled, command_row}
+use Rattle.gm_registry.specs.declared.intents.Pending.{Pending}
+use Rattle.gm_registry.specs.declared.intents.Pending.TheVariants.{Stays, Goes}
+use Rattle.gm_registry.specs.Changes.{left_of, with_component, without_component, with_components, without_components, with_some_mirror, without_some_mirror, with_records, with_change, settled, command_row}
 use Rattle.gm_registry.specs.Replies.{count_of}
 use Rattle.gm_registry.proofs.TextMeanings.{settle}
 use Rattle.gm_registry.proofs.ChangedTables.{settles_all}
@@ -61,6 +63,19 @@ change_numbered ch key n words t next numbered =
     more_numbered (command_row key n words ch.reply) (with_records ch t).commands
     (next ∙ ap (λ (l : List CommandRow). length l + 1) (sym same))
     (subst AreNumbered (sym same) numbered)
+
+-- what becomes of the intents leaves the commands
+pub left_commands : (p : Pending) (t : Tables) → (left_of p t).commands ≡ t.commands
+left_commands Stays t = refl
+left_commands Goes t = refl
+
+-- so do they where intents go first
+pub left_numbered : (ch : Changed) (key : List ℕ) (n : ℕ) (words : List ℕ) (p : Pending) (t : Tables)
+    → n ≡ count_of t + 1 → AreNumbered t.commands
+    → AreNumbered (with_change ch key n words (left_of p t)).commands
+left_numbered ch key n words Stays t next numbered = change_numbered ch key n words t next numbered
+left_numbered ch key n words Goes t next numbered =
+    change_numbered ch key n words (settled t) next numbered
 
 -- at the beginning of a transaction the rows are those of the tables
 pub begun_rows : {S : Type 0} (g : store.Ghosts S) (old : Held S) (t : Tables)

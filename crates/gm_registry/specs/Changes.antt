@@ -2,10 +2,13 @@
 use Rattle.std.specs.Prelude.{ℕ, ◌+◌, length, List, [], ◌∷◌, ◌++◌, Option, Some, None}
 use Rattle.gm_state.specs.declared.records.Mirror.{Mirror}
 use Rattle.gm_state.specs.declared.records.Component.{Component}
+use Rattle.gm_state.specs.declared.intents.Intent.{Intent}
 use Rattle.gm_state.specs.declared.intents.Reply.{Reply}
 use Rattle.gm_lists.specs.Ordered.{without}
 use Rattle.gm_state.specs.Rows.{Tables, MirrorRow, ComponentRow, CommandRow, IntentRow, mirror_row, component_row, intent_rows, copied_of, total_of}
 use Rattle.gm_changes.specs.Decides.{Changed}
+use Rattle.gm_registry.specs.declared.intents.Pending.{Pending}
+use Rattle.gm_registry.specs.declared.intents.Pending.TheVariants.{Stays, Goes}
 
 abbrev pub mirror_key : MirrorRow → List ℕ
 mirror_key m = m.name
@@ -85,3 +88,12 @@ with_accepted ch key words t = with_change ch key (length t.commands + 1) words 
 -- no intent is pending
 abbrev pub settled : Tables → Tables
 settled t = record t { intents = [] }
+
+-- the tables with the intents that stay pending where a command is accepted: all, or none
+abbrev pub left_of : Pending → Tables → Tables
+left_of Stays t = t
+left_of Goes t = settled t
+
+-- the change with these intents in place of its own
+abbrev pub with_pending : Changed → List Intent → Changed
+with_pending ch ts = record ch { intents = ts }

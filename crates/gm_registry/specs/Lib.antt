@@ -1,3 +1,4 @@
+pub mod Accepting
 pub mod Changes
 pub mod Keys
 pub mod Listing

@@ -1,4 +1,5 @@
-//! A command's change, with its intents and its key, in one transaction.
+//! A command's change, with its intents and its key, in one transaction; also in place of what is
+//! pending.
 
 ghost use Rattle.std.specs.Prelude.{◌≡◌, ◌≤◌, ◌+◌, ◌↔◌, IfOk, OnOk, OnErr, IsTrue};
 ghost use Rattle.sqlite.specs.State.{Survives};
@@ -6,20 +7,20 @@ ghost use Rattle.sqlite.specs.Held.{state};
 ghost use Rattle.gm_state.specs.Rows.{Tables};
 ghost use Rattle.gm_state.specs.World.{ReplyFits};
 ghost use Rattle.gm_registry.specs.Replies.{count_of, IsFree};
-ghost use Rattle.gm_registry.specs.Changes.{with_accepted, with_records, with_change, without_some_mirror, with_some_mirror};
+ghost use Rattle.gm_registry.specs.Changes.{left_of, with_accepted, with_records, with_change, with_pending, without_some_mirror, with_some_mirror};
 ghost use Rattle.gm_registry.specs.Registry.{DiskKept, IsOpen, HasTables, MayLeave, LeavesNothingNew, KeepsCommit, MakesInside, Writes};
-ghost use Rattle.gm_rows.specs.Faults.{OnUnreadable};
+ghost use Rattle.gm_registry.specs.Accepting.{Accepts};
 
 use crate::commands::put_command;
 use crate::components::{drop_components, put_components};
-use crate::intents::put_intents;
+use crate::intents::{Pending, drop_pending, put_intents};
 use crate::mirrors::{drop_mirror, put_mirror};
 use crate::replies::accepted_on;
 use gm_changes::Change;
 use gm_commands::MAX_COMMANDS;
 use gm_metadata::Label;
 use gm_rows::StoreFault;
-use gm_state::{MAX_SECTORS, Mirror, Reply};
+use gm_state::{Intent, MAX_SECTORS, Mirror, Reply};
 use sqlite::{Alter, Connection, Error, ErrorCode, Transaction};
 
 /// Deletes a mirror where there is a name.
@@ -68,49 +69,75 @@ fn put_records<S: Alter>(tx: &mut Transaction<'_, S>, change: &Change) -> Result
     put_components(tx, change.components())
 }
 
-/// Writes a change, its intents and its key.
+/// Writes a change, with these intents, and its key.
 fn put_change<S: Alter>(
     tx: &mut Transaction<'_, S>,
     change: &Change,
+    intents: &[Intent],
     key: &str,
     number: u32,
     words: &str,
 ) -> Result<(), Error>
     ensures same_reference { tx.new.conn.ghost_name ≡ tx.old.conn.ghost_name }
     ensures put { MakesInside S.Store tx.old.conn.now tx.new.conn.now result
-        (with_change change.now key.now number words.now) }
+        (with_change (with_pending change.now intents.now) key.now number words.now) }
     ensures kept { KeepsCommit S.Store tx.old.conn.now tx.new.conn.now }
     ensures survives { LeavesNothingNew S.Store tx.old.conn.now tx.new.conn.now }
 {
     put_records(tx, change)?;
-    put_intents(tx, change.intents())?;
+    put_intents(tx, intents)?;
     put_command(tx, key, number, words, change.reply())?;
     Ok(())
 }
 
-/// Writes a change, its intents and its key in one transaction.
+/// The same behind what becomes of the intents that are pending.
+fn put_over<S: Alter>(
+    tx: &mut Transaction<'_, S>,
+    change: &Change,
+    intents: &[Intent],
+    pending: Pending,
+    key: &str,
+    number: u32,
+    words: &str,
+) -> Result<(), Error>
+    ensures same_reference { tx.new.conn.ghost_name ≡ tx.old.conn.ghost_name }
+    ensures put { MakesInside S.Store tx.old.conn.now tx.new.conn.now result (λ t.
+        with_change (with_pending change.now intents.now) key.now number words.now
+        (left_of pending t)) }
+    ensures kept { KeepsCommit S.Store tx.old.conn.now tx.new.conn.now }
+    ensures survives { LeavesNothingNew S.Store tx.old.conn.now tx.new.conn.now }
+{
+    drop_pending(tx, pending)?;
+    put_change(tx, change, intents, key, number, words)
+}
+
+/// Writes all of that in one transaction.
 fn write_change<S: Alter>(
     conn: &mut Connection<S>,
     change: &Change,
+    intents: &[Intent],
+    pending: Pending,
     key: &str,
     number: u32,
     words: &str,
 ) -> Result<(), Error>
     ensures done { DiskKept S.Store conn.new → OnOk result ((t : Tables)
         → HasTables S.Store conn.old t → number ≡ count_of t + 1
-        → HasTables S.Store conn.new (with_change change.now key.now number words.now t)) }
+        → HasTables S.Store conn.new (with_change (with_pending change.now intents.now)
+        key.now number words.now (left_of pending t))) }
     ensures refused { DiskKept S.Store conn.new
         → OnErr result ((t : Tables) → HasTables S.Store conn.old t → number ≡ count_of t + 1
         → IsOpen S.Store conn.new → HasTables S.Store conn.new t) }
     ensures left { (t : Tables) → HasTables S.Store conn.old t → number ≡ count_of t + 1
-        → MayLeave S.Store conn.old conn.new (with_change change.now key.now number words.now t) }
+        → MayLeave S.Store conn.old conn.new (with_change (with_pending change.now intents.now)
+        key.now number words.now (left_of pending t)) }
     ensures survives { Survives (state S.Store conn.old) (state S.Store conn.new) (λ _. Unit {0}) }
 {
     if !conn.is_autocommit() {
         return Err(Error::SqliteFailure(ErrorCode::TransactionState));
     }
     let mut tx = conn.transaction();
-    put_change(&mut tx, change, key, number, words)?;
+    put_over(&mut tx, change, intents, pending, key, number, words)?;
     tx.commit()
 }
 
@@ -124,30 +151,26 @@ fn is_in_range(reply: Reply) -> bool
     }
 }
 
-/// Accepts a change under the next number. `Store` where as many commands as may be were accepted
-/// already, or where the numbers of the reply are out of range: nothing is written then.
+/// Accepts a change, with these intents, under the next number. `Store` where as many commands as
+/// may be were accepted already, or where the numbers of the reply are out of range: nothing is
+/// written then.
 pub(crate) fn accept_on<S: Alter>(
     conn: &mut Connection<S>,
     change: &Change,
+    intents: &[Intent],
+    pending: Pending,
     key: &str,
     words: &str,
 ) -> Result<u64, StoreFault>
-    ensures number { DiskKept S.Store conn.new
-        → IfOk result (λ n. (t : Tables) → HasTables S.Store conn.old t → n ≡ count_of t + 1) }
-    ensures limits { IfOk result (λ n. (n ≤ 100000) × ReplyFits change.now.reply) }
-    ensures key { DiskKept S.Store conn.new
-        → OnOk result ((t : Tables) → HasTables S.Store conn.old t → IsFree t key.now) }
-    ensures unreadable { DiskKept S.Store conn.new
-        → OnUnreadable result ((t : Tables) → HasTables S.Store conn.old t → count_of t ≤ 100000
-        → ⊥) }
-    ensures writes { Writes S.Store conn.old conn.new result
-        (with_accepted change.now key.now words.now) }
+    ensures accepts { Accepts S.Store conn.old conn.new result change.now.reply key.now }
+    ensures writes { Writes S.Store conn.old conn.new result (λ t.
+        with_accepted (with_pending change.now intents.now) key.now words.now (left_of pending t)) }
 {
     let count = accepted_on(conn)?;
     if count >= MAX_COMMANDS || !is_in_range(change.reply()) {
         return Err(StoreFault::Store);
     }
     let number = count + 1;
-    write_change(conn, change, key, number, words)?;
+    write_change(conn, change, intents, pending, key, number, words)?;
     Ok(u64::from(number))
 }

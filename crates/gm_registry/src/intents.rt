@@ -3,7 +3,7 @@
 
 ghost use Rattle.std.specs.Prelude.{◌≡◌, [], ◌∷◌};
 ghost use Rattle.gm_state.specs.Rows.{Tables, intent_row, intent_rows};
-ghost use Rattle.gm_registry.specs.Changes.{with_intents, settled};
+ghost use Rattle.gm_registry.specs.Changes.{with_intents, settled, left_of};
 ghost use Rattle.gm_registry.specs.Registry.{DiskKept, HasTables, LeavesNothingNew, KeepsCommit, MakesInside, StoreFailed, Writes};
 ghost use Rattle.gm_rows.specs.Faults.{OnOther};
 
@@ -91,6 +91,44 @@ pub(crate) fn put_intents<S: Alter>(
         put_intent(tx, ord, *intent)?;
     }
     Ok(())
+}
+
+/// What becomes of the intents that are pending where a command is accepted.
+#[derive(Clone, Copy)]
+pub(crate) enum Pending {
+    /// They stay, beside those of the command.
+    Stays,
+    /// They go, and those of the command are all that is pending.
+    Goes,
+}
+
+/// Deletes all intents.
+fn drop_intents<S: Alter>(tx: &mut Transaction<'_, S>) -> Result<usize, Error>
+    ensures same_reference { tx.new.conn.ghost_name ≡ tx.old.conn.ghost_name }
+    ensures put { MakesInside S.Store tx.old.conn.now tx.new.conn.now result settled }
+    ensures kept { KeepsCommit S.Store tx.old.conn.now tx.new.conn.now }
+    ensures survives { LeavesNothingNew S.Store tx.old.conn.now tx.new.conn.now }
+{
+    tx.execute("DELETE FROM intents", &[])
+}
+
+/// Deletes the intents that are pending, where they are to go.
+pub(crate) fn drop_pending<S: Alter>(
+    tx: &mut Transaction<'_, S>,
+    pending: Pending,
+) -> Result<(), Error>
+    ensures same_reference { tx.new.conn.ghost_name ≡ tx.old.conn.ghost_name }
+    ensures put { MakesInside S.Store tx.old.conn.now tx.new.conn.now result (left_of pending) }
+    ensures kept { KeepsCommit S.Store tx.old.conn.now tx.new.conn.now }
+    ensures survives { LeavesNothingNew S.Store tx.old.conn.now tx.new.conn.now }
+{
+    match pending {
+        Pending::Stays => Ok(()),
+        Pending::Goes => {
+            drop_intents(tx)?;
+            Ok(())
+        }
+    }
 }
 
 /// Deletes all intents, in one transaction.

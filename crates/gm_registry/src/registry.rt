@@ -2,23 +2,23 @@
 
 ghost use Rattle.std.specs.Prelude.{OnOk, ◌≡◌, ◌≢◌, ◌≤◌, ◌+◌, false, IfOk, IfErr, MatchOption, MatchResult, string_bytes};
 ghost use Rattle.gm_state.specs.Rows.{Tables};
-ghost use Rattle.gm_state.specs.World.{ReplyFits};
 ghost use Rattle.gm_rows.specs.Tables.{Holds, IsEmpty, no_tables};
 ghost use Rattle.sqlite_catalog.specs.Listing.{IsSound};
 ghost use Rattle.gm_rows.specs.Schema.{registry_schema};
 ghost use Rattle.gm_registry.specs.Opening.{IsOpenable, IsForeign};
-ghost use Rattle.gm_registry.specs.Changes.{with_accepted, settled};
+ghost use Rattle.gm_registry.specs.Accepting.{Accepts};
+ghost use Rattle.gm_registry.specs.Changes.{with_accepted, with_pending, settled};
 ghost use Rattle.gm_registry.specs.Replies.{IsKept, IsFree, AreWrittenUnder, count_of};
 ghost use Rattle.gm_registry.specs.Registry.{DiskKept, IsOpen, stored, HasTables, IsRegistry, WasClean, MayLeave, LeavesNothingNew, LeavesAlone, StoreFailed, HasSaved, Reads, Writes};
 ghost use Rattle.gm_rows.specs.Faults.{OnUnreadable, OnStore};
 
 use crate::accept::accept_on;
-use crate::intents::settle_on;
+use crate::intents::{Pending, settle_on};
 use crate::open_store::prepare;
 use crate::replies::{accepted_on, reply_on};
 use gm_changes::Change;
 use gm_rows::StoreFault;
-use gm_state::Reply;
+use gm_state::{Intent, Reply};
 use sqlite::{Alter, Connection};
 use std::marker::Model;
 
@@ -135,18 +135,36 @@ impl<S: Alter> Registry<S> {
     /// number. `Store` before anything is written where 100,000 commands were accepted already, or
     /// the numbers of the reply are out of range.
     pub fn accept(&mut self, change: &Change, key: &str, words: &str) -> Result<u64, StoreFault>
-        ensures number { DiskKept S.Store self.new
-            → IfOk result (λ n. (t : Tables) → HasTables S.Store self.old t → n ≡ count_of t + 1) }
-        ensures limits { IfOk result (λ n. (n ≤ 100000) × ReplyFits change.now.reply) }
-        ensures key { DiskKept S.Store self.new
-            → OnOk result ((t : Tables) → HasTables S.Store self.old t → IsFree t key.now) }
-        ensures unreadable { DiskKept S.Store self.new
-            → OnUnreadable result ((t : Tables) → HasTables S.Store self.old t
-            → count_of t ≤ 100000 → ⊥) }
+        ensures accepts { Accepts S.Store self.old self.new result change.now.reply key.now }
         ensures writes { Writes S.Store self.old self.new result
             (with_accepted change.now key.now words.now) }
     {
-        accept_on(&mut self.conn, change, key, words)
+        let pending = Pending::Stays;
+        accept_on(
+            &mut self.conn,
+            change,
+            change.intents(),
+            pending,
+            key,
+            words,
+        )
+    }
+
+    /// The same with these intents in place of the change's own and of all that are pending: they
+    /// are what is pending then, numbered from 1.
+    pub fn accept_instead(
+        &mut self,
+        change: &Change,
+        intents: &[Intent],
+        key: &str,
+        words: &str,
+    ) -> Result<u64, StoreFault>
+        ensures accepts { Accepts S.Store self.old self.new result change.now.reply key.now }
+        ensures writes { Writes S.Store self.old self.new result (λ t. with_accepted
+            (with_pending change.now intents.now) key.now words.now (settled t)) }
+    {
+        let pending = Pending::Goes;
+        accept_on(&mut self.conn, change, intents, pending, key, words)
     }
 
     /// Deletes the pending intents, in one transaction.

@@ -9,7 +9,7 @@ returns-clause-put g c clean at t was =
     omega (arith, c.put_command.ensures.survives.clean, clean) in
     let early : HasCleanDisk (state g.S.Store c.put_records.new.tx.conn.now) =
     omega (arith, c.put_intents.ensures.survives.clean, second) in
-    rw (c.intents.ensures, c.reply.ensures) at
+    rw (c.reply.ensures) at
     (c.in_ok-put_command.ensures.put clean at _
     (c.in_ok-put_intents.ensures.put second at _
     (c.in_ok-put_records.ensures.put early at t was)))

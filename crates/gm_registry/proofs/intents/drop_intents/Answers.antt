@@ -1,0 +1,22 @@
+use Rattle.std.proofs.Common.{[]}
+use Rattle.sqlite.specs.Held.{state}
+use Rattle.sqlite_rows.proofs.Statements.{at_inside, keeps_held}
+use Rattle.gm_rows.specs.Schema.{registry_schema}
+use Rattle.gm_rows.specs.Statements.{settle_text}
+use Rattle.gm_rows.specs.Tables.{HasRows}
+use Rattle.gm_registry.specs.Changes.{settled}
+use Rattle.gm_registry.proofs.TextMeanings.{settle_is}
+use Rattle.gm_registry.proofs.ChangedTables.{settles_all}
+use Rattle.gm_registry.proofs.intents.drop_intents.Goals as goal
+
+pub returns-clause-put : goal.returns-clause-put
+returns-clause-put g c clean =
+    at_inside registry_schema HasRows settle_text [] _ settle_is.command_is settle_is.plain
+    (λ old new text count h. h) settled settles_all
+    (state g.S.Store c.args.tx.now.conn.now) (state g.S.Store c.execute.new.self.conn.now)
+    c.execute.result (c.execute.ensures.runs clean)
+
+pub returns-clause-kept : goal.returns-clause-kept
+returns-clause-kept g c clean =
+    keeps_held g.S.Store c.args.tx.now.conn.now c.execute.new.self.conn.now _ _ c.execute.result
+    (c.execute.ensures.runs clean) c.execute.ensures.ended

@@ -1,0 +1,22 @@
+-- What is told of a command that is accepted.
+use Rattle.std.specs.Prelude.{◌≡◌, ◌≤◌, ◌+◌, ℕ, List, Result, IfOk, OnOk}
+use Rattle.sqlite_trees.specs.declared.store.Store.{Ghosts}
+use Rattle.sqlite.specs.Held.{Held}
+use Rattle.gm_state.specs.declared.intents.Reply.{Reply}
+use Rattle.gm_state.specs.Rows.{Tables}
+use Rattle.gm_state.specs.World.{ReplyFits}
+use Rattle.gm_rows.specs.declared.fault.StoreFault.{StoreFault}
+use Rattle.gm_rows.specs.Faults.{OnUnreadable}
+use Rattle.gm_registry.specs.Registry.{DiskKept, HasTables}
+use Rattle.gm_registry.specs.Replies.{IsFree, count_of}
+
+-- It gets the next number, of at most 100,000, its reply is in range, and its key was free; the
+-- registry isn't unreadable while it has no more commands than that.
+pub record Accepts {S : Type 0} (g : Ghosts S) (old new : Held S) (result : Result ℕ StoreFault)
+    (reply : Reply) (key : List ℕ) : Type 0 where
+  pub number : DiskKept g new
+      → IfOk result (λ n. (t : Tables) → HasTables g old t → n ≡ count_of t + 1)
+  pub limits : IfOk result (λ n. (n ≤ 100000) × ReplyFits reply)
+  pub free : DiskKept g new → OnOk result ((t : Tables) → HasTables g old t → IsFree t key)
+  pub unreadable : DiskKept g new
+      → OnUnreadable result ((t : Tables) → HasTables g old t → count_of t ≤ 100000 → ⊥)
