@@ -37,7 +37,7 @@ reply_back Plain f = refl
 reply_back (Copied held total) f = let some : 0 < held = f.0 in
     let e : (held == 0) ≡ false = ne_eqb held 0 (λ z. omega (arith, z)) in rw e refl
 
-at_least_five : (r : Refusal) → 5 ≤ number_of r
+pub at_least_five : (r : Refusal) → 5 ≤ number_of r
 at_least_five NoMirror = omega arith
 at_least_five NameTaken = omega arith
 at_least_five MidTaken = omega arith

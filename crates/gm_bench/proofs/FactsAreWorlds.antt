@@ -9,7 +9,7 @@ use Rattle.gm_lists.specs.Ordered.{Has}
 use Rattle.gm_lists.proofs.Order.{same_is, same_from}
 use Rattle.gm_lists.proofs.Finding.{found, found_none, not_both, option_cases}
 use Rattle.gm_refusals.specs.declared.facts.Fact.{Fact}
-use Rattle.gm_refusals.specs.Facts.{equals_in}
+use Rattle.gm_refusals.specs.Facts.{equals_in, size_in}
 use Rattle.gm_apply.specs.EqualData.{CountsEqual, count_of, reach_of}
 use Rattle.gm_bench.specs.declared.adopt_scope.Compared.{Compared}
 use Rattle.gm_bench.specs.ShelfFacts.{AreEqual, IsFact, Tell, TellSizes, last_of}
@@ -85,6 +85,28 @@ tell entries size seen against q facts covered =
                 rw some.1 (subst (λ (p : List ℕ). AreEqual size seen against p f.equal) at
                 fact.equal);
           }
+    ]
+
+-- entries that have the shelf's sizes tell that of a provider which is covered
+pub tell_size : (entries : List Fact) (size : Sizes) (q : List ℕ)
+    → ((f : Fact) → Has entries f → size f.provider ≡ Some f.sectors) → IsCovered entries size q
+    → size_in entries q ≡ size q
+tell_size entries size q told covered =
+    elim (option_cases (find (λ (f : Fact). same_label f.provider q) entries)) [
+      | inl none ↦
+          let absent : size q ≡ None = elim covered [
+            | inl gone ↦ gone
+            | inr there ↦ not_both (same_label there.0.provider q)
+                (same_from there.0.provider q there.2)
+                (found_none (λ (f : Fact). same_label f.provider q) entries none there.0 there.1)
+          ] in
+          rw none (sym absent)
+      | inr some ↦
+          let is = found (λ (g : Fact). same_label g.provider q) entries some.0 some.1 in
+          let size_is : size q ≡ Some some.0.sectors =
+          subst (λ (p : List ℕ). size p ≡ Some some.0.sectors) (same_is some.0.provider q is.1)
+          (told some.0 is.0) in
+          rw some.1 (sym size_is)
     ]
 
 -- entries that have the shelf's sizes tell them

@@ -14,7 +14,6 @@ use Rattle.gm_state.specs.declared.intents.Intent.{Intent}
 use Rattle.gm_state.specs.declared.intents.Reply.{Reply}
 use Rattle.gm_state.specs.declared.records.Mirror.{Mirror}
 use Rattle.gm_state.specs.declared.records.Component.{Component}
-use Rattle.gm_state.specs.Intents.{IsAtHand}
 use Rattle.gm_state.specs.Records.{IsState, name, provider}
 use Rattle.gm_state.specs.Rows.{Tables, HoldRecords, mirror_row, component_row, answer_row}
 use Rattle.gm_lists.specs.Ordered.{Has, Ascends}
@@ -30,7 +29,7 @@ use Rattle.gm_bench.specs.declared.answer.Answer.TheVariants as run
 use Rattle.gm_bench.specs.declared.answer.Work.{Work}
 use Rattle.gm_bench.specs.Owed.{AcceptAnswers, IsLeft, LeavesRun, LookDoes, LookLeaves, RunAnswers}
 use Rattle.gm_bench.specs.Leading.{AreAmong, whole, Leads, KeepsClaims, AllLead}
-use Rattle.gm_bench.specs.Recovering.{Recovers, IsAt, IsShelfOf, LeavesOnly}
+use Rattle.gm_bench.specs.Recovering.{Recovers, IsShelfOf, LeavesOnly}
 use Rattle.gm_bench.specs.Accepting.{LeavesStep, OrStep}
 use Rattle.gm_bench.specs.Schedule.{Phase, Event, Accept_returned, Accept_stopped, Apply_returned, Apply_stopped, Settle_returned, Settle_stopped, Run_returned, Run_stopped, Look_returned, Look_stopped, Open_returned, Open_stopped, Now, none, skips, keeps, Moved, Without_returned, Without_stopped, Without_carrying, Entry, Handed_in, Without, IsNew, IsButMoved, IsStepTo, IsStepWithout, Reached, IsLastStep, ArePending, LeavesCommit, IsMove, HasCount, IsLeftIn, IsStop, IsRunStop, IsOpenOver, after_answer, after_run, with_media, Happens, IsStart, Runs, AtRest, OnTheWay, Stopped, Headline, Within}
 use Rattle.gm_bench.proofs.Looks.{looked_at}

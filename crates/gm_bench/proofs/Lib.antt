@@ -14,10 +14,14 @@ pub mod GatheredFacts
 pub mod Induction
 pub mod Listed
 pub mod Looks
+pub mod LossCarried
 pub mod LossCommits
+pub mod LossIntents
+pub mod LossJudged
 pub mod LossLists
 pub mod LossReadable
 pub mod LossRemaining
+pub mod LossRules
 pub mod LossSources
 pub mod Losses
 pub mod PartCovers
@@ -27,6 +31,7 @@ pub mod Present
 pub mod ReadTables
 pub mod RedoLeadsOn
 pub mod RegistryLeaves
+pub mod ReopenedLoss
 pub mod ReopenedStore
 pub mod ShelfProviders
 pub mod ShownSoFar

@@ -1,13 +1,12 @@
 -- The commit of an opening without a provider: the world that was left, or the step by the loss,
 -- whatever image goes with it.
-use Rattle.std.proofs.Common.{◌≡◌, ◌∙◌, inl, inr, ℕ, ◌+◌, ◌&&◌, true, false, List, [], ◌∷◌, map, length, None, Some, refl, sym, ap, subst, append-nil, if◌then◌else◌}
-use Rattle.std.specs.Prelude.{IsSome}
+use Rattle.std.proofs.Common.{◌≡◌, ◌∙◌, inl, inr, ℕ, ◌+◌, ◌&&◌, true, false, List, [], ◌∷◌, map, length, None, Some, refl, sym, ap, subst, arith, append-nil, if◌then◌else◌}
+use Rattle.std.specs.Prelude.{IsSome, string_bytes}
 use Rattle.std.specs.List.Sorted.{IsPermutation}
 use Rattle.std.proofs.lemmas.Bool.{cases_Bool}
 use Rattle.std.proofs.lemmas.List.{length-map}
 use Rattle.std.proofs.lemmas.List.Sorted.{IsPermutation-refl, IsPermutation-cons, length_permutation}
 use Rattle.sqlite_trees.specs.declared.store.Store.{Ghosts}
-use Rattle.sqlite.specs.Tree.{Trees}
 use Rattle.sqlite.specs.Held.{Held}
 use Rattle.gm_metadata.specs.Images.{Image, Sizes, same_label}
 use Rattle.gm_shelf.specs.Disk.{View, IsLawful}
@@ -20,12 +19,13 @@ use Rattle.gm_state.specs.declared.records.Component.{Component}
 use Rattle.gm_commands.specs.Commands.{words_of}
 use Rattle.gm_state.specs.Intents.{IsOf, names, is_place}
 use Rattle.gm_state.specs.Lookups.{mirror_of}
-use Rattle.gm_state.specs.Records.{Records, members}
+use Rattle.gm_state.specs.Records.{Records, members, name}
 use Rattle.gm_state.specs.Rows.{Tables, CommandRow, HoldRecords, answer_row, intent_rows}
 use Rattle.gm_lists.specs.Ordered.{Has}
 use Rattle.gm_state.specs.World.{World, Answered, present}
 use Rattle.gm_state.proofs.SoundClaims.{some_there}
-use Rattle.gm_lists.proofs.Finding.{not_both}
+use Rattle.gm_lists.proofs.Finding.{find_one, found, not_both}
+use Rattle.gm_state.proofs.FoundRecords.{provider_at}
 use Rattle.gm_lists.proofs.Order.{same_from, same_is}
 use Rattle.gm_state.proofs.Places.{place_from}
 use Rattle.gm_state.proofs.TestsTellRules.{member}
@@ -34,16 +34,23 @@ use Rattle.gm_changes.specs.Decides.{Changed, Makes, changed_by}
 use Rattle.gm_rules.specs.Step.{Plan, CanAnswer, HasPlan, answer}
 use Rattle.gm_refusals.specs.WorldFacts.{seen_of}
 use Rattle.gm_rules.proofs.EveryPlan.{every_plan}
-use Rattle.gm_registry.specs.Changes.{with_accepted, command_row, settled}
+use Rattle.gm_registry.specs.Changes.{with_accepted, with_pending, command_row, settled}
+use Rattle.gm_registry.specs.Replies.{count_of}
+use Rattle.gm_rules.specs.AbstractCalls.{Call}
 use Rattle.gm_rows.specs.ReadableTables.{HoldState}
-use Rattle.gm_registry.specs.Registry.{CrashLeaves, CrashLeavesOnly, DiskKept, MayLeave, stored}
+use Rattle.gm_registry.specs.Registry.{CrashLeavesOnly, DiskKept, HasTables, MayLeave}
 use Rattle.gm_registry.proofs.Written.{change_held, change_intents, change_commands}
 use Rattle.gm_bench.specs.Leading.{whole, Leads, KeepsClaims, AllLead}
-use Rattle.gm_bench.specs.Losing.{writes_to, dropped, pending_after, as_left, HasNext}
-use Rattle.gm_bench.specs.Recovering.{IsStored, Recovers}
+use Rattle.gm_bench.specs.declared.loss.Loss.{Loss}
+use Rattle.gm_bench.specs.Losing.{writes_to, dropped, pending_after, as_left, next_of, HasNext}
+use Rattle.gm_bench.specs.Recovering.{IsFound}
 use Rattle.gm_bench.specs.Schedule.{IsStepWithout, LeavesCommit}
+use Rattle.gm_bench.specs.Without.{IsLost, IsNewLoss, loss_call}
+use Rattle.gm_bench.proofs.CallAnswers.{as_many as as_many_of}
+use Rattle.gm_bench.proofs.Found.{lead}
+use Rattle.gm_bench.proofs.LossSources.{has_next, next_told}
 use Rattle.gm_bench.proofs.LossLists.{placed_by}
-use Rattle.gm_bench.proofs.LossReadable.{IsLoss, loss_of}
+use Rattle.gm_bench.proofs.LossReadable.{IsLoss, home, loss_of}
 use Rattle.gm_bench.proofs.LossRemaining.{names_none}
 use Rattle.gm_bench.proofs.Losses.{leads_to_loss, keeps_in_loss}
 use Rattle.gm_bench.proofs.RegistryLeaves.{leads_in}
@@ -126,11 +133,9 @@ module _ (w v : World) (key : List ℕ) (c : Command) (ch : Changed) (ts : List 
       subst (λ rows. IsPermutation (intent_rows 1 all) rows) (sym is)
       (IsPermutation-refl (intent_rows 1 all))
 
-module _ {S H : Type 0} (g : Ghosts S) (view : H → View) (size : H → Sizes) (start mid s : Held S)
-    (h : H) (away : Image) (u w : World) (lawful : IsLawful (view h))
-    (only_start : (db : Trees) → CrashLeaves g start db → db ≡ stored g start)
-    (r : Recovers (stored g start) (size h) away (view h).may_leave u w)
-    (sizes : present w ≡ size h) (only : CrashLeavesOnly g mid r.tables) (key n p next : List ℕ)
+module _ {S H : Type 0} (g : Ghosts S) (view : H → View) (size : H → Sizes) (r s : Held S) (h : H)
+    (away : Image) (ts : List Intent) (u w : World) (lawful : IsLawful (view h))
+    (at : IsFound g view size r h away ts u w) (key n p next : List ℕ)
     (m : Mirror) (found_is : mirror_of w.state n ≡ Some m)
     (here : (k : Component) × IsOf w.state m k × (k.provider ≡ p)) (gone : size h p ≡ None)
     (ch : Changed) (makes : Makes w.state (seen_of w) (Lost n (p ∷ [])) ch)
@@ -141,12 +146,12 @@ module _ {S H : Type 0} (g : Ghosts S) (view : H → View) (size : H → Sizes) 
   abbrev pub y : Image → Image
   y x = whole (size h) away x
 
-  pub lead : (x : Image) → (view h).may_leave x
-      → Leads r.tables r.intents (y x) w × KeepsClaims r.intents (y x) u w
-  lead x left = r.leads x left
+  pub leads_with : (x : Image) → (view h).may_leave x
+      → Leads at.tables ts (y x) w × KeepsClaims ts (y x) u w
+  leads_with x left = at.leads x left
 
-  abbrev pub first : Leads r.tables r.intents (y (view h).seen) w
-  first = (lead (view h).seen lawful.holds_now).0
+  abbrev pub first : Leads at.tables ts (y (view h).seen) w
+  first = (leads_with (view h).seen lawful.holds_now).0
 
   abbrev pub has_plan : HasPlan w key c
   has_plan = every_plan w key c first.sound can makes.good
@@ -160,8 +165,8 @@ module _ {S H : Type 0} (g : Ghosts S) (view : H → View) (size : H → Sizes) 
   abbrev pub plan : Plan w key c us v
   plan = has_plan.1
 
-  loss : IsLoss w v m p
-  loss = loss_of w v key n p us m first.sound found_is plan
+  pub loss_is : IsLoss w v m p
+  loss_is = loss_of w v key n p us m first.sound found_is plan
 
   abbrev pub world : World
   world = as_left v p away
@@ -170,7 +175,7 @@ module _ {S H : Type 0} (g : Ghosts S) (view : H → View) (size : H → Sizes) 
   at_p x j = rw gone refl
 
   -- the world of the step, but for what p was left with
-  stepped : IsStepWithout w (record { key = key; command = c }) p (dropped p r.intents) world
+  pub stepped : IsStepWithout w (record { key = key; command = c }) p (dropped p ts) world
   stepped = record {
     stepped = v;
     reply = reply_to c w.state;
@@ -185,64 +190,61 @@ module _ {S H : Type 0} (g : Ghosts S) (view : H → View) (size : H → Sizes) 
       | inr d ↦ rw d refl
       | inl e ↦ subst (λ (x : List ℕ). world.shelf x j ≡ v.shelf x j) (sym (same_is q p e))
           (kept j (subst (λ (x : List ℕ).
-          (same_label p x && is_place w.size (dropped p r.intents) x j) ≡ false)
+          (same_label p x && is_place w.size (dropped p ts) x j) ≡ false)
           (same_is q p e) off))
     ];
   }
     where
-      kept : (j : ℕ) → (same_label p p && is_place w.size (dropped p r.intents) p j) ≡ false
+      kept : (j : ℕ) → (same_label p p && is_place w.size (dropped p ts) p j) ≡ false
           → world.shelf p j ≡ v.shelf p j
       kept j off =
-          let none : is_place w.size (dropped p r.intents) p j ≡ false =
+          let none : is_place w.size (dropped p ts) p j ≡ false =
           rw (same_from p p refl) at off in
           let there : IsSome (w.size p) =
           subst (λ (q : List ℕ). IsSome (w.size q)) here.2
           (some_there (w.size here.0.provider) here.0.sectors
           (first.sound.sizes m here.0 here.1)) in
           let left : away p j ≡ w.shelf p j = sym (at_p (view h).seen j)
-          ∙ first.redo.agrees p there j (no_place p w.size r.intents j none) in
+          ∙ first.redo.agrees p there j (no_place p w.size ts j none) in
           let stays : v.shelf p j ≡ w.shelf p j =
-          loss.shelf p j (λ k h same _. (loss.components k (member v.state m.name k h).0).1
+          loss_is.shelf p j (λ k h same _. (loss_is.components k (member v.state m.name k h).0).1
           same) in
           (let on : world.shelf p j ≡ away p j = rw (same_from p p refl) refl in
           on) ∙ (left ∙ sym stays)
 
-  same_present : present world ≡ size h
-  same_present = (λ i q. if plan.step.there q i then plan.step.sizes q i else None) ∙ sizes
+  pub same_present : present world ≡ size h
+  same_present =
+      (λ i q. if plan.step.there q i then plan.step.sizes q i else None) ∙ at.sizes
 
-  module _ (has_next : HasNext v.state p next r.intents) where
+  module _ (has_next : HasNext v.state p next ts) where
     abbrev pub all : List Intent
-    all = pending_after p next r.intents (members v.state.components m.name)
+    all = pending_after p next ts (members v.state.components m.name)
 
     -- the tables of the commit: nothing of what was pending but what is written anew
     abbrev pub t : Tables
-    t = with_accepted (record ch { intents = all }) key (words_of c) (settled r.tables)
+    t = with_accepted (record ch { intents = all }) key (words_of c) (settled at.tables)
 
     leads : AllLead t all (size h) away (view h).may_leave u world
     leads x left =
-        let l = lead x left in
+        let l = leads_with x left in
         let rows_are : HoldRecords v t =
-        rows w v key c ch r.intents r.tables (y x) l.0 makes us plan all in
+        rows w v key c ch ts at.tables (y x) l.0 makes us plan all in
         let intents : IsPermutation (intent_rows 1 all) t.intents =
-        intents_are w v key c ch r.intents r.tables (y x) l.0 makes us plan all in (
-          leads_to_loss u w v m p next loss r.intents (y x) away
-              (at_p x) r.tables l.0 has_next t rows_are intents,
-          keeps_in_loss u w v m p next loss r.intents (y x) away (at_p x) r.tables l.0 has_next l.1,
+        intents_are w v key c ch ts at.tables (y x) l.0 makes us plan all in (
+          leads_to_loss u w v m p next loss_is ts (y x) away
+              (at_p x) at.tables l.0 has_next t rows_are intents,
+          keeps_in_loss u w v m p next loss_is ts (y x) away (at_p x) at.tables l.0 has_next l.1,
         )
 
-    pub loss_leaves : DiskKept g s → MayLeave g mid s t
-        → LeavesCommit g view size start s h away u w (record { key = key; command = c }) p
-        (dropped p r.intents)
-    loss_leaves clean may = record {
-      within = λ db left. record {
-        tables = r.tables;
-        intents = r.intents;
-        stored = subst (λ (d : Trees). IsStored d r.tables) (sym (only_start db left)) r.stored;
-        leads = λ x l. r.leads x (lawful.only_now x l);
-      };
+    pub loss_leaves : CrashLeavesOnly g r at.tables → DiskKept g s → MayLeave g r s t
+        → LeavesCommit g view size r s h away u w (record { key = key; command = c }) p
+        (dropped p ts)
+    loss_leaves only clean may = record {
+      within = leads_in g view size r h away at.tables ts u w only
+          ((view h).left_since (view h).moment) (λ x l. at.leads x (lawful.only_now x l));
       end = λ db left. elim (may.crash clean db left) [
-        | inl was ↦ inl (leads_in g view size mid h away r.tables r.intents u w only
-            (view h).may_leave r.leads db was)
+        | inl was ↦ inl (leads_in g view size r h away at.tables ts u w only
+            (view h).may_leave at.leads db was)
         | inr is ↦ inr (
           world,
           stepped,
@@ -251,3 +253,110 @@ module _ {S H : Type 0} (g : Ghosts S) (view : H → View) (size : H → Sizes) 
         )
       ];
     }
+
+    -- at its end those tables are found, with what is pending then
+    pub loss_found : HasTables g s t → IsFound g view size s h away all u world
+    loss_found has =
+        record { tables = t; has = has; sizes = same_present; leads = leads }
+
+-- of a loss that nothing refuses
+module _ {S H : Type 0} (g : Ghosts S) (view : H → View) (size : H → Sizes) (r s : Held S) (h : H)
+    (away : Image) (ts : List Intent) (u w : World) (lawful : IsLawful (view h))
+    (at : IsFound g view size r h away ts u w) (key p : List ℕ) (loss : Loss)
+    (j : IsNewLoss w ts key p loss) where
+  abbrev k : Component
+  k = j.component
+
+  began : Leads at.tables ts (whole (size h) away (view h).seen) w
+  began = lead g view size r h away ts u w at lawful
+
+  at_home : (m : Mirror) × IsOf w.state m k
+  at_home = home w.state began.sound.state k
+      (found (λ (x : Component). same_label x.provider p) w.state.components k j.on).0
+
+  abbrev m : Mirror
+  m = at_home.0
+
+  mine : k.mirror ≡ m.name
+  mine = (member w.state m.name k at_home.1.component).1
+
+  found_is : mirror_of w.state k.mirror ≡ Some m
+  found_is = subst (λ (q : List ℕ). mirror_of w.state q ≡ Some m) (sym mine)
+      (find_one name w.state.mirrors began.sound.state.mirrors_in_order m at_home.1.mirror)
+
+  abbrev here : (x : Component) × IsOf w.state m x × (x.provider ≡ p)
+  here = (k, at_home.1, provider_at w.state p k j.on)
+
+  gone : size h p ≡ None
+  gone = subst (λ (z : Sizes). z p ≡ None) at.sizes j.away
+
+  abbrev stepped_to : World
+  stepped_to = v g view size r s h away ts u w lawful at key k.mirror p j.next m found_is here gone
+      loss.change j.makes j.can
+
+  -- the records are those of the step
+  after_is : loss.after ≡ stepped_to.state
+  after_is = j.after ∙ (j.makes.records ∙ sym (plan g view size r s h away ts u w lawful at key
+      k.mirror p j.next m found_is here gone loss.change j.makes j.can).step.records)
+
+  serves_next : HasNext stepped_to.state p j.next ts
+  serves_next = has_next w stepped_to m p j.next
+      (loss_is g view size r s h away ts u w lawful at key k.mirror p j.next m found_is here gone
+      loss.change j.makes j.can) began.sound ts began.readable
+      (λ t a b stands. next_told stepped_to.state p j.next ts began.readable.one_copy
+      (subst (λ (x : Records). next_of x p ts ≡ Some j.next) after_is j.next_is) t a b stands)
+
+  abbrev behind : Tables
+  behind = with_accepted (with_pending loss.change loss.intents.items) key
+      (string_bytes loss.words) (settled at.tables)
+
+  abbrev now : Tables
+  now = t g view size r s h away ts u w lawful at key k.mirror p j.next m found_is here gone
+      loss.change j.makes j.can serves_next
+
+  all_is : loss.intents.items
+      ≡ pending_after p j.next ts (members stepped_to.state.components m.name)
+  all_is = j.intents ∙ (ap (λ (x : Records). pending_after p j.next ts
+      (members x.components k.mirror)) after_is
+      ∙ ap (λ (q : List ℕ). pending_after p j.next ts (members stepped_to.state.components q)) mine)
+
+  now_is : behind ≡ now
+  now_is = ap (λ (is : List Intent). with_accepted (with_pending loss.change is) key
+      (string_bytes loss.words) (settled at.tables)) all_is
+      ∙ ap (λ (l : List ℕ). with_accepted (with_pending loss.change (pending_after p j.next ts
+      (members stepped_to.state.components m.name))) key l (settled at.tables)) j.words
+
+  call_is : record { key = key; command = Lost k.mirror (p ∷ []) } ≡ loss_call key loss.mirror p
+  call_is = ap (λ (q : List ℕ). loss_call key q p) (sym j.mirror)
+
+  pub commits : CrashLeavesOnly g r at.tables → DiskKept g s → MayLeave g r s behind
+      → LeavesCommit g view size r s h away u w (loss_call key loss.mirror p) p (dropped p ts)
+  commits only clean may =
+      subst (λ (c : Call). LeavesCommit g view size r s h away u w c p (dropped p ts)) call_is
+      (loss_leaves g view size r s h away ts u w lawful at key k.mirror p j.next m found_is here
+      gone loss.change j.makes j.can serves_next only clean
+      (subst (λ (x : Tables). MayLeave g r s x) now_is may))
+
+  pub lost : HasTables g s behind → (n : ℕ) → n ≡ count_of at.tables + 1
+      → IsLost g view size s h away loss key p ts u w n
+  unfolding stepped
+  lost has n is = (
+    world g view size r s h away ts u w lawful at key k.mirror p j.next m found_is here gone
+        loss.change j.makes j.can,
+    subst (λ (c : Call). IsStepWithout w c p (dropped p ts) (world g view size r s h away ts u w
+        lawful at key k.mirror p j.next m found_is here gone loss.change j.makes j.can)) call_is
+        (stepped g view size r s h away ts u w lawful at key k.mirror p j.next m found_is here
+        gone loss.change j.makes j.can),
+    sym j.makes.reply,
+    (let many = as_many_of w at.tables began.sound began.records key (Lost k.mirror (p ∷ [])) in
+        omega (arith, is, many)),
+    same_present g view size r s h away ts u w lawful at key k.mirror p j.next m found_is here gone
+        loss.change j.makes j.can,
+    after_is,
+    subst (λ (is : List Intent). IsFound g view size s h away is u (world g view size r s h away
+        ts u w lawful at key k.mirror p j.next m found_is here gone loss.change j.makes j.can))
+        (sym all_is)
+        (loss_found g view size r s h away ts u w lawful at key k.mirror p j.next m found_is here
+        gone loss.change j.makes j.can serves_next
+        (subst (λ (x : Tables). HasTables g s x) now_is has)),
+  )

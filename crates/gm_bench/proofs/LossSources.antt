@@ -1,18 +1,18 @@
 -- The next source of a copy whose source is lost lends to its target.
-use Rattle.std.proofs.Common.{◌≡◌, ◌≢◌, ◌∙◌, inl, inr, ℕ, ◌&&◌, true, not, refl, sym, ap, subst, arith, List, Some, None}
+use Rattle.std.proofs.Common.{◌≡◌, ◌≢◌, ◌∙◌, inl, inr, ℕ, ◌≤◌, ◌&&◌, true, not, refl, sym, ap, subst, arith, List, [], ◌∷◌, length, filter, Some, None}
 use Rattle.std.specs.List.{list_any}
 use Rattle.std.specs.Prelude.{option_map}
 use Rattle.std.proofs.lemmas.Bool.{and_parts}
 use Rattle.gm_metadata.specs.Images.{same_label}
 use Rattle.gm_state.specs.declared.intents.Intent.{Intent}
-use Rattle.gm_state.specs.declared.intents.Intent.TheVariants.{Copy}
+use Rattle.gm_state.specs.declared.intents.Intent.TheVariants.{Meta, Clear, Copy}
 use Rattle.gm_state.specs.declared.records.Disk.{Disk}
 use Rattle.gm_state.specs.declared.records.Disk.TheVariants.{InSync, Inactive, Copying}
 use Rattle.gm_state.specs.declared.records.Mirror.{Mirror}
 use Rattle.gm_state.specs.declared.records.Component.{Component}
 use Rattle.gm_state.specs.Disks.{is_active}
 use Rattle.gm_state.specs.Lookups.{component_of}
-use Rattle.gm_state.specs.Readable.{IsCopyWithin, AreReadable}
+use Rattle.gm_state.specs.Readable.{IsCopyWithin, AreReadable, is_copy}
 use Rattle.gm_state.specs.Records.{Records, members, name, provider}
 use Rattle.gm_state.specs.Sources.{lends_to, goes_first, source_among, source_of}
 use Rattle.gm_lists.specs.Ordered.{Has}
@@ -22,7 +22,7 @@ use Rattle.gm_lists.proofs.Order.{same_from}
 use Rattle.gm_state.proofs.TestsTellRules.{member}
 use Rattle.gm_lists.proofs.Putting.{one}
 use Rattle.gm_lists.proofs.Lists.{filter-Has}
-use Rattle.gm_bench.specs.Losing.{HasNext}
+use Rattle.gm_bench.specs.Losing.{HasNext, next_of}
 use Rattle.gm_bench.proofs.LossReadable.{IsLoss, home}
 
 in_sync : (d : Disk) → is_active d ≡ true → d ≡ InSync
@@ -103,3 +103,30 @@ module _ (w v : World) (m : Mirror) (p next : List ℕ) (loss : IsLoss w v m p) 
         ordered = c.ordered;
         within = (omega (arith, within, as_many));
       }
+
+some_copy : (p t : List ℕ) (a b : ℕ) (ts : List Intent) → Has ts (Copy p t a b)
+    → 1 ≤ length (filter is_copy ts)
+some_copy p t a b [] h = absurd h
+some_copy p t a b (Meta q ∷ ts) (inl e) = cc
+some_copy p t a b (Clear q ∷ ts) (inl e) = cc
+some_copy p t a b (Copy x y c d ∷ ts) h = omega arith
+some_copy p t a b (Meta q ∷ ts) (inr h) = some_copy p t a b ts h
+some_copy p t a b (Clear q ∷ ts) (inr h) = some_copy p t a b ts h
+
+-- of at most one copy, what is told of the one from p
+pub next_told : (s : Records) (p next : List ℕ) (ts : List Intent)
+    → length (filter is_copy ts) ≤ 1 → next_of s p ts ≡ Some next
+    → (t : List ℕ) (a b : ℕ) → Has ts (Copy p t a b) → source_of s t ≡ Some next
+next_told s p next [] few is t a b h = absurd h
+next_told s p next (Meta q ∷ ts) few is t a b (inl e) = cc
+next_told s p next (Meta q ∷ ts) few is t a b (inr h) = next_told s p next ts few is t a b h
+next_told s p next (Clear q ∷ ts) few is t a b (inl e) = cc
+next_told s p next (Clear q ∷ ts) few is t a b (inr h) = next_told s p next ts few is t a b h
+next_told s p next (Copy x y c d ∷ ts) few is t a b (inl e) =
+    let from : x ≡ p = cc in
+    let to : y ≡ t = cc in
+    let told : source_of s y ≡ Some next = rw (same_from x p from) at is in
+    subst (λ (q : List ℕ). source_of s q ≡ Some next) to told
+next_told s p next (Copy x y c d ∷ ts) few is t a b (inr h) =
+    let one : 1 ≤ length (filter is_copy ts) = some_copy p t a b ts h in
+    absurd (omega (arith, few, one))

@@ -5,6 +5,7 @@ pub mod Audits
 pub mod Benches
 pub mod Calls
 pub mod Faults
+pub mod GivingUp
 pub mod Leading
 pub mod Losing
 pub mod Opened
@@ -17,3 +18,4 @@ pub mod Running
 pub mod Schedule
 pub mod ShelfFacts
 pub mod Shown
+pub mod Without

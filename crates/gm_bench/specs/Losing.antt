@@ -1,11 +1,12 @@
 -- An opening without a provider: what becomes of the pending intents, and what the world is then.
-use Rattle.std.specs.Prelude.{◌≢◌, ℕ, Bool, List, [], ◌∷◌, ◌++◌, if◌then◌else◌}
+use Rattle.std.specs.Prelude.{◌≢◌, ℕ, Bool, List, [], ◌∷◌, ◌++◌, Option, Some, if◌then◌else◌}
 use Rattle.gm_metadata.specs.Images.{Image, same_label}
 use Rattle.gm_state.specs.declared.intents.Intent.{Intent}
 use Rattle.gm_state.specs.declared.intents.Intent.TheVariants.{Meta, Clear, Copy}
 use Rattle.gm_state.specs.declared.records.Component.{Component}
 use Rattle.gm_state.specs.Readable.{IsCopyWithin}
 use Rattle.gm_state.specs.Records.{Records}
+use Rattle.gm_state.specs.Sources.{source_of}
 use Rattle.gm_lists.specs.Ordered.{Has}
 use Rattle.gm_state.specs.World.{World}
 use Rattle.gm_changes.specs.After.{metas}
@@ -33,6 +34,15 @@ abbrev pub remaining : List ℕ → List ℕ → List Intent → List Intent
 remaining p next [] = []
 remaining p next (t ∷ ts) = if writes_to p t then remaining p next ts else redirected p next t
     ∷ remaining p next ts
+
+-- the source of the copy that is pending from the provider, by the records after its loss: the
+-- mirror's; where nothing is copied from it, any name will do
+abbrev pub next_of : Records → List ℕ → List Intent → Option (List ℕ)
+next_of s p [] = Some p
+next_of s p (Meta q ∷ ts) = next_of s p ts
+next_of s p (Clear q ∷ ts) = next_of s p ts
+next_of s p (Copy source target first end ∷ ts) =
+    if same_label source p then source_of s target else next_of s p ts
 
 -- all that is pending then: Meta of the mirror's other components behind what stays
 abbrev pub pending_after : List ℕ → List ℕ → List Intent → List Component → List Intent

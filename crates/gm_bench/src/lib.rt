@@ -5,11 +5,14 @@
 //! Read `specs/Leading.antt` first, what tables and an image lead to, then `specs/Recovering.antt`
 //! and `specs/Accepting.antt`, what a call may leave, `specs/Owed.antt`, what each call owes,
 //! `specs/Calls.antt` and `specs/Opened.antt`, what all calls of a kind leave and tell beside that
-//! (`specs/Benches.antt` names what is in a bench), and `specs/Schedule.antt`, what a whole run is,
-//! with `specs/Losing.antt`, an opening without a provider; then `bench` and `calls`, whose calls
-//! are those of `media` in turn. `laws` says what holds of every run. `views` has the calls that
-//! only look, of which `audit` holds the images against the registry (`specs/Audits.antt`);
-//! `bare_shelf` looks at a shelf that has no bench.
+//! (`specs/Benches.antt` names what is in a bench), and `specs/Schedule.antt`, what a whole run is;
+//! then `bench` and `calls`, whose calls are those of `media` in turn. `laws` says what holds of
+//! every run. `views` has the calls that only look, of which `audit` holds the images against the
+//! registry (`specs/Audits.antt`); `bare_shelf` looks at a shelf that has no bench.
+//!
+//! `open_without` opens a bench of which an image is gone for good: `specs/Losing.antt` says what
+//! is pending behind that, `specs/Without.antt` why it is refused, and `specs/GivingUp.antt` what it
+//! leaves and answers. `without` judges it, with `loss`, and `lose` writes it.
 #![tactic(auto)]
 
 mod accept;
@@ -22,16 +25,24 @@ mod calls;
 mod facts;
 mod fault;
 mod laws;
+mod lose;
+mod loss;
 mod media;
+mod open_without;
 mod phase;
 mod plan;
 mod presence;
+mod sizes;
 mod take_up;
+mod take_up_without;
 mod views;
+mod without;
 
 pub use answer::Answer;
 pub use bare_shelf::taste_shelf;
 pub use bench::{Bench, OpenFault};
 pub use fault::BenchFault;
 pub use laws::{clean_audit_law, losses_lead_on, whole_run_law};
+pub use loss::LossRefusal;
+pub use open_without::Without;
 pub use phase::Phase;

@@ -80,7 +80,11 @@ impl<S: Alter, H: Shelf> Media<S, H> {
     }
 
     /// Carries out what was loaded, where each image that it needs is there.
-    fn check_and_finish(&mut self, state: &State, intents: &[Intent]) -> Result<(), BenchFault>
+    pub(crate) fn check_and_finish(
+        &mut self,
+        state: &State,
+        intents: &[Intent],
+    ) -> Result<(), BenchFault>
         ensures moments { H.honest self.old.shelf → (away : Image) (u w : World)
             → (at : IsFound S.Store H.view H.size self.old.registry self.old.shelf away
             intents.now u w)

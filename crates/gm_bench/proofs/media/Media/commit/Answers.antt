@@ -20,7 +20,7 @@ returns-in-Err-clause-leaves g c h clean away cmd u words at planned can =
 
 pub returns-in-Ok-clause-done : goal.returns-in-Ok-clause-done
 returns-in-Ok-clause-done g c h clean away cmd u words at planned can =
-    let number = c.in-Ok.ensures.number clean at.tables at.has in
+    let number = c.in-Ok.ensures.accepts.number clean at.tables at.has in
     let saved_now = c.in-Ok.ensures.writes.done clean at.tables at.has in
     commit_done g.S.Store g.H.Shelf.view g.H.Shelf.size c.args.self.now.registry c.accept.new.self
     c.args.self.now.shelf away u c.args.key.now cmd c.args.planned c.args.words.now words

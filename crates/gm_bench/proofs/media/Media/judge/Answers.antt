@@ -1,0 +1,77 @@
+use Rattle.std.proofs.Common.{◌∙◌, [], ℕ, List, refl, sym, subst, subst₂, arith, string_bytes, true≢false}
+use Rattle.std.specs.Prelude.{MatchOption}
+use Rattle.gm_commands.specs.declared.command.Command.{Command}
+use Rattle.gm_commands.specs.declared.command.Command.TheVariants.{Lost}
+use Rattle.gm_commands.specs.Commands.{words_of}
+use Rattle.gm_registry.specs.Registry.{DiskKept}
+use Rattle.gm_registry.specs.Replies.{IsFree, IsKept}
+use Rattle.gm_bench.specs.declared.loss.Judged.{Judged}
+use Rattle.gm_bench.specs.declared.loss.Judged.TheVariants.{Kept}
+use Rattle.gm_bench.specs.Without.{AreOfLoss, IsJudged}
+use Rattle.gm_bench.proofs.CallAnswers.{kept_answer}
+use Rattle.gm_bench.proofs.DecidesOnly.{ok_then, reads_then}
+use Rattle.gm_bench.proofs.LossJudged.{key_taken, kept_before}
+use Rattle.gm_bench.proofs.media.Media.judge.Goals as goal
+
+abbrev any : Command
+any = Lost [] []
+
+pub returns-in-Ok-None-clause-judged : goal.returns-in-Ok-None-clause-judged
+returns-in-Ok-None-clause-judged g c clean =
+    let asked : DiskKept g.S.Store c.reply_of.new.self =
+    omega (arith, clean, c.judge_free.ensures.reads.clean) in
+    ok_then _ _ (λ j judged w t of holds has. (
+    let f = c.in-Ok-None.ensures.found asked t has in
+    let free : IsFree t c.args.key.now =
+    subst (λ o. MatchOption o (IsFree t c.args.key.now)
+    (λ it. IsKept t c.args.key.now it.0 (string_bytes it.1) it.2)) c.in-Ok-None.field-0-is f.0 in
+    judged w c.args.key.now t of holds f.1.tables (sym c.is_key.ensures ∙ c.if-not-is_key.false) free))
+    c.judge_free.result (c.judge_free.ensures.judged clean)
+
+pub returns-in-Ok-None-clause-reads : goal.returns-in-Ok-None-clause-reads
+returns-in-Ok-None-clause-reads g c clean =
+    let asked : DiskKept g.S.Store c.reply_of.new.self =
+    omega (arith, clean, c.judge_free.ensures.reads.clean) in
+    reads_then g.S.Store c.args.self.now.registry c.reply_of.new.self
+    c.judge_free.new.self.registry
+    (λ t has. (c.in-Ok-None.ensures.found asked t has).1.tables) c.reply_of.ensures.reads
+    c.judge_free.ensures.reads
+
+pub returns-then-are_of_loss-clause-judged : goal.returns-then-are_of_loss-clause-judged
+returns-then-are_of_loss-clause-judged g c clean w t of holds has =
+    let f = c.in-Ok-Some.ensures.found clean t has in
+    let row : IsKept t c.args.key.now c.in-Ok-Some.number (string_bytes c.in-Ok-Some.words)
+    c.in-Ok-Some.reply =
+    subst (λ o. MatchOption o (IsFree t c.args.key.now)
+    (λ it. IsKept t c.args.key.now it.0 (string_bytes it.1) it.2)) c.in-Ok-Some.field-0-is f.0 in
+    let a = kept_answer w t of.sound holds c.args.key.now any c.in-Ok-Some.number
+    (string_bytes c.in-Ok-Some.words) c.in-Ok-Some.reply row in
+    let are : AreOfLoss c.args.provider (words_of a.0.command) =
+    subst (λ (l : List ℕ). AreOfLoss c.args.provider l) (c.as_str.ensures.value ∙ sym a.4)
+    (c.if-are_of_loss.ensures.0 refl) in (
+      subst₂ (λ (n : ℕ) r. IsJudged w c.args.intents.now c.args.key.now c.args.provider
+          (Kept n r)) a.3 a.5
+          (kept_before w of.sound c.args.intents.now c.args.key.now c.args.provider
+          (sym c.is_key.ensures ∙ c.if-not-is_key.false) a.0 a.1 a.2 are),
+      f.1.tables,
+    )
+
+pub returns-in-Ok-Some-clause-judged : goal.returns-in-Ok-Some-clause-judged
+returns-in-Ok-Some-clause-judged g c clean w t of holds has =
+    let f = c.in-Ok-Some.ensures.found clean t has in
+    let row : IsKept t c.args.key.now c.in-Ok-Some.number (string_bytes c.in-Ok-Some.words)
+    c.in-Ok-Some.reply =
+    subst (λ o. MatchOption o (IsFree t c.args.key.now)
+    (λ it. IsKept t c.args.key.now it.0 (string_bytes it.1) it.2)) c.in-Ok-Some.field-0-is f.0 in
+    let a = kept_answer w t of.sound holds c.args.key.now any c.in-Ok-Some.number
+    (string_bytes c.in-Ok-Some.words) c.in-Ok-Some.reply row in
+    let other : AreOfLoss c.args.provider (words_of a.0.command) → ⊥ =
+    λ are. true≢false (sym (c.if-are_of_loss.ensures.1
+    (subst (λ (l : List ℕ). AreOfLoss c.args.provider l) (a.4 ∙ sym c.as_str.ensures.value)
+    are))) in (
+      subst (λ (j : Judged). IsJudged w c.args.intents.now c.args.key.now c.args.provider j)
+          (sym c.refused-else-are_of_loss.ensures)
+          (key_taken w of.sound c.args.intents.now c.args.key.now c.args.provider
+          (sym c.is_key.ensures ∙ c.if-not-is_key.false) a.0 a.1 a.2 other),
+      f.1.tables,
+    )

@@ -1,0 +1,64 @@
+use Rattle.std.proofs.Common.{◌≡◌, ◌∙◌, ◌<◌, [], None, Some, length, sym, subst, arith}
+use Rattle.gm_commands.specs.declared.command.Command.{Command}
+use Rattle.gm_commands.specs.declared.command.Command.TheVariants.{Lost}
+use Rattle.gm_state.specs.Lookups.{component_of}
+use Rattle.gm_state.specs.Records.{Records}
+use Rattle.gm_state.proofs.FoundRecords.{provider_at}
+use Rattle.gm_registry.specs.Replies.{count_of}
+use Rattle.gm_bench.specs.declared.loss.Judged.{Judged}
+use Rattle.gm_bench.specs.Without.{AreOfWorld, IsJudged}
+use Rattle.gm_bench.proofs.CallAnswers.{as_many, free_key}
+use Rattle.gm_bench.proofs.DecidesOnly.{many_of, ok_then, room_of}
+use Rattle.gm_bench.proofs.LossJudged.{no_room, not_member}
+use Rattle.gm_bench.proofs.media.Media.judge_free.Goals as goal
+
+abbrev any : Command
+any = Lost [] []
+
+pub returns-then-branch-clause-judged : goal.returns-then-branch-clause-judged
+returns-then-branch-clause-judged g c clean w key t of holds has key_ok free =
+    let told = c.in_ok-is_full.ensures.told clean t has in
+    let no_key = free_key w t of.sound holds key any free in
+    let many = as_many w t of.sound holds key any in
+    let much = many_of c.in_ok-is_full.field-0 (count_of t) told.0 c.if-branch.true in (
+      subst (λ (j : Judged). IsJudged w c.args.intents.now key c.args.provider j)
+          (sym c.refused.ensures)
+          (no_room w of.sound c.args.intents.now key c.args.provider key_ok no_key
+          (omega (arith, many, much))),
+      told.1,
+    )
+
+pub returns-in-None-clause-judged : goal.returns-in-None-clause-judged
+returns-in-None-clause-judged g c clean w key t of holds has key_ok free =
+    let told = c.in_ok-is_full.ensures.told clean t has in
+    let no_key = free_key w t of.sound holds key any free in
+    let many = as_many w t of.sound holds key any in
+    let few = room_of c.in_ok-is_full.field-0 (count_of t) told.0 c.if-branch.false in
+    let none : component_of w.state c.args.provider ≡ None =
+    subst (λ (s : Records). component_of s c.args.provider ≡ None) of.records
+    (sym c.component.ensures.value ∙ c.in-None.is) in (
+      subst (λ (j : Judged). IsJudged w c.args.intents.now key c.args.provider j)
+          (sym c.refused-in-None.ensures)
+          (not_member w of.sound c.args.intents.now key c.args.provider key_ok no_key
+          (omega (arith, many, few)) none),
+      told.1,
+    )
+
+pub returns-in-Some-clause-judged : goal.returns-in-Some-clause-judged
+returns-in-Some-clause-judged g c clean =
+    ok_then _ _ (λ j judged w key t of holds has key_ok free. (
+    let told = c.in_ok-is_full.ensures.told clean t has in
+    let no_key = free_key w t of.sound holds key any free in
+    let many = as_many w t of.sound holds key any in
+    let few = room_of c.in_ok-is_full.field-0 (count_of t) told.0 c.if-branch.false in
+    let room : length w.answered < 100000 = omega (arith, many, few) in
+    let at : component_of c.args.state.now c.args.provider ≡ Some c.in-Some.component =
+    sym c.component.ensures.value ∙ c.in-Some.is in
+    let on : component_of w.state c.args.provider ≡ Some c.in-Some.component =
+    subst (λ (s : Records). component_of s c.args.provider ≡ Some c.in-Some.component) of.records
+    at in (
+      judged w key c.args.provider (subst (λ (k : g.row.H.Denot).
+          AreOfWorld c.args.state.now (g.H.Shelf.size k) w) (sym c.is_full.ensures.shelf) of)
+          (provider_at w.state c.args.provider c.in-Some.component on) on key_ok no_key room,
+      told.1,
+    ))) c.judge_component.result c.judge_component.ensures.judged

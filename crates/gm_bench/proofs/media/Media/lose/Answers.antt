@@ -1,0 +1,112 @@
+use Rattle.std.proofs.Common.{◌≡◌, ◌∙◌, inl, inr, List, None, refl, sym, subst, arith}
+use Rattle.gm_state.specs.declared.intents.Intent.{Intent}
+use Rattle.gm_registry.specs.Registry.{DiskKept}
+use Rattle.gm_registry.proofs.CallsLeave.{saved}
+use Rattle.gm_bench.specs.Losing.{dropped}
+use Rattle.gm_bench.specs.Presence.{first_absent}
+use Rattle.gm_bench.specs.Recovering.{LeavesOnly}
+use Rattle.gm_bench.specs.Without.{loss_call}
+use Rattle.gm_bench.proofs.LossCarried.{not_committed, at_hand, covers}
+use Rattle.gm_bench.proofs.media.Media.lose.Goals as goal
+
+pub returns-in-Some-clause-leaves : goal.returns-in-Some-clause-leaves
+returns-in-Some-clause-leaves g c h clean p =
+    inl (
+      λ away ts u w was. not_committed g.S.Store g.H.Shelf.view g.H.Shelf.size
+          c.args.self.now.registry c.args.self.now.registry c.args.self.now.shelf away ts u w
+          (g.met.H.Shelf.lawful c.args.self.now.shelf h) was.found
+          (saved g.S.Store g.met.S.Store.settled c.args.self.now.registry was.found.tables
+          was.found.has).crash (λ db l. l)
+          (loss_call c.args.key.now c.args.loss.now.mirror p) p (dropped p ts),
+      refl,
+    )
+
+pub returns-in_err-finish-clause-leaves : goal.returns-in_err-finish-clause-leaves
+returns-in_err-finish-clause-leaves g c h clean p =
+    let view = g.H.Shelf.view in
+    let size = g.H.Shelf.size in
+    let k0 = c.args.self.now.shelf in
+    let k1 = c.commit_loss.new.self.shelf in
+    let mid = c.commit_loss.new.self.registry in
+    let clean1 : DiskKept g.S.Store mid = omega (arith, clean, c.finish.ensures.keep.clean) in
+    let lawful = g.met.H.Shelf.lawful k0 h in
+    let h1 : g.H.Shelf.honest k1 = subst g.H.Shelf.honest (sym c.commit_loss.ensures.shelf) h in
+    let none : first_absent c.args.loss.now.after (size k0) c.args.loss.now.intents.items ≡ None =
+    subst (λ (is : List Intent). first_absent c.args.loss.now.after (size k0) is ≡ None)
+    c.deref.ensures.value (sym c.first_absent.ensures ∙ c.in_default.is) in
+    inr (
+      mid,
+      c.commit_loss.ensures.leaves h clean1 p,
+      λ away ts u w was. (
+          let it = c.in_ok-number.ensures.done h clean1 p away ts u w was in
+          let here = at_hand g.S.Store view size mid k0 k1 away c.args.loss.now c.args.key.now p ts u
+          w c.in_ok-number.number lawful c.commit_loss.ensures.shelf it none c.deref-2.result.now
+          c.deref-2.ensures.value in
+          let cover = covers g.S.Store view size mid k0 k1 away c.args.loss.now c.args.key.now p ts u
+          w c.in_ok-number.number lawful c.commit_loss.ensures.shelf it none c.deref-2.result.now
+          c.deref-2.ensures.value in (
+            it.0,
+            it.1,
+            it.4,
+            subst (λ (x : g.row.H.Denot). LeavesOnly g.S.Store view size mid
+                c.finish.new.self.registry x c.finish.new.self.shelf away u it.0)
+                c.commit_loss.ensures.shelf
+                (c.finish.ensures.leaves h1 clean away u it.0 here cover),
+          )),
+    )
+
+pub returns-clause-leaves : goal.returns-clause-leaves
+returns-clause-leaves g c h clean p =
+    let view = g.H.Shelf.view in
+    let size = g.H.Shelf.size in
+    let k0 = c.args.self.now.shelf in
+    let k1 = c.commit_loss.new.self.shelf in
+    let mid = c.commit_loss.new.self.registry in
+    let clean1 : DiskKept g.S.Store mid = omega (arith, clean, c.finish.ensures.keep.clean) in
+    let lawful = g.met.H.Shelf.lawful k0 h in
+    let h1 : g.H.Shelf.honest k1 = subst g.H.Shelf.honest (sym c.commit_loss.ensures.shelf) h in
+    let none : first_absent c.args.loss.now.after (size k0) c.args.loss.now.intents.items ≡ None =
+    subst (λ (is : List Intent). first_absent c.args.loss.now.after (size k0) is ≡ None)
+    c.deref.ensures.value (sym c.first_absent.ensures ∙ c.in_default.is) in
+    inr (
+      mid,
+      c.commit_loss.ensures.leaves h clean1 p,
+      λ away ts u w was. (
+          let it = c.in_ok-number.ensures.done h clean1 p away ts u w was in
+          let here = at_hand g.S.Store view size mid k0 k1 away c.args.loss.now c.args.key.now p ts u
+          w c.in_ok-number.number lawful c.commit_loss.ensures.shelf it none c.deref-2.result.now
+          c.deref-2.ensures.value in
+          let cover = covers g.S.Store view size mid k0 k1 away c.args.loss.now c.args.key.now p ts u
+          w c.in_ok-number.number lawful c.commit_loss.ensures.shelf it none c.deref-2.result.now
+          c.deref-2.ensures.value in (
+            it.0,
+            it.1,
+            it.4,
+            subst (λ (x : g.row.H.Denot). LeavesOnly g.S.Store view size mid
+                c.finish.new.self.registry x c.finish.new.self.shelf away u it.0)
+                c.commit_loss.ensures.shelf
+                (c.finish.ensures.leaves h1 clean away u it.0 here cover),
+          )),
+    )
+
+pub returns-clause-done : goal.returns-clause-done
+returns-clause-done g c h clean p away ts u w was =
+    let view = g.H.Shelf.view in
+    let size = g.H.Shelf.size in
+    let k0 = c.args.self.now.shelf in
+    let k1 = c.commit_loss.new.self.shelf in
+    let mid = c.commit_loss.new.self.registry in
+    let clean1 : DiskKept g.S.Store mid = omega (arith, clean, c.finish.ensures.keep.clean) in
+    let lawful = g.met.H.Shelf.lawful k0 h in
+    let h1 : g.H.Shelf.honest k1 = subst g.H.Shelf.honest (sym c.commit_loss.ensures.shelf) h in
+    let none : first_absent c.args.loss.now.after (size k0) c.args.loss.now.intents.items ≡ None =
+    subst (λ (is : List Intent). first_absent c.args.loss.now.after (size k0) is ≡ None)
+    c.deref.ensures.value (sym c.first_absent.ensures ∙ c.in_default.is) in
+    let it = c.in_ok-number.ensures.done h clean1 p away ts u w was in
+    let here = at_hand g.S.Store view size mid k0 k1 away c.args.loss.now c.args.key.now p ts u w
+    c.in_ok-number.number lawful c.commit_loss.ensures.shelf it none c.deref-2.result.now
+    c.deref-2.ensures.value in
+    let cover = covers g.S.Store view size mid k0 k1 away c.args.loss.now c.args.key.now p ts u w
+    c.in_ok-number.number lawful c.commit_loss.ensures.shelf it none c.deref-2.result.now
+    c.deref-2.ensures.value in
+    (it.0, it.1, it.2, it.3, c.in_ok-finish.ensures.done h1 clean away u it.0 here cover)

@@ -1,0 +1,38 @@
+use Rattle.std.proofs.Common.{◌≡◌, ◌∙◌, ◌∷◌, [], ℕ, List, sym, subst}
+use Rattle.gm_commands.specs.declared.command.Command.{Command}
+use Rattle.gm_commands.specs.declared.command.Command.TheVariants.{Lost}
+use Rattle.gm_lists.specs.Ordered.{Has}
+use Rattle.gm_state.specs.Records.{Records}
+use Rattle.gm_refusals.specs.Facts.{size_in}
+use Rattle.gm_refusals.specs.Seen.{seen_in}
+use Rattle.gm_refusals.specs.WorldFacts.{needed_by, seen_of}
+use Rattle.gm_changes.specs.Decides.{Decides}
+use Rattle.gm_state.specs.World.{present}
+use Rattle.gm_commands.specs.Commands.{CommandFits}
+use Rattle.gm_bench.proofs.DecidesOnly.{ok_then}
+use Rattle.gm_bench.proofs.LossRules.{loss_alike, loss_state}
+use Rattle.gm_bench.proofs.media.Media.rule.Goals as goal
+
+pub returns-clause-decides : goal.returns-clause-decides
+returns-clause-decides g c =
+    ok_then _ _ (λ r by w n p same there is. (
+    let facts = c.in_ok-facts.facts in
+    let here : Decides w.state (seen_in facts) (Lost n (p ∷ [])) r =
+    subst (λ (x : Command). Decides w.state (seen_in facts) x r) is
+    (subst (λ (s : Records). Decides s (seen_in facts) c.args.command.now r) same by) in
+    let names : c.deref.result.now ≡ needed_by w.state (Lost n (p ∷ [])) =
+    c.deref.ensures.value ∙ (c.in_ok-names.ensures.all
+    ∙ (λ i. needed_by (same i) (is i))) in
+    let sizes : (q : List ℕ) → Has (needed_by w.state (Lost n (p ∷ []))) q
+    → size_in facts q ≡ present w q =
+    λ q k. c.in_ok-facts.ensures q (subst (λ (l : List (List ℕ)). Has l q) (sym names) k)
+    ∙ (λ i. sym there i q) in
+    subst (λ (x : Command). Decides w.state (seen_of w) x r) (sym is)
+    (loss_alike w.state (seen_in facts) (seen_of w) n p sizes r here)))
+    c.decide.result c.decide.ensures.facts
+
+pub returns-clause-state : goal.returns-clause-state
+returns-clause-state g c =
+    ok_then _ _ (λ r by state fits n p is. loss_state c.args.state.now c.in_ok-facts.facts n p r
+    (subst (λ (x : Command). Decides c.args.state.now (seen_in c.in_ok-facts.facts) x r) is by)
+    state (subst CommandFits is fits)) c.decide.result c.decide.ensures.facts

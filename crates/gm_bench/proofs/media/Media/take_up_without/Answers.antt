@@ -1,0 +1,311 @@
+use Rattle.std.proofs.Common.{rules, ◌≡◌, ◌∙◌, inl, inr, List, Some, Err, refl, length, sym, ap, subst, arith}
+use Rattle.gm_metadata.specs.Images.{Image}
+use Rattle.gm_state.specs.World.{World}
+use Rattle.gm_state.specs.declared.intents.Intent.{Intent}
+use Rattle.gm_registry.specs.Registry.{DiskKept}
+use Rattle.gm_registry.proofs.CallsLeave.{saved}
+use Rattle.gm_bench.specs.declared.loss.Judged.{Judged}
+use Rattle.gm_bench.specs.declared.loss.Loss.{Loss}
+use Rattle.gm_bench.specs.Losing.{dropped}
+use Rattle.gm_bench.specs.Recovering.{IsFound}
+use Rattle.gm_bench.specs.Without.{HasJudged, IsJudged, LeavesOpened, loss_call}
+use Rattle.gm_bench.proofs.LossCarried.{lost_behind, nothing_opened}
+use Rattle.gm_bench.proofs.TakenUp.{absent_back, leaves_back, moments_back, moved}
+use Rattle.gm_bench.proofs.Causes.{fault_is}
+use Rattle.gm_bench.specs.declared.media.Media.{Media}
+use Rattle.gm_bench.proofs.media.Media.take_up_without.Goals as goal
+
+pub returns-in_err-looked-clause-leaves : goal.returns-in_err-looked-clause-leaves
+returns-in_err-looked-clause-leaves g c h clean =
+    inl (nothing_opened g.S.Store g.H.Shelf.view g.H.Shelf.size c.args.self.now.registry
+    c.look_for_loss.new.self.registry c.args.self.now.shelf c.look_for_loss.new.self.shelf
+    c.look_for_loss.ensures.shelf (g.met.H.Shelf.lawful c.args.self.now.shelf h)
+    (λ t has. (saved g.S.Store g.met.S.Store.settled c.args.self.now.registry t has).crash)
+    c.args.key.now c.args.provider clean (c.look_for_loss.ensures.left clean))
+
+pub returns-in-Refused-clause-leaves : goal.returns-in-Refused-clause-leaves
+returns-in-Refused-clause-leaves g c h clean =
+    inl (nothing_opened g.S.Store g.H.Shelf.view g.H.Shelf.size c.args.self.now.registry
+    c.look_for_loss.new.self.registry c.args.self.now.shelf c.look_for_loss.new.self.shelf
+    c.look_for_loss.ensures.shelf (g.met.H.Shelf.lawful c.args.self.now.shelf h)
+    (λ t has. (saved g.S.Store g.met.S.Store.settled c.args.self.now.registry t has).crash)
+    c.args.key.now c.args.provider clean (c.look_for_loss.ensures.left clean))
+
+pub returns-in-Refused-clause-does : goal.returns-in-Refused-clause-does
+returns-in-Refused-clause-does g c h clean away ts u w at =
+    subst (λ (j : Judged). IsJudged w ts c.args.key.now c.args.provider j) c.in-Refused.is
+    (c.in_ok-looked.ensures.looked h clean away ts u w at).0.judged
+
+pub returns-in_err-check_and_finish-in-Kept-clause-leaves :
+    goal.returns-in_err-check_and_finish-in-Kept-clause-leaves
+returns-in_err-check_and_finish-in-Kept-clause-leaves g c h clean =
+    let view = g.H.Shelf.view in
+    let size = g.H.Shelf.size in
+    let r = c.args.self.now.registry in
+    let k = c.args.self.now.shelf in
+    let mid = c.look_for_loss.new.self.registry in
+    let k1 = c.look_for_loss.new.self.shelf in
+    let clean1 : DiskKept g.S.Store mid = omega (arith, clean, c.check_and_finish.ensures.keep.clean) in
+    let h1 : g.H.Shelf.honest k1 = subst g.H.Shelf.honest (sym c.look_for_loss.ensures.shelf) h in
+    inl (λ away ts u w at. (
+    let looked = c.in_ok-looked.ensures.looked h clean1 away ts u w at in
+    let was = looked.0 in
+    let are : c.deref.result.now ≡ ts = c.deref.ensures.value ∙ was.intents in
+    let found = moved g.S.Store view size r mid k k1 away ts u w at c.look_for_loss.ensures.shelf
+    c.deref.result.now are looked.1 in (
+      leaves_back g.S.Store view size r mid k k1 away ts u w at c.look_for_loss.ensures.shelf
+          c.deref.result.now are c.check_and_finish.new.self.registry
+          c.check_and_finish.new.self.shelf
+          (saved g.S.Store g.met.S.Store.settled r at.tables at.has).crash
+          (c.check_and_finish.ensures.moments h1 away u w found was.state)
+          (c.check_and_finish.ensures.leaves h1 clean away u w found was.state),
+      moments_back g.S.Store view size r mid k k1 away ts u w at c.look_for_loss.ensures.shelf
+          c.deref.result.now are c.check_and_finish.new.self.shelf
+          (c.check_and_finish.ensures.moments h1 away u w found was.state),
+    )))
+
+pub returns-in-Kept-clause-leaves : goal.returns-in-Kept-clause-leaves
+returns-in-Kept-clause-leaves g c h clean =
+    let view = g.H.Shelf.view in
+    let size = g.H.Shelf.size in
+    let r = c.args.self.now.registry in
+    let k = c.args.self.now.shelf in
+    let mid = c.look_for_loss.new.self.registry in
+    let k1 = c.look_for_loss.new.self.shelf in
+    let clean1 : DiskKept g.S.Store mid = omega (arith, clean, c.check_and_finish.ensures.keep.clean) in
+    let h1 : g.H.Shelf.honest k1 = subst g.H.Shelf.honest (sym c.look_for_loss.ensures.shelf) h in
+    inl (λ away ts u w at. (
+    let looked = c.in_ok-looked.ensures.looked h clean1 away ts u w at in
+    let was = looked.0 in
+    let are : c.deref.result.now ≡ ts = c.deref.ensures.value ∙ was.intents in
+    let found = moved g.S.Store view size r mid k k1 away ts u w at c.look_for_loss.ensures.shelf
+    c.deref.result.now are looked.1 in (
+      leaves_back g.S.Store view size r mid k k1 away ts u w at c.look_for_loss.ensures.shelf
+          c.deref.result.now are c.check_and_finish.new.self.registry
+          c.check_and_finish.new.self.shelf
+          (saved g.S.Store g.met.S.Store.settled r at.tables at.has).crash
+          (c.check_and_finish.ensures.moments h1 away u w found was.state)
+          (c.check_and_finish.ensures.leaves h1 clean away u w found was.state),
+      moments_back g.S.Store view size r mid k k1 away ts u w at c.look_for_loss.ensures.shelf
+          c.deref.result.now are c.check_and_finish.new.self.shelf
+          (c.check_and_finish.ensures.moments h1 away u w found was.state),
+    )))
+
+pub returns-in-Kept-clause-does : goal.returns-in-Kept-clause-does
+returns-in-Kept-clause-does g c h clean away ts u w at =
+    let view = g.H.Shelf.view in
+    let size = g.H.Shelf.size in
+    let r = c.args.self.now.registry in
+    let k = c.args.self.now.shelf in
+    let mid = c.look_for_loss.new.self.registry in
+    let k1 = c.look_for_loss.new.self.shelf in
+    let clean1 : DiskKept g.S.Store mid = omega (arith, clean, c.check_and_finish.ensures.keep.clean) in
+    let h1 : g.H.Shelf.honest k1 = subst g.H.Shelf.honest (sym c.look_for_loss.ensures.shelf) h in
+    let looked = c.in_ok-looked.ensures.looked h clean1 away ts u w at in
+    let was = looked.0 in
+    let are : c.deref.result.now ≡ ts = c.deref.ensures.value ∙ was.intents in
+    let found = moved g.S.Store view size r mid k k1 away ts u w at c.look_for_loss.ensures.shelf
+    c.deref.result.now are looked.1 in
+    let items : c.len-redone.result ≡ length c.in_ok-looked.looked.intents.items = search rules in (
+      subst (λ (j : Judged). IsJudged w ts c.args.key.now c.args.provider j) c.in-Kept.is
+          was.judged,
+      items ∙ ap length was.intents,
+      c.in_ok-check_and_finish-in-Kept.ensures.done h1 clean away u w found was.state,
+    )
+
+pub returns-in_err-number-in-New-clause-leaves : goal.returns-in_err-number-in-New-clause-leaves
+returns-in_err-number-in-New-clause-leaves g c h clean =
+    let view = g.H.Shelf.view in
+    let size = g.H.Shelf.size in
+    let r = c.args.self.now.registry in
+    let k = c.args.self.now.shelf in
+    let mid = c.look_for_loss.new.self.registry in
+    let k1 = c.look_for_loss.new.self.shelf in
+    let clean1 : DiskKept g.S.Store mid = omega (arith, clean, c.lose.ensures.keep.clean) in
+    let h1 : g.H.Shelf.honest k1 = subst g.H.Shelf.honest (sym c.look_for_loss.ensures.shelf) h in
+    let loss : Loss = c.in-New.loss in
+    let is_judged : (away : Image) (ts : List Intent) (u w : World)
+    → IsFound g.S.Store view size r k away ts u w
+    → HasJudged g.S.Store view size mid k1 c.args.key.now c.args.provider loss away ts u w =
+    λ away ts u w at. (
+    let was = (c.in_ok-looked.ensures.looked h clean1 away ts u w at).0 in
+    record {
+      found = was.found;
+      judged = subst (λ (j : Judged). IsJudged w ts c.args.key.now c.args.provider j) c.in-New.is
+          was.judged;
+    }) in
+    inr (
+      loss.mirror,
+      dropped c.args.provider c.in_ok-looked.looked.intents.items,
+      λ away ts u w at. ap (dropped c.args.provider)
+          (c.in_ok-looked.ensures.looked h clean1 away ts u w at).0.intents,
+      lost_behind g.S.Store view size r mid k k1 c.look_for_loss.ensures.shelf
+          (g.met.H.Shelf.lawful k h)
+          (λ t has. (saved g.S.Store g.met.S.Store.settled r t has).crash)
+          (HasJudged g.S.Store view size mid k1 c.args.key.now c.args.provider loss)
+          (loss_call c.args.key.now loss.mirror c.args.provider) c.args.provider is_judged
+          c.lose.new.self.registry c.lose.new.self.shelf
+          (c.lose.ensures.leaves h1 clean c.args.provider),
+    )
+
+pub returns-clause-leaves : goal.returns-clause-leaves
+returns-clause-leaves g c h clean =
+    let view = g.H.Shelf.view in
+    let size = g.H.Shelf.size in
+    let r = c.args.self.now.registry in
+    let k = c.args.self.now.shelf in
+    let mid = c.look_for_loss.new.self.registry in
+    let k1 = c.look_for_loss.new.self.shelf in
+    let clean1 : DiskKept g.S.Store mid = omega (arith, clean, c.lose.ensures.keep.clean) in
+    let h1 : g.H.Shelf.honest k1 = subst g.H.Shelf.honest (sym c.look_for_loss.ensures.shelf) h in
+    let loss : Loss = c.in-New.loss in
+    let is_judged : (away : Image) (ts : List Intent) (u w : World)
+    → IsFound g.S.Store view size r k away ts u w
+    → HasJudged g.S.Store view size mid k1 c.args.key.now c.args.provider loss away ts u w =
+    λ away ts u w at. (
+    let was = (c.in_ok-looked.ensures.looked h clean1 away ts u w at).0 in
+    record {
+      found = was.found;
+      judged = subst (λ (j : Judged). IsJudged w ts c.args.key.now c.args.provider j) c.in-New.is
+          was.judged;
+    }) in
+    inr (
+      loss.mirror,
+      dropped c.args.provider c.in_ok-looked.looked.intents.items,
+      λ away ts u w at. ap (dropped c.args.provider)
+          (c.in_ok-looked.ensures.looked h clean1 away ts u w at).0.intents,
+      lost_behind g.S.Store view size r mid k k1 c.look_for_loss.ensures.shelf
+          (g.met.H.Shelf.lawful k h)
+          (λ t has. (saved g.S.Store g.met.S.Store.settled r t has).crash)
+          (HasJudged g.S.Store view size mid k1 c.args.key.now c.args.provider loss)
+          (loss_call c.args.key.now loss.mirror c.args.provider) c.args.provider is_judged
+          c.lose.new.self.registry c.lose.new.self.shelf
+          (c.lose.ensures.leaves h1 clean c.args.provider),
+    )
+
+pub returns-clause-does : goal.returns-clause-does
+returns-clause-does g c h clean =
+    let view = g.H.Shelf.view in
+    let size = g.H.Shelf.size in
+    let r = c.args.self.now.registry in
+    let k = c.args.self.now.shelf in
+    let mid = c.look_for_loss.new.self.registry in
+    let k1 = c.look_for_loss.new.self.shelf in
+    let clean1 : DiskKept g.S.Store mid = omega (arith, clean, c.lose.ensures.keep.clean) in
+    let h1 : g.H.Shelf.honest k1 = subst g.H.Shelf.honest (sym c.look_for_loss.ensures.shelf) h in
+    let loss : Loss = c.in-New.loss in
+    let is_judged : (away : Image) (ts : List Intent) (u w : World)
+    → IsFound g.S.Store view size r k away ts u w
+    → HasJudged g.S.Store view size mid k1 c.args.key.now c.args.provider loss away ts u w =
+    λ away ts u w at. (
+    let was = (c.in_ok-looked.ensures.looked h clean1 away ts u w at).0 in
+    record {
+      found = was.found;
+      judged = subst (λ (j : Judged). IsJudged w ts c.args.key.now c.args.provider j) c.in-New.is
+          was.judged;
+    }) in
+    let items : c.len-redone.result ≡ length c.in_ok-looked.looked.intents.items = search rules in (
+      loss.mirror,
+      dropped c.args.provider c.in_ok-looked.looked.intents.items,
+      λ away ts u w at. (
+          let was = (c.in_ok-looked.ensures.looked h clean1 away ts u w at).0 in
+          (ap (dropped c.args.provider) was.intents, items ∙ ap length was.intents)),
+      λ away ts u w at. (
+          let it = c.in_ok-number-in-New.ensures.done h1 clean c.args.provider away ts u w
+          (is_judged away ts u w at) in
+          (it.0, it.1, it.2 ∙ sym c.reply-reply.ensures, it.3, it.4)),
+    )
+
+pub returns-in_err-check_and_finish-in-Kept-clause-lacks :
+    goal.returns-in_err-check_and_finish-in-Kept-clause-lacks
+returns-in_err-check_and_finish-in-Kept-clause-lacks g c h clean q is =
+    let view = g.H.Shelf.view in
+    let size = g.H.Shelf.size in
+    let r = c.args.self.now.registry in
+    let k = c.args.self.now.shelf in
+    let mid = c.look_for_loss.new.self.registry in
+    let k1 = c.look_for_loss.new.self.shelf in
+    let clean1 : DiskKept g.S.Store mid = omega (arith, clean, c.check_and_finish.ensures.keep.clean) in
+    let fault = fault_is c.from_residual-in_err-check_and_finish-in-Kept.result _ _
+    c.from_residual-in_err-check_and_finish-in-Kept.ensures.1 is in
+    let lack = c.in_err-check_and_finish-in-Kept.ensures.absent q (ap Err fault) in
+    let opened = nothing_opened g.S.Store view size r mid k k1 c.look_for_loss.ensures.shelf
+    (g.met.H.Shelf.lawful k h) (λ t has. (saved g.S.Store g.met.S.Store.settled r t has).crash)
+    c.args.key.now c.args.provider clean1 (c.look_for_loss.ensures.left clean1) in (
+      subst (λ (m : Media g.row.S.Denot g.row.H.Denot). LeavesOpened g.S.Store view size
+          c.args.key.now c.args.provider r m.registry k m.shelf) (sym lack.1) opened,
+      λ away ts u w at. (
+          let was = (c.in_ok-looked.ensures.looked h clean1 away ts u w at).0 in
+          let kept = subst (λ (j : Judged). IsJudged w ts c.args.key.now c.args.provider j)
+          c.in-Kept.is was.judged in
+          inl (
+            kept.0,
+            kept.1,
+            absent_back _ _ _ _ _ _ _ was.state (ap size c.look_for_loss.ensures.shelf)
+                (c.deref.ensures.value ∙ was.intents) lack.0,
+          )),
+    )
+
+pub returns-in_err-number-in-New-clause-lacks : goal.returns-in_err-number-in-New-clause-lacks
+returns-in_err-number-in-New-clause-lacks g c h clean q is =
+    let view = g.H.Shelf.view in
+    let size = g.H.Shelf.size in
+    let r = c.args.self.now.registry in
+    let k = c.args.self.now.shelf in
+    let mid = c.look_for_loss.new.self.registry in
+    let k1 = c.look_for_loss.new.self.shelf in
+    let clean1 : DiskKept g.S.Store mid = omega (arith, clean, c.lose.ensures.keep.clean) in
+    let fault = fault_is c.from_residual-in_err-number-in-New.result _ _
+    c.from_residual-in_err-number-in-New.ensures.1 is in
+    let lack = c.in_err-number-in-New.ensures.absent q (ap Err fault) in
+    let opened = nothing_opened g.S.Store view size r mid k k1 c.look_for_loss.ensures.shelf
+    (g.met.H.Shelf.lawful k h) (λ t has. (saved g.S.Store g.met.S.Store.settled r t has).crash)
+    c.args.key.now c.args.provider clean1 (c.look_for_loss.ensures.left clean1) in (
+      subst (λ (m : Media g.row.S.Denot g.row.H.Denot). LeavesOpened g.S.Store view size
+          c.args.key.now c.args.provider r m.registry k m.shelf) (sym lack.1) opened,
+      λ away ts u w at. (
+          let was = (c.in_ok-looked.ensures.looked h clean1 away ts u w at).0 in
+          inr (
+            c.in-New.loss,
+            subst (λ (j : Judged). IsJudged w ts c.args.key.now c.args.provider j) c.in-New.is
+                was.judged,
+            absent_back c.in-New.loss.after c.in-New.loss.after (size k1) (size k)
+                c.in-New.loss.intents.items c.in-New.loss.intents.items (Some q) refl
+                (ap size c.look_for_loss.ensures.shelf) refl lack.0,
+          )),
+    )
+
+pub returns-in-Refused-clause-undone : goal.returns-in-Refused-clause-undone
+returns-in-Refused-clause-undone g c h clean =
+    nothing_opened g.S.Store g.H.Shelf.view g.H.Shelf.size c.args.self.now.registry
+    c.look_for_loss.new.self.registry c.args.self.now.shelf c.look_for_loss.new.self.shelf
+    c.look_for_loss.ensures.shelf (g.met.H.Shelf.lawful c.args.self.now.shelf h)
+    (λ t has. (saved g.S.Store g.met.S.Store.settled c.args.self.now.registry t has).crash)
+    c.args.key.now c.args.provider clean (c.look_for_loss.ensures.left clean)
+
+pub returns-in-Kept-clause-undone : goal.returns-in-Kept-clause-undone
+returns-in-Kept-clause-undone g c h clean =
+    let view = g.H.Shelf.view in
+    let size = g.H.Shelf.size in
+    let r = c.args.self.now.registry in
+    let k = c.args.self.now.shelf in
+    let mid = c.look_for_loss.new.self.registry in
+    let k1 = c.look_for_loss.new.self.shelf in
+    let clean1 : DiskKept g.S.Store mid = omega (arith, clean, c.check_and_finish.ensures.keep.clean) in
+    let h1 : g.H.Shelf.honest k1 = subst g.H.Shelf.honest (sym c.look_for_loss.ensures.shelf) h in
+    (λ away ts u w at. (
+    let looked = c.in_ok-looked.ensures.looked h clean1 away ts u w at in
+    let was = looked.0 in
+    let are : c.deref.result.now ≡ ts = c.deref.ensures.value ∙ was.intents in
+    let found = moved g.S.Store view size r mid k k1 away ts u w at c.look_for_loss.ensures.shelf
+    c.deref.result.now are looked.1 in (
+      leaves_back g.S.Store view size r mid k k1 away ts u w at c.look_for_loss.ensures.shelf
+          c.deref.result.now are c.check_and_finish.new.self.registry
+          c.check_and_finish.new.self.shelf
+          (saved g.S.Store g.met.S.Store.settled r at.tables at.has).crash
+          (c.check_and_finish.ensures.moments h1 away u w found was.state)
+          (c.check_and_finish.ensures.leaves h1 clean away u w found was.state),
+      moments_back g.S.Store view size r mid k k1 away ts u w at c.look_for_loss.ensures.shelf
+          c.deref.result.now are c.check_and_finish.new.self.shelf
+          (c.check_and_finish.ensures.moments h1 away u w found was.state),
+    )))

@@ -1,0 +1,85 @@
+-- What an opening without a provider leaves, and what it answers, from the store and the shelf
+-- before it.
+use Rattle.std.specs.Prelude.{◌≡◌, ◌⊎◌, ◌+◌, ℕ, List, [], length}
+use Rattle.sqlite_trees.specs.declared.store.Store.{Ghosts}
+use Rattle.sqlite.specs.Held.{Held}
+use Rattle.gm_metadata.specs.Images.{Image, Sizes}
+use Rattle.gm_shelf.specs.Disk.{View}
+use Rattle.gm_state.specs.declared.intents.Intent.{Intent}
+use Rattle.gm_state.specs.declared.intents.Reply.TheVariants.{Plain}
+use Rattle.gm_state.specs.World.{World, Answered}
+use Rattle.gm_bench.specs.declared.answer.Answer.TheVariants.{Done, Repeated, Refused as NotDone}
+use Rattle.gm_bench.specs.declared.open_without.Without.{Without}
+use Rattle.gm_bench.specs.declared.open_without.Without.TheVariants.{Opened, Refused}
+use Rattle.gm_bench.specs.declared.phase.Progress.TheVariants.{Ready}
+use Rattle.gm_bench.specs.Benches.{progress_of, redone_of, registry_of, shelf_of}
+use Rattle.gm_bench.specs.Owed.{IsLeft, OpenLeaves}
+use Rattle.gm_bench.specs.Recovering.{IsAt}
+use Rattle.gm_bench.specs.Schedule.{WithoutCarries, WithoutDoes, WithoutLeaves}
+use Rattle.gm_bench.specs.Without.{IsKeptLoss, IsLacking, IsRefusedLoss, loss_call}
+
+-- the store behind it, and the shelf
+abbrev pub store_behind : {S H : Type 0} → Without S H → Held S
+store_behind (Opened b answer) = registry_of b
+store_behind (Refused why store shelf) = store
+
+abbrev pub shelf_behind : {S H : Type 0} → Without S H → H
+shelf_behind (Opened b answer) = shelf_of b
+shelf_behind (Refused why store shelf) = shelf
+
+-- a bench that it opens is at rest
+abbrev pub IsReady : {S H : Type 0} → Without S H → Type 0
+IsReady (Opened b answer) = progress_of b ≡ Ready
+IsReady (Refused why store shelf) = Unit {0}
+
+-- a refusal leaves the shelf as it was
+abbrev pub StaysRefused : {S H : Type 0} → H → Without S H → Type 0
+StaysRefused h (Opened b answer) = Unit {0}
+StaysRefused h (Refused why store shelf) = shelf ≡ h
+
+module _ {S H : Type 0} (g : Ghosts S) (view : H → View) (size : H → Sizes) (store : Held S)
+    (h : H) (key p : List ℕ) where
+  -- The loss is committed, of a mirror, with these intents taken out: it was stopped at its commit,
+  -- or behind that, or it is carried out.
+  abbrev pub LeavesLost : Held S → H → Type 0
+  LeavesLost s k = (n : List ℕ) × (gone : List Intent)
+      × ((WithoutLeaves g view size store s h (loss_call key n p) p gone × (k ≡ h))
+      ⊎ ((mid : Held S) × WithoutLeaves g view size store mid h (loss_call key n p) p gone
+      × WithoutCarries g view size store mid s h k (loss_call key n p) p gone))
+
+  -- that, or no more than what any opening leaves
+  abbrev pub GivesUp : Held S → H → Type 0
+  GivesUp s k = OpenLeaves g view size store s h k ⊎ LeavesLost s k
+
+  -- nothing is committed but where the loss is answered as done
+  abbrev pub LeavesUndone : Without S H → Type 0
+  LeavesUndone (Opened b (Done n reply)) = Unit {0}
+  LeavesUndone (Opened b (Repeated n reply)) =
+      OpenLeaves g view size store (registry_of b) h (shelf_of b)
+  LeavesUndone (Opened b (NotDone why)) = Unit {0}
+  LeavesUndone (Refused why s k) = OpenLeaves g view size store s h k
+
+  -- this image is lacking, and nothing is committed
+  abbrev pub LacksImage : Held S → H → List ℕ → Type 0
+  LacksImage s k q = OpenLeaves g view size store s h k
+      × ((away : Image) (u w : World) → (left : IsLeft g view size store h away u w)
+      → IsLacking w left.recovers.intents key p (size h) q)
+
+  -- The loss is done under the next number, or was before, and what was pending is carried out; or
+  -- it is refused. The bench counts the intents that were pending.
+  abbrev pub AnswersLoss : Without S H → Type 0
+  AnswersLoss (Opened b (Done n reply)) =
+      (m : List ℕ) × (gone : List Intent)
+      × WithoutDoes g view size store (registry_of b) h (shelf_of b) (loss_call key m p) p gone
+      × ((away : Image) (u w : World) → (left : IsLeft g view size store h away u w)
+      → (n ≡ length w.answered + 1) × (reply ≡ Plain)
+      × (redone_of b ≡ length left.recovers.intents))
+  AnswersLoss (Opened b (Repeated n reply)) =
+      (away : Image) (u w : World) → (left : IsLeft g view size store h away u w)
+      → ((a : Answered) × IsKeptLoss w key p a × (a.number ≡ n) × (a.reply ≡ reply))
+      × (redone_of b ≡ length left.recovers.intents)
+      × IsAt g view size (registry_of b) (shelf_of b) away [] w w
+  AnswersLoss (Opened b (NotDone why)) = ⊥
+  AnswersLoss (Refused why s k) =
+      (away : Image) (u w : World) → (left : IsLeft g view size store h away u w)
+      → IsRefusedLoss w left.recovers.intents key p why

@@ -1,0 +1,85 @@
+//! A component whose image is gone for good is given up, and the rest is carried out.
+
+ghost use Rattle.std.specs.Prelude.{◌≡◌, ◌≤◌, ℕ, List, Some, None, IfOk, IfErr, OnOk, IsErrOf};
+ghost use Rattle.gm_metadata.specs.Images.{Image};
+ghost use Rattle.gm_state.specs.declared.intents.Intent.{Intent};
+ghost use Rattle.gm_state.specs.Rows.{Tables};
+ghost use Rattle.gm_state.specs.World.{World};
+ghost use Rattle.gm_registry.specs.Registry.{DiskKept, HasTables, WasClean};
+ghost use Rattle.gm_registry.specs.Replies.{count_of};
+ghost use Rattle.gm_bench.specs.Calls.{Keep};
+ghost use Rattle.gm_bench.specs.Faults.{IsOfCall};
+ghost use Rattle.gm_bench.specs.Presence.{first_absent};
+ghost use Rattle.gm_bench.specs.Without.{Commits, DoesLoss, HasJudged, IsLost, LeavesLoss, loss_call};
+
+use crate::fault::BenchFault;
+use crate::loss::Loss;
+use crate::media::Media;
+use crate::presence::first_absent;
+use gm_metadata::Label;
+use gm_shelf::Shelf;
+use sqlite::Alter;
+
+impl<S: Alter, H: Shelf> Media<S, H> {
+    // Writes a loss, in place of what is pending.
+    fn commit_loss(&mut self, loss: &Loss, key: &str) -> Result<u64, BenchFault>
+        ensures leaves { H.honest self.old.shelf → DiskKept S.Store self.new.registry
+            → (p : List ℕ) → Commits S.Store H.view H.size
+            (HasJudged S.Store H.view H.size self.old.registry self.old.shelf key.now p loss.now)
+            (loss_call key.now loss.now.mirror p) p
+            self.old.registry self.new.registry self.old.shelf }
+        ensures done { H.honest self.old.shelf → DiskKept S.Store self.new.registry
+            → IfOk result (λ n. (p : List ℕ) (away : Image) (ts : List Intent) (u w : World)
+            → HasJudged S.Store H.view H.size self.old.registry self.old.shelf key.now p loss.now
+            away ts u w
+            → IsLost S.Store H.view H.size self.new.registry self.old.shelf away
+            loss.now key.now p ts u w n) }
+        ensures disk { IsErrOf result BenchFault.Disk → ⊥ }
+        ensures fault { IfErr result IsOfCall }
+        ensures readable { DiskKept S.Store self.new.registry
+            → IsErrOf result BenchFault.Unreadable → (t : Tables)
+            → HasTables S.Store self.old.registry t → count_of t ≤ 100000 → ⊥ }
+        ensures shelf { self.new.shelf ≡ self.old.shelf }
+        ensures clean { WasClean S.Store self.old.registry self.new.registry }
+    {
+        let words = loss.words.as_str();
+        match self
+            .registry
+            .accept_instead(&loss.change, &loss.intents, key, words)
+        {
+            Ok(number) => Ok(number),
+            Err(fault) => Err(BenchFault::of_store(fault)),
+        }
+    }
+
+    /// Writes a loss, in place of what is pending, and carries out what is pending then. `Absent`
+    /// before anything is written, where an image that this needs isn't there.
+    pub(crate) fn lose(&mut self, loss: &Loss, key: &str) -> Result<u64, BenchFault>
+        ensures leaves { H.honest self.old.shelf → DiskKept S.Store self.new.registry
+            → (p : List ℕ) → LeavesLoss S.Store H.view H.size
+            (HasJudged S.Store H.view H.size self.old.registry self.old.shelf key.now p loss.now)
+            (loss_call key.now loss.now.mirror p) p
+            self.old.registry self.new.registry self.old.shelf self.new.shelf }
+        ensures done { H.honest self.old.shelf → DiskKept S.Store self.new.registry
+            → IfOk result (λ n. (p : List ℕ) → DoesLoss S.Store H.view H.size
+            (HasJudged S.Store H.view H.size self.old.registry self.old.shelf key.now p loss.now)
+            (loss_call key.now loss.now.mirror p) p
+            self.new.registry self.new.shelf n loss.now.change.reply) }
+        // F5 comes before anything is written, exactly where an image isn't there.
+        ensures absent { (q : List ℕ) → IsErrOf result (BenchFault.Absent q)
+            → (first_absent loss.now.after (H.size self.old.shelf) loss.now.intents.items ≡ Some q)
+            × (self.new ≡ self.old) }
+        ensures there { OnOk result
+            (first_absent loss.now.after (H.size self.old.shelf) loss.now.intents.items ≡ None) }
+        ensures closed { IsErrOf result BenchFault.Closed → ⊥ }
+        ensures keep { Keep S.Store H.Shelf self.old.registry self.new.registry
+            self.old.shelf self.new.shelf }
+    {
+        if let Some(absent) = first_absent(&self.shelf, &loss.after, &loss.intents) {
+            return Err(BenchFault::Absent(absent));
+        }
+        let number = self.commit_loss(loss, key)?;
+        self.finish(&loss.after, &loss.intents)?;
+        Ok(number)
+    }
+}

@@ -1,0 +1,125 @@
+//! The opening of a bench without a provider.
+
+ghost use Rattle.std.specs.Prelude.{◌≡◌, ◌≤◌, ℕ, List, IfOk, IfErr, IsErrOf};
+ghost use Rattle.gm_metadata.specs.Images.{Image};
+ghost use Rattle.gm_state.specs.declared.intents.Intent.{Intent};
+ghost use Rattle.gm_state.specs.Records.{Records};
+ghost use Rattle.gm_state.specs.Rows.{Tables};
+ghost use Rattle.gm_state.specs.World.{World};
+ghost use Rattle.gm_rows.specs.ReadableTables.{AreTablesOf};
+ghost use Rattle.gm_registry.specs.Registry.{DiskKept, HasTables, LeavesNothingNew, WasClean};
+ghost use Rattle.gm_registry.specs.Replies.{AreWrittenUnder, count_of};
+ghost use Rattle.gm_bench.specs.declared.loss.LossRefusal.{LossRefusal};
+ghost use Rattle.gm_bench.specs.Calls.{Keep};
+ghost use Rattle.gm_bench.specs.Faults.{IsOfCall};
+ghost use Rattle.gm_bench.specs.Recovering.{IsFound};
+ghost use Rattle.gm_bench.specs.Without.{DoesWithout, IsLooked, KeepsUndone, LacksFirst, LeavesWithout};
+
+use crate::answer::Answer;
+use crate::fault::BenchFault;
+use crate::loss::{Judged, LossRefusal};
+use crate::media::Media;
+use gm_metadata::Label;
+use gm_shelf::Shelf;
+use gm_state::{Intent, State};
+use sqlite::Alter;
+use std::alloc::Global;
+
+/// All records, what is pending, and what is found of the loss.
+#[derive(Drop)]
+pub(crate) struct Looked {
+    pub(crate) state: State,
+    pub(crate) intents: Vec<Intent>,
+    pub(crate) judged: Judged,
+}
+
+/// What an opening without a provider comes to.
+#[derive(Clone, Copy)]
+pub(crate) enum TakenUp {
+    /// What was pending is carried out, and the loss now or before: its answer, and how many
+    /// intents were pending.
+    Carried(Answer, u64),
+    /// Nothing is written.
+    NotLost(LossRefusal),
+}
+
+impl<S: Alter, H: Shelf> Media<S, H> {
+    // Loads what the registry says, and judges the loss. It reads the registry alone.
+    fn look_for_loss(
+        &mut self,
+        alloc: Global,
+        provider: Label,
+        key: &str,
+    ) -> Result<Looked, BenchFault>
+        ensures looked { H.honest self.old.shelf → DiskKept S.Store self.new.registry
+            → IfOk result (λ l. (away : Image) (ts : List Intent) (u w : World)
+            → (at : IsFound S.Store H.view H.size self.old.registry self.old.shelf away ts u w)
+            → IsLooked S.Store H.view H.size self.new.registry self.new.shelf key.now provider l
+            away ts u w × HasTables S.Store self.new.registry at.tables) }
+        ensures unreadable { DiskKept S.Store self.new.registry
+            → IsErrOf result BenchFault.Unreadable → (t : Tables) (s : Records) (ts : List Intent)
+            → HasTables S.Store self.old.registry t → AreTablesOf t s ts → count_of t ≤ 100000
+            → AreWrittenUnder key.now t → ⊥ }
+        ensures left { DiskKept S.Store self.new.registry → (t : Tables)
+            → HasTables S.Store self.old.registry t
+            → LeavesNothingNew S.Store self.old.registry self.new.registry }
+        ensures fault { IfErr result IsOfCall }
+        ensures disk { IsErrOf result BenchFault.Disk → ⊥ }
+        ensures shelf { self.new.shelf ≡ self.old.shelf }
+        ensures clean { WasClean S.Store self.old.registry self.new.registry }
+    {
+        let (state, intents) = self.load(alloc)?;
+        let judged = self.judge(alloc, &state, &intents, provider, key)?;
+        Ok(Looked {
+            state,
+            intents,
+            judged,
+        })
+    }
+
+    /// Judges the loss of a provider, and carries out what is pending: with the loss, where it is
+    /// to be written. A loss that is refused writes nothing.
+    pub(crate) fn take_up_without(
+        &mut self,
+        alloc: Global,
+        provider: Label,
+        key: &str,
+    ) -> Result<TakenUp, BenchFault>
+        ensures leaves { H.honest self.old.shelf → DiskKept S.Store self.new.registry
+            → LeavesWithout S.Store H.view H.size key.now provider
+            self.old.registry self.new.registry self.old.shelf self.new.shelf }
+        ensures does { H.honest self.old.shelf → DiskKept S.Store self.new.registry
+            → IfOk result (DoesWithout S.Store H.view H.size key.now provider
+            self.old.registry self.new.registry self.old.shelf self.new.shelf) }
+        ensures undone { H.honest self.old.shelf → DiskKept S.Store self.new.registry
+            → IfOk result (KeepsUndone S.Store H.view H.size key.now provider
+            self.old.registry self.new.registry self.old.shelf self.new.shelf) }
+        // F5 comes before anything is written.
+        ensures absent { (q : List ℕ) → IsErrOf result (BenchFault.Absent q)
+            → self.new.shelf ≡ self.old.shelf }
+        ensures lacks { H.honest self.old.shelf → DiskKept S.Store self.new.registry
+            → (q : List ℕ) → IsErrOf result (BenchFault.Absent q)
+            → LacksFirst S.Store H.view H.size key.now provider
+            self.old.registry self.new.registry self.old.shelf self.new.shelf q }
+        ensures refused { IfOk result (λ it. (why : LossRefusal) → it ≡ TakenUp.NotLost why
+            → self.new.shelf ≡ self.old.shelf) }
+        ensures closed { IsErrOf result BenchFault.Closed → ⊥ }
+        ensures keep { Keep S.Store H.Shelf self.old.registry self.new.registry
+            self.old.shelf self.new.shelf }
+    {
+        let looked = self.look_for_loss(alloc, provider, key)?;
+        let redone = looked.intents.len() as u64;
+        match &looked.judged {
+            Judged::Refused(why) => Ok(TakenUp::NotLost(*why)),
+            Judged::Kept(number, reply) => {
+                self.check_and_finish(&looked.state, &looked.intents)?;
+                Ok(TakenUp::Carried(Answer::Repeated(*number, *reply), redone))
+            }
+            Judged::New(loss) => {
+                let number = self.lose(loss, key)?;
+                let reply = loss.change.reply();
+                Ok(TakenUp::Carried(Answer::Done(number, reply), redone))
+            }
+        }
+    }
+}

@@ -1,0 +1,216 @@
+//! An opening without a provider: where the image of a component is gone for good, it is given up
+//! by a `lost` of it, in the transaction that takes out what is pending there; the rest is carried
+//! out as by any opening.
+
+ghost use Rattle.std.specs.Prelude.{◌≡◌, ◌<◌, ◌≤◌, ◌+◌, ◌∷◌, true, ℕ, List, [], None, Some, length, IfOk, IfErr, OnOk, IsErrOf, string_bytes};
+ghost use Rattle.gm_metadata.specs.Images.{Image};
+ghost use Rattle.gm_commands.specs.declared.command.Command.TheVariants.{Lost};
+ghost use Rattle.gm_commands.specs.Commands.{CommandFits, is_key};
+ghost use Rattle.gm_lists.specs.Ordered.{Has};
+ghost use Rattle.gm_shelf.specs.Keeping.{ReadsOnly};
+ghost use Rattle.gm_state.specs.declared.intents.Intent.{Intent};
+ghost use Rattle.gm_state.specs.Records.{IsState};
+ghost use Rattle.gm_state.specs.Rows.{HoldRecords, Tables};
+ghost use Rattle.gm_state.specs.Lookups.{component_of};
+ghost use Rattle.gm_state.specs.World.{Answered, Sound, World, present};
+ghost use Rattle.gm_refusals.specs.WorldFacts.{seen_of};
+ghost use Rattle.gm_changes.specs.Decides.{Decides, changed_by};
+ghost use Rattle.gm_registry.specs.Registry.{DiskKept, HasTables, Reads, WasClean};
+ghost use Rattle.gm_registry.specs.Replies.{AreWrittenUnder, IsFree, count_of};
+ghost use Rattle.gm_rows.specs.ReadableTables.{AreTablesOf};
+ghost use Rattle.gm_bench.specs.Calls.{Asks, Keep, Looks, TellsDisk};
+ghost use Rattle.gm_bench.specs.Faults.{IsOfCall, IsOfMedia};
+ghost use Rattle.gm_bench.specs.Losing.{dropped};
+ghost use Rattle.gm_bench.specs.Presence.{first_absent};
+ghost use Rattle.gm_bench.specs.Recovering.{IsFound};
+ghost use Rattle.gm_bench.specs.Schedule.{IsStepWithout, LeavesCommit};
+ghost use Rattle.gm_bench.specs.Without.{AreOfWorld, DoesLoss, IsJudged, IsNewLoss, IsRedirected, LeavesLoss, loss_call};
+
+use crate::fault::BenchFault;
+use crate::loss::{Judged, LossRefusal, are_of_loss, loss_with, next_source};
+use crate::media::Media;
+use crate::sizes::sizes_of;
+use gm_changes::{Change, changed_by, decide};
+use gm_commands::{Command, Providers, is_key, words_of};
+use gm_metadata::Label;
+use gm_refusals::{CallRefusal, Refusal, needed};
+use gm_shelf::Shelf;
+use gm_state::{Component, Intent, State};
+use sqlite::Alter;
+use std::alloc::{AllocError, Global};
+
+// The command that gives a component up.
+fn loss_of(alloc: Global, component: &Component) -> Result<Command, BenchFault>
+    ensures command { IfOk result (λ c.
+        c ≡ Lost component.now.mirror (component.now.provider ∷ [])) }
+    ensures fault { IfErr result IsOfMedia }
+    ensures disk { IsErrOf result BenchFault.Disk → ⊥ }
+{
+    let mut named = Vec::new(alloc);
+    if named.push(component.provider).is_err() {
+        return Err(BenchFault::Memory);
+    }
+    match Providers::new(named) {
+        Some(providers) => Ok(Command::Lost {
+            name: component.mirror,
+            providers,
+        }),
+        None => Err(BenchFault::Memory),
+    }
+}
+
+impl<S: Alter, H: Shelf> Media<S, H> {
+    // What the rules say of a loss, of all records. No sector is read.
+    fn rule(
+        &self,
+        alloc: Global,
+        state: &State,
+        command: &Command,
+    ) -> Result<Result<Change, Refusal>, AllocError>
+        ensures decides { IfOk result (λ r. (w : World) (n p : List ℕ)
+            → state.now ≡ w.state → present w ≡ H.size self.now.shelf
+            → command.now ≡ Lost n (p ∷ []) → Decides w.state (seen_of w) command.now r) }
+        ensures state { IfOk result (λ r. IsState state.now → CommandFits command.now
+            → (n p : List ℕ) → command.now ≡ Lost n (p ∷ [])
+            → IfOk r (λ ch. IsState (changed_by ch state.now))) }
+    {
+        let names = needed(alloc, state, command)?;
+        let facts = sizes_of(alloc, &self.shelf, &names)?;
+        decide(alloc, state, &facts, command)
+    }
+
+    // What a loss comes to whose change the rules allow.
+    fn redirect(
+        &self,
+        alloc: Global,
+        state: &State,
+        intents: &[Intent],
+        component: &Component,
+        words: String,
+        change: Change,
+    ) -> Result<Judged, BenchFault>
+        ensures comes { IfOk result (IsRedirected state.now (H.size self.now.shelf) intents.now
+            component.now.mirror component.now.provider (string_bytes words) change) }
+        ensures fault { IfErr result IsOfCall }
+        ensures disk { IsErrOf result BenchFault.Disk → ⊥ }
+        ensures readable { IsErrOf result BenchFault.Unreadable
+            → IsState (changed_by change state.now) → ⊥ }
+    {
+        let after = match changed_by(alloc, state, &change) {
+            Ok(Some(after)) => after,
+            Ok(None) => return Err(BenchFault::Unreadable),
+            Err(_) => return Err(BenchFault::Memory),
+        };
+        let provider = component.provider;
+        let Some(next) = next_source(&after, provider, intents) else {
+            return Ok(Judged::Refused(LossRefusal::OnlySource));
+        };
+        if self.shelf.sectors(provider).is_some() {
+            return Ok(Judged::Refused(LossRefusal::OnShelf));
+        }
+        let mirror = component.mirror;
+        match loss_with(alloc, mirror, words, change, after, provider, next, intents) {
+            Ok(loss) => Ok(Judged::New(loss)),
+            Err(_) => Err(BenchFault::Memory),
+        }
+    }
+
+    // What is found of the loss of a component, under a key that is free.
+    fn judge_component(
+        &self,
+        alloc: Global,
+        state: &State,
+        intents: &[Intent],
+        component: &Component,
+    ) -> Result<Judged, BenchFault>
+        ensures judged { IfOk result (λ j. (w : World) (key p : List ℕ)
+            → AreOfWorld state.now (H.size self.now.shelf) w
+            → component.now.provider ≡ p → component_of w.state p ≡ Some component.now
+            → is_key key ≡ true → ((a : Answered) → Has w.answered a → a.key ≡ key → ⊥)
+            → length w.answered < 100000 → IsJudged w intents.now key p j) }
+        ensures readable { IsErrOf result BenchFault.Unreadable → IsState state.now → ⊥ }
+        ensures fault { IfErr result IsOfCall }
+        ensures disk { IsErrOf result BenchFault.Disk → ⊥ }
+    {
+        let command = loss_of(alloc, component)?;
+        let Ok(words) = words_of(alloc, &command) else {
+            return Err(BenchFault::Memory);
+        };
+        match self.rule(alloc, state, &command) {
+            Err(_) => Err(BenchFault::Memory),
+            Ok(Err(refusal)) => Ok(Judged::refused(CallRefusal::ByRules(refusal))),
+            Ok(Ok(change)) => self.redirect(alloc, state, intents, component, words, change),
+        }
+    }
+
+    // What is found of the loss, under a key that is free.
+    fn judge_free(
+        &mut self,
+        alloc: Global,
+        state: &State,
+        intents: &[Intent],
+        provider: Label,
+    ) -> Result<Judged, BenchFault>
+        ensures judged { DiskKept S.Store self.new.registry
+            → IfOk result (λ j. (w : World) (key : List ℕ) (t : Tables)
+            → AreOfWorld state.now (H.size self.old.shelf) w → HoldRecords w t
+            → HasTables S.Store self.old.registry t → is_key key ≡ true → IsFree t key
+            → IsJudged w intents.now key provider j × HasTables S.Store self.new.registry t) }
+        ensures readable { DiskKept S.Store self.new.registry
+            → IsErrOf result BenchFault.Unreadable → (t : Tables)
+            → HasTables S.Store self.old.registry t → count_of t ≤ 100000 → ⊥ }
+        ensures reads { Reads S.Store self.old.registry self.new.registry }
+        ensures fault { IfErr result IsOfCall }
+        ensures disk { IsErrOf result BenchFault.Disk → ⊥ }
+        ensures shelf { self.new.shelf ≡ self.old.shelf }
+    {
+        if self.is_full()? {
+            return Ok(Judged::refused(CallRefusal::NoRoom));
+        }
+        match state.component(provider) {
+            None => Ok(Judged::refused(CallRefusal::ByRules(Refusal::NotMember))),
+            Some(component) => self.judge_component(alloc, state, intents, &component),
+        }
+    }
+
+    /// What is found of the loss of a provider under a key. It reads the registry alone.
+    pub(crate) fn judge(
+        &mut self,
+        alloc: Global,
+        state: &State,
+        intents: &[Intent],
+        provider: Label,
+        key: &str,
+    ) -> Result<Judged, BenchFault>
+        ensures judged { DiskKept S.Store self.new.registry
+            → IfOk result (λ j. (w : World) (t : Tables)
+            → AreOfWorld state.now (H.size self.old.shelf) w → HoldRecords w t
+            → HasTables S.Store self.old.registry t
+            → IsJudged w intents.now key.now provider j × HasTables S.Store self.new.registry t) }
+        ensures readable { DiskKept S.Store self.new.registry
+            → IsErrOf result BenchFault.Unreadable → (t : Tables)
+            → HasTables S.Store self.old.registry t → count_of t ≤ 100000
+            → AreWrittenUnder key.now t → ⊥ }
+        ensures reads { DiskKept S.Store self.new.registry
+            → Reads S.Store self.old.registry self.new.registry }
+        ensures clean { WasClean S.Store self.old.registry self.new.registry }
+        ensures fault { IfErr result IsOfCall }
+        ensures disk { IsErrOf result BenchFault.Disk → ⊥ }
+        ensures shelf { self.new.shelf ≡ self.old.shelf }
+    {
+        if !is_key(key) {
+            return Ok(Judged::refused(CallRefusal::NoKey));
+        }
+        match self.registry.reply_of(key) {
+            Ok(None) => self.judge_free(alloc, state, intents, provider),
+            Ok(Some((number, words, reply))) => {
+                if are_of_loss(words.as_str(), provider) {
+                    Ok(Judged::Kept(number, reply))
+                } else {
+                    Ok(Judged::refused(CallRefusal::KeyTaken))
+                }
+            }
+            Err(fault) => Err(BenchFault::of_store(fault)),
+        }
+    }
+}
