@@ -11,7 +11,8 @@ use std::alloc::{AllocError, Global};
 const MORE: &str =
     "recover, status, list, audit, batch and serve take --registry FILE --shelf DIR: the registry, which
 is made where there is none, and the folder with the images. Each first carries out what a run that
-stopped left pending. dump and taste look at images alone, and write nothing.
+stopped left pending; recover can go on without an image that is gone for good. dump and taste look
+at images alone, and write nothing.
 
 Exit statuses:
   0  done
@@ -23,6 +24,20 @@ Example:
   mkdir images && truncate -s 1M images/a.img
   echo 'k1 label --mid 7 --did 1 gm0 a.img' | gmbench batch --registry registry --shelf images
   gmbench status --registry registry --shelf images";
+
+// What the help of `recover` says below its options.
+const LOSSES: &str =
+    "With --without and --key it goes on without an image that is gone for good: PROV is given up
+by a `lost` of it under KEY, in place of what was pending there. What only that image had is gone
+then, so look for it first. One of these lines is printed:
+  KEY ok SEQ        PROV is given up, and that is kept under this number
+  KEY repeated SEQ  it was given up before
+  KEY refused N     nothing was written
+and behind the first two, as without these options:
+  recovered N       so many writes were pending
+
+Example:
+  gmbench recover --registry registry --shelf images --without b.img --key k5";
 
 // What the help of `batch` says below its options.
 const LINES: &str =
@@ -68,22 +83,22 @@ Example:
   gmbench serve --registry registry --shelf images --port 8080 --count 1 &
   curl http://127.0.0.1:8080/status";
 
-fn shelf_option<'a>(alloc: Global) -> Arg<'a> {
-    Arg::new(alloc, "shelf")
-        .long("shelf")
-        .value_name("DIR")
-        .help("The folder with the images")
-        .required(true)
+// An option that has a value.
+fn with_value<'a>(alloc: Global, id: &'a str, value: &'a str, help: &'a str) -> Arg<'a> {
+    Arg::new(alloc, id)
+        .long(id)
+        .value_name(value)
+        .help(help)
         .action(ArgAction::Set)
 }
 
+fn shelf_option<'a>(alloc: Global) -> Arg<'a> {
+    with_value(alloc, "shelf", "DIR", "The folder with the images").required(true)
+}
+
 fn registry_option<'a>(alloc: Global) -> Arg<'a> {
-    Arg::new(alloc, "registry")
-        .long("registry")
-        .value_name("FILE")
-        .help("The registry, which is made where there is none")
-        .required(true)
-        .action(ArgAction::Set)
+    let help = "The registry, which is made where there is none";
+    with_value(alloc, "registry", "FILE", help).required(true)
 }
 
 fn provider_name<'a>(alloc: Global) -> Arg<'a> {
@@ -94,23 +109,27 @@ fn provider_name<'a>(alloc: Global) -> Arg<'a> {
         .action(ArgAction::Set)
 }
 
+fn without_option<'a>(alloc: Global) -> Result<Arg<'a>, AllocError> {
+    let help = "An image that is gone for good, which is given up";
+    with_value(alloc, "without", "PROV", help).requires_arg("key")
+}
+
+fn key_option<'a>(alloc: Global) -> Result<Arg<'a>, AllocError> {
+    let help = "The key under which it is given up, once";
+    with_value(alloc, "key", "KEY", help).requires_arg("without")
+}
+
 fn port_option<'a>(alloc: Global) -> Arg<'a> {
-    Arg::new(alloc, "port")
-        .long("port")
-        .value_name("P")
-        .help("The port on 127.0.0.1; 0 stands for one that is free")
+    let help = "The port on 127.0.0.1; 0 stands for one that is free";
+    with_value(alloc, "port", "P", help)
         .required(true)
-        .action(ArgAction::Set)
         .value_parser(ValueParser::unsigned(0, 65_535))
 }
 
 fn count_option<'a>(alloc: Global) -> Arg<'a> {
-    Arg::new(alloc, "count")
-        .long("count")
-        .value_name("N")
-        .help("How many connections are served")
-        .action(ArgAction::Set)
-        .value_parser(ValueParser::unsigned(1, 4_294_967_295))
+    with_value(alloc, "count", "N", "How many connections are served").value_parser(
+        ValueParser::unsigned(1, 4_294_967_295),
+    )
 }
 
 fn log_option<'a>(alloc: Global) -> Arg<'a> {
@@ -126,6 +145,7 @@ enum Takes {
     Image,
     Folder,
     Bench,
+    BenchAndLoss,
     BenchAndLines,
     BenchAndRequests,
 }
@@ -144,6 +164,12 @@ const DUMP: Subcommand = Subcommand {
     takes: Takes::Image,
 };
 
+const RECOVER: Subcommand = Subcommand {
+    name: "recover",
+    about: "Carries out what a run that stopped left pending",
+    takes: Takes::BenchAndLoss,
+};
+
 const SUBCOMMANDS: [Subcommand; 8] = [
     DUMP,
     Subcommand {
@@ -151,11 +177,7 @@ const SUBCOMMANDS: [Subcommand; 8] = [
         about: "Prints which mirrors the images of a folder tell of by themselves",
         takes: Takes::Folder,
     },
-    Subcommand {
-        name: "recover",
-        about: "Carries out what a run that stopped left pending",
-        takes: Takes::Bench,
-    },
+    RECOVER,
     Subcommand {
         name: "status",
         about: "Shows in a few lines how the mirrors stand",
@@ -183,64 +205,117 @@ const SUBCOMMANDS: [Subcommand; 8] = [
     },
 ];
 
+fn with_image<'a>(alloc: Global, command: Command<'a>) -> Result<Command<'a>, AllocError> {
+    command.arg(shelf_option(alloc))?.arg(provider_name(alloc))
+}
+
 fn with_bench<'a>(alloc: Global, command: Command<'a>) -> Result<Command<'a>, AllocError> {
     command
         .arg(registry_option(alloc))?
         .arg(shelf_option(alloc))
 }
 
+fn with_loss<'a>(alloc: Global, command: Command<'a>) -> Result<Command<'a>, AllocError> {
+    command.arg(without_option(alloc)?)?.arg(key_option(alloc)?)
+}
+
+fn with_requests<'a>(alloc: Global, command: Command<'a>) -> Result<Command<'a>, AllocError> {
+    command
+        .arg(port_option(alloc))?
+        .arg(count_option(alloc))?
+        .arg(log_option(alloc))
+}
+
 impl Subcommand {
     fn command<'a>(self, alloc: Global) -> Result<Command<'a>, AllocError> {
         let command = Command::new(alloc, self.name).about(self.about);
         match self.takes {
-            Takes::Image => command.arg(shelf_option(alloc))?.arg(provider_name(alloc)),
+            Takes::Image => with_image(alloc, command),
             Takes::Folder => command.arg(shelf_option(alloc)),
             Takes::Bench => with_bench(alloc, command),
+            Takes::BenchAndLoss => {
+                with_loss(alloc, with_bench(alloc, command.after_help(LOSSES))?)
+            }
             Takes::BenchAndLines => with_bench(alloc, command.after_help(LINES)),
-            Takes::BenchAndRequests => with_bench(alloc, command.after_help(REQUESTS))?
-                .arg(port_option(alloc))?
-                .arg(count_option(alloc))?
-                .arg(log_option(alloc)),
+            Takes::BenchAndRequests => {
+                with_requests(alloc, with_bench(alloc, command.after_help(REQUESTS))?)
+            }
         }
     }
 }
 
-fn with_subcommands<'a>(alloc: Global, command: Command<'a>) -> Result<Command<'a>, AllocError> {
-    let mut command = command;
-    for more in &SUBCOMMANDS {
-        command = command.subcommand(more.command(alloc)?)?;
+fn subcommands<'a>(alloc: Global) -> Result<Vec<Command<'a>>, AllocError> {
+    let mut all = Vec::new(alloc);
+    for subcommand in &SUBCOMMANDS {
+        all.push(subcommand.command(alloc)?)?;
     }
-    Ok(command)
+    Ok(all)
+}
+
+fn program<'a>(alloc: Global) -> Result<Command<'a>, AllocError> {
+    let named = Command::new(alloc, "gmbench").bin_name("gmbench")?;
+    Ok(
+        named
+            .about("A workshop for disk images that are mirrors of gmirror(8)")
+            .version("0.1.0")
+            .no_binary_name(true)
+            .subcommand_required(true)
+            .after_help(MORE),
+    )
 }
 
 fn program_command<'a>(alloc: Global) -> Result<Command<'a>, AllocError> {
-    let command = Command::new(alloc, "gmbench")
-        .about("A workshop for disk images that are mirrors of gmirror(8)")
-        .version("0.1.0")
-        .bin_name("gmbench")?
-        .no_binary_name(true)
-        .subcommand_required(true)
-        .after_help(MORE);
-    with_subcommands(alloc, command)
+    let subcommands = subcommands(alloc)?;
+    program(alloc)?.subcommands(subcommands)
 }
 
-// The label that a value is, or clap's complaint.
-fn label_of(alloc: Global, value: &str) -> Result<Label, Error> {
-    match Label::new(value) {
-        Some(label) => Ok(label),
-        None => {
-            let message = format!(in alloc;
-                "invalid value '{value}' for '<PROV>': a name has 1 to 15 of A-Z, a-z, 0-9, '.', '_' and '-'"
-            )?;
-            let mut dump = DUMP.command(alloc)?.bin_name("gmbench dump")?;
-            Err(dump.error(ErrorKind::ValueValidation, message.as_str())?)
+// What a label is made of.
+const LABEL: &str = "a name has 1 to 15 of A-Z, a-z, 0-9, '.', '_' and '-'";
+
+// An argument of a subcommand whose value is a label, as clap names it.
+#[derive(Clone, Copy)]
+struct LabelArgument {
+    of: Subcommand,
+    name: &'static str,
+}
+
+const DUMPED: LabelArgument = LabelArgument {
+    of: DUMP,
+    name: "<PROV>",
+};
+
+const WITHOUT: LabelArgument = LabelArgument {
+    of: RECOVER,
+    name: "--without <PROV>",
+};
+
+impl LabelArgument {
+    // clap's complaint of a value that is no label.
+    fn no_label(self, alloc: Global, value: &str) -> Result<Error, AllocError> {
+        let argument = self.name;
+        let message = format!(in alloc; "invalid value '{value}' for '{argument}': {LABEL}")?;
+        self.complaint(alloc, message.as_str())
+    }
+
+    // The complaint of the subcommand with this message.
+    fn complaint(self, alloc: Global, message: &str) -> Result<Error, AllocError> {
+        let name = format!(in alloc; "gmbench {}", self.of.name)?;
+        let mut command = self.of.command(alloc)?.bin_name(name.as_str())?;
+        command.error(ErrorKind::ValueValidation, message)
+    }
+
+    // The label that a value is, or clap's complaint.
+    fn label(self, alloc: Global, value: &str) -> Result<Label, Error> {
+        match Label::new(value) {
+            Some(label) => Ok(label),
+            None => Err(self.no_label(alloc, value)?),
         }
     }
 }
 
 fn dump_of<'a>(alloc: Global, matches: &ArgMatches<'a>) -> Result<Job<'a>, Error> {
     let folder = matches.get_str("shelf").unwrap_or("");
-    let provider = label_of(alloc, matches.get_str("provider").unwrap_or(""))?;
+    let provider = DUMPED.label(alloc, matches.get_str("provider").unwrap_or(""))?;
     Ok(Job::Dump { folder, provider })
 }
 
@@ -259,24 +334,47 @@ fn service_of(given: &ArgMatches<'_>) -> Service {
     }
 }
 
+// What `recover` is to do. clap has seen to it that both options are there or none.
+fn recovery_of<'a>(alloc: Global, given: &ArgMatches<'a>) -> Result<Work<'a>, Error> {
+    match (given.get_str("without"), given.get_str("key")) {
+        (Some(provider), Some(key)) => {
+            let provider = WITHOUT.label(alloc, provider)?;
+            Ok(Work::RecoverWithout { provider, key })
+        }
+        _ => Ok(Work::Recover),
+    }
+}
+
 // The work at a bench that a subcommand is for; none where it is for no bench.
-fn work_of(name: &str, given: &ArgMatches<'_>) -> Option<Work> {
-    match name {
-        "recover" => Some(Work::Recover),
+fn work_of<'a>(
+    alloc: Global,
+    name: &str,
+    given: &ArgMatches<'a>,
+) -> Result<Option<Work<'a>>, Error> {
+    Ok(match name {
+        "recover" => Some(recovery_of(alloc, given)?),
         "status" => Some(Work::Status),
         "list" => Some(Work::List),
         "audit" => Some(Work::Audit),
         "batch" => Some(Work::Batch),
         "serve" => Some(Work::Serve(service_of(given))),
         _ => None,
-    }
+    })
 }
 
-fn at_bench_of<'a>(work: Work, matches: &ArgMatches<'a>) -> Job<'a> {
-    Job::AtBench {
-        work,
-        registry: matches.get_str("registry").unwrap_or(""),
-        folder: matches.get_str("shelf").unwrap_or(""),
+// The job that these matches of the program's words ask for.
+fn job_by<'a>(alloc: Global, matches: &ArgMatches<'a>) -> Result<Job<'a>, Error> {
+    let Some((name, given)) = matches.subcommand() else {
+        return Ok(Job::Introduce);
+    };
+    match work_of(alloc, name, given)? {
+        Some(work) => Ok(Job::AtBench {
+            work,
+            registry: given.get_str("registry").unwrap_or(""),
+            folder: given.get_str("shelf").unwrap_or(""),
+        }),
+        None if name == "taste" => Ok(taste_of(given)),
+        None => dump_of(alloc, given),
     }
 }
 
@@ -287,12 +385,5 @@ pub fn job_of<'a>(alloc: Global, words: &'a [&'a str]) -> Result<Job<'a>, Error>
         return Ok(Job::Introduce);
     }
     let matches = program_command(alloc)?.try_get_matches_from(words)?;
-    match matches.subcommand() {
-        Some((name, given)) => match work_of(name, given) {
-            Some(work) => Ok(at_bench_of(work, given)),
-            None if name == "taste" => Ok(taste_of(given)),
-            None => dump_of(alloc, given),
-        },
-        None => Ok(Job::Introduce),
-    }
+    job_by(alloc, &matches)
 }

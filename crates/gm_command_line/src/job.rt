@@ -3,7 +3,7 @@
 use gm_metadata::Label;
 
 /// Where requests over HTTP are taken, and how many.
-#[derive(Clone, Copy, Debug, PartialEq, Eq)]
+#[derive(Clone, Copy)]
 pub struct Service {
     /// The port on 127.0.0.1, or 0 for one that is free.
     pub port: u16,
@@ -14,10 +14,13 @@ pub struct Service {
 }
 
 /// What is to be done at a bench whose opening carried out what was pending.
-#[derive(Clone, Copy, Debug, PartialEq, Eq)]
-pub enum Work {
+#[derive(Clone, Copy)]
+pub enum Work<'a> {
     /// Nothing more: say how much was pending.
     Recover,
+    /// The same of a bench that is opened without a provider, which is given up under a key, any
+    /// text: say as well what that is answered.
+    RecoverWithout { provider: Label, key: &'a str },
     /// Say how the mirrors stand.
     Status,
     /// Say all that is known of the mirrors.
@@ -46,7 +49,7 @@ pub enum Job<'a> {
     },
     /// Do work at the bench of a registry and a folder.
     AtBench {
-        work: Work,
+        work: Work<'a>,
         registry: &'a str,
         folder: &'a str,
     },

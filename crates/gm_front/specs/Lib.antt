@@ -4,6 +4,7 @@ pub mod Demands
 pub mod Findings
 pub mod HandedIn
 pub mod Input
+pub mod Losses
 pub mod Outcomes
 pub mod Request
 pub mod ServedRuns

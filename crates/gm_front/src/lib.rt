@@ -4,6 +4,7 @@
 //! `lines.rt` takes the lines of a batch, `request.rt` says what each asks, `outcome.rt` what it
 //! comes to and how that is told, and `answer_lines.rt` answers them in turn; `specs/Batch.antt`
 //! says what all of it comes to, and `laws.rt` that a batch is a part of a schedule of the bench.
+//! `outcome.rt` also has the line for a loss with which a bench is opened (`specs/Losses.antt`).
 //!
 //! Of a request, which `gm_http` reads, `demand.rt` says what it demands of the bench, `finding.rt`
 //! what that comes to and what is told of it, and `service.rt` serves it; `specs/Demands.antt` says
@@ -27,4 +28,5 @@ pub use answer_lines::{BatchEnd, FrontFault, batch};
 pub use gm_words::{WordsFault, dump_text, list_text, read_words, status_text};
 pub use laws::{served_request_law, whole_batch_law};
 pub use lines::{Line, next_line};
+pub use outcome::loss_text;
 pub use service::{Response, Served, serve_one, serve_request};

@@ -12,10 +12,11 @@ ghost use Rattle.gm_bench.specs.Phases.{TakesCommands};
 ghost use Rattle.gm_bench.specs.Recovering.{IsAt};
 ghost use Rattle.gm_bench.specs.Running.{answer_of};
 ghost use Rattle.gm_front.specs.Request.{done_line, numbered, shown_answer};
+ghost use Rattle.gm_front.specs.Losses.{loss_line};
 ghost use Rattle.gm_front.specs.Outcomes.{ComesTo, asked_of, is_refused, progress_after, text_of};
 
 use crate::request::{Request, shown};
-use gm_bench::{Answer, Bench, BenchFault};
+use gm_bench::{Answer, Bench, BenchFault, LossRefusal};
 use gm_shelf::Shelf;
 use gm_state::Reply;
 use sqlite::Alter;
@@ -98,6 +99,21 @@ fn answer_text(alloc: Global, key: &str, answer: Answer) -> Result<String, Alloc
         Answer::Done(number, reply) => done_text(alloc, key, number, reply),
         Answer::Repeated(number, _) => numbered(alloc, key, "repeated", number),
         Answer::Refused(why) => numbered(alloc, key, "refused", u64::from(why.number())),
+    }
+}
+
+/// The line that tells under a key what a loss is answered with which a bench is opened, or why it
+/// is refused. It has the form of a batch's answers.
+pub fn loss_text(
+    alloc: Global,
+    key: &str,
+    loss: Result<Answer, LossRefusal>,
+) -> Result<String, AllocError>
+    ensures { IfOk result (λ text. string_bytes text ≡ loss_line key.now loss) }
+{
+    match loss {
+        Ok(answer) => answer_text(alloc, shown(key), answer),
+        Err(why) => numbered(alloc, shown(key), "refused", u64::from(why.number())),
     }
 }
 

@@ -1,5 +1,5 @@
 -- What is told of work at a bench.
-use Rattle.std.specs.Prelude.{◌≡◌, ◌⊎◌, ℕ, ◌==◌, List, [], ◌∷◌, ◌++◌, codes, flat_map, length, if◌then◌else◌}
+use Rattle.std.specs.Prelude.{◌≡◌, ◌⊎◌, ℕ, ◌==◌, List, [], ◌∷◌, ◌++◌, Ok, Err, codes, flat_map, length, if◌then◌else◌}
 use Rattle.std.specs.Fmt.{decimal}
 use Rattle.std.specs.List.{list_any}
 use Rattle.std.specs.String.{string_bytes}
@@ -7,6 +7,9 @@ use Rattle.gm_words.specs.Lines.{line}
 use Rattle.gm_words.specs.Tasting.{tasting_text}
 use Rattle.gm_taste.specs.declared.tasted.Tasted.{Tasted}
 use Rattle.gm_taste.specs.Verdicts.{of_metadata}
+use Rattle.gm_bench.specs.declared.answer.Answer.{Answer}
+use Rattle.gm_bench.specs.declared.loss.LossRefusal.{LossRefusal}
+use Rattle.gm_front.specs.Losses.{loss_line}
 use Rattle.gm_program.specs.declared.exit.Status.{Status}
 use Rattle.gm_program.specs.declared.exit.Status.TheVariants.{Done, Refused}
 use Rattle.gm_command_line.specs.declared.job.Work.{Work}
@@ -17,9 +20,21 @@ use Rattle.gm_program.specs.declared.bench_command.Report.{Report}
 abbrev pub IsDone : List ℕ → Report → Type 0
 IsDone text report = (report.status ≡ Done) × (string_bytes report.text ≡ text)
 
+-- refused, with this text to be printed
+abbrev pub IsRefused : List ℕ → Report → Type 0
+IsRefused text report = (report.status ≡ Refused) × (string_bytes report.text ≡ text)
+
 -- the line of a recovery
 abbrev pub recovered_text : ℕ → List ℕ
 recovered_text redone = codes "recovered " ++ decimal redone ++ 10 ∷ []
+
+-- the lines of a recovery without a provider: what its loss is answered, and the recovery's own
+abbrev pub without_text : List ℕ → Answer → ℕ → List ℕ
+without_text key answer redone = loss_line key (Ok answer) ++ recovered_text redone
+
+-- the line of one that is refused
+abbrev pub refused_text : List ℕ → LossRefusal → List ℕ
+refused_text key why = loss_line key (Err why)
 
 -- a name a line
 abbrev pub names_text : List (List ℕ) → List ℕ
@@ -37,10 +52,15 @@ IsTasting t report =
     (report.status ≡ (if list_any (λ x. of_metadata x.reason) t.left.items then Refused else Done))
     × (string_bytes report.text ≡ tasting_text t)
 
+-- a recovery without a provider may be refused
+abbrev pub MayEndWithout : Status → Type 0
+MayEndWithout status = (status ≡ Done) ⊎ (status ≡ Refused)
+
 -- what shows mirrors or serves requests is done; an audit may find damage, and of a batch a line may
 -- be refused
 abbrev pub MayEnd : Work → Status → Type 0
 MayEnd work.Recover status = status ≡ Done
+MayEnd (work.RecoverWithout provider key) status = MayEndWithout status
 MayEnd work.Status status = status ≡ Done
 MayEnd work.List status = status ≡ Done
 MayEnd work.Audit status = (status ≡ Done) ⊎ (status ≡ Refused)

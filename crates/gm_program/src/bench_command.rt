@@ -37,19 +37,20 @@ fn told(alloc: Global, status: Status) -> Report
 }
 
 /// Does the work. A batch reads the input, and prints its answers at once; what serves requests
-/// takes them from connections.
+/// takes them from connections. A recovery without a provider is told by who opens its bench; here
+/// it tells no more than any.
 pub fn perform<S: Alter, H: Shelf, I: Read, O: Write, E: Write>(
-    work: Work,
+    work: &Work<'_>,
     rt: &HostRuntime,
     bench: &mut Bench<S, H>,
     streams: &mut Streams<'_, I, O, E>,
 ) -> Result<Report, Fault>
     requires { TakesCommands (progress_of bench.old) }
-    ensures { IfOk result (λ report. MayEnd work report.status) }
+    ensures { IfOk result (λ report. MayEnd work.now report.status) }
 {
     let alloc = rt.alloc();
-    match work {
-        Work::Recover => recovered(alloc, bench.redone()),
+    match *work {
+        Work::Recover | Work::RecoverWithout { .. } => recovered(alloc, bench.redone()),
         Work::Status => {
             let state = bench.view(alloc)?;
             status_report(alloc, &state)

@@ -71,10 +71,10 @@ fn dump<O: Write>(
 
 fn perform<I: Read, O: Write, E: Write>(
     rt: &HostRuntime,
-    job: Job<'_>,
+    job: &Job<'_>,
     streams: &mut Streams<'_, I, O, E>,
 ) -> Result<Status, Fault> {
-    match job {
+    match *job {
         Job::Introduce => {
             writeln!(streams.output, "gmbench: GEOM_MIRROR version 4")?;
             Ok(Status::Done)
@@ -82,7 +82,7 @@ fn perform<I: Read, O: Write, E: Write>(
         Job::Dump { folder, provider } => dump(rt, folder, provider, streams.output),
         Job::Taste { folder } => taste_folder(rt, folder, streams.output),
         Job::AtBench {
-            work,
+            ref work,
             registry,
             folder,
         } => work_at(rt, Place { registry, folder }, work, streams),
@@ -95,7 +95,7 @@ fn run<I: Read, O: Write, E: Write>(
     streams: &mut Streams<'_, I, O, E>,
 ) -> Result<Status, Fault> {
     let done = match job_of(rt.alloc(), words) {
-        Ok(job) => perform(rt, job, streams),
+        Ok(job) => perform(rt, &job, streams),
         Err(error) => explain(&error, streams.output, streams.complaints),
     };
     // What was printed before a fault is to be seen as well.

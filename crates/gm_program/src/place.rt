@@ -1,19 +1,22 @@
 //! Where work at a bench is done: a folder of images, which is held meanwhile, and a registry,
 //! which is opened and closed again.
 
-ghost use Rattle.std.specs.Prelude.{◌≡◌, IfOk};
+ghost use Rattle.std.specs.Prelude.{◌≡◌, false, IfOk};
 ghost use Rattle.gm_rows.specs.Faults.{fault_of};
 ghost use Rattle.gm_bench.specs.Faults.{of_store};
-ghost use Rattle.gm_program.specs.Reports.{MayEnd};
+ghost use Rattle.gm_program.specs.Reports.{MayEnd, MayEndWithout};
 
 use crate::bench_command::{Report, perform};
 use crate::exit::{Fault, Status};
+use crate::recover::{recovered_without, refused_without};
 use crate::streams::Streams;
-use gm_bench::{Bench, BenchFault};
+use gm_bench::{Bench, BenchFault, Without};
 use gm_command_line::Work;
+use gm_metadata::Label;
 use gm_shelf::{FileId, FileShelf, Shelf};
 use sqlite::{Alter, Connection, Error, ErrorCode, FileStore};
 use sqlite_disk::Disk;
+use std::alloc::Global;
 use std::fs::{self, File};
 use std::io::{self, ErrorKind, Read, Write};
 
@@ -90,20 +93,39 @@ fn leave_out_registry(
     }
 }
 
-// Opens a bench, which carries out what is pending, has the work done at it, and gives its store
-// back with the report.
-fn at_bench<S: Alter + Drop, H: Shelf + Drop, I: Read, O: Write, E: Write>(
+// Opens a bench without a provider, and gives its store back with what is told of that.
+fn without<S: Alter + Drop, H: Shelf + Drop>(
+    alloc: Global,
+    store: Connection<S>,
+    shelf: H,
+    provider: Label,
+    key: &str,
+) -> Result<(Result<Report, Fault>, Connection<S>), BenchFault>
+    requires { store.in_transaction ≡ false }
+    ensures { IfOk result (λ it. IfOk it.0 (λ report. MayEndWithout report.status)) }
+{
+    match Bench::open_without(alloc, store, shelf, provider, key) {
+        Ok(Without::Opened { bench, answer }) => {
+            let report = recovered_without(alloc, key, answer, bench.redone());
+            let (store, _) = bench.close();
+            Ok((report, store))
+        }
+        Ok(Without::Refused { why, store, .. }) => Ok((refused_without(alloc, key, why), store)),
+        Err(e) => Err(e.fault),
+    }
+}
+
+// Opens a bench, has the work done at it, and gives its store back with the report.
+fn worked<S: Alter + Drop, H: Shelf + Drop, I: Read, O: Write, E: Write>(
     rt: &HostRuntime,
     store: Connection<S>,
     shelf: H,
-    work: Work,
+    work: &Work<'_>,
     streams: &mut Streams<'_, I, O, E>,
 ) -> Result<(Result<Report, Fault>, Connection<S>), BenchFault>
-    ensures { IfOk result (λ it. IfOk it.0 (λ report. MayEnd work report.status)) }
+    requires { store.in_transaction ≡ false }
+    ensures { IfOk result (λ it. IfOk it.0 (λ report. MayEnd work.now report.status)) }
 {
-    if !store.is_autocommit() {
-        return Err(BenchFault::Store);
-    }
     match Bench::open(rt.alloc(), store, shelf) {
         Ok(mut bench) => {
             let report = perform(work, rt, &mut bench, streams);
@@ -114,15 +136,37 @@ fn at_bench<S: Alter + Drop, H: Shelf + Drop, I: Read, O: Write, E: Write>(
     }
 }
 
+// Opens a bench, which carries out what is pending, has the work done at it, and gives its store
+// back with the report.
+fn at_bench<S: Alter + Drop, H: Shelf + Drop, I: Read, O: Write, E: Write>(
+    rt: &HostRuntime,
+    store: Connection<S>,
+    shelf: H,
+    work: &Work<'_>,
+    streams: &mut Streams<'_, I, O, E>,
+) -> Result<(Result<Report, Fault>, Connection<S>), BenchFault>
+    ensures { IfOk result (λ it. IfOk it.0 (λ report. MayEnd work.now report.status)) }
+{
+    if !store.is_autocommit() {
+        return Err(BenchFault::Store);
+    }
+    match *work {
+        Work::RecoverWithout { provider, key } => {
+            without(rt.alloc(), store, shelf, provider, key)
+        }
+        _ => worked(rt, store, shelf, work, streams),
+    }
+}
+
 // Has the work done at a store of two files, and closes it. Of two faults the first is told.
 fn at_files<D: Disk + Drop, H: Shelf + Drop, I: Read, O: Write, E: Write>(
     rt: &HostRuntime,
     store: Connection<FileStore<D>>,
     shelf: H,
-    work: Work,
+    work: &Work<'_>,
     streams: &mut Streams<'_, I, O, E>,
 ) -> Result<Report, Fault>
-    ensures { IfOk result (λ report. MayEnd work report.status) }
+    ensures { IfOk result (λ report. MayEnd work.now report.status) }
 {
     let (report, store) = at_bench(rt, store, shelf, work, streams)?;
     let closed = store.close().map_err(store_fault);
@@ -136,10 +180,10 @@ fn report_of<I: Read, O: Write, E: Write>(
     rt: &HostRuntime,
     registry: &str,
     mut shelf: FileShelf<HostRuntime>,
-    work: Work,
+    work: &Work<'_>,
     streams: &mut Streams<'_, I, O, E>,
 ) -> Result<Report, Fault>
-    ensures { IfOk result (λ report. MayEnd work report.status) }
+    ensures { IfOk result (λ report. MayEnd work.now report.status) }
 {
     let store = Connection::open(rt, registry).map_err(store_fault)?;
     leave_out_registry(rt, registry, &mut shelf)?;
@@ -147,15 +191,15 @@ fn report_of<I: Read, O: Write, E: Write>(
 }
 
 /// Opens the bench of a place, which carries out what is pending, has the work done at it, and
-/// closes its store, so that the registry's file alone holds everything. Then it prints the text of
-/// the report.
+/// closes its store, so that the registry's file alone holds everything; also where an opening
+/// without a provider is refused. Then it prints the text of the report.
 pub fn work_at<I: Read, O: Write, E: Write>(
     rt: &HostRuntime,
     place: Place<'_>,
-    work: Work,
+    work: &Work<'_>,
     streams: &mut Streams<'_, I, O, E>,
 ) -> Result<Status, Fault>
-    ensures { IfOk result (MayEnd work) }
+    ensures { IfOk result (MayEnd work.now) }
 {
     let _held = HeldFolder::hold(rt, place.folder)?;
     // A folder that can't be listed is told before the registry is looked for.

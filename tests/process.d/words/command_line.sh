@@ -43,6 +43,8 @@ for word in dump taste recover status list audit batch; do
         fail "$word has help of its own" "status $status"
     fi
 done
+run recover --help
+helps 'the help of recover tells how an image is given up' '--without <PROV>'
 run paint
 expect_words 'an unknown command'
 for word in recover status list audit batch; do
