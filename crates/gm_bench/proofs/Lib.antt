@@ -20,6 +20,7 @@ pub mod LossIntents
 pub mod LossJudged
 pub mod LossLists
 pub mod LossReadable
+pub mod LossRedone
 pub mod LossRemaining
 pub mod LossRules
 pub mod LossSources

@@ -1,20 +1,29 @@
 -- What an opening without a provider leaves, and what it answers, from the store and the shelf
 -- before it.
-use Rattle.std.specs.Prelude.{◌≡◌, ◌⊎◌, ◌+◌, ℕ, List, [], length}
+use Rattle.std.specs.Prelude.{◌≡◌, ◌⊎◌, ◌+◌, ◌<◌, ℕ, List, [], length}
 use Rattle.sqlite_trees.specs.declared.store.Store.{Ghosts}
 use Rattle.sqlite.specs.Held.{Held}
 use Rattle.gm_metadata.specs.Images.{Image, Sizes}
+use Rattle.gm_shelf.specs.declared.shelf.Shelf.{Ghosts as ShelfGhosts}
 use Rattle.gm_shelf.specs.Disk.{View}
 use Rattle.gm_state.specs.declared.intents.Intent.{Intent}
 use Rattle.gm_state.specs.declared.intents.Reply.TheVariants.{Plain}
+use Rattle.gm_state.specs.Records.{Records}
+use Rattle.gm_state.specs.Rows.{Tables}
 use Rattle.gm_state.specs.World.{World, Answered}
+use Rattle.gm_rows.specs.ReadableTables.{AreTablesOf}
+use Rattle.gm_registry.specs.Opening.{IsOpenable}
+use Rattle.gm_registry.specs.Registry.{DiskKept, IsOpen, stored}
+use Rattle.gm_registry.specs.Replies.{AreWrittenUnder}
+use Rattle.gm_bench.specs.declared.bench.OpenFault.{OpenFault}
+use Rattle.gm_bench.specs.declared.fault.BenchFault.TheVariants.{Absent, Closed, Disk, Unreadable}
 use Rattle.gm_bench.specs.declared.answer.Answer.TheVariants.{Done, Repeated, Refused as NotDone}
 use Rattle.gm_bench.specs.declared.open_without.Without.{Without}
 use Rattle.gm_bench.specs.declared.open_without.Without.TheVariants.{Opened, Refused}
 use Rattle.gm_bench.specs.declared.phase.Progress.TheVariants.{Ready}
 use Rattle.gm_bench.specs.Benches.{progress_of, redone_of, registry_of, shelf_of}
 use Rattle.gm_bench.specs.Owed.{IsLeft, OpenLeaves}
-use Rattle.gm_bench.specs.Recovering.{IsAt}
+use Rattle.gm_bench.specs.Recovering.{IsAt, IsStored}
 use Rattle.gm_bench.specs.Schedule.{WithoutCarries, WithoutDoes, WithoutLeaves}
 use Rattle.gm_bench.specs.Without.{IsKeptLoss, IsLacking, IsRefusedLoss, loss_call}
 
@@ -83,3 +92,29 @@ module _ {S H : Type 0} (g : Ghosts S) (view : H → View) (size : H → Sizes) 
   AnswersLoss (Refused why s k) =
       (away : Image) (u w : World) → (left : IsLeft g view size store h away u w)
       → IsRefusedLoss w left.recovers.intents key p why
+
+module _ {S H : Type 0} (s : Ghosts S) (h : ShelfGhosts H) (store : Held S) (shelf : H)
+    (key p : List ℕ) where
+  -- what is answered of the loss
+  pub record IsAnswered (it : Without S H) : Type 0 where
+    pub answers : h.honest shelf → IsOpen s store → DiskKept s (store_behind it)
+        → AnswersLoss s h.view h.size store shelf key p it
+    pub undone : h.honest shelf → IsOpen s store → DiskKept s (store_behind it)
+        → LeavesUndone s h.view h.size store shelf key p it
+    pub ready : IsReady it
+    pub refused : StaysRefused shelf it
+
+  -- Why it failed. By the tables that are stored and the sizes alone: F3 only where the device
+  -- failed, and F6 only where the tables don't say a state with readable intents, or the key's row
+  -- is one that this program doesn't write. F5 comes before anything is written.
+  pub record IsUnanswered (e : OpenFault S H) : Type 0 where
+    pub lacks : h.honest shelf → IsOpen s store → DiskKept s e.store → (q : List ℕ)
+        → e.fault ≡ Absent q → LacksImage s h.view h.size store shelf key p e.store e.shelf q
+    pub absent : (q : List ℕ) → e.fault ≡ Absent q → e.shelf ≡ shelf
+    pub disk : IsOpen s store → DiskKept s e.store → e.fault ≡ Disk
+        → (t : Tables) → IsStored (stored s store) t
+        → (h.view shelf).faults < (h.view e.shelf).faults
+    pub unreadable : IsOpen s store → DiskKept s e.store → e.fault ≡ Unreadable
+        → IsOpenable (stored s store) → (t : Tables) (r : Records) (ts : List Intent)
+        → IsStored (stored s store) t → AreTablesOf t r ts → AreWrittenUnder key t → ⊥
+    pub closed : e.fault ≡ Closed → ⊥

@@ -9,7 +9,8 @@ use Rattle.gm_state.specs.declared.intents.Intent.{Intent}
 use Rattle.gm_state.specs.declared.intents.Reply.{Reply}
 use Rattle.gm_state.specs.declared.records.Component.{Component}
 use Rattle.gm_state.specs.Lookups.{component_of}
-use Rattle.gm_state.specs.Records.{Records, members}
+use Rattle.gm_state.specs.Readable.{AreReadable}
+use Rattle.gm_state.specs.Records.{Records, IsState, members}
 use Rattle.gm_state.specs.World.{World, Answered, Sound, present}
 use Rattle.gm_refusals.specs.declared.refusals.CallRefusal.TheVariants.{NoKey, KeyTaken, NoRoom, ByRules}
 use Rattle.gm_refusals.specs.declared.refusals.Refusal.TheVariants.{NotMember}
@@ -128,6 +129,19 @@ IsRedirected s size ts n p words ch (Refused OnlySource) = next_of (changed_by c
 IsRedirected s size ts n p words ch (Refused OnShelf) =
     IsSome (next_of (changed_by ch s) p ts) × IsSome (size p)
 IsRedirected s size ts n p words ch (New loss) = IsLossWith s size ts n p words ch loss
+
+-- what is pending behind this change of a loss can be read again, where what was pending could be
+abbrev pub StayReadableBehind : Records → List ℕ → Changed → Type 0
+StayReadableBehind s p ch = (ts : List Intent) (next : List ℕ) → AreReadable s ts
+    → next_of (changed_by ch s) p ts ≡ Some next
+    → AreReadable (changed_by ch s) (remaining p next ts ++ ch.intents)
+
+-- the same of a loss that was judged
+abbrev pub StaysReadable : Records → List Intent → Judged → Type 0
+StaysReadable s ts (Kept n reply) = Unit {0}
+StaysReadable s ts (Refused r) = Unit {0}
+StaysReadable s ts (New loss) =
+    AreReadable s ts → IsState loss.after × AreReadable loss.after loss.intents.items
 
 -- the records are the world's, and so are the providers that are there
 pub record AreOfWorld (s : Records) (size : Sizes) (w : World) : Type 0 where

@@ -3,11 +3,13 @@
 ghost use Rattle.std.specs.Prelude.{◌≡◌, ◌≤◌, ℕ, List, Some, None, IfOk, IfErr, OnOk, IsErrOf};
 ghost use Rattle.gm_metadata.specs.Images.{Image};
 ghost use Rattle.gm_state.specs.declared.intents.Intent.{Intent};
+ghost use Rattle.gm_state.specs.Readable.{AreReadable};
+ghost use Rattle.gm_state.specs.Records.{IsState};
 ghost use Rattle.gm_state.specs.Rows.{Tables};
 ghost use Rattle.gm_state.specs.World.{World};
 ghost use Rattle.gm_registry.specs.Registry.{DiskKept, HasTables, WasClean};
 ghost use Rattle.gm_registry.specs.Replies.{count_of};
-ghost use Rattle.gm_bench.specs.Calls.{Keep};
+ghost use Rattle.gm_bench.specs.Calls.{Keep, TellsDisk};
 ghost use Rattle.gm_bench.specs.Faults.{IsOfCall};
 ghost use Rattle.gm_bench.specs.Presence.{first_absent};
 ghost use Rattle.gm_bench.specs.Without.{Commits, DoesLoss, HasJudged, IsLost, LeavesLoss, loss_call};
@@ -71,6 +73,11 @@ impl<S: Alter, H: Shelf> Media<S, H> {
             × (self.new ≡ self.old) }
         ensures there { OnOk result
             (first_absent loss.now.after (H.size self.old.shelf) loss.now.intents.items ≡ None) }
+        ensures disk { AreReadable loss.now.after loss.now.intents.items
+            → IsState loss.now.after → TellsDisk H.Shelf self.old.shelf self.new.shelf result }
+        ensures readable { DiskKept S.Store self.new.registry
+            → IsErrOf result BenchFault.Unreadable → (t : Tables)
+            → HasTables S.Store self.old.registry t → count_of t ≤ 100000 → ⊥ }
         ensures closed { IsErrOf result BenchFault.Closed → ⊥ }
         ensures keep { Keep S.Store H.Shelf self.old.registry self.new.registry
             self.old.shelf self.new.shelf }

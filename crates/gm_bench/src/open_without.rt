@@ -1,10 +1,10 @@
 //! The opening of a bench without a provider whose image is gone for good.
 
-ghost use Rattle.std.specs.Prelude.{◌≡◌, ℕ, List, false, IfOk, IfErr, MatchResult};
+ghost use Rattle.std.specs.Prelude.{◌≡◌, false, IfOk, IfErr, MatchResult};
 ghost use Rattle.gm_registry.specs.Opening.{IsForeign};
 ghost use Rattle.gm_registry.specs.Registry.{DiskKept, IsOpen, LeavesAlone, stored};
 ghost use Rattle.gm_bench.specs.Calls.{Keep};
-ghost use Rattle.gm_bench.specs.GivingUp.{AnswersLoss, GivesUp, IsReady, LacksImage, LeavesUndone, StaysRefused, shelf_behind, store_behind};
+ghost use Rattle.gm_bench.specs.GivingUp.{GivesUp, IsAnswered, IsUnanswered, shelf_behind, store_behind};
 
 use crate::answer::Answer;
 use crate::bench::{Bench, OpenFault};
@@ -56,26 +56,15 @@ impl<S: Alter, H: Shelf> Bench<S, H> {
             store shelf key.now provider (store_behind it) (shelf_behind it))
             (λ e. DiskKept S.Store e.store → GivesUp S.Store H.view H.size
             store shelf key.now provider e.store e.shelf) }
-        ensures answers { H.honest shelf → IsOpen S.Store store
-            → IfOk result (λ it. DiskKept S.Store (store_behind it)
-            → AnswersLoss S.Store H.view H.size store shelf key.now provider it) }
-        ensures undone { H.honest shelf → IsOpen S.Store store
-            → IfOk result (λ it. DiskKept S.Store (store_behind it)
-            → LeavesUndone S.Store H.view H.size store shelf key.now provider it) }
-        ensures ready { IfOk result IsReady }
         // Neither medium of a store with other tables is touched.
         ensures foreign { IsOpen S.Store store → IsForeign (stored S.Store store)
             → MatchResult result (λ it. DiskKept S.Store (store_behind it) → ⊥)
             (λ e. DiskKept S.Store e.store → LeavesAlone S.Store store e.store
             × (e.shelf ≡ shelf)) }
-        ensures lacks { H.honest shelf → IsOpen S.Store store → IfErr result
-            (λ e. DiskKept S.Store e.store → (q : List ℕ) → e.fault ≡ BenchFault.Absent q
-            → LacksImage S.Store H.view H.size store shelf key.now provider e.store e.shelf q) }
-        // F5 comes before anything is written to the shelf, and no refusal touches that.
-        ensures absent { IfErr result (λ e. (q : List ℕ) → e.fault ≡ BenchFault.Absent q
-            → e.shelf ≡ shelf) }
-        ensures refused { IfOk result (StaysRefused shelf) }
-        ensures closed { IfErr result (λ e. e.fault ≡ BenchFault.Closed → ⊥) }
+        ensures opened { IfOk result
+            (IsAnswered S.Store H.Shelf store shelf key.now provider) }
+        ensures unopened { IfErr result
+            (IsUnanswered S.Store H.Shelf store shelf key.now provider) }
         ensures keep { MatchResult result
             (λ it. Keep S.Store H.Shelf store (store_behind it) shelf (shelf_behind it))
             (λ e. Keep S.Store H.Shelf store e.store shelf e.shelf) }

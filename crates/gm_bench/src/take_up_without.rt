@@ -1,6 +1,6 @@
 //! The opening of a bench without a provider.
 
-ghost use Rattle.std.specs.Prelude.{◌≡◌, ◌≤◌, ℕ, List, IfOk, IfErr, IsErrOf};
+ghost use Rattle.std.specs.Prelude.{◌≡◌, ℕ, List, IfOk, IfErr, IsErrOf};
 ghost use Rattle.gm_metadata.specs.Images.{Image};
 ghost use Rattle.gm_state.specs.declared.intents.Intent.{Intent};
 ghost use Rattle.gm_state.specs.Records.{Records};
@@ -8,12 +8,12 @@ ghost use Rattle.gm_state.specs.Rows.{Tables};
 ghost use Rattle.gm_state.specs.World.{World};
 ghost use Rattle.gm_rows.specs.ReadableTables.{AreTablesOf};
 ghost use Rattle.gm_registry.specs.Registry.{DiskKept, HasTables, LeavesNothingNew, WasClean};
-ghost use Rattle.gm_registry.specs.Replies.{AreWrittenUnder, count_of};
+ghost use Rattle.gm_registry.specs.Replies.{AreWrittenUnder};
 ghost use Rattle.gm_bench.specs.declared.loss.LossRefusal.{LossRefusal};
-ghost use Rattle.gm_bench.specs.Calls.{Keep};
+ghost use Rattle.gm_bench.specs.Calls.{Keep, TellsDisk};
 ghost use Rattle.gm_bench.specs.Faults.{IsOfCall};
 ghost use Rattle.gm_bench.specs.Recovering.{IsFound};
-ghost use Rattle.gm_bench.specs.Without.{DoesWithout, IsLooked, KeepsUndone, LacksFirst, LeavesWithout};
+ghost use Rattle.gm_bench.specs.Without.{DoesWithout, IsLooked, KeepsUndone, LacksFirst, LeavesWithout, StaysReadable};
 
 use crate::answer::Answer;
 use crate::fault::BenchFault;
@@ -58,8 +58,12 @@ impl<S: Alter, H: Shelf> Media<S, H> {
             away ts u w × HasTables S.Store self.new.registry at.tables) }
         ensures unreadable { DiskKept S.Store self.new.registry
             → IsErrOf result BenchFault.Unreadable → (t : Tables) (s : Records) (ts : List Intent)
-            → HasTables S.Store self.old.registry t → AreTablesOf t s ts → count_of t ≤ 100000
+            → HasTables S.Store self.old.registry t → AreTablesOf t s ts
             → AreWrittenUnder key.now t → ⊥ }
+        ensures loaded { DiskKept S.Store self.new.registry → IfOk result (λ l. (t : Tables)
+            → HasTables S.Store self.old.registry t → AreTablesOf t l.state l.intents.items
+            × HasTables S.Store self.new.registry t
+            × StaysReadable l.state l.intents.items l.judged) }
         ensures left { DiskKept S.Store self.new.registry → (t : Tables)
             → HasTables S.Store self.old.registry t
             → LeavesNothingNew S.Store self.old.registry self.new.registry }
@@ -101,6 +105,13 @@ impl<S: Alter, H: Shelf> Media<S, H> {
             → (q : List ℕ) → IsErrOf result (BenchFault.Absent q)
             → LacksFirst S.Store H.view H.size key.now provider
             self.old.registry self.new.registry self.old.shelf self.new.shelf q }
+        ensures disk { DiskKept S.Store self.new.registry → (t : Tables)
+            → HasTables S.Store self.old.registry t
+            → TellsDisk H.Shelf self.old.shelf self.new.shelf result }
+        ensures unreadable { DiskKept S.Store self.new.registry
+            → IsErrOf result BenchFault.Unreadable → (t : Tables) (s : Records) (ts : List Intent)
+            → HasTables S.Store self.old.registry t → AreTablesOf t s ts
+            → AreWrittenUnder key.now t → ⊥ }
         ensures refused { IfOk result (λ it. (why : LossRefusal) → it ≡ TakenUp.NotLost why
             → self.new.shelf ≡ self.old.shelf) }
         ensures closed { IsErrOf result BenchFault.Closed → ⊥ }

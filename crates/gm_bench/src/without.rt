@@ -9,6 +9,7 @@ ghost use Rattle.gm_commands.specs.Commands.{CommandFits, is_key};
 ghost use Rattle.gm_lists.specs.Ordered.{Has};
 ghost use Rattle.gm_shelf.specs.Keeping.{ReadsOnly};
 ghost use Rattle.gm_state.specs.declared.intents.Intent.{Intent};
+ghost use Rattle.gm_state.specs.declared.records.Component.{Component};
 ghost use Rattle.gm_state.specs.Records.{IsState};
 ghost use Rattle.gm_state.specs.Rows.{HoldRecords, Tables};
 ghost use Rattle.gm_state.specs.Lookups.{component_of};
@@ -24,7 +25,7 @@ ghost use Rattle.gm_bench.specs.Losing.{dropped};
 ghost use Rattle.gm_bench.specs.Presence.{first_absent};
 ghost use Rattle.gm_bench.specs.Recovering.{IsFound};
 ghost use Rattle.gm_bench.specs.Schedule.{IsStepWithout, LeavesCommit};
-ghost use Rattle.gm_bench.specs.Without.{AreOfWorld, DoesLoss, IsJudged, IsNewLoss, IsRedirected, LeavesLoss, loss_call};
+ghost use Rattle.gm_bench.specs.Without.{AreOfWorld, DoesLoss, IsJudged, IsNewLoss, IsRedirected, LeavesLoss, StayReadableBehind, StaysReadable, loss_call};
 
 use crate::fault::BenchFault;
 use crate::loss::{Judged, LossRefusal, are_of_loss, loss_with, next_source};
@@ -73,6 +74,10 @@ impl<S: Alter, H: Shelf> Media<S, H> {
         ensures state { IfOk result (λ r. IsState state.now → CommandFits command.now
             → (n p : List ℕ) → command.now ≡ Lost n (p ∷ [])
             → IfOk r (λ ch. IsState (changed_by ch state.now))) }
+        ensures again { IfOk result (λ r. (k : Component) (p : List ℕ)
+            → command.now ≡ Lost k.mirror (p ∷ []) → component_of state.now p ≡ Some k
+            → CommandFits command.now → IsState state.now
+            → IfOk r (StayReadableBehind state.now p)) }
     {
         let names = needed(alloc, state, command)?;
         let facts = sizes_of(alloc, &self.shelf, &names)?;
@@ -129,6 +134,8 @@ impl<S: Alter, H: Shelf> Media<S, H> {
             → is_key key ≡ true → ((a : Answered) → Has w.answered a → a.key ≡ key → ⊥)
             → length w.answered < 100000 → IsJudged w intents.now key p j) }
         ensures readable { IsErrOf result BenchFault.Unreadable → IsState state.now → ⊥ }
+        ensures again { IfOk result (λ j. component_of state.now component.now.provider
+            ≡ Some component.now → IsState state.now → StaysReadable state.now intents.now j) }
         ensures fault { IfErr result IsOfCall }
         ensures disk { IsErrOf result BenchFault.Disk → ⊥ }
     {
@@ -159,6 +166,9 @@ impl<S: Alter, H: Shelf> Media<S, H> {
         ensures readable { DiskKept S.Store self.new.registry
             → IsErrOf result BenchFault.Unreadable → (t : Tables)
             → HasTables S.Store self.old.registry t → count_of t ≤ 100000 → ⊥ }
+        ensures again { DiskKept S.Store self.new.registry
+            → IfOk result (λ j. (t : Tables) → HasTables S.Store self.old.registry t
+            → HasTables S.Store self.new.registry t × StaysReadable state.now intents.now j) }
         ensures reads { Reads S.Store self.old.registry self.new.registry }
         ensures fault { IfErr result IsOfCall }
         ensures disk { IsErrOf result BenchFault.Disk → ⊥ }
@@ -191,6 +201,9 @@ impl<S: Alter, H: Shelf> Media<S, H> {
             → IsErrOf result BenchFault.Unreadable → (t : Tables)
             → HasTables S.Store self.old.registry t → count_of t ≤ 100000
             → AreWrittenUnder key.now t → ⊥ }
+        ensures again { DiskKept S.Store self.new.registry
+            → IfOk result (λ j. (t : Tables) → HasTables S.Store self.old.registry t
+            → HasTables S.Store self.new.registry t × StaysReadable state.now intents.now j) }
         ensures reads { DiskKept S.Store self.new.registry
             → Reads S.Store self.old.registry self.new.registry }
         ensures clean { WasClean S.Store self.old.registry self.new.registry }

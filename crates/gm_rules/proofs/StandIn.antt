@@ -317,7 +317,7 @@ module _ (s : Records) (facts : List Fact) where
     -- ---- so the command has a plan there
 
     module _ (c : Command) (fits : CommandFits c) (good : IsGood s (seen_in facts) c) where
-      abbrev key : List ℕ
+      abbrev pub key : List ℕ
       key = 97 ∷ []
 
       can : CanAnswer stand_in key c
@@ -328,10 +328,10 @@ module _ (s : Records) (facts : List Fact) where
         fits = fits;
       }
 
-      plan : HasPlan stand_in key c
+      pub plan : HasPlan stand_in key c
       plan = every_plan stand_in key c sound can (good_in c good)
 
-      planned : AdoptAlike (seen_in facts) (seen_of stand_in) c
+      pub planned : AdoptAlike (seen_in facts) (seen_of stand_in) c
           → plan.0.state ≡ after (seen_in facts) c s
       planned adopts =
           plan.1.step.records

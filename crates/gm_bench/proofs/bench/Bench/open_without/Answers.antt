@@ -1,4 +1,4 @@
-use Rattle.std.proofs.Common.{◌≡◌, inl, Err, refl, sym, ap, subst, arith}
+use Rattle.std.proofs.Common.{rules, ◌≡◌, ◌∙◌, inl, Err, refl, sym, ap, subst, arith}
 use Rattle.sqlite.specs.Held.{Held}
 use Rattle.sqlite.specs.Tree.{Trees}
 use Rattle.gm_registry.specs.Registry.{CrashLeaves, DiskKept, stored}
@@ -8,8 +8,9 @@ use Rattle.gm_bench.specs.declared.take_up_without.TakenUp.{TakenUp}
 use Rattle.gm_bench.specs.GivingUp.{GivesUp, LacksImage}
 use Rattle.gm_bench.specs.Without.{DoesWithout, KeepsUndone}
 use Rattle.gm_bench.specs.Owed.{OpenLeaves}
+use Rattle.gm_bench.proofs.Causes.{of_unreadable}
 use Rattle.gm_bench.proofs.ReopenedLoss.{answered, at_opened, given_up, lacking, opened_behind, undone}
-use Rattle.gm_bench.proofs.ReopenedStore.{unopened}
+use Rattle.gm_bench.proofs.ReopenedStore.{opened_tables, unopened}
 use Rattle.gm_bench.proofs.bench.Bench.open_without.Goals as goal
 
 pub returns-in-Err-clause-leaves : goal.returns-in-Err-clause-leaves
@@ -38,28 +39,6 @@ returns-in-Ok-Carried-clause-leaves g c h is_open clean =
     c.take_up_without.new.self.registry c.take_up_without.new.self.shelf
     (c.take_up_without.ensures.leaves h clean)
 
-pub returns-in-Ok-Carried-clause-answers : goal.returns-in-Ok-Carried-clause-answers
-returns-in-Ok-Carried-clause-answers g c h is_open clean =
-    let mid : DiskKept g.S.Store c.in-Ok.registry =
-    omega (arith, clean, c.take_up_without.ensures.keep.clean) in
-    let only : (db : Trees) → CrashLeaves g.S.Store c.args.store db
-    → db ≡ stored g.S.Store c.args.store =
-    λ db left. g.met.S.Store.settled c.args.store.store db is_open left in
-    let lawful = g.met.H.Shelf.lawful c.args.shelf h in
-    let b : Bench g.row.S.Denot g.row.H.Denot = record {
-      media = c.take_up_without.new.self;
-      progress = Ready;
-      redone = c.in-Ok-Carried.redone;
-    } in
-    answered g.S.Store g.H.Shelf.view g.H.Shelf.size c.args.store c.in-Ok.registry c.args.shelf
-    lawful only (λ empty. c.in-Ok.ensures.made is_open empty mid)
-    (λ t holds. c.in-Ok.ensures.found t is_open holds mid) c.args.key.now c.args.provider b
-    c.in-Ok-Carried.answer c.in-Ok-Carried.redone refl
-    (subst (λ (x : TakenUp). DoesWithout g.S.Store g.H.Shelf.view g.H.Shelf.size c.args.key.now
-    c.args.provider c.in-Ok.registry c.take_up_without.new.self.registry c.args.shelf
-    c.take_up_without.new.self.shelf x) c.in-Ok-Carried.field-0-is
-    (c.in-Ok-Carried.ensures.does h clean))
-
 pub returns-in-Ok-NotLost-clause-leaves : goal.returns-in-Ok-NotLost-clause-leaves
 returns-in-Ok-NotLost-clause-leaves g c h is_open closed =
     let clean : DiskKept g.S.Store c.take_up_without.new.self.registry =
@@ -78,25 +57,6 @@ returns-in-Ok-NotLost-clause-leaves g c h is_open closed =
     (λ t holds. c.in-Ok.ensures.found t is_open holds mid) c.args.key.now c.args.provider
     c.take_up_without.new.self.registry c.take_up_without.new.self.shelf
     (c.take_up_without.ensures.leaves h clean))
-
-pub returns-in-Ok-NotLost-clause-answers : goal.returns-in-Ok-NotLost-clause-answers
-returns-in-Ok-NotLost-clause-answers g c h is_open closed =
-    let clean : DiskKept g.S.Store c.take_up_without.new.self.registry =
-    subst (λ (k : Held g.row.S.Denot). DiskKept g.S.Store k) c.close.ensures closed in
-    let mid : DiskKept g.S.Store c.in-Ok.registry =
-    omega (arith, clean, c.take_up_without.ensures.keep.clean) in
-    let only : (db : Trees) → CrashLeaves g.S.Store c.args.store db
-    → db ≡ stored g.S.Store c.args.store =
-    λ db left. g.met.S.Store.settled c.args.store.store db is_open left in
-    let lawful = g.met.H.Shelf.lawful c.args.shelf h in
-    let does = subst (λ (x : TakenUp). DoesWithout g.S.Store g.H.Shelf.view g.H.Shelf.size
-    c.args.key.now c.args.provider c.in-Ok.registry c.take_up_without.new.self.registry
-    c.args.shelf c.take_up_without.new.self.shelf x) c.in-Ok-NotLost.field-0-is
-    (c.in-Ok-NotLost.ensures.does h clean) in
-    λ away u w left. does away left.recovers.intents u w
-    (at_opened g.S.Store g.H.Shelf.view g.H.Shelf.size c.args.store c.in-Ok.registry c.args.shelf
-    lawful only (λ empty. c.in-Ok.ensures.made is_open empty mid)
-    (λ t holds. c.in-Ok.ensures.found t is_open holds mid) away u w left)
 
 pub returns-in-Err-take_up_without-clause-leaves : goal.returns-in-Err-take_up_without-clause-leaves
 returns-in-Err-take_up_without-clause-leaves g c h is_open closed =
@@ -126,64 +86,148 @@ returns-in-Err-take_up_without-clause-foreign g c is_open foreign closed =
     omega (arith, clean, c.take_up_without.ensures.keep.clean) in
     absurd (c.in-Ok.ensures.refuses is_open foreign mid)
 
-pub returns-in-Err-take_up_without-clause-lacks : goal.returns-in-Err-take_up_without-clause-lacks
-returns-in-Err-take_up_without-clause-lacks g c h is_open closed q is =
-    let clean : DiskKept g.S.Store c.take_up_without.new.self.registry =
-    subst (λ (k : Held g.row.S.Denot). DiskKept g.S.Store k)
-    c.close-in-Err-take_up_without.ensures closed in
-    let mid : DiskKept g.S.Store c.in-Ok.registry =
-    omega (arith, clean, c.take_up_without.ensures.keep.clean) in
-    let only : (db : Trees) → CrashLeaves g.S.Store c.args.store db
-    → db ≡ stored g.S.Store c.args.store =
-    λ db left. g.met.S.Store.settled c.args.store.store db is_open left in
-    subst (λ (k : Held g.row.S.Denot). LacksImage g.S.Store g.H.Shelf.view g.H.Shelf.size
-    c.args.store c.args.shelf c.args.key.now c.args.provider k c.take_up_without.new.self.shelf q)
-    (sym c.close-in-Err-take_up_without.ensures)
-    (lacking g.S.Store g.H.Shelf.view g.H.Shelf.size c.args.store c.in-Ok.registry c.args.shelf
-    (g.met.H.Shelf.lawful c.args.shelf h) only (λ empty. c.in-Ok.ensures.made is_open empty mid)
-    (λ t holds. c.in-Ok.ensures.found t is_open holds mid) c.args.key.now c.args.provider
-    c.take_up_without.new.self.registry c.take_up_without.new.self.shelf q
-    (c.in-Err-take_up_without.ensures.lacks h clean q (ap Err is)))
+pub returns-in-Err-clause-unopened : goal.returns-in-Err-clause-unopened
+returns-in-Err-clause-unopened g c =
+    record {
+      lacks = search rules;
+      absent = search rules;
+      disk = search rules;
+      unreadable = λ is_open clean is openable t s ts stands of written. (
+          absurd (c.in-Err.ensures.unreadable is_open clean
+          (of_unreadable c.in-Err.e.fault (sym c.of_store.ensures.value ∙ is)) openable));
+      closed = search rules;
+    }
 
-pub returns-in-Ok-Carried-clause-undone : goal.returns-in-Ok-Carried-clause-undone
-returns-in-Ok-Carried-clause-undone g c h is_open clean =
-    let mid : DiskKept g.S.Store c.in-Ok.registry =
-    omega (arith, clean, c.take_up_without.ensures.keep.clean) in
-    let only : (db : Trees) → CrashLeaves g.S.Store c.args.store db
-    → db ≡ stored g.S.Store c.args.store =
-    λ db left. g.met.S.Store.settled c.args.store.store db is_open left in
-    let lawful = g.met.H.Shelf.lawful c.args.shelf h in
-    let b : Bench g.row.S.Denot g.row.H.Denot = record {
-      media = c.take_up_without.new.self;
-      progress = Ready;
-      redone = c.in-Ok-Carried.redone;
-    } in
-    undone g.S.Store g.H.Shelf.view g.H.Shelf.size c.args.store c.in-Ok.registry c.args.shelf
-    lawful only (λ empty. c.in-Ok.ensures.made is_open empty mid)
-    (λ t holds. c.in-Ok.ensures.found t is_open holds mid) c.args.key.now c.args.provider b
-    c.in-Ok-Carried.answer c.in-Ok-Carried.redone
-    (subst (λ (x : TakenUp). KeepsUndone g.S.Store g.H.Shelf.view g.H.Shelf.size c.args.key.now
-    c.args.provider c.in-Ok.registry c.take_up_without.new.self.registry c.args.shelf
-    c.take_up_without.new.self.shelf x) c.in-Ok-Carried.field-0-is
-    (c.in-Ok-Carried.ensures.undone h clean))
+pub returns-in-Ok-Carried-clause-opened : goal.returns-in-Ok-Carried-clause-opened
+returns-in-Ok-Carried-clause-opened g c =
+    record {
+      answers = λ h is_open clean. (
+          let mid : DiskKept g.S.Store c.in-Ok.registry =
+          omega (arith, clean, c.take_up_without.ensures.keep.clean) in
+          let only : (db : Trees) → CrashLeaves g.S.Store c.args.store db
+          → db ≡ stored g.S.Store c.args.store =
+          λ db left. g.met.S.Store.settled c.args.store.store db is_open left in
+          let lawful = g.met.H.Shelf.lawful c.args.shelf h in
+          let b : Bench g.row.S.Denot g.row.H.Denot = record {
+            media = c.take_up_without.new.self;
+            progress = Ready;
+            redone = c.in-Ok-Carried.redone;
+          } in
+          answered g.S.Store g.H.Shelf.view g.H.Shelf.size c.args.store c.in-Ok.registry c.args.shelf
+          lawful only (λ empty. c.in-Ok.ensures.made is_open empty mid)
+          (λ t holds. c.in-Ok.ensures.found t is_open holds mid) c.args.key.now c.args.provider b
+          c.in-Ok-Carried.answer c.in-Ok-Carried.redone refl
+          (subst (λ (x : TakenUp). DoesWithout g.S.Store g.H.Shelf.view g.H.Shelf.size c.args.key.now
+          c.args.provider c.in-Ok.registry c.take_up_without.new.self.registry c.args.shelf
+          c.take_up_without.new.self.shelf x) c.in-Ok-Carried.field-0-is
+          (c.in-Ok-Carried.ensures.does h clean)));
+      undone = λ h is_open clean. (
+          let mid : DiskKept g.S.Store c.in-Ok.registry =
+          omega (arith, clean, c.take_up_without.ensures.keep.clean) in
+          let only : (db : Trees) → CrashLeaves g.S.Store c.args.store db
+          → db ≡ stored g.S.Store c.args.store =
+          λ db left. g.met.S.Store.settled c.args.store.store db is_open left in
+          let lawful = g.met.H.Shelf.lawful c.args.shelf h in
+          let b : Bench g.row.S.Denot g.row.H.Denot = record {
+            media = c.take_up_without.new.self;
+            progress = Ready;
+            redone = c.in-Ok-Carried.redone;
+          } in
+          undone g.S.Store g.H.Shelf.view g.H.Shelf.size c.args.store c.in-Ok.registry c.args.shelf
+          lawful only (λ empty. c.in-Ok.ensures.made is_open empty mid)
+          (λ t holds. c.in-Ok.ensures.found t is_open holds mid) c.args.key.now c.args.provider b
+          c.in-Ok-Carried.answer c.in-Ok-Carried.redone
+          (subst (λ (x : TakenUp). KeepsUndone g.S.Store g.H.Shelf.view g.H.Shelf.size c.args.key.now
+          c.args.provider c.in-Ok.registry c.take_up_without.new.self.registry c.args.shelf
+          c.take_up_without.new.self.shelf x) c.in-Ok-Carried.field-0-is
+          (c.in-Ok-Carried.ensures.undone h clean)));
+      ready = search rules;
+      refused = search rules;
+    }
 
-pub returns-in-Ok-NotLost-clause-undone : goal.returns-in-Ok-NotLost-clause-undone
-returns-in-Ok-NotLost-clause-undone g c h is_open closed =
-    let clean : DiskKept g.S.Store c.take_up_without.new.self.registry =
-    subst (λ (k : Held g.row.S.Denot). DiskKept g.S.Store k) c.close.ensures closed in
-    let mid : DiskKept g.S.Store c.in-Ok.registry =
-    omega (arith, clean, c.take_up_without.ensures.keep.clean) in
-    let only : (db : Trees) → CrashLeaves g.S.Store c.args.store db
-    → db ≡ stored g.S.Store c.args.store =
-    λ db left. g.met.S.Store.settled c.args.store.store db is_open left in
-    let lawful = g.met.H.Shelf.lawful c.args.shelf h in
-    let keeps = subst (λ (x : TakenUp). KeepsUndone g.S.Store g.H.Shelf.view g.H.Shelf.size
-    c.args.key.now c.args.provider c.in-Ok.registry c.take_up_without.new.self.registry
-    c.args.shelf c.take_up_without.new.self.shelf x) c.in-Ok-NotLost.field-0-is
-    (c.in-Ok-NotLost.ensures.undone h clean) in
-    subst (λ (k : Held g.row.S.Denot). OpenLeaves g.S.Store g.H.Shelf.view g.H.Shelf.size
-    c.args.store k c.args.shelf c.take_up_without.new.self.shelf) (sym c.close.ensures)
-    (opened_behind g.S.Store g.H.Shelf.view g.H.Shelf.size c.args.store c.in-Ok.registry
-    c.args.shelf lawful only (λ empty. c.in-Ok.ensures.made is_open empty mid)
-    (λ t holds. c.in-Ok.ensures.found t is_open holds mid) c.args.key.now c.args.provider
-    c.take_up_without.new.self.registry c.take_up_without.new.self.shelf keeps)
+pub returns-in-Ok-NotLost-clause-opened : goal.returns-in-Ok-NotLost-clause-opened
+returns-in-Ok-NotLost-clause-opened g c =
+    record {
+      answers = λ h is_open closed. (
+          let clean : DiskKept g.S.Store c.take_up_without.new.self.registry =
+          subst (λ (k : Held g.row.S.Denot). DiskKept g.S.Store k) c.close.ensures closed in
+          let mid : DiskKept g.S.Store c.in-Ok.registry =
+          omega (arith, clean, c.take_up_without.ensures.keep.clean) in
+          let only : (db : Trees) → CrashLeaves g.S.Store c.args.store db
+          → db ≡ stored g.S.Store c.args.store =
+          λ db left. g.met.S.Store.settled c.args.store.store db is_open left in
+          let lawful = g.met.H.Shelf.lawful c.args.shelf h in
+          let does = subst (λ (x : TakenUp). DoesWithout g.S.Store g.H.Shelf.view g.H.Shelf.size
+          c.args.key.now c.args.provider c.in-Ok.registry c.take_up_without.new.self.registry
+          c.args.shelf c.take_up_without.new.self.shelf x) c.in-Ok-NotLost.field-0-is
+          (c.in-Ok-NotLost.ensures.does h clean) in
+          λ away u w left. does away left.recovers.intents u w
+          (at_opened g.S.Store g.H.Shelf.view g.H.Shelf.size c.args.store c.in-Ok.registry c.args.shelf
+          lawful only (λ empty. c.in-Ok.ensures.made is_open empty mid)
+          (λ t holds. c.in-Ok.ensures.found t is_open holds mid) away u w left));
+      undone = λ h is_open closed. (
+          let clean : DiskKept g.S.Store c.take_up_without.new.self.registry =
+          subst (λ (k : Held g.row.S.Denot). DiskKept g.S.Store k) c.close.ensures closed in
+          let mid : DiskKept g.S.Store c.in-Ok.registry =
+          omega (arith, clean, c.take_up_without.ensures.keep.clean) in
+          let only : (db : Trees) → CrashLeaves g.S.Store c.args.store db
+          → db ≡ stored g.S.Store c.args.store =
+          λ db left. g.met.S.Store.settled c.args.store.store db is_open left in
+          let lawful = g.met.H.Shelf.lawful c.args.shelf h in
+          let keeps = subst (λ (x : TakenUp). KeepsUndone g.S.Store g.H.Shelf.view g.H.Shelf.size
+          c.args.key.now c.args.provider c.in-Ok.registry c.take_up_without.new.self.registry
+          c.args.shelf c.take_up_without.new.self.shelf x) c.in-Ok-NotLost.field-0-is
+          (c.in-Ok-NotLost.ensures.undone h clean) in
+          subst (λ (k : Held g.row.S.Denot). OpenLeaves g.S.Store g.H.Shelf.view g.H.Shelf.size
+          c.args.store k c.args.shelf c.take_up_without.new.self.shelf) (sym c.close.ensures)
+          (opened_behind g.S.Store g.H.Shelf.view g.H.Shelf.size c.args.store c.in-Ok.registry
+          c.args.shelf lawful only (λ empty. c.in-Ok.ensures.made is_open empty mid)
+          (λ t holds. c.in-Ok.ensures.found t is_open holds mid) c.args.key.now c.args.provider
+          c.take_up_without.new.self.registry c.take_up_without.new.self.shelf keeps));
+      ready = search rules;
+      refused = search rules;
+    }
+
+pub returns-in-Err-take_up_without-clause-unopened : goal.returns-in-Err-take_up_without-clause-unopened
+returns-in-Err-take_up_without-clause-unopened g c =
+    record {
+      lacks = λ h is_open closed q is. (
+          let clean : DiskKept g.S.Store c.take_up_without.new.self.registry =
+          subst (λ (k : Held g.row.S.Denot). DiskKept g.S.Store k)
+          c.close-in-Err-take_up_without.ensures closed in
+          let mid : DiskKept g.S.Store c.in-Ok.registry =
+          omega (arith, clean, c.take_up_without.ensures.keep.clean) in
+          let only : (db : Trees) → CrashLeaves g.S.Store c.args.store db
+          → db ≡ stored g.S.Store c.args.store =
+          λ db left. g.met.S.Store.settled c.args.store.store db is_open left in
+          subst (λ (k : Held g.row.S.Denot). LacksImage g.S.Store g.H.Shelf.view g.H.Shelf.size
+          c.args.store c.args.shelf c.args.key.now c.args.provider k c.take_up_without.new.self.shelf q)
+          (sym c.close-in-Err-take_up_without.ensures)
+          (lacking g.S.Store g.H.Shelf.view g.H.Shelf.size c.args.store c.in-Ok.registry c.args.shelf
+          (g.met.H.Shelf.lawful c.args.shelf h) only (λ empty. c.in-Ok.ensures.made is_open empty mid)
+          (λ t holds. c.in-Ok.ensures.found t is_open holds mid) c.args.key.now c.args.provider
+          c.take_up_without.new.self.registry c.take_up_without.new.self.shelf q
+          (c.in-Err-take_up_without.ensures.lacks h clean q (ap Err is))));
+      absent = search rules;
+      disk = λ is_open closed is t stands. (
+          let clean : DiskKept g.S.Store c.take_up_without.new.self.registry =
+          subst (λ (k : Held g.row.S.Denot). DiskKept g.S.Store k)
+          c.close-in-Err-take_up_without.ensures closed in
+          let mid : DiskKept g.S.Store c.in-Ok.registry =
+          omega (arith, clean, c.take_up_without.ensures.keep.clean) in
+          let has = opened_tables g.S.Store c.args.store c.in-Ok.registry
+          (λ empty. c.in-Ok.ensures.made is_open empty mid)
+          (λ t holds. c.in-Ok.ensures.found t is_open holds mid) t stands in
+          c.in-Err-take_up_without.ensures.disk clean t has (ap Err is));
+      unreadable = λ is_open closed is openable t s ts stands of written. (
+          let clean : DiskKept g.S.Store c.take_up_without.new.self.registry =
+          subst (λ (k : Held g.row.S.Denot). DiskKept g.S.Store k)
+          c.close-in-Err-take_up_without.ensures closed in
+          let mid : DiskKept g.S.Store c.in-Ok.registry =
+          omega (arith, clean, c.take_up_without.ensures.keep.clean) in
+          let has = opened_tables g.S.Store c.args.store c.in-Ok.registry
+          (λ empty. c.in-Ok.ensures.made is_open empty mid)
+          (λ t holds. c.in-Ok.ensures.found t is_open holds mid) t stands in
+          c.in-Err-take_up_without.ensures.unreadable clean (ap Err is) t s ts has of written);
+      closed = search rules;
+    }

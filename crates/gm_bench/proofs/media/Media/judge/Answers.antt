@@ -7,7 +7,7 @@ use Rattle.gm_registry.specs.Registry.{DiskKept}
 use Rattle.gm_registry.specs.Replies.{IsFree, IsKept}
 use Rattle.gm_bench.specs.declared.loss.Judged.{Judged}
 use Rattle.gm_bench.specs.declared.loss.Judged.TheVariants.{Kept}
-use Rattle.gm_bench.specs.Without.{AreOfLoss, IsJudged}
+use Rattle.gm_bench.specs.Without.{AreOfLoss, IsJudged, StaysReadable}
 use Rattle.gm_bench.proofs.CallAnswers.{kept_answer}
 use Rattle.gm_bench.proofs.DecidesOnly.{ok_then, reads_then}
 use Rattle.gm_bench.proofs.LossJudged.{key_taken, kept_before}
@@ -75,3 +75,21 @@ returns-in-Ok-Some-clause-judged g c clean w t of holds has =
           (sym c.is_key.ensures ∙ c.if-not-is_key.false) a.0 a.1 a.2 other),
       f.1.tables,
     )
+
+pub returns-in-Ok-None-clause-again : goal.returns-in-Ok-None-clause-again
+returns-in-Ok-None-clause-again g c clean =
+    let asked : DiskKept g.S.Store c.reply_of.new.self =
+    omega (arith, clean, c.judge_free.ensures.reads.clean) in
+    ok_then _ _ (λ j again t has. again t (c.in-Ok-None.ensures.found asked t has).1.tables)
+    c.judge_free.result (c.judge_free.ensures.again clean)
+
+pub returns-then-are_of_loss-clause-again : goal.returns-then-are_of_loss-clause-again
+returns-then-are_of_loss-clause-again g c clean t has =
+    ((c.in-Ok-Some.ensures.found clean t has).1.tables, tt)
+
+pub returns-in-Ok-Some-clause-again : goal.returns-in-Ok-Some-clause-again
+returns-in-Ok-Some-clause-again g c clean t has = (
+  (c.in-Ok-Some.ensures.found clean t has).1.tables,
+  subst (λ (j : Judged). StaysReadable c.args.state.now c.args.intents.now j)
+      (sym c.refused-else-are_of_loss.ensures) tt,
+)

@@ -1,15 +1,16 @@
-use Rattle.std.proofs.Common.{◌≡◌, ◌∙◌, ◌∷◌, [], List, ℕ, Result, sym, ap, subst, subst₂, string_bytes}
+use Rattle.std.proofs.Common.{◌≡◌, ◌∙◌, ◌∷◌, [], List, ℕ, IfOk, Result, sym, ap, subst, subst₂, string_bytes}
 use Rattle.gm_commands.specs.declared.command.Command.{Command}
 use Rattle.gm_commands.specs.declared.command.Command.TheVariants.{Lost}
 use Rattle.gm_commands.specs.Commands.{CommandFits, words_of}
-use Rattle.gm_state.specs.Records.{Records}
+use Rattle.gm_state.specs.Records.{Records, IsState}
 use Rattle.gm_refusals.specs.declared.refusals.Refusal.{Refusal}
 use Rattle.gm_refusals.specs.WorldFacts.{seen_of}
-use Rattle.gm_changes.specs.Decides.{Changed, Decides}
+use Rattle.gm_changes.specs.Decides.{Changed, Decides, changed_by}
 use Rattle.gm_bench.specs.declared.loss.Judged.{Judged}
-use Rattle.gm_bench.specs.Without.{IsJudged, IsRedirected}
+use Rattle.gm_bench.specs.Without.{IsJudged, IsRedirected, StayReadableBehind, StaysReadable}
 use Rattle.gm_bench.proofs.DecidesOnly.{ok_then}
 use Rattle.gm_bench.proofs.LossJudged.{rules_refuse, judged_by}
+use Rattle.gm_bench.proofs.LossRedone.{stays_readable}
 use Rattle.gm_bench.proofs.media.Media.judge_component.Goals as goal
 
 pub returns-in-Ok-Err-clause-judged : goal.returns-in-Ok-Err-clause-judged
@@ -43,3 +44,23 @@ returns-clause-judged g c =
     of.sizes words c.in-Ok-Ok.change makes
     (c.in-Ok.ensures.words ∙ ap words_of command_is) (subst CommandFits command_is
     c.in-Ok.ensures.fits) j red)) c.redirect.result c.redirect.ensures.comes
+
+pub returns-in-Ok-Err-clause-again : goal.returns-in-Ok-Err-clause-again
+returns-in-Ok-Err-clause-again g c on state =
+    subst (λ (j : Judged). StaysReadable c.args.state.now c.args.intents.now j)
+    (sym c.refused.ensures) tt
+
+pub returns-clause-again : goal.returns-clause-again
+returns-clause-again g c =
+    ok_then _ _ (λ j comes on state. (
+    let s = c.args.state.now in
+    let k = c.args.component.now in
+    let is = c.in_ok-command.ensures.command in
+    let fits = c.in-Ok.ensures.fits in
+    let changed = subst (λ (r : Result Changed Refusal). IfOk r (λ ch. IsState (changed_by ch s)))
+    c.in-Ok-Ok.field-0-is (c.in-Ok-Ok.ensures.state state fits k.mirror k.provider is) in
+    let behind = subst (λ (r : Result Changed Refusal). IfOk r (StayReadableBehind s k.provider))
+    c.in-Ok-Ok.field-0-is (c.in-Ok-Ok.ensures.again k k.provider is on fits state) in
+    stays_readable s (g.H.Shelf.size c.args.self.now.shelf) c.args.intents.now k.mirror k.provider
+    (string_bytes c.in-Ok.words) c.in-Ok-Ok.change j comes changed behind)) c.redirect.result
+    c.redirect.ensures.comes

@@ -1,4 +1,4 @@
-use Rattle.std.proofs.Common.{◌≡◌, ◌∙◌, ◌<◌, [], None, Some, length, sym, subst, arith}
+use Rattle.std.proofs.Common.{◌≡◌, ◌∙◌, ◌<◌, ℕ, List, [], None, Some, length, sym, subst, arith}
 use Rattle.gm_commands.specs.declared.command.Command.{Command}
 use Rattle.gm_commands.specs.declared.command.Command.TheVariants.{Lost}
 use Rattle.gm_state.specs.Lookups.{component_of}
@@ -6,7 +6,7 @@ use Rattle.gm_state.specs.Records.{Records}
 use Rattle.gm_state.proofs.FoundRecords.{provider_at}
 use Rattle.gm_registry.specs.Replies.{count_of}
 use Rattle.gm_bench.specs.declared.loss.Judged.{Judged}
-use Rattle.gm_bench.specs.Without.{AreOfWorld, IsJudged}
+use Rattle.gm_bench.specs.Without.{AreOfWorld, IsJudged, StaysReadable}
 use Rattle.gm_bench.proofs.CallAnswers.{as_many, free_key}
 use Rattle.gm_bench.proofs.DecidesOnly.{many_of, ok_then, room_of}
 use Rattle.gm_bench.proofs.LossJudged.{no_room, not_member}
@@ -62,3 +62,30 @@ returns-in-Some-clause-judged g c clean =
           (provider_at w.state c.args.provider c.in-Some.component on) on key_ok no_key room,
       told.1,
     ))) c.judge_component.result c.judge_component.ensures.judged
+
+pub returns-then-branch-clause-again : goal.returns-then-branch-clause-again
+returns-then-branch-clause-again g c clean t has = (
+  (c.in_ok-is_full.ensures.told clean t has).1,
+  subst (λ (j : Judged). StaysReadable c.args.state.now c.args.intents.now j)
+      (sym c.refused.ensures) tt,
+)
+
+pub returns-in-None-clause-again : goal.returns-in-None-clause-again
+returns-in-None-clause-again g c clean t has = (
+  (c.in_ok-is_full.ensures.told clean t has).1,
+  subst (λ (j : Judged). StaysReadable c.args.state.now c.args.intents.now j)
+      (sym c.refused-in-None.ensures) tt,
+)
+
+pub returns-in-Some-clause-again : goal.returns-in-Some-clause-again
+returns-in-Some-clause-again g c clean =
+    ok_then _ _ (λ j again t has. (
+    let s = c.args.state.now in
+    let k = c.in-Some.component in
+    let at : component_of s c.args.provider ≡ Some k =
+    sym c.component.ensures.value ∙ c.in-Some.is in
+    let on : component_of s k.provider ≡ Some k =
+    subst (λ (q : List ℕ). component_of s q ≡ Some k) (sym (provider_at s c.args.provider k at))
+    at in
+    ((c.in_ok-is_full.ensures.told clean t has).1, again on c.component.ensures.state)))
+    c.judge_component.result c.judge_component.ensures.again

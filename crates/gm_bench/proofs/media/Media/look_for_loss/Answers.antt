@@ -1,14 +1,14 @@
 use Rattle.std.proofs.Common.{◌∙◌, List, Err, refl, sym, ap, subst, arith}
 use Rattle.gm_registry.specs.Registry.{DiskKept}
 use Rattle.gm_state.specs.declared.intents.Intent.{Intent}
-use Rattle.gm_bench.specs.Without.{AreOfWorld, IsJudged}
+use Rattle.gm_bench.specs.Without.{AreOfWorld, IsJudged, StaysReadable}
 use Rattle.gm_bench.proofs.Causes.{fault_is}
 use Rattle.gm_bench.proofs.Found.{lead}
 use Rattle.gm_bench.proofs.TakenUp.{moved}
 use Rattle.gm_bench.proofs.media.Media.look_for_loss.Goals as goal
 
 pub returns-in_err-state-clause-unreadable : goal.returns-in_err-state-clause-unreadable
-returns-in_err-state-clause-unreadable g c clean is t s ts has of few written =
+returns-in_err-state-clause-unreadable g c clean is t s ts has of written =
     let fault = fault_is c.from_residual.result _ _ c.from_residual.ensures.1 is in
     c.in_err-state.ensures.unreadable clean (ap Err fault) t s ts has of
 
@@ -39,4 +39,16 @@ returns-clause-looked g c h clean away ts u w at =
             c.in_ok-judged.judged) are judged.0;
       },
       judged.1,
+    )
+
+pub returns-clause-loaded : goal.returns-clause-loaded
+returns-clause-loaded g c clean t has =
+    let clean1 : DiskKept g.S.Store c.load.new.self.registry =
+    omega (arith, clean, c.judge.ensures.clean) in
+    let loaded = c.in_ok-state.ensures.loaded clean1 t has in
+    let again = c.in_ok-judged.ensures.again clean t loaded.1 in (
+      loaded.0,
+      again.0,
+      subst (λ (is : List Intent). StaysReadable c.in_ok-state.state is c.in_ok-judged.judged)
+          c.deref.ensures.value again.1,
     )

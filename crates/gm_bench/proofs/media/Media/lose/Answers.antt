@@ -1,12 +1,14 @@
-use Rattle.std.proofs.Common.{◌≡◌, ◌∙◌, inl, inr, List, None, refl, sym, subst, arith}
+use Rattle.std.proofs.Common.{◌≡◌, ◌∙◌, ◌<◌, inl, inr, Err, List, None, refl, sym, ap, subst, subst₂, arith}
 use Rattle.gm_state.specs.declared.intents.Intent.{Intent}
 use Rattle.gm_registry.specs.Registry.{DiskKept}
 use Rattle.gm_registry.proofs.CallsLeave.{saved}
 use Rattle.gm_bench.specs.Losing.{dropped}
-use Rattle.gm_bench.specs.Presence.{first_absent}
+use Rattle.gm_bench.specs.Presence.{AreAtHand, first_absent}
 use Rattle.gm_bench.specs.Recovering.{LeavesOnly}
 use Rattle.gm_bench.specs.Without.{loss_call}
+use Rattle.gm_bench.proofs.Causes.{fault_is}
 use Rattle.gm_bench.proofs.LossCarried.{not_committed, at_hand, covers}
+use Rattle.gm_bench.proofs.Present.{at_hand as hand_at}
 use Rattle.gm_bench.proofs.media.Media.lose.Goals as goal
 
 pub returns-in-Some-clause-leaves : goal.returns-in-Some-clause-leaves
@@ -110,3 +112,20 @@ returns-clause-done g c h clean p away ts u w was =
     c.in_ok-number.number lawful c.commit_loss.ensures.shelf it none c.deref-2.result.now
     c.deref-2.ensures.value in
     (it.0, it.1, it.2, it.3, c.in_ok-finish.ensures.done h1 clean away u it.0 here cover)
+
+pub returns-in_err-finish-clause-disk : goal.returns-in_err-finish-clause-disk
+returns-in_err-finish-clause-disk g c readable state is =
+    let size = g.H.Shelf.size in
+    let k0 = c.args.self.now.shelf in
+    let fault = fault_is c.from_residual-in_err-finish.result _ _
+    c.from_residual-in_err-finish.ensures.1 is in
+    let none : first_absent c.args.loss.now.after (size k0) c.args.loss.now.intents.items ≡ None =
+    subst (λ (is : List Intent). first_absent c.args.loss.now.after (size k0) is ≡ None)
+    c.deref.ensures.value (sym c.first_absent.ensures ∙ c.in_default.is) in
+    let hand = hand_at c.args.loss.now.after (size k0) state c.args.loss.now.intents.items
+    readable.each none in
+    let here = subst₂ (λ (k : g.row.H.Denot) (ts : List Intent). AreAtHand (size k) ts)
+    (sym c.commit_loss.ensures.shelf) (sym c.deref-2.ensures.value) hand in
+    subst (λ (k : g.row.H.Denot). (g.H.Shelf.view k).faults
+    < (g.H.Shelf.view c.finish.new.self.shelf).faults) c.commit_loss.ensures.shelf
+    (c.in_err-finish.ensures.disk here (ap Err fault))

@@ -10,6 +10,7 @@ use Rattle.gm_changes.specs.Decides.{Decides}
 use Rattle.gm_state.specs.World.{present}
 use Rattle.gm_commands.specs.Commands.{CommandFits}
 use Rattle.gm_bench.proofs.DecidesOnly.{ok_then}
+use Rattle.gm_bench.proofs.LossRedone.{stays_behind}
 use Rattle.gm_bench.proofs.LossRules.{loss_alike, loss_state}
 use Rattle.gm_bench.proofs.media.Media.rule.Goals as goal
 
@@ -36,3 +37,9 @@ returns-clause-state g c =
     ok_then _ _ (λ r by state fits n p is. loss_state c.args.state.now c.in_ok-facts.facts n p r
     (subst (λ (x : Command). Decides c.args.state.now (seen_in c.in_ok-facts.facts) x r) is by)
     state (subst CommandFits is fits)) c.decide.result c.decide.ensures.facts
+
+pub returns-clause-again : goal.returns-clause-again
+returns-clause-again g c =
+    ok_then _ _ (λ r by k p is on fits state. stays_behind c.args.state.now c.in_ok-facts.facts k p r
+    (subst (λ (x : Command). Decides c.args.state.now (seen_in c.in_ok-facts.facts) x r) is by)
+    state on (subst CommandFits is fits)) c.decide.result c.decide.ensures.facts

@@ -1,14 +1,15 @@
-use Rattle.std.proofs.Common.{rules, ◌≡◌, ◌∙◌, inl, inr, List, Some, Err, refl, length, sym, ap, subst, arith}
+use Rattle.std.proofs.Common.{rules, ◌≡◌, ◌∙◌, ◌<◌, inl, inr, List, Some, Err, refl, length, sym, ap, subst, arith}
 use Rattle.gm_metadata.specs.Images.{Image}
 use Rattle.gm_state.specs.World.{World}
 use Rattle.gm_state.specs.declared.intents.Intent.{Intent}
 use Rattle.gm_registry.specs.Registry.{DiskKept}
+use Rattle.gm_rows.specs.ReadableTables.{AreTablesOf}
 use Rattle.gm_registry.proofs.CallsLeave.{saved}
 use Rattle.gm_bench.specs.declared.loss.Judged.{Judged}
 use Rattle.gm_bench.specs.declared.loss.Loss.{Loss}
 use Rattle.gm_bench.specs.Losing.{dropped}
 use Rattle.gm_bench.specs.Recovering.{IsFound}
-use Rattle.gm_bench.specs.Without.{HasJudged, IsJudged, LeavesOpened, loss_call}
+use Rattle.gm_bench.specs.Without.{HasJudged, IsJudged, LeavesOpened, StaysReadable, loss_call}
 use Rattle.gm_bench.proofs.LossCarried.{lost_behind, nothing_opened}
 use Rattle.gm_bench.proofs.TakenUp.{absent_back, leaves_back, moments_back, moved}
 use Rattle.gm_bench.proofs.Causes.{fault_is}
@@ -309,3 +310,45 @@ returns-in-Kept-clause-undone g c h clean =
           c.deref.result.now are c.check_and_finish.new.self.shelf
           (c.check_and_finish.ensures.moments h1 away u w found was.state),
     )))
+
+pub returns-in_err-check_and_finish-in-Kept-clause-disk :
+    goal.returns-in_err-check_and_finish-in-Kept-clause-disk
+returns-in_err-check_and_finish-in-Kept-clause-disk g c clean t has is =
+    let clean1 : DiskKept g.S.Store c.look_for_loss.new.self.registry =
+    omega (arith, clean, c.check_and_finish.ensures.keep.clean) in
+    let fault = fault_is c.from_residual-in_err-check_and_finish-in-Kept.result _ _
+    c.from_residual-in_err-check_and_finish-in-Kept.ensures.1 is in
+    let loaded = c.in_ok-looked.ensures.loaded clean1 t has in
+    let of = subst (λ (ts : List Intent). AreTablesOf t c.in_ok-looked.looked.state ts)
+    (sym c.deref.ensures.value) loaded.0 in
+    subst (λ (k : g.row.H.Denot). (g.H.Shelf.view k).faults
+    < (g.H.Shelf.view c.check_and_finish.new.self.shelf).faults) c.look_for_loss.ensures.shelf
+    (c.in_err-check_and_finish-in-Kept.ensures.disk t of (ap Err fault))
+
+pub returns-in_err-number-in-New-clause-disk : goal.returns-in_err-number-in-New-clause-disk
+returns-in_err-number-in-New-clause-disk g c clean t has is =
+    let clean1 : DiskKept g.S.Store c.look_for_loss.new.self.registry =
+    omega (arith, clean, c.lose.ensures.keep.clean) in
+    let fault = fault_is c.from_residual-in_err-number-in-New.result _ _
+    c.from_residual-in_err-number-in-New.ensures.1 is in
+    let loaded = c.in_ok-looked.ensures.loaded clean1 t has in
+    let again = subst (λ (j : Judged). StaysReadable c.in_ok-looked.looked.state
+    c.in_ok-looked.looked.intents.items j) c.in-New.is loaded.2 loaded.0.readable in
+    subst (λ (k : g.row.H.Denot). (g.H.Shelf.view k).faults
+    < (g.H.Shelf.view c.lose.new.self.shelf).faults) c.look_for_loss.ensures.shelf
+    (c.in_err-number-in-New.ensures.disk again.1 again.0 (ap Err fault))
+
+pub returns-in_err-number-in-New-clause-unreadable :
+    goal.returns-in_err-number-in-New-clause-unreadable
+returns-in_err-number-in-New-clause-unreadable g c clean is t s ts has of written =
+    let clean1 : DiskKept g.S.Store c.look_for_loss.new.self.registry =
+    omega (arith, clean, c.lose.ensures.keep.clean) in
+    let fault = fault_is c.from_residual-in_err-number-in-New.result _ _
+    c.from_residual-in_err-number-in-New.ensures.1 is in
+    c.in_err-number-in-New.ensures.readable clean (ap Err fault) t
+    (c.in_ok-looked.ensures.loaded clean1 t has).1 of.count
+
+pub returns-in_err-looked-clause-unreadable : goal.returns-in_err-looked-clause-unreadable
+returns-in_err-looked-clause-unreadable g c clean is t s ts has of written =
+    let fault = fault_is c.from_residual.result _ _ c.from_residual.ensures.1 is in
+    c.in_err-looked.ensures.unreadable clean (ap Err fault) t s ts has of written
