@@ -155,6 +155,29 @@ head -c 512 /dev/zero >"$bench/images/b.img"
 at_bench recover
 expect 'a recovery with another image in its place' 0 'recovered 2' ''
 
+# There is room for 100,000 commands, of which a loss is one.
+for accepted in 100000 99999; do
+    command -v sqlite3 >/dev/null || {
+        skip 'a loss beside 100,000 commands' 'there is no sqlite3'
+        break
+    }
+    fresh_bench "accepted-$accepted"
+    put_far_image "$bench/images/b.img"
+    batch "$label$insert"
+    stop_at 'k3 deactivate gm0 b.img'
+    put_accepted 3 $accepted
+    take_away b.img
+    if [ $accepted = 100000 ]; then
+        expect_refused 'a loss for which there is no room' b.img k4 'k4 refused 4'
+        expect_refused 'the same under a key that is taken' b.img k1 'k1 refused 3'
+    else
+        at_bench recover --without b.img --key k4
+        expect 'a loss that is the last command' 0 "$(lines 'k4 ok 100000\nrecovered 2')" ''
+        at_bench recover --without b.img --key k4
+        expect 'the last command again' 0 "$(lines 'k4 repeated 100000\nrecovered 0')" ''
+    fi
+done
+
 # A genid that can't rise.
 fresh_bench last-genid
 put_told a.img 3 x all=2 did=1 genid=4294967295

@@ -31,6 +31,13 @@ stopped_copy() {
     sqlite3 "$registry" "INSERT INTO intents VALUES (1, 3, 'b.img', 'a.img', 0, 3), (2, 1, 'b.img', '', 0, 0)"
 }
 
+# Writes into the registry of that bench, by SQLite's own command line, commands that were accepted behind so many, up to as
+# many in all.
+put_accepted() {
+    sqlite3 "$registry" "WITH RECURSIVE numbers(n) AS (SELECT $1 + 1 UNION ALL SELECT n + 1 FROM numbers WHERE n < $2)
+        INSERT INTO commands SELECT 'n' || n, n, 'forget gm9', 0, 0 FROM numbers"
+}
+
 # Whether the images of that bench have their data still, and these last sectors.
 expect_images() {
     put_image "$work/wanted-a" a "$2"

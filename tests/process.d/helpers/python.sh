@@ -8,11 +8,11 @@ has_python() {
     return 1
 }
 
-# Runs a script of tests with these words, and counts its lines.
+# Runs a script of tests with these words, and counts its lines. What scripts share it finds among the helpers.
 run_script() {
     script=$1
     shift
-    python3 -B "$tests/$script" "$@" >"$work/told" 2>&1 || echo "failed $script: it ended with $?" >>"$work/told"
+    PYTHONPATH=$helpers python3 -B "$tests/$script" "$@" >"$work/told" 2>&1 || echo "failed $script: it ended with $?" >>"$work/told"
     cat "$work/told"
     passed=$((passed + $(grep -c '^ok ' "$work/told")))
     failed=$((failed + $(grep -vc '^ok \|^skipped ' "$work/told")))

@@ -47,6 +47,24 @@ k5 forget gm0|k5 ok 5
 k6 insert --did 99 gm0 c02.img|k6 ok 6
 END
 
+# There is room for 100,000 commands. One that was accepted before is answered still.
+if command -v sqlite3 >/dev/null; then
+    fresh_bench commands
+    batch "$label"
+    put_accepted 1 99999
+    expect_list 'there is room for 100,000 commands, and no more' 1 <<'END'
+k2 insert --did 2 gm0 b.img|k2 ok 100000
+k3 advance gm0 b.img|k3 refused 4
+k/3 advance gm0 b.img|? refused 2
+k1 destroy gm0|k1 refused 3
+k3 destroy gm9|k3 refused 4
+k2 insert --did 2 gm0 b.img|k2 repeated 100000
+n99999 forget gm9|n99999 repeated 99999
+END
+else
+    skip 'a registry of 100,000 commands' 'there is no sqlite3'
+fi
+
 # Images of one sector more than there may be, of just as many, and of one. Some carry metadata as well.
 put_sized() {
     rm -f "$bench/images/$1"

@@ -14,7 +14,7 @@ if has_python 'a thousand images with 64 descriptors'; then
     bench=$work/crowd
     registry=$bench/registry
     mkdir "$bench" "$bench/images"
-    python3 -B "$tests/resources/many_images.py" "$bench/images" "$tests/hostile" >"$work/lines"
+    python3 -B "$tests/resources/many_images.py" "$bench/images" "$helpers" >"$work/lines"
     at_the_bench="--registry $registry --shelf $bench/images"
     with_few_descriptors batch $at_the_bench <"$work/lines"
     expect 'a batch over 1,024 images with 64 descriptors' 0 \

@@ -1,0 +1,206 @@
+"""Each command, stopped before each of its writes and syncs, and then each image lost for good.
+
+    lost_images.py PROGRAM PRELOADED FOLDER
+
+What `recover --without` answers and leaves is held against a plain reading of the registry and of the rules. Then that call
+is stopped itself, at each of its writes and syncs: the next opening and the same call again lead to the same.
+"""
+
+import os
+import shutil
+import subprocess
+import sys
+
+from plain_bench import Records, lose, refusals_of_loss
+
+program, preloaded, work = sys.argv[1:4]
+bench = os.path.join(work, "bench")
+images, registry = os.path.join(bench, "images"), os.path.join(bench, "registry")
+scratch, count_file = os.path.join(work, "scratch"), os.path.join(work, "count")
+NAMES = ["a.img", "b.img", "c.img", "d.img", "e.img", "f.img"]
+KEY = "z1"
+GONE = "F5 absent"
+
+# gm0 with two images that have the data and one that lacks some, gm1 with two that have the data, and d.img beside them.
+FILLED = [
+    "label --mid 7 --did 1 gm0 a.img", "insert --did 2 gm0 b.img", "advance gm0 b.img",
+    "insert --did 3 --priority 4 gm0 c.img", "label --mid 8 --did 1 --hardcode on gm1 e.img",
+    "insert --did 2 gm1 f.img", "advance gm1 f.img",
+]
+# For each command the lines before it, and the images that it names or that its mirror has.
+COMMANDS = [
+    ("label --mid 9 --did 1 gm9 d.img", FILLED, "abd"),
+    ("insert --did 4 gm0 d.img", FILLED, "abcd"),
+    ("remove gm0 b.img", FILLED, "abc"),
+    ("deactivate gm0 b.img", FILLED, "abc"),
+    ("activate gm0 b.img", FILLED + ["deactivate gm0 b.img"], "abc"),
+    ("forget gm0", FILLED + ["lost gm0 c.img"], "abc"),
+    ("rebuild gm0 b.img", FILLED, "abc"),
+    ("configure --balance prefer --priority 9 --prov b.img gm0", FILLED, "abc"),
+    ("clear d.img", FILLED + ["insert --did 4 gm0 d.img", "lost gm0 d.img"], "abd"),
+    ("destroy gm0", FILLED, "abc"),
+    ("lost gm0 b.img", FILLED, "abc"),
+    ("advance gm0 c.img", FILLED, "abc"),
+    ("adopt gm0 a.img b.img c.img", None, "abc"),
+]
+counts = {"benches": 0, "done": 0, "refused": 0, "stops": 0}
+wrong = []
+
+
+def run(words, lines=b"", **more):
+    words = [program, words[0], "--registry", registry, "--shelf", images, *words[1:]]
+    environment = {**os.environ, "LD_PRELOAD": preloaded, **more}
+    done = subprocess.run(words, input=lines, capture_output=True, timeout=30, env=environment)
+    return done.returncode, done.stdout.decode(), done.stderr.decode()
+
+
+def give_up(provider, **more):
+    return run(["recover", "--without", provider, "--key", KEY], **more)
+
+
+def calls_of(act, within):
+    """How many writes and syncs of files whose path begins so an act makes."""
+    act(STOPPED=within, COUNT=count_file)
+    with open(count_file, encoding="ascii") as file:
+        return int(file.read())
+
+
+def keep(name):
+    shutil.rmtree(os.path.join(work, name), ignore_errors=True)
+    shutil.copytree(bench, os.path.join(work, name))
+
+
+def put_back(name):
+    shutil.rmtree(bench, ignore_errors=True)
+    shutil.copytree(os.path.join(work, name), bench)
+
+
+def contents():
+    found = {}
+    for name in sorted(os.listdir(images)):
+        with open(os.path.join(images, name), "rb") as file:
+            found[name] = bytearray(file.read())
+    return found
+
+
+def records():
+    return Records(registry, scratch)
+
+
+def put_before(lines):
+    """A bench behind these lines; behind none, the images of FILLED without their registry."""
+    shutil.rmtree(bench, ignore_errors=True)
+    os.makedirs(images)
+    for name in NAMES:
+        with open(os.path.join(images, name), "wb") as file:
+            file.write(name[:1].encode() * 3 * 512 + bytes(512))
+    text = "".join(f"k{number} {line}\n" for number, line in enumerate(lines or FILLED))
+    ended = run(["batch"], text.encode())
+    assert ended[0] == 0, ended
+    if lines is None:
+        for end in ("", "-wal"):
+            if os.path.exists(registry + end):
+                os.remove(registry + end)
+
+
+def check(title, found, wanted):
+    if found != wanted:
+        wrong.append(f"{title}: {found!r}, and not {wanted!r}"[:600])
+    return found == wanted
+
+
+def check_bench(title, wanted, wanted_images):
+    """Whether the registry and the images are these."""
+    check(f"{title}: registry", records().rows(), wanted.rows())
+    found = contents()
+    for name in sorted(found.keys() | wanted_images.keys()):
+        if found.get(name) != wanted_images.get(name):
+            wrong.append(f"{title}: {name} is another")
+
+
+def refused(title, provider, least, pending):
+    """An image that isn't given up: nothing is written, and once it is there again what was pending is carried out."""
+    counts["refused"] += 1
+    before = records().rows(), contents()
+    check(title, give_up(provider), (1, f"{KEY} refused {least}\n", ""))
+    check(f"{title}: nothing is written", (records().rows(), contents()), before)
+    put_back("stopped")
+    check(f"{title}: it is there again", run(["recover"]), (0, f"recovered {pending}\n", ""))
+
+
+def given_up(title, provider, wanted, wanted_images, number, pending):
+    """An image that is given up: the answer, the registry and the images, what the next openings do."""
+    counts["done"] += 1
+    check(title, give_up(provider), (0, f"{KEY} ok {number}\nrecovered {pending}\n", ""))
+    check_bench(title, wanted, wanted_images)
+    check(f"{title}: an opening", run(["recover"]), (0, "recovered 0\n", ""))
+    check(f"{title}: again", give_up(provider), (0, f"{KEY} repeated {number}\nrecovered 0\n", ""))
+    check_bench(f"{title}: again", wanted, wanted_images)
+
+
+def stopped_within(title, provider, wanted, wanted_images, number):
+    """The same stopped at each of its writes and syncs, to registry and images, then an opening, then the same again."""
+    total = calls_of(lambda **more: give_up(provider, **more), bench + "/")
+    for call in range(1, total + 1):
+        counts["stops"] += 1
+        at = f"{title}, stopped at call {call} of {total}"
+        put_back("lost")
+        status, told, complaint = give_up(provider, STOPPED=bench + "/", STOP=str(call))
+        was_told = f"{KEY} ok {number}\n" in told
+        if status != 3 and not was_told:
+            wrong.append(f"{at}: status {status}, {told!r}, {complaint!r}")
+        status, _, complaint = run(["recover"])
+        if status != 0 and (was_told or GONE not in complaint):
+            wrong.append(f"{at}: the next opening ends with {status}, {complaint!r}")
+        status, told, complaint = give_up(provider)
+        answers = [f"{KEY} repeated {number}\n"] + ([] if was_told else [f"{KEY} ok {number}\n"])
+        if status != 0 or not told.startswith(tuple(answers)):
+            wrong.append(f"{at}: again it ends with {status}, {told!r}, {complaint!r}")
+        check_bench(at, wanted, wanted_images)
+
+
+def lose_each(command, first, named):
+    """A bench that was stopped: each image is lost, one at a time."""
+    for provider in NAMES:
+        put_back("stopped")
+        os.remove(os.path.join(images, provider))
+        keep("lost")
+        counts["benches"] += 1
+        title = f"'{command}', stopped at call {first}, without {provider}"
+        wanted, wanted_images = records(), contents()
+        pending = len(wanted.intents)
+        numbers = refusals_of_loss(wanted, provider, {name: len(image) for name, image in wanted_images.items()})
+        if numbers:
+            refused(title, provider, min(numbers), pending)
+            continue
+        number = lose(wanted, provider, KEY)
+        wanted.carry_out(wanted_images)
+        given_up(title, provider, wanted, wanted_images, number, pending)
+        if first == 1 and provider[0] in named:
+            put_back("lost")
+            stopped_within(title, provider, wanted, wanted_images, number)
+
+
+def try_command(command, lines, named):
+    """A command that is stopped before each write and sync of an image, behind its acceptance."""
+    put_before(lines)
+    keep("before")
+    line = f"p1 {command}\n".encode()
+    total = calls_of(lambda **more: run(["batch"], line, **more), images + "/")
+    for first in range(1, total + 1):
+        put_back("before")
+        stopped = run(["batch"], line, STOPPED=images + "/", STOP=str(first))
+        check(f"'{command}', stopped at call {first}", stopped, (3, "p1 fault 3\n", "gmbench: F3 disk\n"))
+        keep("stopped")
+        lose_each(command, first, named)
+    if total == 0:
+        wrong.append(f"'{command}' wrote nothing")
+
+
+for words, before, letters in COMMANDS:
+    try_command(words, before, letters)
+    told = ", ".join(f"{number} {kind}" for kind, number in counts.items())
+    name = f"an image lost while something is pending: {words.split()[0]} ({told})"
+    print(f"failed {name}: {len(wrong)} times, the first: {wrong[0]}" if wrong else f"ok {name}", flush=True)
+    counts = dict.fromkeys(counts, 0)
+    wrong = []
