@@ -2,6 +2,7 @@
 
 import sys
 
+from bodies import EMPTY, LABEL, MIRROR, SECTOR, STATUS
 from client import ask, check, post, response
 
 port = int(sys.argv[1])
@@ -11,18 +12,6 @@ def get(target, method="GET"):
     return ask(port, [f"{method} {target} HTTP/1.1\r\nHost: here\r\n\r\n".encode()])
 
 
-LABEL = '{"key":"k1","words":["label","--mid","7","--did","1","gm0","a.img"]}'
-EMPTY = '{"mirrors":[]}'
-STATUS = '{"mirrors":[{"components":[{"name":"a.img","state":"ACTIVE"}],"name":"gm0","state":"COMPLETE"}]}'
-MIRROR = (
-    '{"all":1,"balance":"load","components":[{"did":1,"flags":0,"hardcoded":false,"name":"a.img",'
-    '"offset":0,"priority":0,"provsize":2048,"state":"ACTIVE","syncid":1}],"flags":0,"genid":0,'
-    '"mediasize":1536,"mid":7,"name":"gm0","slice":4096,"state":"COMPLETE","syncid":1}'
-)
-SECTOR = (
-    '{"all":1,"balance":"load","dflags":0,"did":1,"genid":0,"mediasize":1536,"mflags":0,"mid":7,'
-    '"name":"gm0","priority":0,"provider":"","provsize":2048,"slice":4096,"sync_offset":0,"syncid":1}'
-)
 TWO = (
     '{"mirrors":[{"components":[{"name":"a.img","state":"ACTIVE"},{"name":"b.img",'
     '"state":"SYNCHRONIZING"}],"name":"gm0","state":"DEGRADED"}]}'

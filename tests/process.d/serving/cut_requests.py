@@ -1,13 +1,16 @@
 """Requests that are cut behind each byte, and of which each read and each write of the server fails once.
 
-    row_requests.py PROGRAM PRELOADED FOLDER
+    cut_requests.py PROGRAM PRELOADED FOLDER
 """
 
 import os
 import shutil
-import socket
 import subprocess
 import sys
+
+import client
+from bodies import EMPTY, LABEL, MIRROR, SECTOR, STATUS
+from client import post, response
 
 program, preloaded, work = sys.argv[1:4]
 bench = os.path.join(work, "bench")
@@ -15,38 +18,20 @@ images, registry = os.path.join(bench, "images"), os.path.join(bench, "registry"
 count_file = os.path.join(work, "count")
 counts = {"cuts": 0, "reads": 0, "writes": 0}
 wrong = []
-BODY = '{"key":"k1","words":["label","--mid","7","--did","1","gm0","a.img"]}'
-STATUS = '{"mirrors":[{"components":[{"name":"a.img","state":"ACTIVE"}],"name":"gm0","state":"COMPLETE"}]}'
-MIRROR = (
-    '{"all":1,"balance":"load","components":[{"did":1,"flags":0,"hardcoded":false,"name":"a.img",'
-    '"offset":0,"priority":0,"provsize":2048,"state":"ACTIVE","syncid":1}],"flags":0,"genid":0,'
-    '"mediasize":1536,"mid":7,"name":"gm0","slice":4096,"state":"COMPLETE","syncid":1}'
-)
-SECTOR = (
-    '{"all":1,"balance":"load","dflags":0,"did":1,"genid":0,"mediasize":1536,"mflags":0,"mid":7,'
-    '"name":"gm0","priority":0,"provider":"","provsize":2048,"slice":4096,"sync_offset":0,"syncid":1}'
-)
 
 
 def get(target):
     return f"GET {target} HTTP/1.1\r\nHost: here\r\n\r\n".encode()
 
 
-def response(status, body):
-    head = f"HTTP/1.1 {status}\r\nContent-Type: application/json\r\nContent-Length: {len(body)}\r\nConnection: close\r\n\r\n"
-    return (head + body).encode()
-
-
-LABEL = f"POST /commands HTTP/1.1\r\nContent-Length: {len(BODY)}\r\n\r\n{BODY}".encode()
-DONE = response("200 OK", '{"answer":"ok","seq":1}')
-AGAIN = response("200 OK", '{"answer":"repeated","seq":1}')
-BAD = response("400 Bad Request", '{"error":"bad request"}')
-EMPTY = response("200 OK", '{"mirrors":[]}')
+ASKED = post(LABEL)
+DONE, AGAIN = response(200, '{"answer":"ok","seq":1}'), response(200, '{"answer":"repeated","seq":1}')
+BAD, NONE = response(400), response(200, EMPTY)
 # What the mirror is asked for, and what it is answered.
 LOOKS = [
-    (get("/status"), response("200 OK", STATUS)),
-    (get("/mirrors/gm0"), response("200 OK", MIRROR)),
-    (get("/providers/a.img/metadata"), response("200 OK", SECTOR)),
+    (get("/status"), response(200, STATUS)),
+    (get("/mirrors/gm0"), response(200, MIRROR)),
+    (get("/providers/a.img/metadata"), response(200, SECTOR)),
 ]
 
 
@@ -57,21 +42,15 @@ def put(labelled):
         with open(os.path.join(images, name), "wb") as file:
             file.write(name[:1].encode() * 1536 + bytes(512))
     if labelled:
-        serve([LABEL])
+        serve([ASKED])
 
 
 def ask(port, request):
-    answer = b""
     try:
-        with socket.create_connection(("127.0.0.1", port), timeout=20) as connection:
-            connection.sendall(request)
-            connection.shutdown(socket.SHUT_WR)
-            while some := connection.recv(65536):
-                answer += some
+        return client.ask(port, [request])
     except OSError:
-        # it was broken: what came until then tells
-        pass
-    return answer
+        # the connection was broken
+        return b""
 
 
 def serve(requests, **more):
@@ -96,37 +75,39 @@ def cut(title, request, answer, labelled):
     put(labelled)
     pieces = [request[:behind] for behind in range(len(request))]
     counts["cuts"] += len(pieces)
-    looked = [get("/status")] if not labelled else []
+    looked = [] if labelled else [get("/status")]
     found, ended = serve([*pieces, *looked, request])
     check(f"{title}, cut", found[: len(pieces)], [BAD] * len(pieces))
-    check(f"{title}, behind those that were cut", found[len(pieces) :], [*([EMPTY] if looked else []), answer])
+    check(f"{title}, behind those that were cut", found[len(pieces) :], [*([NONE] if looked else []), answer])
     check(f"{title}, cut: the server's end", ended, (0, b""))
+
+
+def calls_of(request):
+    """How many reads a connection with this request takes, and how many writes, with the one that says where it listens."""
+    serve([request], PIECE="32", COUNT=count_file)
+    with open(count_file, encoding="ascii") as file:
+        return [int(number) for number in file.read().split()]
 
 
 def fail(title, request, answer, again, labelled):
     """Each read and each write of the connection fails once: the next connection is answered as ever."""
     put(labelled)
-    serve([request], PIECE="32", COUNT=count_file)
-    with open(count_file, encoding="ascii") as file:
-        reads, writes = [int(number) for number in file.read().split()]
-    # the first write says where the server listens
+    reads, writes = calls_of(request)
     for kind, first, last in [("READ", 1, reads), ("WRITE", 2, writes)]:
         for number in range(first, last + 1):
             counts[f"{kind.lower()}s"] += 1
             put(labelled)
             at = f"{title}, {kind.lower()} {number} of {last} fails"
             found, ended = serve([request, request], PIECE="32", **{f"FAIL_{kind}": str(number)})
-            if not answer.startswith(found[0]) or found[0] == answer and kind == "WRITE" and number < last:
-                wrong.append(f"{at}: {found[0]!r}")
-            check(f"{at}: behind it", found[1] in (answer, again), True)
-            if kind == "WRITE":
-                # it was done before
-                check(f"{at}: behind it", found[1], again)
+            check(f"{at}: a beginning", answer.startswith(found[0]), True)
+            # a request whose answer can't be written was carried out
+            wanted = again if kind == "WRITE" or found[0] == answer else answer
+            check(f"{at}: behind it", found[1], wanted)
             check(f"{at}: the server's end", ended, (0, b""))
 
 
-cut("a label", LABEL, DONE, False)
-fail("a label", LABEL, DONE, AGAIN, False)
+cut("a label", ASKED, DONE, False)
+fail("a label", ASKED, DONE, AGAIN, False)
 for asked, told in LOOKS:
     name = asked.split()[1].decode()
     cut(name, asked, told, True)
