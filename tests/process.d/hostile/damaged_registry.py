@@ -2,11 +2,13 @@
 
     damaged_registry.py PROGRAM BENCH STRIDE NAME
 
-STRIDE is how many bytes stand between two that are changed, each in a run of its own. NAME is said of the bench.
+STRIDE is how many bytes stand between two that are changed, each in a run of its own. NAME is said of the bench. An image may
+change where SQLite finds a write of it that is pending.
 """
 
 import os
 import random
+import re
 import shutil
 import sqlite3
 import subprocess
@@ -15,7 +17,7 @@ import sys
 program, bench, stride, title = sys.argv[1], sys.argv[2], int(sys.argv[3]), sys.argv[4]
 rng = random.Random(77)
 registry, images = os.path.join(bench, "registry"), os.path.join(bench, "images")
-FAULTS = [b"gmbench: F2 store\n", b"gmbench: F6 registry unreadable\n"]
+FAULTS = {b"gmbench: F2 store\n": "F2", b"gmbench: F6 registry unreadable\n": "F6"}
 BALANCES = ["none", "round-robin", "load", "split", "prefer"]
 
 
@@ -72,18 +74,28 @@ def listed(mirror, components):
     return "".join(f"{line}\n" for line in lines)
 
 
-def by_sqlite(content):
-    """What a list would say of the rows that SQLite finds; None where it finds none, for whatever reason."""
+def list_of(connection):
+    """What a list would say of the rows."""
+    mirrors = connection.execute("SELECT * FROM mirrors ORDER BY name").fetchall()
+    rows = connection.execute("SELECT * FROM components ORDER BY prov").fetchall()
+    blocks = [listed(it, [row for row in rows if row["mirror"] == it["name"]]) for it in mirrors]
+    return "\n".join(blocks).encode() or b"no mirrors\n"
+
+
+def pending_in(connection):
+    """The images of which a write is pending by the rows."""
+    return {row["prov"] for row in connection.execute("SELECT prov FROM intents").fetchall()}
+
+
+def by_sqlite(content, question):
+    """What is answered of the rows that SQLite finds; None where it finds none, for whatever reason."""
     copy = os.path.join(bench, "copy")
     with open(copy, "wb") as file:
         file.write(content)
     try:
         with sqlite3.connect(copy) as connection:
             connection.row_factory = sqlite3.Row
-            mirrors = connection.execute("SELECT * FROM mirrors ORDER BY name").fetchall()
-            rows = connection.execute("SELECT * FROM components ORDER BY prov").fetchall()
-        blocks = [listed(it, [row for row in rows if row["mirror"] == it["name"]]) for it in mirrors]
-        return "\n".join(blocks).encode() or b"no mirrors\n"
+            return question(connection)
     except (sqlite3.Error, IndexError, UnicodeError, TypeError):
         return None
     finally:
@@ -98,11 +110,24 @@ def run(command):
     return subprocess.run(words, stdin=subprocess.DEVNULL, capture_output=True, timeout=30)
 
 
-counts = {"F2": 0, "F6": 0, "taken": 0, "taken, and SQLite reads none": 0}
+counts = {"F2": 0, "F5": 0, "F6": 0, "taken": 0, "taken, and SQLite reads none": 0}
 
 
 def images_changed():
-    return [name for name, content in kept.items() if read(os.path.join(images, name)) != content]
+    """The images that have changed since, which are put back."""
+    found = [name for name, content in kept.items() if read(os.path.join(images, name)) != content]
+    if found:
+        put_images_back()
+    return found
+
+
+def fault_of(done):
+    """The fault with which a run ended, and nothing else; None where it ended otherwise."""
+    if done.returncode != 3 or done.stdout:
+        return None
+    if re.fullmatch(rb"gmbench: F5 absent [A-Za-z0-9._-]{1,15}\n", done.stderr):
+        return "F5"
+    return FAULTS.get(done.stderr)
 
 
 def open_it(content, command):
@@ -111,20 +136,20 @@ def open_it(content, command):
     done = run(command)
     told = f"status {done.returncode}, {done.stdout[:200]!r}, {done.stderr[:100]!r}"
     changed = images_changed()
-    if changed:
-        put_images_back()
+    fault = fault_of(done)
+    if changed and (fault or not set(changed) <= (by_sqlite(content, pending_in) or set())):
         return f"{changed} changed: {told}"
-    if done.returncode == 3 and done.stderr in FAULTS and done.stdout == b"":
-        counts["F2" if done.stderr == FAULTS[0] else "F6"] += 1
+    if fault:
+        counts[fault] += 1
         return None
     if done.returncode != 0 or done.stderr:
         return told
     counts["taken"] += 1
     if command == "recover":
-        return None if done.stdout == b"recovered 0\n" else told
+        return None if re.fullmatch(rb"recovered [0-9]+\n", done.stdout) else told
     if command == "status":
         return None
-    wanted = by_sqlite(content)
+    wanted = by_sqlite(content, list_of)
     if wanted is None:
         counts["taken, and SQLite reads none"] += 1
         return None
@@ -169,8 +194,9 @@ def cuts():
         yield f"cut at {at}", sound[:at]
 
 
-if run("list").stdout != by_sqlite(sound):
+if run("list").stdout != by_sqlite(sound, list_of):
     print(f"failed {title}: a registry that is sound isn't what SQLite reads")
+put_images_back()
 try_all("a byte that is another", changed_bytes())
 try_all("pages that are gone, zeros, or another", lost_pages())
 try_all("a file that is cut at each 512 bytes", cuts())

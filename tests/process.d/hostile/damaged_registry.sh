@@ -3,8 +3,9 @@
 
 # ---- a registry of which bytes are others, pages are gone, or the end is
 
-# It has a mirror of two components that is filled, with nothing pending. Whatever is done to its file, an opening ends with
-# F2 or F6, or well and with the records that SQLite reads there; no image is changed.
+# It has a mirror of two components that is filled, with nothing pending; or one of which a component is to be taken out.
+# Whatever is done to its file, an opening ends with F2, F5 or F6, or well and with the records that SQLite reads there; no image
+# is changed but by a write that SQLite finds to be pending.
 case ${HOSTILE:-some} in
     all) stride=1 ;;
     *) stride=97 ;;
@@ -14,6 +15,8 @@ if has_python 'registries that are damaged'; then
         fresh_bench damaged
         batch "$label${insert}k3 advance gm0 b.img\n"
         run_script hostile/damaged_registry.py "$gmbench" "$bench" $stride 'a registry'
+        stopped_remove damaged-pending
+        run_script hostile/damaged_registry.py "$gmbench" "$bench" $stride 'a registry with something pending'
     else
         skip 'registries that are damaged' "there is no SQLite for python3 here"
     fi
