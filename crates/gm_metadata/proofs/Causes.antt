@@ -1,5 +1,5 @@
 -- The fault of a sector is the first that stands in it.
-use Rattle.std.proofs.Common.{◌≡◌, ◌≢◌, ◌∙◌, ◌<◌, ◌≤◌, ◌+◌, ◌⊎◌, ℕ, Bool, true, false, not, nat_lt, ◌==◌, refl, sym, ap, subst, arith, List, length, drop, slice_index, true≢false, inl, inr, lit≤, Result, Ok, Err, if◌then◌else◌}
+use Rattle.std.proofs.Common.{◌≡◌, ◌≢◌, ◌∙◌, ◌<◌, ◌≤◌, ◌+◌, ◌⊎◌, ℕ, Bool, true, false, not, nat_lt, ◌==◌, refl, sym, ap, subst, arith, List, length, drop, slice_index, true≢false, inl, inr, lit≤, Option, Some, None, Result, Ok, Err, if◌then◌else◌}
 use Rattle.std.specs.Prelude.{IfErr}
 use Rattle.std.proofs.lemmas.List.{length-take-le, length-drop}
 use Rattle.std.proofs.lemmas.Bool.Decides.{nat_tests, eqb_tells, not_from_Decides}
@@ -8,13 +8,16 @@ use Rattle.std.proofs.lemmas.Slice.Eq.{bytes_eq-Decides}
 use Rattle.std.specs.Str.{bytes_eq}
 use Rattle.gm_metadata.specs.Faults.{fault_number}
 use Rattle.gm_metadata.specs.Labels.{is_label_field}
-use Rattle.gm_metadata.specs.Reading.{is_provider_field, has_hash, settings_of, with_settings, decode_of}
-use Rattle.gm_metadata.specs.Sector.{bytes_at, number_at, carries, HoldsLabel, Stands, Cause}
+use Rattle.gm_metadata.specs.Reading.{is_provider_field, version_in, has_hash, settings_of, with_settings, said_in, with_version, read_as, reading_of, said, decode_of}
+use Rattle.gm_metadata.specs.Sector.{bytes_at, number_at, carries, HoldsLabel, IsOf, WrongHash, WrongFlags, Stands, Cause}
+use Rattle.gm_metadata.specs.Versions.{version_number, version_numbered, fields_end, mirror_flags_end}
 use Rattle.gm_metadata.specs.declared.metadata.Metadata.{Metadata}
+use Rattle.gm_metadata.specs.declared.decoding.Reading.{Reading}
 use Rattle.gm_metadata.specs.declared.decoding.Settings.{Settings}
+use Rattle.gm_metadata.specs.declared.version.Version as versions
 use Rattle.gm_metadata.specs.declared.fault.DecodeFault.{DecodeFault}
 use Rattle.gm_metadata.specs.declared.fault.DecodeFault.TheVariants.{Magic, Version, Hash, Name, Provider, Balance, Flags, SectorSize}
-use Rattle.gm_metadata.proofs.Read.{Passes, passes}
+use Rattle.gm_metadata.proofs.Read.{Passes, passes, number_named, version_is_number}
 use Rattle.gm_metadata.proofs.Values.{holds_label, passes_where_held, no_provider, some_provider}
 
 -- the fault with this number
@@ -73,10 +76,22 @@ step : {A : Type 0} (C : DecodeFault → Type 0) (t : Bool) (e : DecodeFault)
 step C true e r fails holds = holds refl
 step C false e r fails holds = fails refl
 
-inside : (C : DecodeFault → Type 0) (r : Result Settings DecodeFault) (x : List ℕ) → IfErr r C
-    → IfErr (with_settings r x) C
-inside C (Ok s) x told = tt
-inside C (Err e) x told = told
+inside : (C : DecodeFault → Type 0) (v : versions.Version) (r : Result Settings DecodeFault)
+    (x : List ℕ) → IfErr r C → IfErr (with_settings v r x) C
+inside C v (Ok s) x told = tt
+inside C v (Err e) x told = told
+
+inside_version : (C : DecodeFault → Type 0) (v : versions.Version)
+    (r : Result Metadata DecodeFault) → IfErr r C → IfErr (with_version v r) C
+inside_version C v (Ok m) told = tt
+inside_version C v (Err e) told = told
+
+-- the version that the sector names is known, or it is none
+by_version : (C : DecodeFault → Type 0) (o : Option versions.Version) (x : List ℕ)
+    → (o ≡ None → C Version) → ((v : versions.Version) → o ≡ Some v → IfErr (said_in v x) C)
+    → IfErr (read_as o x) C
+by_version C None x fails holds = fails refl
+by_version C (Some v) x fails holds = inside_version C v (said_in v x) (holds v refl)
 
 bytes_differ : (a b : List ℕ) → bytes_eq a b ≡ false → a ≢ b
 bytes_differ a b e = not_from_Decides (bytes_eq a b) (bytes_eq-Decides a b) e
@@ -103,38 +118,66 @@ no_name : (x : List ℕ) → is_label_field (bytes_at 20 16 x) ≡ false → Hol
     → ⊥
 no_name x e held = true≢false (sym (passes_where_held _ held) ∙ e)
 
-no_flags : (a b : ℕ) → nat_lt a 4 ≡ true → nat_lt b 16 ≡ true → ((4 ≤ a) ⊎ (16 ≤ b)) → ⊥
-no_flags a b p q (inl le) = below a 4 p le
-no_flags a b p q (inr le) = below b 16 q le
+-- the sector names one version
+one_version : (x : List ℕ) (v w : versions.Version) → version_in x ≡ Some v → IsOf x w → v ≡ w
+one_version x v w is named =
+    let other : version_in x ≡ Some w = ap version_numbered named ∙ number_named w in cc
+
+no_version : (x : List ℕ) → version_in x ≡ None → (v : versions.Version) → IsOf x v → ⊥
+no_version x is v named =
+    let some : version_in x ≡ Some v = ap version_numbered named ∙ number_named v in cc
+
+some_version : (x : List ℕ) (v : versions.Version) → version_in x ≡ Some v → Stands x Version → ⊥
+some_version x v is never = never v (version_is_number x v is)
+
+no_hash : (x : List ℕ) (v : versions.Version) → version_in x ≡ Some v → has_hash v x ≡ true
+    → Stands x Hash → ⊥
+no_hash x v is passes wrong =
+    let P : versions.Version → Type 0 = λ w. WrongHash x w in
+    bytes_agree _ _ passes
+    (λ e. subst P (sym (one_version x v wrong.0 is wrong.1)) wrong.2 (sym e))
+
+no_flags : (x : List ℕ) (v : versions.Version) → version_in x ≡ Some v
+    → nat_lt (number_at 79 8 x) (mirror_flags_end v) ≡ true → nat_lt (number_at 87 8 x) 16 ≡ true
+    → Stands x Flags → ⊥
+no_flags x v is p q wrong =
+    let P : versions.Version → Type 0 = λ w. WrongFlags x w in
+    elim (subst P (sym (one_version x v wrong.0 is wrong.1)) wrong.2) [
+      | inl le ↦ below _ _ p le
+      | inr le ↦ below _ 16 q le
+    ]
 
 -- where all tests pass, no fault stands
-none_stands : (x : List ℕ) → length x ≡ 512 → Passes x → (k : DecodeFault) → Stands x k → ⊥
-none_stands x n p Magic = bytes_agree _ _ p.magic_passes
-none_stands x n p Version = numbers_agree _ _ p.version_passes
-none_stands x n p Hash = λ never. bytes_agree _ _ p.hash_passes (λ e. never (sym e))
-none_stands x n p Name = λ never. never (holds_label _ (wide x 20 n (lit≤ tt)) p.name_passes)
-none_stands x n p Provider = λ never. never (some_provider _ (wide x 95 n (lit≤ tt)) p.provider_ok)
-none_stands x n p Balance = below _ 5 p.balance_ok
-none_stands x n p Flags = no_flags _ _ p.mirror_ok p.disk_ok
-none_stands x n p SectorSize = numbers_agree _ _ p.size_ok
+none_stands : (x : List ℕ) (v : versions.Version) → length x ≡ 512 → Passes v x
+    → (k : DecodeFault) → Stands x k → ⊥
+none_stands x v n p Magic = bytes_agree _ _ p.magic_passes
+none_stands x v n p Version = some_version x v p.version_is
+none_stands x v n p Hash = no_hash x v p.version_is p.hash_passes
+none_stands x v n p Name = λ never. never (holds_label _ (wide x 20 n (lit≤ tt)) p.name_passes)
+none_stands x v n p Provider =
+    λ never. never (some_provider _ (wide x 95 n (lit≤ tt)) p.provider_ok)
+none_stands x v n p Balance = below _ 5 p.balance_ok
+none_stands x v n p Flags = no_flags x v p.version_is p.mirror_ok p.disk_ok
+none_stands x v n p SectorSize = numbers_agree _ _ p.size_ok
 
 -- the fault that is answered is the first that stands
-pub cause : (x : List ℕ) → length x ≡ 512 → IfErr (decode_of x) (Cause x)
-unfolding decode_of settings_of
-cause x n =
+cause_read : (x : List ℕ) → length x ≡ 512 → IfErr (reading_of x) (Cause x)
+unfolding reading_of said_in settings_of
+cause_read x n =
     let C = Cause x in
     let c1 = clear_of_one x in
     step C (carries x) Magic _ (λ e. record { stands = bytes_differ _ _ e; first = c1 })
     (λ magic_is.
     let c2 : Clear x 2 = cleared x Magic c1 (bytes_agree _ _ magic_is) in
-    step C _ Version _ (λ e. record { stands = numbers_differ _ _ e; first = c2 }) (λ version_is.
-    let c3 : Clear x 3 = cleared x Version c2 (numbers_agree _ _ version_is) in
-    step C (has_hash x) Hash _ (λ e. record {
-      stands = λ same. bytes_differ _ _ e (sym same);
+    by_version C (version_in x) x (λ e. record { stands = no_version x e; first = c2 })
+    (λ v version_is.
+    let of : IsOf x v = version_is_number x v version_is in
+    let c3 : Clear x 3 = cleared x Version c2 (some_version x v version_is) in
+    step C (has_hash v x) Hash _ (λ e. record {
+      stands = (v, of, λ same. bytes_differ _ _ e (sym same));
       first = c3;
     }) (λ hash_is.
-    let c4 : Clear x 4 =
-    cleared x Hash c3 (λ never. bytes_agree _ _ hash_is (λ e. never (sym e))) in
+    let c4 : Clear x 4 = cleared x Hash c3 (no_hash x v version_is hash_is) in
     step C (is_label_field (bytes_at 20 16 x)) Name _ (λ e. record {
       stands = no_name x e;
       first = c4;
@@ -146,23 +189,28 @@ cause x n =
     let c6 : Clear x 6 =
     cleared x Provider c5
     (λ never. never (some_provider _ (wide x 95 n (lit≤ tt)) provider_is)) in
-    inside C _ x (
+    inside C v _ x (
     step C (nat_lt (slice_index x 58) 5) Balance _ (λ e. record {
       stands = not_below _ 5 e;
       first = c6;
     }) (λ balance_is.
     let c7 : Clear x 7 = cleared x Balance c6 (below _ 5 balance_is) in
-    step C (nat_lt (number_at 79 8 x) 4) Flags _ (λ e. record {
-      stands = inl (not_below _ 4 e);
+    step C (nat_lt (number_at 79 8 x) (mirror_flags_end v)) Flags _ (λ e. record {
+      stands = (v, of, inl (not_below _ _ e));
       first = c7;
     }) (λ mirror_is.
     step C (nat_lt (number_at 87 8 x) 16) Flags _ (λ e. record {
-      stands = inr (not_below _ 16 e);
+      stands = (v, of, inr (not_below _ 16 e));
       first = c7;
     }) (λ disk_is.
-    let c8 : Clear x 8 = cleared x Flags c7 (no_flags _ _ mirror_is disk_is) in
+    let c8 : Clear x 8 = cleared x Flags c7 (no_flags x v version_is mirror_is disk_is) in
     step C _ SectorSize _ (λ e. record { stands = numbers_differ _ _ e; first = c8 })
     (λ size_is. tt))))))))))
+
+said_fault : (C : DecodeFault → Type 0) (r : Result Reading DecodeFault) → IfErr r C
+    → IfErr (said r) C
+said_fault C (Ok q) told = tt
+said_fault C (Err k) told = told
 
 same_cause : (x : List ℕ) (j k : DecodeFault) → Cause x j → Cause x k → j ≡ k
 same_cause x j k a b =
@@ -175,12 +223,16 @@ same_cause x j k a b =
       ]
     ]
 
-pub only_cause : (x : List ℕ) (r : Result Metadata DecodeFault) → length x ≡ 512 → r ≡ decode_of x
-    → IfErr r (Cause x) → (k : DecodeFault) → Cause x k → r ≡ Err k
-only_cause x (Ok m) n e told k c = absurd (none_stands x n (passes x m (sym e)).0 k c.stands)
-only_cause x (Err j) n e told k c = ap Err (same_cause x j k told c)
-
 pub cause_in : (x : List ℕ) (r : Result Metadata DecodeFault) → length x ≡ 512 → r ≡ decode_of x
     → IfErr r (Cause x)
-cause_in x r n e =
-    subst (λ (q : Result Metadata DecodeFault). IfErr q (Cause x)) (sym e) (cause x n)
+cause_in x r n e = subst (λ (q : Result Metadata DecodeFault). IfErr q (Cause x)) (sym e)
+    (said_fault (Cause x) (reading_of x) (cause_read x n))
+
+pub only_cause : (x : List ℕ) (r : Result Metadata DecodeFault) → length x ≡ 512 → r ≡ decode_of x
+    → (k : DecodeFault) → Cause x k → r ≡ Err k
+only_cause x r n e k c = e ∙ by (reading_of x) refl (cause_read x n)
+  where
+    by : (q : Result Reading DecodeFault) → reading_of x ≡ q → IfErr q (Cause x)
+        → said q ≡ Err k
+    by (Ok q) is told = absurd (none_stands x q.version n (passes x q is).tests k c.stands)
+    by (Err j) is told = ap Err (same_cause x j k told c)

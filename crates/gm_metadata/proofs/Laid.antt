@@ -9,9 +9,12 @@ use Rattle.gm_metadata.specs.Balance.{balance_code}
 use Rattle.gm_metadata.specs.Flags.{mirror_bits, disk_bits}
 use Rattle.gm_metadata.specs.Labels.{padded}
 use Rattle.gm_metadata.specs.Reading.{fields, spelling, encoded}
-use Rattle.gm_metadata.specs.Sector.{magic, u32_field, u64_field, provider_field, bytes_at, IsMetadata, Spells, Full}
+use Rattle.gm_metadata.specs.Sector.{magic, u32_field, u64_field, provider_field, provsize_field, bytes_at, IsMetadata, Spells, Full}
+use Rattle.gm_metadata.specs.Versions.{version_number, fields_end, hash_end, CanSay}
+use Rattle.gm_metadata.specs.declared.version.Version.{Version}
+use Rattle.gm_metadata.specs.declared.version.Version.TheVariants.{Two, Three, Four}
 use Rattle.gm_metadata.specs.declared.metadata.Metadata.{Metadata}
-use Rattle.gm_metadata.proofs.Values.{length-padded, length-provider_field}
+use Rattle.gm_metadata.proofs.Values.{length-padded, length-provider_field, mirror_flags_pass}
 
 -- a field: how many bytes it takes, and which
 record Field : Type 0 where
@@ -87,15 +90,19 @@ u8_of n = record { width = 1; bytes = n ∷ [] }
 abbrev name_of : List ℕ → Field
 name_of field = record { width = 16; bytes = field }
 
--- the fields of a metadata, in their order
-abbrev table : Metadata → List Field
-table m =
-    name_of magic ∷ u32_of 4 ∷ name_of (padded m.name) ∷ u32_of m.mid ∷ u32_of m.did ∷ u8_of m.all
+-- version 2 has nothing at this place, the others a number
+abbrev provsize_of : Version → ℕ → Field
+provsize_of v n = record { width = fields_end v - 111; bytes = provsize_field v n }
+
+-- the fields of a metadata in a version, in their order
+abbrev table : Version → Metadata → List Field
+table v m =
+    name_of magic ∷ u32_of (version_number v) ∷ name_of (padded m.name) ∷ u32_of m.mid ∷ u32_of m.did ∷ u8_of m.all
     ∷ u32_of m.genid ∷ u32_of m.syncid
     ∷ u8_of m.priority ∷ u32_of m.slice ∷ u8_of (balance_code m.balance) ∷ u64_of m.mediasize
     ∷ u32_of 512 ∷ u64_of m.sync_offset
     ∷ u64_of (mirror_bits m.mflags) ∷ u64_of (disk_bits m.dflags)
-    ∷ name_of (provider_field m.provider) ∷ u64_of m.provsize ∷ []
+    ∷ name_of (provider_field m.provider) ∷ provsize_of v m.provsize ∷ []
 
 u32_fills : (n : ℕ) → length (u32_field n) ≡ 4
 unfolding u32_field
@@ -104,6 +111,11 @@ u32_fills n = refl
 u64_fills : (n : ℕ) → length (u64_field n) ≡ 8
 unfolding u64_field
 u64_fills n = refl
+
+provsize_fills : (v : Version) (n : ℕ) → length (provsize_field v n) ≡ fields_end v - 111
+provsize_fills Two n = refl
+provsize_fills Three n = u64_fills n
+provsize_fills Four n = u64_fills n
 
 magic_fills : length magic ≡ 16
 unfolding magic
@@ -120,11 +132,11 @@ named m ok = record {
   provider_fills = length-provider_field m.provider ok.provider_ok;
 }
 
-table_fills : (m : Metadata) → Named m → Fills (table m)
-table_fills m ok = (
+table_fills : (v : Version) (m : Metadata) → Named m → Fills (table v m)
+table_fills v m ok = (
   magic_fills,
   (
-    u32_fills 4,
+    u32_fills (version_number v),
     (
       ok.name_fills,
       (
@@ -151,7 +163,7 @@ table_fills m ok = (
                             u64_fills m.sync_offset,
                             (
                               u64_fills _,
-                              (u64_fills _, (ok.provider_fills, (u64_fills m.provsize, tt))),
+                              (u64_fills _, (ok.provider_fills, (provsize_fills v m.provsize, tt))),
                             ),
                           ),
                         ),
@@ -168,23 +180,34 @@ table_fills m ok = (
   ),
 )
 
-fields_joined : (m : Metadata) → fields m ≡ joined (table m)
+fields_joined : (v : Version) (m : Metadata) → fields v m ≡ joined (table v m)
 unfolding fields
-fields_joined m = simp append-nil
+fields_joined v m = simp append-nil
 
-length-fields : (m : Metadata) → Named m → length (fields m) ≡ 119
-length-fields m ok = ap length (fields_joined m) ∙ length-joined (table m) (table_fills m ok)
+total_is : (v : Version) (m : Metadata) → 0 + total (table v m) ≡ fields_end v
+total_is Two m = refl
+total_is Three m = refl
+total_is Four m = refl
+
+length_is : (v : Version) (m : Metadata) → total (table v m) ≡ fields_end v
+length_is v m = let whole = total_is v m in omega arith
+
+length-fields : (v : Version) (m : Metadata) → Named m → length (fields v m) ≡ fields_end v
+length-fields v m ok = ap length (fields_joined v m)
+    ∙ length-joined (table v m) (table_fills v m ok) ∙ length_is v m
 
 -- what begins with the fields and ends with their hash spells the metadata
-spells : (m : Metadata) (b : List ℕ) → length b ≡ 135 → Laid 0 (table m) b
-    → bytes_at 119 16 b ≡ md5 (take 119 b) → Spells m b
-spells m b n l h =
+spells : (v : Version) (m : Metadata) (b : List ℕ) → CanSay v m → length b ≡ hash_end v
+    → Laid 0 (table v m) b → bytes_at (fields_end v) 16 b ≡ md5 (take (fields_end v) b)
+    → Spells m v b
+spells v m b can n l h =
     let l1 = l.1 in let l2 = l1.1 in let l3 = l2.1 in let l4 = l3.1 in let l5 = l4.1 in
     let l6 = l5.1 in let l7 = l6.1 in let l8 = l7.1 in
     let l9 = l8.1 in let l10 = l9.1 in let l11 = l10.1 in let l12 = l11.1 in let l13 = l12.1 in
     let l14 = l13.1 in let l15 = l14.1 in
     let l16 = l15.1 in let l17 = l16.1 in
     record {
+      can_say = can;
       length_is = n;
       magic_is = l.0;
       version_is = l1.0;
@@ -207,8 +230,9 @@ spells m b n l h =
       hash_is = h;
     }
 
-laid_where_spelled : (m : Metadata) (b : List ℕ) → Spells m b → Laid 0 (table m) b
-laid_where_spelled m b s = (
+laid_where_spelled : (v : Version) (m : Metadata) (b : List ℕ) → Spells m v b
+    → Laid 0 (table v m) b
+laid_where_spelled v m b s = (
   s.magic_is,
   (
     s.version_is,
@@ -253,58 +277,74 @@ laid_where_spelled m b s = (
 )
 
 -- the spelling is spelled so
-pub spelling_spells : (m : Metadata) → Named m → Spells m (spelling m)
+pub spelling_spells : (v : Version) (m : Metadata) → Named m → CanSay v m
+    → Spells m v (spelling v m)
 unfolding spelling
-spelling_spells m ok =
-    let n = length-fields m ok in
-    let hash = md5 (fields m) in
-    let whole : joined (table m) ++ hash ≡ fields m ++ hash =
-    ap (λ l. l ++ hash) (sym (fields_joined m)) in
-    let at_places : Laid 0 (table m) (fields m ++ hash) =
-    subst (Laid 0 (table m)) whole (laid 0 (table m) [] hash refl (table_fills m ok)) in
-    let front : take 119 (fields m ++ hash) ≡ fields m =
-    rw (← n) (take-append_seam (fields m) hash) in
-    let back : drop 119 (fields m ++ hash) ≡ hash = rw (← n) (drop-append_seam (fields m) hash) in
-    let size : length (fields m ++ hash) ≡ 135 =
-    length-append (fields m) hash ∙ ap₂ (λ a b. a + b) n (length-md5 (fields m)) in
-    spells m _ size at_places (ap (take 16) back
-    ∙ (let e : take 16 hash ≡ hash = rw (← length-md5 (fields m)) (take-length hash) in
+spelling_spells v m ok can =
+    let n = length-fields v m ok in
+    let hash = md5 (fields v m) in
+    let whole : joined (table v m) ++ hash ≡ fields v m ++ hash =
+    ap (λ l. l ++ hash) (sym (fields_joined v m)) in
+    let at_places : Laid 0 (table v m) (fields v m ++ hash) =
+    subst (Laid 0 (table v m)) whole (laid 0 (table v m) [] hash refl (table_fills v m ok)) in
+    let front : take (fields_end v) (fields v m ++ hash) ≡ fields v m =
+    rw (← n) (take-append_seam (fields v m) hash) in
+    let back : drop (fields_end v) (fields v m ++ hash) ≡ hash =
+    rw (← n) (drop-append_seam (fields v m) hash) in
+    let size : length (fields v m ++ hash) ≡ hash_end v =
+    length-append (fields v m) hash ∙ ap₂ (λ a b. a + b) n (length-md5 (fields v m)) in
+    spells v m _ can size at_places (ap (take 16) back
+    ∙ (let e : take 16 hash ≡ hash = rw (← length-md5 (fields v m)) (take-length hash) in
     e) ∙ ap md5 (sym front))
 
 -- and nothing else is
-pub spelled_once : (m : Metadata) (b : List ℕ) → Spells m b → b ≡ spelling m
+pub spelled_once : (v : Version) (m : Metadata) (b : List ℕ) → Spells m v b → b ≡ spelling v m
 unfolding spelling
-spelled_once m b s =
-    let whole : b ≡ joined (table m) ++ drop 119 b =
-    joined_again 0 (table m) b (laid_where_spelled m b s) in
-    let split : b ≡ take 119 b ++ drop 119 b = sym (take-append-drop 119 b) in
-    let rest : drop 119 b ≡ bytes_at 119 16 b =
-    (let k : length (drop 119 b) ≡ 16 = length-drop 119 b ∙ ap (λ k. k - 119) s.length_is in
-    let e : take 16 (drop 119 b) ≡ drop 119 b = rw (← k) (take-length (drop 119 b)) in sym e) in
-    let fields_are : take 119 b ≡ fields m =
-    append_cancel_right (take 119 b) (joined (table m)) (drop 119 b) (sym split ∙ whole)
-    ∙ sym (fields_joined m) in
+spelled_once v m b s =
+    let end = fields_end v in
+    let whole : b ≡ joined (table v m) ++ drop end b =
+    joined_again 0 (table v m) b (laid_where_spelled v m b s)
+    ∙ ap (λ n. joined (table v m) ++ drop n b) (total_is v m) in
+    let split : b ≡ take end b ++ drop end b = sym (take-append-drop end b) in
+    let rest : drop end b ≡ bytes_at end 16 b =
+    (let k : length (drop end b) ≡ 16 =
+    length-drop end b ∙ ap (λ k. k - end) s.length_is ∙ past_fields end in
+    let e : take 16 (drop end b) ≡ drop end b = rw (← k) (take-length (drop end b)) in sym e) in
+    let fields_are : take end b ≡ fields v m =
+    append_cancel_right (take end b) (joined (table v m)) (drop end b) (sym split ∙ whole)
+    ∙ sym (fields_joined v m) in
     split ∙ ap₂ (λ x y. x ++ y) fields_are (rest ∙ s.hash_is ∙ ap md5 fields_are)
+  where
+    past_fields : (n : ℕ) → n + 16 - n ≡ 16
+    past_fields n = omega arith
 
-pub length-spelling : (m : Metadata) → Named m → length (spelling m) ≡ 135
-length-spelling m ok = (spelling_spells m ok).length_is
+-- version 4 can say all
+pub four_says : (m : Metadata) → CanSay Four m
+four_says m = record { size = refl; flags = mirror_flags_pass m.mflags }
+
+pub length-spelling : (m : Metadata) → Named m → length (spelling Four m) ≡ 135
+length-spelling m ok = (spelling_spells Four m ok (four_says m)).length_is
 
 pub encoded_is_full : (m : Metadata) → Named m → Full (encoded m) m
 unfolding encoded
 encoded_is_full m ok =
     let n = length-spelling m ok in
-    let front : take 135 (spelling m ++ replicate 377 0) ≡ spelling m =
-    rw (← n) (take-append_seam (spelling m) (replicate 377 0)) in
-    let back : drop 135 (spelling m ++ replicate 377 0) ≡ replicate 377 0 =
-    rw (← n) (drop-append_seam (spelling m) (replicate 377 0)) in
-    record { bears = subst (Spells m) (sym front) (spelling_spells m ok); rest_is = back }
+    let s = spelling Four m in
+    let front : take 135 (s ++ replicate 377 0) ≡ s =
+    rw (← n) (take-append_seam s (replicate 377 0)) in
+    let back : drop 135 (s ++ replicate 377 0) ≡ replicate 377 0 =
+    rw (← n) (drop-append_seam s (replicate 377 0)) in
+    record {
+      bears = subst (Spells m Four) (sym front) (spelling_spells Four m ok (four_says m));
+      rest_is = back;
+    }
 
 pub full_once : (m : Metadata) (x : List ℕ) → Full x m → x ≡ encoded m
 unfolding encoded
 full_once m x f =
-    sym (take-append-drop 135 x) ∙ ap₂ (λ a b. a ++ b) (spelled_once m _ f.bears) f.rest_is
+    sym (take-append-drop 135 x) ∙ ap₂ (λ a b. a ++ b) (spelled_once Four m _ f.bears) f.rest_is
 
 pub length-encoded : (m : Metadata) → Named m → length (encoded m) ≡ 512
 unfolding encoded
-length-encoded m ok = length-append (spelling m) (replicate 377 0)
+length-encoded m ok = length-append (spelling Four m) (replicate 377 0)
     ∙ ap₂ (λ a b. a + b) (length-spelling m ok) (length-replicate {A = ℕ} 377 0)

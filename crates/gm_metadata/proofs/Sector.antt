@@ -8,6 +8,7 @@ use Rattle.gm_metadata.specs.Labels.{padded}
 use Rattle.gm_metadata.specs.Reading.{fields}
 use Rattle.gm_metadata.specs.Sector.{magic, u32_field, u64_field, provider_field}
 use Rattle.gm_metadata.specs.declared.metadata.Metadata.{Metadata}
+use Rattle.gm_metadata.specs.declared.version.Version.TheVariants.{Four}
 use borrow.Rule.Slice.PartMut.{put_mid}
 
 -- what follows the bytes that are written is still zero
@@ -59,7 +60,7 @@ after_magic m =
     ∷ u64_field m.sync_offset ∷ u64_field (mirror_bits m.mflags)
     ∷ u64_field (disk_bits m.dflags) ∷ provider_field m.provider ∷ u64_field m.provsize ∷ []
 
--- the fields, as they are appended to nothing
-pub fields_appended : (m : Metadata) → appended ([] ++ magic) (after_magic m) ≡ fields m
+-- the fields of version 4, as they are appended to nothing
+pub fields_appended : (m : Metadata) → appended ([] ++ magic) (after_magic m) ≡ fields Four m
 unfolding fields
 fields_appended m = regrouped magic (after_magic m)

@@ -5,3 +5,4 @@ pub mod Images
 pub mod Labels
 pub mod Reading
 pub mod Sector
+pub mod Versions

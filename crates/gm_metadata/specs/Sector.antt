@@ -1,6 +1,5 @@
--- The sector of metadata, GEOM_MIRROR version 4: which bytes say what, and why a sector says
--- nothing.
-use Rattle.std.specs.Prelude.{◌≡◌, ◌≢◌, ℕ, ◌≤◌, ◌<◌, ◌^◌, ◌⊎◌, Bool, IsTrue, List, [], ◌∷◌, ◌++◌, length, take, drop, replicate, slice_index, Option, Some, None, IfSome, codes}
+-- The sector of metadata: which bytes say what in each version, and why a sector says nothing.
+use Rattle.std.specs.Prelude.{◌≡◌, ◌≢◌, ℕ, ◌≤◌, ◌<◌, ◌-◌, ◌^◌, ◌⊎◌, Bool, IsTrue, List, [], ◌∷◌, ◌++◌, length, take, drop, replicate, slice_index, Option, Some, None, IfSome, codes}
 use Rattle.std.specs.Str.{bytes_eq}
 use Rattle.byteorder.specs.Endian.{little_bytes, little_number}
 use Rattle.md5.specs.Md5.{md5}
@@ -8,7 +7,10 @@ use Rattle.gm_metadata.specs.Balance.{balance_code}
 use Rattle.gm_metadata.specs.Faults.{fault_number}
 use Rattle.gm_metadata.specs.Flags.{mirror_bits, disk_bits}
 use Rattle.gm_metadata.specs.Labels.{is_label, padded}
+use Rattle.gm_metadata.specs.Versions.{version_number, fields_end, hash_end, mirror_flags_end, CanSay}
 use Rattle.gm_metadata.specs.declared.metadata.Metadata.{Metadata}
+use Rattle.gm_metadata.specs.declared.version.Version as versions
+use Rattle.gm_metadata.specs.declared.version.Version.TheVariants.{Two, Three, Four}
 use Rattle.gm_metadata.specs.declared.fault.DecodeFault.{DecodeFault}
 use Rattle.gm_metadata.specs.declared.fault.DecodeFault.TheVariants.{Magic, Version, Hash, Name, Provider, Balance, Flags, SectorSize}
 
@@ -27,6 +29,12 @@ u64_field n = little_bytes 8 n
 abbrev pub provider_field : Option (List ℕ) → List ℕ
 provider_field None = replicate 16 0
 provider_field (Some name) = padded name
+
+-- the size of the provider, which version 2 doesn't have
+abbrev pub provsize_field : versions.Version → ℕ → List ℕ
+provsize_field Two n = []
+provsize_field Three n = u64_field n
+provsize_field Four n = u64_field n
 
 -- so many bytes from a place on
 abbrev pub bytes_at : ℕ → ℕ → List ℕ → List ℕ
@@ -47,11 +55,12 @@ pub record IsMetadata (m : Metadata) : Type 0 where
   pub provider_ok : IfSome m.provider (λ name. IsTrue (is_label name))
   pub provsize_ok : m.provsize < 2 ^ 64
 
--- the 135 bytes b are the metadata m, field by field
-pub record Spells (m : Metadata) (b : List ℕ) : Type 0 where
-  pub length_is : length b ≡ 135
+-- the bytes b are the metadata m in a version, field by field
+pub record Spells (m : Metadata) (v : versions.Version) (b : List ℕ) : Type 0 where
+  pub can_say : CanSay v m
+  pub length_is : length b ≡ hash_end v
   pub magic_is : bytes_at 0 16 b ≡ magic
-  pub version_is : bytes_at 16 4 b ≡ u32_field 4
+  pub version_is : bytes_at 16 4 b ≡ u32_field (version_number v)
   pub name_is : bytes_at 20 16 b ≡ padded m.name
   pub mid_is : bytes_at 36 4 b ≡ u32_field m.mid
   pub did_is : bytes_at 40 4 b ≡ u32_field m.did
@@ -67,16 +76,24 @@ pub record Spells (m : Metadata) (b : List ℕ) : Type 0 where
   pub mflags_is : bytes_at 79 8 b ≡ u64_field (mirror_bits m.mflags)
   pub dflags_is : bytes_at 87 8 b ≡ u64_field (disk_bits m.dflags)
   pub provider_is : bytes_at 95 16 b ≡ provider_field m.provider
-  pub provsize_is : bytes_at 111 8 b ≡ u64_field m.provsize
-  pub hash_is : bytes_at 119 16 b ≡ md5 (take 119 b)
+  pub provsize_is : bytes_at 111 (fields_end v - 111) b ≡ provsize_field v m.provsize
+  pub hash_is : bytes_at (fields_end v) 16 b ≡ md5 (take (fields_end v) b)
 
--- the sector begins with the metadata
+-- the sector begins with the metadata in this version
+abbrev pub BearsIn : versions.Version → List ℕ → Metadata → Type 0
+BearsIn v x m = Spells m v (take (hash_end v) x)
+
+-- the sector begins with the metadata in some version
 abbrev pub Bears : List ℕ → Metadata → Type 0
-Bears x m = Spells m (take 135 x)
+Bears x m = (v : versions.Version) × BearsIn v x m
 
--- and has zeros after it
+-- and the version has this number
+abbrev pub SaidIn : ℕ → List ℕ → Type 0
+SaidIn n x = (v : versions.Version) × (m : Metadata) × BearsIn v x m × (n ≡ version_number v)
+
+-- the sector begins with them in version 4, and has zeros after them
 pub record Full (x : List ℕ) (m : Metadata) : Type 0 where
-  pub bears : Bears x m
+  pub bears : BearsIn Four x m
   pub rest_is : drop 135 x ≡ replicate 377 0
 
 -- the sector carries metadata: it begins with the magic field, whatever follows
@@ -91,15 +108,27 @@ HoldsLabel field = (name : List ℕ) × IsTrue (is_label name) × (field ≡ pad
 abbrev pub number_at : ℕ → ℕ → List ℕ → ℕ
 number_at at count x = little_number count (drop at x)
 
--- the fault stands in the sector
+-- the sector names the version
+abbrev pub IsOf : List ℕ → versions.Version → Type 0
+IsOf x v = number_at 16 4 x ≡ version_number v
+
+-- the hash isn't that of the version's fields
+abbrev pub WrongHash : List ℕ → versions.Version → Type 0
+WrongHash x v = bytes_at (fields_end v) 16 x ≢ md5 (take (fields_end v) x)
+
+-- a flag is set that the version doesn't have
+abbrev pub WrongFlags : List ℕ → versions.Version → Type 0
+WrongFlags x v = (mirror_flags_end v ≤ number_at 79 8 x) ⊎ (16 ≤ number_at 87 8 x)
+
+-- the fault stands in the sector, by the version that it names
 abbrev pub Stands : List ℕ → DecodeFault → Type 0
 Stands x Magic = bytes_at 0 16 x ≢ magic
-Stands x Version = number_at 16 4 x ≢ 4
-Stands x Hash = bytes_at 119 16 x ≢ md5 (take 119 x)
+Stands x Version = (v : versions.Version) → IsOf x v → ⊥
+Stands x Hash = (v : versions.Version) × IsOf x v × WrongHash x v
 Stands x Name = HoldsLabel (bytes_at 20 16 x) → ⊥
 Stands x Provider = (HoldsLabel (bytes_at 95 16 x) ⊎ (bytes_at 95 16 x ≡ replicate 16 0)) → ⊥
 Stands x Balance = 4 < slice_index x 58
-Stands x Flags = (4 ≤ number_at 79 8 x) ⊎ (16 ≤ number_at 87 8 x)
+Stands x Flags = (v : versions.Version) × IsOf x v × WrongFlags x v
 Stands x SectorSize = number_at 67 4 x ≢ 512
 
 -- the fault stands in the sector, and none with a smaller number does

@@ -1,18 +1,22 @@
 //! From a sector to what it says.
 
-ghost use Rattle.std.specs.Prelude.{◌≡◌, ◌==◌, ◌+◌, ◌≤◌, IsTrue, take, drop, Some, None, IfOk, IfErr, Ok, Err, if◌then◌else◌};
+ghost use Rattle.std.specs.Prelude.{◌≡◌, ◌==◌, ◌+◌, ◌≤◌, ℕ, IsTrue, take, drop, Some, None, IfOk, IfErr, Ok, Err, if◌then◌else◌};
 ghost use Rattle.byteorder.specs.Endian.{little_number};
 ghost use Rattle.gm_metadata.specs.declared.metadata.Metadata.{Metadata};
 ghost use Rattle.gm_metadata.specs.declared.fault.DecodeFault.{DecodeFault};
-ghost use Rattle.gm_metadata.specs.Reading.{has_hash, is_provider_field, provider_in, settings_of, decode_of};
-ghost use Rattle.gm_metadata.specs.Sector.{bytes_at, number_at, carries, IsMetadata, Bears, Cause};
+ghost use Rattle.gm_metadata.specs.Reading.{has_hash, is_provider_field, provider_in, settings_of, said_in, reading_of, decode_of, version_read};
+ghost use Rattle.gm_metadata.specs.Sector.{bytes_at, number_at, carries, IsMetadata, Bears, BearsIn, SaidIn, Cause};
+ghost use Rattle.gm_metadata.specs.Versions.{version_number, kept_size};
+ghost use Rattle.gm_metadata.specs.declared.decoding.Reading.{Reading};
+ghost use Rattle.gm_metadata.specs.declared.version.Version as versions;
 
 use crate::balance::Balance;
-use crate::encoding::{MAGIC, SECTOR_SIZE, VERSION};
+use crate::encoding::{MAGIC, SECTOR_SIZE};
 use crate::fault::DecodeFault;
 use crate::flags::{DiskFlags, MirrorFlags};
 use crate::label::{Label, all_zero};
 use crate::metadata::Metadata;
+use crate::version::Version;
 use byteorder::{ByteOrder, LittleEndian};
 use md5::{Digest, Md5};
 
@@ -47,11 +51,11 @@ pub fn carries_metadata(sector: &[u8; 512]) -> bool
     &sector[..16] == MAGIC.as_slice()
 }
 
-fn has_hash(sector: &[u8; 512]) -> bool
-    ensures { result ≡ has_hash sector.now }
+fn has_hash(version: Version, sector: &[u8; 512]) -> bool
+    ensures { result ≡ has_hash version sector.now }
 {
-    let digest = Md5::digest(&sector[..119]);
-    let written = field_at(sector, 119);
+    let digest = Md5::digest(&sector[..version.hash_at()]);
+    let written = field_at(sector, version.hash_at());
     digest == written
 }
 
@@ -77,13 +81,17 @@ struct Settings {
 }
 
 #[tactic(auto, unfolding(crate::specs::Reading::settings_of))]
-fn settings_of(sector: &[u8; 512]) -> Result<Settings, DecodeFault>
-    ensures { result ≡ settings_of sector.now }
+fn settings_of(version: Version, sector: &[u8; 512]) -> Result<Settings, DecodeFault>
+    ensures { result ≡ settings_of version sector.now }
 {
     let Some(balance) = Balance::from_code(sector[58]) else {
         return Err(DecodeFault::Balance);
     };
-    let Some(mflags) = MirrorFlags::from_bits(u64_at(sector, 79)) else {
+    let mirror_bits = u64_at(sector, 79);
+    if mirror_bits >= version.mirror_flags_end() {
+        return Err(DecodeFault::Flags);
+    }
+    let Some(mflags) = MirrorFlags::from_bits(mirror_bits) else {
         return Err(DecodeFault::Flags);
     };
     let Some(dflags) = DiskFlags::from_bits(u64_at(sector, 87)) else {
@@ -99,18 +107,18 @@ fn settings_of(sector: &[u8; 512]) -> Result<Settings, DecodeFault>
     })
 }
 
-// What a sector says, field by field.
-#[tactic(auto, unfolding(crate::specs::Reading::decode_of))]
-fn read(sector: &[u8; 512]) -> Result<Metadata, DecodeFault>
-    ensures { result ≡ decode_of sector.now }
+fn provsize_in(version: Version, sector: &[u8; 512]) -> u64
+    ensures { result ≡ kept_size version (number_at 111 8 sector.now) }
 {
-    if !carries_metadata(sector) {
-        return Err(DecodeFault::Magic);
-    }
-    if u32_at(sector, 16) != VERSION {
-        return Err(DecodeFault::Version);
-    }
-    if !has_hash(sector) {
+    version.kept_size(u64_at(sector, 111))
+}
+
+// What a sector says in a version, field by field.
+#[tactic(auto, unfolding(crate::specs::Reading::said_in))]
+fn said_in(version: Version, sector: &[u8; 512]) -> Result<Metadata, DecodeFault>
+    ensures { result ≡ said_in version sector.now }
+{
+    if !has_hash(version, sector) {
         return Err(DecodeFault::Hash);
     }
     let Some(name) = Label::from_field(&field_at(sector, 20)) else {
@@ -119,7 +127,7 @@ fn read(sector: &[u8; 512]) -> Result<Metadata, DecodeFault>
     let Some(provider) = provider_of(&field_at(sector, 95)) else {
         return Err(DecodeFault::Provider);
     };
-    let settings = settings_of(sector)?;
+    let settings = settings_of(version, sector)?;
     Ok(Metadata {
         name,
         mid: u32_at(sector, 36),
@@ -135,11 +143,55 @@ fn read(sector: &[u8; 512]) -> Result<Metadata, DecodeFault>
         mflags: settings.mflags,
         dflags: settings.dflags,
         provider,
-        provsize: u64_at(sector, 111),
+        provsize: provsize_in(version, sector),
     })
 }
 
-/// What a sector says. The bytes behind the hash are ignored.
+/// What a sector says, and in which version.
+#[derive(Clone, Copy, Debug, PartialEq, Eq)]
+pub struct Reading {
+    pub version: Version,
+    pub metadata: Metadata,
+}
+
+// What a sector says, and in which version.
+#[tactic(auto, unfolding(crate::specs::Reading::reading_of))]
+fn read_as_named(sector: &[u8; 512]) -> Result<Reading, DecodeFault>
+    ensures { result ≡ reading_of sector.now }
+{
+    if !carries_metadata(sector) {
+        return Err(DecodeFault::Magic);
+    }
+    let Some(version) = Version::from_number(u32_at(sector, 16)) else {
+        return Err(DecodeFault::Version);
+    };
+    let metadata = said_in(version, sector)?;
+    Ok(Reading { version, metadata })
+}
+
+/// What a sector says, and in which version. The bytes behind the hash are ignored.
+///
+/// An `Err` is the first fault that stands in the sector, in the order of `DecodeFault`.
+pub fn read_sector(sector: &[u8; 512]) -> Result<Reading, DecodeFault>
+    // What is read is spelled so, in that version.
+    ensures found { IfOk result (λ r. BearsIn r.version sector.now r.metadata) }
+    // What is spelled so is read.
+    ensures only { (r : Reading) → IsMetadata r.metadata → BearsIn r.version sector.now r.metadata
+        → result ≡ Ok r }
+
+    ensures exact { result ≡ reading_of sector.now }
+{
+    read_as_named(sector)
+}
+
+fn said(sector: &[u8; 512]) -> Result<Metadata, DecodeFault>
+    ensures { result ≡ decode_of sector.now }
+{
+    let reading = read_as_named(sector)?;
+    Ok(reading.metadata)
+}
+
+/// What a sector says, in whichever version it says it.
 ///
 /// An `Err` is the first fault that stands in the sector, in the order of `DecodeFault`.
 pub fn decode(sector: &[u8; 512]) -> Result<Metadata, DecodeFault>
@@ -155,5 +207,28 @@ pub fn decode(sector: &[u8; 512]) -> Result<Metadata, DecodeFault>
     // Which result it is, as a function.
     ensures exact { result ≡ decode_of sector.now }
 {
-    read(sector)
+    said(sector)
+}
+
+fn version_read(sector: &[u8; 512]) -> Option<u32>
+    ensures { result ≡ version_read (reading_of sector.now) }
+{
+    match read_as_named(sector) {
+        Ok(reading) => Some(reading.version.number()),
+        Err(_) => None,
+    }
+}
+
+/// The number of the version in which a sector says something, 2 to 4; `None` where it doesn't
+/// decode.
+pub fn version_of(sector: &[u8; 512]) -> Option<u32>
+    // The number is that of a version in which metadata are spelled.
+    ensures found { (n : ℕ) → result ≡ Some n → SaidIn n sector.now }
+    // Where metadata are spelled in a version, it is that one's.
+    ensures only { (v : versions.Version) (m : Metadata) → IsMetadata m
+        → BearsIn v sector.now m → result ≡ Some (version_number v) }
+
+    ensures exact { result ≡ version_read (reading_of sector.now) }
+{
+    version_read(sector)
 }

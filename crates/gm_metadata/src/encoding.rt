@@ -6,13 +6,12 @@ ghost use Rattle.gm_metadata.specs.Reading.{encoded};
 
 use crate::label::Label;
 use crate::metadata::Metadata;
+use crate::version::Version;
 use byteorder::{ByteOrder, LittleEndian};
 use md5::{Digest, Md5};
 use std::marker::Model;
 
 pub(crate) const MAGIC: [u8; 16] = *b"GEOM::MIRROR\0\0\0\0";
-
-pub(crate) const VERSION: u32 = 4;
 
 /// The bytes of a sector.
 pub const SECTOR_SIZE: u32 = 512;
@@ -108,14 +107,14 @@ fn provider_field(provider: &Option<Label>) -> [u8; 16]
 }
 
 /// The one sector that is full with the metadata: 135 bytes of fields and hash, and zeros behind
-/// them.
+/// them. It is of version 4, the one that is written.
 pub fn encode(metadata: &Metadata) -> [u8; 512]
     ensures full { Full result metadata.now }
     ensures sector { result ≡ encoded metadata.now }
 {
     let mut draft = Draft::new();
     draft.push(&MAGIC);
-    draft.push_u32(VERSION);
+    draft.push_u32(Version::Four.number());
     draft.push(&metadata.name.to_field());
     draft.push_u32(metadata.mid);
     draft.push_u32(metadata.did);

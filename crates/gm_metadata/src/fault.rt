@@ -8,7 +8,7 @@ ghost use Rattle.gm_metadata.specs.Faults.{fault_number};
 pub enum DecodeFault {
     /// It doesn't begin with the magic field.
     Magic,
-    /// The version isn't 4.
+    /// The version is none of 2, 3 and 4.
     Version,
     /// The MD5 isn't that of the bytes before it.
     Hash,
@@ -18,7 +18,7 @@ pub enum DecodeFault {
     Provider,
     /// The balance code is over 4.
     Balance,
-    /// A flag bit is set that has no name.
+    /// A flag bit is set that has no name in the version.
     Flags,
     /// The sector size isn't 512.
     SectorSize,

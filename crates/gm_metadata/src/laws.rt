@@ -2,13 +2,23 @@
 
 ghost use Rattle.std.specs.Prelude.{◌≡◌, ℕ, List, Ok, length};
 ghost use Rattle.gm_metadata.specs.declared.metadata.Metadata.{Metadata};
-ghost use Rattle.gm_metadata.specs.Sector.{IsMetadata, Spells, Bears, Full};
-ghost use Rattle.gm_metadata.specs.Reading.{encoded, decode_of};
+ghost use Rattle.gm_metadata.specs.declared.version.Version.{Version};
+ghost use Rattle.gm_metadata.specs.declared.version.Version.TheVariants.{Four};
+ghost use Rattle.gm_metadata.specs.Sector.{IsMetadata, Spells, BearsIn, Full};
+ghost use Rattle.gm_metadata.specs.Versions.{CanSay};
+ghost use Rattle.gm_metadata.specs.Reading.{spelling, encoded, reading_of, decode_of};
 
-/// No two metadata have one spelling.
+/// No two metadata have one spelling, in whichever versions; and metadata have one spelling in each
+/// version that can say them.
 pub fn one_spelling()
-    ensures { (m n : Metadata) (b : List ℕ) → IsMetadata m → IsMetadata n → Spells m b
-        → Spells n b → m ≡ n }
+    ensures one_meaning { (m n : Metadata) (v w : Version) (b : List ℕ) → IsMetadata m
+        → IsMetadata n → Spells m v b → Spells n w b → (m ≡ n) × (v ≡ w) }
+    ensures one_sector { (x : List ℕ) (m n : Metadata) (v w : Version) → length x ≡ 512
+        → IsMetadata m → IsMetadata n → BearsIn v x m → BearsIn w x n → (m ≡ n) × (v ≡ w) }
+    ensures one_form { (v : Version) (m : Metadata) (b : List ℕ) → Spells m v b
+        → b ≡ spelling v m }
+    ensures spelled { (v : Version) (m : Metadata) → IsMetadata m → CanSay v m
+        → Spells m v (spelling v m) }
 {}
 
 /// Just one sector is full with a metadata.
@@ -18,7 +28,9 @@ pub fn one_sector()
     ensures length_is { (m : Metadata) → IsMetadata m → length (encoded m) ≡ 512 }
 {}
 
-/// What is encoded is read again.
+/// What is encoded is read again, and it is of version 4.
 pub fn encoded_is_read()
-    ensures { (m : Metadata) → IsMetadata m → decode_of (encoded m) ≡ Ok m }
+    ensures metadata { (m : Metadata) → IsMetadata m → decode_of (encoded m) ≡ Ok m }
+    ensures version { (m : Metadata) → IsMetadata m
+        → reading_of (encoded m) ≡ Ok (record { version = Four; metadata = m }) }
 {}

@@ -5,7 +5,7 @@ use crate::flags::{DiskFlags, MirrorFlags};
 use crate::label::Label;
 
 /// The metadata of a component (`struct g_mirror_metadata` of `g_mirror.h`), without what each
-/// sector has alike: the magic, the version 4, the sector size 512 and the hash.
+/// sector has alike, the magic and the sector size 512, and without its version and its hash.
 #[derive(Clone, Copy, Debug, PartialEq, Eq)]
 pub struct Metadata {
     /// The mirror's name.
@@ -33,6 +33,6 @@ pub struct Metadata {
     pub dflags: DiskFlags,
     /// The provider's own name, where the component belongs to that name alone.
     pub provider: Option<Label>,
-    /// The size of the provider (bytes), or 0.
+    /// The size of the provider (bytes), or 0 where that isn't told.
     pub provsize: u64,
 }

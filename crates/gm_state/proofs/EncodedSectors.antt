@@ -1,15 +1,16 @@
 -- What an encoded sector bears: its metadata and no other; and zeros bear nothing.
-use Rattle.std.proofs.Common.{◌≡◌, ◌∙◌, ℕ, Bool, true, false, IsTrue, ◌+◌, ◌<◌, ◌≤◌, ◌^◌, arith, if◌then◌else◌, refl, sym, subst, List, take, true≢false, Some, None, lit≤}
+use Rattle.std.proofs.Common.{◌≡◌, ◌∙◌, ℕ, Bool, true, false, IsTrue, ◌+◌, ◌<◌, ◌≤◌, ◌^◌, arith, if◌then◌else◌, refl, sym, ap, subst, List, length, take, true≢false, Some, None, lit≤}
 use Rattle.std.specs.Prelude.{IfSome}
 use Rattle.std.proofs.lemmas.Slice.Eq.{bytes_eq-Decides}
 use Rattle.gm_metadata.specs.Images.{zeros}
 use Rattle.gm_metadata.specs.Labels.{is_label}
 use Rattle.gm_metadata.specs.Reading.{encoded}
-use Rattle.gm_metadata.specs.Sector.{IsMetadata, Bears, magic, carries}
+use Rattle.gm_metadata.specs.Sector.{IsMetadata, Bears, BearsIn, magic, carries}
 use Rattle.gm_metadata.specs.declared.metadata.Metadata.{Metadata}
-use Rattle.gm_metadata.proofs.Laid.{named, encoded_is_full}
+use Rattle.gm_metadata.specs.declared.version.Version.TheVariants.{Four}
+use Rattle.gm_metadata.proofs.Laid.{named, encoded_is_full, length-encoded}
 use Rattle.gm_metadata.proofs.Numbers.{front_of_front}
-use Rattle.gm_metadata.proofs.Read.{spelled_by_one}
+use Rattle.gm_metadata.proofs.Read.{before_hash, read_once}
 use Rattle.gm_state.specs.declared.records.Mirror.{Mirror}
 use Rattle.gm_state.specs.declared.records.Component.{Component}
 use Rattle.gm_state.specs.Intents.{IsOf}
@@ -53,16 +54,17 @@ pub bears_one : (s : Records) (m : Mirror) (k : Component) → IsState s → IsO
     → x ≡ encoded (metadata m k) → (d : Metadata) → IsMetadata d → Bears x d → d ≡ metadata m k
 bears_one s m k state of x is d ok bears =
     let fits : IsMetadata (metadata m k) = metadata_fits s m k state of in
-    let own : Bears x (metadata m k) =
-    subst (λ (y : List ℕ). Bears y (metadata m k)) (sym is)
+    let n = length-encoded (metadata m k) (named (metadata m k) fits) in
+    let own : BearsIn Four x (metadata m k) =
+    subst (λ (y : List ℕ). BearsIn Four y (metadata m k)) (sym is)
     (encoded_is_full (metadata m k) (named (metadata m k) fits)).bears in
-    spelled_by_one d (metadata m k) (take 135 x) ok fits bears own
+    (read_once x d (metadata m k) bears.0 Four (ap length is ∙ n) ok fits bears.1 own).0
 
 -- what bears metadata carries them
 pub bears_carries : (x : List ℕ) (d : Metadata) → Bears x d → carries x ≡ true
 bears_carries x d bears =
-    (bytes_eq-Decides (take 16 x) magic).1 (sym (front_of_front 16 135 x (lit≤ tt))
-    ∙ bears.magic_is)
+    (bytes_eq-Decides (take 16 x) magic).1
+    (sym (front_of_front 16 _ x (before_hash bears.0 16 (lit≤ tt))) ∙ bears.1.magic_is)
 
 zeros_carry_nothing : carries zeros ≡ false
 unfolding magic

@@ -1,12 +1,14 @@
 -- A sector whose metadata don't decode begins with the magic field, but for the first fault.
-use Rattle.std.proofs.Common.{◌≡◌, ◌∙◌, inl, inr, ℕ, Bool, true, false, not, ◌==◌, nat_lt, refl, sym, subst, List, Result, Ok, Err, slice_index, cond}
+use Rattle.std.proofs.Common.{◌≡◌, ◌∙◌, inl, inr, ℕ, Bool, true, false, not, ◌==◌, nat_lt, refl, sym, subst, List, Option, Some, None, Result, Ok, Err, slice_index, cond}
 use Rattle.std.proofs.lemmas.Bool.{cases_Bool}
 use Rattle.gm_metadata.specs.Labels.{is_label_field}
 use Rattle.gm_metadata.specs.Sector.{bytes_at, number_at, carries}
-use Rattle.gm_metadata.specs.Reading.{decode_of, has_hash, is_provider_field, settings_of, with_settings}
+use Rattle.gm_metadata.specs.Reading.{version_in, has_hash, is_provider_field, settings_of, with_settings, said_in, with_version, read_as, reading_of, said, decode_of}
+use Rattle.gm_metadata.specs.Versions.{mirror_flags_end}
 use Rattle.gm_metadata.specs.declared.metadata.Metadata.{Metadata}
 use Rattle.gm_metadata.specs.declared.fault.DecodeFault.{DecodeFault}
 use Rattle.gm_metadata.specs.declared.fault.DecodeFault.TheVariants.{Magic}
+use Rattle.gm_metadata.specs.declared.version.Version.{Version}
 use Rattle.gm_taste.specs.declared.provider.Provider.{Provider}
 use Rattle.gm_taste.specs.declared.tasted.Reason.{Reason}
 use Rattle.gm_taste.specs.declared.tasted.Reason.TheVariants.{Decode, OtherName, OtherSize}
@@ -22,30 +24,43 @@ one_of : {X : Type 0} (b : Bool) (r s : Result X DecodeFault) → past_magic r �
 one_of true r s e f = e
 one_of false r s e f = f
 
-settings_past : (x : List ℕ) → past_magic (settings_of x) ≡ true
+settings_past : (v : Version) (x : List ℕ) → past_magic (settings_of v x) ≡ true
 unfolding settings_of
-settings_past x =
+settings_past v x =
     one_of (not (nat_lt (slice_index x 58) 5)) _ _ refl
-    (one_of (not (nat_lt (number_at 79 8 x) 4)) _ _ refl
+    (one_of (not (nat_lt (number_at 79 8 x) (mirror_flags_end v))) _ _ refl
     (one_of (not (nat_lt (number_at 87 8 x) 16)) _ _ refl
     (one_of (not (number_at 67 4 x == 512)) _ _ refl refl)))
 
-with_past : (x : List ℕ) → past_magic (with_settings (settings_of x) x) ≡ true
-with_past x =
-    (elim (settings_of x) as (λ r. past_magic r ≡ true
-    → past_magic (with_settings r x) ≡ true) [ Ok s ↦ λ e. refl | Err fault ↦ λ e. e ])
-    (settings_past x)
+with_past : (v : Version) (x : List ℕ) → past_magic (with_settings v (settings_of v x) x) ≡ true
+with_past v x =
+    (elim (settings_of v x) as (λ r. past_magic r ≡ true
+    → past_magic (with_settings v r x) ≡ true) [ Ok s ↦ λ e. refl | Err fault ↦ λ e. e ])
+    (settings_past v x)
+
+said_past : (v : Version) (x : List ℕ) → past_magic (said_in v x) ≡ true
+unfolding said_in
+said_past v x =
+    one_of (not (has_hash v x)) _ _ refl
+    (one_of (not (is_label_field (bytes_at 20 16 x))) _ _ refl
+    (one_of (not (is_provider_field (bytes_at 95 16 x))) _ _ refl (with_past v x)))
+
+-- the version changes nothing of that
+version_past : (v : Version) (r : Result Metadata DecodeFault) → past_magic r ≡ true
+    → past_magic (said (with_version v r)) ≡ true
+version_past v (Ok m) e = refl
+version_past v (Err fault) e = e
+
+read_past : (o : Option Version) (x : List ℕ) → past_magic (said (read_as o x)) ≡ true
+read_past None x = refl
+read_past (Some v) x = version_past v (said_in v x) (said_past v x)
 
 decoded_past : (x : List ℕ) → carries x ≡ true → past_magic (decode_of x) ≡ true
-unfolding decode_of
-decoded_past x e =
-    rw e (one_of (not (number_at 16 4 x == 4)) _ _ refl
-    (one_of (not (has_hash x)) _ _ refl
-    (one_of (not (is_label_field (bytes_at 20 16 x))) _ _ refl
-    (one_of (not (is_provider_field (bytes_at 95 16 x))) _ _ refl (with_past x)))))
+unfolding reading_of
+decoded_past x e = rw e (read_past (version_in x) x)
 
 decoded_magic : (x : List ℕ) → carries x ≡ false → decode_of x ≡ Err Magic
-unfolding decode_of
+unfolding reading_of
 decoded_magic x e = rw e refl
 
 -- of what is left out for a reason

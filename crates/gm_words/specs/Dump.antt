@@ -4,10 +4,13 @@ use Rattle.std.specs.Fmt.{decimal}
 use Rattle.hex.specs.Hex.{encode_lower}
 use Rattle.gm_metadata.specs.Balance.{balance_name}
 use Rattle.gm_metadata.specs.Faults.{fault_number}
-use Rattle.gm_metadata.specs.Reading.{decode_of}
+use Rattle.gm_metadata.specs.Reading.{reading_of}
 use Rattle.gm_metadata.specs.Sector.{bytes_at}
+use Rattle.gm_metadata.specs.Versions.{version_number, fields_end}
 use Rattle.gm_metadata.specs.declared.fault.DecodeFault.{DecodeFault}
+use Rattle.gm_metadata.specs.declared.decoding.Reading.{Reading}
 use Rattle.gm_metadata.specs.declared.metadata.Metadata.{Metadata}
+use Rattle.gm_metadata.specs.declared.version.Version.{Version}
 use Rattle.gm_words.specs.Lines.{line, field, number, mirror_flag_names, disk_flag_names, joined}
 
 -- the provider that a component was hardcoded for
@@ -16,10 +19,10 @@ provider_name (Some name) = name
 provider_name None = codes "(none)"
 
 -- the lines from the magic to the balance
-abbrev pub first_lines : Metadata → List ℕ
-first_lines m =
+abbrev pub first_lines : Version → Metadata → List ℕ
+first_lines v m =
     field (codes "magic") (codes "GEOM::MIRROR")
-    ++ number (codes "version") 4
+    ++ number (codes "version") (version_number v)
     ++ field (codes "name") m.name
     ++ number (codes "mid") m.mid
     ++ number (codes "did") m.did
@@ -41,14 +44,16 @@ last_lines m =
     ++ field (codes "provider") (provider_name m.provider)
     ++ number (codes "provsize") m.provsize
 
--- the lines of metadata with this hash
-abbrev pub metadata_text : Metadata → List ℕ → List ℕ
-metadata_text m hash = first_lines m ++ last_lines m ++ field (codes "md5") (encode_lower hash)
+-- the lines of what was read, with the hash of its version
+abbrev pub reading_text : Reading → List ℕ → List ℕ
+reading_text r hash =
+    first_lines r.version r.metadata ++ last_lines r.metadata
+    ++ field (codes "md5") (encode_lower hash)
 
 -- what the sector says, or the first fault that stands in it
-abbrev pub text_of : Result Metadata DecodeFault → List ℕ → List ℕ
-text_of (Ok m) hash = metadata_text m hash
-text_of (Err fault) hash = line (codes "fault " ++ decimal (fault_number fault))
+abbrev pub text_of : Result Reading DecodeFault → List ℕ → List ℕ
+text_of (Ok r) sector = reading_text r (bytes_at (fields_end r.version) 16 sector)
+text_of (Err fault) sector = line (codes "fault " ++ decimal (fault_number fault))
 
 abbrev pub dump_text : List ℕ → List ℕ
-dump_text sector = text_of (decode_of sector) (bytes_at 119 16 sector)
+dump_text sector = text_of (reading_of sector) sector

@@ -2,10 +2,12 @@
 
 ghost use Rattle.std.specs.Prelude.{◌≡◌, IfOk};
 ghost use Rattle.std.specs.String.{string_bytes};
-ghost use Rattle.gm_words.specs.Dump.{dump_text, first_lines, last_lines, metadata_text, provider_name};
+ghost use Rattle.gm_metadata.specs.Sector.{bytes_at};
+ghost use Rattle.gm_metadata.specs.Versions.{fields_end};
+ghost use Rattle.gm_words.specs.Dump.{dump_text, first_lines, last_lines, reading_text, provider_name};
 
 use crate::lines::{disk_flags_text, mirror_flags_text, push_field, push_number};
-use gm_metadata::{Metadata, decode};
+use gm_metadata::{Metadata, Reading, Version, read_sector};
 use std::alloc::{AllocError, Global};
 
 // The provider that a component was hardcoded for.
@@ -19,12 +21,12 @@ fn provider_name(metadata: &Metadata) -> &str
 }
 
 // The lines from the magic to the balance.
-fn first_lines(alloc: Global, m: &Metadata) -> Result<String, AllocError>
-    ensures { IfOk result (λ text. string_bytes text ≡ first_lines m.now) }
+fn first_lines(alloc: Global, version: Version, m: &Metadata) -> Result<String, AllocError>
+    ensures { IfOk result (λ text. string_bytes text ≡ first_lines version m.now) }
 {
     let mut text = String::new(alloc);
     push_field(&mut text, "magic", "GEOM::MIRROR")?;
-    push_number(&mut text, "version", 4)?;
+    push_number(&mut text, "version", u64::from(version.number()))?;
     push_field(&mut text, "name", m.name.as_str())?;
     push_number(&mut text, "mid", u64::from(m.mid))?;
     push_number(&mut text, "did", u64::from(m.did))?;
@@ -54,25 +56,34 @@ fn last_lines(alloc: Global, m: &Metadata) -> Result<String, AllocError>
     Ok(text)
 }
 
-// The lines of metadata with this hash.
-fn metadata_text(alloc: Global, m: &Metadata, hash: &[u8]) -> Result<String, AllocError>
-    ensures { IfOk result (λ text. string_bytes text ≡ metadata_text m.now hash.now) }
+// The lines of what was read, with the hash of its version.
+fn reading_text(alloc: Global, reading: &Reading, hash: &[u8]) -> Result<String, AllocError>
+    ensures { IfOk result (λ text. string_bytes text ≡ reading_text reading.now hash.now) }
 {
     let digits = hex::encode(alloc, hash)?;
-    let last = last_lines(alloc, m)?;
-    let mut text = first_lines(alloc, m)?;
+    let last = last_lines(alloc, &reading.metadata)?;
+    let mut text = first_lines(alloc, reading.version, &reading.metadata)?;
     text.push_str(last.as_str())?;
     push_field(&mut text, "md5", digits.as_str())?;
     Ok(text)
 }
 
-/// What a sector says, in 19 lines, or the line `fault N` where it doesn't decode. The lines are
-/// this project's own, after `gmirror dump`.
+// The bytes at the place of a version's hash.
+fn written_hash(version: Version, sector: &[u8; 512]) -> &[u8]
+    ensures { result.now ≡ bytes_at (fields_end version) 16 sector.now }
+{
+    let at = version.hash_at();
+    &sector[at..at + 16]
+}
+
+/// What a sector says, in 19 lines, or the line `fault N` where it doesn't decode. The hash is the
+/// one at the place of the sector's version. The lines are this project's own, after
+/// `gmirror dump`.
 pub fn dump_text(alloc: Global, sector: &[u8; 512]) -> Result<String, AllocError>
     ensures { IfOk result (λ text. string_bytes text ≡ dump_text sector.now) }
 {
-    match decode(sector) {
-        Ok(metadata) => metadata_text(alloc, &metadata, &sector[119..135]),
+    match read_sector(sector) {
+        Ok(reading) => reading_text(alloc, &reading, written_hash(reading.version, sector)),
         Err(fault) => {
             let number = fault.number();
             format!(in alloc; "fault {number}\n")

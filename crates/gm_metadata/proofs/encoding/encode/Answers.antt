@@ -1,7 +1,8 @@
 use Rattle.std.proofs.Common.{rules, arith, refl, sym, subst, ◌≡◌, ◌∙◌, ◌++◌, ◌∷◌, [], ◌-◌, length, replicate, ap, ℕ, List}
 use Rattle.md5.specs.Md5.{md5}
 use Rattle.gm_metadata.specs.Labels.{padded}
-use Rattle.gm_metadata.specs.Sector.{magic, u64_field, provider_field, Full}
+use Rattle.gm_metadata.specs.declared.version.Version.TheVariants.{Four}
+use Rattle.gm_metadata.specs.Sector.{magic, u32_field, u64_field, provider_field, Full}
 use Rattle.gm_metadata.specs.Reading.{fields, spelling, encoded}
 use Rattle.gm_metadata.proofs.Sector.{next, ended, fields_appended}
 use Rattle.gm_metadata.proofs.Laid.{Named, encoded_is_full}
@@ -16,7 +17,7 @@ sector : goal.returns-clause-sector
 unfolding encoded spelling
 sector c =
     let m = c.args.metadata.now in
-    let all : c.push_u64-5.new.self ≡ fields m =
+    let all : c.push_u64-5.new.self ≡ fields Four m =
     next _ _ _ _ _ c.push_u64-5.ensures.bytes refl
     (next _ _ _ _ _ c.push-3.ensures.bytes c.provider_field.ensures
     (next _ _ _ _ _ c.push_u64-4.ensures.bytes (ap u64_field c.bits-2.ensures)
@@ -33,10 +34,10 @@ sector c =
     (next _ _ _ _ _ c.push_u32-3.ensures.bytes refl
     (next _ _ _ _ _ c.push_u32-2.ensures.bytes refl
     (next _ _ _ _ _ c.push-2.ensures.bytes c.to_field.ensures.value
-    (next _ _ _ _ _ c.push_u32.ensures.bytes refl
+    (next _ _ _ _ _ c.push_u32.ensures.bytes (ap u32_field c.number.ensures)
     (next _ _ _ _ _ c.push.ensures.bytes magic_bytes c.new-draft.ensures.bytes)))))))))))))))))
     ∙ fields_appended m in
-    let hash : c.digest-digest.result ≡ md5 (fields m) =
+    let hash : c.digest-digest.result ≡ md5 (fields Four m) =
     c.digest-digest.ensures ∙ ap md5 (c.written.ensures ∙ all) in
     let n : length c.push-4.new.self ≡ 135 = omega arith in
     ended _ _ _ _ _ _ _ all c.push-4.ensures.bytes hash
