@@ -1,5 +1,5 @@
 -- The fault of a sector is the first that stands in it.
-use Rattle.std.proofs.Common.{◌≡◌, ◌≢◌, ◌∙◌, ◌<◌, ◌≤◌, ◌+◌, ◌⊎◌, ℕ, Bool, true, false, not, nat_lt, ◌==◌, refl, sym, ap, subst, arith, List, length, drop, slice_index, true≢false, inl, inr, lit≤, Option, Some, None, Result, Ok, Err, if◌then◌else◌}
+use Rattle.std.proofs.Common.{◌≡◌, ◌≢◌, ◌∙◌, ◌<◌, ◌≤◌, ◌+◌, ℕ, Bool, true, false, not, nat_lt, ◌==◌, refl, sym, ap, subst, arith, List, length, drop, slice_index, true≢false, inl, inr, lit≤, Option, Some, None, Result, Ok, Err, if◌then◌else◌}
 use Rattle.std.specs.Prelude.{IfErr}
 use Rattle.std.proofs.lemmas.List.{length-take-le, length-drop}
 use Rattle.std.proofs.lemmas.Bool.Decides.{nat_tests, eqb_tells, not_from_Decides}
@@ -10,7 +10,7 @@ use Rattle.gm_metadata.specs.Faults.{fault_number}
 use Rattle.gm_metadata.specs.Labels.{is_label_field}
 use Rattle.gm_metadata.specs.Reading.{is_provider_field, version_in, has_hash, settings_of, with_settings, said_in, with_version, read_as, reading_of, said, decode_of}
 use Rattle.gm_metadata.specs.Sector.{bytes_at, number_at, carries, HoldsLabel, IsOf, WrongHash, WrongFlags, Stands, Cause}
-use Rattle.gm_metadata.specs.Versions.{version_number, version_numbered, fields_end, mirror_flags_end}
+use Rattle.gm_metadata.specs.Versions.{version_numbered, mirror_flags_end}
 use Rattle.gm_metadata.specs.declared.metadata.Metadata.{Metadata}
 use Rattle.gm_metadata.specs.declared.decoding.Reading.{Reading}
 use Rattle.gm_metadata.specs.declared.decoding.Settings.{Settings}

@@ -1,6 +1,5 @@
 -- The versions that are read: what sets one apart from another.
-use Rattle.std.specs.Prelude.{◌≡◌, ℕ, ◌<◌, ◌+◌, ◌==◌, List, [], Option, Some, None, if◌then◌else◌}
-use Rattle.byteorder.specs.Endian.{little_bytes}
+use Rattle.std.specs.Prelude.{◌≡◌, ℕ, ◌<◌, ◌+◌, ◌==◌, Option, Some, None, if◌then◌else◌}
 use Rattle.gm_metadata.specs.Flags.{mirror_bits}
 use Rattle.gm_metadata.specs.declared.metadata.Metadata.{Metadata}
 use Rattle.gm_metadata.specs.declared.version.Version.{Version}

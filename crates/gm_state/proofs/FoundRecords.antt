@@ -1,5 +1,5 @@
 -- What is found in the records by its name, and the rules that hold of it.
-use Rattle.std.proofs.Common.{[], ◌≡◌, ℕ, ◌≤◌, ◌<◌, false, subst, arith, List, ◌∷◌, Some, None, length, ◌∙◌, inl, inr, ◌-◌, true, not, refl, sym, ap, IsSome}
+use Rattle.std.proofs.Common.{[], ◌≡◌, ℕ, ◌≤◌, ◌<◌, false, subst, arith, List, ◌∷◌, Some, None, length, ◌∙◌, inl, inr, true, not, refl, sym, ap, IsSome}
 use Rattle.gm_lists.specs.Ordered.{Has}
 use Rattle.gm_state.specs.Records.{Records, IsState, IsMirror, members, provider}
 use Rattle.gm_state.specs.Lookups.{mirror_of, component_of, is_active}

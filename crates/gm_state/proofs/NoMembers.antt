@@ -1,5 +1,5 @@
 -- A mirror without components.
-use Rattle.std.proofs.Common.{◌≡◌, inl, inr, ℕ, Bool, false, refl, List, [], ◌∷◌, filter}
+use Rattle.std.proofs.Common.{◌≡◌, inl, inr, ℕ, false, refl, List, [], ◌∷◌}
 use Rattle.gm_metadata.specs.Images.{same_label}
 use Rattle.gm_state.specs.declared.records.Component.{Component}
 use Rattle.gm_state.specs.Records.{members}

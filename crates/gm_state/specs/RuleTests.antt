@@ -1,5 +1,5 @@
 -- The rules of a state as tests: the form by which the code goes.
-use Rattle.std.specs.Prelude.{◌^◌, ℕ, Bool, true, not, ◌&&◌, ◌||◌, ◌==◌, nat_lt, nat_le, List, [], ◌∷◌, length}
+use Rattle.std.specs.Prelude.{◌^◌, Bool, not, ◌&&◌, ◌||◌, ◌==◌, nat_lt, nat_le, List, length}
 use Rattle.std.specs.List.{list_any, list_all}
 use Rattle.gm_metadata.specs.Images.{same_label}
 use Rattle.gm_metadata.specs.Labels.{is_label}

@@ -1,8 +1,6 @@
 -- The abstract bench.
-use Rattle.std.specs.Prelude.{◌≡◌, ◌≢◌, ◌==◌, Option, ◌+◌, ◌-◌, ◌/◌, ◌<◌, ◌≤◌, ℕ, Bool, true, false, ◌&&◌, nat_lt, IsTrue, List, [], ◌∷◌, length, Some, None, if◌then◌else◌}
-use Rattle.std.specs.List.{list_all}
+use Rattle.std.specs.Prelude.{◌≡◌, ◌≢◌, ◌==◌, Option, ◌+◌, ◌-◌, ◌/◌, ◌<◌, ◌≤◌, ℕ, Bool, true, false, IsTrue, List, [], ◌∷◌, length, Some, None, if◌then◌else◌}
 use Rattle.gm_metadata.specs.Images.{Image, Sizes}
-use Rattle.gm_metadata.specs.Labels.{is_label_byte}
 use Rattle.gm_metadata.specs.Reading.{encoded}
 use Rattle.gm_metadata.specs.Sector.{Bears, IsMetadata}
 use Rattle.gm_metadata.specs.declared.metadata.Metadata.{Metadata}

@@ -16,6 +16,19 @@ returns c =
     let provider : c.in-Some-provider_of.provider ≡ provider_in (bytes_at 95 16 x) =
     search rules in
     let settings : settings_of v x ≡ Ok c.in_ok-settings.settings = search rules in
-    rw (hash, labelled, name, passes, provider, settings, c.u32_at.ensures, c.u32_at-2.ensures,
-    c.u32_at-3.ensures, c.u32_at-4.ensures, c.u32_at-5.ensures, c.u64_at.ensures,
-    c.u64_at-2.ensures, c.provsize_in.ensures) refl
+    rw (
+      hash,
+      labelled,
+      name,
+      passes,
+      provider,
+      settings,
+      c.u32_at.ensures,
+      c.u32_at-2.ensures,
+      c.u32_at-3.ensures,
+      c.u32_at-4.ensures,
+      c.u32_at-5.ensures,
+      c.u64_at.ensures,
+      c.u64_at-2.ensures,
+      c.provsize_in.ensures,
+    ) refl

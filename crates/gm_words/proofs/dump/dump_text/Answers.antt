@@ -1,4 +1,4 @@
-use Rattle.std.proofs.Common.{◌≡◌, sym, subst, List, ℕ, Result, Ok}
+use Rattle.std.proofs.Common.{◌≡◌, subst, List, ℕ, Result, Ok}
 use Rattle.std.specs.Prelude.{IfOk}
 use Rattle.std.specs.String.{string_bytes}
 use Rattle.gm_metadata.specs.Reading.{reading_of}
