@@ -96,7 +96,7 @@ module _ {S H : Type 0} (g : Ghosts S) (view : H → View) (size : H → Sizes) 
 module _ {S H : Type 0} (s : Ghosts S) (h : ShelfGhosts H) (store : Held S) (shelf : H)
     (key p : List ℕ) where
   -- what is answered of the loss
-  pub record IsAnswered (it : Without S H) : Type 0 where
+  pub record IsOpenedWithout (it : Without S H) : Type 0 where
     pub answers : h.honest shelf → IsOpen s store → DiskKept s (store_behind it)
         → AnswersLoss s h.view h.size store shelf key p it
     pub undone : h.honest shelf → IsOpen s store → DiskKept s (store_behind it)
@@ -107,7 +107,7 @@ module _ {S H : Type 0} (s : Ghosts S) (h : ShelfGhosts H) (store : Held S) (she
   -- Why it failed. By the tables that are stored and the sizes alone: F3 only where the device
   -- failed, and F6 only where the tables don't say a state with readable intents, or the key's row
   -- is one that this program doesn't write. F5 comes before anything is written.
-  pub record IsUnanswered (e : OpenFault S H) : Type 0 where
+  pub record IsUnopenedWithout (e : OpenFault S H) : Type 0 where
     pub lacks : h.honest shelf → IsOpen s store → DiskKept s e.store → (q : List ℕ)
         → e.fault ≡ Absent q → LacksImage s h.view h.size store shelf key p e.store e.shelf q
     pub absent : (q : List ℕ) → e.fault ≡ Absent q → e.shelf ≡ shelf

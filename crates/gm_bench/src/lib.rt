@@ -11,8 +11,8 @@
 //! registry (`specs/Audits.antt`); `bare_shelf` looks at a shelf that has no bench.
 //!
 //! `open_without` opens a bench of which an image is gone for good: `specs/Losing.antt` says what
-//! is pending behind that, `specs/Without.antt` why it is refused, and `specs/GivingUp.antt` what it
-//! leaves and answers. `without` judges it, with `loss`, and `lose` writes it.
+//! is pending behind that, `specs/Without.antt` why it is refused, and `specs/GivingUp.antt` what
+//! it leaves and answers. `without` judges it, with `loss`, and `lose` writes it.
 #![tactic(auto)]
 
 mod accept;

@@ -4,7 +4,7 @@ ghost use Rattle.std.specs.Prelude.{◌≡◌, false, IfOk, IfErr, MatchResult};
 ghost use Rattle.gm_registry.specs.Opening.{IsForeign};
 ghost use Rattle.gm_registry.specs.Registry.{DiskKept, IsOpen, LeavesAlone, stored};
 ghost use Rattle.gm_bench.specs.Calls.{Keep};
-ghost use Rattle.gm_bench.specs.GivingUp.{GivesUp, IsAnswered, IsUnanswered, shelf_behind, store_behind};
+ghost use Rattle.gm_bench.specs.GivingUp.{GivesUp, IsOpenedWithout, IsUnopenedWithout, shelf_behind, store_behind};
 
 use crate::answer::Answer;
 use crate::bench::{Bench, OpenFault};
@@ -62,9 +62,9 @@ impl<S: Alter, H: Shelf> Bench<S, H> {
             (λ e. DiskKept S.Store e.store → LeavesAlone S.Store store e.store
             × (e.shelf ≡ shelf)) }
         ensures opened { IfOk result
-            (IsAnswered S.Store H.Shelf store shelf key.now provider) }
+            (IsOpenedWithout S.Store H.Shelf store shelf key.now provider) }
         ensures unopened { IfErr result
-            (IsUnanswered S.Store H.Shelf store shelf key.now provider) }
+            (IsUnopenedWithout S.Store H.Shelf store shelf key.now provider) }
         ensures keep { MatchResult result
             (λ it. Keep S.Store H.Shelf store (store_behind it) shelf (shelf_behind it))
             (λ e. Keep S.Store H.Shelf store e.store shelf e.shelf) }

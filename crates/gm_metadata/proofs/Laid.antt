@@ -97,7 +97,8 @@ provsize_of v n = record { width = fields_end v - 111; bytes = provsize_field v 
 -- the fields of a metadata in a version, in their order
 abbrev table : Version → Metadata → List Field
 table v m =
-    name_of magic ∷ u32_of (version_number v) ∷ name_of (padded m.name) ∷ u32_of m.mid ∷ u32_of m.did ∷ u8_of m.all
+    name_of magic ∷ u32_of (version_number v) ∷ name_of (padded m.name)
+    ∷ u32_of m.mid ∷ u32_of m.did ∷ u8_of m.all
     ∷ u32_of m.genid ∷ u32_of m.syncid
     ∷ u8_of m.priority ∷ u32_of m.slice ∷ u8_of (balance_code m.balance) ∷ u64_of m.mediasize
     ∷ u32_of 512 ∷ u64_of m.sync_offset

@@ -110,7 +110,8 @@ version_read (Ok r) = Some (version_number r.version)
 -- the fields before the hash, in their order
 unfoldable pub fields : versions.Version → Metadata → List ℕ
 fields v m =
-    magic ++ (u32_field (version_number v) ++ (padded m.name ++ (u32_field m.mid ++ (u32_field m.did ++ (m.all ∷ []
+    magic ++ (u32_field (version_number v) ++ (padded m.name
+    ++ (u32_field m.mid ++ (u32_field m.did ++ (m.all ∷ []
     ++ (u32_field m.genid
     ++ (u32_field m.syncid
     ++ (m.priority ∷ [] ++ (u32_field m.slice ++ (balance_code m.balance ∷ []

@@ -2,8 +2,8 @@
 //! it is written. Two older layouts are read.
 //!
 //! Begin with `metadata.rt`, the record, and `version.rt`, the layouts; then `encoding.rt` and
-//! `decoding.rt`, which write and read it exactly. `label.rt` has the names of mirrors and providers, and `equality.rt` compares two
-//! sectors. Nothing here takes memory.
+//! `decoding.rt`, which write and read it exactly. `label.rt` has the names of mirrors and
+//! providers, and `equality.rt` compares two sectors. Nothing here takes memory.
 #![tactic(auto)]
 
 mod balance;

@@ -56,8 +56,8 @@ IsTasting t report =
 abbrev pub MayEndWithout : Status → Type 0
 MayEndWithout status = (status ≡ Done) ⊎ (status ≡ Refused)
 
--- what shows mirrors or serves requests is done; an audit may find damage, and of a batch a line may
--- be refused
+-- what shows mirrors or serves requests is done; an audit may find damage, and of a batch a line
+-- may be refused
 abbrev pub MayEnd : Work → Status → Type 0
 MayEnd work.Recover status = status ≡ Done
 MayEnd (work.RecoverWithout provider key) status = MayEndWithout status

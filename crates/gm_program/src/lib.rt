@@ -5,8 +5,8 @@
 //! `over_streams.rt` is all of it, for the jobs that `gm_command_line` reads from words. What is
 //! done at a bench, by `bench_command.rt`, is done in the folder and with the registry that
 //! `place.rt` opens and closes; `recover.rt`, `show.rt`, `audit.rt`, `batch.rt` and `serve.rt` have
-//! the commands, the last with `exchange.rt` for one connection and `log.rt` for its line. `taste.rt`
-//! has the one that looks at a folder without a registry.
+//! the commands, the last with `exchange.rt` for one connection and `log.rt` for its line.
+//! `taste.rt` has the one that looks at a folder without a registry.
 #![tactic(auto)]
 
 mod audit;

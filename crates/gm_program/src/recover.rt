@@ -20,7 +20,8 @@ pub fn recovered(alloc: Global, redone: u64) -> Result<Report, Fault>
     })
 }
 
-/// Says what the loss was answered with which a bench was opened, and how many intents were pending.
+/// Says what the loss was answered with which a bench was opened, and how many intents were
+/// pending.
 pub fn recovered_without(
     alloc: Global,
     key: &str,

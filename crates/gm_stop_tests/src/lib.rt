@@ -4,8 +4,8 @@
 //! `tests/scripts.rt` has the scripts, and what is found behind each of their commands, written
 //! down by hand; `tests/media.rt` runs them, and `tests/found.rt` says what is found.
 //! `shelf_stops.rt` stops the shelf, `store_stops.rt` the store, and `closed.rt` asks more of a
-//! bench that was stopped. A proof that names a store or a shelf carries all that it is made of, so that these are
-//! proved by themselves, and not with the other tests of the bench.
+//! bench that was stopped. A proof that names a store or a shelf carries all that it is made of, so
+//! that these are proved by themselves, and not with the other tests of the bench.
 #![tactic(auto)]
 
 #[cfg(test)]

@@ -255,8 +255,8 @@ pub fn is_stopped<S: Alter, H: Shelf>(
     }
 }
 
-/// The same command of a bench that was opened since: it is done, unless it was accepted before, and
-/// then repeated.
+/// The same command of a bench that was opened since: it is done, unless it was accepted before,
+/// and then repeated.
 pub fn is_over<S: Alter + Drop, H: Shelf + Drop>(
     alloc: Global,
     store: Connection<S>,

@@ -1,4 +1,5 @@
-//! What a bench is opened over, a store of two files and images, and what an opening leaves of both.
+//! What a bench is opened over, a store of two files and images, and what an opening leaves of
+//! both.
 
 use super::found::mirrors;
 use super::{got, must};
@@ -40,7 +41,8 @@ pub(super) enum Job {
 pub(super) enum Came {
     /// It is opened, and so many intents were pending.
     Opened(u64),
-    /// It is opened without the provider, the loss is answered so, and so many intents were pending.
+    /// It is opened without the provider, the loss is answered so, and so many intents were
+    /// pending.
     Lost(Answer, u64),
     /// The loss is refused by this number.
     Refused(u8),

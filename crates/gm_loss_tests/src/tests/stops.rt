@@ -1,6 +1,6 @@
 //! A loss whose shelf or store stops at each of its calls in turn. The same loss is asked again of
-//! what that leaves and of what a crash leaves of it: it is done, or repeated where it was accepted,
-//! and what is found behind it is what a loss leaves that wasn't stopped.
+//! what that leaves and of what a crash leaves of it: it is done, or repeated where it was
+//! accepted, and what is found behind it is what a loss leaves that wasn't stopped.
 
 use super::found::bare;
 use super::losses::{FILLING, done, must_be_over, repeated};
