@@ -4,6 +4,7 @@ use Rattle.std.proofs.Common.{◌≡◌, ◌≢◌, ◌∙◌, inl, inr, ⊎_eli
 use Rattle.std.specs.List.Sorted.{IsPermutation}
 use Rattle.std.specs.Prelude.{IsSome, IsSomeAnd, IfSome}
 use Rattle.std.proofs.lemmas.Bool.{cases_Bool}
+use Rattle.gm_metadata.specs.declared.version.Version.TheVariants.{Four}
 use Rattle.gm_metadata.proofs.Laid.{named, encoded_is_full}
 use Rattle.gm_metadata.specs.Images.{Image, Sizes, same_label, zeros}
 use Rattle.gm_metadata.specs.Labels.{is_label}
@@ -72,7 +73,7 @@ metadata_fits s m k state of =
 
 own : (m : Mirror) (k : Component) → IsMetadata (metadata m k)
     → Bears (encoded (metadata m k)) (metadata m k)
-own m k fits = (encoded_is_full (metadata m k) (named (metadata m k) fits)).bears
+own m k fits = (Four, (encoded_is_full (metadata m k) (named (metadata m k) fits)).bears)
 
 -- a claim speaks of its provider alone
 claims_there : (m : Mirror) (k : Component) (list : ℕ → ℕ → List ℕ) (x y : Image)

@@ -110,6 +110,16 @@ passes x q h =
       metadata_is = ap (λ (s : Settings). metadata_in v s x) same ∙ o.2;
     }
 
+-- what is decoded has its fields at their places, in some version
+pub said_fields : (x : List ℕ) (m : Metadata) → decode_of x ≡ Ok m
+    → (v : versions.Version) × (metadata_in v (settings_in x) x ≡ m)
+said_fields x m e = by (reading_of x) refl e
+  where
+    by : (r : Result Reading DecodeFault) → reading_of x ≡ r → said r ≡ Ok m
+        → (v : versions.Version) × (metadata_in v (settings_in x) x ≡ m)
+    by (Ok q) is e = (q.version, (passes x q is).metadata_is ∙ cc)
+    by (Err k) is e = cc
+
 passed : (v : versions.Version) (x : List ℕ) → Passes v x
     → reading_of x ≡ Ok (record { version = v; metadata = metadata_in v (settings_in x) x })
 unfolding reading_of said_in settings_of

@@ -1,7 +1,9 @@
 //! The hash of a sector is taken from the library `md5`. The sums here are those of RFC 1321, and
-//! that of the written sector is `md5sum`'s of its first 119 bytes.
+//! those of the sectors are `md5sum`'s of their first 119 bytes, in version 2 of their first 111.
 
-use gm_metadata::{Balance, DiskFlags, Label, Metadata, MirrorFlags};
+use gm_metadata::{
+    Balance, DiskFlags, Label, Metadata, MirrorFlags, Version, decode, encode, version_of,
+};
 use gm_shelf::{MemShelf, Shelf, write_meta};
 use gm_words::dump_text;
 use md5::{Digest, Md5};
@@ -15,6 +17,15 @@ const OF_NOTHING: [u8; 16] = [
 // The sum of `abc`.
 const OF_ABC: [u8; 16] = [
     0x90, 0x01, 0x50, 0x98, 0x3c, 0xd2, 0x4f, 0xb0, 0xd6, 0x96, 0x3f, 0x7d, 0x28, 0xe1, 0x7f, 0x72,
+];
+
+// The sums of the metadata below in versions 2 and 3.
+const IN_TWO: [u8; 16] = [
+    0x9e, 0xba, 0x41, 0xf2, 0x04, 0xfe, 0x1a, 0xd2, 0x2c, 0xdb, 0xab, 0xff, 0x33, 0x18, 0x6e, 0xd4,
+];
+
+const IN_THREE: [u8; 16] = [
+    0x1f, 0x18, 0x80, 0x9c, 0x8f, 0xf1, 0x95, 0x62, 0x8b, 0xf0, 0xd6, 0x58, 0x49, 0xb4, 0x63, 0x7e,
 ];
 
 const DUMP: &str = "magic: GEOM::MIRROR
@@ -94,5 +105,40 @@ fn a_written_sector_says_its_metadata(rt: HostRuntime) -> Result<(), Fail> {
     assert_eq!(rt; text.as_str(), DUMP);
     shelf.read(name, 2, &mut last)?;
     assert!(rt; last == [7; 512]);
+    Ok(())
+}
+
+// The same metadata in an older version, with this hash at its place and rests behind it.
+fn older(version: Version, hash: &[u8; 16]) -> Result<[u8; 512], Fail> {
+    let mut sector = encode(&metadata()?);
+    let at = version.hash_at();
+    sector[16] = version.number() as u8;
+    sector[at..at + 16].copy_from_slice(hash);
+    Ok(sector)
+}
+
+#[test]
+fn version_2_tells_no_size_of_the_provider(rt: HostRuntime) -> Result<(), Fail> {
+    let sector = older(Version::Two, &IN_TWO)?;
+    assert!(rt; version_of(&sector) == Some(2));
+    let said = Metadata {
+        provsize: 0,
+        ..metadata()?
+    };
+    assert!(rt; decode(&sector) == Ok(said));
+    let text = dump_text(rt.alloc(), &sector)?;
+    assert!(rt; text.starts_with("magic: GEOM::MIRROR\nversion: 2\nname: gm0\n"));
+    assert!(rt; text.ends_with("provsize: 0\nmd5: 9eba41f204fe1ad22cdbabff33186ed4\n"));
+    Ok(())
+}
+
+#[test]
+fn version_3_tells_the_size_of_the_provider(rt: HostRuntime) -> Result<(), Fail> {
+    let sector = older(Version::Three, &IN_THREE)?;
+    assert!(rt; version_of(&sector) == Some(3));
+    assert!(rt; decode(&sector) == Ok(metadata()?));
+    let text = dump_text(rt.alloc(), &sector)?;
+    assert!(rt; text.starts_with("magic: GEOM::MIRROR\nversion: 3\nname: gm0\n"));
+    assert!(rt; text.ends_with("provsize: 2048\nmd5: 1f18809c8ff195628bf0d65849b4637e\n"));
     Ok(())
 }

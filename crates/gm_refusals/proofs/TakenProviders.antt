@@ -25,7 +25,7 @@ use Rattle.gm_taste.specs.declared.provider.Provider.{Provider}
 use Rattle.gm_taste.specs.declared.tasted.Reason.TheVariants.{OtherName, OtherSize}
 use Rattle.std.proofs.lemmas.List.{get_or-drop}
 use Rattle.gm_metadata.specs.Sector.{number_at}
-use Rattle.gm_metadata.proofs.Read.{passes}
+use Rattle.gm_metadata.proofs.Read.{said_fields}
 
 -- a list of bytes passes the test, and what passes it is bytes
 pub are_bytes : (xs : List ℕ) → ((i : ℕ) → get_or xs i 0 < 256) → is_bytes xs ≡ true
@@ -120,7 +120,7 @@ number_fits xs small at =
 read_fits : (xs : List ℕ) (m : Metadata) → ((i : ℕ) → slice_index xs i < 256) → decode_of xs ≡ Ok m
     → Fits m
 read_fits xs m small e =
-    let is = (passes xs m e).1 in
+    let is = (said_fields xs m e).1 in
     record {
       mid = subst (λ (k : ℕ). k < 2 ^ 32) (ap (λ (k : Metadata). k.mid) is)
           (number_fits xs small 36);

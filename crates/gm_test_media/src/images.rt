@@ -2,8 +2,9 @@
 
 ghost use Rattle.std.specs.Prelude.{◌↔◌, IsOk, IsTrue};
 
-use gm_metadata::Label;
+use gm_metadata::{Label, Metadata, encode};
 use gm_shelf::{MemShelf, Shelf};
+use md5::{Digest, Md5};
 use std::alloc::Global;
 use std::test::Fail;
 
@@ -28,6 +29,18 @@ pub fn image(alloc: Global, data_sectors: u8, last: [u8; 512]) -> Result<Vec<[u8
     }
     sectors.push(last)?;
     Ok(sectors)
+}
+
+/// The sector that says this in version 2 or 3, with the hash that its fields have then.
+pub fn in_version(number: u8, metadata: &Metadata) -> [u8; 512] {
+    let end = if number == 2 { 111 } else { 119 };
+    let written = encode(metadata);
+    let mut sector = [0; 512];
+    sector[..end].copy_from_slice(&written[..end]);
+    sector[16] = number;
+    let hash: [u8; 16] = Md5::digest(&sector[..end]).into();
+    sector[end..end + 16].copy_from_slice(&hash);
+    sector
 }
 
 /// Adds an image under a name that no other has.

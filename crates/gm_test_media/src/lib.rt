@@ -15,5 +15,5 @@ mod images;
 mod stopping_store;
 
 pub use counting_shelf::{CallCounts, CountingShelf};
-pub use images::{add, image, label, must, must_be_alike, sector, shelf};
+pub use images::{add, image, in_version, label, must, must_be_alike, sector, shelf};
 pub use stopping_store::{ALL, Calls, StoreBytes, memory};

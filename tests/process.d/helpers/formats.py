@@ -11,13 +11,15 @@ LETTERS = b"ABCDEFGHIJKLMNOPQRSTUVWXYZabcdefghijklmnopqrstuvwxyz0123456789._-"
 BALANCES = ["none", "round-robin", "load", "split", "prefer"]
 MIRROR_FLAGS = [(1, "NOAUTOSYNC"), (2, "NOFAILSYNC")]
 DISK_FLAGS = [(1, "DIRTY"), (2, "SYNCHRONIZING"), (4, "FORCE_SYNC"), (8, "INACTIVE")]
-# name, offset, size; the last of them is the hash of all bytes before it
+# name, offset, size
 FIELDS = [
     ("version", 16, 4), ("mid", 36, 4), ("did", 40, 4), ("all", 44, 1), ("genid", 45, 4), ("syncid", 49, 4),
     ("priority", 53, 1), ("slice", 54, 4), ("balance", 58, 1), ("mediasize", 59, 8), ("sectorsize", 67, 4),
     ("sync_offset", 71, 8), ("mflags", 79, 8), ("dflags", 87, 8), ("provsize", 111, 8),
 ]
-HASHED = 119
+# For each version: how many bytes before the hash it has, which are those that the hash is of; and the bits of the mirror's
+# flags. Version 2 ends before the size of the provider.
+VERSIONS = {2: (111, 1), 3: (119, 1), 4: (119, 3)}
 
 
 def is_of_letters(text, most):
@@ -42,20 +44,27 @@ def unpadded(field):
     return text if is_label(text) and padded(text) == field else None
 
 
+def hashed(version):
+    """How many bytes the hash is of; for a number that is no version, as for version 4."""
+    return VERSIONS.get(version, VERSIONS[4])[0]
+
+
 def encode(said):
-    """The sector of these fields, with the hash that they have."""
+    """The sector of these fields in their version, with the hash that they have."""
     sector = bytearray(512)
     sector[0:16] = said["magic"]
     sector[20:36] = said["name"]
     sector[95:111] = said["provider"]
     for name, at, size in FIELDS:
-        sector[at : at + size] = said[name].to_bytes(size, "little")
+        if at + size <= hashed(said["version"]):
+            sector[at : at + size] = said[name].to_bytes(size, "little")
     return rehashed(sector)
 
 
 def rehashed(sector):
     sector = bytearray(sector)
-    sector[HASHED : HASHED + 16] = hashlib.md5(sector[:HASHED]).digest()
+    end = hashed(int.from_bytes(sector[16:20], "little"))
+    sector[end : end + 16] = hashlib.md5(sector[:end]).digest()
     return bytes(sector)
 
 
@@ -68,10 +77,13 @@ def decode(sector):
     said = numbers(sector)
     if sector[:16] != MAGIC:
         return 1
-    if said["version"] != 4:
+    if said["version"] not in VERSIONS:
         return 2
-    if sector[HASHED : HASHED + 16] != hashlib.md5(sector[:HASHED]).digest():
+    end, mirror_bits = VERSIONS[said["version"]]
+    if sector[end : end + 16] != hashlib.md5(sector[:end]).digest():
         return 3
+    if end == 111:
+        said["provsize"] = 0
     said["name"] = unpadded(sector[20:36])
     if said["name"] is None:
         return 4
@@ -81,11 +93,11 @@ def decode(sector):
         return 5
     if said["balance"] >= len(BALANCES):
         return 6
-    if said["mflags"] & ~3 or said["dflags"] & ~15:
+    if said["mflags"] & ~mirror_bits or said["dflags"] & ~15:
         return 7
     if said["sectorsize"] != 512:
         return 8
-    said["hash"] = sector[HASHED : HASHED + 16].hex()
+    said["hash"] = sector[end : end + 16].hex()
     return said
 
 
@@ -98,7 +110,7 @@ def dump(sector):
     said = decode(sector)
     if isinstance(said, int):
         return f"fault {said}\n", 1
-    lines = ["magic: GEOM::MIRROR", "version: 4", f"name: {said['name'].decode()}"]
+    lines = ["magic: GEOM::MIRROR", f"version: {said['version']}", f"name: {said['name'].decode()}"]
     lines += [f"{name}: {said[name]}" for name in ["mid", "did", "all", "genid", "syncid", "priority", "slice"]]
     lines += [f"balance: {BALANCES[said['balance']]}", f"mediasize: {said['mediasize']}", "sectorsize: 512"]
     lines += [f"sync_offset: {said['sync_offset']}", f"mflags: {flags(said['mflags'], MIRROR_FLAGS)}"]

@@ -17,10 +17,11 @@ overwrite() {
     printf "$3" | dd of="$1" bs=1 seek=$((1536 + $2)) conv=notrunc 2>/dev/null
 }
 
-# Gives that sector the MD5 that its first 119 bytes have.
+# Gives that sector, behind its first 119 bytes or so many, the MD5 that they have.
 rehash() {
-    hash=$(dd if="$1" bs=1 skip=1536 count=119 2>/dev/null | md5sum | cut -c 1-32 | sed 's/../0x& /g')
-    printf '%b' "$(printf '\\0%03o' $hash)" | dd of="$1" bs=1 seek=1655 conv=notrunc 2>/dev/null
+    hashed=${2:-119}
+    hash=$(dd if="$1" bs=1 skip=1536 count="$hashed" 2>/dev/null | md5sum | cut -c 1-32 | sed 's/../0x& /g')
+    printf '%b' "$(printf '\\0%03o' $hash)" | dd of="$1" bs=1 seek=$((1536 + hashed)) conv=notrunc 2>/dev/null
 }
 
 # Writes bytes at places of that sector: words of a place and its bytes each.
@@ -41,6 +42,17 @@ put_edited() {
     shift 2
     edit_sector "$edited" "$@"
     rehash "$edited"
+}
+
+# Makes that sector one of version 2 or 3: the same fields, of which version 2 lacks the last one, their MD5, and zeros.
+make_older() {
+    case $2 in
+        2) hashed=111 ;;
+        *) hashed=119 ;;
+    esac
+    overwrite "$1" 16 "\\00$2"
+    head -c $((512 - hashed)) /dev/zero | dd of="$1" bs=1 seek=$((1536 + hashed)) conv=notrunc 2>/dev/null
+    rehash "$1" "$hashed"
 }
 
 # What a dump prints of a component of gm0 on an image of four sectors: its number, how many the mirror counts, its flags

@@ -27,11 +27,11 @@ def label(least=1):
 def sound():
     """The fields of a sector that says something, among a few mirrors."""
     return {
-        "magic": formats.MAGIC, "version": 4, "name": formats.padded(rng.choice([b"gm0", b"gm1", b"-", label(12)])),
+        "magic": formats.MAGIC, "version": rng.choice([2, 3, 4]), "name": formats.padded(rng.choice([b"gm0", b"gm1", b"-", label(12)])),
         "mid": rng.choice([0, 7, 8]), "did": rng.randrange(2**32), "all": rng.randrange(256),
         "genid": rng.choice([0, 1, 2]), "syncid": rng.choice([1, 2, 2**32 - 1]), "priority": rng.randrange(256),
         "slice": rng.randrange(2**32), "balance": rng.randrange(5), "mediasize": rng.randrange(2**20) * 512,
-        "sectorsize": 512, "sync_offset": rng.randrange(2**20) * 512, "mflags": rng.randrange(4),
+        "sectorsize": 512, "sync_offset": rng.randrange(2**20) * 512, "mflags": rng.choice([0, 1, 0, 1, 2, 3]),
         "dflags": rng.choice([0, 0, 1, 2, 6, rng.randrange(16)]), "provider": bytes(16), "provsize": 0,
     }
 
@@ -43,7 +43,7 @@ def whole(said):
 def flipped(said):
     """One bit is another, and the hash is as it was."""
     sector = bytearray(formats.encode(said))
-    at = rng.choice(PLACES[: 135 * 8]) if rng.random() < 0.9 else rng.choice(PLACES)
+    at = rng.choice(PLACES[: (formats.hashed(said["version"]) + 16) * 8]) if rng.random() < 0.9 else rng.choice(PLACES)
     sector[at // 8] ^= 1 << at % 8
     return bytes(sector)
 
@@ -85,7 +85,7 @@ def wrong(said):
         elif name in ("name", "provider"):
             said[name] = no_name(said[name])
         elif name == "version":
-            said[name] = rng.choice([0, 1, 2, 3, 5, 2**32 - 1, 4 << 8])
+            said[name] = rng.choice([0, 1, 5, 2**32 - 1, 2 << 8, 3 << 8, 4 << 8])
         elif name == "balance":
             said[name] = rng.randint(5, 255)
         elif name == "sectorsize":
@@ -93,6 +93,13 @@ def wrong(said):
         else:
             said[name] = 1 << rng.randrange(64)
     return formats.encode(said)
+
+
+def renamed(said):
+    """The fields of one version under the number of another, with the hash of either."""
+    sector = bytearray(formats.encode(said))
+    sector[16] = rng.choice([1, 2, 3, 4, 5])
+    return bytes(sector) if rng.random() < 0.5 else formats.rehashed(sector)
 
 
 def noise(said):
@@ -104,10 +111,11 @@ def noise(said):
         return rng.randbytes(512)
     if kind == 2:
         return formats.rehashed(formats.MAGIC + rng.randbytes(496))
-    return formats.encode(said)[:135] + rng.randbytes(377)
+    end = formats.hashed(said["version"]) + 16
+    return formats.encode(said)[:end] + rng.randbytes(512 - end)
 
 
-MAKERS = [whole, whole, flipped, flipped, at_limits, at_limits, wrong, wrong, noise]
+MAKERS = [whole, whole, whole, flipped, flipped, at_limits, at_limits, wrong, wrong, renamed, noise]
 
 
 def image(name):
@@ -159,8 +167,13 @@ def tell(name, wrong):
     print(f"failed {name}: {len(wrong)} times, the first: {wrong[0]}" if wrong else f"ok {name}", flush=True)
 
 
+def version_of(sector):
+    said = formats.decode(sector) if sector else 28
+    return None if isinstance(said, int) else said["version"]
+
+
 names = [f"{number:03d}-{label()[:8].decode()}".encode() for number in range(1000)]
-wrong_tastes, wrong_dumps, counts = [], [], {}
+wrong_tastes, wrong_dumps, counts, versions = [], [], {}, {}
 for turn in range(tasted // 1000):
     images = [(name, image(name)) for name in names]
     for name, content in images:
@@ -168,6 +181,8 @@ for turn in range(tasted // 1000):
         fault = formats.decode(content[-512:]) if content else 28
         fault = fault if isinstance(fault, int) else 0
         counts[fault] = counts.get(fault, 0) + 1
+        version = version_of(content[-512:])
+        versions[version] = versions.get(version, 0) + 1
     found = check_taste(images)
     wrong_tastes += [f"in turn {turn}, {found}"] if found else []
     for name, content in rng.sample(images, dumped * 1000 // tasted):
@@ -177,3 +192,6 @@ tell(f"a taste of {tasted} last sectors", wrong_tastes)
 tell(f"a dump of {dumped // (tasted // 1000) * (tasted // 1000)} of them", wrong_dumps)
 few = [fault for fault in range(9) if counts.get(fault, 0) < tasted // 1000]
 tell(f"they have each fault, and none: {sorted(counts.items())}", [f"few have the faults {few}"] if few else [])
+few = [version for version in formats.VERSIONS if versions.get(version, 0) < tasted // 10]
+told = sorted((version, count) for version, count in versions.items() if version)
+tell(f"a tenth at least is read in each version: {told}", [f"few have the versions {few}"] if few else [])

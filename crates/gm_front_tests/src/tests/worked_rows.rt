@@ -6,9 +6,9 @@ mod rows;
 use super::{Told, got, in_memory, must, open, tell, try_status};
 use gm_bench::{Bench, taste_shelf};
 use gm_front::BatchEnd;
-use gm_metadata::{Balance, DiskFlags, Label, Metadata, MirrorFlags, decode, encode};
+use gm_metadata::{Balance, DiskFlags, Label, Metadata, MirrorFlags, Version, encode, read_sector};
 use gm_shelf::{MemShelf, Shelf};
-use gm_test_media::{add, sector};
+use gm_test_media::{add, in_version, sector};
 use gm_words::tasting_text;
 use rows::ROWS;
 use sqlite::{Alter, Connection};
@@ -26,10 +26,12 @@ enum Data {
     All(u8),
 }
 
-// What a last sector says of a component of gm0 that is in sync.
+// What a last sector says of a component of gm0 that is in sync, and in which version.
 #[derive(Clone, Copy)]
 struct Said {
+    version: u8,
     did: u32,
+    all: u8,
     genid: u32,
     syncid: u32,
 }
@@ -87,8 +89,30 @@ fn bare(name: &'static str, sectors: u64, data: Data) -> Image {
 
 // One of four sectors that says of itself that it is in sync.
 fn claiming(name: &'static str, did: u32, genid: u32, syncid: u32, data: Data) -> Image {
+    let (version, all) = (4, 2);
     Image {
-        last: Some(Said { did, genid, syncid }),
+        last: Some(Said {
+            version,
+            did,
+            all,
+            genid,
+            syncid,
+        }),
+        ..bare(name, 4, data)
+    }
+}
+
+// One of so many components that says the same in an older version.
+fn older(name: &'static str, version: u8, did: u32, all: u8, data: Data) -> Image {
+    let (genid, syncid) = (0, 1);
+    Image {
+        last: Some(Said {
+            version,
+            did,
+            all,
+            genid,
+            syncid,
+        }),
         ..bare(name, 4, data)
     }
 }
@@ -108,6 +132,10 @@ fn image_of(word: &str) -> Option<Image> {
         "last-a" => Some(claiming("a.img", 1, 0, 4294967295, Data::Plain)),
         "last-b" => Some(claiming("b.img", 2, 0, 4294967295, Data::Plain)),
         "claiming-a" => Some(claiming("a.img", 1, 0, 1, Data::Plain)),
+        "claiming-b" => Some(claiming("b.img", 2, 0, 1, Data::Plain)),
+        "second-a" => Some(older("a.img", 2, 1, 2, Data::Plain)),
+        "second-alone" => Some(older("a.img", 2, 1, 1, Data::Plain)),
+        "third-b" => Some(older("b.img", 3, 2, 2, Data::But(2))),
         "unequal-b" => Some(claiming("b.img", 2, 0, 1, Data::But(2))),
         "left-a" => Some(claiming("a.img", 1, 1, 1, Data::Plain)),
         "lost-b" => Some(claiming("b.img", 2, 0, 1, Data::Plain)),
@@ -131,11 +159,11 @@ fn last_sector(rt: &impl Abort, said: Option<Said>) -> [u8; 512] {
     let Some(said) = said else {
         return [0; 512];
     };
-    encode(&Metadata {
+    let metadata = Metadata {
         name: Label::new("gm0").expect(rt, "no label"),
         mid: 7,
         did: said.did,
-        all: 2,
+        all: said.all,
         genid: said.genid,
         syncid: said.syncid,
         priority: 0,
@@ -147,7 +175,12 @@ fn last_sector(rt: &impl Abort, said: Option<Said>) -> [u8; 512] {
         dflags: NO_DISK_FLAGS,
         provider: None,
         provsize: 2048,
-    })
+    };
+    if said.version == 4 {
+        encode(&metadata)
+    } else {
+        in_version(said.version, &metadata)
+    }
 }
 
 fn sectors_of(rt: &(impl Abort + AllocGlobal), image: &Image) -> Vec<[u8; 512]> {
@@ -205,12 +238,23 @@ fn push_said<H: Shelf>(rt: &impl Abort, text: &mut String, shelf: &mut H, image:
 }
 
 fn push_last(rt: &impl Abort, text: &mut String, name: &str, last: &[u8; 512]) {
-    match decode(last) {
+    match read_sector(last) {
         Err(fault) => {
             let number = fault.number();
             write!(text, "{name}: fault {number}, ").expect(rt, "no memory");
         }
-        Ok(metadata) => push_metadata(rt, text, name, &metadata),
+        Ok(reading) => {
+            push_metadata(rt, text, name, &reading.metadata);
+            push_version(rt, text, reading.version);
+        }
+    }
+}
+
+// Appends a version that isn't the one that is written.
+fn push_version(rt: &impl Abort, text: &mut String, version: Version) {
+    if version != Version::Four {
+        let number = version.number();
+        write!(text, "version {number}, ").expect(rt, "no memory");
     }
 }
 
@@ -307,5 +351,5 @@ fn each_row_is_found_as_worked_out_by_hand(rt: HostRuntime) {
         must_find(&rt, &row_of(text).expect(&rt, "no row"));
         count = count.saturating_add(1);
     }
-    must(&rt, count == 24, "another count of rows");
+    must(&rt, count == 27, "another count of rows");
 }

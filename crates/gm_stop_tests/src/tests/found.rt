@@ -16,6 +16,8 @@ const IMAGES: [&str; 3] = ["a.img", "b.img", "c.img"];
 
 // Where fields of metadata stand in a last sector. Of a number of several bytes it is the one that
 // isn't always zero here.
+const VERSION: usize = 16;
+
 const NAME: usize = 20;
 
 const MID: usize = 36;
@@ -74,10 +76,14 @@ fn said<H: Shelf>(rt: &(impl Abort + AllocGlobal), shelf: &mut H, name: &str) ->
     let text = if last == [0; 512] {
         format!(in rt.alloc(); "\n{name}: nothing, data of {owner}")
     } else {
-        let (did, all, genid, syncid) = (last[DID], last[ALL], last[GENID], last[SYNCID]);
+        let (version, did, all) = (last[VERSION], last[DID], last[ALL]);
+        let (genid, syncid) = (last[GENID], last[SYNCID]);
         let (balance, flags) = (last[BALANCE], last[FLAGS]);
+        let numbers = format!(in rt.alloc();
+            "version {version}, did {did} of {all}, genid {genid}, syncid {syncid}"
+        ).expect(rt, "no memory");
         format!(in rt.alloc();
-            "\n{name}: did {did} of {all}, genid {genid}, syncid {syncid}, balance {balance}, flags {flags}, data of {owner}"
+            "\n{name}: {numbers}, balance {balance}, flags {flags}, data of {owner}"
         )
     };
     text.expect(rt, "no memory")

@@ -7,11 +7,10 @@
 //! says and whose data it has.
 
 use super::got;
-use gm_metadata::encode;
 use gm_shelf::MemShelf;
 use gm_state::Reply;
 use gm_test_bench::{IN_SYNC, metadata};
-use gm_test_media::add;
+use gm_test_media::{add, in_version};
 use std::process::Abort;
 
 /// What the images carry at the start of a script.
@@ -19,7 +18,7 @@ use std::process::Abort;
 pub(super) enum Start {
     /// No metadata.
     Bare,
-    /// Those of a mirror that no registry knows.
+    /// Those of a mirror that no registry knows, in older versions.
     OfAMirror,
 }
 
@@ -49,36 +48,36 @@ c.img: nothing, data of c.img
 = label --mid 7 --did 1 gm0 a.img | 1 |
 gm0             COMPLETE 1/1
   a.img           ACTIVE
-a.img: did 1 of 1, genid 0, syncid 1, balance 2, flags 0, data of a.img
+a.img: version 4, did 1 of 1, genid 0, syncid 1, balance 2, flags 0, data of a.img
 b.img: nothing, data of b.img
 c.img: nothing, data of c.img
 = insert --did 2 gm0 b.img | 2 |
 gm0             DEGRADED 1/2
   a.img           ACTIVE
   b.img           SYNCHRONIZING 0 of 3
-a.img: did 1 of 2, genid 0, syncid 1, balance 2, flags 0, data of a.img
-b.img: did 2 of 2, genid 0, syncid 1, balance 2, flags 2, data of b.img
+a.img: version 4, did 1 of 2, genid 0, syncid 1, balance 2, flags 0, data of a.img
+b.img: version 4, did 2 of 2, genid 0, syncid 1, balance 2, flags 2, data of b.img
 c.img: nothing, data of c.img
 = advance gm0 b.img | 2 |
 gm0             COMPLETE 2/2
   a.img           ACTIVE
   b.img           ACTIVE
-a.img: did 1 of 2, genid 0, syncid 1, balance 2, flags 0, data of a.img
-b.img: did 2 of 2, genid 0, syncid 1, balance 2, flags 0, data of a.img
+a.img: version 4, did 1 of 2, genid 0, syncid 1, balance 2, flags 0, data of a.img
+b.img: version 4, did 2 of 2, genid 0, syncid 1, balance 2, flags 0, data of a.img
 c.img: nothing, data of c.img
 = deactivate gm0 b.img | 2 |
 gm0             DEGRADED 1/2
   a.img           ACTIVE
   b.img           INACTIVE
-a.img: did 1 of 2, genid 0, syncid 2, balance 2, flags 0, data of a.img
-b.img: did 2 of 2, genid 0, syncid 1, balance 2, flags 8, data of a.img
+a.img: version 4, did 1 of 2, genid 0, syncid 2, balance 2, flags 0, data of a.img
+b.img: version 4, did 2 of 2, genid 0, syncid 1, balance 2, flags 8, data of a.img
 c.img: nothing, data of c.img
 = activate gm0 b.img | 1 |
 gm0             DEGRADED 1/2
   a.img           ACTIVE
   b.img           SYNCHRONIZING 0 of 3
-a.img: did 1 of 2, genid 0, syncid 2, balance 2, flags 0, data of a.img
-b.img: did 2 of 2, genid 0, syncid 2, balance 2, flags 2, data of a.img
+a.img: version 4, did 1 of 2, genid 0, syncid 2, balance 2, flags 0, data of a.img
+b.img: version 4, did 2 of 2, genid 0, syncid 2, balance 2, flags 2, data of a.img
 c.img: nothing, data of c.img
 ",
 };
@@ -94,84 +93,84 @@ c.img: nothing, data of c.img
 = label --mid 7 --did 1 gm0 a.img | 1 |
 gm0             COMPLETE 1/1
   a.img           ACTIVE
-a.img: did 1 of 1, genid 0, syncid 1, balance 2, flags 0, data of a.img
+a.img: version 4, did 1 of 1, genid 0, syncid 1, balance 2, flags 0, data of a.img
 b.img: nothing, data of b.img
 c.img: nothing, data of c.img
 = insert --did 2 gm0 b.img | 2 |
 gm0             DEGRADED 1/2
   a.img           ACTIVE
   b.img           SYNCHRONIZING 0 of 3
-a.img: did 1 of 2, genid 0, syncid 1, balance 2, flags 0, data of a.img
-b.img: did 2 of 2, genid 0, syncid 1, balance 2, flags 2, data of b.img
+a.img: version 4, did 1 of 2, genid 0, syncid 1, balance 2, flags 0, data of a.img
+b.img: version 4, did 2 of 2, genid 0, syncid 1, balance 2, flags 2, data of b.img
 c.img: nothing, data of c.img
 = advance gm0 b.img | 2 |
 gm0             COMPLETE 2/2
   a.img           ACTIVE
   b.img           ACTIVE
-a.img: did 1 of 2, genid 0, syncid 1, balance 2, flags 0, data of a.img
-b.img: did 2 of 2, genid 0, syncid 1, balance 2, flags 0, data of a.img
+a.img: version 4, did 1 of 2, genid 0, syncid 1, balance 2, flags 0, data of a.img
+b.img: version 4, did 2 of 2, genid 0, syncid 1, balance 2, flags 0, data of a.img
 c.img: nothing, data of c.img
 = lost gm0 b.img | 1 |
 gm0             DEGRADED 1/2
   a.img           ACTIVE
-a.img: did 1 of 2, genid 1, syncid 1, balance 2, flags 0, data of a.img
-b.img: did 2 of 2, genid 0, syncid 1, balance 2, flags 0, data of a.img
+a.img: version 4, did 1 of 2, genid 1, syncid 1, balance 2, flags 0, data of a.img
+b.img: version 4, did 2 of 2, genid 0, syncid 1, balance 2, flags 0, data of a.img
 c.img: nothing, data of c.img
 = forget gm0 | 1 |
 gm0             COMPLETE 1/1
   a.img           ACTIVE
-a.img: did 1 of 1, genid 1, syncid 1, balance 2, flags 0, data of a.img
-b.img: did 2 of 2, genid 0, syncid 1, balance 2, flags 0, data of a.img
+a.img: version 4, did 1 of 1, genid 1, syncid 1, balance 2, flags 0, data of a.img
+b.img: version 4, did 2 of 2, genid 0, syncid 1, balance 2, flags 0, data of a.img
 c.img: nothing, data of c.img
 ",
 };
 
-/// A mirror that is found on images, filled, and taken apart.
+/// A mirror that is found on images in older versions, filled, and taken apart.
 pub(super) const ADOPTED: Script = Script {
     start: Start::OfAMirror,
     stations: "= | 0 |
 no mirrors
-a.img: did 1 of 2, genid 0, syncid 1, balance 2, flags 0, data of a.img
-b.img: did 2 of 2, genid 0, syncid 1, balance 2, flags 0, data of b.img
-c.img: did 3 of 2, genid 0, syncid 1, balance 2, flags 0, data of c.img
+a.img: version 2, did 1 of 2, genid 0, syncid 1, balance 2, flags 0, data of a.img
+b.img: version 3, did 2 of 2, genid 0, syncid 1, balance 2, flags 0, data of b.img
+c.img: version 2, did 3 of 2, genid 0, syncid 1, balance 2, flags 0, data of c.img
 = adopt gm0 a.img b.img | 2 |
 gm0             DEGRADED 1/2
   a.img           ACTIVE
   b.img           SYNCHRONIZING 0 of 3
-a.img: did 1 of 2, genid 0, syncid 1, balance 2, flags 0, data of a.img
-b.img: did 2 of 2, genid 0, syncid 1, balance 2, flags 2, data of b.img
-c.img: did 3 of 2, genid 0, syncid 1, balance 2, flags 0, data of c.img
+a.img: version 4, did 1 of 2, genid 0, syncid 1, balance 2, flags 0, data of a.img
+b.img: version 4, did 2 of 2, genid 0, syncid 1, balance 2, flags 2, data of b.img
+c.img: version 2, did 3 of 2, genid 0, syncid 1, balance 2, flags 0, data of c.img
 = configure --balance split gm0 | 2 |
 gm0             DEGRADED 1/2
   a.img           ACTIVE
   b.img           SYNCHRONIZING 0 of 3
-a.img: did 1 of 2, genid 0, syncid 1, balance 3, flags 0, data of a.img
-b.img: did 2 of 2, genid 0, syncid 1, balance 3, flags 2, data of b.img
-c.img: did 3 of 2, genid 0, syncid 1, balance 2, flags 0, data of c.img
+a.img: version 4, did 1 of 2, genid 0, syncid 1, balance 3, flags 0, data of a.img
+b.img: version 4, did 2 of 2, genid 0, syncid 1, balance 3, flags 2, data of b.img
+c.img: version 2, did 3 of 2, genid 0, syncid 1, balance 2, flags 0, data of c.img
 = rebuild gm0 b.img | 1 |
 gm0             DEGRADED 1/2
   a.img           ACTIVE
   b.img           SYNCHRONIZING 0 of 3
-a.img: did 1 of 2, genid 0, syncid 1, balance 3, flags 0, data of a.img
-b.img: did 2 of 2, genid 0, syncid 1, balance 3, flags 6, data of b.img
-c.img: did 3 of 2, genid 0, syncid 1, balance 2, flags 0, data of c.img
+a.img: version 4, did 1 of 2, genid 0, syncid 1, balance 3, flags 0, data of a.img
+b.img: version 4, did 2 of 2, genid 0, syncid 1, balance 3, flags 6, data of b.img
+c.img: version 2, did 3 of 2, genid 0, syncid 1, balance 2, flags 0, data of c.img
 = advance gm0 b.img | 2 |
 gm0             COMPLETE 2/2
   a.img           ACTIVE
   b.img           ACTIVE
-a.img: did 1 of 2, genid 0, syncid 1, balance 3, flags 0, data of a.img
-b.img: did 2 of 2, genid 0, syncid 1, balance 3, flags 0, data of a.img
-c.img: did 3 of 2, genid 0, syncid 1, balance 2, flags 0, data of c.img
+a.img: version 4, did 1 of 2, genid 0, syncid 1, balance 3, flags 0, data of a.img
+b.img: version 4, did 2 of 2, genid 0, syncid 1, balance 3, flags 0, data of a.img
+c.img: version 2, did 3 of 2, genid 0, syncid 1, balance 2, flags 0, data of c.img
 = remove gm0 b.img | 2 |
 gm0             COMPLETE 1/1
   a.img           ACTIVE
-a.img: did 1 of 1, genid 0, syncid 1, balance 3, flags 0, data of a.img
+a.img: version 4, did 1 of 1, genid 0, syncid 1, balance 3, flags 0, data of a.img
 b.img: nothing, data of a.img
-c.img: did 3 of 2, genid 0, syncid 1, balance 2, flags 0, data of c.img
+c.img: version 2, did 3 of 2, genid 0, syncid 1, balance 2, flags 0, data of c.img
 = clear c.img | 1 |
 gm0             COMPLETE 1/1
   a.img           ACTIVE
-a.img: did 1 of 1, genid 0, syncid 1, balance 3, flags 0, data of a.img
+a.img: version 4, did 1 of 1, genid 0, syncid 1, balance 3, flags 0, data of a.img
 b.img: nothing, data of a.img
 c.img: nothing, data of c.img
 = destroy gm0 | 1 |
@@ -222,11 +221,13 @@ impl Script {
     /// Its images at the start. Each sector of data has a number of its own in each byte.
     pub(super) fn shelf(self, rt: &(impl Abort + AllocGlobal)) -> MemShelf {
         let mut shelf = MemShelf::new(rt.alloc());
-        for (name, did) in [("a.img", 1u8), ("b.img", 2), ("c.img", 3)] {
+        for (name, did, version) in [("a.img", 1u8, 2), ("b.img", 2, 3), ("c.img", 3, 2)] {
             let first = did * 10;
             let last = match self.start {
                 Start::Bare => [0; 512],
-                Start::OfAMirror => encode(&got(rt, metadata(u32::from(did), 2, IN_SYNC))),
+                Start::OfAMirror => {
+                    in_version(version, &got(rt, metadata(u32::from(did), 2, IN_SYNC)))
+                }
             };
             let sectors = [[first; 512], [first + 1; 512], [first + 2; 512], last];
             let sectors = Vec::from_array(rt.alloc(), sectors).expect(rt, "no memory");

@@ -346,4 +346,37 @@ with a refusal
 no mirrors
 a.img: did 1 of 2, genid 1, syncid 1, flags 0, offset 0, 1536 of 2048 bytes, plain
 b.img: did 2 of 2, genid 0, syncid 1, flags 0, offset 0, 1536 of 2048 bytes, plain
+= an adoption of a label of version 2 | second-alone |
+k1 adopt gm0 a.img
+|
+k1 ok 1
+without a refusal
+gm0             COMPLETE 1/1
+  a.img           ACTIVE
+a.img: did 1 of 1, genid 0, syncid 1, flags 0, offset 0, 1536 of 2048 bytes, plain
+= an adoption of versions 2 and 4 | second-a claiming-b |
+k1 adopt gm0 a.img b.img
+|
+k1 ok 1
+without a refusal
+gm0             COMPLETE 2/2
+  a.img           ACTIVE
+  b.img           ACTIVE
+a.img: did 1 of 2, genid 0, syncid 1, flags 0, offset 0, 1536 of 2048 bytes, plain
+b.img: did 2 of 2, genid 0, syncid 1, flags 0, offset 0, 1536 of 2048 bytes, plain
+= what versions 2 and 3 tell, and one of them is adopted | second-a third-b taste |
+k1 adopt gm1 a.img
+k2 adopt gm0 b.img
+|
+k1 refused 26
+k2 ok 1
+with a refusal
+gm0             DEGRADED 1/2
+  b.img           ACTIVE
+a.img: did 1 of 2, genid 0, syncid 1, flags 0, offset 0, 1536 of 0 bytes, version 2, plain
+b.img: did 2 of 2, genid 0, syncid 1, flags 0, offset 0, 1536 of 2048 bytes, other
+gm0             mid 7 genid 0 syncid 1
+  a.img           ACTIVE
+  b.img           ACTIVE
+  source: a.img
 ";
