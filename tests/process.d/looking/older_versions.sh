@@ -11,6 +11,8 @@ sectors=$work/sectors
 mkdir "$sectors"
 put_image "$sectors/a.img" a fresh
 make_older "$sectors/a.img" 2
+tail -c 512 "$sectors/a.img" >"$work/made"
+expect_same 'the example of version 2 has the fields of the fresh one' "$top/examples/version-2.sector" "$work/made"
 run dump --shelf "$sectors" a.img
 expect 'a dump of version 2, which tells no size of the image' 0 \
     "$(dumped_older 2 7db178c1fb62c407959876f477891425 's/^provsize: .*/provsize: 0/')" ''
