@@ -32,10 +32,10 @@ def plain(sectors, other=None):
     return b"".join(parts)
 
 
-def claiming(did, genid, syncid):
-    """The last sector of a component of gm0 in sync, whose mirror has two."""
+def claiming(did, genid, syncid, version=4, all=2):
+    """The last sector of a component of gm0 in sync, whose mirror has two or so many."""
     return formats.encode({
-        "magic": formats.MAGIC, "version": 4, "name": formats.padded(b"gm0"), "mid": 7, "did": did, "all": 2,
+        "magic": formats.MAGIC, "version": version, "name": formats.padded(b"gm0"), "mid": 7, "did": did, "all": all,
         "genid": genid, "syncid": syncid, "priority": 0, "slice": 4096, "balance": 2, "mediasize": 1536,
         "sectorsize": 512, "sync_offset": 0, "mflags": 0, "dflags": 0, "provider": bytes(16), "provsize": 2048,
     })
@@ -48,7 +48,10 @@ IMAGES = {
     "long-b": ("b.img", plain(257, 256) + BARE), "last-a": ("a.img", plain(3) + claiming(1, 0, LAST)),
     "last-b": ("b.img", plain(3) + claiming(2, 0, LAST)), "claiming-a": ("a.img", plain(3) + claiming(1, 0, 1)),
     "unequal-b": ("b.img", plain(3, 2) + claiming(2, 0, 1)), "left-a": ("a.img", plain(3) + claiming(1, 1, 1)),
-    "lost-b": ("b.img", plain(3) + claiming(2, 0, 1)),
+    "lost-b": ("b.img", plain(3) + claiming(2, 0, 1)), "claiming-b": ("b.img", plain(3) + claiming(2, 0, 1)),
+    "second-a": ("a.img", plain(3) + claiming(1, 0, 1, version=2)),
+    "second-alone": ("a.img", plain(3) + claiming(1, 0, 1, version=2, all=1)),
+    "third-b": ("b.img", plain(3, 2) + claiming(2, 0, 1, version=3)),
 }
 
 
