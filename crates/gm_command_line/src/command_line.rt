@@ -1,6 +1,7 @@
 //! The table of the program's own words, for `clap`, and what they ask for.
 
 use crate::job::{Job, Service, Work};
+use crate::settings::{REGISTRY, SHELF, Setting, Settings};
 use clap::builder::ValueParser;
 use clap::error::ErrorKind;
 use clap::{Arg, ArgAction, ArgMatches, Command, Error};
@@ -12,7 +13,8 @@ const MORE: &str =
     "recover, status, list, audit, batch and serve take --registry FILE --shelf DIR: the registry, which
 is made where there is none, and the folder with the images. Each first carries out what a run that
 stopped left pending; recover can go on without an image that is gone for good. dump and taste look
-at images alone, and write nothing.
+at images alone, and write nothing. Where --registry or --shelf is left out, the environment's
+GMBENCH_REGISTRY or GMBENCH_SHELF stands for it.
 
 Exit statuses:
   0  done
@@ -92,13 +94,15 @@ fn with_value<'a>(alloc: Global, id: &'a str, value: &'a str, help: &'a str) -> 
         .action(ArgAction::Set)
 }
 
-fn shelf_option<'a>(alloc: Global) -> Arg<'a> {
-    with_value(alloc, "shelf", "DIR", "The folder with the images").required(true)
+fn shelf_option<'a>(alloc: Global, settings: Settings<'a>) -> Arg<'a> {
+    with_value(alloc, "shelf", "DIR", "The folder with the images").required(
+        settings.shelf.is_unset(),
+    )
 }
 
-fn registry_option<'a>(alloc: Global) -> Arg<'a> {
+fn registry_option<'a>(alloc: Global, settings: Settings<'a>) -> Arg<'a> {
     let help = "The registry, which is made where there is none";
-    with_value(alloc, "registry", "FILE", help).required(true)
+    with_value(alloc, "registry", "FILE", help).required(settings.registry.is_unset())
 }
 
 fn provider_name<'a>(alloc: Global) -> Arg<'a> {
@@ -136,6 +140,13 @@ fn log_option<'a>(alloc: Global) -> Arg<'a> {
     Arg::new(alloc, "log")
         .long("log")
         .help("Logs a line for each connection, on standard error")
+        .action(ArgAction::SetTrue)
+}
+
+fn audit_option<'a>(alloc: Global) -> Arg<'a> {
+    Arg::new(alloc, "audit")
+        .long("audit")
+        .help("Audits the images first, and carries out nothing where it lists any")
         .action(ArgAction::SetTrue)
 }
 
@@ -205,14 +216,24 @@ const SUBCOMMANDS: [Subcommand; 8] = [
     },
 ];
 
-fn with_image<'a>(alloc: Global, command: Command<'a>) -> Result<Command<'a>, AllocError> {
-    command.arg(shelf_option(alloc))?.arg(provider_name(alloc))
+fn with_image<'a>(
+    alloc: Global,
+    command: Command<'a>,
+    settings: Settings<'a>,
+) -> Result<Command<'a>, AllocError> {
+    command
+        .arg(shelf_option(alloc, settings))?
+        .arg(provider_name(alloc))
 }
 
-fn with_bench<'a>(alloc: Global, command: Command<'a>) -> Result<Command<'a>, AllocError> {
+fn with_bench<'a>(
+    alloc: Global,
+    command: Command<'a>,
+    settings: Settings<'a>,
+) -> Result<Command<'a>, AllocError> {
     command
-        .arg(registry_option(alloc))?
-        .arg(shelf_option(alloc))
+        .arg(registry_option(alloc, settings))?
+        .arg(shelf_option(alloc, settings))
 }
 
 fn with_loss<'a>(alloc: Global, command: Command<'a>) -> Result<Command<'a>, AllocError> {
@@ -223,31 +244,36 @@ fn with_requests<'a>(alloc: Global, command: Command<'a>) -> Result<Command<'a>,
     command
         .arg(port_option(alloc))?
         .arg(count_option(alloc))?
-        .arg(log_option(alloc))
+        .arg(log_option(alloc))?
+        .arg(audit_option(alloc))
 }
 
 impl Subcommand {
-    fn command<'a>(self, alloc: Global) -> Result<Command<'a>, AllocError> {
+    fn command<'a>(self, alloc: Global, settings: Settings<'a>) -> Result<Command<'a>, AllocError> {
         let command = Command::new(alloc, self.name).about(self.about);
         match self.takes {
-            Takes::Image => with_image(alloc, command),
-            Takes::Folder => command.arg(shelf_option(alloc)),
-            Takes::Bench => with_bench(alloc, command),
-            Takes::BenchAndLoss => {
-                with_loss(alloc, with_bench(alloc, command.after_help(LOSSES))?)
+            Takes::Image => with_image(alloc, command, settings),
+            Takes::Folder => command.arg(shelf_option(alloc, settings)),
+            Takes::Bench => with_bench(alloc, command, settings),
+            Takes::BenchAndLoss => with_loss(
+                alloc,
+                with_bench(alloc, command.after_help(LOSSES), settings)?,
+            ),
+            Takes::BenchAndLines => {
+                with_bench(alloc, command.after_help(LINES), settings)?.arg(audit_option(alloc))
             }
-            Takes::BenchAndLines => with_bench(alloc, command.after_help(LINES)),
-            Takes::BenchAndRequests => {
-                with_requests(alloc, with_bench(alloc, command.after_help(REQUESTS))?)
-            }
+            Takes::BenchAndRequests => with_requests(
+                alloc,
+                with_bench(alloc, command.after_help(REQUESTS), settings)?,
+            ),
         }
     }
 }
 
-fn subcommands<'a>(alloc: Global) -> Result<Vec<Command<'a>>, AllocError> {
+fn subcommands<'a>(alloc: Global, settings: Settings<'a>) -> Result<Vec<Command<'a>>, AllocError> {
     let mut all = Vec::new(alloc);
     for subcommand in &SUBCOMMANDS {
-        all.push(subcommand.command(alloc)?)?;
+        all.push(subcommand.command(alloc, settings)?)?;
     }
     Ok(all)
 }
@@ -264,8 +290,8 @@ fn program<'a>(alloc: Global) -> Result<Command<'a>, AllocError> {
     )
 }
 
-fn program_command<'a>(alloc: Global) -> Result<Command<'a>, AllocError> {
-    let subcommands = subcommands(alloc)?;
+fn program_command<'a>(alloc: Global, settings: Settings<'a>) -> Result<Command<'a>, AllocError> {
+    let subcommands = subcommands(alloc, settings)?;
     program(alloc)?.subcommands(subcommands)
 }
 
@@ -291,38 +317,84 @@ const WITHOUT: LabelArgument = LabelArgument {
 
 impl LabelArgument {
     // clap's complaint of a value that is no label.
-    fn no_label(self, alloc: Global, value: &str) -> Result<Error, AllocError> {
+    fn no_label(
+        self,
+        alloc: Global,
+        settings: Settings<'_>,
+        value: &str,
+    ) -> Result<Error, AllocError> {
         let argument = self.name;
         let message = format!(in alloc; "invalid value '{value}' for '{argument}': {LABEL}")?;
-        self.complaint(alloc, message.as_str())
+        self.complaint(alloc, settings, message.as_str())
     }
 
     // The complaint of the subcommand with this message.
-    fn complaint(self, alloc: Global, message: &str) -> Result<Error, AllocError> {
+    fn complaint(
+        self,
+        alloc: Global,
+        settings: Settings<'_>,
+        message: &str,
+    ) -> Result<Error, AllocError> {
         let name = format!(in alloc; "gmbench {}", self.of.name)?;
-        let mut command = self.of.command(alloc)?.bin_name(name.as_str())?;
+        let mut command = self.of.command(alloc, settings)?.bin_name(name.as_str())?;
         command.error(ErrorKind::ValueValidation, message)
     }
 
     // The label that a value is, or clap's complaint.
-    fn label(self, alloc: Global, value: &str) -> Result<Label, Error> {
+    fn label(self, alloc: Global, settings: Settings<'_>, value: &str) -> Result<Label, Error> {
         match Label::new(value) {
             Some(label) => Ok(label),
-            None => Err(self.no_label(alloc, value)?),
+            None => Err(self.no_label(alloc, settings, value)?),
         }
     }
 }
 
-fn dump_of<'a>(alloc: Global, matches: &ArgMatches<'a>) -> Result<Job<'a>, Error> {
-    let folder = matches.get_str("shelf").unwrap_or("");
-    let provider = DUMPED.label(alloc, matches.get_str("provider").unwrap_or(""))?;
-    Ok(Job::Dump { folder, provider })
+// clap's complaint of a variable of the environment that stands for an option.
+fn not_utf8(alloc: Global, variable: &str) -> Result<Error, AllocError> {
+    let message = format!(in alloc; "the value of {variable} isn't UTF-8")?;
+    program(alloc)?.error(ErrorKind::ValueValidation, message.as_str())
 }
 
-fn taste_of<'a>(matches: &ArgMatches<'a>) -> Job<'a> {
-    Job::Taste {
-        folder: matches.get_str("shelf").unwrap_or(""),
+// What an option says, or what stands for it. clap has seen to it that there is one of them.
+fn chosen<'a>(
+    alloc: Global,
+    given: Option<&'a str>,
+    setting: Setting<'a>,
+    variable: &str,
+) -> Result<&'a str, Error> {
+    match (given, setting) {
+        (Some(text), _) | (None, Setting::Text(text)) => Ok(text),
+        (None, Setting::NotUtf8) => Err(not_utf8(alloc, variable)?),
+        (None, Setting::Unset) => Ok(""),
     }
+}
+
+fn folder_of<'a>(
+    alloc: Global,
+    given: &ArgMatches<'a>,
+    settings: Settings<'a>,
+) -> Result<&'a str, Error> {
+    chosen(alloc, given.get_str("shelf"), settings.shelf, SHELF)
+}
+
+fn registry_of<'a>(
+    alloc: Global,
+    given: &ArgMatches<'a>,
+    settings: Settings<'a>,
+) -> Result<&'a str, Error> {
+    let registry = given.get_str("registry");
+    chosen(alloc, registry, settings.registry, REGISTRY)
+}
+
+fn dump_of<'a>(
+    alloc: Global,
+    given: &ArgMatches<'a>,
+    settings: Settings<'a>,
+) -> Result<Job<'a>, Error> {
+    let folder = folder_of(alloc, given, settings)?;
+    let provider = given.get_str("provider").unwrap_or("");
+    let provider = DUMPED.label(alloc, settings, provider)?;
+    Ok(Job::Dump { folder, provider })
 }
 
 // How `serve` is to be done. clap has seen to it that the numbers are there and in range.
@@ -331,14 +403,19 @@ fn service_of(given: &ArgMatches<'_>) -> Service {
         port: given.get_one("port").unwrap_or(0),
         count: given.get_one("count").unwrap_or(u32::MAX),
         logs: given.get_flag("log"),
+        audits: given.get_flag("audit"),
     }
 }
 
 // What `recover` is to do. clap has seen to it that both options are there or none.
-fn recovery_of<'a>(alloc: Global, given: &ArgMatches<'a>) -> Result<Work<'a>, Error> {
+fn recovery_of<'a>(
+    alloc: Global,
+    given: &ArgMatches<'a>,
+    settings: Settings<'a>,
+) -> Result<Work<'a>, Error> {
     match (given.get_str("without"), given.get_str("key")) {
         (Some(provider), Some(key)) => {
-            let provider = WITHOUT.label(alloc, provider)?;
+            let provider = WITHOUT.label(alloc, settings, provider)?;
             Ok(Work::RecoverWithout { provider, key })
         }
         _ => Ok(Work::Recover),
@@ -350,40 +427,54 @@ fn work_of<'a>(
     alloc: Global,
     name: &str,
     given: &ArgMatches<'a>,
+    settings: Settings<'a>,
 ) -> Result<Option<Work<'a>>, Error> {
     Ok(match name {
-        "recover" => Some(recovery_of(alloc, given)?),
+        "recover" => Some(recovery_of(alloc, given, settings)?),
         "status" => Some(Work::Status),
         "list" => Some(Work::List),
         "audit" => Some(Work::Audit),
-        "batch" => Some(Work::Batch),
+        "batch" => Some(Work::Batch {
+            audits: given.get_flag("audit"),
+        }),
         "serve" => Some(Work::Serve(service_of(given))),
         _ => None,
     })
 }
 
 // The job that these matches of the program's words ask for.
-fn job_by<'a>(alloc: Global, matches: &ArgMatches<'a>) -> Result<Job<'a>, Error> {
+fn job_by<'a>(
+    alloc: Global,
+    matches: &ArgMatches<'a>,
+    settings: Settings<'a>,
+) -> Result<Job<'a>, Error> {
     let Some((name, given)) = matches.subcommand() else {
         return Ok(Job::Introduce);
     };
-    match work_of(alloc, name, given)? {
+    match work_of(alloc, name, given, settings)? {
         Some(work) => Ok(Job::AtBench {
             work,
-            registry: given.get_str("registry").unwrap_or(""),
-            folder: given.get_str("shelf").unwrap_or(""),
+            registry: registry_of(alloc, given, settings)?,
+            folder: folder_of(alloc, given, settings)?,
         }),
-        None if name == "taste" => Ok(taste_of(given)),
-        None => dump_of(alloc, given),
+        None if name == "taste" => Ok(Job::Taste {
+            folder: folder_of(alloc, given, settings)?,
+        }),
+        None => dump_of(alloc, given, settings),
     }
 }
 
-/// The job that the words ask for, without the program's own name. An `Err` is clap's: the text to
-/// print, or of the kind `OutOfMemory`.
-pub fn job_of<'a>(alloc: Global, words: &'a [&'a str]) -> Result<Job<'a>, Error> {
+/// The job that the words ask for, without the program's own name; of options that are left out,
+/// the settings say what stands for them. An `Err` is clap's: the text to print, or of the kind
+/// `OutOfMemory`.
+pub fn job_of<'a>(
+    alloc: Global,
+    words: &'a [&'a str],
+    settings: Settings<'a>,
+) -> Result<Job<'a>, Error> {
     if words.is_empty() {
         return Ok(Job::Introduce);
     }
-    let matches = program_command(alloc)?.try_get_matches_from(words)?;
-    job_by(alloc, &matches)
+    let matches = program_command(alloc, settings)?.try_get_matches_from(words)?;
+    job_by(alloc, &matches, settings)
 }

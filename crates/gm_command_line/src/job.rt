@@ -11,6 +11,8 @@ pub struct Service {
     pub count: u32,
     /// Whether a line is logged for each.
     pub logs: bool,
+    /// Whether the images are audited first, and nothing is served where the audit lists any.
+    pub audits: bool,
 }
 
 /// What is to be done at a bench whose opening carried out what was pending.
@@ -27,8 +29,9 @@ pub enum Work<'a> {
     List,
     /// List the components that the images no longer show as they are registered.
     Audit,
-    /// Hand in the commands of an input, and answer each.
-    Batch,
+    /// Hand in the commands of an input, and answer each; none of them where the images are to be
+    /// audited first and the audit lists any.
+    Batch { audits: bool },
     /// Serve requests over HTTP.
     Serve(Service),
 }

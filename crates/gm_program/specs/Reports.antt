@@ -1,5 +1,5 @@
 -- What is told of work at a bench.
-use Rattle.std.specs.Prelude.{◌≡◌, ◌⊎◌, ℕ, ◌==◌, List, [], ◌∷◌, ◌++◌, Ok, Err, codes, flat_map, length, if◌then◌else◌}
+use Rattle.std.specs.Prelude.{◌≡◌, ◌⊎◌, ℕ, ◌==◌, Bool, true, false, List, [], ◌∷◌, ◌++◌, Ok, Err, codes, flat_map, length, if◌then◌else◌}
 use Rattle.std.specs.Fmt.{decimal}
 use Rattle.std.specs.List.{list_any}
 use Rattle.std.specs.String.{string_bytes}
@@ -56,6 +56,11 @@ IsTasting t report =
 abbrev pub MayEndWithout : Status → Type 0
 MayEndWithout status = (status ≡ Done) ⊎ (status ≡ Refused)
 
+-- requests are served, unless an audit is asked for and lists images
+abbrev pub MayServe : Bool → Status → Type 0
+MayServe true status = (status ≡ Done) ⊎ (status ≡ Refused)
+MayServe false status = status ≡ Done
+
 -- what shows mirrors or serves requests is done; an audit may find damage, and of a batch a line
 -- may be refused
 abbrev pub MayEnd : Work → Status → Type 0
@@ -64,5 +69,5 @@ MayEnd (work.RecoverWithout provider key) status = MayEndWithout status
 MayEnd work.Status status = status ≡ Done
 MayEnd work.List status = status ≡ Done
 MayEnd work.Audit status = (status ≡ Done) ⊎ (status ≡ Refused)
-MayEnd work.Batch status = (status ≡ Done) ⊎ (status ≡ Refused)
-MayEnd (work.Serve service) status = status ≡ Done
+MayEnd (work.Batch audits) status = (status ≡ Done) ⊎ (status ≡ Refused)
+MayEnd (work.Serve service) status = MayServe service.audits status

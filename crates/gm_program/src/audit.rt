@@ -1,13 +1,19 @@
 //! The command `audit`, which lists the components that images no longer show as they are
-//! registered.
+//! registered; also before commands are carried out.
 
-ghost use Rattle.std.specs.Prelude.{◌≡◌, IfOk};
+ghost use Rattle.std.specs.Prelude.{◌≡◌, false, IfOk, IfSome, OnOk, Ok, None};
 ghost use Rattle.std.specs.String.{string_bytes};
+ghost use Rattle.gm_bench.specs.Benches.{progress_of};
+ghost use Rattle.gm_bench.specs.Phases.{TakesCommands};
 ghost use Rattle.gm_program.specs.Reports.{IsAudited, names_text};
+ghost use Rattle.gm_program.specs.declared.exit.Status.TheVariants.{Refused};
 
 use crate::bench_command::Report;
 use crate::exit::{Fault, Status};
+use gm_bench::Bench;
 use gm_metadata::Label;
+use gm_shelf::Shelf;
+use sqlite::Alter;
 use std::alloc::{AllocError, Global};
 
 // A line for each name.
@@ -33,4 +39,25 @@ pub fn audit_report(alloc: Global, names: &[Label]) -> Result<Report, Fault>
         Status::Refused
     };
     Ok(Report { status, text })
+}
+
+/// What an audit lists, where one is asked for and lists any: then nothing is to be carried out.
+pub fn damage<S: Alter, H: Shelf>(
+    alloc: Global,
+    bench: &mut Bench<S, H>,
+    audits: bool,
+) -> Result<Option<Report>, Fault>
+    requires { TakesCommands (progress_of bench.old) }
+    ensures found { IfOk result (λ found. IfSome found (λ report. report.status ≡ Refused)) }
+    ensures unasked { audits ≡ false → result ≡ Ok None }
+    ensures phase { OnOk result (TakesCommands (progress_of bench.new)) }
+{
+    if !audits {
+        return Ok(None);
+    }
+    let names = bench.audit(alloc)?;
+    if names.is_empty() {
+        return Ok(None);
+    }
+    Ok(Some(audit_report(alloc, &names)?))
 }

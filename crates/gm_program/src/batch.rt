@@ -1,6 +1,6 @@
 //! The command `batch`, which hands the commands of an input in to a bench.
 
-ghost use Rattle.std.specs.Prelude.{◌≡◌, IfOk};
+ghost use Rattle.std.specs.Prelude.{◌≡◌, Bool, IfOk};
 ghost use Rattle.gm_bench.specs.Benches.{progress_of};
 ghost use Rattle.gm_bench.specs.Phases.{TakesCommands};
 ghost use Rattle.gm_program.specs.Reports.{MayEnd};
@@ -18,7 +18,7 @@ use std::io::{Read, Write};
 // How the program ends by the end of its batch.
 fn status_of_end(end: Result<BatchEnd, FrontFault>) -> Result<Status, Fault>
     ensures value { result ≡ status_of_end end }
-    ensures ends { IfOk result (MayEnd Work.Batch) }
+    ensures ends { (audits : Bool) → IfOk result (MayEnd (Work.Batch audits)) }
 {
     match end {
         Ok(BatchEnd::Ended { refused: false }) => Ok(Status::Done),
@@ -36,7 +36,7 @@ pub fn hand_in<S: Alter, H: Shelf, I: Read, O: Write>(
     output: &mut O,
 ) -> Result<Status, Fault>
     requires { TakesCommands (progress_of bench.old) }
-    ensures { IfOk result (MayEnd Work.Batch) }
+    ensures { (audits : Bool) → IfOk result (MayEnd (Work.Batch audits)) }
 {
     status_of_end(batch(alloc, input, output, bench))
 }

@@ -5,7 +5,7 @@ ghost use Rattle.gm_bench.specs.Benches.{progress_of};
 ghost use Rattle.gm_bench.specs.Phases.{TakesCommands};
 ghost use Rattle.gm_program.specs.Reports.{MayEnd};
 
-use crate::audit::audit_report;
+use crate::audit::{audit_report, damage};
 use crate::batch::hand_in;
 use crate::exit::{Fault, Status};
 use crate::recover::recovered;
@@ -37,7 +37,7 @@ fn told(alloc: Global, status: Status) -> Report
 }
 
 /// Does the work. A batch reads the input, and prints its answers at once; what serves requests
-/// takes them from connections. A recovery without a provider is told by who opens its bench; here
+/// takes them from connections. Neither is begun where an audit is asked for and lists images. A recovery without a provider is told by who opens its bench; here
 /// it tells no more than any.
 pub fn perform<S: Alter, H: Shelf, I: Read, O: Write, E: Write>(
     work: &Work<'_>,
@@ -63,11 +63,17 @@ pub fn perform<S: Alter, H: Shelf, I: Read, O: Write, E: Write>(
             let names = bench.audit(alloc)?;
             audit_report(alloc, &names)
         }
-        Work::Batch => {
+        Work::Batch { audits } => {
+            if let Some(report) = damage(alloc, bench, audits)? {
+                return Ok(report);
+            }
             let status = hand_in(alloc, bench, streams.input, streams.output)?;
             Ok(told(alloc, status))
         }
         Work::Serve(service) => {
+            if let Some(report) = damage(alloc, bench, service.audits)? {
+                return Ok(report);
+            }
             let status = serve(rt, service, bench, streams)?;
             Ok(told(alloc, status))
         }

@@ -2,7 +2,8 @@
 //! process that hands it the real streams is `gmbench`; it links what is proved here, so that a
 //! check of this crate needn't.
 //!
-//! `over_streams.rt` is all of it, for the jobs that `gm_command_line` reads from words. What is
+//! `over_streams.rt` is all of it, for the jobs that `gm_command_line` reads from words and from
+//! what `environment.rt` finds in their place. What is
 //! done at a bench, by `bench_command.rt`, is done in the folder and with the registry that
 //! `place.rt` opens and closes; `recover.rt`, `show.rt`, `audit.rt`, `batch.rt` and `serve.rt` have
 //! the commands, the last with `exchange.rt` for one connection and `log.rt` for its line.
@@ -12,6 +13,7 @@
 mod audit;
 mod batch;
 mod bench_command;
+mod environment;
 mod exchange;
 mod exit;
 mod log;

@@ -1,5 +1,6 @@
 //! All that the program does, over any streams.
 
+use crate::environment::Environment;
 use crate::exit::{DumpRefusal, Fault, Status};
 use crate::place::{Place, work_at};
 use crate::streams::Streams;
@@ -94,7 +95,8 @@ fn run<I: Read, O: Write, E: Write>(
     words: &[&str],
     streams: &mut Streams<'_, I, O, E>,
 ) -> Result<Status, Fault> {
-    let done = match job_of(rt.alloc(), words) {
+    let environment = Environment::find(rt)?;
+    let done = match job_of(rt.alloc(), words, environment.settings()) {
         Ok(job) => perform(rt, &job, streams),
         Err(error) => explain(&error, streams.output, streams.complaints),
     };
@@ -105,7 +107,8 @@ fn run<I: Read, O: Write, E: Write>(
     Ok(status)
 }
 
-/// Runs the program on its words, without its own name, and answers how it ends.
+/// Runs the program on its words, without its own name, and answers how it ends. The environment
+/// stands for options that are left out.
 ///
 /// A batch takes its commands from the input. Lines go to the output; faults, and complaints about
 /// the words, go to the complaints.

@@ -55,6 +55,7 @@ fn serves<S: Alter, H: Shelf>(
         port: 0,
         count,
         logs: false,
+        audits: false,
     };
     let mut log = Vec::new(rt.alloc());
     match bench.phase() {

@@ -1,0 +1,30 @@
+//! What stands for options that are left out.
+
+/// The variable of the environment that stands for `--registry`.
+pub const REGISTRY: &str = "GMBENCH_REGISTRY";
+
+/// The variable of the environment that stands for `--shelf`.
+pub const SHELF: &str = "GMBENCH_SHELF";
+
+/// What a variable of the environment says.
+#[derive(Clone, Copy)]
+pub enum Setting<'a> {
+    /// It isn't there, or is empty.
+    Unset,
+    Text(&'a str),
+    /// Its bytes aren't UTF-8.
+    NotUtf8,
+}
+
+impl Setting<'_> {
+    pub(crate) fn is_unset(self) -> bool {
+        matches!(self, Setting::Unset)
+    }
+}
+
+/// What stands for the options, each where it is left out.
+#[derive(Clone, Copy)]
+pub struct Settings<'a> {
+    pub registry: Setting<'a>,
+    pub shelf: Setting<'a>,
+}
