@@ -108,18 +108,20 @@ fn a_written_sector_says_its_metadata(rt: HostRuntime) -> Result<(), Fail> {
     Ok(())
 }
 
-// The same metadata in an older version, with this hash at its place and rests behind it.
-fn older(version: Version, hash: &[u8; 16]) -> Result<[u8; 512], Fail> {
-    let mut sector = encode(&metadata()?);
+// The metadata in an older version, with this hash at its place and rests behind it.
+fn older(metadata: &Metadata, version: Version, hash: &[u8]) -> [u8; 512] {
+    let mut draft = encode(metadata);
     let at = version.hash_at();
-    sector[16] = version.number() as u8;
-    sector[at..at + 16].copy_from_slice(hash);
-    Ok(sector)
+    for (place, byte) in hash.iter().enumerate().take(16) {
+        draft[at + place] = *byte;
+    }
+    draft[16] = version.number() as u8;
+    draft
 }
 
 #[test]
 fn version_2_tells_no_size_of_the_provider(rt: HostRuntime) -> Result<(), Fail> {
-    let sector = older(Version::Two, &IN_TWO)?;
+    let sector = older(&metadata()?, Version::Two, &IN_TWO);
     assert!(rt; version_of(&sector) == Some(2));
     let said = Metadata {
         provsize: 0,
@@ -134,7 +136,7 @@ fn version_2_tells_no_size_of_the_provider(rt: HostRuntime) -> Result<(), Fail> 
 
 #[test]
 fn version_3_tells_the_size_of_the_provider(rt: HostRuntime) -> Result<(), Fail> {
-    let sector = older(Version::Three, &IN_THREE)?;
+    let sector = older(&metadata()?, Version::Three, &IN_THREE);
     assert!(rt; version_of(&sector) == Some(3));
     assert!(rt; decode(&sector) == Ok(metadata()?));
     let text = dump_text(rt.alloc(), &sector)?;
