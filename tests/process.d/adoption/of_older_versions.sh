@@ -34,11 +34,11 @@ put_versions() {
     put_told a.img 3 x all=3 did=1 syncid=2
     put_told b.img 3 x all=3 did=2 syncid=2 dflags=2 offset=512
     put_told c.img 3 y all=3 did=3 dflags=8
-    cp "$bench/images/"* "$work/three"
+    cp "$bench/images/"* "$work/fourth-three"
     make_older "$bench/images/b.img" 2
     make_older "$bench/images/c.img" 3
 }
-mkdir "$work/three"
+mkdir "$work/fourth-three"
 fresh_bench three
 put_versions
 expect_step 'versions 2, 3 and 4 are one mirror' 'k1 adopt gm0 a.img b.img c.img' 'k1 ok 1' 'a.img b.img c.img' <<'END'
@@ -47,8 +47,8 @@ a.img ACTIVE 1 0 2 NONE 0 2048 no
 b.img SYNCHRONIZING 2 0 2 SYNCHRONIZING 512 2048 no
 c.img INACTIVE 3 0 1 INACTIVE 0 2048 no
 END
-expect_same 'the one that is being filled is what it was in version 4' "$bench/images/b.img" "$work/three/b.img"
-expect_same 'and so is the one that is out of use' "$bench/images/c.img" "$work/three/c.img"
+expect_same 'the one that is being filled is what it was in version 4' "$bench/images/b.img" "$work/fourth-three/b.img"
+expect_same 'and so is the one that is out of use' "$bench/images/c.img" "$work/fourth-three/c.img"
 
 # A sector of version 2 tells no size, so that it doesn't leave its image out on another one.
 fresh_bench moved

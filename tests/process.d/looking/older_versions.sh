@@ -4,7 +4,7 @@
 
 # What a dump says of an only component in an older version, whose sector has this hash.
 dumped_older() {
-    dumped 1 1 NONE "$2" | sed "s/^version: 4/version: $1/; $3"
+    dumped 1 1 NONE "$2" | sed "s/^version: 4/version: $1/; ${3:-}"
 }
 
 sectors=$work/sectors
