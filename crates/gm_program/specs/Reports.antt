@@ -52,22 +52,22 @@ IsTasting t report =
     (report.status ≡ (if list_any (λ x. of_metadata x.reason) t.left.items then Refused else Done))
     × (string_bytes report.text ≡ tasting_text t)
 
--- a recovery without a provider may be refused
-abbrev pub MayEndWithout : Status → Type 0
-MayEndWithout status = (status ≡ Done) ⊎ (status ≡ Refused)
+-- it is done, or refused
+abbrev pub MayRefuse : Status → Type 0
+MayRefuse status = (status ≡ Done) ⊎ (status ≡ Refused)
 
 -- requests are served, unless an audit is asked for and lists images
 abbrev pub MayServe : Bool → Status → Type 0
-MayServe true status = (status ≡ Done) ⊎ (status ≡ Refused)
+MayServe true status = MayRefuse status
 MayServe false status = status ≡ Done
 
 -- what shows mirrors or serves requests is done; an audit may find damage, and of a batch a line
--- may be refused
+-- may be refused, as a recovery without a provider
 abbrev pub MayEnd : Work → Status → Type 0
 MayEnd work.Recover status = status ≡ Done
-MayEnd (work.RecoverWithout provider key) status = MayEndWithout status
+MayEnd (work.RecoverWithout provider key) status = MayRefuse status
 MayEnd work.Status status = status ≡ Done
 MayEnd work.List status = status ≡ Done
-MayEnd work.Audit status = (status ≡ Done) ⊎ (status ≡ Refused)
-MayEnd (work.Batch audits) status = (status ≡ Done) ⊎ (status ≡ Refused)
+MayEnd work.Audit status = MayRefuse status
+MayEnd (work.Batch audits) status = MayRefuse status
 MayEnd (work.Serve service) status = MayServe service.audits status

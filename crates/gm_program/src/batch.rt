@@ -1,14 +1,13 @@
 //! The command `batch`, which hands the commands of an input in to a bench.
 
-ghost use Rattle.std.specs.Prelude.{◌≡◌, Bool, IfOk};
+ghost use Rattle.std.specs.Prelude.{◌≡◌, IfOk};
 ghost use Rattle.gm_bench.specs.Benches.{progress_of};
 ghost use Rattle.gm_bench.specs.Phases.{TakesCommands};
-ghost use Rattle.gm_program.specs.Reports.{MayEnd};
+ghost use Rattle.gm_program.specs.Reports.{MayRefuse};
 ghost use Rattle.gm_program.specs.Statuses.{status_of_end};
 
 use crate::exit::{Fault, Status};
 use gm_bench::Bench;
-use gm_command_line::Work;
 use gm_front::{BatchEnd, FrontFault, batch};
 use gm_shelf::Shelf;
 use sqlite::Alter;
@@ -18,7 +17,7 @@ use std::io::{Read, Write};
 // How the program ends by the end of its batch.
 fn status_of_end(end: Result<BatchEnd, FrontFault>) -> Result<Status, Fault>
     ensures value { result ≡ status_of_end end }
-    ensures ends { (audits : Bool) → IfOk result (MayEnd (Work.Batch audits)) }
+    ensures ends { IfOk result MayRefuse }
 {
     match end {
         Ok(BatchEnd::Ended { refused: false }) => Ok(Status::Done),
@@ -36,7 +35,7 @@ pub fn hand_in<S: Alter, H: Shelf, I: Read, O: Write>(
     output: &mut O,
 ) -> Result<Status, Fault>
     requires { TakesCommands (progress_of bench.old) }
-    ensures { (audits : Bool) → IfOk result (MayEnd (Work.Batch audits)) }
+    ensures { IfOk result MayRefuse }
 {
     status_of_end(batch(alloc, input, output, bench))
 }

@@ -4,7 +4,7 @@
 ghost use Rattle.std.specs.Prelude.{◌≡◌, false, IfOk};
 ghost use Rattle.gm_rows.specs.Faults.{fault_of};
 ghost use Rattle.gm_bench.specs.Faults.{of_store};
-ghost use Rattle.gm_program.specs.Reports.{MayEnd, MayEndWithout};
+ghost use Rattle.gm_program.specs.Reports.{MayEnd, MayRefuse};
 
 use crate::bench_command::{Report, perform};
 use crate::exit::{Fault, Status};
@@ -102,7 +102,7 @@ fn without<S: Alter + Drop, H: Shelf + Drop>(
     key: &str,
 ) -> Result<(Result<Report, Fault>, Connection<S>), BenchFault>
     requires { store.in_transaction ≡ false }
-    ensures { IfOk result (λ it. IfOk it.0 (λ report. MayEndWithout report.status)) }
+    ensures { IfOk result (λ it. IfOk it.0 (λ report. MayRefuse report.status)) }
 {
     match Bench::open_without(alloc, store, shelf, provider, key) {
         Ok(Without::Opened { bench, answer }) => {
