@@ -2,7 +2,8 @@
 
     damaged_registry.py PROGRAM BENCH STRIDE NAME
 
-STRIDE is how many bytes stand between two that are changed, each in a run of its own. NAME is said of the bench. An image may
+STRIDE is how many bytes stand between two that are changed, each in a run of its own; with PART=K/N in the environment it is
+each Nth of these, from the Kth on. NAME is said of the bench. An image may
 change where SQLite finds a write of it that is pending.
 """
 
@@ -175,8 +176,9 @@ def try_all(name, damaged):
 
 
 def changed_bytes():
-    start = rng.randrange(stride)
-    for at in range(start, len(sound), stride):
+    part, parts = map(int, os.environ.get("PART", "1/1").split("/"))
+    start = rng.randrange(stride) + (part - 1) * stride
+    for at in range(start, len(sound), parts * stride):
         other = (sound[at] ^ rng.choice([1, 128, 255, rng.randrange(1, 256)])) or 0
         yield f"byte {at} is {other} in place of {sound[at]}", sound[:at] + bytes([other]) + sound[at + 1 :]
 

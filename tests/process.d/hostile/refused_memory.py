@@ -3,7 +3,7 @@
     refused_memory.py PROGRAM PRELOADED FOLDER MOST
 
 Behind a name stands how many calls were refused of how many the run with ample memory makes: all of them, or MOST, which are
-chosen by a fixed seed.
+chosen by a fixed seed. With PART=K/N in the environment it is each Nth of these, from the Kth on.
 """
 
 import os
@@ -74,9 +74,12 @@ def calls_of(words, lines=b""):
         return int(file.read())
 
 
+part, parts = map(int, os.environ.get("PART", "1/1").split("/"))
+
+
 def chosen(total):
     numbers = range(1, total + 1)
-    return list(numbers) if total <= most else sorted(rng.sample(numbers, most))
+    return (list(numbers) if total <= most else sorted(rng.sample(numbers, most)))[part - 1 :: parts]
 
 
 def tell(name, total, refused, wrong):
