@@ -130,7 +130,7 @@ put_edited "$images/b.img" b 45 '\002'
 put_edited "$images/c.img" c 45 '\002' 53 '\003'
 put_edited "$images/d.img" d 45 '\002' 53 '\310' 71 '\000\004' 87 '\002'
 put_image "$images/e.img" e bare
-put_edited "$images/f.img" f 16 '\003'
+put_edited "$images/f.img" f 16 '\005'
 put_edited "$images/g.img" g 68 '\004'
 put_edited "$images/h.img" h 95 a.img
 put_edited "$images/i.img" i 111 '\000\004'
