@@ -1,3 +1,4 @@
+pub mod DifferingSectors
 pub mod EqualSectors
 pub mod LeadsOn
 pub mod Lists

@@ -1,3 +1,4 @@
 pub mod Continues
+pub mod DifferingData
 pub mod EqualData
 pub mod Redo

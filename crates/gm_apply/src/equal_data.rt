@@ -9,8 +9,8 @@ use crate::copy::RUN;
 use gm_metadata::{Label, same};
 use gm_shelf::{Shelf, ShelfFault};
 
-// How many first sectors of two runs are equal.
-fn equal_first(a: &[[u8; 512]], b: &[[u8; 512]]) -> usize
+/// How many first sectors of two runs are equal.
+pub(crate) fn equal_first(a: &[[u8; 512]], b: &[[u8; 512]]) -> usize
     requires lengths { length a.now ≡ length b.now }
     ensures within { result ≤ length a.now }
     ensures equal { (k : ℕ) → k < result → sector_of a.now k ≡ sector_of b.now k }

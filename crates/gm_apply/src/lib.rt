@@ -3,14 +3,17 @@
 //!
 //! `redo.rt` has `apply`; `copy.rt` copies sectors. `specs/Redo.antt` says what is left of an image
 //! at the end and at every moment on the way, `laws.rt` what follows of it. `equal_data.rt` tells
-//! how many first sectors of two providers are equal.
+//! how many first sectors of two providers are equal, `differing_data.rt` how many differ and which
+//! is the first of those.
 #![tactic(auto)]
 
 mod copy;
+mod differing_data;
 mod equal_data;
 mod laws;
 mod redo;
 
+pub use differing_data::{Difference, Watch, differing_sectors};
 pub use equal_data::equal_sectors;
 pub use laws::{
     every_image_leads_on, one_sector_one_value, readable_intents_are_safe,

@@ -1,0 +1,10 @@
+use Rattle.std.proofs.Common.{◌≡◌, ◌≤◌}
+use Rattle.gm_shelf.specs.Disk.{sector_of}
+use Rattle.gm_apply.specs.DifferingData.{count_differing}
+use Rattle.gm_apply.proofs.differing_data.count_differing.Given as goal
+
+abbrev pub invariant-loop-index : goal.invariant-loop-index
+invariant-loop-index l = record {
+  within : l.sectors ≤ l.index;
+  count : l.sectors ≡ count_differing (sector_of l.a) (sector_of l.b) l.index;
+}
