@@ -96,11 +96,11 @@ module _ (a b a' b' : ℕ → List ℕ) where
       rw (e n (omega arith), f n (omega arith), less) refl
 
   pub difference_same : (n : ℕ) (d : Difference) → ((k : ℕ) → k < n → a k ≡ a' k)
-      → ((k : ℕ) → k < n → b k ≡ b' k) → IsWithin n d → IsDifference a b n d
+      → ((k : ℕ) → k < n → b k ≡ b' k) → d.first ≤ n → IsDifference a b n d
       → IsDifference a' b' n d
   difference_same n d e f within is = record {
     sectors = is.sectors ∙ count_same n e f;
-    equal = λ k low. (let few : k < n = omega (arith, low, within.first) in
+    equal = λ k low. (let few : k < n = omega (arith, low, within) in
         sym (e k few) ∙ is.equal k low ∙ f k few);
     first = λ low same. is.first low (e d.first low ∙ same ∙ sym (f d.first low));
   }
@@ -111,7 +111,7 @@ pub difference_seen : (x y : Image) (p q : Label) (from n : ℕ) (d : Difference
     → IsDifference (sectors_from x p from) (sectors_from x q from) n d
 difference_seen x y p q from n d same within is =
     difference_same (sectors_from y p from) (sectors_from y q from) (sectors_from x p from)
-    (sectors_from x q from) n d (λ k low. same p (from + k)) (λ k low. same q (from + k)) within is
+    (sectors_from x q from) n d (λ k low. same p (from + k)) (λ k low. same q (from + k)) within.first is
 
 -- of two runs that were read
 pub difference_read : (x : Image) (p q : Label) (from n : ℕ) (a b : List (List ℕ))
@@ -121,7 +121,7 @@ pub difference_read : (x : Image) (p q : Label) (from n : ℕ) (a b : List (List
 difference_read x p q from n a b d along blong aread bread within is =
     difference_same (sector_of a) (sector_of b) (sectors_from x p from) (sectors_from x q from) n d
     (λ k low. aread k (omega (arith, low, along)))
-    (λ k low. bread k (omega (arith, low, blong))) within is
+    (λ k low. bread k (omega (arith, low, blong))) within.first is
 
 -- of none none differs
 pub difference_none : (a b : ℕ → List ℕ) → IsDifference a b 0 (record { sectors = 0; first = 0 })

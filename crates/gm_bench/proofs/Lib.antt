@@ -25,6 +25,7 @@ pub mod LossRemaining
 pub mod LossRules
 pub mod LossSources
 pub mod Losses
+pub mod MirrorSource
 pub mod PartCovers
 pub mod Phases
 pub mod PlannedAlone
@@ -34,6 +35,7 @@ pub mod RedoLeadsOn
 pub mod RegistryLeaves
 pub mod ReopenedLoss
 pub mod ReopenedStore
+pub mod ScrubbedSoFar
 pub mod ShelfProviders
 pub mod ShownSoFar
 pub mod TakenUp

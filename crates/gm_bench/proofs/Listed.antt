@@ -26,16 +26,18 @@ use Rattle.gm_bench.proofs.FactsAreWorlds.{has_either, has_left, has_last}
 pub some_other : {X : Type 0} (o : Option X) (a b : X) → o ≡ Some a → o ≡ Some b → a ≡ b
 some_other o a b e f = let both : Some a ≡ Some b = sym e ∙ f in cc
 
+-- the mirror of a component is found by its name
+pub home_found : (s : Records) → IsState s → (m : Mirror) (k : Component) → IsOf s m k
+    → mirror_of s k.mirror ≡ Some m
+home_found s state m k o =
+    subst (λ (t : List ℕ). mirror_of s t ≡ Some m) (sym (member s m.name k o.component).1)
+    (find_one name s.mirrors state.mirrors_in_order m o.mirror)
+
 -- a component is of one mirror
 pub one_home : (s : Records) → IsState s → (m n : Mirror) (k : Component) → IsOf s m k → IsOf s n k
     → m ≡ n
 one_home s state m n k o p =
-    some_other (mirror_of s k.mirror) m n (home m o) (home n p)
-  where
-    home : (a : Mirror) → IsOf s a k → mirror_of s k.mirror ≡ Some a
-    home a q = subst (λ (t : List ℕ). mirror_of s t ≡ Some a)
-        (sym (member s a.name k q.component).1)
-        (find_one name s.mirrors state.mirrors_in_order a q.mirror)
+    some_other (mirror_of s k.mirror) m n (home_found s state m k o) (home_found s state n k p)
 
 -- it has a sector
 pub some_sectors : (s : Records) → IsState s → (m : Mirror) (k : Component) → IsOf s m k
@@ -124,98 +126,123 @@ ordered_before key (z ∷ zs) (suc i) x order low is y (inl e) =
 ordered_before key (z ∷ zs) (suc i) x order low is y (inr h) =
     ordered_before key zs i x order.1 (omega (arith, low)) is y h
 
-ascends_more : (names : List (List ℕ)) (p : List ℕ) → Ascends (λ n. n) names
-    → ((q : List ℕ) → Has names q → label_lt q p ≡ true) → Ascends (λ n. n) (names ++ p ∷ [])
-ascends_more [] p order before = (λ y none. absurd none, tt)
-ascends_more (n ∷ names) p order before = (
-  λ y h. ⊎_elim (λ (was : Has names y). order.0 y was)
-      (λ (e : p ≡ y). subst (λ (v : List ℕ). label_lt n v ≡ true) e (before n (inl refl)))
-      (has_either names p y h),
-  ascends_more names p order.1 (λ q h. before q (inr h)),
+ascends_more : {X : Type 0} (key : X → List ℕ) (list : List X) (e : X) → Ascends key list
+    → ((x : X) → Has list x → label_lt (key x) (key e) ≡ true) → Ascends key (list ++ e ∷ [])
+ascends_more key [] e order before = (λ y none. absurd none, tt)
+ascends_more key (x ∷ list) e order before = (
+  λ y h. ⊎_elim (λ (was : Has list y). order.0 y was)
+      (λ (same : e ≡ y). subst (λ v. label_lt (key x) (key v) ≡ true) same (before x (inl refl)))
+      (has_either list e y h),
+  ascends_more key list e order.1 (λ y h. before y (inr h)),
 )
 
 -- ---- all of them
 
--- the names are those of just the components that aren't as they are registered, of these
-pub record SoFar (s : Records) (size : Sizes) (seen : Image) (done : List Component)
-    (names : List (List ℕ)) : Type 0 where
-  pub amiss : (p : List ℕ) → Has names p → (m : Mirror) × (k : Component) × IsOf s m k
-      × (k.provider ≡ p) × (IsAsRegistered size seen m k → ⊥)
-  pub others : (m : Mirror) (k : Component) → IsOf s m k → Has done k
-      → IsAsRegistered size seen m k ⊎ Has names k.provider
-  pub among : (p : List ℕ) → Has names p → (k : Component) × Has done k × (k.provider ≡ p)
-  pub ascend : Ascends (λ p. p) names
+-- What was listed of the components that were looked at, whatever an entry is: it has a name, and
+-- says of a component what is told. A component that has no entry is right.
+module _ {X : Type 0} (key : X → List ℕ) (Told : Mirror → Component → X → Type 0)
+    (Right : Mirror → Component → Type 0) where
+  pub record SoFar (s : Records) (done : List Component) (list : List X) : Type 0 where
+    pub told : (e : X) → Has list e → (m : Mirror) × (k : Component) × IsOf s m k
+        × (k.provider ≡ key e) × Told m k e
+    pub others : (m : Mirror) (k : Component) → IsOf s m k → Has done k
+        → Right m k ⊎ ((e : X) × Has list e × (key e ≡ k.provider))
+    pub among : (e : X) → Has list e → (k : Component) × Has done k × (k.provider ≡ key e)
+    pub ascend : Ascends key list
 
-pub none_so_far : (s : Records) (size : Sizes) (seen : Image) → SoFar s size seen [] []
-none_so_far s size seen = record {
-  amiss = λ p h. absurd h;
-  others = λ m k o h. absurd h;
-  among = λ p h. absurd h;
-  ascend = tt;
-}
-
-module _ (s : Records) (state : IsState s) (size : Sizes) (seen : Image) (i : ℕ) (k : Component)
-    (low : i < length s.components) (is : k ≡ get_or s.components i k) (names : List (List ℕ))
-    (so : SoFar s size seen (take i s.components) names) where
-  more : take (i + 1) s.components ≡ take i s.components ++ k ∷ []
-  more = take_more s.components i k low ∙ ap (λ (x : Component). take i s.components ++ x ∷ [])
-      (sym is)
-
-  one_more : (j : Component) → Has (take (i + 1) s.components) j
-      → Has (take i s.components) j ⊎ (k ≡ j)
-  one_more j h =
-      has_either (take i s.components) k j (subst (λ (l : List Component). Has l j) more h)
-
-  still : (j : Component) → Has (take i s.components) j → Has (take (i + 1) s.components) j
-  still j h = subst (λ (l : List Component). Has l j) (sym more)
-      (has_left (take i s.components) k j h)
-
-  there : Has (take (i + 1) s.components) k
-  there = subst (λ (l : List Component). Has l k) (sym more) (has_last (take i s.components) k)
-
-  -- one that is as it is registered
-  pub passed : (m : Mirror) → IsOf s m k → IsAsRegistered size seen m k
-      → SoFar s size seen (take (i + 1) s.components) names
-  passed m o right = record {
-    amiss = so.amiss;
-    others = λ n j p h. ⊎_elim (λ (was : Has (take i s.components) j). so.others n j p was)
-        (λ (e : k ≡ j). inl (let q : IsOf s n k = subst (λ (x : Component). IsOf s n x) (sym e) p in
-        subst (λ (x : Component). IsAsRegistered size seen n x) e
-        (subst (λ (a : Mirror). IsAsRegistered size seen a k)
-        (one_home s state m n k o q) right))) (one_more j h);
-    among = λ p h. let from = so.among p h in (from.0, still from.0 from.1, from.2);
-    ascend = so.ascend;
+  pub none_so_far : (s : Records) → SoFar s [] []
+  none_so_far s = record {
+    told = λ e h. absurd h;
+    others = λ m k o h. absurd h;
+    among = λ e h. absurd h;
+    ascend = tt;
   }
 
-  -- one that isn't, which is listed
-  pub listed : (m : Mirror) → IsOf s m k → (IsAsRegistered size seen m k → ⊥)
-      → SoFar s size seen (take (i + 1) s.components) (names ++ k.provider ∷ [])
-  listed m o not = record {
-    amiss = λ p h. ⊎_elim (λ (was : Has names p). so.amiss p was)
-        (λ (e : k.provider ≡ p). (m, k, o, e, not)) (has_either names k.provider p h);
-    others = λ n j p h. ⊎_elim
-        (λ (was : Has (take i s.components) j).
-        ⊎_elim (λ (right : IsAsRegistered size seen n j). inl right)
-        (λ (l : Has names j.provider). inr (has_left names k.provider j.provider l))
-        (so.others n j p was))
-        (λ (e : k ≡ j). inr (subst (λ (x : Component). Has (names ++ k.provider ∷ []) x.provider) e
-        (has_last names k.provider))) (one_more j h);
-    among = λ p h. ⊎_elim (λ (was : Has names p). let from = so.among p was in
-        (from.0, still from.0 from.1, from.2)) (λ (e : k.provider ≡ p). (k, there, e))
-        (has_either names k.provider p h);
-    ascend = ascends_more names k.provider so.ascend (λ q h. let from = so.among q h in
-        subst (λ (v : List ℕ). label_lt v k.provider ≡ true) from.2
-        (ordered_before provider s.components i k state.components_in_order low is from.0 from.1));
-  }
+  module _ (s : Records) (state : IsState s) (i : ℕ) (k : Component)
+      (low : i < length s.components) (is : k ≡ get_or s.components i k) (list : List X)
+      (so : SoFar s (take i s.components) list) where
+    more : take (i + 1) s.components ≡ take i s.components ++ k ∷ []
+    more = take_more s.components i k low ∙ ap (λ (x : Component). take i s.components ++ x ∷ [])
+        (sym is)
 
-pub all_looked_at : (s : Records) (size : Sizes) (seen : Image) (i : ℕ) (names : List (List ℕ))
-    → length s.components ≤ i → SoFar s size seen (take i s.components) names
-    → IsAudit s size seen names
-all_looked_at s size seen i names high so =
-    let all : take i s.components ≡ s.components = take_all i s.components high in
-    record {
-      amiss = so.amiss;
-      others = λ m k o. so.others m k o (subst (λ (l : List Component). Has l k) (sym all)
-          (member s m.name k o.component).0);
+    one_more : (j : Component) → Has (take (i + 1) s.components) j
+        → Has (take i s.components) j ⊎ (k ≡ j)
+    one_more j h =
+        has_either (take i s.components) k j (subst (λ (l : List Component). Has l j) more h)
+
+    still : (j : Component) → Has (take i s.components) j → Has (take (i + 1) s.components) j
+    still j h = subst (λ (l : List Component). Has l j) (sym more)
+        (has_left (take i s.components) k j h)
+
+    there : Has (take (i + 1) s.components) k
+    there = subst (λ (l : List Component). Has l k) (sym more) (has_last (take i s.components) k)
+
+    -- one that is right
+    pub passed : ((m : Mirror) → IsOf s m k → Right m k)
+        → SoFar s (take (i + 1) s.components) list
+    passed right = record {
+      told = so.told;
+      others = λ m j o h. ⊎_elim (λ (was : Has (take i s.components) j). so.others m j o was)
+          (λ (e : k ≡ j). inl (subst (λ (x : Component). Right m x) e
+          (right m (subst (λ (x : Component). IsOf s m x) (sym e) o)))) (one_more j h);
+      among = λ e h. let from = so.among e h in (from.0, still from.0 from.1, from.2);
       ascend = so.ascend;
     }
+
+    -- one that isn't, with its entry
+    pub listed : (m : Mirror) → IsOf s m k → (e : X) → key e ≡ k.provider → Told m k e
+        → SoFar s (take (i + 1) s.components) (list ++ e ∷ [])
+    listed m o e named tells = record {
+      told = λ x h. ⊎_elim (λ (was : Has list x). so.told x was)
+          (λ (same : e ≡ x). subst (λ (y : X). (n : Mirror) × (j : Component) × IsOf s n j
+          × (j.provider ≡ key y) × Told n j y) same (m, k, o, sym named, tells))
+          (has_either list e x h);
+      others = λ n j p h. ⊎_elim
+          (λ (was : Has (take i s.components) j).
+          ⊎_elim (λ (right : Right n j). inl right)
+          (λ (l : (x : X) × Has list x × (key x ≡ j.provider)).
+          inr (l.0, has_left list e l.0 l.1, l.2))
+          (so.others n j p was))
+          (λ (same : k ≡ j). inr (e, has_last list e,
+          named ∙ ap (λ (x : Component). x.provider) same)) (one_more j h);
+      among = λ x h. ⊎_elim (λ (was : Has list x). let from = so.among x was in
+          (from.0, still from.0 from.1, from.2))
+          (λ (same : e ≡ x). (k, there, sym named ∙ ap key same))
+          (has_either list e x h);
+      ascend = ascends_more key list e so.ascend (λ x h. let from = so.among x h in
+          subst (λ (v : List ℕ). label_lt v (key e) ≡ true) from.2
+          (subst (λ (v : List ℕ). label_lt from.0.provider v ≡ true) (sym named)
+          (ordered_before provider s.components i k state.components_in_order low is from.0
+          from.1)));
+    }
+
+  -- where all were looked at
+  pub all_looked_at : (s : Records) (i : ℕ) (list : List X) → length s.components ≤ i
+      → SoFar s (take i s.components) list → (m : Mirror) (k : Component) → IsOf s m k
+      → Right m k ⊎ ((e : X) × Has list e × (key e ≡ k.provider))
+  all_looked_at s i list high so m k o =
+      let all : take i s.components ≡ s.components = take_all i s.components high in
+      so.others m k o (subst (λ (l : List Component). Has l k) (sym all)
+      (member s m.name k o.component).0)
+
+-- ---- an audit
+
+module _ (s : Records) (size : Sizes) (seen : Image) where
+  -- what an audit has listed of these
+  abbrev pub AuditedSoFar : List Component → List (List ℕ) → Type 0
+  AuditedSoFar done names =
+      SoFar (λ p. p) (λ m k p. IsAsRegistered size seen m k → ⊥) (IsAsRegistered size seen)
+      s done names
+
+  pub all_audited : (i : ℕ) (names : List (List ℕ)) → length s.components ≤ i
+      → AuditedSoFar (take i s.components) names → IsAudit s size seen names
+  all_audited i names high so = record {
+    amiss = so.told;
+    others = λ m k o. ⊎_elim
+        (λ (right : IsAsRegistered size seen m k). inl right)
+        (λ (e : (p : List ℕ) × Has names p × (p ≡ k.provider)).
+        inr (subst (Has names) e.2 e.1))
+        (all_looked_at (λ p. p) (λ m k p. IsAsRegistered size seen m k → ⊥)
+        (IsAsRegistered size seen) s i names high so m k o);
+    ascend = so.ascend;
+  }

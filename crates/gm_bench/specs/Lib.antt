@@ -16,6 +16,7 @@ pub mod Presence
 pub mod Recovering
 pub mod Running
 pub mod Schedule
+pub mod Scrubs
 pub mod ShelfFacts
 pub mod Shown
 pub mod Without

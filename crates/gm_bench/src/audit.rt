@@ -23,8 +23,8 @@ use gm_state::{Component, State, metadata_of};
 use sqlite::Alter;
 use std::alloc::Global;
 
-// Whether the provider is there with the size that is registered of the component.
-fn has_its_size<H: Shelf>(shelf: &H, component: &Component) -> bool
+/// Whether the provider is there with the size that is registered of the component.
+pub(crate) fn has_its_size<H: Shelf>(shelf: &H, component: &Component) -> bool
     ensures { IsTrue result
         ↔ (H.size shelf.now component.now.provider ≡ Some component.now.sectors) }
 {

@@ -8,7 +8,8 @@
 //! (`specs/Benches.antt` names what is in a bench), and `specs/Schedule.antt`, what a whole run is;
 //! then `bench` and `calls`, whose calls are those of `media` in turn. `laws` says what holds of
 //! every run. `views` has the calls that only look, of which `audit` holds the images against the
-//! registry (`specs/Audits.antt`); `bare_shelf` looks at a shelf that has no bench.
+//! registry (`specs/Audits.antt`), and `scrub` the data of components against their mirror's source
+//! (`specs/Scrubs.antt`); `bare_shelf` looks at a shelf that has no bench.
 //!
 //! `open_without` opens a bench of which an image is gone for good: `specs/Losing.antt` says what
 //! is pending behind that, `specs/Without.antt` why it is refused, and `specs/GivingUp.antt` what
@@ -32,6 +33,7 @@ mod open_without;
 mod phase;
 mod plan;
 mod presence;
+mod scrub;
 mod sizes;
 mod take_up;
 mod take_up_without;
@@ -43,6 +45,8 @@ pub use bare_shelf::taste_shelf;
 pub use bench::{Bench, OpenFault};
 pub use fault::BenchFault;
 pub use laws::{clean_audit_law, losses_lead_on, whole_run_law};
+pub use gm_apply::Watch;
 pub use loss::LossRefusal;
 pub use open_without::Without;
 pub use phase::Phase;
+pub use scrub::{Flaw, Scrubbed};

@@ -112,6 +112,25 @@ fn decide_on(
 }
 
 impl<S: Alter, H: Shelf> Media<S, H> {
+    /// How many commands were accepted. It writes nothing.
+    pub(crate) fn accepted(&mut self) -> Result<u64, BenchFault>
+        ensures count { DiskKept S.Store self.new.registry → IfOk result (λ n. (t : Tables)
+            → HasTables S.Store self.old.registry t
+            → (n ≡ count_of t) × HasTables S.Store self.new.registry t) }
+        ensures disk { IsErrOf result BenchFault.Disk → ⊥ }
+        ensures fault { IfErr result IsOfCall }
+        ensures readable { DiskKept S.Store self.new.registry
+            → IsErrOf result BenchFault.Unreadable → (t : Tables)
+            → HasTables S.Store self.old.registry t → count_of t ≤ 100000 → ⊥ }
+        ensures reads { Reads S.Store self.old.registry self.new.registry }
+        ensures shelf { self.new.shelf ≡ self.old.shelf }
+    {
+        match self.registry.accepted() {
+            Ok(count) => Ok(count),
+            Err(fault) => Err(BenchFault::of_store(fault)),
+        }
+    }
+
     /// Whether as many commands were accepted as there may be. It writes nothing.
     pub(crate) fn is_full(&mut self) -> Result<bool, BenchFault>
         ensures told { DiskKept S.Store self.new.registry → IfOk result (λ full. (t : Tables)
@@ -125,10 +144,8 @@ impl<S: Alter, H: Shelf> Media<S, H> {
         ensures reads { Reads S.Store self.old.registry self.new.registry }
         ensures shelf { self.new.shelf ≡ self.old.shelf }
     {
-        match self.registry.accepted() {
-            Ok(count) => Ok(u64::from(MAX_COMMANDS) <= count),
-            Err(fault) => Err(BenchFault::of_store(fault)),
-        }
+        let count = self.accepted()?;
+        Ok(u64::from(MAX_COMMANDS) <= count)
     }
 
     /// The part of the records that the command asks for, and that has each of these mids, and how

@@ -1,14 +1,16 @@
 //! What a bench shows of its media. It changes neither.
 
-ghost use Rattle.std.specs.Prelude.{◌≡◌, ◌<◌, ℕ, List, IfOk, OnOk, OnErr, IsErrOf};
+ghost use Rattle.std.specs.Prelude.{◌≡◌, ◌≤◌, ◌<◌, ℕ, List, IfOk, OnOk, OnErr, IsErrOf};
 ghost use Rattle.gm_shelf.specs.Disk.{AreReads};
 ghost use Rattle.gm_state.specs.declared.intents.Intent.{Intent};
 ghost use Rattle.gm_state.specs.Records.{Records};
 ghost use Rattle.gm_state.specs.Rows.{Tables};
 ghost use Rattle.gm_rows.specs.ReadableTables.{AreTablesOf};
 ghost use Rattle.gm_registry.specs.Registry.{DiskKept, HasTables, Reads};
+ghost use Rattle.gm_registry.specs.Replies.{count_of};
 ghost use Rattle.gm_bench.specs.Benches.{registry_of, shelf_of};
 ghost use Rattle.gm_bench.specs.Audits.{IsAudit};
+ghost use Rattle.gm_bench.specs.Scrubs.{IsScrub};
 ghost use Rattle.gm_bench.specs.ShelfFacts.{last_sector};
 ghost use Rattle.gm_bench.specs.Owed.{LookDoes, LookLeaves};
 ghost use Rattle.gm_bench.specs.Calls.{ClosesOnFault, LooksOn};
@@ -17,6 +19,8 @@ use crate::bench::Bench;
 use crate::facts::fact_of;
 use crate::fault::BenchFault;
 use crate::phase::Progress;
+use crate::scrub::Scrubbed;
+use gm_apply::Watch;
 use gm_metadata::Label;
 use gm_shelf::Shelf;
 use gm_state::State;
@@ -99,6 +103,68 @@ impl<S: Alter, H: Shelf> Bench<S, H> {
         }
         match self.media.audit(alloc) {
             Ok(names) => Ok(names),
+            Err(fault) => {
+                self.progress = Progress::Failed;
+                Err(fault)
+            }
+        }
+    }
+
+    /// The ACTIVE components that hold other data than their mirror's source, in byte order of
+    /// their providers, each with what is amiss: of this mirror, or of all where none is named. A
+    /// mirror's source is its ACTIVE component with the greatest priority, among equals the one
+    /// with the least name. The watch is told how far it is. `Closed` after an earlier fault; any
+    /// other fault closes the bench.
+    pub fn scrub<W: Watch>(
+        &mut self,
+        alloc: Global,
+        mirror: Option<Label>,
+        watch: &mut W,
+    ) -> Result<Vec<Scrubbed>, BenchFault>
+        // By the records that the registry holds and by what the shelf shows, whoever wrote it.
+        ensures scrubs { H.honest (shelf_of self.old) → DiskKept S.Store (registry_of self.new)
+            → IfOk result (λ list. (t : Tables) (s : Records) (ts : List Intent)
+            → HasTables S.Store (registry_of self.old) t → AreTablesOf t s ts
+            → IsScrub s (H.size (shelf_of self.old)) (H.view (shelf_of self.old)).seen mirror
+            list.items) }
+        ensures unreadable { DiskKept S.Store (registry_of self.new)
+            → IsErrOf result BenchFault.Unreadable → (t : Tables) (s : Records) (ts : List Intent)
+            → HasTables S.Store (registry_of self.old) t → AreTablesOf t s ts → ⊥ }
+        ensures looks { LooksOn S.Store H.Shelf self.old self.new result }
+        ensures closes { ClosesOnFault self.old self.new result }
+    {
+        match self.progress {
+            Progress::Failed => return Err(BenchFault::Closed),
+            _ => {}
+        }
+        match self.media.scrub(alloc, mirror, watch) {
+            Ok(list) => Ok(list),
+            Err(fault) => {
+                self.progress = Progress::Failed;
+                Err(fault)
+            }
+        }
+    }
+
+    /// How many commands were accepted so far. `Closed` after an earlier fault; any other fault
+    /// closes the bench.
+    pub fn accepted(&mut self) -> Result<u64, BenchFault>
+        ensures shows { DiskKept S.Store (registry_of self.new)
+            → IfOk result (λ n. (t : Tables) → HasTables S.Store (registry_of self.old) t
+            → n ≡ count_of t) }
+        ensures unreadable { DiskKept S.Store (registry_of self.new)
+            → IsErrOf result BenchFault.Unreadable → (t : Tables)
+            → HasTables S.Store (registry_of self.old) t → count_of t ≤ 100000 → ⊥ }
+        ensures shelf { shelf_of self.new ≡ shelf_of self.old }
+        ensures looks { LooksOn S.Store H.Shelf self.old self.new result }
+        ensures closes { ClosesOnFault self.old self.new result }
+    {
+        match self.progress {
+            Progress::Failed => return Err(BenchFault::Closed),
+            _ => {}
+        }
+        match self.media.accepted() {
+            Ok(count) => Ok(count),
             Err(fault) => {
                 self.progress = Progress::Failed;
                 Err(fault)

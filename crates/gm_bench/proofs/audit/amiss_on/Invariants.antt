@@ -1,6 +1,6 @@
 use Rattle.std.proofs.Common.{take}
 use Rattle.gm_shelf.specs.Keeping.{ReadsOnly}
-use Rattle.gm_bench.proofs.Listed.{SoFar}
+use Rattle.gm_bench.proofs.Listed.{AuditedSoFar}
 use Rattle.gm_bench.proofs.audit.amiss_on.Given as goal
 
 abbrev pub invariant-loop-component : goal.invariant-loop-component
@@ -10,6 +10,6 @@ invariant-loop-component g l =
     record {
       only : ReadsOnly H l.fn.shelf l.shelf;
       listed : H.honest l.fn.shelf
-          → SoFar l.fn.state (H.size l.fn.shelf) old.seen
+          → AuditedSoFar l.fn.state (H.size l.fn.shelf) old.seen
           (take l.component-index l.fn.state.components) l.names.items;
     }
