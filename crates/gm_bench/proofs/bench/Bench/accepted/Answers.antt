@@ -1,0 +1,93 @@
+use Rattle.std.proofs.Common.{rules, ◌≡◌, Err, ap}
+use Rattle.gm_bench.specs.declared.fault.BenchFault.TheVariants.{Unreadable}
+use Rattle.gm_shelf.proofs.InTurn.{quiet_itself}
+use Rattle.gm_bench.proofs.DecidesOnly.{quiet_same, reads_none}
+use Rattle.gm_bench.proofs.Looks.{look_does, look_leaves}
+use Rattle.gm_bench.proofs.bench.Bench.accepted.Goals as goal
+
+pub returns-in-Ok-clause-closes : goal.returns-in-Ok-clause-closes
+returns-in-Ok-clause-closes g c =
+    record {
+      closed = λ failed. (
+          absurd (c.in_default.not-Failed failed));
+      reopen = search rules;
+      failed = search rules;
+      absent = search rules;
+      redone = search rules;
+    }
+
+pub returns-in-Err-clause-unreadable : goal.returns-in-Err-clause-unreadable
+returns-in-Err-clause-unreadable g c clean is =
+    let fault : c.in-Err.fault ≡ Unreadable = cc in
+    c.in-Err.ensures.readable clean (ap Err fault)
+
+pub returns-in-Err-clause-closes : goal.returns-in-Err-clause-closes
+returns-in-Err-clause-closes g c =
+    record {
+      closed = λ failed. (
+          absurd (c.in_default.not-Failed failed));
+      reopen = search rules;
+      failed = search rules;
+      absent = search rules;
+      redone = search rules;
+    }
+
+pub returns-in-Ok-clause-looks : goal.returns-in-Ok-clause-looks
+returns-in-Ok-clause-looks g c =
+    record {
+      stays = search rules;
+      does = λ h clean. (
+          let view = g.H.Shelf.view in
+          let size = g.H.Shelf.size in
+          let r = c.args.self.now.media.registry in
+          let shelf = c.args.self.now.media.shelf in
+          look_does g.S.Store view size r c.accepted.new.self.registry shelf c.accepted.new.self.shelf
+          (quiet_same view shelf c.accepted.new.self.shelf c.accepted.ensures.shelf)
+          (λ t has. (c.in-Ok.ensures.count clean t has).1) (ap size c.accepted.ensures.shelf));
+      leaves = λ h clean. (
+          let view = g.H.Shelf.view in
+          let r = c.args.self.now.media.registry in
+          let shelf = c.args.self.now.media.shelf in
+          look_leaves g.S.Store view g.H.Shelf.size r c.accepted.new.self.registry shelf
+          c.accepted.new.self.shelf
+          (quiet_same view shelf c.accepted.new.self.shelf c.accepted.ensures.shelf) g.met.S.Store.settled
+          (g.met.H.Shelf.lawful shelf h) clean c.accepted.ensures.reads);
+      store = search rules;
+      only = search rules;
+      disk = search rules;
+    }
+
+pub returns-in-Err-clause-looks : goal.returns-in-Err-clause-looks
+returns-in-Err-clause-looks g c =
+    record {
+      stays = search rules;
+      does = search rules;
+      leaves = λ h clean. (
+          let view = g.H.Shelf.view in
+          let r = c.args.self.now.media.registry in
+          let shelf = c.args.self.now.media.shelf in
+          look_leaves g.S.Store view g.H.Shelf.size r c.accepted.new.self.registry shelf
+          c.accepted.new.self.shelf
+          (quiet_same view shelf c.accepted.new.self.shelf c.accepted.ensures.shelf) g.met.S.Store.settled
+          (g.met.H.Shelf.lawful shelf h) clean c.accepted.ensures.reads);
+      store = search rules;
+      only = search rules;
+      disk = search rules;
+    }
+
+pub returns-in-Failed-clause-looks : goal.returns-in-Failed-clause-looks
+returns-in-Failed-clause-looks g c =
+    record {
+      stays = search rules;
+      does = search rules;
+      leaves = λ h clean. (
+          let view = g.H.Shelf.view in
+          let r = c.args.self.now.media.registry in
+          let shelf = c.args.self.now.media.shelf in
+          look_leaves g.S.Store view g.H.Shelf.size r r shelf shelf (quiet_itself (view shelf))
+          g.met.S.Store.settled (g.met.H.Shelf.lawful shelf h) clean
+          (reads_none g.S.Store g.met.S.Store.settled r));
+      store = reads_none g.S.Store g.met.S.Store.settled c.args.self.now.media.registry;
+      only = search rules;
+      disk = search rules;
+    }
