@@ -1,8 +1,10 @@
 //! A copy and the metadata that claim it, stopped before each call, with every image that a crash
-//! may then leave. `copies.rt` tries copies alone, `comparing.rt` the count of equal sectors.
+//! may then leave. `copies.rt` tries copies alone, `comparing.rt` the count of equal sectors,
+//! and `differing.rt` that of those which differ.
 
 mod comparing;
 mod copies;
+mod differing;
 
 use gm_apply::apply;
 use gm_metadata::{Balance, Label, MirrorFlags, decode, encode};

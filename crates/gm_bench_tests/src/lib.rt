@@ -1,5 +1,5 @@
 //! Tests of the bench: what an advance and an adoption write and what a stop within them leaves,
-//! which phases a command goes through, and audits and tastings. What commands are answered and
+//! which phases a command goes through, and audits, tastings and scrubs. What commands are answered and
 //! leave over images that serve is shown by the built program, in `tests/process`; runs that stop
 //! at each of their calls are in `gm_stop_tests`.
 //!

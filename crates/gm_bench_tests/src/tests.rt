@@ -1,7 +1,8 @@
 //! The tests: stops of the shelf within an advance and within an adoption; what an advance writes;
-//! which phases the calls of a bench lead through; and audits and tastings.
+//! which phases the calls of a bench lead through; audits and tastings; and scrubs.
 
 mod adopting;
 mod advancing;
 mod looking;
 mod phases;
+mod scrubbing;

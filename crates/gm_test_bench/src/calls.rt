@@ -1,6 +1,6 @@
 //! The calls of a bench as tests make them, and what a last sector is expected to say.
 
-use gm_bench::{Answer, Bench, BenchFault, OpenFault, Phase};
+use gm_bench::{Answer, Bench, BenchFault, OpenFault, Phase, Scrubbed, Watch};
 use gm_commands::Command;
 use gm_metadata::{Balance, DiskFlags, Label, Metadata, MirrorFlags, encode};
 use gm_shelf::Shelf;
@@ -174,6 +174,19 @@ pub fn try_audit<S: Alter, H: Shelf>(
     bench: &mut Bench<S, H>,
 ) -> Result<Vec<Label>, BenchFault> {
     bench.audit(alloc)
+}
+
+pub fn try_scrub<S: Alter, H: Shelf, W: Watch>(
+    alloc: Global,
+    bench: &mut Bench<S, H>,
+    mirror: Option<Label>,
+    watch: &mut W,
+) -> Result<Vec<Scrubbed>, BenchFault> {
+    bench.scrub(alloc, mirror, watch)
+}
+
+pub fn try_accepted<S: Alter, H: Shelf>(bench: &mut Bench<S, H>) -> Result<u64, BenchFault> {
+    bench.accepted()
 }
 
 pub fn try_last<S: Alter, H: Shelf>(
