@@ -1,8 +1,7 @@
 -- By how many sectors two providers differ.
-use Rattle.std.proofs.Common.{◌≡◌, ◌≢◌, ◌∙◌, ◌<◌, ◌≤◌, ◌+◌, ◌-◌, ℕ, zero, suc, List, length, Bool, true, false, if◌then◌else◌, inl, inr, refl, sym, ap, subst, arith, add-one, add-suc, add-zero, add_assoc}
+use Rattle.std.proofs.Common.{◌≡◌, ◌≢◌, ◌∙◌, ◌<◌, ◌≤◌, ◌+◌, ◌-◌, ℕ, zero, suc, List, length, if◌then◌else◌, inl, inr, refl, sym, ap, subst, arith, add-one, add-suc, add-zero, add_assoc}
 use Rattle.std.specs.Str.{bytes_eq}
 use Rattle.std.proofs.lemmas.Bool.{cases_lt}
-use Rattle.std.proofs.lemmas.Slice.Eq.{bytes_eq-Decides}
 use Rattle.gm_lists.proofs.Order.{differ, same_from}
 use Rattle.gm_metadata.specs.declared.label.Label.{Label}
 use Rattle.gm_metadata.specs.Images.{Image, Same}

@@ -203,8 +203,11 @@ module _ {X : Type 0} (key : X → List ℕ) (Told : Mirror → Component → X 
           (λ (l : (x : X) × Has list x × (key x ≡ j.provider)).
           inr (l.0, has_left list e l.0 l.1, l.2))
           (so.others n j p was))
-          (λ (same : k ≡ j). inr (e, has_last list e,
-          named ∙ ap (λ (x : Component). x.provider) same)) (one_more j h);
+          (λ (same : k ≡ j). inr (
+            e,
+            has_last list e,
+            named ∙ ap (λ (x : Component). x.provider) same,
+          )) (one_more j h);
       among = λ x h. ⊎_elim (λ (was : Has list x). let from = so.among x was in
           (from.0, still from.0 from.1, from.2))
           (λ (same : e ≡ x). (k, there, sym named ∙ ap key same))

@@ -1,17 +1,16 @@
 -- The source of a mirror, by what a copy to one of its ACTIVE components would come from.
-use Rattle.std.proofs.Common.{◌≡◌, ◌≢◌, ◌∙◌, ◌⊎◌, inl, inr, ⊎_elim, ℕ, ◌<◌, ◌==◌, ◌&&◌, ◌||◌, not, nat_lt, Bool, true, false, refl, sym, ap, subst, arith, List, Option, Some, None, eq-eqb, option_map}
+use Rattle.std.proofs.Common.{◌≡◌, ◌≢◌, ◌∙◌, ◌⊎◌, inl, inr, ⊎_elim, ℕ, ◌==◌, ◌&&◌, not, nat_lt, true, false, refl, sym, subst, arith, List, Option, Some, None, eq-eqb, option_map}
 use Rattle.std.proofs.lemmas.Bool.{and_parts, cases_Bool, cases_order, lt-ltb, le-ltb, ne_eqb, not-true}
 use Rattle.gm_metadata.specs.Images.{label_tells, same_label}
 use Rattle.gm_state.specs.declared.records.Component.{Component}
 use Rattle.gm_state.specs.declared.records.Mirror.{Mirror}
-use Rattle.gm_state.specs.Intents.{IsOf}
 use Rattle.gm_state.specs.Lookups.{component_of, is_active}
 use Rattle.gm_state.specs.Records.{IsState, Records, provider}
 use Rattle.gm_state.specs.Sources.{GoesFirst, IsBest, IsSource, IsSourceOf, goes_first, lends_to}
 use Rattle.gm_lists.specs.Ordered.{Has, label_lt}
 use Rattle.gm_lists.proofs.Finding.{find_one}
 use Rattle.gm_lists.proofs.Lists.{filter-Has}
-use Rattle.gm_lists.proofs.Order.{lt_asym, lt_other, lt_trans, same_from, same_is}
+use Rattle.gm_lists.proofs.Order.{lt_other, lt_trans, same_from, same_is}
 use Rattle.gm_state.proofs.TestsTellRules.{member}
 use Rattle.gm_bench.specs.Scrubs.{IsActiveOf, IsSourceOfMirror}
 use Rattle.gm_bench.proofs.Listed.{some_other}
@@ -117,10 +116,12 @@ module _ (s : Records) (state : IsState s) (m : Mirror) (k : Component)
       alone : (o : Option Component)
           → IsBest (λ j. Has s.components j × (lends_to k j ≡ true)) o
           → None ≡ option_map (λ (c : Component). c.provider) o → IsSourceOfMirror s m k
-      alone None best e =
-          (active, λ j is. ⊎_elim (λ (same : j ≡ k). inl same)
-              (λ (l : Has s.components j × (lends_to k j ≡ true)). absurd (best j l))
-              (others_lend j is))
+      alone None best e = (
+        active,
+        λ j is. ⊎_elim (λ (same : j ≡ k). inl same)
+            (λ (l : Has s.components j × (lends_to k j ≡ true)). absurd (best j l))
+            (others_lend j is),
+      )
       alone (Some b) best e = let z : ⊥ = cc in absurd z
 
   -- else that one is registered

@@ -1,5 +1,5 @@
 -- What was listed so far is what the scrub lists of the components that were looked at.
-use Rattle.std.proofs.Common.{◌≡◌, ◌∙◌, ◌⊎◌, inl, inr, ⊎_elim, ℕ, ◌≤◌, arith, sym, subst, List, length, take, Option, Some, None}
+use Rattle.std.proofs.Common.{◌≡◌, ◌∙◌, inl, inr, ⊎_elim, ℕ, ◌≤◌, arith, sym, subst, List, length, take, Option, Some, None}
 use Rattle.gm_metadata.specs.Images.{Image, Same, Sizes}
 use Rattle.gm_state.specs.declared.records.Component.{Component}
 use Rattle.gm_state.specs.declared.records.Mirror.{Mirror}

@@ -21,7 +21,11 @@ fn image(rt: &(impl Abort + AllocGlobal), sectors: u16, differing: &[u16]) -> Ve
 }
 
 /// Two providers of so many sectors each, which differ at these places.
-pub(super) fn two_images(rt: &(impl Abort + AllocGlobal), sectors: [u16; 2], differing: &[u16]) -> MemShelf {
+pub(super) fn two_images(
+    rt: &(impl Abort + AllocGlobal),
+    sectors: [u16; 2],
+    differing: &[u16],
+) -> MemShelf {
     let mut shelf = MemShelf::new(rt.alloc());
     add(rt, &mut shelf, "a", image(rt, sectors[0], &[]));
     add(rt, &mut shelf, "b", image(rt, sectors[1], differing));

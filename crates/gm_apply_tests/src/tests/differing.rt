@@ -8,6 +8,7 @@ use gm_shelf::{FaultShelf, Shelf, ShelfFault};
 use std::process::Abort;
 
 // What it was told last, and how often it was told.
+#[derive(Drop)]
 struct Told {
     calls: u64,
     sectors: u64,

@@ -11,6 +11,7 @@ use std::alloc::Global;
 use std::test::Fail;
 
 // Nothing is done with what it is told.
+#[derive(Drop)]
 struct Unheard;
 
 impl Watch for Unheard {

@@ -1,8 +1,7 @@
-use Rattle.std.proofs.Common.{◌≡◌, ◌∙◌, ◌<◌, ℕ, List, Some, sym, ap, subst}
+use Rattle.std.proofs.Common.{◌≡◌, ◌∙◌, ◌<◌, ℕ, List, sym, ap, subst}
 use Rattle.gm_lists.proofs.Order.{same_is}
 use Rattle.gm_apply.specs.DifferingData.{IsDifference}
 use Rattle.gm_apply.proofs.DifferingSectors.{count_some}
-use Rattle.gm_bench.specs.Scrubs.{AreComparable}
 use Rattle.gm_bench.proofs.scrub.flaw_of.Goals as goal
 
 pub returns-then-eq-clause-told : goal.returns-then-eq-clause-told
