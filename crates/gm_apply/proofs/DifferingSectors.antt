@@ -110,7 +110,8 @@ pub difference_seen : (x y : Image) (p q : Label) (from n : ℕ) (d : Difference
     → IsDifference (sectors_from x p from) (sectors_from x q from) n d
 difference_seen x y p q from n d same within is =
     difference_same (sectors_from y p from) (sectors_from y q from) (sectors_from x p from)
-    (sectors_from x q from) n d (λ k low. same p (from + k)) (λ k low. same q (from + k)) within.first is
+    (sectors_from x q from) n d (λ k low. same p (from + k)) (λ k low. same q (from + k))
+    within.first is
 
 -- of two runs that were read
 pub difference_read : (x : Image) (p q : Label) (from n : ℕ) (a b : List (List ℕ))

@@ -16,5 +16,5 @@ returns-clause-told g c h =
     (c.in_ok-read_run.ensures.bytes h)
     (λ k low. later k low ∙ (mid.quiet h).seen c.args.provider (first + k))
     (subst (λ (n : ℕ). IsWithin n c.difference_of.result) long c.difference_of.ensures.within)
-    (subst (λ (n : ℕ). IsDifference (sector_of c.read_run.new.out) (sector_of c.read_run-2.new.out) n
-    c.difference_of.result) long c.difference_of.ensures.told)
+    (subst (λ (n : ℕ). IsDifference (sector_of c.read_run.new.out)
+    (sector_of c.read_run-2.new.out) n c.difference_of.result) long c.difference_of.ensures.told)

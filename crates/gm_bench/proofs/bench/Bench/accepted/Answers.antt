@@ -41,7 +41,8 @@ returns-in-Ok-clause-looks g c =
           let size = g.H.Shelf.size in
           let r = c.args.self.now.media.registry in
           let shelf = c.args.self.now.media.shelf in
-          look_does g.S.Store view size r c.accepted.new.self.registry shelf c.accepted.new.self.shelf
+          look_does g.S.Store view size r c.accepted.new.self.registry shelf
+          c.accepted.new.self.shelf
           (quiet_same view shelf c.accepted.new.self.shelf c.accepted.ensures.shelf)
           (λ t has. (c.in-Ok.ensures.count clean t has).1) (ap size c.accepted.ensures.shelf));
       leaves = λ h clean. (
@@ -50,8 +51,8 @@ returns-in-Ok-clause-looks g c =
           let shelf = c.args.self.now.media.shelf in
           look_leaves g.S.Store view g.H.Shelf.size r c.accepted.new.self.registry shelf
           c.accepted.new.self.shelf
-          (quiet_same view shelf c.accepted.new.self.shelf c.accepted.ensures.shelf) g.met.S.Store.settled
-          (g.met.H.Shelf.lawful shelf h) clean c.accepted.ensures.reads);
+          (quiet_same view shelf c.accepted.new.self.shelf c.accepted.ensures.shelf)
+          g.met.S.Store.settled (g.met.H.Shelf.lawful shelf h) clean c.accepted.ensures.reads);
       store = search rules;
       only = search rules;
       disk = search rules;
@@ -68,8 +69,8 @@ returns-in-Err-clause-looks g c =
           let shelf = c.args.self.now.media.shelf in
           look_leaves g.S.Store view g.H.Shelf.size r c.accepted.new.self.registry shelf
           c.accepted.new.self.shelf
-          (quiet_same view shelf c.accepted.new.self.shelf c.accepted.ensures.shelf) g.met.S.Store.settled
-          (g.met.H.Shelf.lawful shelf h) clean c.accepted.ensures.reads);
+          (quiet_same view shelf c.accepted.new.self.shelf c.accepted.ensures.shelf)
+          g.met.S.Store.settled (g.met.H.Shelf.lawful shelf h) clean c.accepted.ensures.reads);
       store = search rules;
       only = search rules;
       disk = search rules;
