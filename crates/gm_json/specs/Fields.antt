@@ -21,9 +21,17 @@ text_at key text = record { key = key; value = string text }
 abbrev pub truth_at : List ℕ → Bool → Field
 truth_at key holds = record { key = key; value = boolean holds }
 
--- one that is a list of what is told of each
+-- what is told of each
+abbrev pub array_of : {X : Type 0} → (X → Data) → List X → Data
+array_of f xs = array (items_of (map f xs))
+
+-- one that is a list of it
 abbrev pub each_at : {X : Type 0} → List ℕ → (X → Data) → List X → Field
-each_at key f xs = record { key = key; value = array (items_of (map f xs)) }
+each_at key f xs = record { key = key; value = array_of f xs }
+
+-- one that is a list of texts
+abbrev pub texts_at : List ℕ → List (List ℕ) → Field
+texts_at key texts = each_at key string texts
 
 -- the members, in this order
 abbrev pub members_of : List Field → Members
@@ -34,6 +42,6 @@ members_of (f ∷ fs) = member f.key f.value (members_of fs)
 abbrev pub object_of : List Field → Data
 object_of fs = object (members_of fs)
 
--- the text of an object, without a space
+-- the text of a value, without a space
 unfoldable pub text_of : Data → List ℕ
 text_of d = compact_text d

@@ -1,4 +1,6 @@
 pub mod Answers
+pub mod Audits
 pub mod Fields
 pub mod Mirrors
 pub mod Sectors
+pub mod Tastings

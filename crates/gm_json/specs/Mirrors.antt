@@ -9,7 +9,7 @@ use Rattle.gm_state.specs.Lookups.{mirror_of}
 use Rattle.gm_state.specs.Records.{Records, members}
 use Rattle.gm_state.specs.States.{component_state_name, mirror_state_name, state_among, state_by}
 use Rattle.serde_json.specs.Data.{Data}
-use Rattle.gm_json.specs.Fields.{each_at, number_at, object_of, text_at, text_of, truth_at}
+use Rattle.gm_json.specs.Fields.{array_of, each_at, number_at, object_of, text_at, text_of, truth_at}
 
 -- the name of the state of a component
 abbrev pub state_of : Mirror → Component → List ℕ
@@ -66,9 +66,16 @@ mirror_data m ks = object_of (
     ∷ number_at (codes "syncid") m.syncid
     ∷ [])
 
+-- all that is known of each mirror
+abbrev pub list_data : Records → Data
+list_data s = array_of (λ m. mirror_data m (members s.components m.name)) s.mirrors
+
 -- the texts
 abbrev pub status_json : Records → List ℕ
 status_json s = text_of (status_data s)
+
+abbrev pub list_json : Records → List ℕ
+list_json s = text_of (list_data s)
 
 abbrev pub mirror_json : Records → List ℕ → Option (List ℕ)
 mirror_json s name =

@@ -5,7 +5,7 @@ ghost use Rattle.std.specs.String.{string_bytes};
 ghost use Rattle.serde_json.specs.View.{items_of, items_view, view};
 ghost use Rattle.gm_state.specs.Records.{members};
 ghost use Rattle.gm_state.specs.States.{mirror_state_name, state_among};
-ghost use Rattle.gm_json.specs.Mirrors.{component_data, mirror_data, mirror_json, standing_component, standing_mirror, state_of, status_data, status_json};
+ghost use Rattle.gm_json.specs.Mirrors.{component_data, list_data, list_json, mirror_data, mirror_json, standing_component, standing_mirror, state_of, status_data, status_json};
 
 use crate::text::{put_text, text_of};
 use gm_metadata::Label;
@@ -163,6 +163,33 @@ fn mirror_value(alloc: Global, m: &Mirror, members: &[Component]) -> Result<Valu
     put_text(&mut map, alloc, "state", mirror_state(m, members))?;
     put(&mut map, alloc, "syncid", Value::from(m.syncid))?;
     Ok(Value::Object(map))
+}
+
+fn mirror_values(alloc: Global, state: &State) -> Result<Vec<Value>, AllocError>
+    ensures { IfOk result (λ vs. items_view vs.items ≡ items_of
+        (map (λ m. mirror_data m (members state.now.components m.name)) state.now.mirrors)) }
+{
+    let mut values = Vec::new(alloc);
+    for mirror in state.mirrors() {
+        let members = state.members(alloc, mirror.name)?;
+        values.push(mirror_value(alloc, mirror, &members)?)?;
+    }
+    Ok(values)
+}
+
+fn list_value(alloc: Global, state: &State) -> Result<Value, AllocError>
+    ensures { IfOk result (λ v. view v ≡ list_data state.now) }
+{
+    Ok(Value::Array(mirror_values(alloc, state)?))
+}
+
+/// All that is known of each mirror and of its components, in byte order of names, as
+/// `mirror_json` tells it of one.
+pub fn list_json(alloc: Global, state: &State) -> Result<String, AllocError>
+    ensures { IfOk result (λ text. string_bytes text ≡ list_json state.now) }
+{
+    let value = list_value(alloc, state)?;
+    text_of(alloc, &value)
 }
 
 /// All that is known of the mirror of this name and of its components, in byte order of names;

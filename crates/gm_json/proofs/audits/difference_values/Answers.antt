@@ -1,0 +1,13 @@
+use Rattle.std.proofs.Common.{◌∙◌, ap, map}
+use Rattle.serde_json.specs.View.{view}
+use Rattle.gm_json.specs.Audits.{difference_data}
+use Rattle.gm_json.proofs.Grown.{one_more}
+use Rattle.gm_json.proofs.audits.difference_values.Goals as goal
+
+pub loop-difference-preserved : goal.loop-difference-preserved
+loop-difference-preserved c =
+    ap (map view) c.in_ok-push.ensures.items
+    ∙ one_more difference_data view c.args.differ.now c.loop-difference.difference-index
+    c.difference-item.result c.loop-difference.values.items c.in_ok-difference_value.field-0
+    c.loop-difference-test.true c.difference-item.is c.loop-difference.invariant
+    c.in_ok-difference_value.ensures
