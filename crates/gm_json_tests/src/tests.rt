@@ -1,11 +1,12 @@
 //! Every text is compact, with the keys of each object in byte order.
 
 use gm_json::{
-    decode_json, done_json, error_json, fault_json, metadata_json, mirror_json, refused_json,
-    repeated_json, status_json,
+    Difference, audit_json, decode_json, done_json, error_json, fault_json, list_json,
+    metadata_json, mirror_json, refused_json, repeated_json, scrub_json, status_json, tasting_json,
 };
 use gm_metadata::{Balance, DecodeFault, DiskFlags, Label, Metadata, MirrorFlags};
 use gm_state::{Component, Disk, Mirror, Reply, State, metadata};
+use gm_taste::{Group, LeftOut, Member, MemberState, Reason, Tasted};
 use std::alloc::AllocError;
 use std::process::Abort;
 
@@ -49,6 +50,37 @@ const METADATA: &str = concat!(
     r#"{"all":3,"balance":"split","dflags":6,"did":2,"genid":5,"mediasize":1536,"mflags":1,"#,
     r#""mid":3735928559,"name":"gm0","priority":200,"provider":"b.img","provsize":2048,"#,
     r#""slice":8192,"sync_offset":1024,"syncid":6}"#
+);
+
+// The same two mirrors.
+const LIST: &str = concat!(
+    r#"[{"all":2,"balance":"round-robin","components":[{"did":2,"flags":0,"hardcoded":false,"#,
+    r#""name":"a.img","offset":0,"priority":0,"provsize":2048,"state":"ACTIVE","syncid":4},"#,
+    r#"{"did":1,"flags":6,"hardcoded":true,"name":"b.img","offset":512,"priority":5,"#,
+    r#""provsize":4096,"state":"SYNCHRONIZING","syncid":4}],"flags":3,"genid":3,"#,
+    r#""mediasize":1536,"mid":8,"name":"gm0","slice":8192,"state":"DEGRADED","syncid":4},"#,
+    r#"{"all":1,"balance":"load","components":[{"did":1,"flags":0,"hardcoded":false,"#,
+    r#""name":"c.img","offset":0,"priority":0,"provsize":2048,"state":"ACTIVE","syncid":1}],"#,
+    r#""flags":0,"genid":0,"mediasize":1536,"mid":7,"name":"gm1","slice":4096,"#,
+    r#""state":"COMPLETE","syncid":1}]"#
+);
+
+const SCRUB: &str = concat!(
+    r#"{"differ":[{"first":17,"name":"b.img","sectors":3},"#,
+    r#"{"first":0,"name":"d.img","sectors":18446744073709551615}],"uncompared":["c.img"]}"#
+);
+
+// Two mirrors, the second without a source, and an image for each reason.
+const TASTING: &str = concat!(
+    r#"{"left_out":[{"name":"f.img","reason":"fault 3"},"#,
+    r#"{"name":"g.img","reason":"names another image"},"#,
+    r#"{"name":"h.img","reason":"tells another size"},{"name":"k.img","reason":"no metadata"}],"#,
+    r#""mirrors":[{"components":[{"name":"a.img","state":"ACTIVE"},"#,
+    r#"{"copied":2,"name":"b.img","of":3,"state":"SYNCHRONIZING"}],"#,
+    r#""genid":5,"mid":7,"name":"gm0","source":"a.img","syncid":6},"#,
+    r#"{"components":[{"name":"c.img","state":"BROKEN"},{"name":"d.img","state":"INACTIVE"},"#,
+    r#"{"copied":0,"name":"e.img","of":3,"state":"STALE"}],"#,
+    r#""genid":5,"mid":8,"name":"gm1","source":"","syncid":6}]}"#
 );
 
 // What fails ends a test at once, here and below: so a proof has no way out of each call to go
@@ -214,6 +246,89 @@ fn must_tell(rt: &(impl Abort + AllocGlobal), state: &State, text: &str) {
 fn a_mirror_is_told_by_its_name(rt: HostRuntime) {
     must_tell(&rt, &new_state(&rt), NEW_MIRROR);
     must_tell(&rt, &two_mirrors(&rt), MIRROR);
+}
+
+#[test]
+fn all_mirrors_are_told(rt: HostRuntime) {
+    let none = State::empty(rt.alloc());
+    must_be(&rt, list_json(rt.alloc(), &none), "[]");
+    must_be(&rt, list_json(rt.alloc(), &two_mirrors(&rt)), LIST);
+}
+
+#[test]
+fn components_that_were_looked_at_are_told(rt: HostRuntime) {
+    let [a, b, c, d] = ["a.img", "b.img", "c.img", "d.img"].map(|name| label(&rt, name));
+    must_be(&rt, audit_json(rt.alloc(), &[]), r#"{"amiss":[]}"#);
+    let amiss = audit_json(rt.alloc(), &[a, b]);
+    must_be(&rt, amiss, r#"{"amiss":["a.img","b.img"]}"#);
+    let none = scrub_json(rt.alloc(), &[], &[]);
+    must_be(&rt, none, r#"{"differ":[],"uncompared":[]}"#);
+    let differ = [(b, 3, 17), (d, u64::MAX, 0)].map(|(provider, sectors, first)| Difference {
+        provider,
+        sectors,
+        first,
+    });
+    must_be(&rt, scrub_json(rt.alloc(), &differ, &[c]), SCRUB);
+}
+
+fn group(rt: &(impl Abort + AllocGlobal), mid: u32, name: &str, members: &[Member]) -> Group {
+    Group {
+        name: label(rt, name),
+        mid,
+        genid: 5,
+        syncid: 6,
+        members: members.to_vec(rt.alloc()).expect(rt, "no memory"),
+    }
+}
+
+fn member(rt: &impl Abort, provider: &str, state: MemberState) -> Member {
+    let (name, provider) = (label(rt, "gm0"), label(rt, provider));
+    Member {
+        provider,
+        metadata: metadata(&new_mirror(name), &new_component(name, provider)),
+        state,
+    }
+}
+
+fn left_out(rt: &impl Abort, provider: &str, reason: Reason) -> LeftOut {
+    LeftOut {
+        provider: label(rt, provider),
+        reason,
+    }
+}
+
+fn tasted(rt: &(impl Abort + AllocGlobal)) -> Tasted {
+    let first = [
+        member(rt, "a.img", MemberState::Active),
+        member(rt, "b.img", MemberState::Synchronizing(1024)),
+    ];
+    let second = [
+        member(rt, "c.img", MemberState::Broken),
+        member(rt, "d.img", MemberState::Inactive),
+        member(rt, "e.img", MemberState::Stale(0)),
+    ];
+    let left = [
+        left_out(rt, "f.img", Reason::Decode(DecodeFault::Hash)),
+        left_out(rt, "g.img", Reason::OtherName),
+        left_out(rt, "h.img", Reason::OtherSize),
+        left_out(rt, "k.img", Reason::Decode(DecodeFault::Magic)),
+    ];
+    let groups = vec![in rt.alloc(); group(rt, 7, "gm0", &first), group(rt, 8, "gm1", &second)];
+    Tasted {
+        groups: groups.expect(rt, "no memory"),
+        left: left.to_vec(rt.alloc()).expect(rt, "no memory"),
+    }
+}
+
+#[test]
+fn images_that_were_tasted_are_told(rt: HostRuntime) {
+    let none = Tasted {
+        groups: Vec::new(rt.alloc()),
+        left: Vec::new(rt.alloc()),
+    };
+    let nothing = r#"{"left_out":[],"mirrors":[]}"#;
+    must_be(&rt, tasting_json(rt.alloc(), &none), nothing);
+    must_be(&rt, tasting_json(rt.alloc(), &tasted(&rt)), TASTING);
 }
 
 #[test]
