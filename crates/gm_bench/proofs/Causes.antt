@@ -11,7 +11,7 @@ use Rattle.gm_rows.specs.declared.fault.StoreFault.{StoreFault}
 use Rattle.gm_rows.specs.declared.fault.StoreFault.TheVariants as store
 use Rattle.gm_shelf.specs.declared.fault.ShelfFault.{ShelfFault}
 use Rattle.gm_shelf.specs.declared.fault.ShelfFault.TheVariants as shelf
-use Rattle.gm_bench.specs.declared.fault.BenchFault.TheVariants.{Disk, Absent, Unreadable}
+use Rattle.gm_bench.specs.declared.fault.BenchFault.TheVariants.{Disk, Absent, Store, Unreadable}
 use Rattle.gm_bench.specs.Faults.{of_store, of_shelf}
 
 -- what `?` passes on is the fault that it was given
@@ -72,3 +72,8 @@ not_lacking_sector size (Meta p) hand e = no_sector (size p) hand e
 not_lacking_sector size (Clear p) hand e = no_sector (size p) hand e
 not_lacking_sector size (Copy a b x y) hand (inl e) = too_short (size a) y hand.0 e
 not_lacking_sector size (Copy a b x y) hand (inr e) = too_short (size b) y hand.1 e
+
+pub of_failed : (f : StoreFault) → of_store f ≡ Store → f ≡ store.Store
+of_failed store.Memory e = cc
+of_failed store.Store e = refl
+of_failed store.Unreadable e = cc

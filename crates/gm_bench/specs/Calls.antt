@@ -12,10 +12,10 @@ use Rattle.gm_rows.specs.ReadableTables.{AreRecordsOf}
 use Rattle.gm_registry.specs.Replies.{AreWrittenUnder, count_of}
 use Rattle.gm_bench.specs.Benches.{media_of, progress_of, redone_of, registry_of, shelf_of}
 use Rattle.gm_bench.specs.ShelfFacts.{IsHonestToAdopt}
-use Rattle.gm_registry.specs.Registry.{DiskKept, HasTables, LeavesNothingNew, Reads, WasClean}
+use Rattle.gm_registry.specs.Registry.{DiskKept, HasTables, IsOpen, LeavesNothingNew, Reads, StoreFailed, WasClean}
 use Rattle.gm_bench.specs.declared.bench.Bench.{Bench}
 use Rattle.gm_bench.specs.declared.fault.BenchFault.{BenchFault}
-use Rattle.gm_bench.specs.declared.fault.BenchFault.TheVariants.{Absent, Closed, Disk, Unreadable}
+use Rattle.gm_bench.specs.declared.fault.BenchFault.TheVariants.{Absent, Closed, Disk, Store, Unreadable}
 use Rattle.gm_bench.specs.declared.answer.Answer.{Answer}
 use Rattle.gm_bench.specs.declared.answer.Work.{Work}
 use Rattle.gm_bench.specs.declared.media.Media.{Media}
@@ -30,11 +30,18 @@ abbrev pub TellsDisk : {H T : Type 0} → ShelfGhosts H → H → H → Result T
 TellsDisk h old new result =
     IsErrOf result Disk → (h.view old).faults < (h.view new).faults
 
--- a call that only reads a shelf
+-- Store is told of a registry with tables only where the store failed.
+abbrev pub TellsStore : {S T : Type 0} → StoreGhosts S → Held S → Held S → Result T BenchFault
+    → Type 0
+TellsStore s old new result =
+    DiskKept s new → IsErrOf result Store → (t : Tables) → HasTables s old t → StoreFailed s old new
+
+-- a call that only reads a shelf, and asks no store
 pub record Looks {H T : Type 0} (h : ShelfGhosts H) (old new : H)
     (result : Result T BenchFault) : Type 0 where
   pub only : ReadsOnly h old new
   pub disk : TellsDisk h old new result
+  pub not_store : IsErrOf result Store → ⊥
   pub fault : IfErr result IsOfMedia
 
 module _ {S H T : Type 0} (s : StoreGhosts S) (h : ShelfGhosts H) (old new : Media S H)
@@ -71,6 +78,12 @@ module _ {S H T : Type 0} (s : StoreGhosts S) (h : ShelfGhosts H) (old new : Med
   abbrev pub TellsAtHand : (T → Type 0) → Type 0
   TellsAtHand IsHandy = DiskKept s new.registry → IfOk result (λ a. (t : Tables) (r : Records)
       → HasTables s old.registry t → AreRecordsOf t r → IsHandy a)
+
+  -- where it fails, the tables stay, wherever the rows say a state
+  abbrev pub RefusesCall : Type 0
+  RefusesCall = DiskKept s new.registry → OnErr result ((t : Tables) (r : Records)
+      → HasTables s old.registry t → AreRecordsOf t r → IsOpen s new.registry
+      → HasTables s new.registry t)
 
 -- The shelf is kept; and where the disk kept what was written to the registry until now, it did so
 -- before the call.
@@ -114,12 +127,13 @@ module _ {S H T : Type 0} (s : StoreGhosts S) (h : ShelfGhosts H) (old new : Ben
         → TellsDisk h (shelf_of old) (shelf_of new) result
 
 -- A command that is handed in, by the registry's rows and the shelf's sizes alone: what is then
--- pending is at hand.
+-- pending is at hand, and where it fails the tables stay.
 pub record TellsOfRows {S H : Type 0} (s : StoreGhosts S) (h : ShelfGhosts H) (old new : Bench S H)
     (result : Result Answer BenchFault) (key : List ℕ) (c : Command) : Type 0 where
   pub readable : TellsUnreadable s h (media_of old) (media_of new) result key c
   pub at_hand : TellsAtHand s h (media_of old) (media_of new) result (λ a. (work : Work)
       → progress_of new ≡ Pending work → AreAtHand (h.size (shelf_of old)) work.intents.items)
+  pub refused : RefusesCall s h (media_of old) (media_of new) result
 
 -- A command that is run: where an answer says that nothing was done it only read the registry, and
 -- where the registry's rows say a state it tells of the disk only where that failed.

@@ -9,14 +9,14 @@ ghost use Rattle.gm_state.specs.World.{World};
 ghost use Rattle.gm_commands.specs.Commands.{is_key};
 ghost use Rattle.gm_rules.specs.Step.{CanAnswer};
 ghost use Rattle.gm_state.specs.Rows.{Tables};
-ghost use Rattle.gm_registry.specs.Registry.{DiskKept, HasTables, LeavesNothingNew, WasClean, Reads};
+ghost use Rattle.gm_registry.specs.Registry.{DiskKept, HasTables, LeavesNothingNew, Refuses, WasClean, Reads};
 ghost use Rattle.gm_registry.specs.Replies.{IsFree, count_of};
 ghost use Rattle.gm_bench.specs.Accepting.{LeavesStep, IsAnswered};
 ghost use Rattle.gm_bench.specs.Faults.{IsOfCall};
 ghost use Rattle.gm_bench.specs.Planning.{IsPlanned, IsWith, IsWorkAtHand};
 ghost use Rattle.gm_bench.specs.Recovering.{IsAt};
 ghost use Rattle.gm_bench.specs.Phases.{IsUndone, answer_of};
-ghost use Rattle.gm_bench.specs.Calls.{Accepts, TellsAtHand, TellsUnreadable};
+ghost use Rattle.gm_bench.specs.Calls.{Accepts, RefusesCall, TellsAtHand, TellsUnreadable};
 
 use crate::answer::Accepted;
 use crate::fault::BenchFault;
@@ -43,6 +43,7 @@ impl<S: Alter, H: Shelf> Media<S, H> {
             → IsPlanned u c planned → CanAnswer u key.now c
             → IsAnswered S.Store H.view H.size self.new.registry self.old.shelf away
             u key.now c a) }
+        ensures refused { Refuses S.Store self.old.registry self.new.registry result }
         ensures disk { IsErrOf result BenchFault.Disk → ⊥ }
         ensures work { IfOk result (IsWith planned.work) }
         ensures fault { IfErr result IsOfCall }
@@ -87,6 +88,7 @@ impl<S: Alter, H: Shelf> Media<S, H> {
             self.old self.new result key.now command.now }
         ensures at_hand { CommandFits command.now → TellsAtHand S.Store H.Shelf
             self.old self.new result (IsWorkAtHand (H.size self.old.shelf)) }
+        ensures refused { RefusesCall S.Store H.Shelf self.old self.new result }
         ensures accepts { Accepts S.Store H.Shelf self.old self.new result
             (λ a. IsUndone (answer_of a)) }
     {
@@ -123,6 +125,7 @@ impl<S: Alter, H: Shelf> Media<S, H> {
             self.old self.new result key.now command.now }
         ensures at_hand { CommandFits command.now → TellsAtHand S.Store H.Shelf
             self.old self.new result (IsWorkAtHand (H.size self.old.shelf)) }
+        ensures refused { RefusesCall S.Store H.Shelf self.old self.new result }
         ensures accepts { Accepts S.Store H.Shelf self.old self.new result
             (λ a. IsUndone (answer_of a)) }
     {
@@ -157,6 +160,7 @@ impl<S: Alter, H: Shelf> Media<S, H> {
             self.old self.new result key.now command.now }
         ensures at_hand { CommandFits command.now → TellsAtHand S.Store H.Shelf
             self.old self.new result (IsWorkAtHand (H.size self.old.shelf)) }
+        ensures refused { RefusesCall S.Store H.Shelf self.old self.new result }
         ensures accepts { Accepts S.Store H.Shelf self.old self.new result
             (λ a. IsUndone (answer_of a)) }
     {
@@ -195,6 +199,7 @@ impl<S: Alter, H: Shelf> Media<S, H> {
             self.old self.new result key.now command.now }
         ensures at_hand { TellsAtHand S.Store H.Shelf
             self.old self.new result (IsWorkAtHand (H.size self.old.shelf)) }
+        ensures refused { RefusesCall S.Store H.Shelf self.old self.new result }
         ensures accepts { Accepts S.Store H.Shelf self.old self.new result
             (λ a. IsUndone (answer_of a)) }
     {

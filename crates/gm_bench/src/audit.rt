@@ -8,7 +8,7 @@ ghost use Rattle.gm_state.specs.Intents.{IsOf};
 ghost use Rattle.gm_state.specs.Records.{IsState, Records};
 ghost use Rattle.gm_state.specs.Rows.{Tables};
 ghost use Rattle.gm_rows.specs.ReadableTables.{AreTablesOf};
-ghost use Rattle.gm_registry.specs.Registry.{DiskKept, HasTables, Reads};
+ghost use Rattle.gm_registry.specs.Registry.{DiskKept, HasTables, IsRegistry, Reads, StoreFailed};
 ghost use Rattle.gm_bench.specs.Audits.{IsAsRegistered, IsAudit};
 ghost use Rattle.gm_bench.specs.Faults.{IsOfCall, IsOfMedia};
 ghost use Rattle.gm_bench.specs.Owed.{LookDoes};
@@ -92,6 +92,9 @@ impl<S: Alter, H: Shelf> Media<S, H> {
         ensures unreadable { DiskKept S.Store self.new.registry
             → IsErrOf result BenchFault.Unreadable → (t : Tables) (s : Records) (ts : List Intent)
             → HasTables S.Store self.old.registry t → AreTablesOf t s ts → ⊥ }
+        ensures store { DiskKept S.Store self.new.registry → IsErrOf result BenchFault.Store
+            → IsRegistry S.Store self.old.registry
+            → StoreFailed S.Store self.old.registry self.new.registry }
         ensures asks { Asks S.Store H.Shelf self.old self.new result }
     {
         let (state, _) = self.load(alloc)?;

@@ -5,7 +5,7 @@ ghost use Rattle.gm_metadata.specs.Images.{Image};
 ghost use Rattle.gm_shelf.specs.Disk.{AreReads};
 ghost use Rattle.gm_state.specs.Rows.{Tables};
 ghost use Rattle.gm_state.specs.World.{World};
-ghost use Rattle.gm_registry.specs.Registry.{DiskKept, HasTables, LeavesNothingNew, WasClean, Reads};
+ghost use Rattle.gm_registry.specs.Registry.{DiskKept, HasTables, LeavesNothingNew, Refuses, WasClean, Reads};
 ghost use Rattle.gm_bench.specs.Benches.{media_of, progress_of, registry_of, shelf_of};
 ghost use Rattle.gm_bench.specs.declared.answer.Accepted.{Accepted};
 ghost use Rattle.gm_bench.specs.declared.answer.Work.{Work};
@@ -13,7 +13,7 @@ ghost use Rattle.gm_bench.specs.Owed.{AcceptAnswers, AcceptLeaves, ApplyDoes, Ap
 ghost use Rattle.gm_bench.specs.Phases.{TakesCommands, HasWork, HasDone, answer_of, phase_after, phase_of, progress_after, IsUndone};
 ghost use Rattle.gm_bench.specs.Recovering.{IsAt, IsAtWork, LeavesOnly};
 ghost use Rattle.gm_bench.specs.Presence.{AreAtHand};
-ghost use Rattle.gm_bench.specs.Calls.{Accepts, ClosesOnFault, CarriesOut, RunsOnce, Settles, TellsOfRows, TellsUnreadable};
+ghost use Rattle.gm_bench.specs.Calls.{Accepts, ClosesOnFault, CarriesOut, RunsOnce, Settles, TellsOfRows, TellsStore, TellsUnreadable};
 
 use crate::answer::Answer;
 use crate::bench::Bench;
@@ -83,6 +83,7 @@ impl<S: Alter, H: Shelf> Bench<S, H> {
             → ApplyLeaves S.Store H.view H.size (registry_of self.old)
             (shelf_of self.old) (shelf_of self.new) work }
         ensures phase { OnOk result (phase_of (progress_of self.new) ≡ Phase.Applied) }
+        ensures not_store { IsErrOf result BenchFault.Store → ⊥ }
         ensures registry { registry_of self.new ≡ registry_of self.old }
         ensures carries { CarriesOut S.Store H.Shelf self.old self.new result }
         ensures closes { ClosesOnFault self.old self.new result }
@@ -110,6 +111,9 @@ impl<S: Alter, H: Shelf> Bench<S, H> {
             → SettleLeaves S.Store H.view H.size (registry_of self.old) (registry_of self.new)
             (shelf_of self.old) work }
         ensures phase { OnOk result (progress_of self.new ≡ Progress.Ready) }
+        // On a disk that didn't fail, without a limit on steps, it is never `Store`.
+        ensures store { TellsStore S.Store (registry_of self.old) (registry_of self.new) result }
+        ensures refused { Refuses S.Store (registry_of self.old) (registry_of self.new) result }
         ensures settles { Settles S.Store self.old self.new result }
         ensures closes { ClosesOnFault self.old self.new result }
     {

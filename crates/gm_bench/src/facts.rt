@@ -26,6 +26,7 @@ pub(crate) fn last_of<H: Shelf>(
         → IfOk result (λ last. last ≡ last_of sectors ((H.view shelf.old).seen provider)) }
     ensures disk { H.size shelf.old provider ≡ Some sectors → IsErrOf result BenchFault.Disk
         → (H.view shelf.old).faults < (H.view shelf.new).faults }
+    ensures not_store { IsErrOf result BenchFault.Store → ⊥ }
     ensures fault { IfErr result IsOfMedia }
     ensures only { ReadsOnly H.Shelf shelf.old shelf.new }
 {
@@ -71,6 +72,7 @@ fn fact_there<H: Shelf>(
     ensures named { IfOk result (λ f. (f.provider ≡ provider) × (f.sectors ≡ sectors)) }
     ensures disk { H.size shelf.old provider ≡ Some sectors → IsErrOf result BenchFault.Disk
         → (H.view shelf.old).faults < (H.view shelf.new).faults }
+    ensures not_store { IsErrOf result BenchFault.Store → ⊥ }
     ensures fault { IfErr result IsOfMedia }
     ensures only { ReadsOnly H.Shelf shelf.old shelf.new }
 {

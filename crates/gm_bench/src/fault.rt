@@ -64,6 +64,7 @@ impl BenchFault {
     /// there.
     pub(crate) fn of_shelf(fault: ShelfFault) -> BenchFault
         ensures value { result ≡ of_shelf fault }
+        ensures not_store { result ≡ BenchFault.Store → ⊥ }
         ensures media { IsOfMedia result }
         ensures call { IsOfCall result }
     {

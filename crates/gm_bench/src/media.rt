@@ -5,7 +5,8 @@ ghost use Rattle.gm_metadata.specs.Images.{Image};
 ghost use Rattle.gm_state.specs.declared.intents.Intent.{Intent};
 ghost use Rattle.gm_state.specs.World.{World};
 ghost use Rattle.gm_registry.specs.Changes.{settled};
-ghost use Rattle.gm_registry.specs.Registry.{DiskKept, WasClean};
+ghost use Rattle.gm_registry.specs.Registry.{DiskKept, Refuses, WasClean};
+ghost use Rattle.gm_bench.specs.Calls.{TellsStore};
 ghost use Rattle.gm_bench.specs.Faults.{IsOfMedia};
 ghost use Rattle.gm_bench.specs.Leading.{AllLead};
 ghost use Rattle.gm_bench.specs.Recovering.{Cover, IsAt, IsShelfOf, LeavesOnly};
@@ -48,6 +49,7 @@ impl<S: Alter, H: Shelf> Media<S, H> {
         ensures disk { AreAtHand (H.size self.old.shelf) intents.now
             → IsErrOf result BenchFault.Disk
             → (H.view self.old.shelf).faults < (H.view self.new.shelf).faults }
+        ensures not_store { IsErrOf result BenchFault.Store → ⊥ }
         ensures fault { IfErr result IsOfMedia }
         ensures registry { self.new.registry ≡ self.old.registry }
         ensures keeps { Keeps H.Shelf self.old.shelf self.new.shelf }
@@ -71,6 +73,8 @@ impl<S: Alter, H: Shelf> Media<S, H> {
             → IsAt S.Store H.view H.size self.old.registry self.old.shelf away ts u w
             → IsShelfOf (H.view self.old.shelf) w (H.size self.old.shelf)
             → IsAt S.Store H.view H.size self.new.registry self.new.shelf away [] w w) }
+        ensures store { TellsStore S.Store self.old.registry self.new.registry result }
+        ensures refused { Refuses S.Store self.old.registry self.new.registry result }
         ensures disk { IsErrOf result BenchFault.Disk → ⊥ }
         ensures fault { IfErr result IsOfMedia }
         ensures shelf { self.new.shelf ≡ self.old.shelf }

@@ -8,7 +8,7 @@ ghost use Rattle.gm_state.specs.Records.{Records};
 ghost use Rattle.gm_state.specs.Rows.{Tables};
 ghost use Rattle.gm_state.specs.World.{World};
 ghost use Rattle.gm_rows.specs.ReadableTables.{AreTablesOf};
-ghost use Rattle.gm_registry.specs.Registry.{DiskKept, HasTables, IsRegistry, LeavesAlone, Reads, WasClean};
+ghost use Rattle.gm_registry.specs.Registry.{DiskKept, HasTables, IsRegistry, LeavesAlone, Reads, StoreFailed, WasClean};
 ghost use Rattle.gm_bench.specs.Faults.{IsOfMedia, IsOfOpening, IsOfRegistry, IsBeforeWrites};
 ghost use Rattle.gm_bench.specs.Leading.{AllLead};
 ghost use Rattle.gm_bench.specs.Presence.{first_absent, AreAtHand};
@@ -67,6 +67,9 @@ impl<S: Alter, H: Shelf> Media<S, H> {
         ensures unreadable { DiskKept S.Store self.new.registry
             → IsErrOf result BenchFault.Unreadable → (t : Tables) (s : Records) (ts : List Intent)
             → HasTables S.Store self.old.registry t → AreTablesOf t s ts → ⊥ }
+        ensures store { DiskKept S.Store self.new.registry → IsErrOf result BenchFault.Store
+            → IsRegistry S.Store self.old.registry
+            → StoreFailed S.Store self.old.registry self.new.registry }
         ensures untouched { IsRegistry S.Store self.old.registry
             → LeavesAlone S.Store self.old.registry self.new.registry }
         ensures fault { IfErr result IsOfRegistry }

@@ -6,7 +6,7 @@ ghost use Rattle.gm_state.specs.declared.intents.Intent.{Intent};
 ghost use Rattle.gm_state.specs.Records.{Records};
 ghost use Rattle.gm_state.specs.Rows.{Tables};
 ghost use Rattle.gm_rows.specs.ReadableTables.{AreTablesOf};
-ghost use Rattle.gm_registry.specs.Registry.{DiskKept, HasTables, Reads};
+ghost use Rattle.gm_registry.specs.Registry.{DiskKept, HasTables, IsRegistry, Reads, StoreFailed};
 ghost use Rattle.gm_registry.specs.Replies.{count_of};
 ghost use Rattle.gm_bench.specs.Benches.{registry_of, shelf_of};
 ghost use Rattle.gm_bench.specs.Audits.{IsAudit};
@@ -38,6 +38,10 @@ impl<S: Alter, H: Shelf> Bench<S, H> {
         ensures unreadable { DiskKept S.Store (registry_of self.new)
             → IsErrOf result BenchFault.Unreadable → (t : Tables) (s : Records) (ts : List Intent)
             → HasTables S.Store (registry_of self.old) t → AreTablesOf t s ts → ⊥ }
+        // On a disk that didn't fail, without a limit on steps, it is never `Store`.
+        ensures store { DiskKept S.Store (registry_of self.new) → IsErrOf result BenchFault.Store
+            → IsRegistry S.Store (registry_of self.old)
+            → StoreFailed S.Store (registry_of self.old) (registry_of self.new) }
         ensures shelf { shelf_of self.new ≡ shelf_of self.old }
         ensures looks { LooksOn S.Store H.Shelf self.old self.new result }
         ensures closes { ClosesOnFault self.old self.new result }
@@ -62,6 +66,7 @@ impl<S: Alter, H: Shelf> Bench<S, H> {
             ≡ last_sector (H.size (shelf_of self.old)) (H.view (shelf_of self.old)).seen
             provider) }
         ensures unreadable { IsErrOf result BenchFault.Unreadable → ⊥ }
+        ensures not_store { IsErrOf result BenchFault.Store → ⊥ }
         ensures registry { registry_of self.new ≡ registry_of self.old }
         ensures looks { LooksOn S.Store H.Shelf self.old self.new result }
         ensures closes { ClosesOnFault self.old self.new result }
@@ -94,6 +99,10 @@ impl<S: Alter, H: Shelf> Bench<S, H> {
         ensures unreadable { DiskKept S.Store (registry_of self.new)
             → IsErrOf result BenchFault.Unreadable → (t : Tables) (s : Records) (ts : List Intent)
             → HasTables S.Store (registry_of self.old) t → AreTablesOf t s ts → ⊥ }
+        // On a disk that didn't fail, without a limit on steps, it is never `Store`.
+        ensures store { DiskKept S.Store (registry_of self.new) → IsErrOf result BenchFault.Store
+            → IsRegistry S.Store (registry_of self.old)
+            → StoreFailed S.Store (registry_of self.old) (registry_of self.new) }
         ensures looks { LooksOn S.Store H.Shelf self.old self.new result }
         ensures closes { ClosesOnFault self.old self.new result }
     {

@@ -76,6 +76,7 @@ pub returns-in-Err-clause-looks : goal.returns-in-Err-clause-looks
 returns-in-Err-clause-looks g c = record {
   only = only_then g.H.Shelf _ _ _ c.loop-component.invariant.only c.flaw_of.ensures.looks.only;
   disk = search rules;
+  not_store = search rules;
   fault = search rules;
 }
 

@@ -42,6 +42,7 @@ returns-in-Err-clause-rows g c =
           let fault : c.in-Err.fault ≡ Unreadable = cc in
           c.in-Err.ensures.readable clean (ap Err fault) t s has records few written honest);
       at_hand = search rules;
+      refused = λ clean. c.in-Err.ensures.refused clean;
     }
 
 pub returns-in-Ok-clause-rows : goal.returns-in-Ok-clause-rows
@@ -51,6 +52,7 @@ returns-in-Ok-clause-rows g c =
       at_hand = λ clean t s has records work pending.
           work_hand (g.H.Shelf.size c.args.self.now.media.shelf) c.in-Ok.accepted work
           (sym c.tell-answer.ensures.1 ∙ pending) (c.in-Ok.ensures.at_hand clean t s has records);
+      refused = search rules;
     }
 
 pub returns-in-Ok-clause-accepts : goal.returns-in-Ok-clause-accepts

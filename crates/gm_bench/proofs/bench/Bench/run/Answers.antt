@@ -153,3 +153,8 @@ returns-in_ok-carry_out-in-Pending-clause-runs g c =
           absurd none);
       disk = search rules;
     }
+
+pub returns-in_err-answer-clause-readable : goal.returns-in_err-answer-clause-readable
+returns-in_err-answer-clause-readable g c clean is =
+    c.in_err-answer.ensures.rows.readable clean
+    (ap Err (fault_is c.from_residual.result _ _ c.from_residual.ensures.1 is))

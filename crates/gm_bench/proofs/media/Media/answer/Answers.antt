@@ -1,4 +1,5 @@
 use Rattle.std.proofs.Common.{rules, ◌≡◌, ◌≢◌, ◌∙◌, ℕ, refl, sym, subst, subst₂, arith, string_bytes, true≢false}
+use Rattle.std.proofs.lemmas.Result.{on_err_weaker}
 use Rattle.std.specs.Prelude.{MatchOption}
 use Rattle.gm_lists.proofs.Order.{same_is, same_from}
 use Rattle.gm_rules.specs.AbstractCalls as run
@@ -164,3 +165,10 @@ returns-in-Ok-None-clause-accepts g c =
           clean));
       clean = search rules;
     }
+
+pub returns-in-Ok-None-clause-refused : goal.returns-in-Ok-None-clause-refused
+returns-in-Ok-None-clause-refused g c clean =
+    let asked : DiskKept g.S.Store c.reply_of.new.self =
+    omega (arith, clean, c.decide.ensures.accepts.clean) in
+    on_err_weaker c.decide.result (λ kept t s has.
+    kept t s (c.in-Ok-None.ensures.found asked t has).1.tables) (c.decide.ensures.refused clean)

@@ -43,3 +43,8 @@ returns-clause-looks g c h clean =
     (λ t has. (c.in_ok-state.ensures.loaded clean t has).1)
     (c.amiss_on.ensures.looks.only.keeps.size ∙ ap size c.load.ensures.shelf))
     c.amiss_on.result (c.amiss_on.ensures.audit h1)
+
+pub returns-in_err-state-clause-store : goal.returns-in_err-state-clause-store
+returns-in_err-state-clause-store g c clean is =
+    c.in_err-state.ensures.store clean (ap Err (fault_is c.from_residual.result _ _
+    c.from_residual.ensures.1 is))

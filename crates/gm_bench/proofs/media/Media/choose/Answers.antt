@@ -1,4 +1,5 @@
 use Rattle.std.proofs.Common.{rules, Err, sym, ap, subst, arith}
+use Rattle.std.proofs.lemmas.Result.{on_err_weaker}
 use Rattle.gm_registry.specs.Registry.{DiskKept}
 use Rattle.gm_registry.proofs.CallsLeave.{saved}
 use Rattle.gm_refusals.specs.Applies.{IsLeast}
@@ -130,3 +131,11 @@ returns-in-Ok-clause-accepts g c =
           c.commit.ensures.work);
       clean = search rules;
     }
+
+pub returns-in-Ok-clause-refused : goal.returns-in-Ok-clause-refused
+returns-in-Ok-clause-refused g c clean =
+    let asked : DiskKept g.S.Store c.ask.new.self.registry =
+    omega (arith, clean, c.commit.ensures.clean) in
+    on_err_weaker c.commit.result (λ kept t s has records.
+    kept t (c.in_ok-planned.ensures.at_hand asked t s has records).0) (c.commit.ensures.refused
+    clean)

@@ -26,3 +26,7 @@ returns-in-Ok-clause-done g c h clean away cmd u words at planned can =
     c.args.self.now.shelf away u c.args.key.now cmd c.args.planned c.args.words.now words
     (g.met.H.Shelf.lawful c.args.self.now.shelf h) at planned can c.in-Ok.number c.reply.result
     c.reply.ensures number saved_now
+
+pub returns-in-Err-clause-refused : goal.returns-in-Err-clause-refused
+returns-in-Err-clause-refused g c clean t has is_open =
+    (c.in-Err.ensures.writes.refused clean t has is_open).tables

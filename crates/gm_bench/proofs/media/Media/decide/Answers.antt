@@ -1,4 +1,5 @@
 use Rattle.std.proofs.Common.{rules, ◌<◌, Err, length, sym, ap, subst, arith}
+use Rattle.std.proofs.lemmas.Result.{on_err_weaker}
 use Rattle.gm_rules.specs.Step.{CanAnswer}
 use Rattle.gm_registry.specs.Registry.{DiskKept}
 use Rattle.gm_registry.specs.Replies.{count_of}
@@ -150,3 +151,10 @@ returns-clause-accepts g c =
           (reads undone)) c.choose.result (c.choose.ensures.accepts.undone clean));
       clean = search rules;
     }
+
+pub returns-clause-refused : goal.returns-clause-refused
+returns-clause-refused g c clean =
+    let counted : DiskKept g.S.Store c.is_full.new.self.registry =
+    omega (arith, clean, c.choose.ensures.accepts.clean) in
+    on_err_weaker c.choose.result (λ kept t s has.
+    kept t s (c.in_ok-is_full.ensures.told counted t has).1) (c.choose.ensures.refused clean)

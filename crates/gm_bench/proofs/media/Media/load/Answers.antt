@@ -1,6 +1,6 @@
 use Rattle.std.proofs.Common.{◌≡◌, ◌∙◌, sym}
-use Rattle.gm_bench.specs.declared.fault.BenchFault.TheVariants.{Unreadable}
-use Rattle.gm_bench.proofs.Causes.{of_unreadable}
+use Rattle.gm_bench.specs.declared.fault.BenchFault.TheVariants.{Store, Unreadable}
+use Rattle.gm_bench.proofs.Causes.{of_failed, of_unreadable}
 use Rattle.gm_bench.proofs.Found.{loaded}
 use Rattle.gm_bench.proofs.media.Media.load.Goals as goal
 
@@ -17,3 +17,9 @@ returns-in-Err-clause-unreadable g c clean is t s ts has of =
     let fault : c.of_store.result ≡ Unreadable = cc in
     c.in-Err.ensures.unreadable clean (of_unreadable c.in-Err.fault
     (sym c.of_store.ensures.value ∙ fault)) t s ts has of
+
+pub returns-in-Err-clause-store : goal.returns-in-Err-clause-store
+returns-in-Err-clause-store g c clean is registry =
+    let fault : c.of_store.result ≡ Store = cc in
+    c.in-Err.ensures.store clean (of_failed c.in-Err.fault
+    (sym c.of_store.ensures.value ∙ fault)) registry

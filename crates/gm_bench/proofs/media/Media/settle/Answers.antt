@@ -1,6 +1,6 @@
 use Rattle.std.proofs.Common.{◌≡◌, ◌∙◌, sym}
-use Rattle.gm_bench.specs.declared.fault.BenchFault.TheVariants.{Disk}
-use Rattle.gm_bench.proofs.Causes.{no_disk}
+use Rattle.gm_bench.specs.declared.fault.BenchFault.TheVariants.{Disk, Store}
+use Rattle.gm_bench.proofs.Causes.{no_disk, of_failed}
 use Rattle.gm_registry.proofs.CallsLeave.{saved}
 use Rattle.gm_bench.proofs.RegistryLeaves.{settle_leaves, settle_rests}
 use Rattle.gm_bench.proofs.media.Media.settle.Goals as goal
@@ -35,3 +35,13 @@ returns-in-Ok-clause-done g c h clean away ts u w at shelf =
 pub returns-in-Err-clause-disk : goal.returns-in-Err-clause-disk
 returns-in-Err-clause-disk g c is = let fault : c.of_store.result ≡ Disk = cc in
     no_disk c.in-Err.fault (sym c.of_store.ensures.value ∙ fault)
+
+pub returns-in-Err-clause-store : goal.returns-in-Err-clause-store
+returns-in-Err-clause-store g c clean is t has =
+    let fault : c.of_store.result ≡ Store = cc in
+    c.in-Err.ensures.store clean (of_failed c.in-Err.fault
+    (sym c.of_store.ensures.value ∙ fault)) t has
+
+pub returns-in-Err-clause-refused : goal.returns-in-Err-clause-refused
+returns-in-Err-clause-refused g c clean t has is_open =
+    (c.in-Err.ensures.writes.refused clean t has is_open).tables
