@@ -20,7 +20,7 @@ use std::alloc::{AllocError, Global};
 pub struct WordsFault;
 
 #[tactic(auto, unfolding(crate::specs::Spelling::switch_in))]
-fn switch(text: &str) -> Option<bool>
+pub(crate) fn switch(text: &str) -> Option<bool>
     ensures { result ≡ switch_in text.now }
 {
     match text {
@@ -31,7 +31,7 @@ fn switch(text: &str) -> Option<bool>
 }
 
 #[tactic(auto, unfolding(crate::specs::Spelling::balance_in))]
-fn balance(text: &str) -> Option<BalanceWord>
+pub(crate) fn balance(text: &str) -> Option<BalanceWord>
     ensures { result ≡ balance_in text.now }
 {
     match text {
@@ -43,13 +43,13 @@ fn balance(text: &str) -> Option<BalanceWord>
     }
 }
 
-fn number(text: &str) -> Option<u32>
+pub(crate) fn number(text: &str) -> Option<u32>
     ensures { result ≡ number_below (2 ^ 32) text.now }
 {
     text.parse::<u32>().ok()
 }
 
-fn priority(text: &str) -> Option<u8>
+pub(crate) fn priority(text: &str) -> Option<u8>
     ensures { result ≡ number_below (2 ^ 8) text.now }
 {
     text.parse::<u8>().ok()
@@ -365,7 +365,7 @@ fn command_of(
 }
 
 // What clap makes of the words.
-fn parsed<'a>(alloc: Global, words: &'a [&'a str]) -> Result<ArgMatches<'a>, Error>
+pub(crate) fn parsed<'a>(alloc: Global, words: &'a [&'a str]) -> Result<ArgMatches<'a>, Error>
     ensures taken { IfOk result (λ m. fault_of table (texts words.entry.now) ≡ []) }
     ensures rows { IfOk result (λ m.
         subcommand_rows_of m ≡ subcommand_of table (texts words.entry.now)) }

@@ -5,12 +5,14 @@
 //! `tasted.rt` what images tell by themselves, and `dump.rt` what a sector says. `lines.rt` has
 //! what the lines are made of. What each text says stands in `specs/` as it is read, line by line.
 //! `clap_table.rt` says which words there are, `command_words.rt` reads a command from them, and
-//! `specs/Spelling.antt` says which words spell which; `laws.rt` says that the words of every
-//! command spell it. Nothing here knows of a registry, a shelf or a bench.
+//! `specs/Spelling.antt` says which words spell which; `complaint.rt` what is wrong with words that
+//! spell none; `laws.rt` says that the words of every command spell it. Nothing here knows of a
+//! registry, a shelf or a bench.
 #![tactic(auto)]
 
 mod clap_table;
 mod command_words;
+mod complaint;
 mod dump;
 mod laws;
 mod lines;
@@ -19,6 +21,7 @@ mod status;
 mod tasted;
 
 pub use command_words::{WordsFault, read_words};
+pub use complaint::words_complaint;
 pub use dump::dump_text;
 pub use laws::canonical_words;
 pub use listing::list_text;
