@@ -108,6 +108,28 @@ fn tell<W: Write>(alloc: Global, writer: &mut W, outcome: &Outcome<'_>) -> Resul
     }
 }
 
+/// Hears of each line of a batch, once its answer is told.
+pub trait Listener {
+    /// A line came to this. One of more than 1,024 bytes isn't handed on.
+    fn answered(&mut self, line: Option<&[u8]>, outcome: &Outcome<'_>);
+}
+
+// Hears nothing.
+#[derive(Drop)]
+struct NoListener;
+
+impl Listener for NoListener {
+    fn answered(&mut self, _line: Option<&[u8]>, _outcome: &Outcome<'_>) {}
+}
+
+// The bytes of a line that was found; none where they are more than a buffer's.
+fn bytes_of(line: &[u8; 1024], found: Line) -> Option<&[u8]> {
+    match found {
+        Line::End | Line::Long => None,
+        Line::Whole(count) => line.get(..count),
+    }
+}
+
 /// Answers the lines of an input in turn, each asked of the bench before it is told, and told
 /// before the next is read. A line that names no command is refused without the bench; one without
 /// words isn't answered. Asks for a bench in phase Ready or Failed. `Stopped` where the bench
@@ -118,6 +140,36 @@ pub fn batch<R: Read, W: Write, S: Alter, H: Shelf>(
     reader: &mut R,
     writer: &mut W,
     bench: &mut Bench<S, H>,
+) -> Result<BatchEnd, FrontFault>
+    requires { TakesCommands (progress_of bench.old) }
+    ensures does { H.honest (shelf_of bench.old) → DiskKept S.Store (registry_of bench.new)
+        → (away : Image) (u : World)
+        → IsAt S.Store H.view H.size (registry_of bench.old) (shelf_of bench.old) away [] u u
+        → Batches S.Store H.view H.size (R.remaining reader.old)
+        (W.contents writer.old) (W.contents writer.new)
+        (registry_of bench.new) (shelf_of bench.new) away u result }
+    ensures progress { IfOk result (λ end. (progress_of bench.new) ≡ progress_at (progress_of
+        bench.old) end) }
+    ensures phase { TakesCommands (progress_of bench.new) }
+    ensures closed { progress_of bench.old ≡ Failed → bench.new ≡ bench.old }
+    ensures reopen { result ≡ Ok (BatchEnd.Stopped BenchFault.Closed)
+        → progress_of bench.old ≡ Failed }
+    ensures absent { (p : List ℕ) → result ≡ Ok (BatchEnd.Stopped (BenchFault.Absent p)) → ⊥ }
+    ensures redone { redone_of bench.new ≡ redone_of bench.old }
+    ensures keep { Keep S.Store H.Shelf (registry_of bench.old) (registry_of bench.new)
+        (shelf_of bench.old) (shelf_of bench.new) }
+{
+    heard_batch(alloc, reader, writer, bench, &mut NoListener)
+}
+
+/// A batch of which a listener hears, line by line. What is owed of it is
+/// what a batch owes.
+pub fn heard_batch<R: Read, W: Write, S: Alter, H: Shelf, L: Listener>(
+    alloc: Global,
+    reader: &mut R,
+    writer: &mut W,
+    bench: &mut Bench<S, H>,
+    listener: &mut L,
 ) -> Result<BatchEnd, FrontFault>
     requires { TakesCommands (progress_of bench.old) }
     ensures does { H.honest (shelf_of bench.old) → DiskKept S.Store (registry_of bench.new)
@@ -153,6 +205,7 @@ pub fn batch<R: Read, W: Write, S: Alter, H: Shelf>(
         if let Err(fault) = tell(alloc, writer, &outcome) {
             return Err(fault);
         }
+        listener.answered(bytes_of(&line, found), &outcome);
         if let Outcome::Failed(_, fault) = outcome {
             return Ok(BatchEnd::Stopped(fault));
         }

@@ -24,7 +24,7 @@ use std::alloc::{AllocError, Global};
 
 /// What a line comes to.
 #[derive(Clone, Copy)]
-pub(crate) enum Outcome<'a> {
+pub enum Outcome<'a> {
     /// Nothing was asked.
     Nothing,
     /// It was no command, under its key as answers show it.
@@ -36,8 +36,8 @@ pub(crate) enum Outcome<'a> {
 }
 
 impl<'a> Outcome<'a> {
-    // Whether the line is refused.
-    fn is_refused(&self) -> bool
+    /// Whether the line is refused.
+    pub fn is_refused(&self) -> bool
         ensures { result ≡ is_refused self.now }
     {
         match *self {
@@ -54,7 +54,7 @@ impl<'a> Outcome<'a> {
     }
 
     /// The answer line, with its line feed; nothing where nothing was asked.
-    pub(crate) fn text(&self, alloc: Global) -> Result<String, AllocError>
+    pub fn text(&self, alloc: Global) -> Result<String, AllocError>
         ensures { IfOk result (λ text. string_bytes text ≡ text_of self.now) }
     {
         match *self {
@@ -118,7 +118,7 @@ pub fn loss_text(
 }
 
 /// Asks the bench what a line asks, in phase Ready or Failed.
-pub(crate) fn ask<'a, S: Alter, H: Shelf>(
+pub fn ask<'a, S: Alter, H: Shelf>(
     alloc: Global,
     bench: &mut Bench<S, H>,
     request: &Request<'a>,

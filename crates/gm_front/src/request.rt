@@ -14,7 +14,7 @@ use std::str;
 
 /// What a line asks of the bench.
 #[derive(Drop)]
-pub(crate) enum Request<'a> {
+pub enum Request<'a> {
     /// Nothing: it has no pieces.
     Nothing,
     /// No command, under its key as answers show it.
@@ -30,8 +30,8 @@ pub(crate) fn shown(key: &str) -> &str
     if is_key(key) { key } else { "?" }
 }
 
-// What stands between spaces, without what is empty.
-fn pieces<'a>(alloc: Global, text: &'a str) -> Result<Vec<&'a str>, AllocError>
+/// What stands between spaces, without what is empty.
+pub fn pieces<'a>(alloc: Global, text: &'a str) -> Result<Vec<&'a str>, AllocError>
     ensures { IfOk result (λ found. texts found.items ≡ pieces text.now) }
 {
     text.split(' ')
@@ -39,8 +39,8 @@ fn pieces<'a>(alloc: Global, text: &'a str) -> Result<Vec<&'a str>, AllocError>
         .collect(alloc)
 }
 
-// What the pieces of a line ask: the first is the key, the others are the words.
-fn request_of<'a>(alloc: Global, pieces: &[&'a str]) -> Result<Request<'a>, AllocError>
+/// What the pieces of a line ask: the first is the key, the others are the words.
+pub fn request_of<'a>(alloc: Global, pieces: &[&'a str]) -> Result<Request<'a>, AllocError>
     ensures { IfOk result (λ request. asked_of request ≡ asked_by (texts pieces.now)) }
 {
     let Some((key, words)) = pieces.split_first() else {

@@ -4,7 +4,7 @@ use Rattle.gm_front.specs.declared.lines.Line.TheVariants.{End}
 use Rattle.gm_front.specs.Batch.{AppendsFront}
 use Rattle.gm_front.specs.Outcomes.{asked_at, asked_of}
 use Rattle.gm_front.proofs.Turns.{begun, broken, comes_so, comes_to, finished, front_all, goes_on, kept_before, one_more, stays_at, stopped, told_in_part, told_wholly}
-use Rattle.gm_front.proofs.answer_lines.batch.Goals as goal
+use Rattle.gm_front.proofs.answer_lines.heard_batch.Goals as goal
 
 pub loop-init : goal.loop-init
 loop-init g c = record {
