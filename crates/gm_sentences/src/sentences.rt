@@ -1,0 +1,66 @@
+//! The sentences.
+
+use gm_bench::{BenchFault, LossRefusal};
+use gm_refusals::{CallRefusal, Refusal};
+
+// Why the rules refuse a command.
+fn refusal_sentence(why: Refusal) -> &'static str {
+    match why {
+        Refusal::NoMirror => "no mirror is named MIRROR",
+        Refusal::NameTaken => "a mirror is named MIRROR already",
+        Refusal::MidTaken => "another mirror has the same mid",
+        Refusal::Absent => "IMAGE isn't on the shelf",
+        Refusal::ProviderTaken => "IMAGE is a component of a mirror already",
+        Refusal::CarriesMetadata => "IMAGE carries metadata; clear takes it away",
+        Refusal::TooSmall => "IMAGE is too small for the data of MIRROR and one sector more",
+        Refusal::NotMember => "IMAGE isn't a component of MIRROR, or is named twice",
+        Refusal::DidTaken => "a component of MIRROR has the same did",
+        Refusal::Full => "MIRROR counts 16 components, and takes no more",
+        Refusal::TooManyMirrors => "64 mirrors are registered, and no more can be",
+        Refusal::SomeLost => "MIRROR counts components that were lost; forget gives them up",
+        Refusal::LastActive => "no ACTIVE component of MIRROR would be left",
+        Refusal::AlreadyInactive => "IMAGE is INACTIVE already",
+        Refusal::NotInactive => "IMAGE isn't INACTIVE",
+        Refusal::NoneLost => "MIRROR counts no component that was lost",
+        Refusal::Inactive => "IMAGE is INACTIVE; activate takes it back",
+        Refusal::NotSynchronizing => "IMAGE isn't SYNCHRONIZING",
+        Refusal::LastSyncid => "the syncid of MIRROR is the greatest there is",
+        Refusal::LastGenid => "the genid of MIRROR is the greatest there is",
+        Refusal::NothingGiven => "configure is given nothing to change",
+        Refusal::NotAdoptable =>
+            "these images don't tell of one mirror MIRROR; taste says what they tell",
+        Refusal::WrongSize => "IMAGE has fewer than 2 or more than 1,048,576 sectors",
+        Refusal::NoMetadata => "IMAGE carries no metadata",
+    }
+}
+
+/// Why a call is refused.
+pub fn call_sentence(why: CallRefusal) -> &'static str {
+    match why {
+        CallRefusal::NoKey => "a key is 1 to 32 of A-Z, a-z, 0-9, '.', '_' and '-'",
+        CallRefusal::KeyTaken => "the key was accepted for another command",
+        CallRefusal::NoRoom => "100,000 commands were accepted, and no more can be",
+        CallRefusal::ByRules(refusal) => refusal_sentence(refusal),
+    }
+}
+
+/// Why an opening without an image is refused.
+pub fn loss_sentence(why: LossRefusal) -> &'static str {
+    match why {
+        LossRefusal::ByCall(refusal) => call_sentence(refusal),
+        LossRefusal::OnlySource => "a pending copy takes from IMAGE and can take from nothing else",
+        LossRefusal::OnShelf => "IMAGE is on the shelf",
+    }
+}
+
+/// Why the bench failed.
+pub fn fault_sentence(fault: BenchFault) -> &'static str {
+    match fault {
+        BenchFault::Memory => "the system gave no more memory",
+        BenchFault::Store => "the registry isn't one, or can't be read or written",
+        BenchFault::Disk => "an image can't be read or written, or isn't the file that it was",
+        BenchFault::Closed => "an earlier fault ended this",
+        BenchFault::Absent(_) => "IMAGE isn't there in its size, and a write to it is pending",
+        BenchFault::Unreadable => "the registry has tables that gmbench doesn't write",
+    }
+}
