@@ -1,0 +1,83 @@
+-- Which components of the mirrors that are meant aren't as they are registered.
+use Rattle.std.proofs.Common.{◌≡◌, ◌∙◌, ◌⊎◌, inl, inr, ℕ, true, refl, sym, ap, subst, arith, List, [], ◌∷◌, Some, length, filter}
+use Rattle.gm_lists.specs.Ordered.{Has}
+use Rattle.gm_lists.proofs.Finding.{find_one}
+use Rattle.gm_lists.proofs.Lists.{Has-filter, filter-Has}
+use Rattle.gm_metadata.specs.Images.{Image, Sizes, same_label}
+use Rattle.gm_state.specs.declared.records.Mirror.{Mirror}
+use Rattle.gm_state.specs.declared.records.Component.{Component}
+use Rattle.gm_state.specs.Intents.{IsOf}
+use Rattle.gm_state.specs.Lookups.{component_of}
+use Rattle.gm_state.specs.Records.{Records, IsState, provider}
+use Rattle.gm_bench.specs.Audits.{IsAsRegistered, IsAudit}
+use Rattle.gm_sync.specs.declared.scope.Scope.{Scope}
+use Rattle.gm_sync.specs.declared.synced.Synced.{Synced}
+use Rattle.gm_sync.specs.declared.synced.Synced.TheVariants.{Whole, Amiss, Refused}
+use Rattle.gm_sync.specs.Ends.{IfWhole, UnlessAmiss}
+use Rattle.gm_sync.specs.Filling.{AreAsRegistered, IsAmiss}
+use Rattle.gm_sync.specs.Scopes.{is_beside, is_beside_at, is_named_beside}
+
+-- a component is found by its own name
+component_is : (s : Records) (m : Mirror) (k : Component) → IsState s → IsOf s m k
+    → component_of s k.provider ≡ Some k
+component_is s m k state of =
+    find_one provider s.components state.components_in_order k
+    (Has-filter (λ (x : Component). same_label x.mirror m.name) s.components k of.component).0
+
+-- those of an audit's names that are meant
+pub amiss_of : (scope : Scope) (s : Records) (size : Sizes) (seen : Image)
+    (names : List (List ℕ)) → IsState s → IsAudit s size seen names
+    → IsAmiss scope s size seen (filter (λ p. is_named_beside scope s p) names)
+amiss_of scope s size seen names state audit = record {
+  amiss = λ p has.
+      let kept = Has-filter (λ (q : List ℕ). is_named_beside scope s q) names p has in
+      let found = audit.amiss p kept.0 in
+      let at : component_of s p ≡ Some found.1 =
+      subst (λ (q : List ℕ). component_of s q ≡ Some found.1) found.3
+      (component_is s found.0 found.1 state found.2) in
+      let beside : is_beside scope found.1 ≡ true =
+      ap (is_beside_at scope) (sym at) ∙ kept.1 in
+      (found.0, found.1, found.2, found.3, beside, found.4);
+  others = λ m k of beside. elim (audit.others m k of) [
+    | inl is ↦ inl is
+    | inr has ↦ inr (filter-Has (λ (q : List ℕ). is_named_beside scope s q) names k.provider has
+        (ap (is_beside_at scope) (component_is s m k state of) ∙ beside))
+  ];
+}
+
+-- where there is none, all are as they are registered
+pub none_amiss : (scope : Scope) (s : Records) (size : Sizes) (seen : Image)
+    (names : List (List ℕ)) → names ≡ [] → IsAmiss scope s size seen names
+    → AreAsRegistered scope s size seen
+none_amiss scope s size seen names none amiss m k of beside =
+    elim (amiss.others m k of beside) [
+      | inl is ↦ is
+      | inr has ↦ absurd (subst (λ (xs : List (List ℕ)). Has xs k.provider) none has)
+    ]
+
+-- the same of the records that were seen, and of names as they are handed on
+pub amiss_told : (scope : Scope) (s state : Records) (size : Sizes) (seen : Image)
+    (names named found : List (List ℕ)) → state ≡ s → named ≡ names
+    → found ≡ filter (λ p. is_named_beside scope state p) named → IsState s
+    → IsAudit s size seen names → IsAmiss scope s size seen found
+amiss_told scope s state size seen names named found same given is keeps audit =
+    subst (λ (ns : List (List ℕ)). IsAmiss scope s size seen ns)
+    (sym (is ∙ ap (λ (ns : List (List ℕ)). filter (λ p. is_named_beside scope state p) ns) given
+    ∙ ap (λ (x : Records). filter (λ p. is_named_beside scope x p) names) same))
+    (amiss_of scope s size seen names keeps audit)
+
+-- no names are none
+pub no_names : (names : List (List ℕ)) → length names ≡ 0 → names ≡ []
+no_names [] none = refl
+no_names (name ∷ names) none = absurd (omega (arith, none))
+
+pub unless_amiss : (P : Type 0) (x : Synced) → P → UnlessAmiss P x
+unless_amiss P (Whole state) holds = holds
+unless_amiss P (Amiss names) holds = tt
+unless_amiss P (Refused provider why) holds = holds
+
+pub whole_too : (P Q : Records → Type 0) → ((state : Records) → P state → Q state) → (x : Synced)
+    → IfWhole P x → IfWhole Q x
+whole_too P Q then (Whole state) holds = then state holds
+whole_too P Q then (Amiss names) holds = tt
+whole_too P Q then (Refused provider why) holds = tt

@@ -1,0 +1,31 @@
+use Rattle.gm_sync.proofs.Filled.{fills_look, fills_then, look_keeps}
+use Rattle.gm_sync.proofs.Phases.{stays}
+use Rattle.gm_sync.proofs.fill.fill_one.Goals as goal
+
+pub loop-init : goal.loop-init
+loop-init g c =
+    let looked = c.in_ok-number.ensures in
+    record {
+      phase = stays _ _ looked.looks.stays c.requires;
+      fills = fills_look g.S.Store g.H.Shelf c.args.bench.now c.accepted.new.self
+          (look_keeps g.S.Store g.H.Shelf c.args.bench.now c.accepted.new.self looked.looks)
+          looked.looks.does;
+    }
+
+pub returns-then-held-total-clause-fills : goal.returns-then-held-total-clause-fills
+returns-then-held-total-clause-fills g c =
+    fills_then g.S.Store g.H.Shelf c.args.bench.now c.loop.bench c.advance.new.bench
+    c.loop.invariant.fills c.in_ok-held.ensures.fills
+
+pub returns-in-Refused : goal.returns-in-Refused
+returns-in-Refused g c =
+    let filled = fills_then g.S.Store g.H.Shelf c.args.bench.now c.loop.bench c.advance.new.bench
+    c.loop.invariant.fills c.in_ok-held.ensures.fills in
+    record { phase = c.in_ok-held.ensures.phase; keep = filled.keep; fills = filled }
+
+pub loop-preserved : goal.loop-preserved
+loop-preserved g c = record {
+  phase = c.in_ok-held.ensures.phase;
+  fills = fills_then g.S.Store g.H.Shelf c.args.bench.now c.loop.bench c.advance.new.bench
+      c.loop.invariant.fills c.in_ok-held.ensures.fills;
+}

@@ -1,0 +1,89 @@
+-- What filling leaves of a bench, and what it is told to have come to.
+use Rattle.std.specs.Prelude.{◌≡◌, ◌⊎◌, ℕ, true, List, [], None}
+use Rattle.sqlite_trees.specs.declared.store.Store.{Ghosts as StoreGhosts}
+use Rattle.sqlite.specs.Held.{Held}
+use Rattle.gm_metadata.specs.Images.{Image, Sizes}
+use Rattle.gm_lists.specs.Ordered.{Has}
+use Rattle.gm_shelf.specs.declared.shelf.Shelf.{Ghosts as ShelfGhosts}
+use Rattle.gm_commands.specs.declared.command.Command.{Command}
+use Rattle.gm_commands.specs.declared.command.Command.TheVariants.{Advance}
+use Rattle.gm_state.specs.declared.intents.Intent.{Intent}
+use Rattle.gm_state.specs.declared.records.Mirror.{Mirror}
+use Rattle.gm_state.specs.declared.records.Component.{Component}
+use Rattle.gm_state.specs.Intents.{IsOf}
+use Rattle.gm_state.specs.Records.{Records}
+use Rattle.gm_state.specs.Rows.{Tables}
+use Rattle.gm_state.specs.World.{World}
+use Rattle.gm_rules.specs.AbstractCalls.{Call, Run}
+use Rattle.gm_rules.specs.AbstractCalls as run
+use Rattle.gm_rows.specs.ReadableTables.{AreTablesOf}
+use Rattle.gm_registry.specs.Registry.{DiskKept, HasTables, Reads}
+use Rattle.gm_bench.specs.Audits.{IsAsRegistered}
+use Rattle.gm_bench.specs.Benches.{registry_of, shelf_of}
+use Rattle.gm_bench.specs.Calls.{Keep}
+use Rattle.gm_bench.specs.Owed.{LookDoes}
+use Rattle.gm_bench.specs.Recovering.{IsAt}
+use Rattle.gm_bench.specs.declared.bench.Bench.{Bench}
+use Rattle.gm_sync.specs.declared.scope.Scope.{Scope}
+use Rattle.gm_sync.specs.Scopes.{is_beside, next_of}
+
+-- the command fills some component
+abbrev pub IsAdvance : Command → Type 0
+IsAdvance c = (mirror : List ℕ) × (provider : List ℕ) × (c ≡ Advance mirror provider)
+
+module _ {S H : Type 0} (g : StoreGhosts S) (h : ShelfGhosts H) where
+  -- From rest in u the bench came to rest again, by commands that fill components and no others.
+  pub record IsFilledFrom (b : Bench S H) (away : Image) (u : World) : Type 0 where
+    pub calls : List Call
+    pub answers : List run.Answer
+    pub world : World
+    pub run : Run u calls world answers
+    pub fill : (call : Call) → Has calls call → IsAdvance call.command
+    pub at : IsAt g h.view h.size (registry_of b) (shelf_of b) away [] world world
+
+  -- A call that fills: both media are kept, and of an honest shelf and a disk that keeps what is
+  -- written it does nothing but fill, from rest to rest.
+  pub record Fills (old new : Bench S H) : Type 0 where
+    pub keep : Keep g h (registry_of old) (registry_of new) (shelf_of old) (shelf_of new)
+    pub does : h.honest (shelf_of old) → DiskKept g (registry_of new) → (away : Image) (u : World)
+        → IsAt g h.view h.size (registry_of old) (shelf_of old) away [] u u
+        → IsFilledFrom new away u
+
+-- The records are those that the registry held when it was looked at last; where the bench was at
+-- rest before, it held some.
+pub record AreLastSeen {S H : Type 0} (g : StoreGhosts S) (h : ShelfGhosts H) (old new : Bench S H)
+    (state : Records) : Type 0 where
+  pub seen : Held S
+  pub looked : Reads g seen (registry_of new)
+  pub has : h.honest (shelf_of old) → DiskKept g (registry_of new) → (away : Image) (u : World)
+      → IsAt g h.view h.size (registry_of old) (shelf_of old) away [] u u
+      → (t : Tables) × HasTables g seen t
+  pub are : DiskKept g (registry_of new) → (t : Tables) (r : Records) (ts : List Intent)
+      → HasTables g seen t → AreTablesOf t r ts → state ≡ r
+
+-- nothing that is meant is left to be filled, by the records that the registry held at last
+abbrev pub IsWhole : {S H : Type 0} → StoreGhosts S → ShelfGhosts H → Bench S H → Bench S H → Scope
+    → Records → Type 0
+IsWhole g h old new scope state = AreLastSeen g h old new state × (next_of scope state ≡ None)
+
+-- each component of the mirrors that are meant is shown as it is registered
+abbrev pub AreAsRegistered : Scope → Records → Sizes → Image → Type 0
+AreAsRegistered scope s size seen = (m : Mirror) (k : Component) → IsOf s m k
+    → is_beside scope k ≡ true → IsAsRegistered size seen m k
+
+-- the names are those of just the components of the mirrors that are meant that aren't shown so
+pub record IsAmiss (scope : Scope) (s : Records) (size : Sizes) (seen : Image)
+    (names : List (List ℕ)) : Type 0 where
+  pub amiss : (p : List ℕ) → Has names p → (m : Mirror) × (k : Component) × IsOf s m k
+      × (k.provider ≡ p) × (is_beside scope k ≡ true) × (IsAsRegistered size seen m k → ⊥)
+  pub others : (m : Mirror) (k : Component) → IsOf s m k → is_beside scope k ≡ true
+      → IsAsRegistered size seen m k ⊎ Has names k.provider
+
+-- these are amiss by what the registry and the shelf of a bench hold, and nothing is changed
+pub record IsAmissOver {S H : Type 0} (g : StoreGhosts S) (h : ShelfGhosts H) (old new : Bench S H)
+    (scope : Scope) (names : List (List ℕ)) : Type 0 where
+  pub are : (t : Tables) (s : Records) (ts : List Intent) → HasTables g (registry_of old) t
+      → AreTablesOf t s ts
+      → IsAmiss scope s (h.size (shelf_of old)) (h.view (shelf_of old)).seen names
+  pub looked : LookDoes g h.view h.size (registry_of old) (registry_of new) (shelf_of old)
+      (shelf_of new)

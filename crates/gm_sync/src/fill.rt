@@ -1,0 +1,116 @@
+//! Fills what is SYNCHRONIZING.
+
+ghost use Rattle.std.specs.Prelude.{◌≡◌, IfOk, OnOk};
+ghost use Rattle.gm_bench.specs.Benches.{progress_of, registry_of, shelf_of};
+ghost use Rattle.gm_bench.specs.Calls.{Keep};
+ghost use Rattle.gm_bench.specs.Phases.{TakesCommands};
+ghost use Rattle.gm_sync.specs.Filling.{Fills, IsWhole};
+ghost use Rattle.gm_sync.specs.Ends.{IfAmiss, IfWhole};
+
+use crate::scope::{Scope, next_of};
+use crate::synced::Synced;
+use gm_bench::{Answer, Bench, BenchFault};
+use gm_commands::Command;
+use gm_metadata::Label;
+use gm_refusals::CallRefusal;
+use gm_shelf::Shelf;
+use gm_state::{Component, Reply};
+use sqlite::Alter;
+use std::alloc::Global;
+
+/// Is told how far a component is filled.
+pub trait Progress {
+    /// A component has so many data sectors, of so many in all.
+    fn filled(&mut self, provider: Label, held: u32, total: u32);
+}
+
+// One stretch of a component, and how it is answered under a key that is made from a number.
+fn advance<S: Alter, H: Shelf>(
+    alloc: Global,
+    bench: &mut Bench<S, H>,
+    component: &Component,
+    number: u64,
+) -> Result<Answer, BenchFault>
+    requires { TakesCommands (progress_of bench.old) }
+    ensures phase { TakesCommands (progress_of bench.new) }
+    ensures keep { Keep S.Store H.Shelf (registry_of bench.old) (registry_of bench.new)
+        (shelf_of bench.old) (shelf_of bench.new) }
+    ensures fills { OnOk result (Fills S.Store H.Shelf bench.old bench.new) }
+{
+    let command = Command::Advance {
+        name: component.mirror,
+        provider: component.provider,
+    };
+    match format!(in alloc; "sync-{number}") {
+        Ok(key) => {
+            let answer = bench.run(alloc, key.as_str(), &command)?;
+            Ok(answer)
+        }
+        Err(_) => Err(BenchFault::Memory),
+    }
+}
+
+// Fills one component, or finds why that is refused. Keys that were taken before are gone round.
+fn fill_one<S: Alter, H: Shelf, P: Progress>(
+    alloc: Global,
+    bench: &mut Bench<S, H>,
+    component: &Component,
+    progress: &mut P,
+) -> Result<Option<CallRefusal>, BenchFault>
+    requires { TakesCommands (progress_of bench.old) }
+    ensures phase { TakesCommands (progress_of bench.new) }
+    ensures keep { Keep S.Store H.Shelf (registry_of bench.old) (registry_of bench.new)
+        (shelf_of bench.old) (shelf_of bench.new) }
+    ensures fills { OnOk result (Fills S.Store H.Shelf bench.old bench.new) }
+{
+    let mut number = bench.accepted()?;
+    for _ in 0..u64::MAX {
+        number = number.saturating_add(1);
+        match advance(alloc, bench, component, number)? {
+            Answer::Done(_, Reply::Copied { held, total }) => {
+                progress.filled(component.provider, held, total);
+                if held == total {
+                    return Ok(None);
+                }
+            }
+            Answer::Done(_, Reply::Plain) | Answer::Repeated(_, _) => {}
+            Answer::Refused(CallRefusal::KeyTaken) => {}
+            Answer::Refused(why) => return Ok(Some(why)),
+        }
+    }
+    Ok(Some(CallRefusal::NoRoom))
+}
+
+/// Fills whatever is meant and SYNCHRONIZING, one component after the other.
+pub(crate) fn fill<S: Alter, H: Shelf, P: Progress>(
+    alloc: Global,
+    bench: &mut Bench<S, H>,
+    scope: &Scope,
+    progress: &mut P,
+) -> Result<Synced, BenchFault>
+    requires { TakesCommands (progress_of bench.old) }
+    ensures phase { TakesCommands (progress_of bench.new) }
+    ensures keep { Keep S.Store H.Shelf (registry_of bench.old) (registry_of bench.new)
+        (shelf_of bench.old) (shelf_of bench.new) }
+    ensures fills { OnOk result (Fills S.Store H.Shelf bench.old bench.new) }
+    ensures whole { IfOk result
+        (IfWhole (IsWhole S.Store H.Shelf bench.old bench.new scope.now)) }
+    ensures filled { IfOk result (IfAmiss (λ _. ⊥)) }
+{
+    for _ in 0..u64::MAX {
+        let state = bench.view(alloc)?;
+        let Some(component) = next_of(&state, *scope) else {
+            return Ok(Synced::Whole(state));
+        };
+        if let Some(why) = fill_one(alloc, bench, &component, progress)? {
+            return Ok(Synced::Refused {
+                provider: Some(component.provider),
+                why,
+            });
+        }
+    }
+    Ok(Synced::Refused {
+        provider: None,
+        why: CallRefusal::NoRoom,
+    })
+}
