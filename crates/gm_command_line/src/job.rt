@@ -15,6 +15,45 @@ pub struct Service {
     pub audits: bool,
 }
 
+/// In which form something is printed.
+#[derive(Clone, Copy, Debug, PartialEq, Eq)]
+pub enum Form {
+    Text,
+    Json,
+}
+
+/// The components that are to be filled.
+#[derive(Clone, Copy)]
+pub enum Scope {
+    /// Those of all mirrors.
+    All,
+    /// Those of a mirror.
+    Mirror(Label),
+    /// One component of a mirror.
+    Component { mirror: Label, provider: Label },
+}
+
+/// How components are to be filled.
+#[derive(Clone, Copy)]
+pub struct Filling {
+    pub scope: Scope,
+    /// Whether the images are audited first, and nothing is filled where the audit lists one of the
+    /// mirrors'.
+    pub audits: bool,
+    /// Whether nothing is told of how far it is.
+    pub is_quiet: bool,
+}
+
+/// How the data of components are to be compared.
+#[derive(Clone, Copy)]
+pub struct Comparing {
+    /// The mirror, or all.
+    pub mirror: Option<Label>,
+    pub form: Form,
+    /// Whether nothing is told of how far it is.
+    pub is_quiet: bool,
+}
+
 /// What is to be done at a bench whose opening carried out what was pending.
 #[derive(Clone, Copy)]
 pub enum Work<'a> {
@@ -24,14 +63,20 @@ pub enum Work<'a> {
     /// text: say as well what that is answered.
     RecoverWithout { provider: Label, key: &'a str },
     /// Say how the mirrors stand.
-    Status,
+    Status(Form),
     /// Say all that is known of the mirrors.
-    List,
+    List(Form),
     /// List the components that the images no longer show as they are registered.
-    Audit,
+    Audit(Form),
+    /// Compare the data of components.
+    Scrub(Comparing),
+    /// Hand in one command, under a key.
+    Do { key: &'a str, words: &'a [&'a str] },
     /// Hand in the commands of an input, and answer each; none of them where the images are to be
     /// audited first and the audit lists any.
-    Batch { audits: bool },
+    Batch { audits: bool, explains: bool },
+    /// Fill components.
+    Sync(Filling),
     /// Serve requests over HTTP.
     Serve(Service),
 }
@@ -45,10 +90,12 @@ pub enum Job<'a> {
     Dump {
         folder: &'a str,
         provider: Label,
+        form: Form,
     },
     /// Print what the images of a folder tell by themselves.
     Taste {
         folder: &'a str,
+        form: Form,
     },
     /// Do work at the bench of a registry and a folder.
     AtBench {

@@ -1,12 +1,15 @@
 //! The program's own words: which subcommands and options there are, what its help says of them,
 //! and which job they ask for. `job.rt` has the jobs, `settings.rt` what stands for options that
-//! are left out, `command_line.rt` the table. The lines of a batch are other words (`gm_words`).
+//! are left out, `table.rt` the table with the texts of `help.rt`, and `reading.rt` what words ask
+//! for. The lines of a batch are other words (`gm_words`).
 #![tactic(auto)]
 
-mod command_line;
+mod help;
 mod job;
+mod reading;
 mod settings;
+mod table;
 
-pub use command_line::job_of;
-pub use job::{Job, Service, Work};
+pub use job::{Comparing, Filling, Form, Job, Scope, Service, Work};
+pub use reading::job_of;
 pub use settings::{REGISTRY, SHELF, Setting, Settings};

@@ -4,7 +4,6 @@ use Rattle.std.specs.Fmt.{decimal}
 use Rattle.std.specs.List.{list_any}
 use Rattle.std.specs.String.{string_bytes}
 use Rattle.gm_words.specs.Lines.{line}
-use Rattle.gm_words.specs.Tasting.{tasting_text}
 use Rattle.gm_taste.specs.declared.tasted.Tasted.{Tasted}
 use Rattle.gm_taste.specs.Verdicts.{of_metadata}
 use Rattle.gm_bench.specs.declared.answer.Answer.{Answer}
@@ -12,6 +11,8 @@ use Rattle.gm_bench.specs.declared.loss.LossRefusal.{LossRefusal}
 use Rattle.gm_front.specs.Losses.{loss_line}
 use Rattle.gm_program.specs.declared.exit.Status.{Status}
 use Rattle.gm_program.specs.declared.exit.Status.TheVariants.{Done, Refused}
+use Rattle.gm_command_line.specs.declared.job.Form.{Form}
+use Rattle.gm_command_line.specs.declared.job.Form.TheVariants.{Text, Json}
 use Rattle.gm_command_line.specs.declared.job.Work.{Work}
 use Rattle.gm_command_line.specs.declared.job.Work.TheVariants as work
 use Rattle.gm_program.specs.declared.bench_command.Report.{Report}
@@ -40,17 +41,26 @@ refused_text key why = loss_line key (Err why)
 abbrev pub names_text : List (List ℕ) → List ℕ
 names_text names = flat_map line names
 
+-- a text, or a line of JSON
+abbrev pub in_form : Form → List ℕ → List ℕ → List ℕ
+in_form Text text json = text
+in_form Json text json = line json
+
+-- done where nothing was found, else refused
+abbrev pub status_of_list : ℕ → Status
+status_of_list found = if found == 0 then Done else Refused
+
 -- an audit that lists these: damage was found where there is any
-abbrev pub IsAudited : List (List ℕ) → Report → Type 0
-IsAudited names report =
-    (report.status ≡ (if length names == 0 then Done else Refused))
-    × (string_bytes report.text ≡ names_text names)
+abbrev pub IsAudited : List (List ℕ) → List ℕ → Report → Type 0
+IsAudited names text report =
+    (report.status ≡ status_of_list (length names))
+    × (string_bytes report.text ≡ text)
 
 -- what was tasted: damage was found where an image is left out for metadata that it carries
-abbrev pub IsTasting : Tasted → Report → Type 0
-IsTasting t report =
+abbrev pub IsTasting : Tasted → List ℕ → Report → Type 0
+IsTasting t text report =
     (report.status ≡ (if list_any (λ x. of_metadata x.reason) t.left.items then Refused else Done))
-    × (string_bytes report.text ≡ tasting_text t)
+    × (string_bytes report.text ≡ text)
 
 -- it is done, or refused
 abbrev pub MayRefuse : Status → Type 0
@@ -61,13 +71,16 @@ abbrev pub MayServe : Bool → Status → Type 0
 MayServe true status = MayRefuse status
 MayServe false status = status ≡ Done
 
--- what shows mirrors or serves requests is done; an audit may find damage, and of a batch a line
--- may be refused, as a recovery without a provider
+-- what shows mirrors or serves requests is done; what holds images against records or each other may
+-- find damage, and a command may be refused, as a recovery without a provider
 abbrev pub MayEnd : Work → Status → Type 0
 MayEnd work.Recover status = status ≡ Done
 MayEnd (work.RecoverWithout provider key) status = MayRefuse status
-MayEnd work.Status status = status ≡ Done
-MayEnd work.List status = status ≡ Done
-MayEnd work.Audit status = MayRefuse status
-MayEnd (work.Batch audits) status = MayRefuse status
+MayEnd (work.Status form) status = status ≡ Done
+MayEnd (work.List form) status = status ≡ Done
+MayEnd (work.Audit form) status = MayRefuse status
+MayEnd (work.Scrub comparing) status = MayRefuse status
+MayEnd (work.Do key words) status = MayRefuse status
+MayEnd (work.Batch audits explains) status = MayRefuse status
+MayEnd (work.Sync filling) status = MayRefuse status
 MayEnd (work.Serve service) status = MayServe service.audits status

@@ -1,5 +1,5 @@
 -- The numbers by which the program ends.
-use Rattle.std.specs.Prelude.{ℕ, Result, Ok, Err, if◌then◌else◌}
+use Rattle.std.specs.Prelude.{ℕ, Bool, Result, Ok, Err, if◌then◌else◌}
 use Rattle.gm_bench.specs.declared.fault.BenchFault.TheVariants as bench
 use Rattle.gm_front.specs.declared.answer_lines.BatchEnd.{BatchEnd}
 use Rattle.gm_front.specs.declared.answer_lines.BatchEnd.TheVariants.{Ended, Stopped}
@@ -35,3 +35,7 @@ abbrev pub status_of_end : Result BatchEnd FrontFault → Result Status Fault
 status_of_end (Ok (Ended refused)) = Ok (if refused then status.Refused else status.Done)
 status_of_end (Ok (Stopped fault)) = Err (Bench fault)
 status_of_end (Err fault) = Err (of_front fault)
+
+-- done, unless it is refused
+abbrev pub status_of_refused : Bool → Status
+status_of_refused refused = if refused then status.Refused else status.Done

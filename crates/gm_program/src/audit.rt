@@ -5,12 +5,16 @@ ghost use Rattle.std.specs.Prelude.{◌≡◌, false, IfOk, IfSome, OnOk, Ok, No
 ghost use Rattle.std.specs.String.{string_bytes};
 ghost use Rattle.gm_bench.specs.Benches.{progress_of};
 ghost use Rattle.gm_bench.specs.Phases.{TakesCommands};
-ghost use Rattle.gm_program.specs.Reports.{IsAudited, names_text};
+ghost use Rattle.gm_json.specs.Audits.{audit_json};
+ghost use Rattle.gm_program.specs.Reports.{IsAudited, in_form, names_text};
 ghost use Rattle.gm_program.specs.declared.exit.Status.TheVariants.{Refused};
 
 use crate::bench_command::Report;
 use crate::exit::{Fault, Status};
+use crate::json_line::as_line;
 use gm_bench::Bench;
+use gm_command_line::Form;
+use gm_json::audit_json;
 use gm_metadata::Label;
 use gm_shelf::Shelf;
 use sqlite::Alter;
@@ -29,10 +33,14 @@ fn names_text(alloc: Global, names: &[Label]) -> Result<String, AllocError>
 }
 
 /// Says which components are amiss.
-pub fn audit_report(alloc: Global, names: &[Label]) -> Result<Report, Fault>
-    ensures { IfOk result (IsAudited names.now) }
+pub fn audit_report(alloc: Global, names: &[Label], form: Form) -> Result<Report, Fault>
+    ensures { IfOk result (IsAudited names.now
+        (in_form form (names_text names.now) (audit_json names.now))) }
 {
-    let text = names_text(alloc, names)?;
+    let text = match form {
+        Form::Text => names_text(alloc, names)?,
+        Form::Json => as_line(audit_json(alloc, names)?)?,
+    };
     let status = if names.is_empty() {
         Status::Done
     } else {
@@ -59,5 +67,5 @@ pub fn damage<S: Alter, H: Shelf>(
     if names.is_empty() {
         return Ok(None);
     }
-    Ok(Some(audit_report(alloc, &names)?))
+    Ok(Some(audit_report(alloc, &names, Form::Text)?))
 }

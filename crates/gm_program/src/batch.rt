@@ -7,11 +7,12 @@ ghost use Rattle.gm_program.specs.Reports.{MayRefuse};
 ghost use Rattle.gm_program.specs.Statuses.{status_of_end};
 
 use crate::exit::{Fault, Status};
+use crate::explain::Explainer;
+use crate::streams::Streams;
 use gm_bench::Bench;
-use gm_front::{BatchEnd, FrontFault, batch};
+use gm_front::{BatchEnd, FrontFault, heard_batch};
 use gm_shelf::Shelf;
 use sqlite::Alter;
-use std::alloc::Global;
 use std::io::{Read, Write};
 
 // How the program ends by the end of its batch.
@@ -28,14 +29,16 @@ fn status_of_end(end: Result<BatchEnd, FrontFault>) -> Result<Status, Fault>
 }
 
 /// Hands in each line of the input, and prints its answer before the next is read.
-pub fn hand_in<S: Alter, H: Shelf, I: Read, O: Write>(
-    alloc: Global,
+pub fn hand_in<S: Alter, H: Shelf, I: Read, O: Write, E: Write>(
+    rt: &HostRuntime,
     bench: &mut Bench<S, H>,
-    input: &mut I,
-    output: &mut O,
+    streams: &mut Streams<'_, I, O, E>,
 ) -> Result<Status, Fault>
     requires { TakesCommands (progress_of bench.old) }
     ensures { IfOk result MayRefuse }
 {
-    status_of_end(batch(alloc, input, output, bench))
+    let mut explainer = Explainer::new(rt, streams.complaints, &streams.explaining);
+    let alloc = rt.alloc();
+    let (input, output) = (&mut *streams.input, &mut *streams.output);
+    status_of_end(heard_batch(alloc, input, output, bench, &mut explainer))
 }

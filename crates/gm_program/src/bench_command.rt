@@ -8,9 +8,12 @@ ghost use Rattle.gm_program.specs.Reports.{MayEnd};
 use crate::audit::{audit_report, damage};
 use crate::batch::hand_in;
 use crate::exit::{Fault, Status};
+use crate::filling::fill_components;
 use crate::recover::recovered;
+use crate::scrub::scrub;
 use crate::serve::serve;
 use crate::show::{list_report, status_report};
+use crate::single::hand_in_one;
 use crate::streams::Streams;
 use gm_bench::Bench;
 use gm_command_line::Work;
@@ -37,8 +40,8 @@ fn told(alloc: Global, status: Status) -> Report
 }
 
 /// Does the work. A batch reads the input, and prints its answers at once; what serves requests
-/// takes them from connections. Neither is begun where an audit is asked for and lists images. A recovery without a provider is told by who opens its bench; here
-/// it tells no more than any.
+/// takes them from connections. Neither is begun where an audit is asked for and lists images. A
+/// recovery without a provider is told by who opens its bench; here it tells no more than any.
 pub fn perform<S: Alter, H: Shelf, I: Read, O: Write, E: Write>(
     work: &Work<'_>,
     rt: &HostRuntime,
@@ -51,25 +54,31 @@ pub fn perform<S: Alter, H: Shelf, I: Read, O: Write, E: Write>(
     let alloc = rt.alloc();
     match *work {
         Work::Recover | Work::RecoverWithout { .. } => recovered(alloc, bench.redone()),
-        Work::Status => {
+        Work::Status(form) => {
             let state = bench.view(alloc)?;
-            status_report(alloc, &state)
+            status_report(alloc, &state, form)
         }
-        Work::List => {
+        Work::List(form) => {
             let state = bench.view(alloc)?;
-            list_report(alloc, &state)
+            list_report(alloc, &state, form)
         }
-        Work::Audit => {
+        Work::Audit(form) => {
             let names = bench.audit(alloc)?;
-            audit_report(alloc, &names)
+            audit_report(alloc, &names, form)
         }
-        Work::Batch { audits } => {
+        Work::Scrub(comparing) => scrub(rt, comparing, bench, streams),
+        Work::Do { key, words } => {
+            let status = hand_in_one(rt, key, words, bench, streams)?;
+            Ok(told(alloc, status))
+        }
+        Work::Batch { audits, .. } => {
             if let Some(report) = damage(alloc, bench, audits)? {
                 return Ok(report);
             }
-            let status = hand_in(alloc, bench, streams.input, streams.output)?;
+            let status = hand_in(rt, bench, streams)?;
             Ok(told(alloc, status))
         }
+        Work::Sync(filling) => fill_components(rt, filling, bench, streams),
         Work::Serve(service) => {
             if let Some(report) = damage(alloc, bench, service.audits)? {
                 return Ok(report);

@@ -3,29 +3,39 @@
 //! check of this crate needn't.
 //!
 //! `over_streams.rt` is all of it, for the jobs that `gm_command_line` reads from words and from
-//! what `environment.rt` finds in their place. What is
-//! done at a bench, by `bench_command.rt`, is done in the folder and with the registry that
-//! `place.rt` opens and closes; `recover.rt`, `show.rt`, `audit.rt`, `batch.rt` and `serve.rt` have
-//! the commands, the last with `exchange.rt` for one connection and `log.rt` for its line.
-//! `taste.rt` has the one that looks at a folder without a registry.
+//! what `environment.rt` finds in their place. What is done at a bench, by `bench_command.rt`, is
+//! done in the folder and with the registry that `place.rt` opens and closes; `recover.rt`,
+//! `show.rt`, `audit.rt`, `scrub.rt`, `single.rt` (the command `do`), `batch.rt`, `filling.rt`
+//! (`sync`) and `serve.rt` have the commands, the last with `exchange.rt` for one connection and
+//! `log.rt` for its line. `taste.rt` and `dump.rt` have those that look at images without a
+//! registry. `explain.rt` says in sentences why something is refused or failed, and `meter.rt` how
+//! far a long work is.
 #![tactic(auto)]
 
 mod audit;
 mod batch;
 mod bench_command;
+mod dump;
 mod environment;
 mod exchange;
 mod exit;
+mod explain;
+mod filling;
+mod json_line;
 mod log;
+mod meter;
 mod over_streams;
 mod place;
 mod recover;
+mod scrub;
 mod serve;
 mod show;
+mod single;
 mod streams;
 mod taste;
+mod wanted;
 
 pub use exit::{Fault, Status};
 pub use over_streams::program;
 pub use serve::serve_connections;
-pub use streams::Streams;
+pub use streams::{Explaining, Streams};

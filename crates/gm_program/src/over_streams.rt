@@ -1,20 +1,19 @@
 //! All that the program does, over any streams.
 
+use crate::dump::dump;
 use crate::environment::Environment;
-use crate::exit::{DumpRefusal, Fault, Status};
+use crate::exit::{Fault, Status};
+use crate::explain::explain_fault;
 use crate::place::{Place, work_at};
 use crate::streams::Streams;
 use crate::taste::taste_folder;
 use clap::Error;
 use clap::error::ErrorKind;
-use gm_command_line::{Job, job_of};
-use gm_metadata::{Label, decode};
-use gm_shelf::{FileShelf, Shelf};
-use gm_words::dump_text;
+use gm_command_line::{Job, Work, job_of};
 use std::io::{Read, Write};
 
 // Prints what clap has to say, on the stream where it belongs.
-fn explain<O: Write, E: Write>(
+fn print_error<O: Write, E: Write>(
     error: &Error,
     output: &mut O,
     complaints: &mut E,
@@ -30,46 +29,6 @@ fn explain<O: Write, E: Write>(
     Ok(Status::Done)
 }
 
-// The last sector of a provider, or why there is none.
-fn last_sector<H: Shelf>(
-    shelf: &mut H,
-    provider: Label,
-) -> Result<Result<[u8; 512], DumpRefusal>, Fault> {
-    let Some(count) = shelf.sectors(provider) else {
-        return Ok(Err(DumpRefusal::Absent));
-    };
-    if count == 0 {
-        return Ok(Err(DumpRefusal::WrongSize));
-    }
-    let mut sector = [0; 512];
-    shelf.read(provider, count - 1, &mut sector)?;
-    Ok(Ok(sector))
-}
-
-fn dump<O: Write>(
-    rt: &HostRuntime,
-    folder: &str,
-    provider: Label,
-    output: &mut O,
-) -> Result<Status, Fault> {
-    let mut shelf = FileShelf::look_at(rt, folder, &[provider])?;
-    match last_sector(&mut shelf, provider)? {
-        Ok(sector) => {
-            let text = dump_text(rt.alloc(), &sector)?;
-            output.write_all(text.as_bytes())?;
-            Ok(match decode(&sector) {
-                Ok(_) => Status::Done,
-                Err(_) => Status::Refused,
-            })
-        }
-        Err(refusal) => {
-            let number = refusal.number();
-            writeln!(output, "refused {number}")?;
-            Ok(Status::Refused)
-        }
-    }
-}
-
 fn perform<I: Read, O: Write, E: Write>(
     rt: &HostRuntime,
     job: &Job<'_>,
@@ -80,13 +39,22 @@ fn perform<I: Read, O: Write, E: Write>(
             writeln!(streams.output, "gmbench: GEOM_MIRROR version 4")?;
             Ok(Status::Done)
         }
-        Job::Dump { folder, provider } => dump(rt, folder, provider, streams.output),
-        Job::Taste { folder } => taste_folder(rt, folder, streams.output),
+        Job::Dump {
+            folder,
+            provider,
+            form,
+        } => dump(rt, folder, provider, form, streams),
+        Job::Taste { folder, form } => taste_folder(rt, folder, form, streams.output),
         Job::AtBench {
             ref work,
             registry,
             folder,
-        } => work_at(rt, Place { registry, folder }, work, streams),
+        } => {
+            let explains = matches!(*work, Work::Do { .. } | Work::Batch { explains: true, .. });
+            streams.explaining.wanted |= explains;
+            streams.explaining.folder = String::from_str(rt.alloc(), folder)?;
+            work_at(rt, Place { registry, folder }, work, streams)
+        }
     }
 }
 
@@ -98,7 +66,7 @@ fn run<I: Read, O: Write, E: Write>(
     let environment = Environment::find(rt)?;
     let done = match job_of(rt.alloc(), words, environment.settings()) {
         Ok(job) => perform(rt, &job, streams),
-        Err(error) => explain(&error, streams.output, streams.complaints),
+        Err(error) => print_error(&error, streams.output, streams.complaints),
     };
     // What was printed before a fault is to be seen as well.
     let flushed = streams.output.flush();
@@ -126,6 +94,7 @@ where
         Ok(status) => status,
         Err(fault) => {
             let _ = writeln!(streams.complaints, "{fault}");
+            explain_fault(rt.alloc(), streams, &fault);
             Status::Fault
         }
     }

@@ -8,6 +8,7 @@ ghost use Rattle.gm_program.specs.Reports.{MayEnd, MayRefuse};
 
 use crate::bench_command::{Report, perform};
 use crate::exit::{Fault, Status};
+use crate::explain::explain_loss;
 use crate::recover::{recovered_without, refused_without};
 use crate::streams::Streams;
 use gm_bench::{Bench, BenchFault, Without};
@@ -46,6 +47,17 @@ impl HeldFolder {
         let file = File::open(rt, folder)?;
         file.try_lock()?;
         Ok(HeldFolder { _file: file })
+    }
+}
+
+// What is known of a folder that can't be held.
+fn cause_of(error: &io::Error) -> Option<&'static str> {
+    match error.kind() {
+        ErrorKind::WouldBlock => Some("another gmbench holds the images"),
+        ErrorKind::NotFound => Some("the folder with the images isn't there"),
+        ErrorKind::NotADirectory => Some("the images aren't in a folder"),
+        ErrorKind::PermissionDenied => Some("the folder with the images can't be entered"),
+        _ => None,
     }
 }
 
@@ -94,12 +106,13 @@ fn leave_out_registry(
 }
 
 // Opens a bench without a provider, and gives its store back with what is told of that.
-fn without<S: Alter + Drop, H: Shelf + Drop>(
+fn without<S: Alter + Drop, H: Shelf + Drop, I, O, E: Write>(
     alloc: Global,
     store: Connection<S>,
     shelf: H,
     provider: Label,
     key: &str,
+    streams: &mut Streams<'_, I, O, E>,
 ) -> Result<(Result<Report, Fault>, Connection<S>), BenchFault>
     requires { store.in_transaction ≡ false }
     ensures { IfOk result (λ it. IfOk it.0 (λ report. MayRefuse report.status)) }
@@ -110,7 +123,10 @@ fn without<S: Alter + Drop, H: Shelf + Drop>(
             let (store, _) = bench.close();
             Ok((report, store))
         }
-        Ok(Without::Refused { why, store, .. }) => Ok((refused_without(alloc, key, why), store)),
+        Ok(Without::Refused { why, store, .. }) => {
+            explain_loss(alloc, streams, key, provider, why);
+            Ok((refused_without(alloc, key, why), store))
+        }
         Err(e) => Err(e.fault),
     }
 }
@@ -152,7 +168,7 @@ fn at_bench<S: Alter + Drop, H: Shelf + Drop, I: Read, O: Write, E: Write>(
     }
     match *work {
         Work::RecoverWithout { provider, key } => {
-            without(rt.alloc(), store, shelf, provider, key)
+            without(rt.alloc(), store, shelf, provider, key, streams)
         }
         _ => worked(rt, store, shelf, work, streams),
     }
@@ -175,7 +191,12 @@ fn at_files<D: Disk + Drop, H: Shelf + Drop, I: Read, O: Write, E: Write>(
     Ok(report)
 }
 
-// Alone in naming a registry over files.
+// Whether there is a registry's file.
+fn is_there(rt: &HostRuntime, registry: &str) -> bool {
+    fs::symlink_metadata(rt, registry).is_ok()
+}
+
+// Alone in naming a registry over files. Whoever mistyped its path made a new one, and is told so.
 fn report_of<I: Read, O: Write, E: Write>(
     rt: &HostRuntime,
     registry: &str,
@@ -185,9 +206,14 @@ fn report_of<I: Read, O: Write, E: Write>(
 ) -> Result<Report, Fault>
     ensures { IfOk result (λ report. MayEnd work.now report.status) }
 {
+    let was_there = is_there(rt, registry);
     let store = Connection::open(rt, registry).map_err(store_fault)?;
     leave_out_registry(rt, registry, &mut shelf)?;
-    at_files(rt, store, shelf, work, streams)
+    let report = at_files(rt, store, shelf, work, streams);
+    if streams.explaining.wanted && !was_there && is_there(rt, registry) {
+        let _ = writeln!(streams.complaints, "a new registry was made at {registry}");
+    }
+    report
 }
 
 /// Opens the bench of a place, which carries out what is pending, has the work done at it, and
@@ -201,7 +227,13 @@ pub fn work_at<I: Read, O: Write, E: Write>(
 ) -> Result<Status, Fault>
     ensures { IfOk result (MayEnd work.now) }
 {
-    let _held = HeldFolder::hold(rt, place.folder)?;
+    let _held = match HeldFolder::hold(rt, place.folder) {
+        Ok(held) => held,
+        Err(e) => {
+            streams.explaining.cause = cause_of(&e);
+            return Err(Fault::from(e));
+        }
+    };
     // A folder that can't be listed is told before the registry is looked for.
     let shelf = FileShelf::open(rt, place.folder)?;
     let report = report_of(rt, place.registry, shelf, work, streams)?;

@@ -4,11 +4,16 @@
 ghost use Rattle.std.specs.Prelude.{◌≡◌, IfOk};
 ghost use Rattle.std.specs.List.{list_any};
 ghost use Rattle.gm_taste.specs.Verdicts.{of_metadata};
-ghost use Rattle.gm_program.specs.Reports.{IsTasting};
+ghost use Rattle.gm_json.specs.Tastings.{tasting_json};
+ghost use Rattle.gm_words.specs.Tasting.{tasting_text};
+ghost use Rattle.gm_program.specs.Reports.{IsTasting, in_form};
 
 use crate::bench_command::Report;
 use crate::exit::{Fault, Status};
+use crate::json_line::as_line;
 use gm_bench::taste_shelf;
+use gm_command_line::Form;
+use gm_json::tasting_json;
 use gm_shelf::{FileShelf, Shelf};
 use gm_taste::{LeftOut, Tasted};
 use gm_words::tasting_text;
@@ -23,10 +28,14 @@ fn tells_damage(left: &[LeftOut]) -> bool
 }
 
 /// Says what was tasted.
-pub fn taste_report(alloc: Global, tasted: &Tasted) -> Result<Report, Fault>
-    ensures { IfOk result (IsTasting tasted.now) }
+pub fn taste_report(alloc: Global, tasted: &Tasted, form: Form) -> Result<Report, Fault>
+    ensures { IfOk result (IsTasting tasted.now
+        (in_form form (tasting_text tasted.now) (tasting_json tasted.now))) }
 {
-    let text = tasting_text(alloc, tasted)?;
+    let text = match form {
+        Form::Text => tasting_text(alloc, tasted)?,
+        Form::Json => as_line(tasting_json(alloc, tasted)?)?,
+    };
     let status = if tells_damage(&tasted.left) {
         Status::Refused
     } else {
@@ -39,13 +48,14 @@ pub fn taste_report(alloc: Global, tasted: &Tasted) -> Result<Report, Fault>
 pub fn taste_folder<O: Write>(
     rt: &HostRuntime,
     folder: &str,
+    form: Form,
     output: &mut O,
 ) -> Result<Status, Fault> {
     let alloc = rt.alloc();
     let names = FileShelf::open(rt, folder)?.names()?;
     let mut shelf = FileShelf::look_at(rt, folder, &names)?;
     let tasted = taste_shelf(alloc, &mut shelf)?;
-    let report = taste_report(alloc, &tasted)?;
+    let report = taste_report(alloc, &tasted, form)?;
     output.write_all(report.text.as_bytes())?;
     Ok(report.status)
 }

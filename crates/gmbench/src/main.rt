@@ -6,10 +6,10 @@
 mod stack;
 mod streams;
 
-use gm_program::{Fault, Status, Streams, program};
+use gm_program::{Explaining, Fault, Status, Streams, program};
 use stack::take_stack;
 use std::env;
-use std::io::{BufReader, BufWriter, ErrorKind, Write};
+use std::io::{BufReader, BufWriter, ErrorKind, IsTerminal, Write};
 use std::process::ExitCode;
 use streams::StandardStreams;
 
@@ -28,12 +28,14 @@ fn run(rt: &HostRuntime) -> Result<Status, Fault> {
         }
     };
     let words: Vec<&str> = given.iter().map(|word| word.as_str()).collect(alloc)?;
+    let explaining = Explaining::new(alloc, complaints.is_terminal());
     let mut input = BufReader::new(alloc, rt.stdin())?;
     let mut output = BufWriter::new(alloc, rt.stdout())?;
     let mut streams = Streams {
         input: &mut input,
         output: &mut output,
         complaints: &mut complaints,
+        explaining,
     };
     Ok(program(rt, words.as_slice(), &mut streams))
 }

@@ -1,0 +1,109 @@
+//! What the help of the program and of its subcommands says below their options.
+
+/// What the help of the program says below its commands.
+pub(crate) const MORE: &str =
+    "All but dump and taste take --registry FILE --shelf DIR: the registry, which is made where there is
+none, and the folder with the images. Each first carries out what a run that stopped left pending;
+recover can go on without an image that is gone for good. dump and taste look at images alone, and
+write nothing. Where --registry or --shelf is left out, the environment's GMBENCH_REGISTRY or
+GMBENCH_SHELF stands for it.
+
+Where standard error is a terminal, a sentence there says behind a refusal or a fault what it means.
+
+Exit statuses:
+  0  done
+  1  refused, or damage was found; the printed line says which
+  2  the words above weren't kept to; nothing was opened
+  3  a fault; one line on standard error says which
+
+Example:
+  mkdir images && truncate -s 1M images/a.img images/b.img
+  export GMBENCH_REGISTRY=registry GMBENCH_SHELF=images
+  gmbench do k1 label --mid 7 --did 1 gm0 a.img
+  gmbench do k2 insert --did 2 gm0 b.img
+  gmbench sync
+  gmbench status";
+
+/// What the help of `recover` says below its options.
+pub(crate) const LOSSES: &str =
+    "With --without and --key it goes on without an image that is gone for good: PROV is given up
+by a `lost` of it under KEY, in place of what was pending there. What only that image had is gone
+then, so look for it first. One of these lines is printed:
+  KEY ok SEQ        PROV is given up, and that is kept under this number
+  KEY repeated SEQ  it was given up before
+  KEY refused N     nothing was written
+and behind the first two, as without these options:
+  recovered N       so many writes were pending
+
+Example:
+  gmbench recover --registry registry --shelf images --without b.img --key k5";
+
+/// What the help of `batch` says below its options.
+pub(crate) const LINES: &str =
+    "Each line has a key, under which the command is carried out once, and a command:
+  KEY label --mid N --did N [--balance B] [--slice N] [--autosync S] [--failsync S] [--hardcode S]
+      NAME PROV
+  KEY insert --did N [--priority P] [--hardcode S] NAME PROV
+  KEY remove NAME PROV
+  KEY deactivate NAME PROV
+  KEY activate NAME PROV
+  KEY forget NAME
+  KEY rebuild NAME PROV
+  KEY configure [--balance B] [--slice N] [--autosync S] [--failsync S] [--hardcode S]
+      [--prov PROV --priority P] NAME
+  KEY clear PROV
+  KEY destroy NAME
+  KEY lost NAME PROV..
+  KEY advance NAME PROV
+  KEY adopt NAME PROV..
+B is load, prefer, round-robin or split, and S is on or off. Where label and insert aren't given
+them: --balance load, --slice 4096, --autosync on, --failsync on, --hardcode off, --priority 0.
+
+Each line is answered before the next is read:
+  KEY ok SEQ        done, and kept under this number; behind it an advance says
+                    `copied K of N`, so many sectors by now of all
+  KEY repeated SEQ  it was done before
+  KEY refused N     nothing was written
+  KEY fault N       a fault, which ends the batch";
+
+/// What the help of `do` says below its options.
+pub(crate) const WORDS: &str =
+    "The options of gmbench itself stand before KEY. Behind it stands a command, as in a line of a
+batch (`gmbench batch --help`), and it is answered as there. A sentence on standard error says why
+it is refused.
+
+Example:
+  gmbench do --registry registry --shelf images k1 label --mid 7 --did 1 gm0 a.img";
+
+/// What the help of `sync` says below its options.
+pub(crate) const FILLING: &str =
+    "Without NAME it fills the components of all mirrors, without PROV all of the mirror's. It hands in
+`advance` under keys of its own, `sync-N`, so that it may be stopped at any time and be begun again.
+First it audits those mirrors: where an image isn't as it is registered it is named, nothing is
+written, and the status is 1. Behind it all a line for each component says how that stands:
+  NAME PROV STATE";
+
+/// What the help of `scrub` says below its options.
+pub(crate) const COMPARING: &str =
+    "Without NAME it goes through all mirrors. It compares the data of each ACTIVE component with that of
+the mirror's source, the ACTIVE component with the greatest priority and then the least name. It
+prints a line for each that differs, and one for each that can't be compared:
+  PROV differs in N sectors, first K
+  PROV isn't compared
+It writes nothing, and doesn't say which is right.";
+
+/// What the help of `serve` says below its options.
+pub(crate) const REQUESTS: &str =
+    "It prints the line `listening on 127.0.0.1:PORT`, and answers one request a connection, one
+connection after the other:
+  GET  /status                     how the mirrors stand
+  GET  /mirrors/NAME               all that is known of a mirror
+  GET  /providers/PROV/metadata    what the last sector of an image says
+  POST /commands                   carries out {\"key\":\"KEY\",\"words\":[\"COMMAND\",..]},
+                                   the words of a batch's line, cut at its spaces
+
+Who can reach the port can change the images: it asks nobody who they are.
+
+Example:
+  gmbench serve --registry registry --shelf images --port 8080 --count 1 &
+  curl http://127.0.0.1:8080/status";

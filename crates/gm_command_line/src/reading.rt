@@ -1,0 +1,287 @@
+//! What the program's own words ask for.
+
+use crate::job::{Comparing, Filling, Form, Job, Scope, Service, Work};
+use crate::settings::{REGISTRY, SHELF, Setting, Settings};
+use crate::table::{DUMP, RECOVER, SCRUB, SYNC, Subcommand, program, program_command};
+use clap::error::ErrorKind;
+use clap::{ArgMatches, Error};
+use gm_metadata::Label;
+use std::alloc::{AllocError, Global};
+
+// What a label is made of.
+const LABEL: &str = "a name has 1 to 15 of A-Z, a-z, 0-9, '.', '_' and '-'";
+
+// An argument of a subcommand whose value is a label, as clap names it.
+#[derive(Clone, Copy)]
+struct LabelArgument {
+    of: Subcommand,
+    name: &'static str,
+}
+
+const DUMPED: LabelArgument = LabelArgument {
+    of: DUMP,
+    name: "<PROV>",
+};
+
+const WITHOUT: LabelArgument = LabelArgument {
+    of: RECOVER,
+    name: "--without <PROV>",
+};
+
+const FILLED: LabelArgument = LabelArgument {
+    of: SYNC,
+    name: "[NAME]",
+};
+
+const FILLED_COMPONENT: LabelArgument = LabelArgument {
+    of: SYNC,
+    name: "[PROV]",
+};
+
+const COMPARED: LabelArgument = LabelArgument {
+    of: SCRUB,
+    name: "[NAME]",
+};
+
+impl LabelArgument {
+    // clap's complaint of a value that is no label.
+    fn no_label(
+        self,
+        alloc: Global,
+        settings: Settings<'_>,
+        value: &str,
+    ) -> Result<Error, AllocError> {
+        let argument = self.name;
+        let message = format!(in alloc; "invalid value '{value}' for '{argument}': {LABEL}")?;
+        self.complaint(alloc, settings, message.as_str())
+    }
+
+    // The complaint of the subcommand with this message.
+    fn complaint(
+        self,
+        alloc: Global,
+        settings: Settings<'_>,
+        message: &str,
+    ) -> Result<Error, AllocError> {
+        let name = format!(in alloc; "gmbench {}", self.of.name)?;
+        let mut command = self.of.command(alloc, settings)?.bin_name(name.as_str())?;
+        command.error(ErrorKind::ValueValidation, message)
+    }
+
+    // The label that a value is, or clap's complaint.
+    fn label(self, alloc: Global, settings: Settings<'_>, value: &str) -> Result<Label, Error> {
+        match Label::new(value) {
+            Some(label) => Ok(label),
+            None => Err(self.no_label(alloc, settings, value)?),
+        }
+    }
+}
+
+// clap's complaint of a variable of the environment that stands for an option.
+fn not_utf8(alloc: Global, variable: &str) -> Result<Error, AllocError> {
+    let message = format!(in alloc; "the value of {variable} isn't UTF-8")?;
+    program(alloc)?.error(ErrorKind::ValueValidation, message.as_str())
+}
+
+fn form_of(given: &ArgMatches<'_>) -> Form {
+    if given.get_flag("json") {
+        Form::Json
+    } else {
+        Form::Text
+    }
+}
+
+// What an option says, or what stands for it. clap has seen to it that there is one of them.
+fn chosen<'a>(
+    alloc: Global,
+    given: Option<&'a str>,
+    setting: Setting<'a>,
+    variable: &str,
+) -> Result<&'a str, Error> {
+    match (given, setting) {
+        (Some(text), _) | (None, Setting::Text(text)) => Ok(text),
+        (None, Setting::NotUtf8) => Err(not_utf8(alloc, variable)?),
+        (None, Setting::Unset) => Ok(""),
+    }
+}
+
+fn folder_of<'a>(
+    alloc: Global,
+    given: &ArgMatches<'a>,
+    settings: Settings<'a>,
+) -> Result<&'a str, Error> {
+    chosen(alloc, given.get_str("shelf"), settings.shelf, SHELF)
+}
+
+fn registry_of<'a>(
+    alloc: Global,
+    given: &ArgMatches<'a>,
+    settings: Settings<'a>,
+) -> Result<&'a str, Error> {
+    let registry = given.get_str("registry");
+    chosen(alloc, registry, settings.registry, REGISTRY)
+}
+
+fn dump_of<'a>(
+    alloc: Global,
+    given: &ArgMatches<'a>,
+    settings: Settings<'a>,
+) -> Result<Job<'a>, Error> {
+    let folder = folder_of(alloc, given, settings)?;
+    let provider = given.get_str("provider").unwrap_or("");
+    let provider = DUMPED.label(alloc, settings, provider)?;
+    Ok(Job::Dump {
+        folder,
+        provider,
+        form: form_of(given),
+    })
+}
+
+// How `serve` is to be done. clap has seen to it that the numbers are there and in range.
+fn service_of(given: &ArgMatches<'_>) -> Service {
+    Service {
+        port: given.get_one("port").unwrap_or(0),
+        count: given.get_one("count").unwrap_or(u32::MAX),
+        logs: given.get_flag("log"),
+        audits: given.get_flag("audit"),
+    }
+}
+
+// What `recover` is to do. clap has seen to it that both options are there or none.
+fn recovery_of<'a>(
+    alloc: Global,
+    given: &ArgMatches<'a>,
+    settings: Settings<'a>,
+) -> Result<Work<'a>, Error> {
+    match (given.get_str("without"), given.get_str("key")) {
+        (Some(provider), Some(key)) => {
+            let provider = WITHOUT.label(alloc, settings, provider)?;
+            Ok(Work::RecoverWithout { provider, key })
+        }
+        _ => Ok(Work::Recover),
+    }
+}
+
+// Which components `sync` is to fill. clap has seen to it that there is no provider without a
+// mirror.
+fn scope_of<'a>(
+    alloc: Global,
+    given: &ArgMatches<'a>,
+    settings: Settings<'a>,
+) -> Result<Scope, Error> {
+    let Some(name) = given.get_str("name") else {
+        return Ok(Scope::All);
+    };
+    let mirror = FILLED.label(alloc, settings, name)?;
+    match given.get_str("provider") {
+        Some(provider) => {
+            let provider = FILLED_COMPONENT.label(alloc, settings, provider)?;
+            Ok(Scope::Component { mirror, provider })
+        }
+        None => Ok(Scope::Mirror(mirror)),
+    }
+}
+
+fn filling_of<'a>(
+    alloc: Global,
+    given: &ArgMatches<'a>,
+    settings: Settings<'a>,
+) -> Result<Filling, Error> {
+    Ok(Filling {
+        scope: scope_of(alloc, given, settings)?,
+        audits: !given.get_flag("unchecked"),
+        is_quiet: given.get_flag("quiet"),
+    })
+}
+
+fn comparing_of<'a>(
+    alloc: Global,
+    given: &ArgMatches<'a>,
+    settings: Settings<'a>,
+) -> Result<Comparing, Error> {
+    let mirror = match given.get_str("name") {
+        Some(name) => Some(COMPARED.label(alloc, settings, name)?),
+        None => None,
+    };
+    Ok(Comparing {
+        mirror,
+        form: form_of(given),
+        is_quiet: given.get_flag("quiet"),
+    })
+}
+
+// The key and the command of `do`, whose words are the last of the program's.
+fn command_of<'a>(given: &ArgMatches<'a>, words: &'a [&'a str]) -> Work<'a> {
+    let count = match given.get_strs("words") {
+        Some(found) => found.len(),
+        None => 0,
+    };
+    Work::Do {
+        key: given.get_str("key").unwrap_or(""),
+        words: &words[words.len().saturating_sub(count)..],
+    }
+}
+
+// The work at a bench that a subcommand is for; none where it is for no bench.
+fn work_of<'a>(
+    alloc: Global,
+    name: &str,
+    given: &ArgMatches<'a>,
+    words: &'a [&'a str],
+    settings: Settings<'a>,
+) -> Result<Option<Work<'a>>, Error> {
+    Ok(match name {
+        "recover" => Some(recovery_of(alloc, given, settings)?),
+        "status" => Some(Work::Status(form_of(given))),
+        "list" => Some(Work::List(form_of(given))),
+        "audit" => Some(Work::Audit(form_of(given))),
+        "scrub" => Some(Work::Scrub(comparing_of(alloc, given, settings)?)),
+        "do" => Some(command_of(given, words)),
+        "batch" => Some(Work::Batch {
+            audits: given.get_flag("audit"),
+            explains: given.get_flag("explain"),
+        }),
+        "sync" => Some(Work::Sync(filling_of(alloc, given, settings)?)),
+        "serve" => Some(Work::Serve(service_of(given))),
+        _ => None,
+    })
+}
+
+// The job that these matches of the program's words ask for.
+fn job_by<'a>(
+    alloc: Global,
+    matches: &ArgMatches<'a>,
+    words: &'a [&'a str],
+    settings: Settings<'a>,
+) -> Result<Job<'a>, Error> {
+    let Some((name, given)) = matches.subcommand() else {
+        return Ok(Job::Introduce);
+    };
+    match work_of(alloc, name, given, words, settings)? {
+        Some(work) => Ok(Job::AtBench {
+            work,
+            registry: registry_of(alloc, given, settings)?,
+            folder: folder_of(alloc, given, settings)?,
+        }),
+        None if name == "taste" => Ok(Job::Taste {
+            folder: folder_of(alloc, given, settings)?,
+            form: form_of(given),
+        }),
+        None => dump_of(alloc, given, settings),
+    }
+}
+
+/// The job that the words ask for, without the program's own name; of options that are left out,
+/// the settings say what stands for them. An `Err` is clap's: the text to print, or of the kind
+/// `OutOfMemory`.
+pub fn job_of<'a>(
+    alloc: Global,
+    words: &'a [&'a str],
+    settings: Settings<'a>,
+) -> Result<Job<'a>, Error> {
+    if words.is_empty() {
+        return Ok(Job::Introduce);
+    }
+    let matches = program_command(alloc, settings)?.try_get_matches_from(words)?;
+    job_by(alloc, &matches, words, settings)
+}

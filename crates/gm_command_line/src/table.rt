@@ -1,0 +1,355 @@
+//! The table of the program's own words, for `clap`.
+
+use crate::help::{COMPARING, FILLING, LINES, LOSSES, MORE, REQUESTS, WORDS};
+use crate::settings::Settings;
+use clap::builder::ValueParser;
+use clap::{Arg, ArgAction, Command};
+use std::alloc::{AllocError, Global};
+
+// An option that has a value.
+fn with_value<'a>(alloc: Global, id: &'a str, value: &'a str, help: &'a str) -> Arg<'a> {
+    Arg::new(alloc, id)
+        .long(id)
+        .value_name(value)
+        .help(help)
+        .action(ArgAction::Set)
+}
+
+fn shelf_option<'a>(alloc: Global, settings: Settings<'a>) -> Arg<'a> {
+    with_value(alloc, "shelf", "DIR", "The folder with the images").required(
+        settings.shelf.is_unset(),
+    )
+}
+
+fn registry_option<'a>(alloc: Global, settings: Settings<'a>) -> Arg<'a> {
+    let help = "The registry, which is made where there is none";
+    with_value(alloc, "registry", "FILE", help).required(settings.registry.is_unset())
+}
+
+fn provider_name<'a>(alloc: Global) -> Arg<'a> {
+    Arg::new(alloc, "provider")
+        .value_name("PROV")
+        .help("The name of an image")
+        .required(true)
+        .action(ArgAction::Set)
+}
+
+fn without_option<'a>(alloc: Global) -> Result<Arg<'a>, AllocError> {
+    let help = "An image that is gone for good, which is given up";
+    with_value(alloc, "without", "PROV", help).requires_arg("key")
+}
+
+fn key_option<'a>(alloc: Global) -> Result<Arg<'a>, AllocError> {
+    let help = "The key under which it is given up, once";
+    with_value(alloc, "key", "KEY", help).requires_arg("without")
+}
+
+fn port_option<'a>(alloc: Global) -> Arg<'a> {
+    let help = "The port on 127.0.0.1; 0 stands for one that is free";
+    with_value(alloc, "port", "P", help)
+        .required(true)
+        .value_parser(ValueParser::unsigned(0, 65_535))
+}
+
+fn count_option<'a>(alloc: Global) -> Arg<'a> {
+    with_value(alloc, "count", "N", "How many connections are served").value_parser(
+        ValueParser::unsigned(1, 4_294_967_295),
+    )
+}
+
+// An option without a value.
+fn flag<'a>(alloc: Global, id: &'a str, help: &'a str) -> Arg<'a> {
+    Arg::new(alloc, id)
+        .long(id)
+        .help(help)
+        .action(ArgAction::SetTrue)
+}
+
+fn log_option<'a>(alloc: Global) -> Arg<'a> {
+    let help = "Logs a line for each connection, on standard error";
+    flag(alloc, "log", help)
+}
+
+fn audit_option<'a>(alloc: Global) -> Arg<'a> {
+    let help = "Audits the images first, and carries out nothing where it lists any";
+    flag(alloc, "audit", help)
+}
+
+fn explain_option<'a>(alloc: Global) -> Arg<'a> {
+    let help = "Says on standard error why a line is refused";
+    flag(alloc, "explain", help)
+}
+
+fn json_option<'a>(alloc: Global) -> Arg<'a> {
+    flag(alloc, "json", "Prints JSON")
+}
+
+fn unchecked_option<'a>(alloc: Global) -> Arg<'a> {
+    let help = "Fills them also where images aren't as they are registered";
+    flag(alloc, "unchecked", help)
+}
+
+fn quiet_option<'a>(alloc: Global) -> Arg<'a> {
+    let help = "Doesn't say how far it is";
+    flag(alloc, "quiet", help)
+}
+
+// A mirror that may be named.
+fn mirror_name<'a>(alloc: Global) -> Arg<'a> {
+    Arg::new(alloc, "name")
+        .value_name("NAME")
+        .help("The name of a mirror")
+        .action(ArgAction::Set)
+}
+
+// A provider that may be named.
+fn component_name<'a>(alloc: Global) -> Arg<'a> {
+    Arg::new(alloc, "provider")
+        .value_name("PROV")
+        .help("The name of an image")
+        .action(ArgAction::Set)
+}
+
+fn key_word<'a>(alloc: Global) -> Arg<'a> {
+    Arg::new(alloc, "key")
+        .value_name("KEY")
+        .help("The key under which it is carried out, once")
+        .required(true)
+        .action(ArgAction::Set)
+}
+
+// A command and all that follows it.
+fn command_words<'a>(alloc: Global) -> Arg<'a> {
+    Arg::new(alloc, "words")
+        .value_name("COMMAND")
+        .help("The command, and its words")
+        .required(true)
+        .action(ArgAction::Append)
+        .num_args(1..)
+        .trailing_var_arg(true)
+        .allow_hyphen_values(true)
+}
+
+// What a subcommand takes.
+#[derive(Clone, Copy)]
+enum Takes {
+    Image,
+    Folder,
+    Bench,
+    BenchAndLoss,
+    BenchAndLines,
+    BenchAndCommand,
+    BenchAndScope,
+    BenchAndMirror,
+    BenchAndRequests,
+}
+
+// A subcommand, and what the help says of it.
+#[derive(Clone, Copy)]
+pub(crate) struct Subcommand {
+    pub(crate) name: &'static str,
+    about: &'static str,
+    takes: Takes,
+}
+
+pub(crate) const DUMP: Subcommand = Subcommand {
+    name: "dump",
+    about: "Prints what the last sector of an image says",
+    takes: Takes::Image,
+};
+
+pub(crate) const RECOVER: Subcommand = Subcommand {
+    name: "recover",
+    about: "Carries out what a run that stopped left pending",
+    takes: Takes::BenchAndLoss,
+};
+
+pub(crate) const SYNC: Subcommand = Subcommand {
+    name: "sync",
+    about: "Fills the components that are SYNCHRONIZING",
+    takes: Takes::BenchAndScope,
+};
+
+pub(crate) const SCRUB: Subcommand = Subcommand {
+    name: "scrub",
+    about: "Compares the data of the components that are ACTIVE",
+    takes: Takes::BenchAndMirror,
+};
+
+const SUBCOMMANDS: [Subcommand; 11] = [
+    DUMP,
+    Subcommand {
+        name: "taste",
+        about: "Prints which mirrors the images of a folder tell of by themselves",
+        takes: Takes::Folder,
+    },
+    RECOVER,
+    Subcommand {
+        name: "status",
+        about: "Shows in a few lines how the mirrors stand",
+        takes: Takes::Bench,
+    },
+    Subcommand {
+        name: "list",
+        about: "Shows all that is known of the mirrors and their components",
+        takes: Takes::Bench,
+    },
+    Subcommand {
+        name: "audit",
+        about: "Lists the components whose images aren't as they are registered",
+        takes: Takes::Bench,
+    },
+    SCRUB,
+    Subcommand {
+        name: "do",
+        about: "Carries out one command",
+        takes: Takes::BenchAndCommand,
+    },
+    Subcommand {
+        name: "batch",
+        about: "Carries out the commands of standard input, a line each",
+        takes: Takes::BenchAndLines,
+    },
+    SYNC,
+    Subcommand {
+        name: "serve",
+        about: "Answers requests over HTTP, on 127.0.0.1 alone",
+        takes: Takes::BenchAndRequests,
+    },
+];
+
+fn with_image<'a>(
+    alloc: Global,
+    command: Command<'a>,
+    settings: Settings<'a>,
+) -> Result<Command<'a>, AllocError> {
+    command
+        .arg(shelf_option(alloc, settings))?
+        .arg(json_option(alloc))?
+        .arg(provider_name(alloc))
+}
+
+fn with_bench<'a>(
+    alloc: Global,
+    command: Command<'a>,
+    settings: Settings<'a>,
+) -> Result<Command<'a>, AllocError> {
+    command
+        .arg(registry_option(alloc, settings))?
+        .arg(shelf_option(alloc, settings))
+}
+
+fn with_loss<'a>(alloc: Global, command: Command<'a>) -> Result<Command<'a>, AllocError> {
+    command.arg(without_option(alloc)?)?.arg(key_option(alloc)?)
+}
+
+fn with_command<'a>(alloc: Global, command: Command<'a>) -> Result<Command<'a>, AllocError> {
+    command.arg(key_word(alloc))?.arg(command_words(alloc))
+}
+
+fn with_lines<'a>(alloc: Global, command: Command<'a>) -> Result<Command<'a>, AllocError> {
+    command.arg(audit_option(alloc))?.arg(explain_option(alloc))
+}
+
+fn with_scope<'a>(alloc: Global, command: Command<'a>) -> Result<Command<'a>, AllocError> {
+    command
+        .arg(unchecked_option(alloc))?
+        .arg(quiet_option(alloc))?
+        .arg(mirror_name(alloc))?
+        .arg(component_name(alloc))
+}
+
+fn with_mirror<'a>(alloc: Global, command: Command<'a>) -> Result<Command<'a>, AllocError> {
+    command
+        .arg(json_option(alloc))?
+        .arg(quiet_option(alloc))?
+        .arg(mirror_name(alloc))
+}
+
+fn with_requests<'a>(alloc: Global, command: Command<'a>) -> Result<Command<'a>, AllocError> {
+    command
+        .arg(port_option(alloc))?
+        .arg(count_option(alloc))?
+        .arg(log_option(alloc))?
+        .arg(audit_option(alloc))
+}
+
+impl Subcommand {
+    // What its help says below its options.
+    fn more(self) -> Option<&'static str> {
+        match self.takes {
+            Takes::Image | Takes::Folder | Takes::Bench => None,
+            Takes::BenchAndLoss => Some(LOSSES),
+            Takes::BenchAndLines => Some(LINES),
+            Takes::BenchAndCommand => Some(WORDS),
+            Takes::BenchAndScope => Some(FILLING),
+            Takes::BenchAndMirror => Some(COMPARING),
+            Takes::BenchAndRequests => Some(REQUESTS),
+        }
+    }
+
+    // The command of its name, without options.
+    fn bare<'a>(self, alloc: Global) -> Command<'a> {
+        let command = Command::new(alloc, self.name).about(self.about);
+        match self.more() {
+            Some(text) => command.after_help(text),
+            None => command,
+        }
+    }
+
+    pub(crate) fn command<'a>(
+        self,
+        alloc: Global,
+        settings: Settings<'a>,
+    ) -> Result<Command<'a>, AllocError> {
+        let command = self.bare(alloc);
+        match self.takes {
+            Takes::Image => return with_image(alloc, command, settings),
+            Takes::Folder => {
+                return command
+                    .arg(shelf_option(alloc, settings))?
+                    .arg(json_option(alloc));
+            }
+            _ => {}
+        }
+        let command = with_bench(alloc, command, settings)?;
+        match self.takes {
+            Takes::Image | Takes::Folder => Ok(command),
+            Takes::Bench => command.arg(json_option(alloc)),
+            Takes::BenchAndLoss => with_loss(alloc, command),
+            Takes::BenchAndLines => with_lines(alloc, command),
+            Takes::BenchAndCommand => with_command(alloc, command),
+            Takes::BenchAndScope => with_scope(alloc, command),
+            Takes::BenchAndMirror => with_mirror(alloc, command),
+            Takes::BenchAndRequests => with_requests(alloc, command),
+        }
+    }
+}
+
+fn subcommands<'a>(alloc: Global, settings: Settings<'a>) -> Result<Vec<Command<'a>>, AllocError> {
+    let mut all = Vec::new(alloc);
+    for subcommand in &SUBCOMMANDS {
+        all.push(subcommand.command(alloc, settings)?)?;
+    }
+    Ok(all)
+}
+
+pub(crate) fn program<'a>(alloc: Global) -> Result<Command<'a>, AllocError> {
+    let named = Command::new(alloc, "gmbench").bin_name("gmbench")?;
+    Ok(
+        named
+            .about("A workshop for disk images that are mirrors of gmirror(8)")
+            .version("0.1.0")
+            .no_binary_name(true)
+            .subcommand_required(true)
+            .after_help(MORE),
+    )
+}
+
+pub(crate) fn program_command<'a>(
+    alloc: Global,
+    settings: Settings<'a>,
+) -> Result<Command<'a>, AllocError> {
+    let subcommands = subcommands(alloc, settings)?;
+    program(alloc)?.subcommands(subcommands)
+}

@@ -1,0 +1,137 @@
+. "$helpers/bench.sh"
+
+# ---- components that are filled by `sync`
+
+fresh_bench synced
+batch "$label$insert"
+at_bench sync
+expect 'a component is filled' 0 "$(lines 'gm0 a.img ACTIVE\ngm0 b.img ACTIVE')" 'b.img 100 %: 3 of 3'
+at_bench status
+expect 'a status of it' 0 "$of_filled" ''
+expect_same_data 'it has the data' "$bench/images/a.img" "$bench/images/b.img" 1536
+printf 'k9 advance gm0 b.img\nsync-3 advance gm0 b.img\n' >"$work/lines"
+at_bench batch <"$work/lines"
+expect 'its key is made from the number of commands' 1 "$(lines 'k9 refused 22\nsync-3 repeated 3')" ''
+at_bench sync
+expect 'where nothing is left it says so' 0 "$(lines 'gm0 a.img ACTIVE\ngm0 b.img ACTIVE')" ''
+at_bench sync gm1
+expect 'a mirror that is not there' 1 'refused 5' ''
+at_bench sync gm0 c.img
+expect 'a component that is not there' 1 'refused 12' ''
+at_bench sync gm0 a.img
+expect 'one component alone' 0 'gm0 a.img ACTIVE' ''
+at_bench sync a/b
+expect_words 'a name that is none'
+
+# ---- keys that were taken, several stretches, and quiet
+
+fresh_bench taken
+put_long_image "$bench/images/a.img" x
+put_long_image "$bench/images/b.img" y
+batch "$label${insert}sync-4 configure --balance prefer gm0\n"
+at_bench sync --quiet gm0 b.img
+expect 'a key that was taken is gone round' 0 'gm0 b.img ACTIVE' ''
+expect_same_data 'all data are copied' "$bench/images/a.img" "$bench/images/b.img" 131584
+
+# ---- images that are not as they are registered
+
+fresh_bench exchanged
+batch "$label$insert"
+mv "$bench/images/a.img" "$work/moved"
+mv "$bench/images/b.img" "$bench/images/a.img"
+mv "$work/moved" "$bench/images/b.img"
+keep_bench
+at_bench sync
+expect 'names that were exchanged' 1 "$(lines 'a.img\nb.img')" "these aren't as they are registered"
+expect_kept 'nothing was written'
+at_bench sync --unchecked
+expect 'unless it is not to look' 0 "$(lines 'gm0 a.img ACTIVE\ngm0 b.img ACTIVE')" 'b.img 100 %: 3 of 3'
+
+# Another mirror's images don't matter where one is named.
+fresh_bench beside
+put_image "$bench/images/c.img" c bare
+batch "$label${insert}k3 label --mid 8 --did 1 gm1 c.img\n"
+damage "$bench/images/c.img" 1600 x
+at_bench sync gm0
+expect 'an image of another mirror' 0 "$(lines 'gm0 a.img ACTIVE\ngm0 b.img ACTIVE')" 'b.img 100 %: 3 of 3'
+at_bench sync
+expect 'all mirrors' 1 'c.img' "these aren't as they are registered"
+
+# ---- one that waits for a rebuild
+
+fresh_bench stale
+batch "k1 label --mid 7 --did 1 --autosync off gm0 a.img\n$insert"
+at_bench sync
+expect 'a component that is STALE is named' 0 "$(lines 'gm0 a.img ACTIVE\ngm0 b.img STALE')" \
+    'b.img is STALE: rebuild lets it be filled'
+batch 'k3 rebuild gm0 b.img\n'
+at_bench sync
+expect 'behind a rebuild it is filled' 0 "$(lines 'gm0 a.img ACTIVE\ngm0 b.img ACTIVE')" 'b.img 100 %: 3 of 3'
+
+# ---- a registry that is nearly full
+
+fresh_bench full
+put_long_image "$bench/images/a.img" x
+put_long_image "$bench/images/b.img" y
+batch "$label$insert"
+if command -v sqlite3 >/dev/null; then
+    put_accepted 2 99999
+    at_bench sync
+    expect 'it is said before that the room may not do' 1 'refused 4' "this takes 2 commands, and the registry takes 1 more
+b.img 90 %: 256 of 257"
+    at_bench status
+    expect 'what was filled stays so' 0 "$(whole_lines "$of_two" | sed 's/0 of 3/256 of 257/')" ''
+else
+    skip 'a registry that is nearly full' 'there is no sqlite3 here'
+fi
+
+# ---- a mirror of 16, killed and gone on with
+
+fresh_bench sixteen
+head -c 4194304 /dev/urandom >"$bench/images/a.img"
+head -c 512 /dev/zero >>"$bench/images/a.img"
+printf "$label" >"$work/lines"
+for one in 1 2 3 4 5 6 7 8 9 10 11 12 13 14 15; do
+    truncate -s 4194816 "$bench/images/s$one.img"
+    echo "i$one insert --did $((one + 1)) gm0 s$one.img"
+done >>"$work/lines"
+rm "$bench/images/b.img"
+at_bench batch <"$work/lines"
+[ "$status" = 0 ] && pass 'a mirror of 16' || fail 'a mirror of 16' "status $status, $(tail -n 1 "$work/output")"
+for _ in 1 2 3 4 5; do
+    timeout -s KILL 0.1 "$gmbench" sync --quiet --registry "$registry" --shelf "$bench/images" >/dev/null 2>&1
+done
+at_bench sync --quiet
+[ "$status" = 0 ] && [ "$(grep -c '^gm0 .* ACTIVE$' "$work/output")" = 16 ] &&
+    pass 'a sync that was killed five times is gone on with' ||
+    fail 'a sync that was killed' "status $status, $(head -n 3 "$work/output"), $(head -n 1 "$work/complaints")"
+at_bench audit
+expect 'an audit behind it' 0 '' ''
+same=yes
+for one in 1 5 15; do
+    cmp -s -n 4194304 "$bench/images/a.img" "$bench/images/s$one.img" || same="s$one.img differs"
+done
+[ "$same" = yes ] && pass 'all have the data' || fail 'all have the data' "$same"
+
+# ---- a bar at a terminal
+
+if command -v script >/dev/null; then
+    for columns in 40 200; do
+        batch "r$columns rebuild gm0 s1.img\n"
+        printf 'stty columns %s; "%s" sync --registry "%s" --shelf "%s"\n' "$columns" "$gmbench" "$registry" \
+            "$bench/images" >"$work/typed"
+        script -qec "sh $work/typed" /dev/null </dev/null >"$work/terminal" 2>/dev/null
+        tr '\r' '\n' <"$work/terminal" | sed "s/$(printf '\033')\[K//g" >"$work/shown"
+        wide=$(awk 'length > 39' "$work/shown" | head -n 1)
+        if grep -q '^s1.img [0-9]* of 8192' "$work/shown" && [ -z "$wide" ]; then
+            pass "a bar in $columns columns"
+        else
+            fail "a bar in $columns columns" "'$wide', '$(head -n 3 "$work/shown")'"
+        fi
+        grep -q "$(printf '\r\033\[K')gm0 a.img ACTIVE" "$work/terminal" &&
+            pass 'it is taken away at the end' || fail 'it is taken away at the end' "$(tail -n 17 "$work/shown" | head -n 2)"
+    done
+else
+    skip 'a bar at a terminal' 'there is no script(1) here'
+fi
+finish

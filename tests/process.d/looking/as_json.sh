@@ -1,0 +1,41 @@
+. "$helpers/bench.sh"
+. "$helpers/python.sh"
+
+# ---- what is printed as JSON, read by another reader
+
+if has_python 'what is printed as JSON'; then
+    fresh_bench json
+    batch "$label$insert"
+    # Whether the last run ended so, and its output has this value by an expression of Python.
+    expect_json() {
+        if [ "$status" != "$2" ] || [ -s "$work/complaints" ]; then
+            fail "$1" "status $status, '$(head -n 1 "$work/complaints")'"
+        elif told=$(python3 -c "import json, sys; j = json.load(open(sys.argv[1])); print($3)" "$work/output" 2>&1) &&
+            [ "$told" = "$4" ]; then
+            pass "$1"
+        else
+            fail "$1" "'$told', and not '$4'"
+        fi
+    }
+    at_bench status --json
+    expect_json 'a status' 0 '[(c["name"], c["state"]) for c in j["mirrors"][0]["components"]]' \
+        "[('a.img', 'ACTIVE'), ('b.img', 'SYNCHRONIZING')]"
+    at_bench list --json
+    expect_json 'a list' 0 'j[0]["mid"], j[0]["mediasize"], [c["did"] for c in j[0]["components"]]' '7 1536 [1, 2]'
+    at_bench audit --json
+    expect_json 'an audit' 0 'j' "{'amiss': []}"
+    run dump --json --shelf "$bench/images" a.img
+    expect_json 'a dump' 0 'j["name"], j["did"], j["all"], j["provsize"]' 'gm0 1 2 2048'
+    run taste --json --shelf "$bench/images"
+    expect_json 'a taste' 0 'j["mirrors"][0]["source"], j["left_out"]' 'a.img []'
+    damage "$bench/images/b.img" 1600 x
+    at_bench audit --json
+    expect_json 'an audit that lists one' 1 'j' "{'amiss': ['b.img']}"
+    run dump --json --shelf "$bench/images" b.img
+    expect_json 'a dump of a damaged sector' 1 'j' "{'decode': 3}"
+    run taste --json --shelf "$bench/images"
+    expect_json 'a taste that leaves one out' 1 'j["left_out"]' "[{'name': 'b.img', 'reason': 'fault 3'}]"
+    run dump --json --shelf "$bench/images" c.img
+    expect 'a dump of nothing' 1 'refused 8' ''
+fi
+finish

@@ -1,0 +1,49 @@
+. "$helpers/bench.sh"
+
+# ---- data that are compared by `scrub`
+
+fresh_bench scrubbed
+put_long_image "$bench/images/a.img" x
+put_long_image "$bench/images/b.img" y
+batch "$label$insert"
+at_bench scrub
+expect 'a component that is not ACTIVE is not compared' 0 '' ''
+at_bench sync --quiet
+keep_bench
+at_bench scrub --quiet
+expect 'equal images' 0 '' ''
+expect_kept 'it wrote nothing'
+at_bench scrub gm0
+[ "$status" = 0 ] && [ ! -s "$work/output" ] && tail -n 1 "$work/complaints" | grep -qx 'b.img 100 %: 257 of 257' &&
+    pass 'it says how far it is' || fail 'it says how far it is' "status $status, '$(cat "$work/complaints")'"
+for place in 0 65000 131583; do
+    put_back
+    damage "$bench/images/b.img" $place z
+    at_bench scrub --quiet
+    expect "a byte that is another at $place" 1 "b.img differs in 1 sectors, first $((place / 512))" ''
+    at_bench audit
+    expect 'an audit sees nothing of it' 0 '' ''
+done
+put_back
+damage "$bench/images/b.img" 600 z
+damage "$bench/images/b.img" 70000 z
+damage "$bench/images/b.img" 131000 z
+cp -R "$bench/images" "$work/differing"
+at_bench scrub --quiet
+expect 'three of them' 1 'b.img differs in 3 sectors, first 1' ''
+diff -r "$bench/images" "$work/differing" >/dev/null &&
+    pass 'nothing is mended' || fail 'nothing is mended' 'an image is another'
+at_bench scrub --quiet --json
+expect 'the same as JSON' 1 '{"differ":[{"first":1,"name":"b.img","sectors":3}],"uncompared":[]}' ''
+at_bench scrub gm1
+expect 'a mirror that is not there' 1 'refused 5' ''
+mv "$bench/images/b.img" "$work/away"
+at_bench scrub --quiet
+expect 'an image that is away' 1 "b.img isn't compared" ''
+at_bench scrub --quiet --json gm0
+expect 'the same as JSON' 1 '{"differ":[],"uncompared":["b.img"]}' ''
+mv "$work/away" "$bench/images/b.img"
+mv "$bench/images/a.img" "$work/away"
+at_bench scrub --quiet
+expect 'the source is away' 1 "$(lines "a.img isn't compared\nb.img isn't compared")" ''
+finish

@@ -1,0 +1,76 @@
+. "$helpers/bench.sh"
+
+# ---- a batch that says why lines are refused
+
+fresh_bench explained
+printf "${label}k2 forget gm0\nk2 destroy gm1\r\nk2 \377\n\nk2 destroy\nk1 repeated\nk2 label --mid 8 --did 1 gm0 b.img\nk2 lost gm0 b.img a.img\n" \
+    >"$work/lines"
+at_bench batch --explain <"$work/lines"
+expect_complaint() {
+    if grep -qxF -- "$2" "$work/complaints"; then
+        pass "$1"
+    else
+        fail "$1" "it complained '$(cat "$work/complaints")'"
+    fi
+}
+cp "$work/complaints" "$work/complained"
+[ "$status" = 1 ] && pass 'it ends as a batch does' || fail 'it ends as a batch does' "status $status"
+printf '%s\n' 'k1 ok 1' 'k2 refused 20' 'k2 refused 1' '? refused 1' 'k2 refused 1' 'k1 refused 1' 'k2 refused 6' \
+    'k2 refused 12' >"$work/wanted"
+expect_same 'it prints what it prints without the option' "$work/output" "$work/wanted"
+expect_complaint 'a mirror of which nothing was lost' 'k2: refused 20: gm0 counts no component that was lost'
+expect_complaint 'a line that ends with CR LF' 'k2: refused 1: the line ends with CR LF, not with LF alone'
+expect_complaint 'a line that is no text' "?: refused 1: the line isn't UTF-8"
+expect_complaint 'a name that was taken' 'k2: refused 6: a mirror is named gm0 already'
+expect_complaint 'several images' "k2: refused 12: one of these images isn't a component of gm0, or is named twice"
+expect_complaint 'a registry that is new' "a new registry was made at $registry"
+grep -q '^k2: refused 1: .*<' "$work/complained" &&
+    pass "words that are missing, as clap says it" || fail 'words that are missing' "$(cat "$work/complained")"
+{
+    head -c 1100 /dev/zero | tr '\0' k
+    echo
+} >"$work/lines"
+at_bench batch --explain <"$work/lines"
+expect 'a line that is too long' 1 '? refused 1' '?: refused 1: the line has more than 1,024 bytes'
+printf 'k2 destroy gm9\n' >"$work/lines"
+at_bench batch <"$work/lines"
+expect 'without the option nothing is said' 1 'k2 refused 5' ''
+
+# ---- at a terminal everything is explained
+
+# Runs the program with standard error at a terminal of so many columns; what it printed there is kept.
+at_terminal() {
+    columns=$1
+    shift
+    printf '%s' "stty columns $columns; timeout 60 \"$gmbench\"" >"$work/typed"
+    for word in "$@"; do
+        printf " '%s'" "$word" >>"$work/typed"
+    done
+    printf ' >"%s" </dev/null; echo "$?" >"%s"\n' "$work/output" "$work/ended" >>"$work/typed"
+    script -qec "sh $work/typed" /dev/null </dev/null >"$work/terminal" 2>/dev/null
+    status=$(cat "$work/ended")
+    tr -d '\r' <"$work/terminal" >"$work/complaints"
+}
+if command -v script >/dev/null; then
+    at_terminal 80 status --registry "$registry" --shelf "$work/nowhere"
+    expect 'a folder that is not there' 3 '' "$broken
+input or output: the folder with the images isn't there"
+    at_terminal 80 dump --shelf "$bench/images" c.img
+    expect 'a dump of nothing' 1 'refused 8' "refused 8: c.img isn't on the shelf"
+    printf 'no database, whatever it is' >"$work/none"
+    at_terminal 80 status --registry "$work/none" --shelf "$bench/images"
+    expect 'a file that is no registry' 3 '' "gmbench: F2 store
+F2: the registry isn't one, or can't be read or written"
+    stopped_remove gone
+    rm "$bench/images/b.img"
+    at_terminal 80 recover --registry "$registry" --shelf "$bench/images"
+    expect 'an image that is gone' 3 '' "gmbench: F5 absent b.img
+F5: b.img isn't there in its size, and a write to it is pending"
+    fresh_bench there
+    batch "$label$insert"
+    at_terminal 80 recover --registry "$registry" --shelf "$bench/images" --without b.img --key k9
+    expect 'an image that is there is not given up' 1 'k9 refused 32' 'k9: refused 32: b.img is on the shelf'
+else
+    skip 'what is explained at a terminal' 'there is no script(1) here'
+fi
+finish
