@@ -9,8 +9,14 @@ use Rattle.gm_state.specs.Rows.{Tables}
 use Rattle.gm_state.specs.World.{World, present}
 use Rattle.gm_registry.specs.Registry.{DiskKept, CrashLeaves, HasTables, LeavesNothingNew, MayLeave, stored}
 use Rattle.gm_rows.specs.Tables.{Holds, IsEmpty, no_tables}
+use Rattle.gm_registry.specs.Opening.{HasSomeTables}
 use Rattle.gm_bench.specs.Leading.{AllLead}
+use Rattle.gm_bench.specs.Opened.{HoldsSome}
 use Rattle.gm_bench.specs.Recovering.{IsStored, Recovers, IsFound, LeavesOnly}
+
+pub some_tables : (db : Trees) → HoldsSome db → HasSomeTables db
+some_tables db (inl held) = inl held.1.sound
+some_tables db (inr foreign) = inr foreign
 
 module _ {S H : Type 0} (g : Ghosts S) (view : H → View) (size : H → Sizes) (start : Held S) (h : H)
     (away : Image) (u w : World) (lawful : IsLawful (view h))

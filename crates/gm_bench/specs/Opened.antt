@@ -1,8 +1,9 @@
 -- What an opening does and tells.
-use Rattle.std.specs.Prelude.{◌≡◌, ◌<◌, ℕ, List, Some, None, Result, length, IfErr, OnOk, IsErrOf}
+use Rattle.std.specs.Prelude.{◌≡◌, ◌⊎◌, ◌<◌, ℕ, List, Some, None, Result, length, IfErr, OnOk, IsErrOf}
 use Rattle.sqlite_trees.specs.declared.store.Store.{Ghosts as StoreGhosts}
 use Rattle.sqlite_catalog.specs.Listing.{IsSound}
 use Rattle.sqlite.specs.Held.{Held}
+use Rattle.sqlite.specs.Tree.{Trees}
 use Rattle.gm_metadata.specs.Images.{Image}
 use Rattle.gm_shelf.specs.declared.shelf.Shelf.{Ghosts as ShelfGhosts}
 use Rattle.gm_state.specs.declared.intents.Intent.{Intent}
@@ -11,12 +12,13 @@ use Rattle.gm_state.specs.Rows.{Tables}
 use Rattle.gm_state.specs.World.{World}
 use Rattle.gm_rows.specs.ReadableTables.{AreTablesOf}
 use Rattle.gm_rows.specs.Schema.{registry_schema}
-use Rattle.gm_registry.specs.Opening.{IsOpenable}
-use Rattle.gm_registry.specs.Registry.{DiskKept, HasTables, IsOpen, IsRegistry, LeavesAlone, stored}
+use Rattle.gm_rows.specs.Tables.{Holds}
+use Rattle.gm_registry.specs.Opening.{IsForeign, IsOpenable}
+use Rattle.gm_registry.specs.Registry.{DiskKept, HasTables, IsOpen, IsRegistry, LeavesAlone, StoreFailed, stored}
 use Rattle.gm_bench.specs.declared.bench.Bench.{Bench}
 use Rattle.gm_bench.specs.declared.bench.OpenFault.{OpenFault}
 use Rattle.gm_bench.specs.declared.fault.BenchFault.{BenchFault}
-use Rattle.gm_bench.specs.declared.fault.BenchFault.TheVariants.{Absent, Closed, Disk, Unreadable}
+use Rattle.gm_bench.specs.declared.fault.BenchFault.TheVariants.{Absent, Closed, Disk, Store, Unreadable}
 use Rattle.gm_bench.specs.declared.media.Media.{Media}
 use Rattle.gm_bench.specs.declared.phase.Progress.TheVariants.{Ready}
 use Rattle.gm_bench.specs.Benches.{progress_of, redone_of, registry_of, shelf_of}
@@ -56,6 +58,10 @@ pub record StaysBefore {S H T : Type 0} (s : StoreGhosts S) (old new : Media S H
 
 -- ---- of a store and a shelf
 
+-- it holds the tables of a registry, or others
+abbrev pub HoldsSome : Trees → Type 0
+HoldsSome db = ((t : Tables) × Holds db t) ⊎ IsForeign db
+
 module _ {S H : Type 0} (s : StoreGhosts S) (h : ShelfGhosts H) (store : Held S) (shelf : H) where
   -- The bench is at rest in the world that was left; the number is that of the intents that were
   -- pending; and each image that they need is there.
@@ -71,8 +77,9 @@ module _ {S H : Type 0} (s : StoreGhosts S) (h : ShelfGhosts H) (store : Held S)
         → IsStored (stored s store) t → AreTablesOf t r ts
         → first_absent r (h.size shelf) ts ≡ None
 
-  -- Why it failed, by the tables that are stored and the sizes alone. A fault before anything is
-  -- written leaves both media as they were, whatever rows the tables hold.
+  -- Why it failed, by the tables that are stored and the sizes alone. F2 comes only where the store
+  -- failed, if it holds some. A fault before anything is written leaves both media as they were,
+  -- whatever rows the tables hold.
   pub record IsUnopened (e : OpenFault S H) : Type 0 where
     pub absent : IsOpen s store → DiskKept s e.store → (p : List ℕ) → e.fault ≡ Absent p
         → (t : Tables) (r : Records) (ts : List Intent)
@@ -84,6 +91,8 @@ module _ {S H : Type 0} (s : StoreGhosts S) (h : ShelfGhosts H) (store : Held S)
     pub unreadable : IsOpen s store → DiskKept s e.store → e.fault ≡ Unreadable
         → IsOpenable (stored s store) → (t : Tables) (r : Records) (ts : List Intent)
         → IsStored (stored s store) t → AreTablesOf t r ts → ⊥
+    pub failed : IsOpen s store → DiskKept s e.store → e.fault ≡ Store
+        → HoldsSome (stored s store) → StoreFailed s store e.store
     pub closed : e.fault ≡ Closed → ⊥
     pub untouched : IsBeforeWrites e.fault → e.shelf ≡ shelf
     pub alone : IsOpen s store → IsSound registry_schema (stored s store)

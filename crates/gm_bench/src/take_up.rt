@@ -13,7 +13,7 @@ ghost use Rattle.gm_bench.specs.Faults.{IsOfMedia, IsOfOpening, IsOfRegistry, Is
 ghost use Rattle.gm_bench.specs.Leading.{AllLead};
 ghost use Rattle.gm_bench.specs.Presence.{first_absent, AreAtHand};
 ghost use Rattle.gm_bench.specs.Recovering.{Cover, IsAt, IsFound, LeavesOnly};
-ghost use Rattle.gm_bench.specs.Calls.{Keep};
+ghost use Rattle.gm_bench.specs.Calls.{Keep, TellsStore};
 ghost use Rattle.gm_bench.specs.Opened.{TellsOfTables, StaysBefore};
 
 use crate::fault::BenchFault;
@@ -47,6 +47,7 @@ impl<S: Alter, H: Shelf> Media<S, H> {
         ensures disk { AreAtHand (H.size self.old.shelf) intents.now
             → IsErrOf result BenchFault.Disk
             → (H.view self.old.shelf).faults < (H.view self.new.shelf).faults }
+        ensures store { TellsStore S.Store self.old.registry self.new.registry result }
         ensures fault { IfErr result IsOfMedia }
         ensures keep { Keep S.Store H.Shelf self.old.registry self.new.registry
             self.old.shelf self.new.shelf }
@@ -114,6 +115,7 @@ impl<S: Alter, H: Shelf> Media<S, H> {
             × (self.new ≡ self.old) }
         ensures there { OnOk result
             (first_absent state.now (H.size self.old.shelf) intents.now ≡ None) }
+        ensures store { TellsStore S.Store self.old.registry self.new.registry result }
         ensures fault { IfErr result IsOfOpening }
         ensures keep { Keep S.Store H.Shelf self.old.registry self.new.registry
             self.old.shelf self.new.shelf }
@@ -142,6 +144,7 @@ impl<S: Alter, H: Shelf> Media<S, H> {
             → (n ≡ length ts)
             × IsAt S.Store H.view H.size self.new.registry self.new.shelf away [] w w) }
         ensures tells { TellsOfTables S.Store H.Shelf self.old self.new result }
+        ensures store { TellsStore S.Store self.old.registry self.new.registry result }
         ensures before { StaysBefore S.Store self.old self.new result }
         ensures keep { Keep S.Store H.Shelf self.old.registry self.new.registry
             self.old.shelf self.new.shelf }

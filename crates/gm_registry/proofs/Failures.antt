@@ -5,7 +5,7 @@ use Rattle.sqlite_disk.specs.Disk.{MoreFaults}
 use Rattle.sqlite.specs.Order.{Row}
 use Rattle.sqlite.specs.Tree.{Trees}
 use Rattle.sqlite.specs.Listing.{understood}
-use Rattle.sqlite.specs.State.{State, HasCleanDisk, FailsToQuery}
+use Rattle.sqlite.specs.State.{State, HasCleanDisk, FailsToQuery, Survives}
 use Rattle.sqlite.specs.declared.error.Error.{Error}
 use Rattle.sqlite.specs.declared.types.Value.TheVariants.{Text}
 use Rattle.sqlite_sql.specs.Program.{QueryOverflows}
@@ -103,15 +103,21 @@ module _ (old new : State) (e : Error) (has : old.now.schema ≡ registry_schema
       (query_of t) _ has asks.command_is asks.plain asks.of_tables (tables_whole t)
       (tables_typed t) (tables_safe t) is_open fails)
 
--- a failure after a read is one since before it
+later : (x y z : ℕ) → x ≤ y → MoreFaults y z → MoreFaults x z
+later x y z le more = omega (arith, le, more)
+
+-- a failure after a call is one since before it
+pub failed_since : (a b c : State) (Commits : Trees → Type 0) → Survives a b Commits
+    → MoreFaults b.faults c.faults ⊎ IsSome b.step_limit
+    → MoreFaults a.faults c.faults ⊎ IsSome a.step_limit
+failed_since a b c Commits left (inl more) =
+    inl (later a.faults b.faults c.faults left.counts more)
+failed_since a b c Commits left (inr limit) = inr (subst IsSome left.limit limit)
+
+-- so is one after a read
 pub failed_later : (a b c : State) → HasRead a b → HasCleanDisk b → IsOurs a → IsTrue a.is_open
     → (IsOurs b → IsTrue b.is_open → MoreFaults b.faults c.faults ⊎ IsSome b.step_limit)
     → MoreFaults a.faults c.faults ⊎ IsSome a.step_limit
 failed_later a b c read clean ours is_open failed =
-    elim (failed (ours_still a b read clean ours) (read.unchanged clean ours).0.is_open) [
-      | inl more ↦ inl (later a.faults b.faults c.faults read.left.counts more)
-      | inr limit ↦ inr (subst IsSome read.left.limit limit)
-    ]
-  where
-    later : (x y z : ℕ) → x ≤ y → MoreFaults y z → MoreFaults x z
-    later x y z le more = omega (arith, le, more)
+    failed_since a b c _ read.left
+    (failed (ours_still a b read clean ours) (read.unchanged clean ours).0.is_open)

@@ -58,6 +58,17 @@ nothing_new old new t left was =
 
 -- ---- over whatever rows a registry holds
 
+-- what sees tables sees a registry
+pub sees_registry : (s : State) (t : Tables) → SeesTables s t → SeesRegistry s
+sees_registry s t was = record {
+  is_open = was.is_open;
+  autocommit = was.autocommit;
+  schema_is = was.schema_is;
+  settled = was.settled;
+  sound = was.tables.sound;
+  about = was.tables.rows.rows.about;
+}
+
 pub registry_ours : (s : State) → SeesRegistry s → IsOurs s
 registry_ours s was = ap (λ (d : Database). d.schema) was.settled ∙ was.schema_is
 

@@ -1,5 +1,5 @@
 -- The texts that a store lists, as the query of them finds them.
-use Rattle.std.proofs.Common.{◌≡◌, ◌∙◌, inl, inr, ⊎_elim, ℕ, ◌<◌, ◌≤◌, pos, Bool, false, not, List, [], ◌∷◌, filter, map, length, if◌then◌else◌, codes, Result, IsPermutation, refl, sym, ap, subst, arith}
+use Rattle.std.proofs.Common.{◌≡◌, ◌∙◌, ◌⊎◌, inl, inr, ⊎_elim, IsSome, IsTrue, ℕ, ◌<◌, ◌≤◌, pos, Bool, true, false, not, List, [], ◌∷◌, filter, map, length, if◌then◌else◌, codes, Result, IsPermutation, refl, sym, ap, subst, arith}
 use Rattle.std.proofs.lemmas.List.Elements.{filter_agree}
 use Rattle.std.proofs.lemmas.List.Sorted.{IsPermutation-refl, IsPermutation-sym, IsPermutation-trans, IsPermutation-map, IsPermutation-cons, IsPermutation-swap, length_permutation}
 use Rattle.sqlite_trees.proofs.ListLemmas.{map-map}
@@ -23,7 +23,15 @@ use Rattle.sqlite_resolve.specs.declared.error.CompileError.{CompileError}
 use Rattle.sqlite_resolve.specs.Compile.{compiled}
 use Rattle.sqlite.specs.Listing.{understood, listing_schema, if_select, IsSourceOf}
 use Rattle.sqlite.specs.Given.{IsPlain}
-use Rattle.sqlite.specs.State.{State, HasCleanDisk, Shown}
+use Rattle.sqlite.specs.State.{State, HasCleanDisk, Shown, FailsToQuery}
+use Rattle.sqlite.specs.declared.error.Error.{Error}
+use Rattle.sqlite_disk.specs.Disk.{MoreFaults}
+use Rattle.sqlite_sql.specs.Program.{QueryOverflows}
+use Rattle.sqlite_typing.specs.Types.{accepts_program}
+use Rattle.sqlite_rows.proofs.Failing.{is_all_of, listing_fault}
+use Rattle.gm_rows.specs.Faults.{fault_of}
+use Rattle.gm_rows.specs.declared.fault.StoreFault.TheVariants.{Store}
+use Rattle.gm_registry.proofs.Failures.{never, told}
 use Rattle.sqlite.proofs.StateLemmas.{survives_weaker}
 use Rattle.sqlite.proofs.Callers.{command_of}
 use Rattle.sqlite_tied.specs.Compute.{everything}
@@ -59,6 +67,18 @@ texts_query_is : IsTextsQuery
 unfolding listing_schema everything
 texts_query_is = record { command_is = refl; plain = (refl, refl) }
 
+texts_whole : is_all_of load_texts_text 0 over_list ≡ true
+unfolding listing_schema everything
+texts_whole = refl
+
+texts_typed : accepts_program listing_schema [] texts_query [] ≡ true
+unfolding listing_schema everything
+texts_typed = refl
+
+texts_safe : (db : Trees) → QueryOverflows texts_query db [] → ⊥
+texts_safe db (inl none) = none
+texts_safe db (inr over) = never (db 0) over
+
 -- no table of a registry has the name of the list
 pub ours_shows : ShowsList registry_schema
 unfolding everything
@@ -69,6 +89,14 @@ understood_there : (schema : Schema) → ShowsList schema
 unfolding understood
 understood_there schema shows =
     ap (λ (b : Bool). if b then over_list else compiled schema load_texts_text) shows
+
+pub texts_failed : (old new : State) (e : Error) → ShowsList old.now.schema → IsTrue old.is_open
+    → FailsToQuery load_texts_text [] old new e → fault_of e ≡ Store
+    → MoreFaults old.faults new.faults ⊎ IsSome old.step_limit
+texts_failed old new e shows is_open fails =
+    told old new e (listing_fault old new load_texts_text [] e over_list texts_query _
+    (understood_there old.now.schema shows) texts_query_is.command_is texts_query_is.plain shows
+    texts_whole texts_typed texts_safe is_open fails)
 
 pub plain_list : (schema : Schema) → ShowsList schema → IsPlain (understood schema load_texts_text)
 plain_list schema shows = subst IsPlain (sym (understood_there schema shows)) texts_query_is.plain

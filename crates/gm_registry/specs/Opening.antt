@@ -60,3 +60,7 @@ pub record IsForeign (db : Trees) : Type 0 where
   pub some : schema ≢ no_schema
   pub shows : ShowsList schema
   pub other : ¬ (ListsOurs db)
+
+-- a store that has tables, those of a registry or others
+abbrev pub HasSomeTables : Trees → Type 0
+HasSomeTables db = IsSound registry_schema db ⊎ IsForeign db

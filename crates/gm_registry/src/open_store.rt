@@ -7,12 +7,12 @@ ghost use Rattle.gm_lists.specs.Ordered.{Has};
 ghost use Rattle.gm_state.specs.Rows.{Tables};
 ghost use Rattle.gm_rows.specs.Schema.{no_schema, registry_schema};
 ghost use Rattle.gm_rows.specs.Tables.{Holds, IsEmpty, no_tables};
-ghost use Rattle.gm_registry.specs.Opening.{IsOfSchema1, IsOpenable, IsForeign};
+ghost use Rattle.gm_registry.specs.Opening.{IsOfSchema1, IsOpenable, IsForeign, HasSomeTables};
 ghost use Rattle.gm_registry.specs.Listing.{listed, under_number, our_tables, AllStand, ListsOurs, ShowsList};
 ghost use Rattle.gm_rows.specs.Values.{columns_at, two};
 ghost use Rattle.sqlite_rows.specs.Reads.{HasReadOver, HasFailedOver};
-ghost use Rattle.gm_registry.specs.Registry.{DiskKept, IsOpen, stored, seen, HasTables, IsRegistry, WasClean, MayLeave, LeavesNothingNew, LeavesAlone, HasRead, HasFailed, IsOurs};
-ghost use Rattle.gm_rows.specs.Faults.{OnUnreadable};
+ghost use Rattle.gm_registry.specs.Registry.{DiskKept, IsOpen, stored, seen, HasTables, IsRegistry, WasClean, MayLeave, LeavesNothingNew, LeavesAlone, HasRead, HasFailed, IsOurs, StoreFailed};
+ghost use Rattle.gm_rows.specs.Faults.{OnUnreadable, OnStore};
 
 use crate::create::create_all;
 use crate::whole_tables::rows_of;
@@ -41,6 +41,9 @@ fn load_texts<S: Alter>(conn: &mut Connection<S>) -> Result<Vec<Row>, StoreFault
         (state S.Store conn.new)) }
     ensures failed { OnErr result (HasFailedOver ShowsList (state S.Store conn.old)
         (state S.Store conn.new)) }
+    ensures store { DiskKept S.Store conn.new
+        → OnStore result (ShowsList (state S.Store conn.old).now.schema → IsOpen S.Store conn.old
+        → StoreFailed S.Store conn.old conn.new) }
     ensures fault { IfErr result (λ e. e ≢ StoreFault.Unreadable) }
 {
     match conn.query_all(
@@ -100,6 +103,10 @@ fn check_registry<S: Alter>(conn: &mut Connection<S>) -> Result<(), StoreFault>
         → ListsOurs (seen S.Store conn.old) → IsOfSchema1 (seen S.Store conn.old) → ⊥) }
     ensures read { OnOk result (HasRead S.Store conn.old conn.new) }
     ensures failed { HasFailed S.Store conn.old conn.new }
+    ensures store { DiskKept S.Store conn.new
+        → OnStore result (ShowsList (state S.Store conn.old).now.schema
+        → (ListsOurs (seen S.Store conn.old) → IsOurs S.Store conn.old) → IsOpen S.Store conn.old
+        → StoreFailed S.Store conn.old conn.new) }
     ensures foreign { ¬ (ListsOurs (seen S.Store conn.old))
         → HasFailedOver ShowsList (state S.Store conn.old) (state S.Store conn.new) }
 {
@@ -134,6 +141,9 @@ pub(crate) fn prepare<S: Alter>(conn: &mut Connection<S>) -> Result<(), StoreFau
         → LeavesNothingNew S.Store conn.old conn.new }
     ensures unreadable { DiskKept S.Store conn.new
         → OnUnreadable result (IsOpen S.Store conn.old → ¬ (IsOpenable (stored S.Store conn.old))) }
+    ensures store { DiskKept S.Store conn.new
+        → OnStore result (IsOpen S.Store conn.old → HasSomeTables (stored S.Store conn.old)
+        → StoreFailed S.Store conn.old conn.new) }
     ensures refuses { DiskKept S.Store conn.new
         → OnOk result (IsOpen S.Store conn.old → ¬ (IsForeign (stored S.Store conn.old))) }
     ensures foreign { IsOpen S.Store conn.old → IsForeign (stored S.Store conn.old)

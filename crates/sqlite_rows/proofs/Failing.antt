@@ -1,5 +1,5 @@
 -- Why a query of the tables fails, where its text is known.
-use Rattle.std.proofs.Common.{◌≡◌, ◌⊎◌, inl, inr, ℕ, Bool, true, false, ◌&&◌, eqb, List, [], length, IsSome, IsTrue, Result, Ok, Err, refl, sym, ap, subst, subst₂, ◌∙◌}
+use Rattle.std.proofs.Common.{◌≡◌, ◌⊎◌, inl, inr, ℕ, Bool, true, false, ◌&&◌, eqb, List, [], length, IsSome, IsTrue, Result, Ok, Err, refl, sym, ap, subst, ◌∙◌}
 use Rattle.std.proofs.lemmas.List.{append-nil}
 use Rattle.std.proofs.Math.Dec.{leb}
 use Rattle.std.proofs.lemmas.Bool.{true≢false, eqb-true, leb-true}
@@ -9,8 +9,8 @@ use Rattle.sqlite.specs.Order.{Row}
 use Rattle.sqlite.specs.Tree.{Trees}
 use Rattle.sqlite.specs.Schema.{Schema}
 use Rattle.sqlite.specs.Query.{Query}
-use Rattle.sqlite.specs.Effect.{RefusesToRead}
-use Rattle.sqlite.specs.Listing.{understood, reads_listing, IsSourceOf}
+use Rattle.sqlite.specs.Effect.{Database, RefusesToRead}
+use Rattle.sqlite.specs.Listing.{understood, reads_listing, listing_schema, IsSourceOf}
 use Rattle.sqlite.specs.Command.TheVariants.{Select}
 use Rattle.sqlite.specs.declared.error.Error.{Error}
 use Rattle.sqlite.specs.declared.error.Error.TheVariants.{SqliteFailure}
@@ -62,35 +62,62 @@ module _ (old new : State) (sql : List ℕ) (params : Row) (e : Error) where
       (both _ _ (subst (λ r. is_all_of sql (length params) r ≡ true) is all)).1)
   never_misread plain all (inr (c, is, inr (inr formats))) = formats.0 (subst IsPlain is plain).1
 
-  module _ (schema : Schema) (query : Query) (names : List (List ℕ)) (has : old.now.schema ≡ schema)
-      (command_is : command_of (understood schema sql)
-      ≡ Select (record { lets = []; body = query }) names)
-      (plain : IsPlain (understood schema sql)) (of_tables : reads_listing schema sql ≡ false)
-      (all : is_all_of sql (length params) (understood schema sql) ≡ true)
-      (typed : accepts_program schema [] query params ≡ true) (safe : (db : Trees)
-      → QueryOverflows query db params → ⊥) where
-    refuses : RefusesToRead old.step_limit (Select (record { lets = []; body = query }) names)
-        old.now params e → IsReadFault old new e
-    refuses (inl (is, ill)) =
-        absurd (true≢false
-        (sym (subst (λ s. accepts_program s [] query params ≡ true) (sym has) typed) ∙ ill))
-    refuses (inr (inl (is, over))) = absurd (safe _ over)
-    refuses (inr (inr (is, some))) = inr (inr some)
+  -- of a text that means this, over whatever it reads
+  module _ (from : Result Compiled CompileError) (query : Query) (names : List (List ℕ))
+      (known : understood old.now.schema sql ≡ from)
+      (command_is : command_of from ≡ Select (record { lets = []; body = query }) names)
+      (plain : IsPlain from) (all : is_all_of sql (length params) from ≡ true)
+      (typed : (db : Database) → IsSourceOf (reads_listing old.now.schema sql) old.now db
+      → accepts_program db.schema [] query params ≡ true)
+      (safe : (db : Trees) → QueryOverflows query db params → ⊥) where
+    refuses : (db : Database) → IsSourceOf (reads_listing old.now.schema sql) old.now db
+        → RefusesToRead old.step_limit (Select (record { lets = []; body = query }) names) db params
+        e → IsReadFault old new e
+    refuses db source (inl (is, ill)) = absurd (true≢false (sym (typed db source) ∙ ill))
+    refuses db source (inr (inl (is, over))) = absurd (safe _ over)
+    refuses db source (inr (inr (is, some))) = inr (inr some)
 
-    pub read_fault : IsTrue old.is_open → FailsToQuery sql params old new e → IsReadFault old new e
+    query_fault : IsTrue old.is_open → FailsToQuery sql params old new e → IsReadFault old new e
     unfolding FailsToQuery IsNotRun
-    read_fault is_open (inl (inl none)) =
-        absurd (never_misread (subst (λ s. IsPlain (understood s sql)) (sym has) plain)
-        (subst (λ s. is_all_of sql (length params) (understood s sql) ≡ true) (sym has) all)
-        none.0)
-    read_fault is_open (inl (inr fails)) =
+    query_fault is_open (inl (inl none)) =
+        absurd (never_misread (subst IsPlain (sym known) plain)
+        (subst (λ r. is_all_of sql (length params) r ≡ true) (sym known) all) none.0)
+    query_fault is_open (inl (inr fails)) =
         store_failed ⊥ (λ none. absurd none) is_open fails
-    read_fault is_open (inr (c, it, h)) =
-        let known = sym it.is ∙ ap (λ s. understood s sql) has in
-        let bare = subst IsPlain (sym known) plain in
+    query_fault is_open (inr (c, it, h)) =
+        let same = sym it.is ∙ known in
+        let bare = subst IsPlain (sym same) plain in
         let shown = rw (bare.0, bare.1, append-nil params) at h in
-        let db : shown.0 ≡ old.now =
-        subst (λ b. IsSourceOf b old.now shown.0) (ap (λ s. reads_listing s sql) has
-        ∙ of_tables) shown.1 in
-        refuses (subst₂ (λ k d. RefusesToRead old.step_limit k d params e)
-        (ap command_of known ∙ command_is) db shown.2)
+        refuses shown.0 shown.1 (subst (λ k. RefusesToRead old.step_limit k shown.0 params e)
+        (ap command_of same ∙ command_is) shown.2)
+
+  -- a query of the tables of a schema
+  pub read_fault : (schema : Schema) (query : Query) (names : List (List ℕ))
+      → old.now.schema ≡ schema
+      → command_of (understood schema sql) ≡ Select (record { lets = []; body = query }) names
+      → IsPlain (understood schema sql) → reads_listing schema sql ≡ false
+      → is_all_of sql (length params) (understood schema sql) ≡ true
+      → accepts_program schema [] query params ≡ true
+      → ((db : Trees) → QueryOverflows query db params → ⊥) → IsTrue old.is_open
+      → FailsToQuery sql params old new e → IsReadFault old new e
+  read_fault schema query names has command_is plain of_tables all typed =
+      query_fault (understood schema sql) query names (ap (λ s. understood s sql) has) command_is
+      plain all (λ db source.
+      let same : db ≡ old.now = subst (λ b. IsSourceOf b old.now db)
+      (ap (λ s. reads_listing s sql) has ∙ of_tables) source in
+      subst (λ s. accepts_program s [] query params ≡ true)
+      (sym (ap (λ (d : Database). d.schema) same ∙ has)) typed)
+
+  -- a query of the list of tables, whatever their schema is
+  pub listing_fault : (from : Result Compiled CompileError) (query : Query) (names : List (List ℕ))
+      → understood old.now.schema sql ≡ from
+      → command_of from ≡ Select (record { lets = []; body = query }) names
+      → IsPlain from → reads_listing old.now.schema sql ≡ true
+      → is_all_of sql (length params) from ≡ true
+      → accepts_program listing_schema [] query params ≡ true
+      → ((db : Trees) → QueryOverflows query db params → ⊥) → IsTrue old.is_open
+      → FailsToQuery sql params old new e → IsReadFault old new e
+  listing_fault from query names known command_is plain of_list all typed =
+      query_fault from query names known command_is plain all (λ db source.
+      let shown = subst (λ b. IsSourceOf b old.now db) of_list source in
+      subst (λ s. accepts_program s [] query params ≡ true) (sym shown.0) typed)

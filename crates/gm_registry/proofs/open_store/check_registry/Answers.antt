@@ -9,6 +9,8 @@ use Rattle.gm_registry.specs.Listing.{our_tables, ShowsList}
 use Rattle.gm_rows.specs.Queries.{IsShown}
 use Rattle.gm_rows.specs.declared.fetched.Table.TheVariants.{About}
 use Rattle.gm_registry.proofs.Abouts.{about_told, about_shown}
+use Rattle.gm_rows.proofs.RowsSayRecords.{passed_on}
+use Rattle.gm_registry.proofs.Failures.{failed_later}
 use Rattle.sqlite_rows.proofs.Reading.{read_at_most, known_closer, failed_closer}
 use Rattle.gm_registry.proofs.ReadsInTurn.{read_then, failed_then, carried}
 use Rattle.gm_registry.proofs.Texts.{ours_known, ours_listed, ours_shown, not_foreign}
@@ -155,3 +157,19 @@ returns-clause-foreign g c =
     let early : HasCleanDisk s1 = omega (arith, c.in_ok-about.ensures.read.left.clean, clean) in
     ours_listed s0.now.trees c.in_ok-texts.texts.items
     (c.in_ok-texts.ensures.rows early shows) ours) (read_at_most IsOurSchema s0 s2 both)
+
+pub returns-in_err-about-clause-store : goal.returns-in_err-about-clause-store
+returns-in_err-about-clause-store g c clean =
+    let s0 = state g.S.Store c.args.conn.now in
+    let s1 = state g.S.Store c.load_texts.new.conn in
+    let s2 = state g.S.Store c.rows_of.new.conn in
+    let early : HasCleanDisk s1 = omega (arith, c.in_err-about.ensures.failed.left.clean, clean) in
+    passed_on c.from_residual-in_err-about.result _ _ (λ e same is shows only is_open.
+    let ours = only (ours_listed s0.now.trees c.in_ok-texts.texts.items
+    (c.in_ok-texts.ensures.rows early shows)
+    (subst (λ (rows : List Row). IsPermutation our_tables (map (columns_at two) rows))
+    c.deref.ensures.value (c.are_texts.ensures.0 c.if-not-are_texts.false))) in
+    failed_later s0 s1 s2 (known_closer ShowsList IsOurSchema ours_known s0 s1
+    c.in_ok-texts.ensures.read) early ours is_open
+    (c.in_err-about.ensures.store clean (sym same ∙ is)))
+    c.from_residual-in_err-about.ensures.1

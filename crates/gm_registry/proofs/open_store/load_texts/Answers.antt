@@ -1,9 +1,9 @@
-use Rattle.std.proofs.Common.{[]}
+use Rattle.std.proofs.Common.{[], ◌∙◌, sym}
 use Rattle.sqlite.specs.Held.{state}
 use Rattle.gm_rows.specs.Statements.{load_texts_text}
 use Rattle.gm_registry.specs.Listing.{ShowsList}
 use Rattle.sqlite_rows.proofs.Reading.{read_by, failed_by}
-use Rattle.gm_registry.proofs.Texts.{plain_list, lists}
+use Rattle.gm_registry.proofs.Texts.{plain_list, lists, texts_failed}
 use Rattle.gm_registry.proofs.open_store.load_texts.Goals as goal
 
 pub returns-in-Ok-clause-rows : goal.returns-in-Ok-clause-rows
@@ -22,3 +22,8 @@ returns-in-Err-clause-failed g c =
     failed_by ShowsList load_texts_text [] plain_list (state g.S.Store c.args.conn.now)
     (state g.S.Store c.query_all.new.self) c.in-Err.error c.in-Err.ensures.err
     c.query_all.ensures.survives
+
+pub returns-in-Err-clause-store : goal.returns-in-Err-clause-store
+returns-in-Err-clause-store g c clean is shows is_open =
+    texts_failed (state g.S.Store c.args.conn.now) (state g.S.Store c.query_all.new.self)
+    c.in-Err.error shows is_open (c.in-Err.ensures.err clean) (sym c.from.ensures ∙ is)

@@ -8,6 +8,8 @@ use Rattle.gm_registry.specs.Reads.{IsOurSchema}
 use Rattle.gm_registry.specs.Opening.{IsOfSchema1}
 use Rattle.gm_registry.proofs.ReadsInTurn.{tables_stay, tables_refused, nothing_new}
 use Rattle.gm_registry.proofs.OpenedConnection.{blank, has_tables, not_empty, not_full, shows_some, registry_seen, registry_there, foreign_shown, not_foreign_empty}
+use Rattle.gm_rows.proofs.RowsSayRecords.{passed_on}
+use Rattle.gm_registry.proofs.Texts.{ours_known}
 use Rattle.gm_registry.proofs.open_store.prepare.Goals as goal
 
 pub returns-in_err-create_all-clause-left_found : goal.returns-in_err-create_all-clause-left_found
@@ -200,3 +202,35 @@ returns-then-is_empty-clause-refuses g c clean is_open foreign =
     is_open (c.is_autocommit-settled.ensures.settled
     (c.is_autocommit-settled.ensures.value ∙ ap not c.requires) is_open) c.schema.ensures.live
     foreign c.schema.ensures.value c.is_empty.ensures c.if-is_empty.true
+
+pub returns-in_err-create_all-clause-store : goal.returns-in_err-create_all-clause-store
+returns-in_err-create_all-clause-store g c clean =
+    let old = state g.S.Store c.args.conn.now in
+    passed_on c.from_residual.result _ _ (λ e _ is is_open some.
+    let settled =
+    (c.is_autocommit-settled.ensures.settled (c.is_autocommit-settled.ensures.value
+    ∙ ap not c.requires) is_open) in
+    elim some [
+      | inl sound ↦ absurd (shows_some old c.schema.result.now c.is_empty.result
+          (registry_seen old is_open settled c.schema.ensures.live sound) c.schema.ensures.value
+          c.is_empty.ensures c.if-is_empty.true)
+      | inr foreign ↦ absurd (not_foreign_empty old c.schema.result.now c.is_empty.result is_open
+          settled c.schema.ensures.live foreign c.schema.ensures.value c.is_empty.ensures
+          c.if-is_empty.true)
+    ]) c.from_residual.ensures.1
+
+pub returns-clause-store : goal.returns-clause-store
+returns-clause-store g c clean =
+    let old = state g.S.Store c.args.conn.now in
+    if_err c.check_registry.result _ _ (λ e failed is is_open some.
+    let settled =
+    (c.is_autocommit-settled.ensures.settled (c.is_autocommit-settled.ensures.value
+    ∙ ap not c.requires) is_open) in
+    elim some [
+      | inl sound ↦
+          let ours = registry_seen old is_open settled c.schema.ensures.live sound in
+          failed is (ours_known _ ours) (λ _. ours) is_open
+      | inr foreign ↦ failed is (foreign_shown old is_open settled c.schema.ensures.live foreign)
+          (λ lists. absurd (foreign.other (subst (λ (d : Database). ListsOurs d.trees) settled
+          lists))) is_open
+    ]) (c.check_registry.ensures.store clean)

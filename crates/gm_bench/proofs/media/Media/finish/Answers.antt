@@ -1,4 +1,7 @@
-use Rattle.std.proofs.Common.{sym, subst}
+use Rattle.std.proofs.Common.{Err, sym, ap, subst}
+use Rattle.sqlite.specs.Held.{Held}
+use Rattle.gm_registry.specs.Registry.{HasTables, StoreFailed}
+use Rattle.gm_bench.proofs.Causes.{fault_is}
 use Rattle.gm_bench.specs.Leading.{AllLead}
 use Rattle.gm_bench.proofs.RegistryLeaves.{then_only}
 use Rattle.gm_bench.proofs.media.Media.finish.Goals as goal
@@ -20,3 +23,15 @@ returns-clause-moments g c h away u w at cover =
     (g.H.Shelf.size c.args.self.now.shelf) away
     ((g.H.Shelf.view x).left_since (g.H.Shelf.view c.args.self.now.shelf).moment) u w)
     (sym c.settle.ensures.shelf) (c.apply.ensures.moments h away u w at cover)
+
+pub returns-clause-store : goal.returns-clause-store
+returns-clause-store g c clean is t has =
+    subst (λ (r : Held g.row.S.Denot). StoreFailed g.S.Store r c.settle.new.self.registry)
+    c.apply.ensures.registry (c.settle.ensures.store clean is t
+    (subst (λ (r : Held g.row.S.Denot). HasTables g.S.Store r t) (sym c.apply.ensures.registry)
+    has))
+
+pub returns-in_err-apply-clause-store : goal.returns-in_err-apply-clause-store
+returns-in_err-apply-clause-store g c clean is =
+    absurd (c.in_err-apply.ensures.not_store
+    (ap Err (fault_is c.from_residual.result _ _ c.from_residual.ensures.1 is)))

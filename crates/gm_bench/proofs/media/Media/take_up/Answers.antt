@@ -1,6 +1,9 @@
 use Rattle.std.proofs.Common.{◌<◌, Err, rules, ◌≡◌, ◌∙◌, length, sym, ap, subst, arith, List}
 use Rattle.gm_registry.specs.Registry.{DiskKept}
+use Rattle.sqlite.specs.Held.{state}
 use Rattle.gm_registry.proofs.CallsLeave.{saved}
+use Rattle.gm_registry.proofs.Failures.{failed_since}
+use Rattle.gm_registry.proofs.ReadsInTurn.{sees_registry}
 use Rattle.gm_bench.specs.Recovering.{LeavesOnly}
 use Rattle.gm_bench.proofs.Causes.{fault_is}
 use Rattle.gm_bench.proofs.RegistryLeaves.{read_only}
@@ -185,3 +188,21 @@ returns-in_err-state-clause-tells g c =
           c.in_err-state.ensures.unreadable clean (ap Err fault));
       closed = search rules;
     }
+
+pub returns-in_err-state-clause-store : goal.returns-in_err-state-clause-store
+returns-in_err-state-clause-store g c clean is t has =
+    c.in_err-state.ensures.store clean (ap Err (fault_is c.from_residual.result _ _
+    c.from_residual.ensures.1 is)) (sees_registry (state g.S.Store c.args.self.now.registry) t has)
+
+pub returns-in_err-check_and_finish-clause-store :
+    goal.returns-in_err-check_and_finish-clause-store
+returns-in_err-check_and_finish-clause-store g c clean is t has =
+    let mid : DiskKept g.S.Store c.load.new.self.registry =
+    omega (arith, clean, c.check_and_finish.ensures.keep.clean) in
+    failed_since (state g.S.Store c.args.self.now.registry)
+    (state g.S.Store c.load.new.self.registry)
+    (state g.S.Store c.check_and_finish.new.self.registry) _ (c.load.ensures.reads.left t has)
+    (c.in_err-check_and_finish.ensures.store clean
+    (ap Err (fault_is c.from_residual-in_err-check_and_finish.result _ _
+    c.from_residual-in_err-check_and_finish.ensures.1 is)) t
+    (c.in_ok-state.ensures.loaded mid t has).1)
