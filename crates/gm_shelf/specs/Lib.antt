@@ -2,7 +2,8 @@ pub mod Cache
 pub mod Disk
 pub mod FaultShelves
 pub mod Faults
-pub mod FileShelves
+pub mod FileFaults
+mod FileShelves
 pub mod Folder
 pub mod History
 pub mod LastSector

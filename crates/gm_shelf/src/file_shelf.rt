@@ -1,12 +1,12 @@
 //! A folder of image files.
 
-ghost use Rattle.std.specs.Prelude.{◌≡◌, ◌≢◌, ◌≤◌, ◌<◌, ◌+◌, ◌/◌, ◌*◌, ◌↔◌, Some, None, IsOk, IfOk, IfErr, IsErrOf};
-ghost use Rattle.std.specs.IoError.{error_kind};
-ghost use Rattle.std.specs.declared.io.ErrorKind.TheVariants.{OutOfMemory};
+ghost use Rattle.std.specs.Prelude.{◌≡◌, ◌≤◌, ◌<◌, ◌+◌, ◌/◌, ◌*◌, ◌↔◌, Some, None, IsOk, IfOk, IfErr, IsErrOf, IsSomeAnd};
 ghost use Rattle.gm_shelf.specs.Disk.{View, faults_after};
+ghost use Rattle.gm_shelf.specs.FileFaults.{WantsMemory};
 ghost use Rattle.gm_shelf.specs.Faults.{fault_after};
 ghost use Rattle.gm_shelf.specs.Folder.{unknown, sectors_of};
 
+use crate::failure::{FileFault, ImageFailure, cause_of};
 use crate::fault::{ShelfFault, check_run, device_failed};
 use crate::file_id::FileId;
 use crate::folder_images::{ImageFile, Images, images_in, images_named, leave_out};
@@ -16,7 +16,7 @@ use crate::shelf::Shelf;
 use gm_metadata::Label;
 use std::alloc::AllocError;
 use std::fs::File;
-use std::io::{self, ErrorKind};
+use std::io;
 use std::rt::Files;
 
 /// The images of a folder, each file's bytes 512 to a sector. Nothing is claimed of what a file
@@ -27,10 +27,11 @@ pub struct FileShelf<R: Files<File = File> + AllocGlobal + Clone + Drop> {
     // as they were when the folder was opened
     images: Images,
     failures: u64,
+    last_failure: Option<ImageFailure>,
 }
 
 impl<R: Files<File = File> + AllocGlobal + Clone + Drop> FileShelf<R> {
-    ghost use Rattle.gm_shelf.specs.FileShelves.{failures_of, folder_of, images_of};
+    ghost use Rattle.gm_shelf.specs.FileShelves.{failures_of, folder_of, images_of, last_failure_of};
     ghost use Rattle.gm_shelf.specs.Folder.{images_but};
 
     /// Opens a folder: its regular files whose names are labels and whose lengths are multiples of
@@ -43,7 +44,16 @@ impl<R: Files<File = File> + AllocGlobal + Clone + Drop> FileShelf<R> {
             files: OpenFiles::new(rt, folder, Access::Writing)?,
             images: images_in(rt, folder)?,
             failures: 0,
+            last_failure: None,
         })
+    }
+
+    /// Which image failed last, and why; None where none has failed. It stands beside the faults,
+    /// for whoever is to be told more than their number.
+    pub fn last_failure(&self) -> Option<ImageFailure>
+        ensures { result ≡ last_failure_of self.now }
+    {
+        self.last_failure
     }
 
     /// Leaves out files that are no images, whatever their names are.
@@ -65,6 +75,7 @@ impl<R: Files<File = File> + AllocGlobal + Clone + Drop> FileShelf<R> {
             files: OpenFiles::new(rt, folder, Access::Reading)?,
             images: images_named(rt, folder, names)?,
             failures: 0,
+            last_failure: None,
         })
     }
 }
@@ -103,22 +114,33 @@ fn run_in(length: u64, first: u64, sectors: u64) -> Result<u64, ShelfFault>
     Ok(first * 512)
 }
 
-// How a call is answered where its file did this.
-fn outcome(done: io::Result<()>, failures: &mut u64) -> Result<(), ShelfFault>
+// How a call is answered where the file of an image did this.
+fn outcome(
+    done: Result<(), FileFault>,
+    image: Label,
+    failures: &mut u64,
+    last: &mut Option<ImageFailure>,
+) -> Result<(), ShelfFault>
     ensures ok { IsOk done ↔ IsOk result }
-    ensures memory { IfErr done (λ e. error_kind e ≡ OutOfMemory →
-        IsErrOf result ShelfFault.Memory) }
-    ensures device { IfErr done (λ e. error_kind e ≢ OutOfMemory →
-        IsErrOf result (fault_after failures.old)) }
+    ensures memory { IfErr done (λ e. WantsMemory e → IsErrOf result ShelfFault.Memory) }
+    ensures device { IfErr done (λ e. ¬ (WantsMemory e)
+        → IsErrOf result (fault_after failures.old)) }
     ensures counted { failures.new ≡ faults_after result failures.old }
+    ensures named { IsErrOf result ShelfFault.Device
+        → IsSomeAnd last.new (λ failure. failure.image ≡ image) }
+    ensures kept { IsOk done → last.new ≡ last.old }
     ensures not_absent { IsErrOf result ShelfFault.Absent → ⊥ }
     ensures not_range { IsErrOf result ShelfFault.Range → ⊥ }
 {
-    match done {
-        Ok(()) => Ok(()),
-        Err(e) if e.kind() == ErrorKind::OutOfMemory => Err(ShelfFault::Memory),
-        Err(_) => Err(device_failed(failures)),
-    }
+    let fault = match done {
+        Ok(()) => return Ok(()),
+        Err(fault) => fault,
+    };
+    let Some(cause) = cause_of(&fault) else {
+        return Err(ShelfFault::Memory);
+    };
+    *last = Some(ImageFailure { image, cause });
+    Err(device_failed(failures))
 }
 
 impl<R: Files<File = File> + AllocGlobal + Clone + Drop> Shelf for FileShelf<R> {
@@ -151,7 +173,7 @@ impl<R: Files<File = File> + AllocGlobal + Clone + Drop> Shelf for FileShelf<R> 
         let image = image_in(&self.images, provider)?;
         let at = offset_in(image.length, place)?;
         let done = self.files.with(provider, image, |file| file.read(out, at));
-        outcome(done, &mut self.failures)
+        outcome(done, provider, &mut self.failures, &mut self.last_failure)
     }
 
     fn write(&mut self, provider: Label, place: u64, sector: &[u8; 512]) -> Result<(), ShelfFault> {
@@ -160,7 +182,7 @@ impl<R: Files<File = File> + AllocGlobal + Clone + Drop> Shelf for FileShelf<R> 
         let done = self
             .files
             .with(provider, image, |file| file.write(sector, at));
-        outcome(done, &mut self.failures)
+        outcome(done, provider, &mut self.failures, &mut self.last_failure)
     }
 
     // One read of all the sectors.
@@ -178,7 +200,7 @@ impl<R: Files<File = File> + AllocGlobal + Clone + Drop> Shelf for FileShelf<R> 
         let done = self.files.with(provider, image, |file| {
             file.read(out.as_flattened_mut(), at)
         });
-        outcome(done, &mut self.failures)
+        outcome(done, provider, &mut self.failures, &mut self.last_failure)
     }
 
     // One write of all the sectors.
@@ -196,12 +218,12 @@ impl<R: Files<File = File> + AllocGlobal + Clone + Drop> Shelf for FileShelf<R> 
         let done = self.files.with(provider, image, |file| {
             file.write(sectors.as_flattened(), at)
         });
-        outcome(done, &mut self.failures)
+        outcome(done, provider, &mut self.failures, &mut self.last_failure)
     }
 
     fn sync(&mut self, provider: Label) -> Result<(), ShelfFault> {
         let image = image_in(&self.images, provider)?;
         let done = self.files.with(provider, image, |file| file.sync());
-        outcome(done, &mut self.failures)
+        outcome(done, provider, &mut self.failures, &mut self.last_failure)
     }
 }

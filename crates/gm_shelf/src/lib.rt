@@ -4,7 +4,7 @@
 //! Begin with `shelf.rt`, the trait `Shelf` and its law; `fault.rt` has the four faults and when
 //! each comes. `last_sector.rt` writes a last sector so that it is old or new at every moment.
 //! Three shelves keep to the law: `file_shelf.rt` is a folder of image files, of whose contents
-//! nothing is claimed (`folder_images.rt` lists them, `open_files.rt` opens them,
+//! nothing is claimed (`failure.rt` says why one fails, `folder_images.rt` lists them, `open_files.rt` opens them,
 //! `whole_transfers.rt` reads and writes them within `size_limit.rt`, and `file_id.rt` tells which
 //! file a file is); `mem_shelf.rt` is a disk in memory, of which `crash_image.rt` makes the images
 //! that a crash may leave; and `fault_shelf.rt` makes the calls of another shelf fail, in the order
@@ -13,6 +13,7 @@
 
 mod contents;
 mod crash_image;
+mod failure;
 mod fault;
 mod fault_shelf;
 mod file_id;
@@ -28,6 +29,7 @@ mod size_limit;
 mod turns;
 mod whole_transfers;
 
+pub use failure::{Cause, ImageFailure};
 pub use fault::ShelfFault;
 pub use fault_shelf::FaultShelf;
 pub use file_id::FileId;

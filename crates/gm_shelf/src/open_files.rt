@@ -3,6 +3,7 @@
 ghost use Rattle.std.specs.Prelude.{◌≡◌, ◌↔◌, IfOk, IsTrue};
 ghost use Rattle.std.specs.String.{string_bytes};
 
+use crate::failure::FileFault;
 use crate::file_id::FileId;
 use crate::folder_images::ImageFile;
 use crate::size_limit::check_size;
@@ -10,7 +11,7 @@ use crate::whole_transfers::{read_whole, sync_whole, write_whole};
 use gm_metadata::Label;
 use std::collections::BTreeMap;
 use std::fs::{self, File, Metadata, OpenOptions};
-use std::io::{self, ErrorKind};
+use std::io;
 use std::rt::Files;
 
 /// How many files of its folder a `FileShelf` keeps open at once. With what else a program holds
@@ -67,9 +68,9 @@ pub(crate) struct OpenFiles<R: Files<File = File> + AllocGlobal + Clone + Drop> 
 
 // A file that has another one in its place is gone, and one whose length changed is no image any
 // more: its last sector is another one.
-fn check_image(found: &Metadata, image: ImageFile) -> io::Result<()> {
+fn check_image(found: &Metadata, image: ImageFile) -> Result<(), FileFault> {
     if !found.is_file() || FileId::of(found) != image.file || found.len() != image.length {
-        return Err(io::Error::from(ErrorKind::NotFound));
+        return Err(FileFault::Replaced);
     }
     Ok(())
 }
@@ -93,14 +94,14 @@ impl<R: Files<File = File> + AllocGlobal + Clone + Drop> OpenFiles<R> {
     }
 
     // Looks at what stands under the name of an image, without following a link.
-    fn look(&self, name: Label, image: ImageFile) -> io::Result<()> {
+    fn look(&self, name: Label, image: ImageFile) -> Result<(), FileFault> {
         let path = self.path_of(name)?;
         check_image(&fs::symlink_metadata(&self.rt, path.as_str())?, image)
     }
 
     // Opens what was looked at. It is looked at again once it is open, since it may have changed
     // its place meanwhile, and so is its name, which may be that of a link by now.
-    fn open(&self, name: Label, image: ImageFile) -> io::Result<OpenFile> {
+    fn open(&self, name: Label, image: ImageFile) -> Result<OpenFile, FileFault> {
         let path = self.path_of(name)?;
         let file = OpenOptions::new()
             .read(true)
@@ -146,16 +147,16 @@ impl<R: Files<File = File> + AllocGlobal + Clone + Drop> OpenFiles<R> {
         name: Label,
         image: ImageFile,
         act: F,
-    ) -> io::Result<()>
+    ) -> Result<(), FileFault>
         requires { F.IsAlwaysCallable act }
         ensures { self.new.folder ≡ self.old.folder }
     {
         self.look(name, image)?;
         if let Some(file) = self.opened.get_mut(&name) {
-            return act(file);
+            return Ok(act(file)?);
         }
         let file = self.open(name, image)?;
         self.make_room()?;
-        act(self.opened.entry(name)?.or_insert(file))
+        Ok(act(self.opened.entry(name)?.or_insert(file))?)
     }
 }
