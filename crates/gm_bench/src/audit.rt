@@ -55,9 +55,11 @@ fn is_as_registered<H: Shelf>(
     Ok(same(&last, &encode(&metadata)))
 }
 
-/// The names of the components that the shelf shows otherwise than they are registered, in byte
-/// order.
-pub(crate) fn amiss_on<H: Shelf>(
+/// The names of the components of a state that the shelf shows otherwise than they are registered,
+/// in byte order: a provider that isn't there or has another size, or a last sector that isn't byte
+/// for byte the component's metadata. It needs no bench, and writes nothing. `Disk` where a last
+/// sector can't be read, or `Memory`.
+pub fn audit_shelf<H: Shelf>(
     alloc: Global,
     shelf: &mut H,
     state: &State,
@@ -98,6 +100,6 @@ impl<S: Alter, H: Shelf> Media<S, H> {
         ensures asks { Asks S.Store H.Shelf self.old self.new result }
     {
         let (state, _) = self.load(alloc)?;
-        amiss_on(alloc, &mut self.shelf, &state)
+        audit_shelf(alloc, &mut self.shelf, &state)
     }
 }

@@ -41,6 +41,7 @@ mod views;
 mod without;
 
 pub use answer::Answer;
+pub use audit::audit_shelf;
 pub use bare_shelf::taste_shelf;
 pub use bench::{Bench, OpenFault};
 pub use fault::BenchFault;

@@ -5,7 +5,8 @@ pub(crate) const MORE: &str =
     "All but dump and taste take --registry FILE --shelf DIR: the registry, which is made where there is
 none, and the folder with the images. Each first carries out what a run that stopped left pending;
 recover can go on without an image that is gone for good. dump and taste look at images alone, and
-write nothing. Where --registry or --shelf is left out, the environment's GMBENCH_REGISTRY or
+write nothing; nor does pending, nor status, list and audit with --read-only: they show the registry
+as it stands. Where --registry or --shelf is left out, the environment's GMBENCH_REGISTRY or
 GMBENCH_SHELF stands for it.
 
 Where standard error is a terminal, a sentence there says behind a refusal or a fault what it means.
@@ -23,6 +24,24 @@ Example:
   gmbench do k2 insert --did 2 gm0 b.img
   gmbench sync
   gmbench status";
+
+/// What the help of `pending` says below its options.
+pub(crate) const WRITES: &str =
+    "It prints a line for each write that the next command with this registry carries out first:
+  copy N sectors of PROV to PROV from K
+  metadata of PROV
+  clear PROV
+and with --shelf, behind a colon, how the last sector of each of these images stands to that:
+  as registered  the write is done there already
+  zero           the same, of an image that is to be cleared
+  member         it carries other metadata of the mirror
+  no metadata    it carries none
+  another        it carries the metadata of another mirror
+  absent         the image isn't there in its size
+Nothing is written, and nothing is made.
+
+Example:
+  gmbench pending --registry registry --shelf images";
 
 /// What the help of `recover` says below its options.
 pub(crate) const LOSSES: &str =

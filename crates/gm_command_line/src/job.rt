@@ -81,6 +81,17 @@ pub enum Work<'a> {
     Serve(Service),
 }
 
+/// What is looked at as it stands: nothing pending is carried out, and nothing is written.
+#[derive(Clone, Copy)]
+pub enum Look {
+    /// How the mirrors stand, by the registry.
+    Status(Form),
+    /// All that the registry has of the mirrors.
+    List(Form),
+    /// The components that the images don't show as they are registered.
+    Audit(Form),
+}
+
 /// What the program is asked to do.
 #[derive(Clone, Copy)]
 pub enum Job<'a> {
@@ -96,6 +107,18 @@ pub enum Job<'a> {
     Taste {
         folder: &'a str,
         form: Form,
+    },
+    /// Print what the next opening of a registry would carry out; with a folder, also how its
+    /// images stand to that.
+    Pending {
+        registry: &'a str,
+        folder: Option<&'a str>,
+    },
+    /// Look at a registry and a folder, and open no bench.
+    LookAt {
+        look: Look,
+        registry: &'a str,
+        folder: &'a str,
     },
     /// Do work at the bench of a registry and a folder.
     AtBench {

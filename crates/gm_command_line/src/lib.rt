@@ -10,6 +10,6 @@ mod reading;
 mod settings;
 mod table;
 
-pub use job::{Comparing, Filling, Form, Job, Scope, Service, Work};
+pub use job::{Comparing, Filling, Form, Job, Look, Scope, Service, Work};
 pub use reading::job_of;
 pub use settings::{REGISTRY, SHELF, Setting, Settings};

@@ -1,6 +1,6 @@
 //! What the program's own words ask for.
 
-use crate::job::{Comparing, Filling, Form, Job, Scope, Service, Work};
+use crate::job::{Comparing, Filling, Form, Job, Look, Scope, Service, Work};
 use crate::settings::{REGISTRY, SHELF, Setting, Settings};
 use crate::table::{DUMP, RECOVER, SCRUB, SYNC, Subcommand, program, program_command};
 use clap::error::ErrorKind;
@@ -137,6 +137,36 @@ fn dump_of<'a>(
     })
 }
 
+// What `pending` is to print. The folder may be left out.
+fn pending_of<'a>(
+    alloc: Global,
+    given: &ArgMatches<'a>,
+    settings: Settings<'a>,
+) -> Result<Job<'a>, Error> {
+    let folder = match (given.get_str("shelf"), settings.shelf) {
+        (None, Setting::Unset) => None,
+        _ => Some(folder_of(alloc, given, settings)?),
+    };
+    Ok(Job::Pending {
+        registry: registry_of(alloc, given, settings)?,
+        folder,
+    })
+}
+
+// What a subcommand looks at where it is to write nothing; none where it may, or must.
+fn look_of(name: &str, given: &ArgMatches<'_>) -> Option<Look> {
+    let look = match name {
+        "status" => Look::Status(form_of(given)),
+        "list" => Look::List(form_of(given)),
+        "audit" => Look::Audit(form_of(given)),
+        _ => return None,
+    };
+    if !given.get_flag("read-only") {
+        return None;
+    }
+    Some(look)
+}
+
 // How `serve` is to be done. clap has seen to it that the numbers are there and in range.
 fn service_of(given: &ArgMatches<'_>) -> Service {
     Service {
@@ -247,6 +277,23 @@ fn work_of<'a>(
     })
 }
 
+// The job of a subcommand that is for no bench.
+fn without_bench<'a>(
+    alloc: Global,
+    name: &str,
+    given: &ArgMatches<'a>,
+    settings: Settings<'a>,
+) -> Result<Job<'a>, Error> {
+    match name {
+        "pending" => pending_of(alloc, given, settings),
+        "taste" => Ok(Job::Taste {
+            folder: folder_of(alloc, given, settings)?,
+            form: form_of(given),
+        }),
+        _ => dump_of(alloc, given, settings),
+    }
+}
+
 // The job that these matches of the program's words ask for.
 fn job_by<'a>(
     alloc: Global,
@@ -257,17 +304,20 @@ fn job_by<'a>(
     let Some((name, given)) = matches.subcommand() else {
         return Ok(Job::Introduce);
     };
+    if let Some(look) = look_of(name, given) {
+        return Ok(Job::LookAt {
+            look,
+            registry: registry_of(alloc, given, settings)?,
+            folder: folder_of(alloc, given, settings)?,
+        });
+    }
     match work_of(alloc, name, given, words, settings)? {
         Some(work) => Ok(Job::AtBench {
             work,
             registry: registry_of(alloc, given, settings)?,
             folder: folder_of(alloc, given, settings)?,
         }),
-        None if name == "taste" => Ok(Job::Taste {
-            folder: folder_of(alloc, given, settings)?,
-            form: form_of(given),
-        }),
-        None => dump_of(alloc, given, settings),
+        None => without_bench(alloc, name, given, settings),
     }
 }
 

@@ -1,6 +1,6 @@
 //! The table of the program's own words, for `clap`.
 
-use crate::help::{COMPARING, FILLING, LINES, LOSSES, MORE, REQUESTS, WORDS};
+use crate::help::{COMPARING, FILLING, LINES, LOSSES, MORE, REQUESTS, WORDS, WRITES};
 use crate::settings::Settings;
 use clap::builder::ValueParser;
 use clap::{Arg, ArgAction, Command};
@@ -24,6 +24,18 @@ fn shelf_option<'a>(alloc: Global, settings: Settings<'a>) -> Arg<'a> {
 fn registry_option<'a>(alloc: Global, settings: Settings<'a>) -> Arg<'a> {
     let help = "The registry, which is made where there is none";
     with_value(alloc, "registry", "FILE", help).required(settings.registry.is_unset())
+}
+
+// The folder, where it may be left out.
+fn shelf_if_any<'a>(alloc: Global) -> Arg<'a> {
+    let help = "The folder with the images, to say how they stand to what is pending";
+    with_value(alloc, "shelf", "DIR", help)
+}
+
+// The registry, where none is made.
+fn registry_there<'a>(alloc: Global, settings: Settings<'a>) -> Arg<'a> {
+    let registry = with_value(alloc, "registry", "FILE", "The registry");
+    registry.required(settings.registry.is_unset())
 }
 
 fn provider_name<'a>(alloc: Global) -> Arg<'a> {
@@ -84,6 +96,11 @@ fn json_option<'a>(alloc: Global) -> Arg<'a> {
     flag(alloc, "json", "Prints JSON")
 }
 
+fn read_only_option<'a>(alloc: Global) -> Arg<'a> {
+    let help = "Carries out nothing that is pending, and writes nothing at all";
+    flag(alloc, "read-only", help)
+}
+
 fn unchecked_option<'a>(alloc: Global) -> Arg<'a> {
     let help = "Fills them also where images aren't as they are registered";
     flag(alloc, "unchecked", help)
@@ -135,6 +152,7 @@ fn command_words<'a>(alloc: Global) -> Arg<'a> {
 enum Takes {
     Image,
     Folder,
+    Registry,
     Bench,
     BenchAndLoss,
     BenchAndLines,
@@ -158,6 +176,12 @@ pub(crate) const DUMP: Subcommand = Subcommand {
     takes: Takes::Image,
 };
 
+const PENDING: Subcommand = Subcommand {
+    name: "pending",
+    about: "Prints what a run that stopped left pending, and carries out nothing",
+    takes: Takes::Registry,
+};
+
 pub(crate) const RECOVER: Subcommand = Subcommand {
     name: "recover",
     about: "Carries out what a run that stopped left pending",
@@ -176,13 +200,14 @@ pub(crate) const SCRUB: Subcommand = Subcommand {
     takes: Takes::BenchAndMirror,
 };
 
-const SUBCOMMANDS: [Subcommand; 11] = [
+const SUBCOMMANDS: [Subcommand; 12] = [
     DUMP,
     Subcommand {
         name: "taste",
         about: "Prints which mirrors the images of a folder tell of by themselves",
         takes: Takes::Folder,
     },
+    PENDING,
     RECOVER,
     Subcommand {
         name: "status",
@@ -229,6 +254,26 @@ fn with_image<'a>(
         .arg(provider_name(alloc))
 }
 
+fn with_folder<'a>(
+    alloc: Global,
+    command: Command<'a>,
+    settings: Settings<'a>,
+) -> Result<Command<'a>, AllocError> {
+    command
+        .arg(shelf_option(alloc, settings))?
+        .arg(json_option(alloc))
+}
+
+fn with_registry<'a>(
+    alloc: Global,
+    command: Command<'a>,
+    settings: Settings<'a>,
+) -> Result<Command<'a>, AllocError> {
+    command
+        .arg(registry_there(alloc, settings))?
+        .arg(shelf_if_any(alloc))
+}
+
 fn with_bench<'a>(
     alloc: Global,
     command: Command<'a>,
@@ -237,6 +282,12 @@ fn with_bench<'a>(
     command
         .arg(registry_option(alloc, settings))?
         .arg(shelf_option(alloc, settings))
+}
+
+fn with_look<'a>(alloc: Global, command: Command<'a>) -> Result<Command<'a>, AllocError> {
+    command
+        .arg(json_option(alloc))?
+        .arg(read_only_option(alloc))
 }
 
 fn with_loss<'a>(alloc: Global, command: Command<'a>) -> Result<Command<'a>, AllocError> {
@@ -279,6 +330,7 @@ impl Subcommand {
     fn more(self) -> Option<&'static str> {
         match self.takes {
             Takes::Image | Takes::Folder | Takes::Bench => None,
+            Takes::Registry => Some(WRITES),
             Takes::BenchAndLoss => Some(LOSSES),
             Takes::BenchAndLines => Some(LINES),
             Takes::BenchAndCommand => Some(WORDS),
@@ -305,17 +357,14 @@ impl Subcommand {
         let command = self.bare(alloc);
         match self.takes {
             Takes::Image => return with_image(alloc, command, settings),
-            Takes::Folder => {
-                return command
-                    .arg(shelf_option(alloc, settings))?
-                    .arg(json_option(alloc));
-            }
+            Takes::Folder => return with_folder(alloc, command, settings),
+            Takes::Registry => return with_registry(alloc, command, settings),
             _ => {}
         }
         let command = with_bench(alloc, command, settings)?;
         match self.takes {
-            Takes::Image | Takes::Folder => Ok(command),
-            Takes::Bench => command.arg(json_option(alloc)),
+            Takes::Image | Takes::Folder | Takes::Registry => Ok(command),
+            Takes::Bench => with_look(alloc, command),
             Takes::BenchAndLoss => with_loss(alloc, command),
             Takes::BenchAndLines => with_lines(alloc, command),
             Takes::BenchAndCommand => with_command(alloc, command),

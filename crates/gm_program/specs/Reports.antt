@@ -13,6 +13,8 @@ use Rattle.gm_program.specs.declared.exit.Status.{Status}
 use Rattle.gm_program.specs.declared.exit.Status.TheVariants.{Done, Refused}
 use Rattle.gm_command_line.specs.declared.job.Form.{Form}
 use Rattle.gm_command_line.specs.declared.job.Form.TheVariants.{Text, Json}
+use Rattle.gm_command_line.specs.declared.job.Look.{Look}
+use Rattle.gm_command_line.specs.declared.job.Look.TheVariants as look
 use Rattle.gm_command_line.specs.declared.job.Work.{Work}
 use Rattle.gm_command_line.specs.declared.job.Work.TheVariants as work
 use Rattle.gm_program.specs.declared.bench_command.Report.{Report}
@@ -84,3 +86,9 @@ MayEnd (work.Do key words) status = MayRefuse status
 MayEnd (work.Batch audits explains) status = MayRefuse status
 MayEnd (work.Sync filling) status = MayRefuse status
 MayEnd (work.Serve service) status = MayServe service.audits status
+
+-- what is looked at without an opening is shown; an audit may find damage
+abbrev pub MayShow : Look → Status → Type 0
+MayShow (look.Status form) status = status ≡ Done
+MayShow (look.List form) status = status ≡ Done
+MayShow (look.Audit form) status = MayRefuse status

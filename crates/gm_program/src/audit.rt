@@ -1,9 +1,15 @@
 //! The command `audit`, which lists the components that images no longer show as they are
 //! registered; also before commands are carried out.
 
-ghost use Rattle.std.specs.Prelude.{◌≡◌, false, IfOk, IfSome, OnOk, Ok, None};
+ghost use Rattle.std.specs.Prelude.{◌≡◌, true, false, List, [], IfOk, IfSome, OnOk, Ok, None};
 ghost use Rattle.std.specs.String.{string_bytes};
-ghost use Rattle.gm_bench.specs.Benches.{progress_of};
+ghost use Rattle.gm_state.specs.declared.intents.Intent.{Intent};
+ghost use Rattle.gm_state.specs.Records.{Records};
+ghost use Rattle.gm_state.specs.Rows.{Tables};
+ghost use Rattle.gm_rows.specs.ReadableTables.{AreTablesOf};
+ghost use Rattle.gm_registry.specs.Registry.{DiskKept, HasTables};
+ghost use Rattle.gm_bench.specs.Audits.{IsAudit};
+ghost use Rattle.gm_bench.specs.Benches.{progress_of, registry_of, shelf_of};
 ghost use Rattle.gm_bench.specs.Phases.{TakesCommands};
 ghost use Rattle.gm_json.specs.Audits.{audit_json};
 ghost use Rattle.gm_program.specs.Reports.{IsAudited, in_form, names_text};
@@ -58,6 +64,12 @@ pub fn damage<S: Alter, H: Shelf>(
     requires { TakesCommands (progress_of bench.old) }
     ensures found { IfOk result (λ found. IfSome found (λ report. report.status ≡ Refused)) }
     ensures unasked { audits ≡ false → result ≡ Ok None }
+    // Where an audit is asked for and nothing is told, no image is amiss.
+    ensures clean { audits ≡ true → H.honest (shelf_of bench.old)
+        → DiskKept S.Store (registry_of bench.new) → result ≡ Ok None
+        → (t : Tables) (s : Records) (ts : List Intent)
+        → HasTables S.Store (registry_of bench.old) t → AreTablesOf t s ts
+        → IsAudit s (H.size (shelf_of bench.old)) (H.view (shelf_of bench.old)).seen [] }
     ensures phase { OnOk result (TakesCommands (progress_of bench.new)) }
 {
     if !audits {

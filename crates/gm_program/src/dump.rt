@@ -48,7 +48,9 @@ pub(crate) fn dump<I, O: Write, E: Write>(
 ) -> Result<Status, Fault> {
     let alloc = rt.alloc();
     let mut shelf = FileShelf::look_at(rt, folder, &[provider])?;
-    match last_sector(&mut shelf, provider)? {
+    let found = last_sector(&mut shelf, provider);
+    streams.explaining.failure = shelf.last_failure();
+    match found? {
         Ok(sector) => {
             let text = match form {
                 Form::Text => dump_text(alloc, &sector)?,

@@ -7,8 +7,10 @@ use gm_commands::Command;
 use gm_front::{Listener, Outcome, pieces};
 use gm_metadata::Label;
 use gm_refusals::{CallRefusal, Refusal};
-use gm_sentences::{About, Image, call_sentence, fault_sentence, images_in_a_row, loss_sentence};
-use gm_shelf::{FileShelf, Shelf};
+use gm_sentences::{
+    About, Image, call_sentence, cause_sentence, fault_sentence, images_in_a_row, loss_sentence,
+};
+use gm_shelf::{FileShelf, ImageFailure, Shelf};
 use gm_words::{read_words, words_complaint};
 use std::alloc::{AllocError, Global};
 use std::io::Write;
@@ -183,11 +185,18 @@ pub(crate) fn explain_dump<I, O, E: Write>(
     }
 }
 
-// The sentence of a fault of the bench.
-fn fault_said(alloc: Global, fault: &BenchFault) -> Result<String, AllocError> {
+// The sentence of a fault of the bench, and of the image that failed, where one has.
+fn fault_said(
+    alloc: Global,
+    fault: &BenchFault,
+    failure: &Option<ImageFailure>,
+) -> Result<String, AllocError> {
     let sentence = fault_sentence(*fault);
-    match fault {
-        BenchFault::Absent(image) => About::image(*image).sentence(alloc, sentence),
+    match (fault, failure) {
+        (BenchFault::Absent(image), _) => About::image(*image).sentence(alloc, sentence),
+        (BenchFault::Disk, Some(failure)) => {
+            About::image(failure.image).sentence(alloc, cause_sentence(failure.cause))
+        }
         _ => String::from_str(alloc, sentence),
     }
 }
@@ -204,7 +213,7 @@ pub(crate) fn explain_fault<I, O, E: Write>(
     match fault {
         Fault::Bench(fault) => {
             let number = fault.number();
-            if let Ok(sentence) = fault_said(alloc, fault) {
+            if let Ok(sentence) = fault_said(alloc, fault, &streams.explaining.failure) {
                 let _ = writeln!(streams.complaints, "F{number}: {sentence}");
             }
         }

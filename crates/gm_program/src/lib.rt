@@ -7,7 +7,9 @@
 //! done in the folder and with the registry that `place.rt` opens and closes; `recover.rt`,
 //! `show.rt`, `audit.rt`, `scrub.rt`, `single.rt` (the command `do`), `batch.rt`, `filling.rt`
 //! (`sync`) and `serve.rt` have the commands, the last with `exchange.rt` for one connection and
-//! `log.rt` for its line. `taste.rt` and `dump.rt` have those that look at images without a
+//! `log.rt` for its line. `held_folder.rt` holds the folder and `registry_files.rt` knows the files
+//! of the registry. `looking.rt` has the commands that look at a registry without an opening, which
+//! `unopened.rt` reads into memory. `taste.rt` and `dump.rt` have those that look at images without a
 //! registry. `explain.rt` says in sentences why something is refused or failed, and `meter.rt` how
 //! far a long work is.
 #![tactic(auto)]
@@ -21,18 +23,22 @@ mod exchange;
 mod exit;
 mod explain;
 mod filling;
+mod held_folder;
 mod json_line;
 mod log;
+mod looking;
 mod meter;
 mod over_streams;
 mod place;
 mod recover;
+mod registry_files;
 mod scrub;
 mod serve;
 mod show;
 mod single;
 mod streams;
 mod taste;
+mod unopened;
 mod wanted;
 
 pub use exit::{Fault, Status};

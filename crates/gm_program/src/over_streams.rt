@@ -4,6 +4,7 @@ use crate::dump::dump;
 use crate::environment::Environment;
 use crate::exit::{Fault, Status};
 use crate::explain::explain_fault;
+use crate::looking::{look_at, show_pending, show_pending_at};
 use crate::place::{Place, work_at};
 use crate::streams::Streams;
 use crate::taste::taste_folder;
@@ -44,7 +45,20 @@ fn perform<I: Read, O: Write, E: Write>(
             provider,
             form,
         } => dump(rt, folder, provider, form, streams),
-        Job::Taste { folder, form } => taste_folder(rt, folder, form, streams.output),
+        Job::Taste { folder, form } => taste_folder(rt, folder, form, streams),
+        Job::Pending {
+            registry,
+            folder: None,
+        } => show_pending(rt, registry, streams),
+        Job::Pending {
+            registry,
+            folder: Some(folder),
+        } => show_pending_at(rt, Place { registry, folder }, streams),
+        Job::LookAt {
+            look,
+            registry,
+            folder,
+        } => look_at(rt, look, Place { registry, folder }, streams),
         Job::AtBench {
             ref work,
             registry,

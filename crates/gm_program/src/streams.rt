@@ -1,6 +1,7 @@
 //! The streams that the program is run over, and what is explained beside them.
 
 use crate::meter::Style;
+use gm_shelf::ImageFailure;
 use std::alloc::Global;
 
 /// What is explained on the complaints, beside the lines that the program's numbers are on.
@@ -14,6 +15,8 @@ pub struct Explaining {
     pub(crate) folder: String,
     /// Why the folder or a stream failed, where more is known of it.
     pub(crate) cause: Option<&'static str>,
+    /// Which image failed last, and why, where one has.
+    pub(crate) failure: Option<ImageFailure>,
 }
 
 impl Explaining {
@@ -24,6 +27,7 @@ impl Explaining {
             at_terminal,
             folder: String::new(alloc),
             cause: None,
+            failure: None,
         }
     }
 

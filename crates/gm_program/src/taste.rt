@@ -11,6 +11,7 @@ ghost use Rattle.gm_program.specs.Reports.{IsTasting, in_form};
 use crate::bench_command::Report;
 use crate::exit::{Fault, Status};
 use crate::json_line::as_line;
+use crate::streams::Streams;
 use gm_bench::taste_shelf;
 use gm_command_line::Form;
 use gm_json::tasting_json;
@@ -45,17 +46,18 @@ pub fn taste_report(alloc: Global, tasted: &Tasted, form: Form) -> Result<Report
 }
 
 /// Tastes the images of a folder, which are read alone, and prints what they tell.
-pub fn taste_folder<O: Write>(
+pub fn taste_folder<I, O: Write, E>(
     rt: &HostRuntime,
     folder: &str,
     form: Form,
-    output: &mut O,
+    streams: &mut Streams<'_, I, O, E>,
 ) -> Result<Status, Fault> {
     let alloc = rt.alloc();
     let names = FileShelf::open(rt, folder)?.names()?;
     let mut shelf = FileShelf::look_at(rt, folder, &names)?;
-    let tasted = taste_shelf(alloc, &mut shelf)?;
-    let report = taste_report(alloc, &tasted, form)?;
-    output.write_all(report.text.as_bytes())?;
+    let tasted = taste_shelf(alloc, &mut shelf);
+    streams.explaining.failure = shelf.last_failure();
+    let report = taste_report(alloc, &tasted?, form)?;
+    streams.output.write_all(report.text.as_bytes())?;
     Ok(report.status)
 }

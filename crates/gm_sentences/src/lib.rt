@@ -9,4 +9,4 @@ mod about;
 mod sentences;
 
 pub use about::{About, Image, images_in_a_row};
-pub use sentences::{call_sentence, fault_sentence, loss_sentence};
+pub use sentences::{call_sentence, cause_sentence, fault_sentence, loss_sentence};

@@ -2,6 +2,7 @@
 
 use gm_bench::{BenchFault, LossRefusal};
 use gm_refusals::{CallRefusal, Refusal};
+use gm_shelf::Cause;
 
 // Why the rules refuse a command.
 fn refusal_sentence(why: Refusal) -> &'static str {
@@ -50,6 +51,19 @@ pub fn loss_sentence(why: LossRefusal) -> &'static str {
         LossRefusal::ByCall(refusal) => call_sentence(refusal),
         LossRefusal::OnlySource => "a pending copy takes from IMAGE and can take from nothing else",
         LossRefusal::OnShelf => "IMAGE is on the shelf",
+    }
+}
+
+/// Why an image failed.
+pub fn cause_sentence(cause: Cause) -> &'static str {
+    match cause {
+        Cause::Replaced => "IMAGE was replaced since the folder was read",
+        Cause::Gone => "IMAGE went away since the folder was read",
+        Cause::Forbidden => "IMAGE may not be read or written by this user",
+        Cause::ReadOnly => "IMAGE is on a medium that can't be written",
+        Cause::Full => "IMAGE is on a medium that is full",
+        Cause::TooLong => "IMAGE is longer than the system lets this process write a file",
+        Cause::Device => "IMAGE can't be read or written",
     }
 }
 

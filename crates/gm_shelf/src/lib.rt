@@ -4,11 +4,11 @@
 //! Begin with `shelf.rt`, the trait `Shelf` and its law; `fault.rt` has the four faults and when
 //! each comes. `last_sector.rt` writes a last sector so that it is old or new at every moment.
 //! Three shelves keep to the law: `file_shelf.rt` is a folder of image files, of whose contents
-//! nothing is claimed (`failure.rt` says why one fails, `folder_images.rt` lists them, `open_files.rt` opens them,
-//! `whole_transfers.rt` reads and writes them within `size_limit.rt`, and `file_id.rt` tells which
-//! file a file is); `mem_shelf.rt` is a disk in memory, of which `crash_image.rt` makes the images
-//! that a crash may leave; and `fault_shelf.rt` makes the calls of another shelf fail, in the order
-//! that `turns.rt` tells.
+//! nothing is claimed (`folder_images.rt` lists them, `open_files.rt` opens them,
+//! `whole_transfers.rt` reads and writes them within `size_limit.rt`, `file_id.rt` tells which file
+//! a file is, and `failure.rt` why one fails); `mem_shelf.rt` is a disk in memory, of which
+//! `crash_image.rt` makes the images that a crash may leave; and `fault_shelf.rt` makes the calls of
+//! another shelf fail, in the order that `turns.rt` tells.
 #![tactic(auto)]
 
 mod contents;

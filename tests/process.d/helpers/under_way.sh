@@ -24,14 +24,17 @@ send() {
     ) 2>/dev/null
 }
 
-# Starts a batch at that bench, for at most 60 seconds, and hands it lines of which the first is answered.
+# Starts a batch at that bench, with further words behind its lines, for at most 60 seconds, and hands it these lines, of
+# which the first is answered.
 begin_batch() {
+    handed=$1
+    shift
     mkfifo "$bench/in"
-    timeout 60 "$gmbench" batch --registry "$registry" --shelf "$bench/images" \
+    timeout 60 "$gmbench" batch --registry "$registry" --shelf "$bench/images" "$@" \
         <"$bench/in" >"$bench/answers" 2>"$bench/complaints" &
     under_way=$!
     exec 3>"$bench/in"
-    send "$1"
+    send "$handed"
     wait_for "$bench/answers"
 }
 

@@ -1,4 +1,6 @@
-. "$helpers/bench.sh"
+. "$helpers/rights.sh"
+. "$helpers/under_way.sh"
+. "$helpers/python.sh"
 
 # ---- a batch that says why lines are refused
 
@@ -35,6 +37,68 @@ expect 'a line that is too long' 1 '? refused 1' '?: refused 1: the line has mor
 printf 'k2 destroy gm9\n' >"$work/lines"
 at_bench batch <"$work/lines"
 expect 'without the option nothing is said' 1 'k2 refused 5' ''
+
+# ---- which image failed, and why
+
+# Whether a fault at an image is told with the image and its cause, once that was done to b.img.
+expect_cause() {
+    title=$1
+    sentence=$2
+    shift 2
+    fresh_bench "$title"
+    begin_batch "$label$insert" --explain
+    "$@"
+    send 'k3 advance gm0 b.img\n'
+    end_batch
+    expect "an image that $title" 3 "$(lines 'k1 ok 1\nk2 ok 2\nk3 fault 3')" "a new registry was made at $registry
+gmbench: F3 disk
+F3: b.img $sentence"
+}
+replace() {
+    cp "$bench/images/b.img" "$work/other"
+    mv "$work/other" "$bench/images/b.img"
+}
+take_away() {
+    rm "$bench/images/b.img"
+}
+lengthen() {
+    head -c 512 /dev/zero >>"$bench/images/b.img"
+}
+expect_cause 'was-replaced' 'was replaced since the folder was read' replace
+expect_cause 'grew' 'was replaced since the folder was read' lengthen
+expect_cause 'went-away' 'went away since the folder was read' take_away
+fresh_bench limited
+truncate -s 4M "$bench/images/a.img" "$bench/images/b.img"
+batch "$label$insert"
+(
+    # Whatever a block is there, 512 bytes or 1,024.
+    ulimit -f 4000
+    at_bench do k3 advance gm0 b.img
+    expect 'an image that is longer than a file may be written' 3 'k3 fault 3' "gmbench: F3 disk
+F3: b.img is longer than the system lets this process write a file"
+    echo "$passed $failed" >"$work/counted"
+)
+[ -s "$work/counted" ] && read -r passed failed <"$work/counted"
+at_bench recover
+if has_another_user; then
+    fresh_bench forbidden
+    batch "$label$insert"
+    chmod -R a+rwX "$bench"
+    chmod 600 "$bench/images/b.img"
+    run_as_another do --registry "$registry" --shelf "$bench/images" k3 advance gm0 b.img
+    skip_without_program 'an image that may not be read' ||
+        expect 'an image that may not be read' 3 'k3 fault 3' "gmbench: F3 disk
+F3: b.img may not be read or written by this user"
+else
+    skip 'an image that may not be read' 'there is no other user here'
+fi
+
+# ---- each refusal, fault and cause has a sentence, and docs/USE.md has the same
+
+if has_python 'the sentences of the manual'; then
+    python3 "$top/docs/sentences" --check 2>"$work/complaints" && pass 'the sentences of the manual are those of the program' ||
+        fail 'the sentences of the manual' "$(cat "$work/complaints")"
+fi
 
 # ---- at a terminal everything is explained
 

@@ -26,7 +26,7 @@ returns-clause-audits g c h clean =
     (g.H.Shelf.view x).seen names.items) c.load.ensures.shelf shown in
     subst (λ (x : Records). IsAudit x (g.H.Shelf.size c.args.self.now.shelf)
     (g.H.Shelf.view c.args.self.now.shelf).seen names.items) same.0 audit))
-    c.amiss_on.result (c.amiss_on.ensures.audit h1)
+    c.audit_shelf.result (c.audit_shelf.ensures.audit h1)
 
 pub returns-clause-looks : goal.returns-clause-looks
 returns-clause-looks g c h clean =
@@ -35,14 +35,14 @@ returns-clause-looks g c h clean =
     let shelf = c.args.self.now.shelf in
     let h1 : g.H.Shelf.honest c.load.new.self.shelf =
     subst g.H.Shelf.honest (sym c.load.ensures.shelf) h in
-    let quiet : IsQuiet (view shelf) (view c.amiss_on.new.shelf) =
-    subst (λ (x : g.row.H.Denot). IsQuiet (view x) (view c.amiss_on.new.shelf))
-    c.load.ensures.shelf (c.amiss_on.ensures.looks.only.reads h1).quiet in
+    let quiet : IsQuiet (view shelf) (view c.audit_shelf.new.shelf) =
+    subst (λ (x : g.row.H.Denot). IsQuiet (view x) (view c.audit_shelf.new.shelf))
+    c.load.ensures.shelf (c.audit_shelf.ensures.looks.only.reads h1).quiet in
     ok_then _ _ (λ names shown. look_does g.S.Store view size c.args.self.now.registry
-    c.load.new.self.registry shelf c.amiss_on.new.shelf quiet
+    c.load.new.self.registry shelf c.audit_shelf.new.shelf quiet
     (λ t has. (c.in_ok-state.ensures.loaded clean t has).1)
-    (c.amiss_on.ensures.looks.only.keeps.size ∙ ap size c.load.ensures.shelf))
-    c.amiss_on.result (c.amiss_on.ensures.audit h1)
+    (c.audit_shelf.ensures.looks.only.keeps.size ∙ ap size c.load.ensures.shelf))
+    c.audit_shelf.result (c.audit_shelf.ensures.audit h1)
 
 pub returns-in_err-state-clause-store : goal.returns-in_err-state-clause-store
 returns-in_err-state-clause-store g c clean is =

@@ -3,7 +3,7 @@ use Rattle.gm_state.specs.declared.records.Component.{Component}
 use Rattle.gm_shelf.proofs.Keeping.{only_then}
 use Rattle.gm_bench.specs.Audits.{IsAsRegistered}
 use Rattle.gm_bench.proofs.Listed.{AuditedSoFar, all_audited, as_before, has_item, home_of, listed, passed}
-use Rattle.gm_bench.proofs.audit.amiss_on.Goals as goal
+use Rattle.gm_bench.proofs.audit.audit_shelf.Goals as goal
 
 pub loop-component-preserved-then-branch : goal.loop-component-preserved-then-branch
 loop-component-preserved-then-branch g c =

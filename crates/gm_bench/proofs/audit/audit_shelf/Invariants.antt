@@ -1,7 +1,7 @@
 use Rattle.std.proofs.Common.{take}
 use Rattle.gm_shelf.specs.Keeping.{ReadsOnly}
 use Rattle.gm_bench.proofs.Listed.{AuditedSoFar}
-use Rattle.gm_bench.proofs.audit.amiss_on.Given as goal
+use Rattle.gm_bench.proofs.audit.audit_shelf.Given as goal
 
 abbrev pub invariant-loop-component : goal.invariant-loop-component
 invariant-loop-component g l =

@@ -1,0 +1,5 @@
+pub mod ComponentFound
+pub mod CopyText
+pub mod SeenBefore
+pub mod StandingsFound
+pub mod ToldLines

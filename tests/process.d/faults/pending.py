@@ -1,0 +1,194 @@
+"""What is pending behind each command that was stopped, and what is looked at without an opening.
+
+    pending.py PROGRAM PRELOADED FOLDER
+
+Each command is stopped before each of its writes and syncs of an image. What `pending` prints then is held against a plain
+reading of the registry and of the images, and against what `recover` does; `status`, `list` and `audit` with --read-only
+against those without, once that is done. None of them changes a byte. Then one image after the other is blank or away.
+"""
+
+import os
+import shutil
+import subprocess
+import sys
+
+from each_command import COMMANDS, FILLED, NAMES
+from formats import decode
+from plain_bench import COPY, META, Records
+
+program, preloaded, work = sys.argv[1:4]
+bench = os.path.join(work, "bench")
+images, registry = os.path.join(bench, "images"), os.path.join(bench, "registry")
+scratch, count_file = os.path.join(work, "scratch"), os.path.join(work, "count")
+SECTORS = 4
+counts = {"stops": 0, "lines": 0, "images": 0}
+wrong = []
+
+
+def run(words, lines=b"", shelf=True, **more):
+    words = [program, words[0], "--registry", registry, *(["--shelf", images] if shelf else []), *words[1:]]
+    environment = {**os.environ, **more}
+    done = subprocess.run(words, input=lines, capture_output=True, timeout=30, env=environment)
+    return done.returncode, done.stdout.decode(), done.stderr.decode()
+
+
+def check(title, found, wanted):
+    if found != wanted:
+        wrong.append(f"{title}: {found!r}, and not {wanted!r}"[:600])
+
+
+def contents():
+    """Every byte of the bench: of the images, the registry, and whatever lies beside it."""
+    found = {}
+    for folder, _, names in os.walk(bench):
+        for name in names:
+            with open(os.path.join(folder, name), "rb") as file:
+                found[os.path.relpath(os.path.join(folder, name), bench)] = file.read()
+    return found
+
+
+def put_before(lines):
+    """A bench behind these lines; behind none, the images of FILLED without their registry."""
+    shutil.rmtree(bench, ignore_errors=True)
+    os.makedirs(images)
+    for name in NAMES:
+        with open(os.path.join(images, name), "wb") as file:
+            file.write(name[:1].encode() * (SECTORS - 1) * 512 + bytes(512))
+    text = "".join(f"k{number} {line}\n" for number, line in enumerate(lines or FILLED))
+    ended = run(["batch"], text.encode())
+    assert ended[0] == 0, ended
+    if lines is None:
+        for end in ("", "-wal"):
+            if os.path.exists(registry + end):
+                os.remove(registry + end)
+
+
+def keep(name):
+    shutil.rmtree(os.path.join(work, name), ignore_errors=True)
+    shutil.copytree(bench, os.path.join(work, name))
+
+
+def put_back(name):
+    shutil.rmtree(bench, ignore_errors=True)
+    shutil.copytree(os.path.join(work, name), bench)
+
+
+def said(sector, mirrors):
+    """What a last sector says of these mirrors."""
+    found = decode(sector)
+    if isinstance(found, int):
+        return "no metadata"
+    names = [(row["name"].encode(), row["mid"]) for row in mirrors]
+    return "member" if (found["name"], found["mid"]) in names else "another"
+
+
+def standing(records, name, cleared):
+    """How an image stands to what is registered and pending."""
+    path = os.path.join(images, name)
+    component = None if cleared else records.components.get(name)
+    if not os.path.exists(path) or (component and os.path.getsize(path) != component["provsize"]):
+        return "absent"
+    with open(path, "rb") as file:
+        sector = file.read()[-512:]
+    if component is None:
+        return "zero" if sector == bytes(512) else said(sector, records.mirrors.values())
+    if sector == records.last_sector(name):
+        return "as registered"
+    return said(sector, [records.mirrors[component["mirror"]]])
+
+
+def lines_of(records, shelf):
+    """What `pending` is to print."""
+    text = ""
+    for intent in records.intents:
+        name, source = intent["prov"], intent["source"]
+        first, end = intent["first_sector"], intent["end_sector"]
+        stands = standing(records, name, intent["kind"] not in (COPY, META))
+        if intent["kind"] == COPY:
+            text += f"copy {end - first} sectors of {source} to {name} from {first}"
+            stands = f"{source} {standing(records, source, False)}, {name} {stands}"
+        else:
+            text += f"metadata of {name}" if intent["kind"] == META else f"clear {name}"
+        text += f": {stands}\n" if shelf else "\n"
+    return text
+
+
+def amiss(records):
+    """The components that an audit is to list."""
+    names = [name for name in sorted(records.components) if standing(records, name, False) != "as registered"]
+    return "".join(f"{name}\n" for name in names)
+
+
+def look(title):
+    """All that is looked at, which changes nothing."""
+    records = Records(registry, scratch)
+    before = contents()
+    for shelf in (True, False):
+        check(f"{title}: pending", run(["pending"], shelf=shelf), (0, lines_of(records, shelf), ""))
+    pending = len(records.intents)
+    told = f"{pending} writes are pending\n" if pending else ""
+    texts = {}
+    for command in ("status", "list"):
+        status, texts[command], complaint = run([command, "--read-only"])
+        check(f"{title}: {command} ends", (status, complaint), (0, told))
+    listed = amiss(records)
+    check(f"{title}: audit", run(["audit", "--read-only"]), (1 if listed else 0, listed, told))
+    check(f"{title}: not a byte is changed", contents(), before)
+    counts["lines"] += pending
+    return pending, texts
+
+
+def recovered(title, pending, texts):
+    """What `recover` then does is what was pending, and what was shown of the registry stays."""
+    check(f"{title}: recover", run(["recover"]), (0, f"recovered {pending}\n", ""))
+    check(f"{title}: nothing is pending", run(["pending"]), (0, "", ""))
+    for command, text in texts.items():
+        check(f"{title}: {command} behind that", run([command]), (0, text, ""))
+    check(f"{title}: audit behind that", run(["audit", "--read-only"]), (0, "", ""))
+
+
+def spoil(name, how):
+    """An image that is blank, or away, or has another size."""
+    path = os.path.join(images, name)
+    if how == "away":
+        os.remove(path)
+    elif how == "longer":
+        with open(path, "ab") as file:
+            file.write(bytes(512))
+    else:
+        with open(path, "wb") as file:
+            file.write(bytes(SECTORS * 512))
+
+
+def try_command(command, lines):
+    put_before(lines)
+    keep("before")
+    line = f"p1 {command}\n".encode()
+    run(["batch"], line, LD_PRELOAD=preloaded, STOPPED=images + "/", COUNT=count_file)
+    with open(count_file, encoding="ascii") as file:
+        total = int(file.read())
+    for first in range(1, total + 1):
+        title = f"'{command}', stopped at call {first} of {total}"
+        counts["stops"] += 1
+        put_back("before")
+        run(["batch"], line, LD_PRELOAD=preloaded, STOPPED=images + "/", STOP=str(first))
+        keep("stopped")
+        pending, texts = look(title)
+        if pending == 0:
+            wrong.append(f"{title}: nothing is pending")
+        recovered(title, pending, texts)
+        for name in NAMES if first == 1 else []:
+            for how in ("blank", "away", "longer"):
+                put_back("stopped")
+                spoil(name, how)
+                look(f"{title}, {name} {how}")
+                counts["images"] += 1
+
+
+for words, before, _ in COMMANDS:
+    try_command(words, before)
+    told = ", ".join(f"{number} {kind}" for kind, number in counts.items())
+    name = f"what is pending behind a command that was stopped: {words.split()[0]} ({told})"
+    print(f"failed {name}: {len(wrong)} times, the first: {wrong[0]}" if wrong else f"ok {name}", flush=True)
+    counts = dict.fromkeys(counts, 0)
+    wrong = []
