@@ -21,6 +21,7 @@ use std::os::fd::AsRawFd;
 
 // Where SQLite's locks lie in a file, in bytes: the pending, the reserved and the shared lock.
 const LOCKS: u64 = 1 << 30;
+
 const LOCK_BYTES: u64 = 512;
 
 /// What a registry holds.
@@ -103,10 +104,7 @@ fn registry_fault(fault: StoreFault) -> BenchFault {
 }
 
 // What the registry of a store holds.
-fn records_in(
-    alloc: Global,
-    store: Connection<FileStore<Memory>>,
-) -> Result<Records, BenchFault> {
+fn records_in(alloc: Global, store: Connection<FileStore<Memory>>) -> Result<Records, BenchFault> {
     if !store.is_autocommit() {
         return Err(BenchFault::Store);
     }
