@@ -138,7 +138,7 @@ over_schema s params text command tally after has =
     subst (λ (schema : Schema). Does s.step_limit (mode_of s) params
     (record { schema = schema; trees = s.now.trees }) text None command (Ok (tally, after))) has
 
-mirror_typed : (m : MirrorRow) → cast_all mirrors.columns (mirror_values m) ≡ mirror_values m
+pub mirror_typed : (m : MirrorRow) → cast_all mirrors.columns (mirror_values m) ≡ mirror_values m
 mirror_typed m =
     rw (
       cast_int (pos m.mid),
@@ -173,7 +173,7 @@ upserts_mirror m s t after text tally has holds h =
           (s.now.trees 1) m.name holds.mirrors) made.values_are made.fresh made.keyed)),
     )
 
-component_typed : (k : ComponentRow)
+pub component_typed : (k : ComponentRow)
     → cast_all components.columns (component_values k) ≡ component_values k
 component_typed k =
     rw (
@@ -236,7 +236,7 @@ drops_component prov s t after text tally has holds h =
           (s.now.trees 4) prov holds.components)),
     )
 
-intent_typed : (i : IntentRow) → cast_row intents (intent_values i) ≡ intent_values i
+pub intent_typed : (i : IntentRow) → cast_row intents (intent_values i) ≡ intent_values i
 intent_typed i = rw (
   cast_int (pos i.ord),
   cast_null,
@@ -266,7 +266,7 @@ puts_intent i s t after text tally has holds h =
           (made.given refl) made.fresh made.keyed)),
     )
 
-command_typed : (c : CommandRow) → cast_row commands (Null ∷ command_values c) ≡ Null
+pub command_typed : (c : CommandRow) → cast_row commands (Null ∷ command_values c) ≡ Null
     ∷ command_values c
 command_typed c = rw (
   cast_null,

@@ -3,8 +3,11 @@ pub mod CallsLeave
 pub mod ChangedTables
 pub mod CountedThrough
 pub mod Failures
+pub mod FittingIntents
+pub mod FittingTables
 pub mod FoundReply
 pub mod Held
+pub mod InsideFails
 pub mod Keys
 pub mod LastCommand
 pub mod MadeTables

@@ -69,7 +69,7 @@ unique_left db rows kept = (
 abbrev two : List Row → List Row → Trees
 two mirrors components = λ t. if t == 1 then mirrors else (if t == 4 then components else [])
 
-refers : (db next : Trees) → next 1 ≡ db 1 → next 4 ≡ db 4
+pub refers : (db next : Trees) → next 1 ≡ db 1 → next 4 ≡ db 4
     → Keeps ForeignKey registry_schema db → Refers All registry_schema next
 unfolding same_name joined
 refers db next same_mirrors same_components kept =

@@ -1,5 +1,6 @@
 pub mod Accepting
 pub mod Changes
+pub mod Fitting
 pub mod Keys
 pub mod Listing
 pub mod Opening

@@ -8,10 +8,12 @@ use Rattle.sqlite.specs.Effect.{Database}
 use Rattle.sqlite.specs.Held.{Held, state}
 use Rattle.sqlite.specs.State.{HasCleanDisk, Survives}
 use Rattle.sqlite.specs.State as sql
+use Rattle.sqlite.specs.declared.error.Error.{Error}
 use Rattle.sqlite_rows.specs.Reads as rows
 use Rattle.gm_state.specs.declared.intents.Intent.{Intent}
 use Rattle.gm_state.specs.Records.{Records}
 use Rattle.gm_state.specs.Rows.{Tables}
+use Rattle.gm_rows.specs.Faults.{OnOther}
 use Rattle.gm_rows.specs.Tables.{Holds, SeesTables, SeesRegistry, IsInside}
 use Rattle.gm_rows.specs.ReadableTables.{AreTablesOf}
 use Rattle.gm_registry.specs.Reads as reads
@@ -99,6 +101,14 @@ module _ {S : Type 0} (g : Ghosts S) where
   abbrev pub StoreFailed : Held S → Held S → Type 0
   StoreFailed old new = MoreFaults (state g old).faults (state g new).faults
       ⊎ IsSome (state g old).step_limit
+
+  -- within a transaction over rows and tables that fit, it fails only for want of memory or where the
+  -- store did
+  abbrev pub FailsInside : {X : Type 0} → Held S → Held S → Result X Error
+      → (Trees → Tables → Type 0) → Type 0
+  FailsInside old new result Fits =
+      DiskKept new → OnOther result ((first : Database) (t : Tables)
+      → IsInside first (state g old) t → Fits (seen old) t → StoreFailed old new)
 
   -- it has these tables, and a crash now leaves them and nothing else
   pub record HasSaved (r : Held S) (t : Tables) : Type 0 where

@@ -1,10 +1,11 @@
 //! The table of intents: written inside a transaction, numbered from 1 in their order, and emptied
 //! in one of its own.
 
-ghost use Rattle.std.specs.Prelude.{◌≡◌, [], ◌∷◌};
+ghost use Rattle.std.specs.Prelude.{◌≡◌, [], ◌∷◌, length};
 ghost use Rattle.gm_state.specs.Rows.{Tables, intent_row, intent_rows};
 ghost use Rattle.gm_registry.specs.Changes.{with_intents, settled, left_of};
-ghost use Rattle.gm_registry.specs.Registry.{DiskKept, HasTables, LeavesNothingNew, KeepsCommit, MakesInside, StoreFailed, Writes};
+ghost use Rattle.gm_registry.specs.Fitting.{IsUnnumbered, AreShort, TakesIntents};
+ghost use Rattle.gm_registry.specs.Registry.{DiskKept, HasTables, LeavesNothingNew, KeepsCommit, MakesInside, FailsInside, StoreFailed, Writes};
 ghost use Rattle.gm_rows.specs.Faults.{OnOther};
 
 use gm_state::Intent;
@@ -38,6 +39,8 @@ fn put_row<S: Alter>(
           first_sector = first;
           end_sector = end;
         } ∷ [])) }
+    ensures fails { FailsInside S.Store tx.old.conn.now tx.new.conn.now result
+        (λ _ t. IsUnnumbered ord t × AreShort provider.now source.now) }
     ensures kept { KeepsCommit S.Store tx.old.conn.now tx.new.conn.now }
     ensures survives { LeavesNothingNew S.Store tx.old.conn.now tx.new.conn.now }
 {
@@ -56,6 +59,8 @@ fn put_intent<S: Alter>(
     ensures same_reference { tx.new.conn.ghost_name ≡ tx.old.conn.ghost_name }
     ensures put { MakesInside S.Store tx.old.conn.now tx.new.conn.now result
         (with_intents (intent_row ord intent ∷ [])) }
+    ensures fails { FailsInside S.Store tx.old.conn.now tx.new.conn.now result
+        (λ _. IsUnnumbered ord) }
     ensures kept { KeepsCommit S.Store tx.old.conn.now tx.new.conn.now }
     ensures survives { LeavesNothingNew S.Store tx.old.conn.now tx.new.conn.now }
 {
@@ -79,6 +84,8 @@ pub(crate) fn put_intents<S: Alter>(
     ensures same_reference { tx.new.conn.ghost_name ≡ tx.old.conn.ghost_name }
     ensures put { MakesInside S.Store tx.old.conn.now tx.new.conn.now result
         (with_intents (intent_rows 1 intents.now)) }
+    ensures fails { FailsInside S.Store tx.old.conn.now tx.new.conn.now result
+        (λ _. TakesIntents (length intents.now)) }
     ensures kept { KeepsCommit S.Store tx.old.conn.now tx.new.conn.now }
     ensures survives { LeavesNothingNew S.Store tx.old.conn.now tx.new.conn.now }
 {

@@ -4,6 +4,7 @@ pub mod Dropping
 pub mod Failing
 pub mod Finding
 pub mod Inserting
+pub mod KeptUnique
 pub mod Keyed
 pub mod Looping
 pub mod Reading
@@ -11,6 +12,8 @@ pub mod Refusing
 pub mod Replacing
 pub mod RowLemmas
 pub mod Showing
+pub mod SmallRows
 pub mod Statements
+pub mod Stopping
 pub mod Unique
 pub mod ValueLemmas

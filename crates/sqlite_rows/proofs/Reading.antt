@@ -1,5 +1,5 @@
 -- Calls that only read: what one leaves, and one after another.
-use Rattle.std.proofs.Common.{inl, inr, ◌∙◌, List, [], ℕ, sym, ap, subst, arith}
+use Rattle.std.proofs.Common.{inl, inr, ◌∙◌, List, ℕ, sym, ap, subst, arith}
 use Rattle.sqlite.specs.Order.{Row}
 use Rattle.sqlite.specs.Schema.{Schema}
 use Rattle.sqlite.specs.Tree.{Trees}
