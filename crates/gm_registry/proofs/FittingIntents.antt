@@ -1,6 +1,6 @@
 -- Why the insertion of an intent fails: no rule of its table refuses it where its number is free.
 use Rattle.std.proofs.Common.{◌≡◌, ◌≢◌, inl, inr, ℕ, pos, ◌+◌, ◌^◌, ◌<◌, ◌≤◌, true, false, not, ◌&&◌, List, [], ◌∷◌, ◌++◌, take, length, IsTrue, refl, sym, ap, subst, ◌∙◌, arith, nat_lt, ◌==◌, eq-eqb}
-use Rattle.std.specs.Ordering.{is_eq, int_cmp}
+use Rattle.std.specs.Ordering.{is_eq}
 use Rattle.std.specs.List.{AllByRecursion}
 use Rattle.std.proofs.lemmas.Bool.{true≢false, false_from_ne_true, not-true}
 use Rattle.std.proofs.lemmas.Bool.Decides.{nat_tests}
@@ -19,7 +19,6 @@ use Rattle.sqlite_trees.specs.Tree.{rowid}
 use Rattle.sqlite_value.specs.Order.{value_cmp}
 use Rattle.sqlite_value.proofs.OrderLemmas.{value_cmp-Int}
 use Rattle.sqlite_rules.specs.Edit.{is_taken, with_rowid, IsOversized}
-use Rattle.sqlite_rules.specs.Lists.{Has as Stands}
 use Rattle.sqlite_rules.proofs.ListLemmas.{some_has, all_has, test_has}
 use Rattle.sqlite_schema.specs.Rules.{guards}
 use Rattle.sqlite_rows.specs.Keeps.{whole}
@@ -39,14 +38,10 @@ use Rattle.gm_rows.specs.Tables.{HasRows}
 use Rattle.gm_registry.specs.Changes.{with_intents}
 use Rattle.gm_registry.specs.Fitting.{IsUnnumbered, AreShort, TakesIntents}
 use Rattle.gm_registry.proofs.ChangedTables.{intent_params, intent_typed}
-use Rattle.gm_registry.proofs.FittingTables.{apart, record_of}
+use Rattle.gm_registry.proofs.FittingTables.{apart, record_of, only, same_number}
 use Rattle.gm_registry.proofs.InsideFails.{StopsOnly}
 use Rattle.gm_registry.proofs.SettlingFails.{refers}
 use Rattle.gm_registry.proofs.TextMeanings.{intent_terms}
-
-only : {A : Type 0} (x y : A) → Stands (x ∷ []) y → y ≡ x
-only x y (inl same) = same
-only x y (inr none) = absurd none
 
 -- so is the text of a label
 pub text_of_label : (text name : List ℕ) → text ≡ name → IsTrue (is_label name) → length text < 16
@@ -57,9 +52,6 @@ text_of_label text name is label = let parts = label_parts name label in
 -- names of labels are short
 pub labels_short : (a b : List ℕ) → length a < 16 → length b < 16 → AreShort a b
 labels_short a b p q = omega arith
-
-same_number : (m n : ℕ) → is_eq (int_cmp (pos m) (pos n)) ≡ true → m ≡ n
-same_number m n h = grind (arith, nat_tests)
 
 module _ (i : IntentRow) (db : Trees) (t : Tables) (holds : HasRows db t)
     (sound : IsSound registry_schema db) where

@@ -1,13 +1,31 @@
 -- What edits of the registry's tables have in common.
-use Rattle.std.proofs.Common.{◌≡◌, List}
+use Rattle.std.specs.Ordering.{is_eq, int_cmp}
+use Rattle.std.proofs.lemmas.Bool.Decides.{nat_tests}
+use Rattle.std.proofs.Common.{inl, inr, ℕ, pos, true, arith, ◌≡◌, List, [], ◌∷◌, ◌||◌, false, refl, sym, ap, ◌∙◌}
 use Rattle.std.proofs.lemmas.List.Sorted.{IsPermutation-sym}
-use Rattle.sqlite.specs.Order.{Row}
+use Rattle.std.proofs.lemmas.Bool.{and_from, and_parts, or_right, or_cases, true≢false}
+use Rattle.sqlite.specs.Order.{Row, column}
+use Rattle.sqlite.specs.Tree.{Trees}
+use Rattle.sqlite.specs.Collation.TheVariants.{Binary}
+use Rattle.sqlite.specs.declared.types.Value.TheVariants.{Text}
+use Rattle.sqlite_catalog.specs.Listing.{IsSound}
+use Rattle.sqlite_schema.specs.Names.{same_name}
+use Rattle.sqlite_schema.specs.Rules.{Refers, passes, equal}
+use Rattle.sqlite_schema.specs.declared.schema.Among.TheVariants.{All}
+use Rattle.sqlite_schema.specs.declared.schema.Constraint.TheVariants.{ForeignKey}
+use Rattle.sqlite_sql.specs.Ops.{is_null}
+use Rattle.sqlite_trees.proofs.ListLemmas.{all_of}
+use Rattle.sqlite_value.specs.Keys.{first_key, joined}
+use Rattle.sqlite_rules.proofs.ListLemmas.{all_has, all_from, some_has, some_from}
+use Rattle.gm_state.specs.Rows.{Tables, ComponentRow}
+use Rattle.gm_rows.specs.Rows.{component_values}
+use Rattle.gm_rows.specs.Tables.{HasRows}
 use Rattle.sqlite_schema.specs.declared.schema.Table.{Table}
 use Rattle.sqlite_trees.specs.Tree.{IsAscending}
 use Rattle.sqlite_rules.specs.Lists.{Has as Stands}
-use Rattle.sqlite_rows.specs.Keeps.{Keeps}
+use Rattle.sqlite_rows.specs.Keeps.{Keeps, columns}
 use Rattle.sqlite_rows.proofs.Keyed.{has_mapped, mapped_from}
-use Rattle.gm_rows.specs.Schema.{registry_schema}
+use Rattle.gm_rows.specs.Schema.{components, registry_schema}
 use Rattle.gm_rows.proofs.ListMembers.{stands_permuted}
 
 -- a row of a table is that of one of its records
@@ -17,6 +35,13 @@ pub record_of : {A : Type 0} (part : Row → Row) (row_of : A → Row) (all : Li
 record_of part row_of all rows row kept has =
     mapped_from row_of all (part row)
     (stands_permuted _ _ (part row) (IsPermutation-sym _ _ kept.same) (has_mapped part rows row has))
+
+pub only : {A : Type 0} (x y : A) → Stands (x ∷ []) y → y ≡ x
+only x y (inl same) = same
+only x y (inr none) = absurd none
+
+pub same_number : (m n : ℕ) → is_eq (int_cmp (pos m) (pos n)) ≡ true → m ≡ n
+same_number m n h = grind (arith, nat_tests)
 
 -- no two tables have one tree
 pub apart : IsAscending (λ (a b : Table). a.tree ≡ b.tree → ⊥) registry_schema.tables
@@ -30,3 +55,38 @@ apart = (
     ),
   ),
 )
+
+-- ---- the mirrors that components are of
+
+pub refers_by : (next : Trees) → ((k : Row) → Stands (next 4) k
+    → (m : Row) × Stands (next 1) m × (equal Binary (column m 1) (column k 2) ≡ true))
+    → Refers All registry_schema next
+unfolding same_name joined first_key
+refers_by next each =
+    let none = all_of (λ (_ : Row). true ≡ true) (λ _. refl) in
+    let held = all_from (λ row. passes ForeignKey registry_schema next components row ≡ true) (next 4)
+    (λ k has. let it = each k has in
+    and_from _ _ (or_right _ _ (some_from _ (next 1) it.0 it.1 (and_from _ _ it.2 refl))) refl) in
+    (none (next 0), (none (next 1), (held, (none (next 7), (none (next 8), tt)))))
+
+third_place : (row : Row) → column (columns row) 1 ≡ column row 2
+third_place [] = refl
+third_place (x ∷ xs) = refl
+
+module _ (db : Trees) (t : Tables) (holds : HasRows db t) (sound : IsSound registry_schema db) where
+  -- a component has its row, and the row of its mirror
+  pub parent_of : (k : Row) → Stands (db 4) k
+      → (of : ComponentRow) × Stands t.components of × (column k 2 ≡ Text of.mirror)
+      × (m : Row) × Stands (db 1) m × (equal Binary (column m 1) (column k 2) ≡ true)
+  unfolding same_name joined first_key
+  parent_of k has =
+      let of = record_of columns component_values t.components (db 4) k holds.components has in
+      let is : column k 2 ≡ Text of.0.mirror = sym (third_place k) ∙ ap (λ v. column v 1) of.2 in
+      let kept = sound.obeys.rules ForeignKey in
+      let passed = (and_parts _ _ (all_has _ (db 4) k kept.1.1.0 has)).0 in
+      elim (or_cases _ _ passed) [
+        | inl null ↦ absurd (true≢false (sym null ∙ ap (λ v. is_null v || false) is))
+        | inr held ↦
+            let m = some_has _ (db 1) held in
+            (of.0, of.1, is, m.0, m.1, (and_parts _ _ m.2).0)
+      ]

@@ -3,6 +3,8 @@ pub mod CallsLeave
 pub mod ChangedTables
 pub mod CountedThrough
 pub mod Failures
+pub mod FittingCommands
+pub mod FittingDeletes
 pub mod FittingIntents
 pub mod FittingTables
 pub mod FoundReply

@@ -1,24 +1,17 @@
 -- Why the deletion of all pending intents fails: the tables themselves never refuse it.
-use Rattle.std.proofs.Common.{◌≡◌, ◌⊎◌, inl, inr, ℕ, zero, suc, ◌==◌, Bool, true, false, ◌||◌, if◌then◌else◌, List, [], ◌∷◌, length, Option, Some, None, Result, Ok, Err, IsSome, IsTrue, refl, sym, ap, subst, subst₂, ◌∙◌, arith}
-use Rattle.std.specs.Prelude.{nat_lt, is_some}
+use Rattle.std.proofs.Common.{◌≡◌, ◌⊎◌, inl, inr, ℕ, ◌==◌, Bool, true, false, if◌then◌else◌, List, [], ◌∷◌, length, Option, Some, None, Result, Ok, Err, IsSome, IsTrue, refl, sym, ap, subst, subst₂, ◌∙◌}
+use Rattle.std.specs.Prelude.{nat_lt}
 use Rattle.std.specs.List.{AllByRecursion}
-use Rattle.std.proofs.lemmas.List.{length-append}
-use Rattle.std.proofs.lemmas.Bool.{cases_Bool}
 use Rattle.sqlite_disk.specs.Disk.{MoreFaults}
 use Rattle.sqlite_tied.specs.Compute.{everything}
 use Rattle.sqlite_catalog.specs.Listing.{IsSound}
-use Rattle.sqlite_schema.specs.declared.command.Command.{Command}
-use Rattle.sqlite_schema.specs.declared.command.Returning.{Returning}
-use Rattle.sqlite_schema.specs.declared.schema.Constraint.TheVariants.{Datatype, NotNull, Check, PrimaryKey, Unique, ForeignKey}
+use Rattle.sqlite_schema.specs.declared.schema.Constraint.TheVariants.{Unique, ForeignKey}
 use Rattle.sqlite_schema.specs.declared.schema.Keys.TheVariants.{Enforced}
 use Rattle.sqlite_schema.specs.declared.schema.Among.TheVariants.{All}
 use Rattle.sqlite_schema.specs.Rules.{Keeps, Refers, passes, references_fit}
-use Rattle.sqlite_rules.specs.declared.error.Refusal.{Refusal}
-use Rattle.sqlite_rules.specs.declared.error.Refusal.TheVariants.{Violates, Mismatch, NoRowid, BadReference, TooDeep}
 use Rattle.sqlite_value.specs.Keys.{joined}
 use Rattle.sqlite_schema.specs.Names.{same_name}
-use Rattle.sqlite_rules.specs.Edit.{Edit, IsRefused, taken_by}
-use Rattle.sqlite_rules.specs.Action.{Writes, Leads}
+use Rattle.sqlite_rules.specs.Edit.{Edit, taken_by}
 use Rattle.sqlite_rules.specs.Calls.{ids_of}
 use Rattle.sqlite_trees.specs.Tree.{with_tree}
 use Rattle.sqlite_trees.proofs.ListLemmas.{all_of}
@@ -32,13 +25,12 @@ use Rattle.sqlite.specs.Term.{col}
 use Rattle.sqlite_schema.specs.declared.program.Program.{Program}
 use Rattle.sqlite.specs.Does.{Does}
 use Rattle.sqlite.specs.Rows.{Task, Written, Queried, Deletes}
-use Rattle.sqlite.specs.Effect.{is_query}
-use Rattle.sqlite.specs.Calls.{IsWrite}
 use Rattle.sqlite.specs.Listing.{understood}
-use Rattle.sqlite.specs.State.{State, mode_of, text_of, shows_rows, is_pragma, Executes, ExecutesIn, IsNotRun, IsMisplaced, IsUnchanged, Fails}
+use Rattle.sqlite.specs.State.{State, mode_of, Executes}
 use Rattle.sqlite.specs.declared.error.Error.{Error}
-use Rattle.sqlite.proofs.Callers.{command_of, one_step, IsPlain}
-use Rattle.sqlite_rows.proofs.Failing.{IsReadFault, is_all_of, never_misread, store_failed}
+use Rattle.sqlite.proofs.Callers.{one_step}
+use Rattle.sqlite_rows.proofs.Failing.{is_all_of}
+use Rattle.sqlite_rows.proofs.Stopping.{IsAllowed, never_stops, at_once, concluded, write_fault}
 use Rattle.sqlite_rows.proofs.Finding.{scan}
 use Rattle.sqlite_rows.proofs.Inserting.{went, same_value}
 use Rattle.sqlite_rows.proofs.Statements.{settled_schema, settled_rows}
@@ -86,33 +78,19 @@ unfolding same_name
 referred true = refl
 referred false = refl
 
-never_refused : (db : Trees) (rows : List Row) (why : Refusal) → Keeps Unique registry_schema db
-    → IsRefused registry_schema Enforced db (taking db rows) why → ⊥
-never_refused db rows (Violates Datatype) kept h = absurd (let e : true ≡ false = h in cc)
-never_refused db rows (Violates NotNull) kept h = absurd (let e : true ≡ false = h in cc)
-never_refused db rows (Violates Check) kept h = absurd (let e : true ≡ false = h in cc)
-never_refused db rows (Violates PrimaryKey) kept h = absurd (let e : true ≡ false = h in cc)
-never_refused db rows (Violates Unique) kept h = h (unique_left db _ kept)
-never_refused db rows (Violates ForeignKey) kept h = h
-never_refused db rows Mismatch kept h = absurd (let e : true ≡ false = h in cc)
-never_refused db rows NoRowid kept h = absurd (let e : true ≡ false = h in cc)
-never_refused db rows BadReference kept h =
-    absurd (let e : true ≡ false = sym (referred (nat_lt 0 (length (ids_of rows)))) ∙ h in cc)
-never_refused db rows TooDeep kept h = h
-
-no_work : (n : ℕ) (next : Trees) (why : Option Refusal)
-    → Leads registry_schema Enforced n next [] (Err why) → ⊥
-no_work zero next why h = absurd (let e = h.1 in cc)
-no_work (suc n) next why h = omega (arith, ap length h.2, length-append h.0 (h.1 ∷ []))
-
-never_stops : (db : Trees) (rows : List Row) (why : Option Refusal)
-    → Keeps Unique registry_schema db
-    → Writes registry_schema Enforced db (taking db rows) (Err why) → ⊥
-never_stops db rows why kept (inl (what, refused, is)) = never_refused db rows what kept refused
-never_stops db rows why kept (inr (inl (row, has, big, is))) = has
-never_stops db rows why kept (inr (inr (next, applies, (n, leads)))) =
-    no_work n next why (subst (λ w. Leads registry_schema Enforced n next w (Err why))
-    (idle 7 (taken_by db (taking db rows)) []) leads)
+allowed : (db : Trees) (rows : List Row) → Keeps Unique registry_schema db
+    → IsAllowed registry_schema Enforced db (taking db rows)
+allowed db rows kept = record {
+  typed = refl;
+  present = refl;
+  checked = refl;
+  keyed = refl;
+  numbers = refl;
+  fresh = refl;
+  unique = unique_left db _ kept;
+  referred = referred (nat_lt 0 (length (ids_of rows)));
+  small = λ row has. absurd has;
+}
 
 -- ---- so is the statement
 
@@ -160,29 +138,26 @@ module _ (limit : Option ℕ) (db : Trees) where
       → Deletes task all_intents db (Err stop) → IsSome limit
   deletes_stops stop kept (inl (asked, query, is)) = query_stops limit db asked query
   deletes_stops stop kept (inr (rows, answered, inl (reason, (why, writes, is), same))) =
-      absurd (never_stops db rows why kept writes)
+      absurd (never_stops registry_schema Enforced db (taking db rows) (allowed db rows kept)
+      (idle 7 (taken_by db (taking db rows)) []) why writes)
   deletes_stops stop kept (inr (rows, answered, inr (next, writes, gives))) =
       absurd (let e = gives in cc)
 
-pub settle_stops : (s : State) (text : List ℕ) (db : Trees) (stop : Option Error)
+pub settle_stops : (limit : Option ℕ) (text : List ℕ) (db : Trees) (stop : Option Error)
     → Keeps Unique registry_schema db → Keeps ForeignKey registry_schema db
-    → Does s.step_limit (mode_of s) [] (record { schema = registry_schema; trees = db }) text None
-    settle (Err stop) → IsSome s.step_limit
-settle_stops s text db stop unique keys (inl (why, deletes, is)) =
-    deletes_stops s.step_limit db why unique deletes
-settle_stops s text db stop unique keys (inr (w, deletes, inl (why, tested, is))) =
-    let same = others s.step_limit db w deletes in
-    absurd (tested.0 (refers db w.trees same.0 same.1 keys))
-settle_stops s text db stop unique keys (inr (w, gone, inr (doubt, held, inl (why, none, is)))) =
-    absurd (let e = none in cc)
-settle_stops s text db stop unique keys (inr (w, gone, inr (doubt, held, inr (rows, none, is)))) =
-    absurd (let e = is in cc)
+    → Does limit at_once [] (record { schema = registry_schema; trees = db }) text None
+    settle (Err stop) → IsSome limit
+settle_stops limit text db stop unique keys (inl (why, deletes, is)) =
+    deletes_stops limit db why unique deletes
+settle_stops limit text db stop unique keys (inr (w, deletes, ends)) =
+    let same = others limit db w deletes in
+    absurd (concluded (task limit db) at_once refl w stop (refers db w.trees same.0 same.1 keys) ends)
 
 -- ---- and the call
 
-whole : is_all_of settle_text 0 (understood registry_schema settle_text) ≡ true
+pub settle_whole : is_all_of settle_text 0 (understood registry_schema settle_text) ≡ true
 unfolding understood everything
-whole = refl
+settle_whole = refl
 
 module _ (old new : State) (e : Error) (has : old.now.schema ≡ registry_schema)
     (sound : IsSound registry_schema old.now.trees) where
@@ -190,61 +165,16 @@ module _ (old new : State) (e : Error) (has : old.now.schema ≡ registry_schema
       → Does old.step_limit (mode_of old) [] old.now text None settle (Err stop)
       → IsSome old.step_limit
   stops text stop h =
-      settle_stops old text old.now.trees stop (sound.obeys.rules Unique)
+      settle_stops old.step_limit text old.now.trees stop (sound.obeys.rules Unique)
       (sound.obeys.rules ForeignKey)
       (subst (λ (schema : Schema). Does old.step_limit (mode_of old) []
       (record { schema = schema; trees = old.now.trees }) text None settle (Err stop)) has h)
 
-  misplaced : IsMisplaced old settle e → ⊥
-  misplaced (inl (is, inl begins)) = absurd (let f = begins.0 in cc)
-  misplaced (inl (is, inr (inl commits, out))) = absurd (let f = commits in cc)
-  misplaced (inl (is, inr (inr rolls, out))) = absurd (let f = rolls in cc)
-  misplaced (inr (is, name, inl releases, unnamed)) = absurd (let f = releases in cc)
-  misplaced (inr (is, name, inr goes_back, unnamed)) = absurd (let f = goes_back in cc)
-
-  -- how a command that is run fails, by its parts
-  abbrev FailsAs : List ℕ → Command → Option Returning → Type 0
-  FailsAs text command returning =
-      ((IsMisplaced old command e ⊎ ((IsWrite command ⊎ IsSome returning)
-      × Does old.step_limit (mode_of old) [] old.now text returning command (Err (Some e))))
-      × IsUnchanged old new)
-      ⊎ Fails old new
-      (Does old.step_limit (mode_of old) [] old.now text returning command (Err None)) e
-
-  ran : (text : List ℕ) → FailsAs text settle None → IsTrue old.is_open → IsReadFault old new e
-  ran text (inl (inl bad, same)) is_open = absurd (misplaced bad)
-  ran text (inl (inr does, same)) is_open = inr (inr (stops text (Some e) does.1))
-  ran text (inr fails) is_open =
-      store_failed old new settle_text [] e _ (stops text None) is_open fails
-
-  settle_fault : IsTrue old.is_open → Executes settle_text [] old new (Err e)
-      → IsReadFault old new e
-  unfolding ExecutesIn IsNotRun
-  settle_fault is_open (inl (inl none)) =
-      absurd (never_misread old new settle_text [] e
-      (subst (λ s. IsPlain (understood s settle_text)) (sym has) settle_is.plain)
-      (subst (λ s. is_all_of settle_text 0 (understood s settle_text) ≡ true) (sym has) whole)
-      none.0)
-  settle_fault is_open (inl (inr fails)) =
-      store_failed old new settle_text [] e ⊥ (λ none. absurd none) is_open fails
-  settle_fault is_open (inr (c, it, h)) =
-      let known = sym it.is ∙ ap (λ s. understood s settle_text) has in
-      let bare = subst IsPlain (sym known) settle_is.plain in
-      let command : c.command ≡ settle = ap command_of known ∙ settle_is.command_is in
-      let runs : FailsAs (text_of settle_text c) c.command c.returning =
-      elim (cases_Bool (shows_rows false c)) [
-        | inl shows ↦ absurd (let f : false ≡ true =
-            subst₂ (λ (k : Command) (r : Option Returning).
-            is_query k || (is_pragma k || is_some r) ≡ true) command bare.0 shows in
-            cc)
-        | inr runs ↦ rw (runs, bare.1) at h
-      ] in
-      ran (text_of settle_text c) (subst₂ (FailsAs (text_of settle_text c)) command bare.0 runs)
-      is_open
-
   pub settle_failed : IsTrue old.is_open → Executes settle_text [] old new (Err e)
       → fault_of e ≡ Store → MoreFaults old.faults new.faults ⊎ IsSome old.step_limit
-  settle_failed is_open h is = told old new e (settle_fault is_open h) is
+  settle_failed is_open h is =
+      told old new e (write_fault registry_schema settle_text [] settle settle_is.command_is
+      settle_is.plain settle_whole refl refl old new e has stops is_open h) is
 
 pub settling_failed : (old new : State) (x : Result ℕ Error) → Executes settle_text [] old new x
     → OnOther x ((t : Tables) → SeesTables old t

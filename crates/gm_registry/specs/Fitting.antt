@@ -1,18 +1,18 @@
 -- What each step of a change needs of the tables, so that no rule of theirs refuses it.
-use Rattle.std.specs.Prelude.{◌≡◌, ◌≢◌, ℕ, pos, ◌+◌, ◌^◌, ◌<◌, ◌≤◌, List, length}
+use Rattle.std.specs.Prelude.{◌≢◌, ℕ, ◌+◌, ◌^◌, ◌<◌, ◌≤◌, List, length}
 use Rattle.std.specs.List.{AllByRecursion}
-use Rattle.sqlite.specs.Order.{Row}
-use Rattle.sqlite.specs.declared.types.Value.TheVariants.{Int}
-use Rattle.sqlite_trees.specs.Tree.{rowid}
-use Rattle.gm_state.specs.Rows.{Tables, IntentRow}
-
--- the store numbers these rows itself, each below a bound
-abbrev pub AreBelow : ℕ → List Row → Type 0
-AreBelow bound rows = AllByRecursion (λ row. (k : ℕ) × (rowid row ≡ Int (pos k)) × (k < bound)) rows
+use Rattle.sqlite.specs.Tree.{Trees}
+use Rattle.sqlite_rows.specs.Numbers.{TakesMore}
+use Rattle.gm_state.specs.Rows.{Tables, ComponentRow, IntentRow, CommandRow}
+use Rattle.gm_registry.specs.Replies.{IsFree}
 
 -- texts that a row can hold, which has at most a billion bytes
 abbrev pub AreShort : List ℕ → List ℕ → Type 0
 AreShort a b = length a + length b + 1000 ≤ 10 ^ 9
+
+-- no component is of this mirror
+abbrev pub HasNoComponents : List ℕ → Tables → Type 0
+HasNoComponents name t = AllByRecursion (λ (k : ComponentRow). k.mirror ≢ name) t.components
 
 -- no intent with this number is pending
 abbrev pub IsUnnumbered : ℕ → Tables → Type 0
@@ -22,3 +22,10 @@ IsUnnumbered n t = AllByRecursion (λ (i : IntentRow). i.ord ≢ n) t.intents
 pub record TakesIntents (n : ℕ) (t : Tables) : Type 0 where
   pub few : n < 2 ^ 32
   pub free : (k : ℕ) → 1 ≤ k → k ≤ n → IsUnnumbered k t
+
+-- a command can be added under this key and number, with these words
+pub record TakesCommand (key words : List ℕ) (number : ℕ) (db : Trees) (t : Tables) : Type 0 where
+  pub key_free : IsFree t key
+  pub number_free : AllByRecursion (λ (c : CommandRow). c.seq ≢ number) t.commands
+  pub short : AreShort key words
+  pub room : TakesMore 1 (db 8)

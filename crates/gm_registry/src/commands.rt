@@ -3,7 +3,8 @@
 
 ghost use Rattle.std.specs.Prelude.{◌≡◌};
 ghost use Rattle.gm_registry.specs.Changes.{with_command, command_row};
-ghost use Rattle.gm_registry.specs.Registry.{LeavesNothingNew, KeepsCommit, MakesInside};
+ghost use Rattle.gm_registry.specs.Fitting.{TakesCommand};
+ghost use Rattle.gm_registry.specs.Registry.{LeavesNothingNew, KeepsCommit, MakesInside, FailsInside};
 
 use gm_state::Reply;
 use sqlite::{Alter, Error, Transaction, params};
@@ -27,6 +28,8 @@ fn put_row<S: Alter>(
           copied = copied;
           of_total = of_total;
         })) }
+    ensures fails { FailsInside S.Store tx.old.conn.now tx.new.conn.now result
+        (TakesCommand key.now words.now number) }
     ensures kept { KeepsCommit S.Store tx.old.conn.now tx.new.conn.now }
     ensures survives { LeavesNothingNew S.Store tx.old.conn.now tx.new.conn.now }
 {
@@ -47,6 +50,8 @@ pub(crate) fn put_command<S: Alter>(
     ensures same_reference { tx.new.conn.ghost_name ≡ tx.old.conn.ghost_name }
     ensures put { MakesInside S.Store tx.old.conn.now tx.new.conn.now result
         (with_command (command_row key.now number words.now reply)) }
+    ensures fails { FailsInside S.Store tx.old.conn.now tx.new.conn.now result
+        (TakesCommand key.now words.now number) }
     ensures kept { KeepsCommit S.Store tx.old.conn.now tx.new.conn.now }
     ensures survives { LeavesNothingNew S.Store tx.old.conn.now tx.new.conn.now }
 {

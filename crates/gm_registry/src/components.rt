@@ -1,9 +1,9 @@
 //! The table of components, written by the provider, inside a transaction.
 
-ghost use Rattle.std.specs.Prelude.{◌≡◌};
+ghost use Rattle.std.specs.Prelude.{◌≡◌, ⊤};
 ghost use Rattle.gm_state.specs.Rows.{component_row};
 ghost use Rattle.gm_registry.specs.Changes.{with_component, without_component, with_components, without_components};
-ghost use Rattle.gm_registry.specs.Registry.{LeavesNothingNew, KeepsCommit, MakesInside};
+ghost use Rattle.gm_registry.specs.Registry.{LeavesNothingNew, KeepsCommit, MakesInside, FailsInside};
 
 use gm_metadata::Label;
 use gm_rows::{bytes_in, disk_number, truth_number};
@@ -59,6 +59,7 @@ fn drop_component<S: Alter>(tx: &mut Transaction<'_, S>, provider: Label) -> Res
     ensures same_reference { tx.new.conn.ghost_name ≡ tx.old.conn.ghost_name }
     ensures put { MakesInside S.Store tx.old.conn.now tx.new.conn.now result
         (without_component provider) }
+    ensures fails { FailsInside S.Store tx.old.conn.now tx.new.conn.now result (λ _ _. ⊤) }
     ensures kept { KeepsCommit S.Store tx.old.conn.now tx.new.conn.now }
     ensures survives { LeavesNothingNew S.Store tx.old.conn.now tx.new.conn.now }
 {
@@ -76,6 +77,7 @@ pub(crate) fn drop_components<S: Alter>(
     ensures same_reference { tx.new.conn.ghost_name ≡ tx.old.conn.ghost_name }
     ensures put { MakesInside S.Store tx.old.conn.now tx.new.conn.now result
         (without_components providers.now) }
+    ensures fails { FailsInside S.Store tx.old.conn.now tx.new.conn.now result (λ _ _. ⊤) }
     ensures kept { KeepsCommit S.Store tx.old.conn.now tx.new.conn.now }
     ensures survives { LeavesNothingNew S.Store tx.old.conn.now tx.new.conn.now }
 {

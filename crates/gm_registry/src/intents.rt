@@ -1,7 +1,7 @@
 //! The table of intents: written inside a transaction, numbered from 1 in their order, and emptied
 //! in one of its own.
 
-ghost use Rattle.std.specs.Prelude.{◌≡◌, [], ◌∷◌, length};
+ghost use Rattle.std.specs.Prelude.{◌≡◌, [], ◌∷◌, length, ⊤};
 ghost use Rattle.gm_state.specs.Rows.{Tables, intent_row, intent_rows};
 ghost use Rattle.gm_registry.specs.Changes.{with_intents, settled, left_of};
 ghost use Rattle.gm_registry.specs.Fitting.{IsUnnumbered, AreShort, TakesIntents};
@@ -113,6 +113,7 @@ pub(crate) enum Pending {
 fn drop_intents<S: Alter>(tx: &mut Transaction<'_, S>) -> Result<usize, Error>
     ensures same_reference { tx.new.conn.ghost_name ≡ tx.old.conn.ghost_name }
     ensures put { MakesInside S.Store tx.old.conn.now tx.new.conn.now result settled }
+    ensures fails { FailsInside S.Store tx.old.conn.now tx.new.conn.now result (λ _ _. ⊤) }
     ensures kept { KeepsCommit S.Store tx.old.conn.now tx.new.conn.now }
     ensures survives { LeavesNothingNew S.Store tx.old.conn.now tx.new.conn.now }
 {
@@ -126,6 +127,7 @@ pub(crate) fn drop_pending<S: Alter>(
 ) -> Result<(), Error>
     ensures same_reference { tx.new.conn.ghost_name ≡ tx.old.conn.ghost_name }
     ensures put { MakesInside S.Store tx.old.conn.now tx.new.conn.now result (left_of pending) }
+    ensures fails { FailsInside S.Store tx.old.conn.now tx.new.conn.now result (λ _ _. ⊤) }
     ensures kept { KeepsCommit S.Store tx.old.conn.now tx.new.conn.now }
     ensures survives { LeavesNothingNew S.Store tx.old.conn.now tx.new.conn.now }
 {

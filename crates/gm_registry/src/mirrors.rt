@@ -3,7 +3,8 @@
 ghost use Rattle.std.specs.Prelude.{◌≡◌};
 ghost use Rattle.gm_state.specs.Rows.{mirror_row};
 ghost use Rattle.gm_registry.specs.Changes.{with_mirror, without_mirror};
-ghost use Rattle.gm_registry.specs.Registry.{LeavesNothingNew, KeepsCommit, MakesInside};
+ghost use Rattle.gm_registry.specs.Fitting.{HasNoComponents};
+ghost use Rattle.gm_registry.specs.Registry.{LeavesNothingNew, KeepsCommit, MakesInside, FailsInside};
 
 use gm_metadata::Label;
 use gm_rows::{balance_number, bytes_in, mirror_number};
@@ -44,6 +45,8 @@ pub(crate) fn drop_mirror<S: Alter>(
 ) -> Result<usize, Error>
     ensures same_reference { tx.new.conn.ghost_name ≡ tx.old.conn.ghost_name }
     ensures put { MakesInside S.Store tx.old.conn.now tx.new.conn.now result (without_mirror name) }
+    ensures fails { FailsInside S.Store tx.old.conn.now tx.new.conn.now result
+        (λ _. HasNoComponents name) }
     ensures kept { KeepsCommit S.Store tx.old.conn.now tx.new.conn.now }
     ensures survives { LeavesNothingNew S.Store tx.old.conn.now tx.new.conn.now }
 {

@@ -17,7 +17,7 @@ use Rattle.sqlite_rules.specs.Action.{works}
 use Rattle.sqlite_rules.specs.Calls.{ids_of}
 use Rattle.sqlite.specs.Rowids.TheVariants.{Given}
 use Rattle.sqlite.specs.Does.{Tally, OnRows}
-use Rattle.sqlite.specs.Rows.{Written, Task}
+use Rattle.sqlite.specs.Rows.{Written, Task, Deletes}
 use Rattle.sqlite.specs.Effect.{Database}
 use Rattle.sqlite.specs.declared.run.Mode.{Mode}
 use Rattle.sqlite.proofs.Callers.{one_step}
@@ -39,6 +39,30 @@ module _ (schema : Schema) (at : ℕ) (table : Table) (limit : Option ℕ) (mode
   task = record { limit = limit; keys = mode.keys; schema = schema; table = table; params = params }
 
   -- for any test that tells which rows the query finds
+  pub takes_out : (test : Row → Bool) (tests : List Term) (db : Trees) (w : Written)
+      → IsShaped shape.Table (db table.tree)
+      → ((rows : List Row) → IsAnswer (scan table.tree tests (col 1 0 ∷ []) []) db params rows
+      → IsPermutation (map (λ r. column r 0 ∷ []) (filter test (db table.tree))) rows)
+      → Deletes task (record { lets = []; body = scan table.tree tests (col 1 0 ∷ []) [] }) db (Ok w)
+      → Loses schema table test (record { schema = schema; trees = db })
+      (record { schema = schema; trees = w.trees })
+  takes_out test tests db w keyed finds h =
+      let asked = went h in
+      let among = finds asked.0
+      (subst (λ t. IsAnswer (scan table.tree tests (col 1 0 ∷ []) []) t params asked.0)
+      (overlaid db) (asked.1.answer Null)) in
+      let written = went asked.2 in
+      let one = one_step schema mode.keys db written.0
+      (edit_of db table (ids_of asked.0) Given 0 []) (idle _) written.1 in
+      let trees : w.trees ≡ written.0 = ap (λ (it : Written). it.trees) (same_value written.2) in
+      record {
+        schema_is = refl;
+        rows = ap (λ (t : Trees). t table.tree) trees ∙ one.rows
+            ∙ left_are (db table.tree) keyed test (λ r. column r 0 ∷ []) (λ r. refl) asked.0 among;
+        tables = subst (λ (t : Trees). AllByRecursion (λ u. u.tree ≢ table.tree
+            → t u.tree ≡ db u.tree) schema.tables) (sym trees) one.tables;
+      }
+
   drops_as : (test : Row → Bool) (tests : List Term) (db : Trees) (after : Database) (tally : Tally)
       → IsShaped shape.Table (db table.tree)
       → ((rows : List Row) → IsAnswer (scan table.tree tests (col 1 0 ∷ []) []) db params rows
@@ -50,22 +74,8 @@ module _ (schema : Schema) (at : ℕ) (table : Table) (limit : Option ℕ) (mode
   drops_as test tests db after tally keyed finds h =
       let done = went h in
       let now = ap (λ (p : Tally × Database). p.1) (same_value (went (went done.2).2).2) in
-      let asked = went done.1 in
-      let among = finds asked.0
-      (subst (λ t. IsAnswer (scan table.tree tests (col 1 0 ∷ []) []) t params asked.0)
-      (overlaid db) (asked.1.answer Null)) in
-      let written = went asked.2 in
-      let one = one_step schema mode.keys db written.0
-      (edit_of db table (ids_of asked.0) Given 0 []) (idle _) written.1 in
-      let trees : after.trees ≡ written.0 = ap (λ (d : Database). d.trees) now
-      ∙ ap (λ (it : Written). it.trees) (same_value written.2) in
-      record {
-        schema_is = ap (λ (d : Database). d.schema) now;
-        rows = ap (λ (t : Trees). t table.tree) trees ∙ one.rows
-            ∙ left_are (db table.tree) keyed test (λ r. column r 0 ∷ []) (λ r. refl) asked.0 among;
-        tables = subst (λ (t : Trees). AllByRecursion (λ u. u.tree ≢ table.tree
-            → t u.tree ≡ db u.tree) schema.tables) (sym trees) one.tables;
-      }
+      subst (λ d. Loses schema table test (record { schema = schema; trees = db }) d) (sym now)
+      (takes_out test tests db done.0 keyed finds done.1)
 
   pub drops : (test : Term) (db : Trees) (after : Database) (tally : Tally)
       → IsShaped shape.Table (db table.tree)

@@ -7,6 +7,7 @@ pub mod Inserting
 pub mod KeptUnique
 pub mod Keyed
 pub mod Looping
+pub mod NextNumber
 pub mod Reading
 pub mod Refusing
 pub mod Replacing
@@ -15,5 +16,6 @@ pub mod Showing
 pub mod SmallRows
 pub mod Statements
 pub mod Stopping
+pub mod StoppingDeletes
 pub mod Unique
 pub mod ValueLemmas

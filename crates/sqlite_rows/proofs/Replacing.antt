@@ -43,7 +43,7 @@ use Rattle.sqlite_trees.proofs.TreeLemmas.{IsShaped-filter}
 use Rattle.sqlite.specs.Rowids.TheVariants.{Given, Chosen, Above}
 use Rattle.sqlite.specs.Cast.{cast_all, cast_row}
 use Rattle.sqlite.specs.Does.{Tally, OnRows}
-use Rattle.sqlite.specs.Rows.{Written, Task, stamped, shown, Judged, Upserts, Meets, Clears, Puts, Updates, nothing, Tries, TriesEach, rowids_for, count_of}
+use Rattle.sqlite.specs.Rows.{Written, Task, stamped, shown, Judged, Upserts, Meets, Clears, Puts, Updates, nothing, Tries, TriesEach, InsertsOr, rowids_for, count_of}
 use Rattle.sqlite.specs.Effect.{Database, value_rows}
 use Rattle.sqlite.specs.declared.run.Mode.{Mode}
 use Rattle.sqlite.proofs.Callers.{one_step, one_permutation}
@@ -216,6 +216,62 @@ module _ (schema : Schema) (table : Table) (listed : Has schema.tables table) (i
       abbrev after : Row → Row
       after r = column r 0 ∷ column r 0 ∷ column r 1 ∷ rest
 
+      module _ (db : Trees) (id : ℤ) (was : Row) (keyed : IsShaped shape.Table (db table.tree))
+          (has : Has (db table.tree) was)
+          (clashes_it : conflicts (Some (1 ∷ [])) schema.indexes table (row_at id) was ≡ true) where
+        abbrev given : Row
+        given = params ++ rowid was ∷ shown table (row_at id)
+
+        abbrev is_it : Row → Bool
+        is_it r = equal Binary (rowid r) (rowid was)
+
+        int_was : IsTrue (is_int (rowid was))
+        int_was = all_has (λ x. IsTrue (is_int (rowid x))) (db table.tree) was keyed.1 has
+
+        key_is : column was 1 ≡ Text key
+        key_is = equal_text (column was 1) key (only (row_at id) was clashes_it)
+
+        names : (r : Row) → Has (db table.tree) r → is_it r ≡ true → r ≡ was
+        names r here is =
+            one_row (db table.tree) keyed r was here has (ap (λ v. is_eq (value_cmp (rowid r) v))
+            (sym (int_is (rowid was) int_was))
+            ∙ (sym (ints_equal (rowid r) (rowid was)
+            (all_has (λ x. IsTrue (is_int (rowid x))) (db table.tree) r keyed.1 here) int_was) ∙ is))
+
+        just : filter is_it (db table.tree) ≡ was ∷ []
+        just =
+            just_one is_it was (db table.tree) keyed.0 has
+            (ints_equal (rowid was) (rowid was) int_was int_was ∙ ap is_eq (same_value_cmp (rowid was)))
+            names
+
+        -- the update shows what it makes of that row
+        shows_it : (rows : List Row) → IsAnswer (scan table.tree (test ∷ []) project []) db given rows
+            → rows ≡ after was ∷ []
+        shows_it rows a =
+            let tests : filter (λ r. holds (given ∷ r ∷ []) test) (db table.tree)
+            ≡ filter is_it (db table.tree) =
+            filter_agree (λ r. holds (given ∷ r ∷ []) test) is_it
+            (λ r. ap (equal Binary (rowid r)) (at_there (rowid was) (shown table (row_at id))))
+            (db table.tree) in
+            let one_found : map (λ r. eval_all project (given ∷ r ∷ []))
+            (filter (λ r. holds (given ∷ r ∷ []) test) (db table.tree)) ≡ after was ∷ [] =
+            ap (map (λ r. eval_all project (given ∷ r ∷ []))) (tests ∙ just)
+            ∙ ap (λ x. x ∷ []) (projected (rowid was) id was) in
+            one_permutation (after was) rows (subst (λ l. IsPermutation l rows) one_found
+            (found table.tree project [] db given rows test a))
+
+        new_over : cast_row table (column was 0 ∷ column was 1 ∷ rest) ≡ row_at (id_in (rowid was))
+        new_over =
+            ap₂ (λ v u. cast_row table (v ∷ u ∷ rest)) (int_is (rowid was) int_was) key_is
+            ∙ typed_at (id_in (rowid was))
+
+        left_over : without_all (db table.tree) (ids_of (after was ∷ []))
+            ≡ filter (λ r. not (is_it r)) (db table.tree)
+        left_over =
+            left_are (db table.tree) keyed is_it after (λ r. refl) (after was ∷ [])
+            (subst (λ l. IsPermutation (map after l) (after was ∷ [])) (sym just)
+            (IsPermutation-refl (after was ∷ [])))
+
       -- the row of the key is written over
       pub put_over : (db : Trees) (id : ℤ) (was : Row) (one : Written)
           → IsShaped shape.Table (db table.tree) → Has (db table.tree) was
@@ -225,49 +281,21 @@ module _ (schema : Schema) (table : Table) (listed : Has schema.tables table) (i
           → Replaces schema table key (over db) (over one.trees) (Text key ∷ rest)
       put_over db id was one keyed has clashes_it h =
           let rows = db table.tree in
-          let given = params ++ rowid was ∷ shown table (row_at id) in
-          let p : Row → Bool = λ r. equal Binary (rowid r) (rowid was) in
+          let p = is_it db id was keyed has clashes_it in
           let asked = went h in
-          let a : IsAnswer (scan table.tree (test ∷ []) project []) db given asked.0 =
-          subst (λ t. IsAnswer (scan table.tree (test ∷ []) project []) t given asked.0)
+          let a : IsAnswer (scan table.tree (test ∷ []) project []) db
+          (given db id was keyed has clashes_it) asked.0 =
+          subst (λ t. IsAnswer (scan table.tree (test ∷ []) project []) t
+          (given db id was keyed has clashes_it) asked.0)
           (overlaid db) (asked.1.answer Null) in
-          let int_was : IsTrue (is_int (rowid was)) =
-          all_has (λ x. IsTrue (is_int (rowid x))) rows was keyed.1 has in
-          let key_is : column was 1 ≡ Text key =
-          equal_text (column was 1) key (only (row_at id) was clashes_it) in
-          let names : (r : Row) → Has rows r → p r ≡ true → r ≡ was = λ r here is.
-          one_row rows keyed r was here has (ap (λ v. is_eq (value_cmp (rowid r) v))
-          (sym (int_is (rowid was) int_was))
-          ∙ (sym (ints_equal (rowid r) (rowid was)
-          (all_has (λ x. IsTrue (is_int (rowid x))) rows r keyed.1 here) int_was) ∙ is)) in
-          let mine : p was ≡ true = ints_equal (rowid was) (rowid was) int_was int_was
-          ∙ ap is_eq (same_value_cmp (rowid was)) in
-          let just : filter p rows ≡ was ∷ [] = just_one p was rows keyed.0 has mine names in
-          let tests : filter (λ r. holds (given ∷ r ∷ []) test) rows ≡ filter p rows =
-          filter_agree (λ r. holds (given ∷ r ∷ []) test) p
-          (λ r. ap (equal Binary (rowid r)) (at_there (rowid was) (shown table (row_at id))))
-          rows in
-          let one_found : map (λ r. eval_all project (given ∷ r ∷ []))
-          (filter (λ r. holds (given ∷ r ∷ []) test) rows) ≡ after was ∷ [] =
-          ap (map (λ r. eval_all project (given ∷ r ∷ []))) (tests ∙ just)
-          ∙ ap (λ x. x ∷ []) (projected (rowid was) id was) in
-          let shows : asked.0 ≡ after was ∷ [] =
-          one_permutation (after was) asked.0
-          (subst (λ l. IsPermutation l asked.0) one_found
-          (found table.tree project [] db given asked.0 test a)) in
+          let shows = shows_it db id was keyed has clashes_it asked.0 a in
           let w = went asked.2 in
           let it = subst (λ l. Applies schema mode.keys db (edit_of db table (ids_of l) Given 1 l)
           w.0) shows
           (one_step schema mode.keys db w.0 (edit_of db table (ids_of asked.0) Given 1 asked.0)
           (idle _ _) w.1) in
-          let new_is : cast_row table (column was 0 ∷ column was 1 ∷ rest)
-          ≡ row_at (id_in (rowid was)) =
-          ap₂ (λ v u. cast_row table (v ∷ u ∷ rest)) (int_is (rowid was) int_was) key_is
-          ∙ typed_at (id_in (rowid was)) in
-          let left : without_all rows (ids_of (after was ∷ [])) ≡ filter (λ r. not (p r)) rows =
-          left_are rows keyed p after (λ r. refl) (after was ∷ [])
-          (subst (λ l. IsPermutation (map after l) (after was ∷ [])) (sym just)
-          (IsPermutation-refl (after was ∷ []))) in
+          let new_is = new_over db id was keyed has clashes_it in
+          let left = left_over db id was keyed has clashes_it in
           let trees : w.0 ≡ one.trees = ap (λ (x : Written). x.trees) (sym (same_value w.2)) in
           let fresh : are_fresh (filter (λ r. not (p r)) rows) (row_at (id_in (rowid was)) ∷ [])
           ≡ true = subst (λ l. are_fresh l (row_at (id_in (rowid was)) ∷ []) ≡ true) left
@@ -275,7 +303,8 @@ module _ (schema : Schema) (table : Table) (listed : Has schema.tables table) (i
           new_is it.fresh) in
           subst (λ t. Replaces schema table key (over db) (over t) (Text key ∷ rest)) trees
           (settles db w.0 p key rest (id_in (rowid was)) keyed
-          (λ r here is. ap (has_key key) (names r here is) ∙ only (row_at id) was clashes_it)
+          (λ r here is. ap (has_key key) (names db id was keyed has clashes_it r here is)
+          ∙ only (row_at id) was clashes_it)
           (it.rows ∙ ap₂ put_row new_is left) fresh it.fits it.tables)
 
       clears_new : (db : Trees) (id : ℤ) (one : Written) (found : List Row)
@@ -320,21 +349,17 @@ module _ (schema : Schema) (table : Table) (listed : Has schema.tables table) (i
         new_is db top = ap₂ (λ ids row. with_rowid ids (db table.tree) row)
             (ap (λ b. cond b (Above top) Chosen) uncounted) (λ i. cast_null i ∷ typed i)
 
-        pub upserts : (db : Trees) (done : Database) (tally : Tally)
-            → IsShaped shape.Table (db table.tree)
-            → OnRows task mode None (InsertOr at Abort (Values terms width) (clause ∷ [])) db
-            (Ok (tally, done)) → Replaces schema table key (over db) done (Text key ∷ rest)
-        upserts db done tally keyed h =
-            let made = went h in
-            let now : over made.0.trees ≡ done =
-            ap (λ (p : Tally × Database). p.1) (sym (same_value (went (went made.2).2).2)) in
-            let sourced = went made.1 in
+        upserted : (db : Trees) (made : Written) → IsShaped shape.Table (db table.tree)
+            → InsertsOr task Abort (clause ∷ []) (Values terms width) db (Ok made)
+            → Replaces schema table key (over db) (over made.trees) (Text key ∷ rest)
+        upserted db made keyed h =
+            let sourced = went h in
             let counter = went sourced.2 in
             let trying = went counter.2 in
             let counted = went trying.2 in
             let kept : Ok counted.0 ≡ Ok trying.0.0.trees =
             if_not _ _ _ (counts_none _ uncounted _ _) counted.1 in
-            let trees : trying.0.0.trees ≡ made.0.trees =
+            let trees : trying.0.0.trees ≡ made.trees =
             sym (ap (λ (it : Written). it.trees) (same_value counted.2) ∙ same_value kept) in
             let each = went
             (subst (λ rows. TriesEach task Abort (clause ∷ []) rows (count_of counter.0)
@@ -345,4 +370,15 @@ module _ (schema : Schema) (table : Table) (listed : Has schema.tables table) (i
             let last : each.0.trees ≡ trying.0.0.trees =
             ap (λ (p : Written × ℤ). p.0.trees) (sym (same_value each.2)) in
             subst (λ d. Replaces schema table key (over db) d (Text key ∷ rest))
-            (ap over (last ∙ trees) ∙ now) it
+            (ap over (last ∙ trees)) it
+
+        pub upserts : (db : Trees) (done : Database) (tally : Tally)
+            → IsShaped shape.Table (db table.tree)
+            → OnRows task mode None (InsertOr at Abort (Values terms width) (clause ∷ [])) db
+            (Ok (tally, done)) → Replaces schema table key (over db) done (Text key ∷ rest)
+        upserts db done tally keyed h =
+            let made = went h in
+            let now : over made.0.trees ≡ done =
+            ap (λ (p : Tally × Database). p.1) (sym (same_value (went (went made.2).2).2)) in
+            subst (λ d. Replaces schema table key (over db) d (Text key ∷ rest)) now
+            (upserted db made.0 keyed made.1)

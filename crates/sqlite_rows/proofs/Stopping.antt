@@ -13,7 +13,7 @@ use Rattle.sqlite.specs.Source.TheVariants.{Values}
 use Rattle.sqlite.specs.Command.{Command}
 use Rattle.sqlite.specs.Command.TheVariants.{Insert, InsertOr, Update, Delete}
 use Rattle.sqlite.specs.Calls.{IsWrite}
-use Rattle.sqlite.specs.Does.{Does, OnRows, Concludes}
+use Rattle.sqlite.specs.Does.{Does, OnRows, Concludes, due}
 use Rattle.sqlite.specs.Rows.{Written, Task, Inserts, stamped, rowids_for, count_of}
 use Rattle.sqlite.specs.Effect.{is_query, value_rows}
 use Rattle.sqlite.specs.Edit.{edit_of}
@@ -177,11 +177,14 @@ module _ (schema : Schema) (sql : List ℕ) (params : Row) (command : Command)
 abbrev pub at_once : Mode
 at_once = record { keys = Enforced; in_doubt = false; may_wait = false }
 
-pub concluded : (task : Task) (w : Written) (stop : Option Error) → Refers All task.schema w.trees
-    → Concludes task at_once None w (Err stop) → ⊥
-concluded task w stop refers (inl (why, tested, is)) = absurd (tested.0 refers)
-concluded task w stop refers (inr (doubt, held, inl (why, none, is))) = absurd (let e = none in cc)
-concluded task w stop refers (inr (doubt, held, inr (rows, none, is))) = absurd (let e = is in cc)
+pub concluded : (task : Task) (mode : Mode) → due mode ≡ All → (w : Written) (stop : Option Error)
+    → Refers All task.schema w.trees → Concludes task mode None w (Err stop) → ⊥
+concluded task mode all w stop refers (inl (why, tested, is)) =
+    absurd (tested.0 (subst (λ among. Refers among task.schema w.trees) (sym all) refers))
+concluded task mode all w stop refers (inr (doubt, held, inl (why, none, is))) =
+    absurd (let e = none in cc)
+concluded task mode all w stop refers (inr (doubt, held, inr (rows, none, is))) =
+    absurd (let e = is in cc)
 
 -- one row is inserted
 module _ (schema : Schema) (at : ℕ) (table : Table) (uncounted : table.is_counted ≡ false)
@@ -252,4 +255,4 @@ module _ (schema : Schema) (at : ℕ) (table : Table) (uncounted : table.is_coun
           → OnRows task at_once None (Insert at (Values terms width)) db (Err stop) → IsSome limit
       insert_stops stop (inl (why, inserts, is)) = inserted why inserts
       insert_stops stop (inr (w, inserts, ends)) =
-          absurd (concluded task w stop (referring w inserts) ends)
+          absurd (concluded task at_once refl w stop (referring w inserts) ends)

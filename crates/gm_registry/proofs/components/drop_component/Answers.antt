@@ -1,4 +1,7 @@
-use Rattle.std.proofs.Common.{[], ◌∷◌}
+use Rattle.gm_registry.proofs.InsideFails.{inside_fails}
+use Rattle.gm_registry.proofs.FittingDeletes.{drop_component_whole, drop_component_stops}
+use Rattle.std.specs.Prelude.{⊤}
+use Rattle.std.proofs.Common.{[], ◌∷◌, refl}
 use Rattle.sqlite.specs.declared.types.Value.TheVariants.{Text}
 use Rattle.sqlite.specs.Held.{state}
 use Rattle.sqlite_rows.proofs.Statements.{at_inside, keeps_held}
@@ -6,7 +9,7 @@ use Rattle.gm_rows.specs.Schema.{registry_schema}
 use Rattle.gm_rows.specs.Statements.{drop_component_text}
 use Rattle.gm_rows.specs.Tables.{HasRows}
 use Rattle.gm_registry.specs.Changes.{without_component}
-use Rattle.gm_registry.proofs.TextMeanings.{drop_component_is}
+use Rattle.gm_registry.proofs.TextMeanings.{drop, drop_component_is}
 use Rattle.gm_registry.proofs.ChangedTables.{drops_component}
 use Rattle.gm_registry.proofs.components.drop_component.Goals as goal
 
@@ -23,3 +26,11 @@ pub returns-clause-kept : goal.returns-clause-kept
 returns-clause-kept g c clean =
     keeps_held g.S.Store c.args.tx.now.conn.now c.execute.new.self.conn.now _ _ c.execute.result
     (c.execute.ensures.runs clean) c.execute.ensures.ended
+
+pub returns-clause-fails : goal.returns-clause-fails
+returns-clause-fails g c clean =
+    inside_fails drop_component_text (Text c.args.provider ∷ []) (drop 2 4) drop_component_is
+    drop_component_whole refl refl (λ _ _. ⊤) (drop_component_stops c.args.provider)
+    (state g.S.Store c.args.tx.now.conn.now) (state g.S.Store c.execute.new.self.conn.now)
+    c.execute.result
+    (rw (c.params-to_sql.ensures, c.as_str.ensures.text) at (c.execute.ensures.runs clean))

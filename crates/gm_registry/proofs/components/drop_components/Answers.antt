@@ -1,3 +1,5 @@
+use Rattle.std.specs.Prelude.{⊤}
+use Rattle.gm_registry.proofs.InsideFails.{passed_on, fails_after}
 use Rattle.std.proofs.Common.{take, refl, subst, ◌∙◌}
 use Rattle.std.proofs.lemmas.List.{take_all}
 use Rattle.sqlite.specs.Held.{state}
@@ -28,3 +30,12 @@ returns-clause-put g c clean first t was =
     subst (λ all. IsInside first (state g.S.Store c.drops.tx.conn.now) (without_components all t))
     (take_all c.drops.provider-index c.args.providers.now c.drops-test.false)
     (c.drops.invariant.1.put clean first t was)
+
+pub returns-in_err-drop_component-clause-fails : goal.returns-in_err-drop_component-clause-fails
+returns-in_err-drop_component-clause-fails g c clean =
+    passed_on c.from_residual.result c.in_err-drop_component.field-0.0 _ c.from_residual.ensures.1
+    (λ is. fails_after (state g.S.Store c.args.tx.now.conn.now) (state g.S.Store c.drops.tx.conn.now)
+    (state g.S.Store c.drop_component.new.tx.conn.now)
+    (without_components (take c.drops.provider-index c.args.providers.now)) c.drops.invariant.1
+    c.drop_component.ensures.survives clean (λ _. ⊤) (λ _. ⊤) (λ t fits. tt)
+    (c.in_err-drop_component.ensures.fails clean is))

@@ -1,3 +1,8 @@
+use Rattle.std.specs.Prelude.{⊤}
+use Rattle.std.proofs.Common.{refl}
+use Rattle.gm_registry.proofs.FittingDeletes.{settle_stops_only}
+use Rattle.gm_registry.proofs.InsideFails.{inside_fails}
+use Rattle.gm_registry.proofs.SettlingFails.{settle_whole}
 use Rattle.std.proofs.Common.{[]}
 use Rattle.sqlite.specs.Held.{state}
 use Rattle.sqlite_rows.proofs.Statements.{at_inside, keeps_held}
@@ -5,7 +10,7 @@ use Rattle.gm_rows.specs.Schema.{registry_schema}
 use Rattle.gm_rows.specs.Statements.{settle_text}
 use Rattle.gm_rows.specs.Tables.{HasRows}
 use Rattle.gm_registry.specs.Changes.{settled}
-use Rattle.gm_registry.proofs.TextMeanings.{settle_is}
+use Rattle.gm_registry.proofs.TextMeanings.{settle, settle_is}
 use Rattle.gm_registry.proofs.ChangedTables.{settles_all}
 use Rattle.gm_registry.proofs.intents.drop_intents.Goals as goal
 
@@ -20,3 +25,9 @@ pub returns-clause-kept : goal.returns-clause-kept
 returns-clause-kept g c clean =
     keeps_held g.S.Store c.args.tx.now.conn.now c.execute.new.self.conn.now _ _ c.execute.result
     (c.execute.ensures.runs clean) c.execute.ensures.ended
+
+pub returns-clause-fails : goal.returns-clause-fails
+returns-clause-fails g c clean =
+    inside_fails settle_text [] settle settle_is settle_whole refl refl (λ _ _. ⊤) settle_stops_only
+    (state g.S.Store c.args.tx.now.conn.now) (state g.S.Store c.execute.new.self.conn.now)
+    c.execute.result (c.execute.ensures.runs clean)

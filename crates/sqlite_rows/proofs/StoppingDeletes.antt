@@ -1,0 +1,90 @@
+-- Why a DELETE of the rows that pass a test stops.
+use Rattle.std.proofs.Common.{◌≡◌, inl, inr, ℕ, true, List, [], ◌∷◌, Option, Some, None, Err, IsSome, sym, ◌∙◌, refl}
+use Rattle.std.proofs.lemmas.Bool.{true≢false}
+use Rattle.sqlite.specs.Order.{Row}
+use Rattle.sqlite.specs.Term.{Term, col, holds}
+use Rattle.sqlite.specs.Table.{Table}
+use Rattle.sqlite.specs.Schema.{Schema}
+use Rattle.sqlite.specs.Tree.{Trees}
+use Rattle.sqlite.specs.Edit.{edit_of}
+use Rattle.sqlite.specs.Rowids.TheVariants.{Given}
+use Rattle.sqlite.specs.Command.TheVariants.{Delete}
+use Rattle.sqlite.specs.Does.{OnRows}
+use Rattle.sqlite.specs.Rows.{Task, Deletes}
+use Rattle.sqlite.specs.declared.error.Error.{Error}
+use Rattle.sqlite_schema.specs.declared.program.Program.{Program}
+use Rattle.sqlite_schema.specs.declared.schema.Keys.TheVariants.{Enforced}
+use Rattle.sqlite_schema.specs.declared.schema.Among.TheVariants.{All}
+use Rattle.sqlite_schema.specs.declared.schema.Constraint.TheVariants.{Unique}
+use Rattle.sqlite_schema.specs.Rules.{Refers, Keeps}
+use Rattle.sqlite_sql.specs.Program.{ProgramOverflows}
+use Rattle.sqlite_trees.specs.Tree.{IsAscending}
+use Rattle.sqlite_trees.specs.View.{IsShaped}
+use Rattle.sqlite_trees.specs.declared.store.Shape.TheVariants as shape
+use Rattle.sqlite_typing.specs.Types.{accepts_program}
+use Rattle.sqlite_rules.specs.Action.{works}
+use Rattle.sqlite_rules.specs.Calls.{ids_of}
+use Rattle.sqlite_rules.specs.Edit.{is_referred}
+use Rattle.sqlite_rules.specs.Lists.{Has}
+use Rattle.sqlite_rows.proofs.Dropping.{Loses, takes_out}
+use Rattle.sqlite_rows.proofs.Finding.{scan, found}
+use Rattle.sqlite_rows.proofs.KeptUnique.{unique_less}
+use Rattle.sqlite_rows.proofs.Stopping.{IsAllowed, never_stops, concluded, at_once}
+
+module _ (schema : Schema) (at : ℕ) (table : Table) (listed : Has schema.tables table)
+    (apart : IsAscending (λ a b. a.tree ≡ b.tree → ⊥) schema.tables)
+    (idle : (olds : List Row) → works schema Enforced 0 table.tree olds [] ≡ [])
+    (limit : Option ℕ) (params : Row) (db : Trees) (test : Term)
+    (keyed : IsShaped shape.Table (db table.tree)) (unique : Keeps Unique schema db) where
+  abbrev program : Program
+  program = record { lets = []; body = scan table.tree (test ∷ []) (col 1 0 ∷ []) [] }
+
+  abbrev task : Task
+  task = record {
+    limit = limit;
+    keys = Enforced;
+    schema = schema;
+    table = table;
+    params = params;
+  }
+
+  allowed : (rows : List Row) → is_referred schema Enforced (edit_of db table (ids_of rows) Given 0 []) ≡ true
+      → IsAllowed schema Enforced db (edit_of db table (ids_of rows) Given 0 [])
+  allowed rows referred = record {
+    typed = refl;
+    present = refl;
+    checked = refl;
+    keyed = refl;
+    numbers = refl;
+    fresh = refl;
+    unique = unique_less schema db (edit_of db table (ids_of rows) Given 0 []) apart listed keyed.0
+        refl refl unique;
+    referred = referred;
+    small = λ row has. absurd has;
+  }
+
+  module _ (typed : accepts_program schema [] program.body params ≡ true)
+      (safe : ProgramOverflows db params [] [] program.body → ⊥)
+      (referred : (rows : List Row)
+      → is_referred schema Enforced (edit_of db table (ids_of rows) Given 0 []) ≡ true)
+      (refers : (next : Trees) → Loses schema table (λ r. holds (params ∷ r ∷ []) test)
+      (record { schema = schema; trees = db }) (record { schema = schema; trees = next })
+      → Refers All schema next) where
+    deleted : (stop : Option Error) → Deletes task program db (Err stop) → IsSome limit
+    deleted stop (inl (None, none, is)) = absurd none
+    deleted stop (inl (Some e, inl ill, is)) = absurd (true≢false (sym typed ∙ ill.1))
+    deleted stop (inl (Some e, inr (inl over), is)) = absurd (safe over.1)
+    deleted stop (inl (Some e, inr (inr limited), is)) = limited.1
+    deleted stop (inr (rows, answered, inl (why, (what, stops, are), is))) =
+        absurd (never_stops schema Enforced db (edit_of db table (ids_of rows) Given 0 [])
+        (allowed rows (referred rows)) (idle _) what stops)
+    deleted stop (inr (rows, answered, inr (next, made, gives))) = absurd (let e = gives in cc)
+
+    pub delete_stops : (stop : Option Error) → OnRows task at_once None (Delete at program) db (Err stop)
+        → IsSome limit
+    delete_stops stop (inl (why, deletes, is)) = deleted why deletes
+    delete_stops stop (inr (w, deletes, ends)) =
+        absurd (concluded task at_once refl w stop (refers w.trees
+        (takes_out schema at table limit at_once params idle (λ r. holds (params ∷ r ∷ []) test)
+        (test ∷ []) db w keyed
+        (λ rows a. found table.tree (col 1 0 ∷ []) [] db params rows test a) deletes)) ends)
