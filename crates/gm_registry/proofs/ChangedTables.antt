@@ -114,13 +114,13 @@ one_of : (e : Bool) → (e && true) || false ≡ true → e ≡ true
 one_of true h = refl
 one_of false h = h
 
-only_mirrors : (new r : Row)
+pub only_mirrors : (new r : Row)
     → conflicts (Some (1 ∷ [])) registry_schema.indexes mirrors new r ≡ true
     → equal Binary (column r 1) (column new 1) ≡ true
 unfolding first_key
 only_mirrors new r h = one_of _ h
 
-only_components : (new r : Row)
+pub only_components : (new r : Row)
     → conflicts (Some (1 ∷ [])) registry_schema.indexes components new r ≡ true
     → equal Binary (column r 1) (column new 1) ≡ true
 unfolding first_key

@@ -42,14 +42,10 @@ use Rattle.gm_rows.specs.Tables.{HasRows}
 use Rattle.gm_registry.specs.Fitting.{TakesCommand}
 use Rattle.gm_registry.specs.Replies.{is_under}
 use Rattle.gm_registry.proofs.ChangedTables.{command_typed}
-use Rattle.gm_registry.proofs.FittingTables.{apart, record_of, same_number, only}
+use Rattle.gm_registry.proofs.FittingTables.{apart, record_of, same_number, only, second_place}
 use Rattle.gm_registry.proofs.InsideFails.{StopsOnly}
 use Rattle.gm_registry.proofs.SettlingFails.{refers}
 use Rattle.gm_registry.proofs.TextMeanings.{command_terms}
-
-second_place : (row : Row) → column (columns row) 1 ≡ column row 2
-second_place [] = refl
-second_place (x ∷ xs) = refl
 
 module _ (c : CommandRow) (db : Trees) (t : Tables) (holds : HasRows db t)
     (sound : IsSound registry_schema db) (takes : TakesCommand c.call_key c.words c.seq db t) where

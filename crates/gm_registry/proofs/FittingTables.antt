@@ -36,6 +36,13 @@ record_of part row_of all rows row kept has =
     mapped_from row_of all (part row)
     (stands_permuted _ _ (part row) (IsPermutation-sym _ _ kept.same) (has_mapped part rows row has))
 
+-- a record has a row
+pub row_of : {A : Type 0} (part : Row → Row) (values : A → Row) (all : List A) (rows : List Row) (x : A)
+    → Keeps part values all rows → Stands all x → (row : Row) × Stands rows row × (values x ≡ part row)
+row_of part values all rows x kept has =
+    mapped_from part rows (values x)
+    (stands_permuted _ _ (values x) kept.same (has_mapped values all x has))
+
 pub only : {A : Type 0} (x y : A) → Stands (x ∷ []) y → y ≡ x
 only x y (inl same) = same
 only x y (inr none) = absurd none
@@ -69,9 +76,13 @@ refers_by next each =
     and_from _ _ (or_right _ _ (some_from _ (next 1) it.0 it.1 (and_from _ _ it.2 refl))) refl) in
     (none (next 0), (none (next 1), (held, (none (next 7), (none (next 8), tt)))))
 
-third_place : (row : Row) → column (columns row) 1 ≡ column row 2
-third_place [] = refl
-third_place (x ∷ xs) = refl
+pub second_place : (row : Row) → column (columns row) 1 ≡ column row 2
+second_place [] = refl
+second_place (x ∷ xs) = refl
+
+pub fourth_place : (row : Row) → column (columns row) 2 ≡ column row 3
+fourth_place [] = refl
+fourth_place (x ∷ xs) = refl
 
 module _ (db : Trees) (t : Tables) (holds : HasRows db t) (sound : IsSound registry_schema db) where
   -- a component has its row, and the row of its mirror
@@ -81,7 +92,7 @@ module _ (db : Trees) (t : Tables) (holds : HasRows db t) (sound : IsSound regis
   unfolding same_name joined first_key
   parent_of k has =
       let of = record_of columns component_values t.components (db 4) k holds.components has in
-      let is : column k 2 ≡ Text of.0.mirror = sym (third_place k) ∙ ap (λ v. column v 1) of.2 in
+      let is : column k 2 ≡ Text of.0.mirror = sym (second_place k) ∙ ap (λ v. column v 1) of.2 in
       let kept = sound.obeys.rules ForeignKey in
       let passed = (and_parts _ _ (all_has _ (db 4) k kept.1.1.0 has)).0 in
       elim (or_cases _ _ passed) [

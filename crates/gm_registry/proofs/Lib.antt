@@ -4,8 +4,10 @@ pub mod ChangedTables
 pub mod CountedThrough
 pub mod Failures
 pub mod FittingCommands
+pub mod FittingComponents
 pub mod FittingDeletes
 pub mod FittingIntents
+pub mod FittingMirrors
 pub mod FittingTables
 pub mod FoundReply
 pub mod Held

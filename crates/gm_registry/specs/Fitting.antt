@@ -1,14 +1,28 @@
 -- What each step of a change needs of the tables, so that no rule of theirs refuses it.
-use Rattle.std.specs.Prelude.{◌≢◌, ℕ, ◌+◌, ◌^◌, ◌<◌, ◌≤◌, List, length}
+use Rattle.std.specs.Prelude.{◌≡◌, ◌≢◌, ℕ, ◌+◌, ◌^◌, ◌<◌, ◌≤◌, List, length}
 use Rattle.std.specs.List.{AllByRecursion}
 use Rattle.sqlite.specs.Tree.{Trees}
 use Rattle.sqlite_rows.specs.Numbers.{TakesMore}
-use Rattle.gm_state.specs.Rows.{Tables, ComponentRow, IntentRow, CommandRow}
+use Rattle.gm_lists.specs.Ordered.{Has}
+use Rattle.gm_state.specs.Rows.{Tables, MirrorRow, ComponentRow, IntentRow, CommandRow}
 use Rattle.gm_registry.specs.Replies.{IsFree}
 
 -- texts that a row can hold, which has at most a billion bytes
 abbrev pub AreShort : List ℕ → List ℕ → Type 0
 AreShort a b = length a + length b + 1000 ≤ 10 ^ 9
+
+-- a mirror can be put in place of the one of its name: no other has its number
+pub record TakesMirror (m : MirrorRow) (db : Trees) (t : Tables) : Type 0 where
+  pub number_free : AllByRecursion (λ (x : MirrorRow). x.name ≢ m.name → x.mid ≢ m.mid) t.mirrors
+  pub room : TakesMore 1 (db 1)
+
+-- a component can be put in place of the one on its provider: its mirror is there, which has no
+-- other of its number
+pub record TakesComponent (k : ComponentRow) (db : Trees) (t : Tables) : Type 0 where
+  pub mirror : (m : MirrorRow) × Has t.mirrors m × (m.name ≡ k.mirror)
+  pub number_free : AllByRecursion (λ (x : ComponentRow). x.prov ≢ k.prov → x.mirror ≡ k.mirror
+      → x.did ≢ k.did) t.components
+  pub room : TakesMore 1 (db 4)
 
 -- no component is of this mirror
 abbrev pub HasNoComponents : List ℕ → Tables → Type 0

@@ -3,6 +3,7 @@
 ghost use Rattle.std.specs.Prelude.{◌≡◌, ⊤};
 ghost use Rattle.gm_state.specs.Rows.{component_row};
 ghost use Rattle.gm_registry.specs.Changes.{with_component, without_component, with_components, without_components};
+ghost use Rattle.gm_registry.specs.Fitting.{TakesComponent};
 ghost use Rattle.gm_registry.specs.Registry.{LeavesNothingNew, KeepsCommit, MakesInside, FailsInside};
 
 use gm_metadata::Label;
@@ -18,6 +19,8 @@ fn put_component<S: Alter>(
     ensures same_reference { tx.new.conn.ghost_name ≡ tx.old.conn.ghost_name }
     ensures put { MakesInside S.Store tx.old.conn.now tx.new.conn.now result
         (with_component (component_row component)) }
+    ensures fails { FailsInside S.Store tx.old.conn.now tx.new.conn.now result
+        (TakesComponent (component_row component)) }
     ensures kept { KeepsCommit S.Store tx.old.conn.now tx.new.conn.now }
     ensures survives { LeavesNothingNew S.Store tx.old.conn.now tx.new.conn.now }
 {

@@ -3,7 +3,7 @@
 ghost use Rattle.std.specs.Prelude.{◌≡◌};
 ghost use Rattle.gm_state.specs.Rows.{mirror_row};
 ghost use Rattle.gm_registry.specs.Changes.{with_mirror, without_mirror};
-ghost use Rattle.gm_registry.specs.Fitting.{HasNoComponents};
+ghost use Rattle.gm_registry.specs.Fitting.{HasNoComponents, TakesMirror};
 ghost use Rattle.gm_registry.specs.Registry.{LeavesNothingNew, KeepsCommit, MakesInside, FailsInside};
 
 use gm_metadata::Label;
@@ -19,6 +19,8 @@ pub(crate) fn put_mirror<S: Alter>(
     ensures same_reference { tx.new.conn.ghost_name ≡ tx.old.conn.ghost_name }
     ensures put { MakesInside S.Store tx.old.conn.now tx.new.conn.now result
         (with_mirror (mirror_row mirror)) }
+    ensures fails { FailsInside S.Store tx.old.conn.now tx.new.conn.now result
+        (TakesMirror (mirror_row mirror)) }
     ensures kept { KeepsCommit S.Store tx.old.conn.now tx.new.conn.now }
     ensures survives { LeavesNothingNew S.Store tx.old.conn.now tx.new.conn.now }
 {

@@ -6,6 +6,7 @@ use Rattle.sqlite.specs.declared.types.Value.TheVariants.{Int}
 use Rattle.sqlite_sql.specs.Ops.{fits_i64}
 use Rattle.sqlite_trees.specs.Tree.{rowid, put_row}
 use Rattle.sqlite_rules.specs.Edit.{id_in, next_rowid}
+use Rattle.sqlite_rules.specs.Lists.{Has}
 use Rattle.sqlite_rules.proofs.ListLemmas.{all_has, all_from, has_filtered}
 use Rattle.sqlite_rules.proofs.TableLemmas.{put_has}
 use Rattle.sqlite_rows.specs.Numbers.{AreUpTo, TakesMore}
@@ -59,3 +60,12 @@ fewer_take p rows more takes = record {
       (has_filtered p rows r has).0);
   room = takes.room;
 }
+
+pub number_fits : (rows : List Row) (more : ℕ) (r : Row) → TakesMore more rows → Has rows r
+    → fits_i64 (id_in (rowid r)) ≡ true
+number_fits rows more r takes has =
+    let it = all_has _ rows r takes.up_to has in
+    let room = takes.room in
+    let low : it.0 < 2 ^ 63 = omega (arith, it.2, room) in
+    let fits : nat_lt it.0 (2 ^ 63) ≡ true = grind (arith, nat_tests) in
+    ap (λ v. fits_i64 (id_in v)) it.1 ∙ fits
