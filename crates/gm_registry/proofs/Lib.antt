@@ -15,6 +15,7 @@ pub mod InsideFails
 pub mod Keys
 pub mod LastCommand
 pub mod MadeTables
+pub mod NumberedSteps
 pub mod OneReading
 pub mod OpenedConnection
 pub mod PartOf

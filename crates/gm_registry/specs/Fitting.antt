@@ -7,6 +7,12 @@ use Rattle.gm_lists.specs.Ordered.{Has}
 use Rattle.gm_state.specs.Rows.{Tables, MirrorRow, ComponentRow, IntentRow, CommandRow}
 use Rattle.gm_registry.specs.Replies.{IsFree}
 
+-- the store can number so many rows more of each table whose rows it numbers itself
+pub record HasRoom (more : ℕ) (db : Trees) : Type 0 where
+  pub mirrors : TakesMore more (db 1)
+  pub components : TakesMore more (db 4)
+  pub commands : TakesMore more (db 8)
+
 -- texts that a row can hold, which has at most a billion bytes
 abbrev pub AreShort : List ℕ → List ℕ → Type 0
 AreShort a b = length a + length b + 1000 ≤ 10 ^ 9

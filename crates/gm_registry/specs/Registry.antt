@@ -1,5 +1,5 @@
 -- What is said of a registry, and of a store before it is opened and after it is closed.
-use Rattle.std.specs.Prelude.{◌≡◌, ◌≤◌, ◌⊎◌, false, List, IsTrue, IsSome, Result, OnOk, OnErr}
+use Rattle.std.specs.Prelude.{◌≡◌, ◌≤◌, ◌⊎◌, ◌+◌, ℕ, false, List, IsTrue, IsSome, Result, OnOk, OnErr}
 use Rattle.sqlite_disk.specs.Disk.{MoreFaults}
 use Rattle.sqlite_trees.specs.declared.store.Store.{Ghosts}
 use Rattle.sqlite_trees.specs.View.{doubt}
@@ -16,6 +16,7 @@ use Rattle.gm_state.specs.Rows.{Tables}
 use Rattle.gm_rows.specs.Faults.{OnOther}
 use Rattle.gm_rows.specs.Tables.{Holds, SeesTables, SeesRegistry, IsInside}
 use Rattle.gm_rows.specs.ReadableTables.{AreTablesOf}
+use Rattle.gm_registry.specs.Fitting.{HasRoom}
 use Rattle.gm_registry.specs.Reads as reads
 
 module _ {S : Type 0} (g : Ghosts S) where
@@ -109,6 +110,12 @@ module _ {S : Type 0} (g : Ghosts S) where
   FailsInside old new result Fits =
       DiskKept new → OnOther result ((first : Database) (t : Tables)
       → IsInside first (state g old) t → Fits (seen old) t → StoreFailed old new)
+
+  -- within a transaction, at Ok it has numbered at most so many rows of a table
+  abbrev pub NumbersInside : {X : Type 0} → Held S → Held S → Result X Error → ℕ → Type 0
+  NumbersInside old new result count =
+      DiskKept new → OnOk result ((first : Database) (t : Tables) → IsInside first (state g old) t
+      → (more : ℕ) → HasRoom (more + count) (seen old) → HasRoom more (seen new))
 
   -- it has these tables, and a crash now leaves them and nothing else
   pub record HasSaved (r : Held S) (t : Tables) : Type 0 where

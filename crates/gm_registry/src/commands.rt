@@ -4,7 +4,7 @@
 ghost use Rattle.std.specs.Prelude.{◌≡◌};
 ghost use Rattle.gm_registry.specs.Changes.{with_command, command_row};
 ghost use Rattle.gm_registry.specs.Fitting.{TakesCommand};
-ghost use Rattle.gm_registry.specs.Registry.{LeavesNothingNew, KeepsCommit, MakesInside, FailsInside};
+ghost use Rattle.gm_registry.specs.Registry.{LeavesNothingNew, KeepsCommit, MakesInside, FailsInside, NumbersInside};
 
 use gm_state::Reply;
 use sqlite::{Alter, Error, Transaction, params};
@@ -30,6 +30,7 @@ fn put_row<S: Alter>(
         })) }
     ensures fails { FailsInside S.Store tx.old.conn.now tx.new.conn.now result
         (TakesCommand key.now words.now number) }
+    ensures numbers { NumbersInside S.Store tx.old.conn.now tx.new.conn.now result 1 }
     ensures kept { KeepsCommit S.Store tx.old.conn.now tx.new.conn.now }
     ensures survives { LeavesNothingNew S.Store tx.old.conn.now tx.new.conn.now }
 {
@@ -52,6 +53,7 @@ pub(crate) fn put_command<S: Alter>(
         (with_command (command_row key.now number words.now reply)) }
     ensures fails { FailsInside S.Store tx.old.conn.now tx.new.conn.now result
         (TakesCommand key.now words.now number) }
+    ensures numbers { NumbersInside S.Store tx.old.conn.now tx.new.conn.now result 1 }
     ensures kept { KeepsCommit S.Store tx.old.conn.now tx.new.conn.now }
     ensures survives { LeavesNothingNew S.Store tx.old.conn.now tx.new.conn.now }
 {

@@ -4,7 +4,7 @@ ghost use Rattle.std.specs.Prelude.{◌≡◌, ⊤};
 ghost use Rattle.gm_state.specs.Rows.{component_row};
 ghost use Rattle.gm_registry.specs.Changes.{with_component, without_component, with_components, without_components};
 ghost use Rattle.gm_registry.specs.Fitting.{TakesComponent};
-ghost use Rattle.gm_registry.specs.Registry.{LeavesNothingNew, KeepsCommit, MakesInside, FailsInside};
+ghost use Rattle.gm_registry.specs.Registry.{LeavesNothingNew, KeepsCommit, MakesInside, FailsInside, NumbersInside};
 
 use gm_metadata::Label;
 use gm_rows::{bytes_in, disk_number, truth_number};
@@ -21,6 +21,7 @@ fn put_component<S: Alter>(
         (with_component (component_row component)) }
     ensures fails { FailsInside S.Store tx.old.conn.now tx.new.conn.now result
         (TakesComponent (component_row component)) }
+    ensures numbers { NumbersInside S.Store tx.old.conn.now tx.new.conn.now result 1 }
     ensures kept { KeepsCommit S.Store tx.old.conn.now tx.new.conn.now }
     ensures survives { LeavesNothingNew S.Store tx.old.conn.now tx.new.conn.now }
 {
@@ -63,6 +64,7 @@ fn drop_component<S: Alter>(tx: &mut Transaction<'_, S>, provider: Label) -> Res
     ensures put { MakesInside S.Store tx.old.conn.now tx.new.conn.now result
         (without_component provider) }
     ensures fails { FailsInside S.Store tx.old.conn.now tx.new.conn.now result (λ _ _. ⊤) }
+    ensures numbers { NumbersInside S.Store tx.old.conn.now tx.new.conn.now result 0 }
     ensures kept { KeepsCommit S.Store tx.old.conn.now tx.new.conn.now }
     ensures survives { LeavesNothingNew S.Store tx.old.conn.now tx.new.conn.now }
 {

@@ -5,7 +5,7 @@ ghost use Rattle.std.specs.Prelude.{◌≡◌, [], ◌∷◌, length, ⊤};
 ghost use Rattle.gm_state.specs.Rows.{Tables, intent_row, intent_rows};
 ghost use Rattle.gm_registry.specs.Changes.{with_intents, settled, left_of};
 ghost use Rattle.gm_registry.specs.Fitting.{IsUnnumbered, AreShort, TakesIntents};
-ghost use Rattle.gm_registry.specs.Registry.{DiskKept, HasTables, LeavesNothingNew, KeepsCommit, MakesInside, FailsInside, StoreFailed, Writes};
+ghost use Rattle.gm_registry.specs.Registry.{DiskKept, HasTables, LeavesNothingNew, KeepsCommit, MakesInside, FailsInside, NumbersInside, StoreFailed, Writes};
 ghost use Rattle.gm_rows.specs.Faults.{OnOther};
 
 use gm_state::Intent;
@@ -41,6 +41,7 @@ fn put_row<S: Alter>(
         } ∷ [])) }
     ensures fails { FailsInside S.Store tx.old.conn.now tx.new.conn.now result
         (λ _ t. IsUnnumbered ord t × AreShort provider.now source.now) }
+    ensures numbers { NumbersInside S.Store tx.old.conn.now tx.new.conn.now result 0 }
     ensures kept { KeepsCommit S.Store tx.old.conn.now tx.new.conn.now }
     ensures survives { LeavesNothingNew S.Store tx.old.conn.now tx.new.conn.now }
 {
@@ -61,6 +62,7 @@ fn put_intent<S: Alter>(
         (with_intents (intent_row ord intent ∷ [])) }
     ensures fails { FailsInside S.Store tx.old.conn.now tx.new.conn.now result
         (λ _. IsUnnumbered ord) }
+    ensures numbers { NumbersInside S.Store tx.old.conn.now tx.new.conn.now result 0 }
     ensures kept { KeepsCommit S.Store tx.old.conn.now tx.new.conn.now }
     ensures survives { LeavesNothingNew S.Store tx.old.conn.now tx.new.conn.now }
 {
@@ -114,6 +116,7 @@ fn drop_intents<S: Alter>(tx: &mut Transaction<'_, S>) -> Result<usize, Error>
     ensures same_reference { tx.new.conn.ghost_name ≡ tx.old.conn.ghost_name }
     ensures put { MakesInside S.Store tx.old.conn.now tx.new.conn.now result settled }
     ensures fails { FailsInside S.Store tx.old.conn.now tx.new.conn.now result (λ _ _. ⊤) }
+    ensures numbers { NumbersInside S.Store tx.old.conn.now tx.new.conn.now result 0 }
     ensures kept { KeepsCommit S.Store tx.old.conn.now tx.new.conn.now }
     ensures survives { LeavesNothingNew S.Store tx.old.conn.now tx.new.conn.now }
 {
@@ -128,6 +131,7 @@ pub(crate) fn drop_pending<S: Alter>(
     ensures same_reference { tx.new.conn.ghost_name ≡ tx.old.conn.ghost_name }
     ensures put { MakesInside S.Store tx.old.conn.now tx.new.conn.now result (left_of pending) }
     ensures fails { FailsInside S.Store tx.old.conn.now tx.new.conn.now result (λ _ _. ⊤) }
+    ensures numbers { NumbersInside S.Store tx.old.conn.now tx.new.conn.now result 0 }
     ensures kept { KeepsCommit S.Store tx.old.conn.now tx.new.conn.now }
     ensures survives { LeavesNothingNew S.Store tx.old.conn.now tx.new.conn.now }
 {

@@ -4,7 +4,7 @@ ghost use Rattle.std.specs.Prelude.{◌≡◌};
 ghost use Rattle.gm_state.specs.Rows.{mirror_row};
 ghost use Rattle.gm_registry.specs.Changes.{with_mirror, without_mirror};
 ghost use Rattle.gm_registry.specs.Fitting.{HasNoComponents, TakesMirror};
-ghost use Rattle.gm_registry.specs.Registry.{LeavesNothingNew, KeepsCommit, MakesInside, FailsInside};
+ghost use Rattle.gm_registry.specs.Registry.{LeavesNothingNew, KeepsCommit, MakesInside, FailsInside, NumbersInside};
 
 use gm_metadata::Label;
 use gm_rows::{balance_number, bytes_in, mirror_number};
@@ -21,6 +21,7 @@ pub(crate) fn put_mirror<S: Alter>(
         (with_mirror (mirror_row mirror)) }
     ensures fails { FailsInside S.Store tx.old.conn.now tx.new.conn.now result
         (TakesMirror (mirror_row mirror)) }
+    ensures numbers { NumbersInside S.Store tx.old.conn.now tx.new.conn.now result 1 }
     ensures kept { KeepsCommit S.Store tx.old.conn.now tx.new.conn.now }
     ensures survives { LeavesNothingNew S.Store tx.old.conn.now tx.new.conn.now }
 {
@@ -49,6 +50,7 @@ pub(crate) fn drop_mirror<S: Alter>(
     ensures put { MakesInside S.Store tx.old.conn.now tx.new.conn.now result (without_mirror name) }
     ensures fails { FailsInside S.Store tx.old.conn.now tx.new.conn.now result
         (λ _. HasNoComponents name) }
+    ensures numbers { NumbersInside S.Store tx.old.conn.now tx.new.conn.now result 0 }
     ensures kept { KeepsCommit S.Store tx.old.conn.now tx.new.conn.now }
     ensures survives { LeavesNothingNew S.Store tx.old.conn.now tx.new.conn.now }
 {

@@ -323,8 +323,12 @@ module _ (schema : Schema) (table : Table) (listed : Has schema.tables table) (i
           new_is it.fresh) in
           subst (λ t. Replaces schema table key (over db) (over t) (Text key ∷ rest)) trees
           (settles db w.0 p key rest (id_in (rowid was))
-          (inr (was, has, int_is (rowid was)
-          (all_has (λ x. IsTrue (is_int (rowid x))) rows was keyed.1 has))) keyed
+          (inr (
+            was,
+            has,
+            int_is (rowid was)
+                (all_has (λ x. IsTrue (is_int (rowid x))) rows was keyed.1 has),
+          )) keyed
           (λ r here is. ap (has_key key) (names db id was keyed has clashes_it r here is)
           ∙ only (row_at id) was clashes_it)
           (it.rows ∙ ap₂ put_row new_is left) fresh it.fits it.tables)

@@ -1,3 +1,4 @@
+use Rattle.gm_registry.proofs.NumberedSteps.{numbers_inside, put_command_numbers}
 use Rattle.std.proofs.Common.{refl}
 use Rattle.sqlite.specs.Command.TheVariants.{Insert}
 use Rattle.sqlite.specs.Source.TheVariants.{Values}
@@ -54,6 +55,28 @@ returns-clause-fails g c clean =
     } in
     inside_fails put_command_text (command_values row) (Insert 4 (Values command_terms 6)) put_command_is
     put_command_whole refl refl (TakesCommand row.call_key row.words row.seq) (put_command_stops row)
+    (state g.S.Store c.args.tx.now.conn.now) (state g.S.Store c.execute.new.self.conn.now)
+    c.execute.result
+    (rw (
+      c.params-to_sql.ensures,
+      c.params-to_sql-2.ensures,
+      c.params-to_sql-3.ensures,
+      c.params-to_sql-4.ensures,
+      c.params-to_sql-5.ensures,
+    ) at (c.execute.ensures.runs clean))
+
+pub returns-clause-numbers : goal.returns-clause-numbers
+returns-clause-numbers g c clean =
+    let row : CommandRow = record {
+      call_key = c.args.key.now;
+      seq = c.args.number;
+      words = c.args.words.now;
+      copied = c.args.copied;
+      of_total = c.args.of_total;
+    } in
+    numbers_inside put_command_text (command_values row) (Insert 4 (Values command_terms 6)) put_command_is
+    (λ old new text count h. h) 1
+    (put_command_numbers row)
     (state g.S.Store c.args.tx.now.conn.now) (state g.S.Store c.execute.new.self.conn.now)
     c.execute.result
     (rw (

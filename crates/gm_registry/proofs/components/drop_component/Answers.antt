@@ -1,3 +1,4 @@
+use Rattle.gm_registry.proofs.NumberedSteps.{numbers_inside, drop_component_numbers}
 use Rattle.gm_registry.proofs.InsideFails.{inside_fails}
 use Rattle.gm_registry.proofs.FittingDeletes.{drop_component_whole, drop_component_stops}
 use Rattle.std.specs.Prelude.{⊤}
@@ -31,6 +32,15 @@ pub returns-clause-fails : goal.returns-clause-fails
 returns-clause-fails g c clean =
     inside_fails drop_component_text (Text c.args.provider ∷ []) (drop 2 4) drop_component_is
     drop_component_whole refl refl (λ _ _. ⊤) (drop_component_stops c.args.provider)
+    (state g.S.Store c.args.tx.now.conn.now) (state g.S.Store c.execute.new.self.conn.now)
+    c.execute.result
+    (rw (c.params-to_sql.ensures, c.as_str.ensures.text) at (c.execute.ensures.runs clean))
+
+pub returns-clause-numbers : goal.returns-clause-numbers
+returns-clause-numbers g c clean =
+    numbers_inside drop_component_text (Text c.args.provider ∷ []) (drop 2 4) drop_component_is
+    (λ old new text count h. h) 0
+    (drop_component_numbers c.args.provider)
     (state g.S.Store c.args.tx.now.conn.now) (state g.S.Store c.execute.new.self.conn.now)
     c.execute.result
     (rw (c.params-to_sql.ensures, c.as_str.ensures.text) at (c.execute.ensures.runs clean))

@@ -1,3 +1,4 @@
+use Rattle.gm_registry.proofs.NumberedSteps.{numbers_inside, put_component_numbers}
 use Rattle.std.proofs.Common.{refl, subst, length, ◌<◌}
 use Rattle.gm_registry.specs.Fitting.{TakesComponent}
 use Rattle.gm_registry.proofs.FittingIntents.{text_of_label}
@@ -64,6 +65,38 @@ returns-clause-fails g c clean =
     (text_of_label _ _ c.as_str.ensures.text c.as_str.ensures.label))
     (subst (λ n. length n < 16) c.as_str-2.ensures.text
     (text_of_label _ _ c.as_str-2.ensures.text c.as_str-2.ensures.label)))
+    (state g.S.Store c.args.tx.now.conn.now) (state g.S.Store c.execute.new.self.conn.now)
+    c.execute.result
+    (rw (
+      c.params-to_sql.ensures,
+      c.params-to_sql-2.ensures,
+      c.params-to_sql-3.ensures,
+      c.params-to_sql-4.ensures,
+      c.params-to_sql-5.ensures,
+      c.params-to_sql-6.ensures,
+      c.params-to_sql-7.ensures,
+      c.params-to_sql-8.ensures,
+      c.params-to_sql-9.ensures,
+      c.as_str.ensures.text,
+      c.as_str-2.ensures.text,
+      c.from.ensures,
+      c.bytes_in.ensures.value,
+      c.held.ensures,
+      to_z_pos w64 (512 * held_of c.args.component.disk)
+          (omega (arith, c.bytes_in.ensures.fits, c.held.ensures)),
+      c.disk_number.ensures,
+      c.flags.ensures,
+      c.truth_number.ensures,
+      c.bytes_in-2.ensures.value,
+      to_z_pos w64 (512 * c.args.component.sectors) (omega (arith, c.bytes_in-2.ensures.fits)),
+    ) at (c.execute.ensures.runs clean))
+
+pub returns-clause-numbers : goal.returns-clause-numbers
+returns-clause-numbers g c clean =
+    let row = component_row c.args.component in
+    numbers_inside upsert_component_text (component_values row) (upsert 2 4) upsert_component_is
+    (λ old new text count h. h) 1
+    (put_component_numbers row)
     (state g.S.Store c.args.tx.now.conn.now) (state g.S.Store c.execute.new.self.conn.now)
     c.execute.result
     (rw (

@@ -1,3 +1,4 @@
+use Rattle.gm_registry.proofs.NumberedSteps.{numbers_inside, settle_numbers}
 use Rattle.std.specs.Prelude.{⊤}
 use Rattle.std.proofs.Common.{refl}
 use Rattle.gm_registry.proofs.FittingDeletes.{settle_stops_only}
@@ -29,5 +30,13 @@ returns-clause-kept g c clean =
 pub returns-clause-fails : goal.returns-clause-fails
 returns-clause-fails g c clean =
     inside_fails settle_text [] settle settle_is settle_whole refl refl (λ _ _. ⊤) settle_stops_only
+    (state g.S.Store c.args.tx.now.conn.now) (state g.S.Store c.execute.new.self.conn.now)
+    c.execute.result (c.execute.ensures.runs clean)
+
+pub returns-clause-numbers : goal.returns-clause-numbers
+returns-clause-numbers g c clean =
+    numbers_inside settle_text [] settle settle_is
+    (λ old new text count h. h) 0
+    settle_numbers
     (state g.S.Store c.args.tx.now.conn.now) (state g.S.Store c.execute.new.self.conn.now)
     c.execute.result (c.execute.ensures.runs clean)

@@ -1,3 +1,4 @@
+use Rattle.gm_registry.proofs.NumberedSteps.{numbers_inside, put_intent_numbers}
 use Rattle.std.proofs.Common.{[], ◌∷◌, arith, refl}
 use Rattle.sqlite.specs.Command.TheVariants.{Insert}
 use Rattle.sqlite.specs.Source.TheVariants.{Values}
@@ -58,6 +59,30 @@ returns-clause-fails g c clean =
     put_intent_whole refl refl (λ _ t. IsUnnumbered row.ord t × AreShort row.prov row.source)
     (put_intent_stops row (omega arith)) (state g.S.Store c.args.tx.now.conn.now)
     (state g.S.Store c.execute.new.self.conn.now) c.execute.result
+    (rw (
+      c.params-to_sql.ensures,
+      c.params-to_sql-2.ensures,
+      c.params-to_sql-3.ensures,
+      c.params-to_sql-4.ensures,
+      c.params-to_sql-5.ensures,
+      c.params-to_sql-6.ensures,
+    ) at (c.execute.ensures.runs clean))
+
+pub returns-clause-numbers : goal.returns-clause-numbers
+returns-clause-numbers g c clean =
+    let row : IntentRow = record {
+      ord = c.args.ord;
+      kind = c.args.kind;
+      prov = c.args.provider.now;
+      source = c.args.source.now;
+      first_sector = c.args.first;
+      end_sector = c.args.end;
+    } in
+    numbers_inside put_intent_text (intent_params row) (Insert 3 (Values intent_terms 7)) put_intent_is
+    (λ old new text count h. h) 0
+    (put_intent_numbers row)
+    (state g.S.Store c.args.tx.now.conn.now) (state g.S.Store c.execute.new.self.conn.now)
+    c.execute.result
     (rw (
       c.params-to_sql.ensures,
       c.params-to_sql-2.ensures,

@@ -1,3 +1,4 @@
+use Rattle.gm_registry.proofs.NumberedSteps.{numbers_inside, drop_mirror_numbers}
 use Rattle.gm_registry.proofs.InsideFails.{inside_fails}
 use Rattle.gm_registry.proofs.FittingDeletes.{drop_mirror_whole, drop_mirror_stops}
 use Rattle.gm_registry.specs.Fitting.{HasNoComponents}
@@ -31,6 +32,15 @@ pub returns-clause-fails : goal.returns-clause-fails
 returns-clause-fails g c clean =
     inside_fails drop_mirror_text (Text c.args.name ∷ []) (drop 1 1) drop_mirror_is
     drop_mirror_whole refl refl (λ _. HasNoComponents c.args.name) (drop_mirror_stops c.args.name)
+    (state g.S.Store c.args.tx.now.conn.now) (state g.S.Store c.execute.new.self.conn.now)
+    c.execute.result
+    (rw (c.params-to_sql.ensures, c.as_str.ensures.text) at (c.execute.ensures.runs clean))
+
+pub returns-clause-numbers : goal.returns-clause-numbers
+returns-clause-numbers g c clean =
+    numbers_inside drop_mirror_text (Text c.args.name ∷ []) (drop 1 1) drop_mirror_is
+    (λ old new text count h. h) 0
+    (drop_mirror_numbers c.args.name)
     (state g.S.Store c.args.tx.now.conn.now) (state g.S.Store c.execute.new.self.conn.now)
     c.execute.result
     (rw (c.params-to_sql.ensures, c.as_str.ensures.text) at (c.execute.ensures.runs clean))

@@ -1,3 +1,4 @@
+use Rattle.gm_registry.proofs.NumberedSteps.{numbers_inside, put_mirror_numbers}
 use Rattle.std.proofs.Common.{refl, subst, length, ◌<◌}
 use Rattle.gm_registry.specs.Fitting.{TakesMirror}
 use Rattle.gm_registry.proofs.FittingIntents.{text_of_label}
@@ -55,6 +56,32 @@ returns-clause-fails g c clean =
     refl refl (TakesMirror row)
     (put_mirror_stops row (subst (λ n. length n < 16) c.as_str.ensures.text
     (text_of_label _ _ c.as_str.ensures.text c.as_str.ensures.label)))
+    (state g.S.Store c.args.tx.now.conn.now) (state g.S.Store c.execute.new.self.conn.now)
+    c.execute.result
+    (rw (
+      c.params-to_sql.ensures,
+      c.params-to_sql-2.ensures,
+      c.params-to_sql-3.ensures,
+      c.params-to_sql-4.ensures,
+      c.params-to_sql-5.ensures,
+      c.params-to_sql-6.ensures,
+      c.params-to_sql-7.ensures,
+      c.params-to_sql-8.ensures,
+      c.params-to_sql-9.ensures,
+      c.as_str.ensures.text,
+      c.from.ensures,
+      c.balance_number.ensures,
+      c.bytes_in.ensures.value,
+      to_z_pos w64 (512 * c.args.mirror.data_sectors) (omega (arith, c.bytes_in.ensures.fits)),
+      c.mirror_number.ensures,
+    ) at (c.execute.ensures.runs clean))
+
+pub returns-clause-numbers : goal.returns-clause-numbers
+returns-clause-numbers g c clean =
+    let row = mirror_row c.args.mirror in
+    numbers_inside upsert_mirror_text (mirror_values row) (upsert 1 1) upsert_mirror_is
+    (λ old new text count h. h) 1
+    (put_mirror_numbers row)
     (state g.S.Store c.args.tx.now.conn.now) (state g.S.Store c.execute.new.self.conn.now)
     c.execute.result
     (rw (
