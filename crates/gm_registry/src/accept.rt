@@ -1,14 +1,15 @@
 //! A command's change, with its intents and its key, in one transaction; also in place of what is
 //! pending.
 
-ghost use Rattle.std.specs.Prelude.{◌≡◌, ◌≤◌, ◌+◌, ◌↔◌, IfOk, OnOk, OnErr, IsTrue};
+ghost use Rattle.std.specs.Prelude.{◌≡◌, ◌≤◌, ◌+◌, ◌↔◌, IfOk, OnOk, OnErr, IfSome, IsTrue};
 ghost use Rattle.sqlite.specs.State.{Survives};
 ghost use Rattle.sqlite.specs.Held.{state};
-ghost use Rattle.gm_state.specs.Rows.{Tables};
+ghost use Rattle.gm_state.specs.Rows.{Tables, mirror_row};
+ghost use Rattle.gm_registry.specs.Fitting.{HasNoComponents, TakesMirror};
 ghost use Rattle.gm_state.specs.World.{ReplyFits};
 ghost use Rattle.gm_registry.specs.Replies.{count_of, IsFree};
 ghost use Rattle.gm_registry.specs.Changes.{left_of, with_accepted, with_records, with_change, with_pending, without_some_mirror, with_some_mirror};
-ghost use Rattle.gm_registry.specs.Registry.{DiskKept, IsOpen, HasTables, MayLeave, LeavesNothingNew, KeepsCommit, MakesInside, Writes};
+ghost use Rattle.gm_registry.specs.Registry.{DiskKept, IsOpen, HasTables, MayLeave, LeavesNothingNew, KeepsCommit, MakesInside, FailsInside, Writes};
 ghost use Rattle.gm_registry.specs.Accepting.{Accepts};
 
 use crate::commands::put_command;
@@ -28,6 +29,8 @@ fn drop_some_mirror<S: Alter>(tx: &mut Transaction<'_, S>, name: Option<Label>) 
     ensures same_reference { tx.new.conn.ghost_name ≡ tx.old.conn.ghost_name }
     ensures put { MakesInside S.Store tx.old.conn.now tx.new.conn.now result
         (without_some_mirror name) }
+    ensures fails { FailsInside S.Store tx.old.conn.now tx.new.conn.now result
+        (λ _ t. IfSome name (λ n. HasNoComponents n t)) }
     ensures kept { KeepsCommit S.Store tx.old.conn.now tx.new.conn.now }
     ensures survives { LeavesNothingNew S.Store tx.old.conn.now tx.new.conn.now }
 {
@@ -45,6 +48,8 @@ fn put_some_mirror<S: Alter>(
     ensures same_reference { tx.new.conn.ghost_name ≡ tx.old.conn.ghost_name }
     ensures put { MakesInside S.Store tx.old.conn.now tx.new.conn.now result
         (with_some_mirror mirror) }
+    ensures fails { FailsInside S.Store tx.old.conn.now tx.new.conn.now result
+        (λ db t. IfSome mirror (λ m. TakesMirror (mirror_row m) db t)) }
     ensures kept { KeepsCommit S.Store tx.old.conn.now tx.new.conn.now }
     ensures survives { LeavesNothingNew S.Store tx.old.conn.now tx.new.conn.now }
 {
