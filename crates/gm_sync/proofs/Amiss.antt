@@ -1,5 +1,5 @@
 -- Which components of the mirrors that are meant aren't as they are registered.
-use Rattle.std.proofs.Common.{◌≡◌, ◌∙◌, ◌⊎◌, inl, inr, ℕ, true, refl, sym, ap, subst, arith, List, [], ◌∷◌, Some, length, filter}
+use Rattle.std.proofs.Common.{◌≡◌, ◌∙◌, inl, inr, ℕ, true, refl, sym, ap, subst, arith, List, [], ◌∷◌, Some, length, filter}
 use Rattle.gm_lists.specs.Ordered.{Has}
 use Rattle.gm_lists.proofs.Finding.{find_one}
 use Rattle.gm_lists.proofs.Lists.{Has-filter, filter-Has}
@@ -9,7 +9,7 @@ use Rattle.gm_state.specs.declared.records.Component.{Component}
 use Rattle.gm_state.specs.Intents.{IsOf}
 use Rattle.gm_state.specs.Lookups.{component_of}
 use Rattle.gm_state.specs.Records.{Records, IsState, provider}
-use Rattle.gm_bench.specs.Audits.{IsAsRegistered, IsAudit}
+use Rattle.gm_bench.specs.Audits.{IsAudit}
 use Rattle.gm_sync.specs.declared.scope.Scope.{Scope}
 use Rattle.gm_sync.specs.declared.synced.Synced.{Synced}
 use Rattle.gm_sync.specs.declared.synced.Synced.TheVariants.{Whole, Amiss, Refused}

@@ -1,17 +1,18 @@
 -- Calls that fill, one after the other.
-use Rattle.std.proofs.Common.{◌≡◌, ◌∙◌, ◌⊎◌, inl, inr, ◌≤◌, ℕ, refl, sym, subst, arith, List, [], ◌∷◌, ◌++◌, Result, Ok, Err, OnOk, OnErr}
+use Rattle.std.proofs.Common.{◌∙◌, ◌⊎◌, inl, inr, ℕ, refl, subst, arith, List, [], ◌∷◌, ◌++◌, Result, Ok}
 use Rattle.sqlite_trees.specs.declared.store.Store.{Ghosts as StoreGhosts}
-use Rattle.sqlite.specs.Held.{Held}
 use Rattle.gm_metadata.specs.Images.{Image}
 use Rattle.gm_lists.specs.Ordered.{Has}
 use Rattle.gm_shelf.specs.declared.shelf.Shelf.{Ghosts as ShelfGhosts}
-use Rattle.gm_shelf.specs.Keeping.{Keeps}
+use Rattle.gm_shelf.specs.Disk.{IsLawful}
 use Rattle.gm_shelf.proofs.Keeping.{keeps_then}
 use Rattle.gm_commands.specs.declared.command.Command.{Command}
+use Rattle.gm_state.specs.Records.{Records}
 use Rattle.gm_state.specs.World.{World}
 use Rattle.gm_rules.specs.AbstractCalls.{Call, Run}
 use Rattle.gm_rules.specs.AbstractCalls as run
-use Rattle.gm_registry.specs.Registry.{DiskKept, WasClean}
+use Rattle.gm_rows.specs.ReadableTables.{AreTablesOf}
+use Rattle.gm_registry.specs.Registry.{DiskKept}
 use Rattle.gm_bench.specs.Benches.{registry_of, shelf_of}
 use Rattle.gm_bench.specs.Calls.{Keep, LooksOn}
 use Rattle.gm_bench.specs.Owed.{LookDoes, RunAnswers}
@@ -20,7 +21,9 @@ use Rattle.gm_bench.specs.declared.answer.Answer.{Answer}
 use Rattle.gm_bench.specs.declared.fault.BenchFault.{BenchFault}
 use Rattle.gm_bench.specs.declared.bench.Bench.{Bench}
 use Rattle.gm_bench.proofs.Looks.{looked_at}
-use Rattle.gm_sync.specs.Filling.{Fills, IsAdvance, IsFilledFrom}
+use Rattle.gm_bench.proofs.ReadTables.{tables_of}
+use Rattle.gm_sync.specs.declared.scope.Scope.{Scope}
+use Rattle.gm_sync.specs.Filling.{Fills, IsFilledFrom, IsWhole}
 
 -- runs in turn
 pub run_then : (u : World) (calls : List Call) (v : World) (answers : List run.Answer)
@@ -61,9 +64,35 @@ module _ {S H : Type 0} (g : StoreGhosts S) (h : ShelfGhosts H) where
     clean = omega arith;
   }
 
-  pub fills_none : (a : Bench S H) → Fills g h a a
+  pub look_keeps : (a b : Bench S H) {T : Type 0} {result : Result T BenchFault}
+      → LooksOn g h a b result
+      → Keep g h (registry_of a) (registry_of b) (shelf_of a) (shelf_of b)
+  look_keeps a b looks =
+      record { shelf = looks.only.keeps; clean = looks.store.clean }
+
+  -- at rest the tables are those of the world's records
+  pub tables_at_rest : (b : Bench S H) (away : Image) (w : World)
+      (at : IsAt g h.view h.size (registry_of b) (shelf_of b) away [] w w)
+      → IsLawful (h.view (shelf_of b)) → AreTablesOf at.tables w.state []
+  tables_at_rest b away w at lawful =
+      tables_of at.tables [] _ w (at.leads (h.view (shelf_of b)).seen lawful.holds_now).0
+
+  -- looks in turn
+  pub look_then : (a b c : Bench S H)
+      → LookDoes g h.view h.size (registry_of a) (registry_of b) (shelf_of a) (shelf_of b)
+      → LookDoes g h.view h.size (registry_of b) (registry_of c) (shelf_of b) (shelf_of c)
+      → LookDoes g h.view h.size (registry_of a) (registry_of c) (shelf_of a) (shelf_of c)
+  look_then a b c first then = record {
+    tables = λ t has. then.tables t (first.tables t has);
+    images = λ x may. first.images x (then.images x may);
+    sizes = then.sizes ∙ first.sizes;
+  }
+
+-- Calls that run commands that fit, whatever is asked of these.
+module _ {S H : Type 0} (g : StoreGhosts S) (h : ShelfGhosts H) (Fit : Command → Type 0) where
+  pub fills_none : (a : Bench S H) → Fills g h Fit a a
   fills_none a = record {
-    keep = keep_none a;
+    keep = keep_none g h a;
     does = λ honest kept away u at. record {
       calls = [];
       answers = [];
@@ -75,15 +104,15 @@ module _ {S H : Type 0} (g : StoreGhosts S) (h : ShelfGhosts H) where
   }
 
   either_fills : (calls more : List Call)
-      → ((call : Call) → Has calls call → IsAdvance call.command)
-      → ((call : Call) → Has more call → IsAdvance call.command)
-      → (call : Call) → Has calls call ⊎ Has more call → IsAdvance call.command
+      → ((call : Call) → Has calls call → Fit call.command)
+      → ((call : Call) → Has more call → Fit call.command)
+      → (call : Call) → Has calls call ⊎ Has more call → Fit call.command
   either_fills calls more first then call (inl has) = first call has
   either_fills calls more first then call (inr has) = then call has
 
-  pub fills_then : (a b c : Bench S H) → Fills g h a b → Fills g h b c → Fills g h a c
+  pub fills_then : (a b c : Bench S H) → Fills g h Fit a b → Fills g h Fit b c → Fills g h Fit a c
   fills_then a b c first then = record {
-    keep = keep_then a b c first.keep then.keep;
+    keep = keep_then g h a b c first.keep then.keep;
     does = λ honest kept away u at.
         let clean : DiskKept g (registry_of b) = omega (arith, then.keep.clean, kept) in
         let one = first.does honest clean away u at in
@@ -100,18 +129,12 @@ module _ {S H : Type 0} (g : StoreGhosts S) (h : ShelfGhosts H) where
         };
   }
 
-  pub look_keeps : (a b : Bench S H) {T : Type 0} {result : Result T BenchFault}
-      → LooksOn g h a b result
-      → Keep g h (registry_of a) (registry_of b) (shelf_of a) (shelf_of b)
-  look_keeps a b looks =
-      record { shelf = looks.only.keeps; clean = looks.store.clean }
-
-  -- a look fills nothing
+  -- a look runs nothing
   pub fills_look : (a b : Bench S H)
       → Keep g h (registry_of a) (registry_of b) (shelf_of a) (shelf_of b)
       → (h.honest (shelf_of a) → DiskKept g (registry_of b)
       → LookDoes g h.view h.size (registry_of a) (registry_of b) (shelf_of a) (shelf_of b))
-      → Fills g h a b
+      → Fills g h Fit a b
   fills_look a b keep does = record {
     keep = keep;
     does = λ honest kept away u at. record {
@@ -125,19 +148,39 @@ module _ {S H : Type 0} (g : StoreGhosts S) (h : ShelfGhosts H) where
     };
   }
 
-  one_fills : (c : Call) → IsAdvance c.command → (call : Call) → Has (c ∷ []) call
-      → IsAdvance call.command
-  one_fills c is call (inl same) = subst (λ (x : Call). IsAdvance x.command) same is
+  -- and a look behind it
+  pub fills_looked : (a b c : Bench S H) {T : Type 0} (x : T) → Fills g h Fit a b
+      → LooksOn g h b c (Ok x) → Fills g h Fit a c
+  fills_looked a b c x fills looks = fills_then a b c fills
+      (fills_look b c (look_keeps g h b c looks) looks.does)
+
+  -- behind a look the bench has come from rest as it had before it
+  abbrev pub filled_look : (b c : Bench S H) (away : Image) (u : World)
+      → LookDoes g h.view h.size (registry_of b) (registry_of c) (shelf_of b) (shelf_of c)
+      → IsFilledFrom g h Fit b away u → IsFilledFrom g h Fit c away u
+  filled_look b c away u does filled = record {
+    calls = filled.calls;
+    answers = filled.answers;
+    world = filled.world;
+    run = filled.run;
+    fill = filled.fill;
+    at = looked_at g h.view h.size (registry_of b) (registry_of c) (shelf_of b) (shelf_of c) away []
+        filled.world filled.world does filled.at;
+  }
+
+  one_fills : (c : Call) → Fit c.command → (call : Call) → Has (c ∷ []) call
+      → Fit call.command
+  one_fills c is call (inl same) = subst (λ (x : Call). Fit x.command) same is
   one_fills c is call (inr has) = absurd has
 
-  -- an advance that is run fills
+  -- a command that fits and is run
   pub fills_run : (a b : Bench S H) (key : List ℕ) (command : Command) (answer : Answer)
-      → IsAdvance command
+      → Fit command
       → Keep g h (registry_of a) (registry_of b) (shelf_of a) (shelf_of b)
       → (h.honest (shelf_of a) → DiskKept g (registry_of b)
       → RunAnswers g h.view h.size (registry_of a) (registry_of b) (shelf_of a) (shelf_of b) key
       command answer)
-      → Fills g h a b
+      → Fills g h Fit a b
   fills_run a b key command answer is keep answers = record {
     keep = keep;
     does = λ honest kept away u at.
@@ -152,13 +195,47 @@ module _ {S H : Type 0} (g : StoreGhosts S) (h : ShelfGhosts H) where
         };
   }
 
-  -- looks in turn
-  pub look_then : (a b c : Bench S H)
-      → LookDoes g h.view h.size (registry_of a) (registry_of b) (shelf_of a) (shelf_of b)
-      → LookDoes g h.view h.size (registry_of b) (registry_of c) (shelf_of b) (shelf_of c)
-      → LookDoes g h.view h.size (registry_of a) (registry_of c) (shelf_of a) (shelf_of c)
-  look_then a b c first then = record {
-    tables = λ t has. then.tables t (first.tables t has);
-    images = λ x may. first.images x (then.images x may);
-    sizes = then.sizes ∙ first.sizes;
+  -- what fits one way fits another way that asks for less
+  pub fills_too : (More : Command → Type 0) → ((c : Command) → Fit c → More c) → (a b : Bench S H)
+      → Fills g h Fit a b → Fills g h More a b
+  fills_too More then a b fills = record {
+    keep = fills.keep;
+    does = λ honest kept away u at.
+        let filled = fills.does honest kept away u at in
+        record {
+          calls = filled.calls;
+          answers = filled.answers;
+          world = filled.world;
+          run = filled.run;
+          fill = λ call has. then call.command (filled.fill call has);
+          at = filled.at;
+        };
   }
+
+-- What is whole by a call behind a look is whole by both.
+module _ {S H : Type 0} (g : StoreGhosts S) (h : ShelfGhosts H) (a b c : Bench S H) (scope : Scope)
+    (state : Records) where
+  pub whole_behind : Keep g h (registry_of a) (registry_of b) (shelf_of a) (shelf_of b)
+      → Keep g h (registry_of b) (registry_of c) (shelf_of b) (shelf_of c)
+      → (h.honest (shelf_of a) → DiskKept g (registry_of b)
+      → LookDoes g h.view h.size (registry_of a) (registry_of b) (shelf_of a) (shelf_of b))
+      → IsWhole g h b c scope state → IsWhole g h a c scope state
+  whole_behind first then does whole = record {
+    last = record {
+      seen = whole.last.seen;
+      looked = whole.last.looked;
+      has = λ honest kept away u at.
+          whole.last.has (first.shelf.honest honest) kept away u (behind honest kept away u at);
+      are = whole.last.are;
+    };
+    none = whole.none;
+    world = λ honest kept away u at.
+        whole.world (first.shelf.honest honest) kept away u (behind honest kept away u at);
+  } where
+    behind : h.honest (shelf_of a) → DiskKept g (registry_of c) → (away : Image) (u : World)
+        → IsAt g h.view h.size (registry_of a) (shelf_of a) away [] u u
+        → IsAt g h.view h.size (registry_of b) (shelf_of b) away [] u u
+    behind honest kept away u at =
+        let mid : DiskKept g (registry_of b) = omega (arith, then.clean, kept) in
+        looked_at g h.view h.size (registry_of a) (registry_of b) (shelf_of a) (shelf_of b) away []
+        u u (does honest mid) at

@@ -1,3 +1,4 @@
 pub mod Amiss
 pub mod Filled
+pub mod Meant
 pub mod Phases

@@ -25,24 +25,29 @@ use Rattle.gm_bench.specs.Owed.{LookDoes}
 use Rattle.gm_bench.specs.Recovering.{IsAt}
 use Rattle.gm_bench.specs.declared.bench.Bench.{Bench}
 use Rattle.gm_sync.specs.declared.scope.Scope.{Scope}
-use Rattle.gm_sync.specs.Scopes.{is_beside, next_of}
+use Rattle.gm_sync.specs.Scopes.{is_beside, is_meant, next_of}
 
--- the command fills some component
-abbrev pub IsAdvance : Command → Type 0
-IsAdvance c = (mirror : List ℕ) × (provider : List ℕ) × (c ≡ Advance mirror provider)
+-- the command fills this component
+abbrev pub IsAdvanceOf : Component → Command → Type 0
+IsAdvanceOf k c = c ≡ Advance k.mirror k.provider
 
-module _ {S H : Type 0} (g : StoreGhosts S) (h : ShelfGhosts H) where
-  -- From rest in u the bench came to rest again, by commands that fill components and no others.
+-- the command fills a component that is meant
+abbrev pub IsAdvanceIn : Scope → Command → Type 0
+IsAdvanceIn scope c = (mirror : List ℕ) × (provider : List ℕ) × (c ≡ Advance mirror provider)
+    × (is_meant scope mirror provider ≡ true)
+
+module _ {S H : Type 0} (g : StoreGhosts S) (h : ShelfGhosts H) (Fit : Command → Type 0) where
+  -- From rest in u the bench came to rest again, by commands that fit and no others.
   pub record IsFilledFrom (b : Bench S H) (away : Image) (u : World) : Type 0 where
     pub calls : List Call
     pub answers : List run.Answer
     pub world : World
     pub run : Run u calls world answers
-    pub fill : (call : Call) → Has calls call → IsAdvance call.command
+    pub fill : (call : Call) → Has calls call → Fit call.command
     pub at : IsAt g h.view h.size (registry_of b) (shelf_of b) away [] world world
 
   -- A call that fills: both media are kept, and of an honest shelf and a disk that keeps what is
-  -- written it does nothing but fill, from rest to rest.
+  -- written it does nothing but run commands that fit, from rest to rest.
   pub record Fills (old new : Bench S H) : Type 0 where
     pub keep : Keep g h (registry_of old) (registry_of new) (shelf_of old) (shelf_of new)
     pub does : h.honest (shelf_of old) → DiskKept g (registry_of new) → (away : Image) (u : World)
@@ -61,10 +66,21 @@ pub record AreLastSeen {S H : Type 0} (g : StoreGhosts S) (h : ShelfGhosts H) (o
   pub are : DiskKept g (registry_of new) → (t : Tables) (r : Records) (ts : List Intent)
       → HasTables g seen t → AreTablesOf t r ts → state ≡ r
 
--- nothing that is meant is left to be filled, by the records that the registry held at last
-abbrev pub IsWhole : {S H : Type 0} → StoreGhosts S → ShelfGhosts H → Bench S H → Bench S H → Scope
-    → Records → Type 0
-IsWhole g h old new scope state = AreLastSeen g h old new state × (next_of scope state ≡ None)
+-- from rest the bench was filled, as far as is meant, to rest in a world of these records
+abbrev pub IsFilledTo : {S H : Type 0} → StoreGhosts S → ShelfGhosts H → Bench S H → Bench S H
+    → Scope → Records → Type 0
+IsFilledTo g h old new scope state =
+    h.honest (shelf_of old) → DiskKept g (registry_of new) → (away : Image) (u : World)
+    → IsAt g h.view h.size (registry_of old) (shelf_of old) away [] u u
+    → (filled : IsFilledFrom g h (IsAdvanceIn scope) new away u) × (state ≡ filled.world.state)
+
+-- Nothing that is meant is left to be filled, by the records that the registry held at last. From
+-- rest they are those of the world that filling came to.
+pub record IsWhole {S H : Type 0} (g : StoreGhosts S) (h : ShelfGhosts H) (old new : Bench S H)
+    (scope : Scope) (state : Records) : Type 0 where
+  pub last : AreLastSeen g h old new state
+  pub none : next_of scope state ≡ None
+  pub world : IsFilledTo g h old new scope state
 
 -- each component of the mirrors that are meant is shown as it is registered
 abbrev pub AreAsRegistered : Scope → Records → Sizes → Image → Type 0

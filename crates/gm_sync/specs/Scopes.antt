@@ -10,11 +10,15 @@ use Rattle.gm_state.specs.States.{component_state}
 use Rattle.gm_sync.specs.declared.scope.Scope.{Scope}
 use Rattle.gm_sync.specs.declared.scope.Scope.TheVariants.{All, Mirror, Member}
 
+-- a component of that mirror on that provider is meant
+abbrev pub is_meant : Scope → List ℕ → List ℕ → Bool
+is_meant All mirror provider = true
+is_meant (Mirror named) mirror provider = same_label mirror named
+is_meant (Member named on) mirror provider = same_label mirror named && same_label provider on
+
 -- the component is meant
 abbrev pub is_in : Scope → Component → Bool
-is_in All k = true
-is_in (Mirror mirror) k = same_label k.mirror mirror
-is_in (Member mirror provider) k = same_label k.mirror mirror && same_label k.provider provider
+is_in scope k = is_meant scope k.mirror k.provider
 
 -- it is of a mirror of which one is meant
 abbrev pub is_beside : Scope → Component → Bool

@@ -9,7 +9,7 @@ ghost use Rattle.gm_registry.specs.Registry.{DiskKept, HasTables};
 ghost use Rattle.gm_bench.specs.Benches.{progress_of, registry_of, shelf_of};
 ghost use Rattle.gm_bench.specs.Calls.{Keep};
 ghost use Rattle.gm_bench.specs.Phases.{TakesCommands};
-ghost use Rattle.gm_sync.specs.Filling.{AreAsRegistered, Fills, IsAmissOver, IsWhole};
+ghost use Rattle.gm_sync.specs.Filling.{AreAsRegistered, Fills, IsAdvanceIn, IsAmissOver, IsWhole};
 ghost use Rattle.gm_sync.specs.Ends.{IfAmiss, IfWhole, UnlessAmiss};
 
 use crate::audit::amiss;
@@ -35,7 +35,8 @@ pub fn sync<S: Alter, H: Shelf, P: Progress>(
     ensures phase { TakesCommands (progress_of bench.new) }
     ensures keep { Keep S.Store H.Shelf (registry_of bench.old) (registry_of bench.new)
         (shelf_of bench.old) (shelf_of bench.new) }
-    ensures fills { OnOk result (Fills S.Store H.Shelf bench.old bench.new) }
+    ensures fills { OnOk result
+        (Fills S.Store H.Shelf (IsAdvanceIn scope.now) bench.old bench.new) }
     ensures whole { IfOk result
         (IfWhole (IsWhole S.Store H.Shelf bench.old bench.new scope.now)) }
     // Nothing is filled but where the images are as they are registered.

@@ -4,7 +4,7 @@ ghost use Rattle.std.specs.Prelude.{◌≡◌, IfOk, OnOk};
 ghost use Rattle.gm_bench.specs.Benches.{progress_of, registry_of, shelf_of};
 ghost use Rattle.gm_bench.specs.Calls.{Keep};
 ghost use Rattle.gm_bench.specs.Phases.{TakesCommands};
-ghost use Rattle.gm_sync.specs.Filling.{Fills, IsWhole};
+ghost use Rattle.gm_sync.specs.Filling.{Fills, IsAdvanceIn, IsAdvanceOf, IsWhole};
 ghost use Rattle.gm_sync.specs.Ends.{IfAmiss, IfWhole};
 
 use crate::scope::{Scope, next_of};
@@ -35,7 +35,8 @@ fn advance<S: Alter, H: Shelf>(
     ensures phase { TakesCommands (progress_of bench.new) }
     ensures keep { Keep S.Store H.Shelf (registry_of bench.old) (registry_of bench.new)
         (shelf_of bench.old) (shelf_of bench.new) }
-    ensures fills { OnOk result (Fills S.Store H.Shelf bench.old bench.new) }
+    ensures fills { OnOk result
+        (Fills S.Store H.Shelf (IsAdvanceOf component.now) bench.old bench.new) }
 {
     let command = Command::Advance {
         name: component.mirror,
@@ -61,7 +62,8 @@ fn fill_one<S: Alter, H: Shelf, P: Progress>(
     ensures phase { TakesCommands (progress_of bench.new) }
     ensures keep { Keep S.Store H.Shelf (registry_of bench.old) (registry_of bench.new)
         (shelf_of bench.old) (shelf_of bench.new) }
-    ensures fills { OnOk result (Fills S.Store H.Shelf bench.old bench.new) }
+    ensures fills { OnOk result
+        (Fills S.Store H.Shelf (IsAdvanceOf component.now) bench.old bench.new) }
 {
     let mut number = bench.accepted()?;
     for _ in 0..u64::MAX {
@@ -92,7 +94,8 @@ pub(crate) fn fill<S: Alter, H: Shelf, P: Progress>(
     ensures phase { TakesCommands (progress_of bench.new) }
     ensures keep { Keep S.Store H.Shelf (registry_of bench.old) (registry_of bench.new)
         (shelf_of bench.old) (shelf_of bench.new) }
-    ensures fills { OnOk result (Fills S.Store H.Shelf bench.old bench.new) }
+    ensures fills { OnOk result
+        (Fills S.Store H.Shelf (IsAdvanceIn scope.now) bench.old bench.new) }
     ensures whole { IfOk result
         (IfWhole (IsWhole S.Store H.Shelf bench.old bench.new scope.now)) }
     ensures filled { IfOk result (IfAmiss (λ _. ⊥)) }

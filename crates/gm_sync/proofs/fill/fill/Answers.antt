@@ -1,54 +1,66 @@
-use Rattle.std.proofs.Common.{arith, rules}
+use Rattle.std.proofs.Common.{arith, rules, sym, []}
 use Rattle.gm_bench.specs.Benches.{registry_of}
 use Rattle.gm_registry.specs.Registry.{DiskKept}
-use Rattle.gm_sync.proofs.Filled.{fills_look, fills_none, fills_then, look_keeps}
+use Rattle.gm_sync.specs.Filling.{IsAdvanceIn}
+use Rattle.gm_sync.proofs.Filled.{fills_looked, fills_none, fills_then, filled_look, tables_at_rest}
+use Rattle.gm_sync.proofs.Meant.{fills_next}
 use Rattle.gm_sync.proofs.fill.fill.Goals as goal
 
 pub loop-init : goal.loop-init
-loop-init g c = record { phase = c.requires; fills = fills_none g.S.Store g.H.Shelf _ }
+loop-init g c = record {
+  phase = c.requires;
+  fills = fills_none g.S.Store g.H.Shelf (IsAdvanceIn c.args.scope.now) _;
+}
 
 pub returns-in_default-clause-fills : goal.returns-in_default-clause-fills
 returns-in_default-clause-fills g c =
-    let looks = c.in_ok-state.ensures.looks in
-    fills_then g.S.Store g.H.Shelf c.args.bench.now c.loop.bench c.view.new.self
-    c.loop.invariant.fills
-    (fills_look g.S.Store g.H.Shelf c.loop.bench c.view.new.self
-    (look_keeps g.S.Store g.H.Shelf c.loop.bench c.view.new.self looks) looks.does)
+    fills_looked g.S.Store g.H.Shelf (IsAdvanceIn c.args.scope.now) c.args.bench.now c.loop.bench
+    c.view.new.self c.in_ok-state.state c.loop.invariant.fills c.in_ok-state.ensures.looks
 
 pub returns-in_default-clause-whole : goal.returns-in_default-clause-whole
-returns-in_default-clause-whole g c = (
-  record {
-    seen = c.loop.bench.media.registry;
-    looked = c.in_ok-state.ensures.looks.store;
-    has = λ honest kept away u at.
-        let mid : DiskKept g.S.Store (registry_of c.loop.bench) =
-        omega (arith, c.in_ok-state.ensures.looks.store.clean, kept) in
-        let filled = c.loop.invariant.fills.does honest mid away u at in
-        (filled.at.tables, filled.at.has);
-    are = λ kept t r ts has are. c.in_ok-state.ensures.shows kept t r ts has are;
-  },
-  search rules,
-)
+returns-in_default-clause-whole g c =
+    let looks = c.in_ok-state.ensures.looks in
+    record {
+      last = record {
+        seen = c.loop.bench.media.registry;
+        looked = looks.store;
+        has = λ honest kept away u at.
+            let mid : DiskKept g.S.Store (registry_of c.loop.bench) =
+            omega (arith, looks.store.clean, kept) in
+            let filled = c.loop.invariant.fills.does honest mid away u at in
+            (filled.at.tables, filled.at.has);
+        are = λ kept t r ts has are. c.in_ok-state.ensures.shows kept t r ts has are;
+      };
+      none = search rules;
+      world = λ honest kept away u at.
+          let mid : DiskKept g.S.Store (registry_of c.loop.bench) =
+          omega (arith, looks.store.clean, kept) in
+          let filled = c.loop.invariant.fills.does honest mid away u at in
+          let still = c.loop.invariant.fills.keep.shelf.honest honest in (
+            filled_look g.S.Store g.H.Shelf (IsAdvanceIn c.args.scope.now) c.loop.bench
+                c.view.new.self away u (looks.does still kept) filled,
+            c.in_ok-state.ensures.shows kept filled.at.tables filled.world.state [] filled.at.has
+                (tables_at_rest g.S.Store g.H.Shelf c.loop.bench away filled.world filled.at
+                (g.met.H.Shelf.lawful _ still)),
+          );
+    }
 
 pub returns-in-Some-2-clause-fills : goal.returns-in-Some-2-clause-fills
 returns-in-Some-2-clause-fills g c =
-    let looks = c.in_ok-state.ensures.looks in
-    fills_then g.S.Store g.H.Shelf c.args.bench.now c.view.new.self c.fill_one.new.bench
-    (fills_then g.S.Store g.H.Shelf c.args.bench.now c.loop.bench c.view.new.self
-    c.loop.invariant.fills
-    (fills_look g.S.Store g.H.Shelf c.loop.bench c.view.new.self
-    (look_keeps g.S.Store g.H.Shelf c.loop.bench c.view.new.self looks) looks.does))
-    c.in_ok-why.ensures.fills
+    fills_then g.S.Store g.H.Shelf (IsAdvanceIn c.args.scope.now) c.args.bench.now c.view.new.self
+    c.fill_one.new.bench
+    (fills_looked g.S.Store g.H.Shelf (IsAdvanceIn c.args.scope.now) c.args.bench.now c.loop.bench
+    c.view.new.self c.in_ok-state.state c.loop.invariant.fills c.in_ok-state.ensures.looks)
+    (fills_next g.S.Store g.H.Shelf c.args.scope.now c.in_ok-state.state c.in-Some.component
+    (sym c.in-Some.ensures) c.view.new.self c.fill_one.new.bench c.in_ok-why.ensures.fills)
 
 pub loop-preserved : goal.loop-preserved
-loop-preserved g c =
-    let looks = c.in_ok-state.ensures.looks in
-    record {
-      phase = c.in_ok-why.ensures.phase;
-      fills = fills_then g.S.Store g.H.Shelf c.args.bench.now c.view.new.self c.fill_one.new.bench
-          (fills_then g.S.Store g.H.Shelf c.args.bench.now c.loop.bench c.view.new.self
-          c.loop.invariant.fills
-          (fills_look g.S.Store g.H.Shelf c.loop.bench c.view.new.self
-          (look_keeps g.S.Store g.H.Shelf c.loop.bench c.view.new.self looks) looks.does))
-          c.in_ok-why.ensures.fills;
-    }
+loop-preserved g c = record {
+  phase = c.in_ok-why.ensures.phase;
+  fills = fills_then g.S.Store g.H.Shelf (IsAdvanceIn c.args.scope.now) c.args.bench.now
+      c.view.new.self c.fill_one.new.bench
+      (fills_looked g.S.Store g.H.Shelf (IsAdvanceIn c.args.scope.now) c.args.bench.now c.loop.bench
+      c.view.new.self c.in_ok-state.state c.loop.invariant.fills c.in_ok-state.ensures.looks)
+      (fills_next g.S.Store g.H.Shelf c.args.scope.now c.in_ok-state.state c.in-Some.component
+      (sym c.in-Some.ensures) c.view.new.self c.fill_one.new.bench c.in_ok-why.ensures.fills);
+}

@@ -1,4 +1,5 @@
-use Rattle.gm_sync.proofs.Filled.{fills_look, fills_then, look_keeps}
+use Rattle.gm_sync.specs.Filling.{IsAdvanceOf}
+use Rattle.gm_sync.proofs.Filled.{fills_looked, fills_none, fills_then}
 use Rattle.gm_sync.proofs.Phases.{stays}
 use Rattle.gm_sync.proofs.fill.fill_one.Goals as goal
 
@@ -7,25 +8,26 @@ loop-init g c =
     let looked = c.in_ok-number.ensures in
     record {
       phase = stays _ _ looked.looks.stays c.requires;
-      fills = fills_look g.S.Store g.H.Shelf c.args.bench.now c.accepted.new.self
-          (look_keeps g.S.Store g.H.Shelf c.args.bench.now c.accepted.new.self looked.looks)
-          looked.looks.does;
+      fills = fills_looked g.S.Store g.H.Shelf (IsAdvanceOf c.args.component.now) c.args.bench.now
+          c.args.bench.now c.accepted.new.self c.in_ok-number.number
+          (fills_none g.S.Store g.H.Shelf (IsAdvanceOf c.args.component.now) c.args.bench.now)
+          looked.looks;
     }
 
 pub returns-then-held-total-clause-fills : goal.returns-then-held-total-clause-fills
 returns-then-held-total-clause-fills g c =
-    fills_then g.S.Store g.H.Shelf c.args.bench.now c.loop.bench c.advance.new.bench
-    c.loop.invariant.fills c.in_ok-held.ensures.fills
+    fills_then g.S.Store g.H.Shelf (IsAdvanceOf c.args.component.now) c.args.bench.now
+    c.loop.bench c.advance.new.bench c.loop.invariant.fills c.in_ok-held.ensures.fills
 
 pub returns-in-Refused : goal.returns-in-Refused
 returns-in-Refused g c =
-    let filled = fills_then g.S.Store g.H.Shelf c.args.bench.now c.loop.bench c.advance.new.bench
-    c.loop.invariant.fills c.in_ok-held.ensures.fills in
+    let filled = fills_then g.S.Store g.H.Shelf (IsAdvanceOf c.args.component.now) c.args.bench.now
+    c.loop.bench c.advance.new.bench c.loop.invariant.fills c.in_ok-held.ensures.fills in
     record { phase = c.in_ok-held.ensures.phase; keep = filled.keep; fills = filled }
 
 pub loop-preserved : goal.loop-preserved
 loop-preserved g c = record {
   phase = c.in_ok-held.ensures.phase;
-  fills = fills_then g.S.Store g.H.Shelf c.args.bench.now c.loop.bench c.advance.new.bench
-      c.loop.invariant.fills c.in_ok-held.ensures.fills;
+  fills = fills_then g.S.Store g.H.Shelf (IsAdvanceOf c.args.component.now) c.args.bench.now
+      c.loop.bench c.advance.new.bench c.loop.invariant.fills c.in_ok-held.ensures.fills;
 }
