@@ -29,11 +29,11 @@ rmdir "$registry"
 stopped_remove behind
 keep_bench
 run pending --registry "$registry"
-expect 'what a command that was stopped left' 0 "$(lines 'metadata of a.img\nclear b.img')" ''
+expect 'what a command that was stopped left' 0 "$(lines 'clear b.img\nmetadata of a.img')" ''
 at_bench pending
-expect 'the same beside its images' 0 "$(lines 'metadata of a.img: member\nclear b.img: member')" ''
+expect 'the same beside its images' 0 "$(lines 'clear b.img: member\nmetadata of a.img: member')" ''
 GMBENCH_SHELF="$bench/images" GMBENCH_REGISTRY="$registry" run pending
-expect 'the environment stands for both' 0 "$(lines 'metadata of a.img: member\nclear b.img: member')" ''
+expect 'the environment stands for both' 0 "$(lines 'clear b.img: member\nmetadata of a.img: member')" ''
 at_bench status --read-only
 expect 'a status that carries out nothing' 0 "$of_one" '2 writes are pending'
 at_bench list --read-only
@@ -47,14 +47,14 @@ expect_none 'and no log is left' "$registry-wal"
 head -c 2048 /dev/zero >"$bench/images/a.img"
 head -c 2048 /dev/zero >"$bench/images/b.img"
 at_bench pending
-expect 'blank files in the place of both' 0 "$(lines 'metadata of a.img: no metadata\nclear b.img: zero')" ''
+expect 'blank files in the place of both' 0 "$(lines 'clear b.img: zero\nmetadata of a.img: no metadata')" ''
 rm "$bench/images/a.img"
 truncate -s 1536 "$bench/images/b.img"
 at_bench pending
-expect 'one is away, and one is shorter' 0 "$(lines 'metadata of a.img: absent\nclear b.img: zero')" ''
+expect 'one is away, and one is shorter' 0 "$(lines 'clear b.img: zero\nmetadata of a.img: absent')" ''
 put_edited "$bench/images/a.img" a 36 '\011'
 at_bench pending
-expect 'another mirror in its place' 0 "$(lines 'metadata of a.img: another\nclear b.img: zero')" ''
+expect 'another mirror in its place' 0 "$(lines 'clear b.img: zero\nmetadata of a.img: another')" ''
 put_back
 
 # A blank file in a source's place is seen before its zeros are copied.
@@ -79,7 +79,7 @@ at_bench pending
 expect 'a journal that holds something' 3 '' 'gmbench: F2 store'
 : >"$registry-journal"
 run pending --registry "$registry"
-expect 'an empty one' 0 "$(lines 'metadata of a.img\nclear b.img')" ''
+expect 'an empty one' 0 "$(lines 'clear b.img\nmetadata of a.img')" ''
 rm "$registry-journal"
 if command -v flock >/dev/null; then
     (
@@ -87,14 +87,14 @@ if command -v flock >/dev/null; then
         at_bench pending
         expect 'a folder that is held' 3 '' "$broken"
         run pending --registry "$registry"
-        expect 'without it the registry is shown' 0 "$(lines 'metadata of a.img\nclear b.img')" ''
+        expect 'without it the registry is shown' 0 "$(lines 'clear b.img\nmetadata of a.img')" ''
         echo "$passed $failed" >"$work/counted"
     ) 9<"$bench/images"
     read -r passed failed <"$work/counted"
     (
         flock -s 9
         at_bench pending
-        expect 'a folder that another one looks at' 0 "$(lines 'metadata of a.img: member\nclear b.img: member')" ''
+        expect 'a folder that another one looks at' 0 "$(lines 'clear b.img: member\nmetadata of a.img: member')" ''
         echo "$passed $failed" >"$work/counted"
     ) 9<"$bench/images"
     read -r passed failed <"$work/counted"
@@ -126,12 +126,12 @@ mv "$registry" "$bench/images/registry"
 registry=$bench/images/registry
 truncate -s 4096 "$bench/images/c.img"
 at_bench pending
-expect 'a registry that lies among the images' 0 "$(lines 'metadata of a.img: member\nclear b.img: member')" ''
+expect 'a registry that lies among the images' 0 "$(lines 'clear b.img: member\nmetadata of a.img: member')" ''
 
 # ---- media that can't be written
 
 stopped_remove read
-expect_as_reader 'what is pending, to a user who may only read' "$(lines 'metadata of a.img: member\nclear b.img: member')" \
+expect_as_reader 'what is pending, to a user who may only read' "$(lines 'clear b.img: member\nmetadata of a.img: member')" \
     pending --registry "$registry" --shelf "$bench/images"
 if unshare -m true 2>/dev/null; then
     mkdir -p "$work/mount"
@@ -145,7 +145,7 @@ if unshare -m true 2>/dev/null; then
         case $status-$look in
             99-*) skip "$look of a medium that is read-only" 'it can not be mounted here' ;;
             *-pending) expect "$look of a medium that is read-only" 0 \
-                "$(lines 'metadata of a.img: member\nclear b.img: member')" '' ;;
+                "$(lines 'clear b.img: member\nmetadata of a.img: member')" '' ;;
             *-status*) expect "$look of a medium that is read-only" 0 "$of_one" '2 writes are pending' ;;
             *-list*) expect "$look of a medium that is read-only" 0 "$list_of_one" '2 writes are pending' ;;
             *) expect "$look of a medium that is read-only" 1 a.img '2 writes are pending' ;;
