@@ -1,10 +1,11 @@
-"""What is pending behind each command that was stopped, and what is looked at without an opening.
+"""What is pending behind each command that was killed, and what is looked at without an opening.
 
     pending.py PROGRAM PRELOADED FOLDER
 
-Each command is stopped before each of its writes and syncs of an image. What `pending` prints then is held against a plain
-reading of the registry and of the images, and against what `recover` does; `status`, `list` and `audit` with --read-only
-against those without, once that is done. None of them changes a byte. Then one image after the other is blank or away.
+Each command is killed before each of its writes and syncs of an image, so that the registry's log lies beside it. What
+`pending` prints then is held against a plain reading of the registry and of the images, and against what `recover` does;
+`status`, `list` and `audit` with --read-only against those without, once that is done. None of them changes a byte. Then one
+image after the other is blank, away or longer.
 """
 
 import os
@@ -168,10 +169,11 @@ def try_command(command, lines):
     with open(count_file, encoding="ascii") as file:
         total = int(file.read())
     for first in range(1, total + 1):
-        title = f"'{command}', stopped at call {first} of {total}"
+        title = f"'{command}', killed at call {first} of {total}"
         counts["stops"] += 1
         put_back("before")
-        run(["batch"], line, LD_PRELOAD=preloaded, STOPPED=images + "/", STOP=str(first))
+        run(["batch"], line, LD_PRELOAD=preloaded, STOPPED=images + "/", STOP=str(first), KILL="yes")
+        check(f"{title}: it leaves a log", os.path.exists(registry + "-wal"), True)
         keep("stopped")
         pending, texts = look(title)
         if pending == 0:
@@ -188,7 +190,7 @@ def try_command(command, lines):
 for words, before, _ in COMMANDS:
     try_command(words, before)
     told = ", ".join(f"{number} {kind}" for kind, number in counts.items())
-    name = f"what is pending behind a command that was stopped: {words.split()[0]} ({told})"
+    name = f"what is pending behind a command that was killed: {words.split()[0]} ({told})"
     print(f"failed {name}: {len(wrong)} times, the first: {wrong[0]}" if wrong else f"ok {name}", flush=True)
     counts = dict.fromkeys(counts, 0)
     wrong = []

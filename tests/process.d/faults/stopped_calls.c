@@ -1,10 +1,11 @@
 /* What a test preloads into the program. STOP=N fails the Nth write, sync or cut of a file whose path begins with STOPPED, and
-   each later one; COUNT names a file to which the number of these calls is written at the end. Those that don't fail act, but
-   no sync waits, so that many runs take little time. */
+   each later one, or ends the process there by a signal, where KILL is set. COUNT names a file to which the number of these calls
+   is written at the end. Those that don't fail act, but no sync waits, so that many runs take little time. */
 #define _GNU_SOURCE
 #include <dlfcn.h>
 #include <errno.h>
 #include <fcntl.h>
+#include <signal.h>
 #include <stdio.h>
 #include <stdlib.h>
 #include <string.h>
@@ -28,6 +29,8 @@ static int is_stopped(int descriptor)
     calls++;
     if (!first || calls < atol(first))
         return 0;
+    if (getenv("KILL"))
+        raise(SIGKILL);
     errno = EIO;
     return 1;
 }
