@@ -7,17 +7,14 @@ is stopped itself, at each of its writes and syncs: the next opening and the sam
 """
 
 import os
-import shutil
-import subprocess
 import sys
 
+from bench_folder import Bench
 from each_command import COMMANDS, FILLED, NAMES
 from plain_bench import Records, lose, refusals_of_loss
 
 program, preloaded, work = sys.argv[1:4]
-bench = os.path.join(work, "bench")
-images, registry = os.path.join(bench, "images"), os.path.join(bench, "registry")
-scratch, count_file = os.path.join(work, "scratch"), os.path.join(work, "count")
+place = Bench(program, work)
 KEY = "z1"
 GONE = "F5 absent"
 
@@ -26,10 +23,7 @@ wrong = []
 
 
 def run(words, lines=b"", **more):
-    words = [program, words[0], "--registry", registry, "--shelf", images, *words[1:]]
-    environment = {**os.environ, "LD_PRELOAD": preloaded, **more}
-    done = subprocess.run(words, input=lines, capture_output=True, timeout=30, env=environment)
-    return done.returncode, done.stdout.decode(), done.stderr.decode()
+    return place.run(words, lines, LD_PRELOAD=preloaded, **more)
 
 
 def give_up(provider, **more):
@@ -38,47 +32,20 @@ def give_up(provider, **more):
 
 def calls_of(act, within):
     """How many writes and syncs of files whose path begins so an act makes."""
-    act(STOPPED=within, COUNT=count_file)
-    with open(count_file, encoding="ascii") as file:
-        return int(file.read())
-
-
-def keep(name):
-    shutil.rmtree(os.path.join(work, name), ignore_errors=True)
-    shutil.copytree(bench, os.path.join(work, name))
-
-
-def put_back(name):
-    shutil.rmtree(bench, ignore_errors=True)
-    shutil.copytree(os.path.join(work, name), bench)
-
-
-def contents():
-    found = {}
-    for name in sorted(os.listdir(images)):
-        with open(os.path.join(images, name), "rb") as file:
-            found[name] = bytearray(file.read())
-    return found
+    act(STOPPED=within, COUNT=place.count_file)
+    return place.count()
 
 
 def records():
-    return Records(registry, scratch)
+    return Records(place.registry, os.path.join(work, "scratch"))
 
 
 def put_before(lines):
     """A bench behind these lines; behind none, the images of FILLED without their registry."""
-    shutil.rmtree(bench, ignore_errors=True)
-    os.makedirs(images)
-    for name in NAMES:
-        with open(os.path.join(images, name), "wb") as file:
-            file.write(name[:1].encode() * 3 * 512 + bytes(512))
-    text = "".join(f"k{number} {line}\n" for number, line in enumerate(lines or FILLED))
-    ended = run(["batch"], text.encode())
-    assert ended[0] == 0, ended
+    place.make(NAMES, 4)
+    place.hand_in(lines or FILLED, LD_PRELOAD=preloaded)
     if lines is None:
-        for end in ("", "-wal"):
-            if os.path.exists(registry + end):
-                os.remove(registry + end)
+        place.forget_registry()
 
 
 def check(title, found, wanted):
@@ -90,7 +57,7 @@ def check(title, found, wanted):
 def check_bench(title, wanted, wanted_images):
     """Whether the registry and the images are these."""
     check(f"{title}: registry", records().rows(), wanted.rows())
-    found = contents()
+    found = place.contents_of_images()
     for name in sorted(found.keys() | wanted_images.keys()):
         if found.get(name) != wanted_images.get(name):
             wrong.append(f"{title}: {name} is another")
@@ -99,10 +66,10 @@ def check_bench(title, wanted, wanted_images):
 def refused(title, provider, least, pending):
     """An image that isn't given up: nothing is written, and once it is there again what was pending is carried out."""
     counts["refused"] += 1
-    before = records().rows(), contents()
+    before = records().rows(), place.contents_of_images()
     check(title, give_up(provider), (1, f"{KEY} refused {least}\n", ""))
-    check(f"{title}: nothing is written", (records().rows(), contents()), before)
-    put_back("stopped")
+    check(f"{title}: nothing is written", (records().rows(), place.contents_of_images()), before)
+    place.put_back("stopped")
     check(f"{title}: it is there again", run(["recover"]), (0, f"recovered {pending}\n", ""))
 
 
@@ -118,12 +85,12 @@ def given_up(title, provider, wanted, wanted_images, number, pending):
 
 def stopped_within(title, provider, wanted, wanted_images, number):
     """The same stopped at each of its writes and syncs, to registry and images, then an opening, then the same again."""
-    total = calls_of(lambda **more: give_up(provider, **more), bench + "/")
+    total = calls_of(lambda **more: give_up(provider, **more), place.folder + "/")
     for call in range(1, total + 1):
         counts["stops"] += 1
         at = f"{title}, stopped at call {call} of {total}"
-        put_back("lost")
-        status, told, complaint = give_up(provider, STOPPED=bench + "/", STOP=str(call))
+        place.put_back("lost")
+        status, told, complaint = give_up(provider, STOPPED=place.folder + "/", STOP=str(call))
         was_told = f"{KEY} ok {number}\n" in told
         if status != 3 and not was_told:
             wrong.append(f"{at}: status {status}, {told!r}, {complaint!r}")
@@ -140,12 +107,12 @@ def stopped_within(title, provider, wanted, wanted_images, number):
 def lose_each(command, first, named):
     """A bench that was stopped: each image is lost, one at a time."""
     for provider in NAMES:
-        put_back("stopped")
-        os.remove(os.path.join(images, provider))
-        keep("lost")
+        place.put_back("stopped")
+        os.remove(os.path.join(place.images, provider))
+        place.keep("lost")
         counts["benches"] += 1
         title = f"'{command}', stopped at call {first}, without {provider}"
-        wanted, wanted_images = records(), contents()
+        wanted, wanted_images = records(), place.contents_of_images()
         pending = len(wanted.intents)
         numbers = refusals_of_loss(wanted, provider, {name: len(image) for name, image in wanted_images.items()})
         if numbers:
@@ -155,21 +122,21 @@ def lose_each(command, first, named):
         wanted.carry_out(wanted_images)
         given_up(title, provider, wanted, wanted_images, number, pending)
         if first == 1 and provider[0] in named:
-            put_back("lost")
+            place.put_back("lost")
             stopped_within(title, provider, wanted, wanted_images, number)
 
 
 def try_command(command, lines, named):
     """A command that is stopped before each write and sync of an image, behind its acceptance."""
     put_before(lines)
-    keep("before")
+    place.keep("before")
     line = f"p1 {command}\n".encode()
-    total = calls_of(lambda **more: run(["batch"], line, **more), images + "/")
+    total = calls_of(lambda **more: run(["batch"], line, **more), place.images + "/")
     for first in range(1, total + 1):
-        put_back("before")
-        stopped = run(["batch"], line, STOPPED=images + "/", STOP=str(first))
+        place.put_back("before")
+        stopped = run(["batch"], line, STOPPED=place.images + "/", STOP=str(first))
         check(f"'{command}', stopped at call {first}", stopped, (3, "p1 fault 3\n", "gmbench: F3 disk\n"))
-        keep("stopped")
+        place.keep("stopped")
         lose_each(command, first, named)
     if total == 0:
         wrong.append(f"'{command}' wrote nothing")

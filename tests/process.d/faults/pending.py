@@ -9,28 +9,19 @@ image after the other is blank, away or longer.
 """
 
 import os
-import shutil
-import subprocess
 import sys
 
+from bench_folder import Bench
 from each_command import COMMANDS, FILLED, NAMES
 from formats import decode
 from plain_bench import COPY, META, Records
 
 program, preloaded, work = sys.argv[1:4]
-bench = os.path.join(work, "bench")
-images, registry = os.path.join(bench, "images"), os.path.join(bench, "registry")
-scratch, count_file = os.path.join(work, "scratch"), os.path.join(work, "count")
+place = Bench(program, work)
+run = place.run
 SECTORS = 4
 counts = {"stops": 0, "lines": 0, "images": 0}
 wrong = []
-
-
-def run(words, lines=b"", shelf=True, **more):
-    words = [program, words[0], "--registry", registry, *(["--shelf", images] if shelf else []), *words[1:]]
-    environment = {**os.environ, **more}
-    done = subprocess.run(words, input=lines, capture_output=True, timeout=30, env=environment)
-    return done.returncode, done.stdout.decode(), done.stderr.decode()
 
 
 def check(title, found, wanted):
@@ -38,40 +29,12 @@ def check(title, found, wanted):
         wrong.append(f"{title}: {found!r}, and not {wanted!r}"[:600])
 
 
-def contents():
-    """Every byte of the bench: of the images, the registry, and whatever lies beside it."""
-    found = {}
-    for folder, _, names in os.walk(bench):
-        for name in names:
-            with open(os.path.join(folder, name), "rb") as file:
-                found[os.path.relpath(os.path.join(folder, name), bench)] = file.read()
-    return found
-
-
 def put_before(lines):
     """A bench behind these lines; behind none, the images of FILLED without their registry."""
-    shutil.rmtree(bench, ignore_errors=True)
-    os.makedirs(images)
-    for name in NAMES:
-        with open(os.path.join(images, name), "wb") as file:
-            file.write(name[:1].encode() * (SECTORS - 1) * 512 + bytes(512))
-    text = "".join(f"k{number} {line}\n" for number, line in enumerate(lines or FILLED))
-    ended = run(["batch"], text.encode())
-    assert ended[0] == 0, ended
+    place.make(NAMES, SECTORS)
+    place.hand_in(lines or FILLED, LD_PRELOAD=preloaded)
     if lines is None:
-        for end in ("", "-wal"):
-            if os.path.exists(registry + end):
-                os.remove(registry + end)
-
-
-def keep(name):
-    shutil.rmtree(os.path.join(work, name), ignore_errors=True)
-    shutil.copytree(bench, os.path.join(work, name))
-
-
-def put_back(name):
-    shutil.rmtree(bench, ignore_errors=True)
-    shutil.copytree(os.path.join(work, name), bench)
+        place.forget_registry()
 
 
 def said(sector, mirrors):
@@ -85,7 +48,7 @@ def said(sector, mirrors):
 
 def standing(records, name, cleared):
     """How an image stands to what is registered and pending."""
-    path = os.path.join(images, name)
+    path = os.path.join(place.images, name)
     component = None if cleared else records.components.get(name)
     if not os.path.exists(path) or (component and os.path.getsize(path) != component["provsize"]):
         return "absent"
@@ -122,8 +85,8 @@ def amiss(records):
 
 def look(title):
     """All that is looked at, which changes nothing."""
-    records = Records(registry, scratch)
-    before = contents()
+    records = Records(place.registry, os.path.join(work, "scratch"))
+    before = place.contents()
     for shelf in (True, False):
         check(f"{title}: pending", run(["pending"], shelf=shelf), (0, lines_of(records, shelf), ""))
     pending = len(records.intents)
@@ -134,7 +97,7 @@ def look(title):
         check(f"{title}: {command} ends", (status, complaint), (0, told))
     listed = amiss(records)
     check(f"{title}: audit", run(["audit", "--read-only"]), (1 if listed else 0, listed, told))
-    check(f"{title}: not a byte is changed", contents(), before)
+    check(f"{title}: not a byte is changed", place.contents(), before)
     counts["lines"] += pending
     return pending, texts
 
@@ -150,7 +113,7 @@ def recovered(title, pending, texts):
 
 def spoil(name, how):
     """An image that is blank, or away, or has another size."""
-    path = os.path.join(images, name)
+    path = os.path.join(place.images, name)
     if how == "away":
         os.remove(path)
     elif how == "longer":
@@ -163,25 +126,24 @@ def spoil(name, how):
 
 def try_command(command, lines):
     put_before(lines)
-    keep("before")
+    place.keep("before")
     line = f"p1 {command}\n".encode()
-    run(["batch"], line, LD_PRELOAD=preloaded, STOPPED=images + "/", COUNT=count_file)
-    with open(count_file, encoding="ascii") as file:
-        total = int(file.read())
+    run(["batch"], line, LD_PRELOAD=preloaded, STOPPED=place.images + "/", COUNT=place.count_file)
+    total = place.count()
     for first in range(1, total + 1):
         title = f"'{command}', killed at call {first} of {total}"
         counts["stops"] += 1
-        put_back("before")
-        run(["batch"], line, LD_PRELOAD=preloaded, STOPPED=images + "/", STOP=str(first), KILL="yes")
-        check(f"{title}: it leaves a log", os.path.exists(registry + "-wal"), True)
-        keep("stopped")
+        place.put_back("before")
+        run(["batch"], line, LD_PRELOAD=preloaded, STOPPED=place.images + "/", STOP=str(first), KILL="yes")
+        check(f"{title}: it leaves a log", os.path.exists(place.registry + "-wal"), True)
+        place.keep("stopped")
         pending, texts = look(title)
         if pending == 0:
             wrong.append(f"{title}: nothing is pending")
         recovered(title, pending, texts)
         for name in NAMES if first == 1 else []:
             for how in ("blank", "away", "longer"):
-                put_back("stopped")
+                place.put_back("stopped")
                 spoil(name, how)
                 look(f"{title}, {name} {how}")
                 counts["images"] += 1

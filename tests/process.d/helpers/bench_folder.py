@@ -1,0 +1,74 @@
+"""A bench in a folder of its own, at which a test in Python runs the program: images, a registry, and copies of both."""
+
+import os
+import shutil
+import subprocess
+
+
+class Bench:
+    """The folder `bench` of a work folder, with `images` and `registry` in it."""
+
+    def __init__(self, program, work):
+        self.program, self.work = program, work
+        self.folder = os.path.join(work, "bench")
+        self.images, self.registry = os.path.join(self.folder, "images"), os.path.join(self.folder, "registry")
+        self.count_file = os.path.join(work, "count")
+
+    def run(self, words, lines=b"", shelf=True, **environment):
+        """Runs a command with these variables: its status, what it prints and what it complains of."""
+        place = ["--registry", self.registry, *(["--shelf", self.images] if shelf else [])]
+        done = subprocess.run(
+            [self.program, words[0], *place, *words[1:]], input=lines, capture_output=True, timeout=30,
+            env={**os.environ, **environment},
+        )
+        return done.returncode, done.stdout.decode(), done.stderr.decode()
+
+    def count(self):
+        """The number that a preloaded library wrote at the end of the last run."""
+        with open(self.count_file, encoding="ascii") as file:
+            return int(file.read())
+
+    def make(self, names, sectors):
+        """An empty bench with images of so many sectors, each of its own letter but for the last sector, which is zeros."""
+        shutil.rmtree(self.folder, ignore_errors=True)
+        os.makedirs(self.images)
+        for name in names:
+            with open(os.path.join(self.images, name), "wb") as file:
+                file.write(name[:1].encode() * (sectors - 1) * 512 + bytes(512))
+
+    def hand_in(self, commands, **environment):
+        """Has commands carried out, each under a key of its own."""
+        text = "".join(f"k{number} {command}\n" for number, command in enumerate(commands))
+        ended = self.run(["batch"], text.encode(), **environment)
+        assert ended[0] == 0, ended
+
+    def forget_registry(self):
+        for end in ("", "-wal"):
+            if os.path.exists(self.registry + end):
+                os.remove(self.registry + end)
+
+    def keep(self, name):
+        shutil.rmtree(os.path.join(self.work, name), ignore_errors=True)
+        shutil.copytree(self.folder, os.path.join(self.work, name))
+
+    def put_back(self, name):
+        shutil.rmtree(self.folder, ignore_errors=True)
+        shutil.copytree(os.path.join(self.work, name), self.folder)
+
+    def contents(self, kept=None):
+        """Every byte of the bench, or of what was kept under a name: each file of images, registry and whatever lies beside."""
+        top = self.folder if kept is None else os.path.join(self.work, kept)
+        found = {}
+        for folder, _, names in os.walk(top):
+            for name in names:
+                with open(os.path.join(folder, name), "rb") as file:
+                    found[os.path.relpath(os.path.join(folder, name), top)] = file.read()
+        return found
+
+    def contents_of_images(self):
+        """The bytes of each image, by its name, to be written to."""
+        found = {}
+        for name in sorted(os.listdir(self.images)):
+            with open(os.path.join(self.images, name), "rb") as file:
+                found[name] = bytearray(file.read())
+        return found
