@@ -1,0 +1,99 @@
+# Completes gmbench's words in bash. Source this file, or put it as `gmbench` into a folder of bash-completion.
+
+# The options of a subcommand.
+_gmbench_options() {
+    case $1 in
+        dump | taste) echo --shelf --json --help ;;
+        pending | do) echo --registry --shelf --help ;;
+        recover) echo --registry --shelf --without --key --help ;;
+        status | list | audit) echo --registry --shelf --json --read-only --help ;;
+        scrub) echo --registry --shelf --json --quiet --help ;;
+        batch) echo --registry --shelf --audit --explain --help ;;
+        sync) echo --registry --shelf --unchecked --quiet --help ;;
+        serve) echo --registry --shelf --port --count --log --audit --help ;;
+    esac
+}
+
+# The options of a command behind the key of `do`.
+_gmbench_command_options() {
+    case $1 in
+        label) echo --mid --did --balance --slice --autosync --failsync --hardcode ;;
+        insert) echo --did --priority --hardcode ;;
+        configure) echo --balance --slice --autosync --failsync --hardcode --prov --priority ;;
+    esac
+}
+
+# Offers those of these words that begin as the word at the cursor.
+_gmbench_offer() {
+    local offered
+    for offered; do
+        [[ $offered != "$word"* ]] || COMPREPLY+=("$offered")
+    done
+}
+
+# Offers the regular files of the folder, where their names are such as images have.
+_gmbench_offer_images() {
+    local path name
+    [[ -n $shelf ]] || return
+    for path in "${shelf/#\~\//$HOME/}/$word"*; do
+        name=${path##*/}
+        [[ ! -f $path || -L $path || $name == *[!A-Za-z0-9._-]* ]] || COMPREPLY+=("$name")
+    done
+}
+
+# Offers files or folders of any name.
+_gmbench_offer_paths() {
+    mapfile -t COMPREPLY < <(compgen "$1" -- "$word")
+    compopt -o filenames 2>/dev/null
+}
+
+_gmbench() {
+    local subcommands='dump taste pending recover status list audit scrub do batch sync serve help'
+    local commands='label insert remove deactivate activate forget rebuild configure clear destroy lost advance adopt'
+    local word=${COMP_WORDS[COMP_CWORD]} shelf=${GMBENCH_SHELF-} option='' names=() before
+    COMPREPLY=()
+
+    # What stands before the cursor: names, the subcommand first, and maybe an option that wants a value.
+    for before in "${COMP_WORDS[@]:1:COMP_CWORD-1}"; do
+        if [[ -n $option ]]; then
+            [[ $before != = ]] || continue
+            [[ $option != --shelf ]] || shelf=$before
+            option=
+            continue
+        fi
+        case $before in
+            --registry | --shelf | --without | --key | --port | --count | --mid | --did | --balance | --slice | \
+                --autosync | --failsync | --hardcode | --priority | --prov) option=$before ;;
+            -*) ;;
+            *) names+=("$before") ;;
+        esac
+    done
+    [[ -z $option || $word != = ]] || word=
+
+    case $option in
+        --registry) _gmbench_offer_paths -f ;;
+        --shelf) _gmbench_offer_paths -d ;;
+        --without | --prov) _gmbench_offer_images ;;
+        --balance) _gmbench_offer load prefer round-robin split ;;
+        --autosync | --failsync | --hardcode) _gmbench_offer on off ;;
+    esac
+    [[ -z $option ]] || return
+
+    if [[ $word != -* ]]; then
+        case ${names[0]-},${#names[@]} in
+            ,0 | help,1) _gmbench_offer $subcommands ;;
+            do,2) _gmbench_offer $commands ;;
+            do,3) [[ ${names[2]} != clear ]] || _gmbench_offer_images ;;
+            do,* | dump,1 | sync,2) _gmbench_offer_images ;;
+        esac
+        [[ ${#COMPREPLY[@]} = 0 ]] || return
+    fi
+    case ${names[0]-},${#names[@]} in
+        ,0) _gmbench_offer --help --version ;;
+        do,2) ;;
+        do,[3-9] | do,??*) _gmbench_offer $(_gmbench_command_options "${names[2]}") ;;
+        *) _gmbench_offer $(_gmbench_options "${names[0]}") ;;
+    esac
+}
+
+complete -F _gmbench gmbench

@@ -1,0 +1,122 @@
+# Completes gmbench's words in fish. Put this file into ~/.config/fish/completions.
+
+# The words before the cursor that are names, the subcommand first.
+function __gmbench_names
+    set -l valued --registry --shelf --without --key --port --count --mid --did --balance --slice --autosync --failsync \
+        --hardcode --priority --prov
+    set -l wants no
+    for word in (commandline -opc)[2..-1]
+        if test $wants = yes
+            set wants no
+        else if contains -- $word $valued
+            set wants yes
+        else if not string match -q -- '-*' $word
+            echo $word
+        end
+    end
+end
+
+# Whether the options of one of these subcommands may stand here. Behind the key of `do` its own may not.
+function __gmbench_in
+    set -l names (__gmbench_names)
+    test "$names[1]" = do -a (count $names) -gt 1; and return 1
+    contains -- "$names[1]" $argv
+end
+
+# Whether so many names stand behind that subcommand.
+function __gmbench_behind
+    set -l names (__gmbench_names)
+    test "$names[1]" = $argv[1] -a (count $names) -eq (math $argv[2] + 1)
+end
+
+# Whether one of these commands stands behind the key of `do`.
+function __gmbench_doing
+    set -l names (__gmbench_names)
+    test "$names[1]" = do; and contains -- "$names[3]" $argv
+end
+
+# Whether an image is wanted behind the key of `do`.
+function __gmbench_doing_images
+    set -l names (__gmbench_names)
+    test "$names[1]" = do -a \( (count $names) -gt 3 -o "$names[3]" = clear \)
+end
+
+# The regular files of the folder that --shelf or the environment names.
+function __gmbench_images
+    set -l shelf $GMBENCH_SHELF
+    set -l before
+    for word in (commandline -opc)
+        if test "$before" = --shelf
+            set shelf $word
+        else if string match -q -- '--shelf=*' $word
+            set shelf (string replace -- --shelf= '' $word)
+        end
+        set before $word
+    end
+    test -n "$shelf"; or return
+    set shelf (string replace -r -- '^~/' $HOME/ $shelf)
+    for path in $shelf/*
+        set -l name (string replace -r '.*/' '' $path)
+        test -f $path -a ! -L $path; and string match -r '^[A-Za-z0-9._-]+$' -- $name
+    end
+end
+
+complete -c gmbench -f
+complete -c gmbench -n 'test (count (__gmbench_names)) -eq 0' -s V -l version -d 'Print the version'
+complete -c gmbench -n 'test (count (__gmbench_names)) -eq 0' -s h -l help -d 'Print help'
+
+set -l line
+for line in 'dump:Print what the last sector of an image says' \
+    'taste:Print which mirrors the images tell of' \
+    'pending:Print what a run that stopped left pending' \
+    'recover:Carry out what a run that stopped left pending' \
+    'status:Show in a few lines how the mirrors stand' \
+    'list:Show all that is known of the mirrors' \
+    'audit:List components that are not as they are registered' \
+    'scrub:Compare the data of components' \
+    'do:Carry out one command' \
+    'batch:Carry out the commands of standard input' \
+    'sync:Fill the components that are SYNCHRONIZING' \
+    'serve:Answer requests over HTTP' \
+    'help:Print help'
+    set -l words (string split -m 1 : $line)
+    complete -c gmbench -n 'test (count (__gmbench_names)) -eq 0' -a $words[1] -d $words[2]
+    complete -c gmbench -n '__gmbench_behind help 0' -a $words[1] -d $words[2]
+end
+
+# The options of subcommands.
+set -l at_bench pending recover status list audit scrub do batch sync serve
+complete -c gmbench -n "__gmbench_in dump taste $at_bench" -s h -l help -d 'Print help'
+complete -c gmbench -n "__gmbench_in $at_bench" -l registry -r -F -d 'The registry'
+complete -c gmbench -n "__gmbench_in dump taste $at_bench" -l shelf -x -a '(__fish_complete_directories)' \
+    -d 'The folder with the images'
+complete -c gmbench -n '__gmbench_in dump taste status list audit scrub' -l json -d 'Print JSON'
+complete -c gmbench -n '__gmbench_in status list audit' -l read-only -d 'Carry out nothing, and write nothing'
+complete -c gmbench -n '__gmbench_in scrub sync' -l quiet -d 'Do not say how far it is'
+complete -c gmbench -n '__gmbench_in batch serve' -l audit -d 'Audit the images first'
+complete -c gmbench -n '__gmbench_in batch' -l explain -d 'Say why a line is refused'
+complete -c gmbench -n '__gmbench_in sync' -l unchecked -d 'Fill without an audit'
+complete -c gmbench -n '__gmbench_in recover' -l without -x -a '(__gmbench_images)' -d 'An image that is gone for good'
+complete -c gmbench -n '__gmbench_in recover' -l key -x -d 'The key under which it is given up'
+complete -c gmbench -n '__gmbench_in serve' -l port -x -d 'The port on 127.0.0.1'
+complete -c gmbench -n '__gmbench_in serve' -l count -x -d 'How many connections are served'
+complete -c gmbench -n '__gmbench_in serve' -l log -d 'Log each connection'
+
+# Images, where a subcommand wants one.
+complete -c gmbench -n '__gmbench_behind dump 0' -a '(__gmbench_images)' -d Image
+complete -c gmbench -n '__gmbench_behind sync 1' -a '(__gmbench_images)' -d Image
+complete -c gmbench -n __gmbench_doing_images -a '(__gmbench_images)' -d Image
+
+# The commands behind the key of `do`, and the options of each.
+complete -c gmbench -n '__gmbench_behind do 1' -d Command \
+    -a 'label insert remove deactivate activate forget rebuild configure clear destroy lost advance adopt'
+complete -c gmbench -n '__gmbench_doing label' -l mid -x -d 'The number of the mirror'
+complete -c gmbench -n '__gmbench_doing label insert' -l did -x -d 'The number of the component'
+complete -c gmbench -n '__gmbench_doing label configure' -l balance -x -a 'load prefer round-robin split' \
+    -d 'How reads are shared out'
+complete -c gmbench -n '__gmbench_doing label configure' -l slice -x -d 'The bytes by which split shares out'
+complete -c gmbench -n '__gmbench_doing label configure' -l autosync -x -a 'on off' -d 'Whether NOAUTOSYNC is off'
+complete -c gmbench -n '__gmbench_doing label configure' -l failsync -x -a 'on off' -d 'Whether NOFAILSYNC is off'
+complete -c gmbench -n '__gmbench_doing label insert configure' -l hardcode -x -a 'on off' -d 'Whether the name is written'
+complete -c gmbench -n '__gmbench_doing insert configure' -l priority -x -d 'The priority of the component'
+complete -c gmbench -n '__gmbench_doing configure' -l prov -x -a '(__gmbench_images)' -d 'The component of the priority'

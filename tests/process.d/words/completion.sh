@@ -1,0 +1,146 @@
+. "$helpers/help.sh"
+. "$helpers/expect.sh"
+
+# ---- a folder of images, with what is no image beside them
+
+completions=$top/completions
+place=$work/place
+mkdir "$place" "$place/images" "$place/images/folder" "$place/other"
+: >"$place/registry"
+: >"$place/images/a.img"
+: >"$place/images/b.img"
+: >"$place/images/two words"
+: >"$place/images/\$(touch made)"
+ln -s a.img "$place/images/link.img"
+
+# What the help says: the thirteen commands, and their words.
+command_lines >"$work/commands"
+commands=$(sed 's/ .*//' "$work/commands" | in_a_line)
+expect_offered() {
+    [ "$2" = "$3" ] && pass "$1" || fail "$1" "offered are '$2', and not '$3'"
+}
+
+# ---- bash
+
+# What bash offers behind `gmbench` and these words, of which the last one is at the cursor, sorted, in a line.
+in_bash() {
+    (
+        cd "$place" || exit
+        bash -c '. "$1"
+            shift
+            COMP_WORDS=("$@") COMP_CWORD=$(($# - 1))
+            _gmbench
+            [ "${#COMPREPLY[@]}" = 0 ] || printf "%s\n" "${COMPREPLY[@]}"' bash "$completions/gmbench.bash" gmbench "$@"
+    ) 2>&1 | in_a_line
+}
+try_bash() {
+    expect_offered 'bash: the subcommands' "$(in_bash '')" "$(subcommands | in_a_line)"
+    expect_offered 'bash: a subcommand that is begun' "$(in_bash st)" status
+    expect_offered 'bash: the options without a subcommand' "$(in_bash --)" "$(options_of)"
+    expect_offered 'bash: the subcommands behind help' "$(in_bash help '')" "$(subcommands | in_a_line)"
+    for word in $(subcommands | grep -v help); do
+        expect_offered "bash: the options of $word" "$(in_bash "$word" --)" "$(options_of "$word")"
+    done
+    expect_offered 'bash: the options of status where nothing is begun' "$(in_bash status '')" "$(options_of status)"
+    expect_offered 'bash: an option that is begun' "$(in_bash status --r)" '--read-only --registry'
+
+    expect_offered 'bash: the images of a folder' "$(in_bash dump --shelf images '')" 'a.img b.img'
+    expect_offered 'bash: an image that is begun' "$(in_bash dump --shelf images b)" b.img
+    expect_offered 'bash: the images of a folder behind =' "$(in_bash dump --shelf = images '')" 'a.img b.img'
+    expect_offered 'bash: an image that is given up' "$(in_bash recover --shelf images --without '')" 'a.img b.img'
+    expect_offered 'bash: an image that is given up, behind =' "$(in_bash recover --shelf images --without =)" 'a.img b.img'
+    expect_offered 'bash: an image to be filled' "$(in_bash sync --shelf images gm0 '')" 'a.img b.img'
+    (
+        export GMBENCH_SHELF=images
+        in_bash dump ''
+        GMBENCH_SHELF=other
+        in_bash dump --shelf images ''
+    ) >"$work/offered"
+    lines 'a.img b.img\na.img b.img\n' >"$work/wanted"
+    expect_same 'bash: the folder of the environment, and that of the words before it' "$work/offered" "$work/wanted"
+    (
+        export HOME="$place"
+        in_bash dump --shelf '~/images' ''
+    ) >"$work/offered"
+    lines 'a.img b.img\n' >"$work/wanted"
+    expect_same 'bash: a folder of the home' "$work/offered" "$work/wanted"
+    expect_offered 'bash: no folder, no images' "$(in_bash dump '')" "$(options_of dump)"
+    expect_none 'bash: no name of a file is carried out' "$place/made"
+
+    expect_offered 'bash: a registry' "$(in_bash status --registry '')" 'images other registry'
+    expect_offered 'bash: a folder' "$(in_bash status --registry registry --shelf '')" 'images other'
+    expect_offered 'bash: nothing for a number' "$(in_bash serve --port '')" ''
+
+    expect_offered 'bash: the commands of do' "$(in_bash do k1 '')" "$commands"
+    expect_offered 'bash: the same behind the options' "$(in_bash do --registry registry --shelf images k1 '')" "$commands"
+    expect_offered 'bash: a command that is begun' "$(in_bash do k1 de)" 'deactivate destroy'
+    while read -r word behind; do
+        expect_offered "bash: the options of the command $word" "$(in_bash do k1 "$word" --)" \
+            "$(echo "$behind" | long_options)"
+    done <"$work/commands"
+    expect_offered 'bash: the image of a label' "$(in_bash do --shelf images k1 label --mid 7 --did 1 gm0 '')" 'a.img b.img'
+    expect_offered 'bash: the image of a clear' "$(in_bash do --shelf images k1 clear '')" 'a.img b.img'
+    expect_offered 'bash: the component of a priority' "$(in_bash do --shelf images k1 configure --prov '')" 'a.img b.img'
+    expect_offered 'bash: how reads are shared out' "$(in_bash do k1 label --balance '')" 'load prefer round-robin split'
+    expect_offered 'bash: on and off' "$(in_bash do k1 label --autosync '')" 'off on'
+}
+if bash -c '[ "${BASH_VERSINFO[0]}" -ge 4 ]' 2>/dev/null; then
+    try_bash
+else
+    skip 'what bash offers' 'there is no bash here, or one before 4'
+fi
+
+# ---- zsh and fish have the same words
+
+# Whether a file has each of these words, as it writes one: before and behind it stands this.
+expect_written() {
+    missing=
+    for word in $5; do
+        grep -qE -e "$3$word$4" "$completions/$2" || missing="$missing $word"
+    done
+    [ -n "$5" ] && [ -z "$missing" ] && pass "$1" || fail "$1" "it lacks$missing"
+}
+options=$({
+    "$gmbench" --help
+    for word in $(subcommands | grep -v help); do
+        "$gmbench" "$word" --help
+    done
+} | long_options | sed 's/--//g')
+expect_written 'zsh: each subcommand' _gmbench "^        '" ':' "$(subcommands)"
+expect_written 'zsh: each command of do' _gmbench "^        '" ':' "$commands"
+expect_written 'zsh: each option' _gmbench '--' "(=?[[]|}')" "$options"
+expect_written 'fish: each subcommand' gmbench.fish "^(for line in|   ) '" : "$(subcommands)"
+expect_written 'fish: each command of do' gmbench.fish "[' ]" "[' ]" "$commands"
+expect_written 'fish: each option' gmbench.fish ' -l ' ' ' "$options"
+if command -v zsh >/dev/null; then
+    zsh -n "$completions/_gmbench" 2>"$work/complaints" && pass 'zsh reads its file' ||
+        fail 'zsh reads its file' "$(head -n 1 "$work/complaints")"
+else
+    skip 'zsh reads its file' 'there is no zsh here'
+fi
+
+# What fish offers behind a line that is begun, sorted, in a line.
+in_fish() {
+    (
+        cd "$place" || exit
+        HOME=$work fish -c "source $completions/gmbench.fish; complete -C '$1'" 2>&1 | cut -f 1
+    ) | in_a_line
+}
+if command -v fish >/dev/null; then
+    fish -n "$completions/gmbench.fish" 2>"$work/complaints" && pass 'fish reads its file' ||
+        fail 'fish reads its file' "$(head -n 1 "$work/complaints")"
+    expect_offered 'fish: the subcommands' "$(in_fish 'gmbench ')" "$(subcommands | in_a_line)"
+    for word in $(subcommands | grep -v help); do
+        expect_offered "fish: the options of $word" "$(in_fish "gmbench $word --")" "$(options_of "$word")"
+    done
+    expect_offered 'fish: the images of a folder' "$(in_fish 'gmbench dump --shelf images ')" 'a.img b.img'
+    expect_offered 'fish: an image that is given up' "$(in_fish 'gmbench recover --shelf=images --without ')" 'a.img b.img'
+    expect_offered 'fish: the commands of do' "$(in_fish 'gmbench do k1 ')" "$commands"
+    while read -r word behind; do
+        expect_offered "fish: the options of the command $word" "$(in_fish "gmbench do k1 $word --")" \
+            "$(echo "$behind" | long_options)"
+    done <"$work/commands"
+else
+    skip 'fish reads its file, and what it offers' 'there is no fish here'
+fi
+finish
