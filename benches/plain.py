@@ -57,7 +57,7 @@ FIELDS = struct.Struct("<16sI16sIIBIIBIBQIQQQ16sQ")
 
 
 class Refused(Exception):
-    """A line that isn't carried out, by the number that docs/USE.md gives to the reason."""
+    """A line that isn't carried out, by the number that docs/REFERENCE.md gives to the reason."""
 
     def __init__(self, number):
         super().__init__(number)

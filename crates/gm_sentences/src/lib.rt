@@ -2,7 +2,7 @@
 //!
 //! `sentences.rt` has the sentences, by number; `MIRROR` and `IMAGE` stand in them for what is
 //! meant, and `about.rt` puts that in their place. The table of refusals and faults in
-//! `docs/USE.md` has the same sentences.
+//! `docs/REFERENCE.md` has the same sentences.
 #![tactic(auto)]
 
 mod about;

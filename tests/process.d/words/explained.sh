@@ -93,7 +93,7 @@ else
     skip 'an image that may not be read' 'there is no other user here'
 fi
 
-# ---- each refusal, fault and cause has a sentence, and docs/USE.md has the same
+# ---- each refusal, fault and cause has a sentence, and docs/REFERENCE.md has the same
 
 if has_python 'the sentences of the manual'; then
     python3 "$top/docs/sentences" --check 2>"$work/complaints" && pass 'the sentences of the manual are those of the program' ||

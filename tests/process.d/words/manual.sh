@@ -77,12 +77,12 @@ for variable in GMBENCH_REGISTRY GMBENCH_SHELF; do
         fail "it names $variable" 'it does not'
 done
 
-# ---- every refusal and fault that docs/USE.md explains stands among the diagnostics
+# ---- every refusal and fault that docs/REFERENCE.md explains stands among the diagnostics
 
 # The numbers of refusals, or of faults, in the table that is made from the program's sentences. Refusal 1 has no sentence
 # of its own.
 numbers_explained() {
-    sed -n '/docs\/sentences begins/,/docs\/sentences ends/s/^| \([F0-9]*\) |.*/\1/p' "$top/docs/USE.md"
+    sed -n '/docs\/sentences begins/,/docs\/sentences ends/s/^| \([F0-9]*\) |.*/\1/p' "$top/docs/REFERENCE.md"
 }
 echo "1 $(numbers_explained | paste -sd ' ' -)" | tr ' ' '\n' | grep -v F | in_a_line >"$work/wanted"
 section DIAGNOSTICS | sed -n 's/^\.It Li refused \([0-9]*\)$/\1/p' | in_a_line >"$work/there"

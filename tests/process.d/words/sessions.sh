@@ -1,0 +1,9 @@
+. "$helpers/expect.sh"
+. "$helpers/python.sh"
+
+# ---- what the pages show is what is printed
+
+if has_python 'the sessions of the pages'; then
+    run_script words/sessions.py "$gmbench" "$top"
+fi
+finish
