@@ -72,11 +72,12 @@ fi
 
 # ---- the plots show what docs/PERFORMANCE.md says, and each document shows what there is
 
+tr '\n' ' ' <"$top/docs/PERFORMANCE.md" | sed 's/<img [^>]*>//g' >"$work/measured"
 for data in "$top"/docs/pictures/data/*.txt; do
     missing=
     for number in $(sed 's/#.*//; s/"[^"]*"//g' "$data"); do
         with_comma=$(echo "$number" | sed 's/^\([0-9]*\)\([0-9]\{3\}\)$/\1,\2/')
-        grep -qE "(^|[^0-9.,])${with_comma}([^0-9]|$)" "$top/docs/PERFORMANCE.md" || missing="$missing $number"
+        grep -qE "(^|[^0-9.,])${with_comma}([^0-9]|$)" "$work/measured" || missing="$missing $number"
     done
     [ -z "$missing" ] && pass "the numbers of ${data##*/} are the measured ones" ||
         fail "the numbers of ${data##*/} are the measured ones" "docs/PERFORMANCE.md has no$missing"
@@ -84,7 +85,7 @@ for data in "$top"/docs/pictures/data/*.txt; do
         fail "${data##*/} says where they come from" 'it does not'
 done
 for document in "$top"/*.md "$top"/docs/*.md; do
-    grep -o '<img [^>]*>' "$document" | while read -r image; do
+    tr '\n' ' ' <"$document" | grep -o '<img [^>]*>' | while read -r image; do
         source=$(printf '%s\n' "$image" | sed -n 's/.*src="\([^"]*\)".*/\1/p')
         [ -f "$(dirname "$document")/$source" ] || echo "${document##*/} shows $source, which there is not"
         printf '%s\n' "$image" | grep -q 'alt="[^"]' || echo "${document##*/} shows $source without a text for it"
