@@ -232,8 +232,22 @@ expect_installed 'a prefix with spaces' "$work/two words/or  three"
 install --remove "$work/two words/or  three/"
 expect 'a prefix with spaces: removing' 0 "$(removals "$work/two words/or  three")" ''
 expect_none 'a prefix with spaces: what was made above it is gone' "$work/two words"
-(cd "$work" && install relative)
+odd='a\nb'"'"'c"d*'
+install "$work/$odd"
+expect 'a prefix of other characters' 0 "$(printf '%s\n' "$said" && printf '%s\n' "$work/$odd" >"$work/odd-name" &&
+    places PREFIX | awk -v file="$work/odd-name" 'BEGIN { getline name <file } { print name substr($0, 7) }')" ''
+expect_installed 'a prefix of other characters' "$work/$odd"
+install --remove "$work/$odd"
+expect_none 'a prefix of other characters: removing' "$work/$odd"
+(cd "$work" && CDPATH=/ && export CDPATH && install relative)
 expect_installed 'a prefix from the folder where it is said' "$work/relative"
+
+# Nobody reads what it prints.
+"$here/install" "$work/unread" 2>"$work/complaints" </dev/null | :
+expect_installed 'where nobody reads what it prints' "$work/unread"
+expect_lines 'where nobody reads what it prints: no complaints' "$work/complaints" ''
+"$here/install" --remove "$work/unread" </dev/null >&- 2>&-
+expect_none 'where nothing can be printed: removing' "$work/unread"
 
 # ---- DESTDIR
 

@@ -56,7 +56,8 @@ expect 'a picture that there is not' 1 '' 'docs/draw: there is no text of nothin
 
 for picture in "$top"/docs/pictures/*.svg; do
     name=${picture##*/}
-    grep -q 'fill="\(white\|#ffffff\)"' "$picture" && pass "$name has a white ground" || fail "$name has a white ground" 'it has none'
+    grep -qE 'fill="(white|#ffffff)"' "$picture" && pass "$name has a white ground" ||
+        fail "$name has a white ground" 'it has none'
     found=$(grep -o 'font-family="[^"]*"' "$picture" | sort -u)
     [ "$found" = 'font-family="Helvetica,Arial,sans-serif"' ] && pass "$name has one face" ||
         fail "$name has one face" "$found"
