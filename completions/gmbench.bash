@@ -23,6 +23,16 @@ _gmbench_command_options() {
     esac
 }
 
+# Whether an image may stand behind so many names, of which the third is this command behind the key of `do`.
+_gmbench_wants_image() {
+    case $1 in
+        '' | forget | destroy | configure) false ;;
+        clear) [[ $2 = 3 ]] ;;
+        lost | adopt) [[ $2 -gt 3 ]] ;;
+        *) [[ $2 = 4 ]] ;;
+    esac
+}
+
 # Offers those of these words that begin as the word at the cursor.
 _gmbench_offer() {
     local offered
@@ -57,7 +67,8 @@ _gmbench() {
     for before in "${COMP_WORDS[@]:1:COMP_CWORD-1}"; do
         if [[ -n $option ]]; then
             [[ $before != = ]] || continue
-            [[ $option != --shelf ]] || shelf=$before
+            # As it is typed it has the quotes of a shell, which xargs takes away, and nothing of it is carried out.
+            [[ $option != --shelf ]] || shelf=$(xargs printf %s <<<"$before" 2>/dev/null)
             option=
             continue
         fi
@@ -83,8 +94,8 @@ _gmbench() {
         case ${names[0]-},${#names[@]} in
             ,0 | help,1) _gmbench_offer $subcommands ;;
             do,2) _gmbench_offer $commands ;;
-            do,3) [[ ${names[2]} != clear ]] || _gmbench_offer_images ;;
-            do,* | dump,1 | sync,2) _gmbench_offer_images ;;
+            do,*) ! _gmbench_wants_image "${names[2]-}" ${#names[@]} || _gmbench_offer_images ;;
+            dump,1 | sync,2) _gmbench_offer_images ;;
         esac
         [[ ${#COMPREPLY[@]} = 0 ]] || return
     fi

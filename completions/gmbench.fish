@@ -35,10 +35,20 @@ function __gmbench_doing
     test "$names[1]" = do; and contains -- "$names[3]" $argv
 end
 
-# Whether an image is wanted behind the key of `do`.
+# Whether an image may stand here behind the key of `do`.
 function __gmbench_doing_images
     set -l names (__gmbench_names)
-    test "$names[1]" = do -a \( (count $names) -gt 3 -o "$names[3]" = clear \)
+    test "$names[1]" = do; or return
+    switch "$names[3]"
+        case '' forget destroy configure
+            false
+        case clear
+            test (count $names) -eq 3
+        case lost adopt
+            test (count $names) -gt 3
+        case '*'
+            test (count $names) -eq 4
+    end
 end
 
 # The regular files of the folder that --shelf or the environment names.

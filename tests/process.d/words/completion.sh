@@ -5,11 +5,12 @@
 
 completions=$top/completions
 place=$work/place
-mkdir "$place" "$place/images" "$place/images/folder" "$place/other"
+mkdir -p "$place/images/folder" "$place/other/two words"
 : >"$place/registry"
 : >"$place/images/a.img"
 : >"$place/images/b.img"
 : >"$place/images/two words"
+: >"$place/other/two words/c.img"
 : >"$place/images/\$(touch made)"
 ln -s a.img "$place/images/link.img"
 
@@ -64,6 +65,9 @@ try_bash() {
     ) >"$work/offered"
     lines 'a.img b.img\n' >"$work/wanted"
     expect_same 'bash: a folder of the home' "$work/offered" "$work/wanted"
+    for quoted in 'other/two\ words' "'other/two words'" '"other/two words"'; do
+        expect_offered "bash: the folder $quoted" "$(in_bash dump --shelf "$quoted" '')" c.img
+    done
     expect_offered 'bash: no folder, no images' "$(in_bash dump '')" "$(options_of dump)"
     expect_none 'bash: no name of a file is carried out' "$place/made"
 
@@ -80,6 +84,9 @@ try_bash() {
     done <"$work/commands"
     expect_offered 'bash: the image of a label' "$(in_bash do --shelf images k1 label --mid 7 --did 1 gm0 '')" 'a.img b.img'
     expect_offered 'bash: the image of a clear' "$(in_bash do --shelf images k1 clear '')" 'a.img b.img'
+    expect_offered 'bash: all images of an adopt' "$(in_bash do --shelf images k1 adopt gm0 a.img '')" 'a.img b.img'
+    expect_offered 'bash: no second image of a remove' "$(in_bash do --shelf images k1 remove gm0 a.img '')" ''
+    expect_offered 'bash: no image of a forget' "$(in_bash do --shelf images k1 forget gm0 '')" ''
     expect_offered 'bash: the component of a priority' "$(in_bash do --shelf images k1 configure --prov '')" 'a.img b.img'
     expect_offered 'bash: how reads are shared out' "$(in_bash do k1 label --balance '')" 'load prefer round-robin split'
     expect_offered 'bash: on and off' "$(in_bash do k1 label --autosync '')" 'off on'
@@ -112,11 +119,52 @@ expect_written 'zsh: each option' _gmbench '--' "(=?[[]|}')" "$options"
 expect_written 'fish: each subcommand' gmbench.fish "^(for line in|   ) '" : "$(subcommands)"
 expect_written 'fish: each command of do' gmbench.fish "[' ]" "[' ]" "$commands"
 expect_written 'fish: each option' gmbench.fish ' -l ' ' ' "$options"
-if command -v zsh >/dev/null; then
-    zsh -n "$completions/_gmbench" 2>"$work/complaints" && pass 'zsh reads its file' ||
-        fail 'zsh reads its file' "$(head -n 1 "$work/complaints")"
+
+# What zsh offers behind a line that is begun, sorted, in a line.
+in_zsh() {
+    (
+        cd "$place" || exit
+        HOME=$place timeout 20 zsh -f "$tests/words/completion.zsh" "$completions" "$1" 2>&1
+    ) | in_a_line
+}
+if ! command -v zsh >/dev/null; then
+    skip 'zsh reads its file, and what it offers' 'there is no zsh here'
+elif ! zsh -n "$completions/_gmbench" 2>"$work/complaints"; then
+    fail 'zsh reads its file' "$(head -n 1 "$work/complaints")"
+elif ! zsh -f -c 'zmodload zsh/zpty && autoload -U compinit && compinit -D -u' 2>/dev/null; then
+    skip 'what zsh offers' 'there is a zsh here that can not complete'
 else
-    skip 'zsh reads its file' 'there is no zsh here'
+    expect_offered 'zsh: the subcommands' "$(in_zsh 'gmbench ')" "$(subcommands | in_a_line)"
+    expect_offered 'zsh: a subcommand that is begun' "$(in_zsh 'gmbench st')" status
+    expect_offered 'zsh: the options without a subcommand' "$(in_zsh 'gmbench --')" "$(options_of)"
+    expect_offered 'zsh: the subcommands behind help' "$(in_zsh 'gmbench help ')" "$(subcommands | in_a_line)"
+    for word in $(subcommands | grep -v help); do
+        expect_offered "zsh: the options of $word" "$(in_zsh "gmbench $word --")" "$(options_of "$word")"
+    done
+    for line in 'dump --shelf images' 'dump --shelf=images' 'sync --shelf images gm0' 'recover --shelf images --without' \
+        'do --shelf images k1 clear' 'do --shelf images k1 label gm0' 'do --shelf images k1 adopt gm0 a.img' \
+        'do --shelf images k1 configure --prov' 'dump --shelf ~/images'; do
+        expect_offered "zsh: the images behind $line" "$(in_zsh "gmbench $line ")" 'a.img b.img'
+    done
+    for quoted in 'other/two\ words' "'other/two words'" '"other/two words"'; do
+        expect_offered "zsh: the folder $quoted" "$(in_zsh "gmbench dump --shelf $quoted ")" c.img
+    done
+    expect_offered 'zsh: an image of the folder of the environment' "$(
+        export GMBENCH_SHELF=images
+        in_zsh 'gmbench dump b'
+    )" b.img
+    expect_offered 'zsh: no image of a forget' "$(in_zsh 'gmbench do --shelf images k1 forget gm0 ')" ''
+    expect_none 'zsh: no name of a file is carried out' "$place/made"
+    expect_offered 'zsh: a registry' "$(in_zsh 'gmbench status --registry r')" registry
+    expect_offered 'zsh: nothing for a number' "$(in_zsh 'gmbench serve --port ')" ''
+    expect_offered 'zsh: the commands of do' "$(in_zsh 'gmbench do k1 ')" "$commands"
+    expect_offered 'zsh: a command that is begun' "$(in_zsh 'gmbench do k1 de')" 'deactivate destroy'
+    while read -r word behind; do
+        expect_offered "zsh: the options of the command $word" "$(in_zsh "gmbench do k1 $word --" </dev/null)" \
+            "$(echo "$behind" | long_options)"
+    done <"$work/commands"
+    expect_offered 'zsh: how reads are shared out' "$(in_zsh 'gmbench do k1 label --balance ')" \
+        'load prefer round-robin split'
 fi
 
 # What fish offers behind a line that is begun, sorted, in a line.
@@ -135,6 +183,11 @@ if command -v fish >/dev/null; then
     done
     expect_offered 'fish: the images of a folder' "$(in_fish 'gmbench dump --shelf images ')" 'a.img b.img'
     expect_offered 'fish: an image that is given up' "$(in_fish 'gmbench recover --shelf=images --without ')" 'a.img b.img'
+    expect_offered 'fish: all images of an adopt' "$(in_fish 'gmbench do --shelf images k1 adopt gm0 a.img ')" 'a.img b.img'
+    expect_offered 'fish: no second image of a remove' "$(in_fish 'gmbench do --shelf images k1 remove gm0 a.img ')" ''
+    expect_offered 'fish: no image of a forget' "$(in_fish 'gmbench do --shelf images k1 forget gm0 ')" ''
+    expect_offered 'fish: a folder whose name has a space' "$(in_fish 'gmbench dump --shelf other/two\ words ')" c.img
+    expect_none 'fish: no name of a file is carried out' "$place/made"
     expect_offered 'fish: the commands of do' "$(in_fish 'gmbench do k1 ')" "$commands"
     while read -r word behind; do
         expect_offered "fish: the options of the command $word" "$(in_fish "gmbench do k1 $word --")" \
