@@ -11,7 +11,8 @@ fold_more f a xs i d now here step =
     step ∙ sym (ap (fold f a) (take_more xs i d here) ∙ fold-append f a (take i xs) _)
 
 -- the same, over what was folded before
-pub fold_next : {A B : Type 0} (f : B → A → B) (a : B) (xs : List A) (i : ℕ) (d : A) (before now : B)
+pub fold_next : {A B : Type 0} (f : B → A → B) (a : B) (xs : List A) (i : ℕ) (d : A)
+    (before now : B)
     → i < length xs → before ≡ fold f a (take i xs) → now ≡ f before (get_or xs i d)
     → now ≡ fold f a (take (i + 1) xs)
 fold_next f a xs i d before now here so step =

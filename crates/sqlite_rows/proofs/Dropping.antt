@@ -43,7 +43,8 @@ module _ (schema : Schema) (at : ℕ) (table : Table) (limit : Option ℕ) (mode
       → IsShaped shape.Table (db table.tree)
       → ((rows : List Row) → IsAnswer (scan table.tree tests (col 1 0 ∷ []) []) db params rows
       → IsPermutation (map (λ r. column r 0 ∷ []) (filter test (db table.tree))) rows)
-      → Deletes task (record { lets = []; body = scan table.tree tests (col 1 0 ∷ []) [] }) db (Ok w)
+      → Deletes task (record { lets = []; body = scan table.tree tests (col 1 0 ∷ []) [] }) db
+      (Ok w)
       → Loses schema table test (record { schema = schema; trees = db })
       (record { schema = schema; trees = w.trees })
   takes_out test tests db w keyed finds h =

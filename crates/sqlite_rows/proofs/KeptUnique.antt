@@ -65,11 +65,13 @@ module _ (schema : Schema) (db : Trees) (edit : Edit)
         | inl same ↦ same
         | inr none ↦ absurd none
       ] in
-      elim (put_has new (left_by db edit) r (subst (λ l. Has (put_all (left_by db edit) l) r) one there)) [
+      elim (put_has new (left_by db edit) r
+      (subst (λ l. Has (put_all (left_by db edit) l) r) one there)) [
         | inl same ↦ subst (λ m. differ (rowid r) (rowid m) ≡ false) (same ∙ sym is)
             (never_differs (rowid r))
-        | inr was ↦ absurd (true≢false (sym (subst (λ m. agree i.order i.columns r i.columns m ≡ true)
-            is agrees) ∙ alone i known guarded r was))
+        | inr was ↦ absurd (true≢false
+            (sym (subst (λ m. agree i.order i.columns r i.columns m ≡ true) is agrees)
+            ∙ alone i known guarded r was))
       ])
 
   -- of no row

@@ -12,7 +12,8 @@ use Rattle.sqlite_rules.proofs.TableLemmas.{put_has}
 use Rattle.sqlite_rows.specs.Numbers.{AreUpTo, TakesMore}
 
 next_from : (last at : ℕ) (rows : List Row) → at ≤ last + 1 → AreUpTo last rows
-    → (k : ℕ) × (fold (λ (_ : ℤ) r. id_in (rowid r) +ℤ pos 1) (pos at) rows ≡ pos k) × (k ≤ last + 1)
+    → (k : ℕ) × (fold (λ (_ : ℤ) r. id_in (rowid r) +ℤ pos 1) (pos at) rows ≡ pos k)
+    × (k ≤ last + 1)
 next_from last at [] low all = (at, refl, low)
 next_from last at (r ∷ rows) low all =
     let one = all.0 in

@@ -210,7 +210,8 @@ module _ (schema : Schema) (table : Table) (listed : Has schema.tables table) (i
         (all_of (λ r. not false ≡ true) (λ r. refl) (db table.tree)) in
         let trees : w.0 ≡ one.trees = ap (λ (x : Written). x.trees) (sym (same_value w.2)) in
         subst (λ t. Replaces schema table key (over db) (over t) (Text key ∷ rest)) trees
-        (settles db w.0 (λ r. false) key rest id (inl last) keyed (λ r has no. absurd (true≢false (sym no)))
+        (settles db w.0 (λ r. false) key rest id (inl last) keyed
+        (λ r has no. absurd (true≢false (sym no)))
         (it.rows ∙ ap₂ put_row (typed_at id) (sym all))
         (subst (λ l. are_fresh l (row_at id ∷ []) ≡ true) (sym all)
         (subst (λ n. are_fresh (db table.tree) (n ∷ []) ≡ true) (typed_at id) it.fresh)) it.fits
@@ -256,16 +257,19 @@ module _ (schema : Schema) (table : Table) (listed : Has schema.tables table) (i
             one_row (db table.tree) keyed r was here has (ap (λ v. is_eq (value_cmp (rowid r) v))
             (sym (int_is (rowid was) int_was))
             ∙ (sym (ints_equal (rowid r) (rowid was)
-            (all_has (λ x. IsTrue (is_int (rowid x))) (db table.tree) r keyed.1 here) int_was) ∙ is))
+            (all_has (λ x. IsTrue (is_int (rowid x))) (db table.tree) r keyed.1 here) int_was)
+            ∙ is))
 
         just : filter is_it (db table.tree) ≡ was ∷ []
         just =
             just_one is_it was (db table.tree) keyed.0 has
-            (ints_equal (rowid was) (rowid was) int_was int_was ∙ ap is_eq (same_value_cmp (rowid was)))
+            (ints_equal (rowid was) (rowid was) int_was int_was
+            ∙ ap is_eq (same_value_cmp (rowid was)))
             names
 
         -- the update shows what it makes of that row
-        shows_it : (rows : List Row) → IsAnswer (scan table.tree (test ∷ []) project []) db given rows
+        shows_it : (rows : List Row)
+            → IsAnswer (scan table.tree (test ∷ []) project []) db given rows
             → rows ≡ after was ∷ []
         shows_it rows a =
             let tests : filter (λ r. holds (given ∷ r ∷ []) test) (db table.tree)
@@ -338,12 +342,14 @@ module _ (schema : Schema) (table : Table) (listed : Has schema.tables table) (i
       clears_new db id one [] h = h
       clears_new db id one (x ∷ more) h = h
 
-      met : (db : Trees) (id : ℤ) (one : Written) (found : List Row) → id ≡ next_rowid (db table.tree)
+      met : (db : Trees) (id : ℤ) (one : Written) (found : List Row)
+          → id ≡ next_rowid (db table.tree)
           → IsShaped shape.Table (db table.tree)
           → AreConflicts (Some (1 ∷ [])) schema.indexes table (db table.tree) (row_at id) found
           → Meets task (Upserts task Abort (row_at id) db []) (row_at id) db clause found (Ok one)
           → Replaces schema table key (over db) (over one.trees) (Text key ∷ rest)
-      met db id one [] last keyed are h = put_new db id one last keyed (clears_new db id one h.0 h.2)
+      met db id one [] last keyed are h =
+          put_new db id one last keyed (clears_new db id one h.0 h.2)
       met db id one (there ∷ more) last keyed are h =
           let it = are.sound there (inl refl) in
           put_over db id it.0 one keyed it.1 it.2
@@ -389,7 +395,8 @@ module _ (schema : Schema) (table : Table) (listed : Has schema.tables table) (i
             → conflicts (Some (1 ∷ [])) schema.indexes table new r ≡ true
         pub passing : (n : ℤ) → PassAlone table (row_at n ∷ [])
         pub little : (n : ℤ) → IsOversized schema table (row_at n) → ⊥
-        pub referred : (gone : Bool) → is_off mode.keys || references_fit schema table true gone ≡ true
+        pub referred : (gone : Bool)
+            → is_off mode.keys || references_fit schema table true gone ≡ true
         pub asks : (m n : ℤ) → accepts_program schema [] update.body
             (params ++ Int m ∷ shown table (row_at n)) ≡ true
         pub safe : (db : Trees) (vs : Row) → ProgramOverflows db vs [] [] update.body → ⊥
@@ -413,10 +420,11 @@ module _ (schema : Schema) (table : Table) (listed : Has schema.tables table) (i
           keyed = refl;
           numbers = ap (λ b. b && true) fits;
           fresh = fresh;
-          unique = unique_added schema db (written_as gone n) suits.apart listed admits.keyed.0 fresh
-              (row_at n) refl
-              (λ i known guarded r left. admits.others n r (without_all_has gone (db table.tree) r left)
-              (differs r left) i known guarded) admits.unique;
+          unique = unique_added schema db (written_as gone n) suits.apart listed admits.keyed.0
+              fresh (row_at n) refl
+              (λ i known guarded r left. admits.others n r
+              (without_all_has gone (db table.tree) r left) (differs r left) i known guarded)
+              admits.unique;
           referred = suits.referred (nat_lt 0 (length gone));
           small = λ row has. subst (λ r. IsOversized schema table r → ⊥) (sym (only_new n row has))
               (suits.little n);
@@ -425,8 +433,8 @@ module _ (schema : Schema) (table : Table) (listed : Has schema.tables table) (i
         abbrev next : ℤ
         next = next_rowid (db table.tree)
 
-        put_stops : ((r : Row) → Has (db table.tree) r → has_key key r ≡ false) → (stop : Option Error)
-            → Puts task (row_at next) db (Err stop) → ⊥
+        put_stops : ((r : Row) → Has (db table.tree) r → has_key key r ≡ false)
+            → (stop : Option Error) → Puts task (row_at next) db (Err stop) → ⊥
         put_stops differs stop (inl (why, (what, stops, are), is)) =
             let free : is_taken (db table.tree) (row_at next) ≡ false =
             next_is_free Chosen (db table.tree) (Text key ∷ rest) admits.keyed.0 admits.keyed.1 in
@@ -435,12 +443,12 @@ module _ (schema : Schema) (table : Table) (listed : Has schema.tables table) (i
             never_stops schema mode.keys db (written_as [] next)
             (allowed_row [] next admits.next fresh differs)
             (idle (taken_by db (written_as [] next)) (row_at next ∷ [])) what
-            (subst (λ n. Writes schema mode.keys db (record { table = table; gone = []; news = n ∷ [] })
-            (Err what)) (typed_at next) stops)
+            (subst (λ n. Writes schema mode.keys db
+            (record { table = table; gone = []; news = n ∷ [] }) (Err what)) (typed_at next) stops)
         put_stops differs stop (inr (after, made, gives)) = absurd (let e = gives in cc)
 
-        module _ (was : Row) (has : Has (db table.tree) was)
-            (clashes_it : conflicts (Some (1 ∷ [])) schema.indexes table (row_at next) was ≡ true) where
+        module _ (was : Row) (has : Has (db table.tree) was) (clashes_it :
+            conflicts (Some (1 ∷ [])) schema.indexes table (row_at next) was ≡ true) where
           abbrev seen : Row
           seen = given db next was admits.keyed has clashes_it
 
@@ -456,23 +464,27 @@ module _ (schema : Schema) (table : Table) (listed : Has schema.tables table) (i
               (subst (λ l. Has l r) (left_over db next was admits.keyed has clashes_it) left)
 
           is_int_in : (r : Row) → Has (db table.tree) r → IsTrue (is_int (rowid r))
-          is_int_in r there = all_has (λ x. IsTrue (is_int (rowid x))) (db table.tree) r admits.keyed.1 there
+          is_int_in r there =
+              all_has (λ x. IsTrue (is_int (rowid x))) (db table.tree) r admits.keyed.1 there
 
-          fresh_over : are_fresh (without_all (db table.tree) gone_is) (row_at (id_in (rowid was)) ∷ [])
-              ≡ true
+          fresh_over : are_fresh (without_all (db table.tree) gone_is)
+              (row_at (id_in (rowid was)) ∷ []) ≡ true
           fresh_over =
-              let free : is_taken (without_all (db table.tree) gone_is) (row_at (id_in (rowid was))) ≡ false =
+              let free : is_taken (without_all (db table.tree) gone_is) (row_at (id_in (rowid was)))
+              ≡ false =
               false_from_ne_true _ (λ taken.
               let r = some_has _ (without_all (db table.tree) gone_is) taken in
               let old = left_in r.0 r.1 in
               let tied : it_is r.0 ≡ true =
               ints_equal (rowid r.0) (rowid was) (is_int_in r.0 old.0) (is_int_in was has)
-              ∙ (ap (λ v. is_eq (value_cmp (rowid r.0) v)) (int_is (rowid was) (is_int_in was has)) ∙ r.2) in
+              ∙ (ap (λ v. is_eq (value_cmp (rowid r.0) v)) (int_is (rowid was) (is_int_in was has))
+              ∙ r.2) in
               true≢false (sym tied ∙ not-true _ old.1)) in
               ap (λ b. not b && true) free
 
           -- no other row has the key
-          differs_over : (r : Row) → Has (without_all (db table.tree) gone_is) r → has_key key r ≡ false
+          differs_over : (r : Row) → Has (without_all (db table.tree) gone_is) r
+              → has_key key r ≡ false
           unfolding first_key
           differs_over r left = false_from_ne_true _ (λ shares.
               let old = left_in r left in
@@ -496,11 +508,13 @@ module _ (schema : Schema) (table : Table) (listed : Has schema.tables table) (i
               (and_from _ _ agrees (ints_differ (rowid r) (rowid was) (is_int_in r old.0)
               (is_int_in was has) apart))) ∙ here))
 
-          update_stops : (stop : Option Error) → Updates task update seen db (Err stop) → IsSome limit
+          update_stops : (stop : Option Error) → Updates task update seen db (Err stop)
+              → IsSome limit
           update_stops stop (inl (None, none, is)) = absurd none
           update_stops stop (inl (Some e, inl ill, is)) =
               let typed : accepts_program schema [] update.body seen ≡ true =
-              ap (λ v. accepts_program schema [] update.body (params ++ v ∷ shown table (row_at next)))
+              ap (λ v. accepts_program schema [] update.body
+              (params ++ v ∷ shown table (row_at next)))
               (int_is (rowid was) (is_int_in was has)) ∙ suits.asks (id_in (rowid was)) next in
               absurd (true≢false (sym typed ∙ ill.1))
           update_stops stop (inl (Some e, inr (inl over), is)) = absurd (suits.safe db seen over.1)
@@ -511,33 +525,36 @@ module _ (schema : Schema) (table : Table) (listed : Has schema.tables table) (i
               (overlaid db) (answered.answer Null) in
               let shows = shows_it db next was admits.keyed has clashes_it rows a in
               absurd (never_stops schema mode.keys db (written_as gone_is (id_in (rowid was)))
-              (allowed_row gone_is (id_in (rowid was)) (admits.numbers was has) fresh_over differs_over)
+              (allowed_row gone_is (id_in (rowid was)) (admits.numbers was has) fresh_over
+              differs_over)
               (idle (taken_by db (written_as gone_is (id_in (rowid was))))
               (row_at (id_in (rowid was)) ∷ [])) what
               (subst (λ n. Writes schema mode.keys db
               (record { table = table; gone = gone_is; news = n ∷ [] }) (Err what))
               (new_over db next was admits.keyed has clashes_it)
-              (subst (λ l. Writes schema mode.keys db (edit_of db table (ids_of l) Given 1 l) (Err what))
-              shows stops)))
-          update_stops stop (inr (rows, answered, inr (after, made, gives))) = absurd (let e = gives in cc)
+              (subst (λ l. Writes schema mode.keys db (edit_of db table (ids_of l) Given 1 l)
+              (Err what)) shows stops)))
+          update_stops stop (inr (rows, answered, inr (after, made, gives))) =
+              absurd (let e = gives in cc)
 
         cleared : (stop : Option Error) (found : List Row)
-            → Clears task Abort (row_at next) db found (Err stop) → Puts task (row_at next) db (Err stop)
+            → Clears task Abort (row_at next) db found (Err stop)
+            → Puts task (row_at next) db (Err stop)
         cleared stop [] h = h
         cleared stop (x ∷ more) h = h
 
         meet_stops : (stop : Option Error) (found : List Row)
             → AreConflicts (Some (1 ∷ [])) schema.indexes table (db table.tree) (row_at next) found
-            → Meets task (Upserts task Abort (row_at next) db []) (row_at next) db clause found (Err stop)
-            → IsSome limit
+            → Meets task (Upserts task Abort (row_at next) db []) (row_at next) db clause found
+            (Err stop) → IsSome limit
         meet_stops stop [] are h = absurd (put_stops (λ r there. false_from_ne_true _
             (λ shares. are.complete r there (suits.also (row_at next) r shares))) stop
             (cleared stop h.0 h.2))
         meet_stops stop (there ∷ more) are h =
             let it = are.sound there (inl refl) in
             update_stops it.0 it.1 it.2 stop
-            (subst (λ (x : Row). Updates task update (params ++ rowid x ∷ shown table (row_at next)) db
-            (Err stop)) it.3 h)
+            (subst (λ (x : Row). Updates task update (params ++ rowid x ∷ shown table (row_at next))
+            db (Err stop)) it.3 h)
 
         never_judged : (why : Refusal) → IsJudged table (row_at next) (Some why) → ⊥
         never_judged Mismatch h = true≢false h
@@ -554,8 +571,8 @@ module _ (schema : Schema) (table : Table) (listed : Has schema.tables table) (i
         never_judged (Violates Unique) h = h
         never_judged (Violates ForeignKey) h = h
 
-        try_stops : (stop : Option Error) → Tries task Abort (clause ∷ []) (row_at next) db (Err stop)
-            → IsSome limit
+        try_stops : (stop : Option Error)
+            → Tries task Abort (clause ∷ []) (row_at next) db (Err stop) → IsSome limit
         try_stops stop (inl unfit) = absurd (true≢false (sym admits.next ∙ unfit.0))
         try_stops stop (inr (None, fine, h)) = meet_stops stop h.0 h.1 h.2
         try_stops stop (inr (Some why, judged_it, h)) = absurd (never_judged why judged_it)
@@ -606,35 +623,40 @@ module _ (schema : Schema) (table : Table) (listed : Has schema.tables table) (i
         module _ (suits : Suits) (db : Trees) (admits : Admits db) (all : due mode ≡ All)
             (accepted : accepts_terms terms (stamped table params) ≡ true)
             (refers : (next : Trees)
-            → Replaces schema table key (over db) (over next) (Text key ∷ rest) → Refers All schema next)
+            → Replaces schema table key (over db) (over next) (Text key ∷ rest)
+            → Refers All schema next)
           where
             each_stops : (top : ℤ) (stop : Option Error)
-                → TriesEach task Abort (clause ∷ []) ((Null ∷ Text key ∷ rest) ∷ []) top (nothing db) (Err stop)
-                → IsSome limit
+                → TriesEach task Abort (clause ∷ []) ((Null ∷ Text key ∷ rest) ∷ []) top
+                (nothing db) (Err stop) → IsSome limit
             each_stops top stop (inl (why, tries, is)) =
                 try_stops suits db admits why
                 (subst (λ n. Tries task Abort (clause ∷ []) n db (Err why)) (new_is db top) tries)
             each_stops top stop (inr (one, tried_it, gives)) = absurd (let e = gives in cc)
 
             inserts_stop : (stop : Option Error)
-                → InsertsOr task Abort (clause ∷ []) (Values terms width) db (Err stop) → IsSome limit
+                → InsertsOr task Abort (clause ∷ []) (Values terms width) db (Err stop)
+                → IsSome limit
             inserts_stop stop (inl (None, none, is)) = absurd none
-            inserts_stop stop (inl (Some e, inl ill, is)) = absurd (true≢false (sym accepted ∙ ill.1))
+            inserts_stop stop (inl (Some e, inl ill, is)) =
+                absurd (true≢false (sym accepted ∙ ill.1))
             inserts_stop stop (inl (Some e, inr limited, is)) = limited.1
             inserts_stop stop (inr (rows, sourced, inl (why, counter, is))) =
                 absurd (let e = if_not _ _ _ uncounted counter in cc)
             inserts_stop stop (inr (rows, sourced, inr (counter, counted, inl (why, tries, is)))) =
                 each_stops (count_of counter) why
-                (subst (λ rows. TriesEach task Abort (clause ∷ []) rows (count_of counter) (nothing db)
-                (Err why)) (sourced.1 ∙ source) tries)
-            inserts_stop stop (inr (rows, sourced, inr (counter, counted, inr (done, tries, inl (why, counts, is))))) =
+                (subst (λ rows. TriesEach task Abort (clause ∷ []) rows (count_of counter)
+                (nothing db) (Err why)) (sourced.1 ∙ source) tries)
+            inserts_stop stop (inr
+                (rows, sourced, inr (counter, counted, inr (done, tries, inl (why, counts, is))))) =
                 absurd (let e = if_not _ _ _ (counts_none _ uncounted _ _) counts in cc)
-            inserts_stop stop (inr (rows, sourced, inr (counter, counted, inr (done, tries, inr (next, counts, is))))) =
-                absurd (let e = is in cc)
+            inserts_stop stop (inr
+                (rows, sourced, inr (counter, counted, inr (done, tries, inr (next, counts, is)))))
+                = absurd (let e = is in cc)
 
             pub upsert_stops : (stop : Option Error)
-                → OnRows task mode None (InsertOr at Abort (Values terms width) (clause ∷ [])) db (Err stop)
-                → IsSome limit
+                → OnRows task mode None (InsertOr at Abort (Values terms width) (clause ∷ [])) db
+                (Err stop) → IsSome limit
             upsert_stops stop (inl (why, inserts, is)) = inserts_stop why inserts
             upsert_stops stop (inr (w, inserts, ends)) =
                 absurd (concluded task mode all w stop

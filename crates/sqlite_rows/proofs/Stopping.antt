@@ -224,14 +224,17 @@ module _ (schema : Schema) (at : ℕ) (table : Table) (uncounted : table.is_coun
       inserted stop (inl (Some e, inr limited, is)) = limited.1
       inserted stop (inr (rows, source, inl (why, counter, is))) =
           absurd (let e = if_not _ _ _ uncounted counter in cc)
-      inserted stop (inr (rows, source, inr (counter, counted, inl (why, (what, stops, are), is)))) =
+      inserted stop (inr
+          (rows, source, inr (counter, counted, inl (why, (what, stops, are), is)))) =
           absurd (never_stops schema Enforced db adding allowed
           (no_works schema Enforced 0 table.tree (new ∷ [])) what
           (subst (λ (d : Edit). Writes schema Enforced db d (Err what))
           (is_adding rows counter (source.1 ∙ given)) stops))
-      inserted stop (inr (rows, source, inr (counter, counted, inr (mid, made, inl (why, counts, is))))) =
+      inserted stop (inr
+          (rows, source, inr (counter, counted, inr (mid, made, inl (why, counts, is))))) =
           absurd (let e = if_not _ _ _ (counts_none _ uncounted _ _) counts in cc)
-      inserted stop (inr (rows, source, inr (counter, counted, inr (mid, made, inr (next, counts, is))))) =
+      inserted stop (inr
+          (rows, source, inr (counter, counted, inr (mid, made, inr (next, counts, is))))) =
           absurd (let e = is in cc)
 
       referring : (w : Written) → Inserts task (Values terms width) db (Ok w)

@@ -48,7 +48,8 @@ module _ (schema : Schema) (at : ℕ) (table : Table) (listed : Has schema.table
     params = params;
   }
 
-  allowed : (rows : List Row) → is_referred schema Enforced (edit_of db table (ids_of rows) Given 0 []) ≡ true
+  allowed : (rows : List Row)
+      → is_referred schema Enforced (edit_of db table (ids_of rows) Given 0 []) ≡ true
       → IsAllowed schema Enforced db (edit_of db table (ids_of rows) Given 0 [])
   allowed rows referred = record {
     typed = refl;
@@ -80,8 +81,8 @@ module _ (schema : Schema) (at : ℕ) (table : Table) (listed : Has schema.table
         (allowed rows (referred rows)) (idle _) what stops)
     deleted stop (inr (rows, answered, inr (next, made, gives))) = absurd (let e = gives in cc)
 
-    pub delete_stops : (stop : Option Error) → OnRows task at_once None (Delete at program) db (Err stop)
-        → IsSome limit
+    pub delete_stops : (stop : Option Error)
+        → OnRows task at_once None (Delete at program) db (Err stop) → IsSome limit
     delete_stops stop (inl (why, deletes, is)) = deleted why deletes
     delete_stops stop (inr (w, deletes, ends)) =
         absurd (concluded task at_once refl w stop (refers w.trees

@@ -22,7 +22,8 @@ on command names = command names.name names.provider
 pub returns-in_err-name-in-remove : goal.returns-in_err-name-in-remove
 unfolding named_of
 returns-in_err-name-in-remove c =
-    c.from_residual.ensures ∙ told (on Remove) _ _ _ _ _ _ c.in-remove.is refl c.component_at.ensures
+    c.from_residual.ensures
+    ∙ told (on Remove) _ _ _ _ _ _ c.in-remove.is refl c.component_at.ensures
     c.in_err-name-in-remove.was
 
 pub returns-in_ok-name-in-remove : goal.returns-in_ok-name-in-remove
@@ -34,7 +35,8 @@ returns-in_ok-name-in-remove c =
 pub returns-in_err-name-in-deactivate : goal.returns-in_err-name-in-deactivate
 unfolding named_of
 returns-in_err-name-in-deactivate c =
-    c.from_residual-in_err-name-in-deactivate.ensures ∙ told (on Deactivate) _ _ _ _ _ _ c.in-deactivate.is refl c.component_at-in-deactivate.ensures
+    c.from_residual-in_err-name-in-deactivate.ensures
+    ∙ told (on Deactivate) _ _ _ _ _ _ c.in-deactivate.is refl c.component_at-in-deactivate.ensures
     c.in_err-name-in-deactivate.was
 
 pub returns-in_ok-name-in-deactivate : goal.returns-in_ok-name-in-deactivate
@@ -46,7 +48,8 @@ returns-in_ok-name-in-deactivate c =
 pub returns-in_err-name-in-activate : goal.returns-in_err-name-in-activate
 unfolding named_of
 returns-in_err-name-in-activate c =
-    c.from_residual-in_err-name-in-activate.ensures ∙ told (on Activate) _ _ _ _ _ _ c.in-activate.is refl c.component_at-in-activate.ensures
+    c.from_residual-in_err-name-in-activate.ensures
+    ∙ told (on Activate) _ _ _ _ _ _ c.in-activate.is refl c.component_at-in-activate.ensures
     c.in_err-name-in-activate.was
 
 pub returns-in_ok-name-in-activate : goal.returns-in_ok-name-in-activate
@@ -58,7 +61,8 @@ returns-in_ok-name-in-activate c =
 pub returns-in_err-name-in-forget : goal.returns-in_err-name-in-forget
 unfolding named_of
 returns-in_err-name-in-forget c =
-    c.from_residual-in_err-name-in-forget.ensures ∙ told Forget _ _ _ _ _ _ c.in-forget.is refl c.label_at.ensures
+    c.from_residual-in_err-name-in-forget.ensures
+    ∙ told Forget _ _ _ _ _ _ c.in-forget.is refl c.label_at.ensures
     c.in_err-name-in-forget.was
 
 pub returns-in_ok-name-in-forget : goal.returns-in_ok-name-in-forget
@@ -70,7 +74,8 @@ returns-in_ok-name-in-forget c =
 pub returns-in_err-name-in-rebuild : goal.returns-in_err-name-in-rebuild
 unfolding named_of
 returns-in_err-name-in-rebuild c =
-    c.from_residual-in_err-name-in-rebuild.ensures ∙ told (on Rebuild) _ _ _ _ _ _ c.in-rebuild.is refl c.component_at-in-rebuild.ensures
+    c.from_residual-in_err-name-in-rebuild.ensures
+    ∙ told (on Rebuild) _ _ _ _ _ _ c.in-rebuild.is refl c.component_at-in-rebuild.ensures
     c.in_err-name-in-rebuild.was
 
 pub returns-in_ok-name-in-rebuild : goal.returns-in_ok-name-in-rebuild
@@ -82,7 +87,8 @@ returns-in_ok-name-in-rebuild c =
 pub returns-in_err-provider-in-clear : goal.returns-in_err-provider-in-clear
 unfolding named_of
 returns-in_err-provider-in-clear c =
-    c.from_residual-in_err-provider-in-clear.ensures ∙ told Clear _ _ _ _ _ _ c.in-clear.is refl c.label_at-in-clear.ensures
+    c.from_residual-in_err-provider-in-clear.ensures
+    ∙ told Clear _ _ _ _ _ _ c.in-clear.is refl c.label_at-in-clear.ensures
     c.in_err-provider-in-clear.was
 
 pub returns-in_ok-provider-in-clear : goal.returns-in_ok-provider-in-clear
@@ -94,7 +100,8 @@ returns-in_ok-provider-in-clear c =
 pub returns-in_err-name-in-destroy : goal.returns-in_err-name-in-destroy
 unfolding named_of
 returns-in_err-name-in-destroy c =
-    c.from_residual-in_err-name-in-destroy.ensures ∙ told Destroy _ _ _ _ _ _ c.in-destroy.is refl c.label_at-in-destroy.ensures
+    c.from_residual-in_err-name-in-destroy.ensures
+    ∙ told Destroy _ _ _ _ _ _ c.in-destroy.is refl c.label_at-in-destroy.ensures
     c.in_err-name-in-destroy.was
 
 pub returns-in_ok-name-in-destroy : goal.returns-in_ok-name-in-destroy
@@ -106,7 +113,8 @@ returns-in_ok-name-in-destroy c =
 pub returns-in_err-name-in-advance : goal.returns-in_err-name-in-advance
 unfolding named_of
 returns-in_err-name-in-advance c =
-    c.from_residual-in_err-name-in-advance.ensures ∙ told (on Advance) _ _ _ _ _ _ c.in-advance.is refl c.component_at-in-advance.ensures
+    c.from_residual-in_err-name-in-advance.ensures
+    ∙ told (on Advance) _ _ _ _ _ _ c.in-advance.is refl c.component_at-in-advance.ensures
     c.in_err-name-in-advance.was
 
 pub returns-in_ok-name-in-advance : goal.returns-in_ok-name-in-advance
