@@ -46,7 +46,8 @@ pub struct Served {
 // Writes the response that tells a finding.
 fn tell<W: Write>(alloc: Global, writer: &mut W, finding: &Finding) -> Result<Response, FrontFault>
     ensures ok { IfOk result (λ response. (response.status ≡ (told_of finding.now).status)
-        × Appends (W.contents writer.old) (W.contents writer.new) (bytes_of (told_of finding.now))) }
+        × Appends (W.contents writer.old) (W.contents writer.new)
+        (bytes_of (told_of finding.now))) }
     ensures front { OnErr result (AppendsFront (W.contents writer.old) (W.contents writer.new)
         (bytes_of (told_of finding.now))) }
     ensures fault { IfErr result (λ e. e ≡ FrontFault.Read → ⊥) }
@@ -94,7 +95,8 @@ pub fn serve_request<R: Read, W: Write, S: Alter, H: Shelf>(
         (W.contents writer.old) (W.contents writer.new)
         (registry_of bench.old) (registry_of bench.new)
         (shelf_of bench.old) (shelf_of bench.new) away u (code_told result.response) }
-    ensures progress { progress_of bench.new ≡ progress_behind (progress_of bench.old) result.fault }
+    ensures progress { progress_of bench.new
+        ≡ progress_behind (progress_of bench.old) result.fault }
     ensures phase { TakesCommands (progress_of bench.new) }
     ensures closed { progress_of bench.old ≡ Failed → bench.new ≡ bench.old }
     ensures redone { redone_of bench.new ≡ redone_of bench.old }

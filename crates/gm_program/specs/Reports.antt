@@ -73,8 +73,8 @@ abbrev pub MayServe : Bool → Status → Type 0
 MayServe true status = MayRefuse status
 MayServe false status = status ≡ Done
 
--- what shows mirrors or serves requests is done; what holds images against records or each other may
--- find damage, and a command may be refused, as a recovery without a provider
+-- what shows mirrors or serves requests is done; what holds images against records or each other
+-- may find damage, and a command may be refused, as a recovery without a provider
 abbrev pub MayEnd : Work → Status → Type 0
 MayEnd work.Recover status = status ≡ Done
 MayEnd (work.RecoverWithout provider key) status = MayRefuse status

@@ -9,9 +9,9 @@
 //! (`sync`) and `serve.rt` have the commands, the last with `exchange.rt` for one connection and
 //! `log.rt` for its line. `held_folder.rt` holds the folder and `registry_files.rt` knows the files
 //! of the registry. `looking.rt` has the commands that look at a registry without an opening, which
-//! `unopened.rt` reads into memory. `taste.rt` and `dump.rt` have those that look at images without a
-//! registry. `explain.rt` says in sentences why something is refused or failed, and `meter.rt` how
-//! far a long work is.
+//! `unopened.rt` reads into memory. `taste.rt` and `dump.rt` have those that look at images without
+//! a registry. `explain.rt` says in sentences why something is refused or failed, and `meter.rt`
+//! how far a long work is.
 #![tactic(auto)]
 
 mod audit;

@@ -7,8 +7,8 @@
 //! nothing is claimed (`folder_images.rt` lists them, `open_files.rt` opens them,
 //! `whole_transfers.rt` reads and writes them within `size_limit.rt`, `file_id.rt` tells which file
 //! a file is, and `failure.rt` why one fails); `mem_shelf.rt` is a disk in memory, of which
-//! `crash_image.rt` makes the images that a crash may leave; and `fault_shelf.rt` makes the calls of
-//! another shelf fail, in the order that `turns.rt` tells.
+//! `crash_image.rt` makes the images that a crash may leave; and `fault_shelf.rt` makes the calls
+//! of another shelf fail, in the order that `turns.rt` tells.
 #![tactic(auto)]
 
 mod contents;
