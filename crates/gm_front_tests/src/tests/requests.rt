@@ -11,18 +11,18 @@ use sqlite::{Alter, Connection};
 use std::io::{Read, Write};
 use std::process::Abort;
 
-const REQUEST: &str =
-    "POST /commands HTTP/1.1\r\nContent-Length: 68\r\n\r\n{\"key\":\"k1\",\"words\":[\"label\",\"--mid\",\"7\",\"--did\",\"1\",\"gm0\",\"a.img\"]}";
+const REQUEST: &str = "POST /commands HTTP/1.1\r\nContent-Length: 68\r\n\r\n\
+    {\"key\":\"k1\",\"words\":[\"label\",\"--mid\",\"7\",\"--did\",\"1\",\"gm0\",\"a.img\"]}";
 
 // What it is answered at first, and from then on.
-const ACCEPTED: &str =
-    "HTTP/1.1 200 OK\r\nContent-Type: application/json\r\nContent-Length: 23\r\nConnection: close\r\n\r\n{\"answer\":\"ok\",\"seq\":1}";
+const ACCEPTED: &str = "HTTP/1.1 200 OK\r\nContent-Type: application/json\r\n\
+    Content-Length: 23\r\nConnection: close\r\n\r\n{\"answer\":\"ok\",\"seq\":1}";
 
-const REPEATED: &str =
-    "HTTP/1.1 200 OK\r\nContent-Type: application/json\r\nContent-Length: 29\r\nConnection: close\r\n\r\n{\"answer\":\"repeated\",\"seq\":1}";
+const REPEATED: &str = "HTTP/1.1 200 OK\r\nContent-Type: application/json\r\n\
+    Content-Length: 29\r\nConnection: close\r\n\r\n{\"answer\":\"repeated\",\"seq\":1}";
 
-const BAD: &str =
-    "HTTP/1.1 400 Bad Request\r\nContent-Type: application/json\r\nContent-Length: 23\r\nConnection: close\r\n\r\n{\"error\":\"bad request\"}";
+const BAD: &str = "HTTP/1.1 400 Bad Request\r\nContent-Type: application/json\r\n\
+    Content-Length: 23\r\nConnection: close\r\n\r\n{\"error\":\"bad request\"}";
 
 fn try_serve<R: Read, W: Write, S: Alter, H: Shelf>(
     rt: &(impl Abort + AllocGlobal),

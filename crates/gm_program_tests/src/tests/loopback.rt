@@ -18,22 +18,27 @@ struct Exchange {
     response: &'static str,
 }
 
-const LABEL: &str =
-    "POST /commands HTTP/1.1\r\nContent-Length: 68\r\n\r\n{\"key\":\"k1\",\"words\":[\"label\",\"--mid\",\"7\",\"--did\",\"1\",\"gm0\",\"a.img\"]}";
+const LABEL: &str = "POST /commands HTTP/1.1\r\nContent-Length: 68\r\n\r\n\
+    {\"key\":\"k1\",\"words\":[\"label\",\"--mid\",\"7\",\"--did\",\"1\",\"gm0\",\"a.img\"]}";
 
 // A command, the same again, and what then stands.
 const EXCHANGES: [Exchange; 3] = [
     Exchange {
         request: LABEL,
-        response: "HTTP/1.1 200 OK\r\nContent-Type: application/json\r\nContent-Length: 23\r\nConnection: close\r\n\r\n{\"answer\":\"ok\",\"seq\":1}",
+        response: "HTTP/1.1 200 OK\r\nContent-Type: application/json\r\n\
+            Content-Length: 23\r\nConnection: close\r\n\r\n{\"answer\":\"ok\",\"seq\":1}",
     },
     Exchange {
         request: LABEL,
-        response: "HTTP/1.1 200 OK\r\nContent-Type: application/json\r\nContent-Length: 29\r\nConnection: close\r\n\r\n{\"answer\":\"repeated\",\"seq\":1}",
+        response: "HTTP/1.1 200 OK\r\nContent-Type: application/json\r\n\
+            Content-Length: 29\r\nConnection: close\r\n\r\n{\"answer\":\"repeated\",\"seq\":1}",
     },
     Exchange {
         request: "GET /status HTTP/1.1\r\n\r\n",
-        response: "HTTP/1.1 200 OK\r\nContent-Type: application/json\r\nContent-Length: 96\r\nConnection: close\r\n\r\n{\"mirrors\":[{\"components\":[{\"name\":\"a.img\",\"state\":\"ACTIVE\"}],\"name\":\"gm0\",\"state\":\"COMPLETE\"}]}",
+        response: "HTTP/1.1 200 OK\r\nContent-Type: application/json\r\n\
+            Content-Length: 96\r\nConnection: close\r\n\r\n\
+            {\"mirrors\":[{\"components\":[{\"name\":\"a.img\",\"state\":\"ACTIVE\"}],\
+            \"name\":\"gm0\",\"state\":\"COMPLETE\"}]}",
     },
 ];
 
