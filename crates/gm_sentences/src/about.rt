@@ -1,5 +1,7 @@
 //! What a sentence is about.
 
+ghost use Rattle.std.specs.Prelude.{◌≡◌, None};
+
 use gm_commands::Command;
 use gm_metadata::Label;
 use std::alloc::{AllocError, Global};
@@ -47,7 +49,10 @@ fn both(mirror: Label, image: Image) -> About {
 
 impl About {
     /// One image, and no mirror.
-    pub fn image(image: Label) -> About {
+    pub fn image(image: Label) -> About
+        ensures no_mirror { result.mirror ≡ None }
+        ensures image { result.image ≡ Image.Named image }
+    {
         About {
             mirror: None,
             image: Image::Named(image),
@@ -77,7 +82,10 @@ impl About {
     }
 
     /// The same of another image.
-    pub fn with_image(self, image: Image) -> About {
+    pub fn with_image(self, image: Image) -> About
+        ensures same_mirror { result.mirror ≡ self.mirror }
+        ensures image { result.image ≡ image }
+    {
         About {
             mirror: self.mirror,
             image,
