@@ -5,3 +5,4 @@ pub mod LendingComponent
 pub mod MadeOfPart
 pub mod MakesChange
 pub mod ReplacedRecords
+pub mod PuttingInPlace
