@@ -6,3 +6,4 @@ pub mod MadeOfPart
 pub mod MakesChange
 pub mod ReplacedRecords
 pub mod PuttingInPlace
+pub mod FewWritten

@@ -315,7 +315,7 @@ lost_makes s x n ps m ks ch good found mine is =
     }
 
 -- a mirror that isn't registered has no components
-no_component : (s : Records) (n : List ℕ) → IsState s → mirror_of s n ≡ None → (k : Component)
+pub no_component : (s : Records) (n : List ℕ) → IsState s → mirror_of s n ≡ None → (k : Component)
     → Has s.components k → same_label k.mirror n ≡ false
 no_component s n state none k h =
     let home = state.homes k h in
@@ -397,7 +397,8 @@ adopt_makes s x n ps b ch good state from is =
     record {
       good = good;
       records = rw (is, from) refl;
-      in_place = rw is (puts_new s _ refl (Ascends-adopted x n ps b) (λ k h.
+      in_place = rw is (puts_new s _ refl n (adopted_mirror_is x n ps b)
+          (Ascends-adopted x n ps b) (λ k h.
           none_from (component_of s k.provider) (none_any (λ p. is_some (component_of s p)) ps
           (good refusals.ProviderTaken refl) k.provider (adopted_on x n ps b k h))));
       intents = rw (is, from, placed) refl;

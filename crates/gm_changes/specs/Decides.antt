@@ -59,10 +59,12 @@ changed_by ch s = record {
       put_all provider ch.components (without_all provider ch.gone_components s.components);
 }
 
--- Where a mirror goes nothing is put; each component is put once, and one that is put in place of
--- another has the mirror and the number of that one.
+-- Where a mirror goes nothing is put; components are put of one mirror, each once, and one that is
+-- put in place of another has the mirror and the number of that one.
 pub record PutsInPlace (s : Records) (ch : Changed) : Type 0 where
   pub alone : IfSome ch.gone_mirror (λ n. (ch.mirror ≡ None) × (ch.components ≡ []))
+  pub of_one : (j k : Component) → Has ch.components j → Has ch.components k
+      → j.mirror ≡ k.mirror
   pub once : Ascends provider ch.components
   pub numbers : (k j : Component) → Has ch.components k → Has s.components j
       → j.provider ≡ k.provider → (j.mirror ≡ k.mirror) × (j.did ≡ k.did)
