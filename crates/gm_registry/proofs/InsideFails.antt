@@ -1,5 +1,5 @@
 -- From why a statement stops to why its call within a transaction fails.
-use Rattle.std.proofs.Common.{◌≡◌, ◌⊎◌, ℕ, ◌||◌, true, false, List, length, Option, None, Result, Ok, Err, IsSome, IsTrue, IsErrAnd, ap, subst, sym, ◌∙◌, arith}
+use Rattle.std.proofs.Common.{◌≡◌, ◌⊎◌, ℕ, ◌||◌, true, false, List, length, Option, None, Result, Ok, Err, IsSome, IsTrue, IsErrAnd, ap, subst, sym, ◌∙◌}
 use Rattle.sqlite_disk.specs.Disk.{MoreFaults}
 use Rattle.sqlite_catalog.specs.Listing.{IsSound}
 use Rattle.sqlite.specs.Order.{Row}
@@ -9,17 +9,16 @@ use Rattle.sqlite.specs.Command.{Command}
 use Rattle.sqlite.specs.Does.{Does}
 use Rattle.sqlite.specs.Effect.{Database, is_query}
 use Rattle.sqlite.specs.Listing.{understood}
-use Rattle.sqlite.specs.State.{State, HasCleanDisk, Survives, is_pragma, ExecutesInside}
+use Rattle.sqlite.specs.State.{State, is_pragma, ExecutesInside}
 use Rattle.sqlite.specs.declared.error.Error.{Error}
 use Rattle.sqlite_rows.proofs.Failing.{is_all_of}
-use Rattle.sqlite_rows.proofs.Looping.{SoFar}
 use Rattle.sqlite_rows.proofs.Stopping.{is_on_rows, at_once, inside_fault}
 use Rattle.gm_state.specs.Rows.{Tables}
 use Rattle.gm_rows.specs.Faults.{OnOther, fault_of}
 use Rattle.gm_rows.specs.declared.fault.StoreFault.TheVariants.{Store}
 use Rattle.gm_rows.specs.Schema.{registry_schema}
 use Rattle.gm_rows.specs.Tables.{HasRows, IsInside}
-use Rattle.gm_registry.proofs.Failures.{told, failed_since}
+use Rattle.gm_registry.proofs.Failures.{told}
 use Rattle.gm_registry.proofs.TextMeanings.{Means}
 
 -- over rows and tables that fit, the command stops only at the limit on steps
@@ -60,15 +59,3 @@ pub passed_on : {X : Type 0} (x : Result X Error) (e : Error) (P : Type 0) → I
     → (fault_of e ≡ Store → P) → OnOther x P
 passed_on (Ok a) e P none h = tt
 passed_on (Err f) e P same h = λ is. h (ap fault_of (sym same) ∙ is)
-
--- a failure of the step after those that went well
-pub fails_after : (old mid new : State) (change : Tables → Tables) → SoFar registry_schema HasRows old mid change
-    → Survives mid new (λ _. ⊥) → HasCleanDisk new → (Fits : Tables → Type 0) (Now : Tables → Type 0)
-    → ((t : Tables) → Fits t → Now (change t))
-    → ((first : Database) (t : Tables) → IsInside first mid t → Now t
-    → MoreFaults mid.faults new.faults ⊎ IsSome mid.step_limit)
-    → (first : Database) (t : Tables) → IsInside first old t → Fits t
-    → MoreFaults old.faults new.faults ⊎ IsSome old.step_limit
-fails_after old mid new change so survives clean Fits Now as_now fails first t was fits =
-    failed_since old mid new _ so.survives
-    (fails first (change t) (so.put (omega (arith, survives.clean, clean)) first t was) (as_now t fits))

@@ -6,6 +6,7 @@ pub mod Failures
 pub mod FittingCommands
 pub mod FittingComponents
 pub mod FittingDeletes
+pub mod FittingInTurn
 pub mod FittingIntents
 pub mod FittingMirrors
 pub mod FittingTables
@@ -25,6 +26,7 @@ pub mod RecordsUnder
 pub mod RisingRowids
 pub mod SettlingFails
 pub mod SomeReads
+pub mod StepsInTurn
 pub mod Stored
 pub mod TextMeanings
 pub mod Texts

@@ -129,7 +129,7 @@ written ch t = record {
   commands = t.commands;
 }
 
-with_records_is : (ch : Changed) (t : Tables) → with_records ch t ≡ written ch t
+pub with_records_is : (ch : Changed) (t : Tables) → with_records ch t ≡ written ch t
 with_records_is ch t =
     ap (λ (s : Tables). with_components ch.components
     (with_some_mirror ch.mirror (without_some_mirror ch.gone_mirror s)))

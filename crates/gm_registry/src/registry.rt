@@ -140,7 +140,8 @@ impl<S: Alter> Registry<S> {
     /// number. `Store` before anything is written where 100,000 commands were accepted already, or
     /// the numbers of the reply are out of range.
     pub fn accept(&mut self, change: &Change, key: &str, words: &str) -> Result<u64, StoreFault>
-        ensures accepts { Accepts S.Store self.old self.new result change.now.reply key.now }
+        ensures accepts { Accepts S.Store self.old self.new result change.now (λ t. t)
+            key.now words.now }
         ensures writes { Writes S.Store self.old self.new result
             (with_accepted change.now key.now words.now) }
     {
@@ -164,7 +165,8 @@ impl<S: Alter> Registry<S> {
         key: &str,
         words: &str,
     ) -> Result<u64, StoreFault>
-        ensures accepts { Accepts S.Store self.old self.new result change.now.reply key.now }
+        ensures accepts { Accepts S.Store self.old self.new result
+            (with_pending change.now intents.now) settled key.now words.now }
         ensures writes { Writes S.Store self.old self.new result (λ t. with_accepted
             (with_pending change.now intents.now) key.now words.now (settled t)) }
     {

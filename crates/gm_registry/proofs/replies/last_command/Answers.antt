@@ -1,6 +1,7 @@
-use Rattle.std.proofs.Common.{[]}
+use Rattle.std.proofs.Common.{[], ap}
+use Rattle.sqlite.specs.Effect.{Database}
 use Rattle.sqlite.specs.Held.{state}
-use Rattle.sqlite_rows.proofs.Refusing.{if_ok, if_err, shown_has, shown_ok, asked_has, asks_only}
+use Rattle.sqlite_rows.proofs.Refusing.{if_ok, if_err, map_ok, alone_ok, shown_has, shown_ok, asked_has, asks_only}
 use Rattle.gm_rows.specs.Statements.{last_command_text}
 use Rattle.gm_rows.specs.Schema.{registry_schema}
 use Rattle.gm_rows.specs.Tables.{HasCounted}
@@ -41,3 +42,12 @@ returns-clause-store g c clean =
     if_err c.query_all.result _ _ (λ e fails is t was.
     last_failed old new e (ours old t was) was.is_open fails is)
     (c.query_all.ensures.err clean)
+
+pub returns-clause-same : goal.returns-clause-same
+returns-clause-same g c clean =
+    let old = state g.S.Store c.args.conn.now in
+    let new = state g.S.Store c.query_all.new.self in
+    map_ok c.query_all.result _ _
+    (λ alone t was. ap (λ (d : Database). d.trees) (alone (ours old t was)).0.now_is)
+    (alone_ok registry_schema (λ rows. rows.items) last_command_text _ old new c.query_all.result
+    last_is.plain (c.query_all.ensures.ok clean))
