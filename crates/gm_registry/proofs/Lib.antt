@@ -1,6 +1,7 @@
 pub mod Abouts
 pub mod CallsLeave
 pub mod ChangedTables
+pub mod ChangesFit
 pub mod CountedThrough
 pub mod Failures
 pub mod FittingCommands
