@@ -1,5 +1,5 @@
 -- How much a change writes: the components and the intents of one mirror.
-use Rattle.std.proofs.Common.{◌≡◌, ℕ, ◌+◌, ◌≤◌, not, refl, inl, inr, sym, ap, arith, List, [], ◌∷◌, Option, Some, None, length}
+use Rattle.std.proofs.Common.{◌≡◌, ◌∙◌, ℕ, ◌+◌, ◌≤◌, not, refl, inl, inr, sym, ap, arith, List, [], ◌∷◌, Option, Some, None, length, map}
 use Rattle.std.proofs.lemmas.List.{length-map}
 use Rattle.std.specs.Str.{bytes_eq}
 use Rattle.gm_metadata.specs.Images.{same_label}
@@ -8,10 +8,10 @@ use Rattle.gm_commands.specs.declared.command.Command.TheVariants.{Label, Insert
 use Rattle.gm_state.specs.declared.intents.Intent.{Intent}
 use Rattle.gm_state.specs.declared.intents.Intent.TheVariants.{Meta, Clear as Clears}
 use Rattle.gm_state.specs.declared.records.Component.{Component}
-use Rattle.gm_lists.specs.Ordered.{Has, Ascends, without}
+use Rattle.gm_lists.specs.Ordered.{Has, Ascends, Distinct, without}
 use Rattle.gm_lists.proofs.Finding.{option_cases}
-use Rattle.gm_lists.proofs.Lists.{filter-Has}
-use Rattle.gm_lists.proofs.Order.{differ, lt_differ, same_from, same_refl}
+use Rattle.gm_lists.proofs.Lists.{Has-map, filter-Has}
+use Rattle.gm_lists.proofs.Order.{differ, lt_differ, same_from}
 use Rattle.gm_lists.proofs.PutTogether.{put_all_there}
 use Rattle.gm_lists.proofs.Putting.{length-filter_lt, one}
 use Rattle.gm_state.specs.Records.{Records, IsState, members, provider}
@@ -23,23 +23,47 @@ use Rattle.gm_changes.specs.After.{intents_of, metas, on_found}
 use Rattle.gm_changes.specs.Decides.{Changed, PutsInPlace, changed_by}
 use Rattle.gm_changes.proofs.MakesChange.{no_component}
 
--- records in order are no more than those among which each of them stands
-length_among : {X : Type 0} (key : X → List ℕ) (xs ys : List X) → Ascends key xs
-    → ((x : X) → Has xs x → Has ys x) → length xs ≤ length ys
-length_among key [] ys a h = omega arith
-length_among {X = X} key (x ∷ xs) ys a h =
-    let others : List X = without key (key x) ys in
-    let rest : length xs ≤ length others =
-    length_among key xs others a.1 (λ z i. filter-Has (λ (y : X). not (bytes_eq (key y) (key x))) ys
-    z (h z (inr i)) (ap not (differ (key z) (key x)
-    (λ e. lt_differ (key x) (key z) (a.0 z i) (sym e))))) in
-    let less : length others + 1 ≤ length ys =
-    length-filter_lt (λ (y : X). not (bytes_eq (key y) (key x))) ys x (h x (inl refl))
-    (ap not (same_refl (key x))) in
+-- names that differ are no more than the records among which each of them is one's name
+pub names_among : {X : Type 0} (key : X → List ℕ) (names : List (List ℕ)) (xs : List X)
+    → Distinct (λ (n : List ℕ). n) names
+    → ((n : List ℕ) → Has names n → (x : X) × Has xs x × (key x ≡ n)) → length names ≤ length xs
+names_among key [] xs apart h = omega arith
+names_among {X = X} key (n ∷ names) xs apart h =
+    let at = h n (inl refl) in
+    let others : List X = without key n xs in
+    let rest : length names ≤ length others =
+    names_among key names others apart.1 (λ m i. let it = h m (inr i) in (
+      it.0,
+      filter-Has (λ (x : X). not (bytes_eq (key x) n)) xs it.0 it.1
+          (ap not (differ (key it.0) n (λ e. apart.0 m i (sym e ∙ it.2)))),
+      it.2,
+    )) in
+    let less : length others + 1 ≤ length xs =
+    length-filter_lt (λ (x : X). not (bytes_eq (key x) n)) xs at.0 at.1
+    (ap not (same_from (key at.0) n at.2)) in
     omega (arith, rest, less)
 
+-- so records in order are no more than those among which each of them stands
+keys_differ : {X : Type 0} (key : X → List ℕ) (xs : List X) → Ascends key xs
+    → Distinct (λ (n : List ℕ). n) (map key xs)
+keys_differ key [] a = tt
+keys_differ key (x ∷ xs) a = (
+  λ n h e. let at = Has-map key xs n h in
+      lt_differ (key x) (key at.0) (a.0 at.0 at.1) (e ∙ sym at.2),
+  keys_differ key xs a.1,
+)
+
+length_among : {X : Type 0} (key : X → List ℕ) (xs ys : List X) → Ascends key xs
+    → ((x : X) → Has xs x → Has ys x) → length xs ≤ length ys
+length_among key xs ys a h =
+    let few : length (map key xs) ≤ length ys =
+    names_among key (map key xs) ys (keys_differ key xs a) (λ n i.
+    let at = Has-map key xs n i in (at.0, h at.0 at.1, at.2)) in
+    let as_many : length (map key xs) ≡ length xs = length-map xs key in
+    omega (arith, few, as_many)
+
 -- a mirror has at most 16 components
-few_members : (s : Records) → IsState s → (n : List ℕ) → length (members s.components n) ≤ 16
+pub few_members : (s : Records) → IsState s → (n : List ℕ) → length (members s.components n) ≤ 16
 few_members s state n =
     elim (option_cases (mirror_of s n)) [
       | inl none ↦
