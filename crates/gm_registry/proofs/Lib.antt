@@ -2,6 +2,7 @@ pub mod Abouts
 pub mod CallsLeave
 pub mod ChangedTables
 pub mod CountedThrough
+pub mod CreatableTables
 pub mod Failures
 pub mod FittingCommands
 pub mod FittingComponents
@@ -16,6 +17,7 @@ pub mod InsideFails
 pub mod Keys
 pub mod LastCommand
 pub mod MadeTables
+pub mod MakingFails
 pub mod NumberedSteps
 pub mod OneReading
 pub mod OpenedConnection
