@@ -15,7 +15,8 @@ use Rattle.gm_rows.specs.Schema.{about, mirrors, components, intents, commands, 
 use Rattle.gm_registry.proofs.TextMeanings.{Defines, about_is, mirrors_is, components_is, intents_is, commands_is}
 
 about_creatable : IsCreatable no_schema about_text (record about { tree = 0 })
-unfolding encode_utf8 same_name same_word fits_kind is_free_name begins value_cmp Ieee.lt Ieee.is_nan everything
+unfolding encode_utf8 same_name same_word fits_kind is_free_name begins value_cmp Ieee.lt
+    Ieee.is_nan everything
 about_creatable = record {
   utf8 = (about_text, (refl, refl));
   named = (about.name, (refl, refl));
@@ -30,7 +31,8 @@ about_creatable = record {
 }
 
 mirrors_creatable : IsCreatable with_about mirrors_text (record mirrors { tree = 0 })
-unfolding encode_utf8 same_name same_word fits_kind is_free_name begins value_cmp Ieee.lt Ieee.is_nan everything
+unfolding encode_utf8 same_name same_word fits_kind is_free_name begins value_cmp Ieee.lt
+    Ieee.is_nan everything
 mirrors_creatable = record {
   utf8 = (mirrors_text, (refl, refl));
   named = (mirrors.name, (refl, refl));
@@ -45,7 +47,8 @@ mirrors_creatable = record {
 }
 
 components_creatable : IsCreatable with_mirrors components_text (record components { tree = 0 })
-unfolding encode_utf8 same_name same_word fits_kind is_free_name begins value_cmp Ieee.lt Ieee.is_nan everything
+unfolding encode_utf8 same_name same_word fits_kind is_free_name begins value_cmp Ieee.lt
+    Ieee.is_nan everything
 components_creatable = record {
   utf8 = (components_text, (refl, refl));
   named = (components.name, (refl, refl));
@@ -60,7 +63,8 @@ components_creatable = record {
 }
 
 intents_creatable : IsCreatable with_components intents_text (record intents { tree = 0 })
-unfolding encode_utf8 same_name same_word fits_kind is_free_name begins value_cmp Ieee.lt Ieee.is_nan everything
+unfolding encode_utf8 same_name same_word fits_kind is_free_name begins value_cmp Ieee.lt
+    Ieee.is_nan everything
 intents_creatable = record {
   utf8 = (intents_text, (refl, refl));
   named = (intents.name, (refl, refl));
@@ -75,7 +79,8 @@ intents_creatable = record {
 }
 
 commands_creatable : IsCreatable with_intents commands_text (record commands { tree = 0 })
-unfolding encode_utf8 same_name same_word fits_kind is_free_name begins value_cmp Ieee.lt Ieee.is_nan everything
+unfolding encode_utf8 same_name same_word fits_kind is_free_name begins value_cmp Ieee.lt
+    Ieee.is_nan everything
 commands_creatable = record {
   utf8 = (commands_text, (refl, refl));
   named = (commands.name, (refl, refl));

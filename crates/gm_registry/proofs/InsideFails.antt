@@ -44,10 +44,12 @@ module _ (text : List ℕ) (params : Row) (command : Command) (means : Means tex
       told old new e (inside_fault registry_schema text params command means.command_is means.plain
       whole inside quiet old new e was.schema_is
       (λ stop does. stops old.now.trees t old.step_limit
-      (statement_of text (understood registry_schema text)) stop was.tables.rows was.tables.sound fits
+      (statement_of text (understood registry_schema text)) stop was.tables.rows was.tables.sound
+      fits
       (subst (λ (schema : Schema). Does old.step_limit at_once params
       (record { schema = schema; trees = old.now.trees })
-      (statement_of text (understood registry_schema text)) None command (Err stop)) was.schema_is does)) was.is_open (h was.inside)) is
+      (statement_of text (understood registry_schema text)) None command (Err stop)) was.schema_is
+      does)) was.is_open (h was.inside)) is
 
 -- what fits where more is known
 pub fails_as : {X : Type 0} (x : Result X Error) (P Q : Type 0) → (P → Q) → OnOther x P

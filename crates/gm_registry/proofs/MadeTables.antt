@@ -41,8 +41,9 @@ one_table a b text before after table count it whole has h =
 
 -- the tables that are there then
 pub one_more : (before after : Schema) (text : List ℕ) (table : Table)
-    → Defines before after text table → lacks_sequence after ≡ false → (first : Database) (a b : State)
-    (count : ℕ) → IsInsideOver before first a → ExecutesInside 0 text [] a b (Ok count)
+    → Defines before after text table → lacks_sequence after ≡ false → (first : Database)
+    (a b : State) (count : ℕ) → IsInsideOver before first a
+    → ExecutesInside 0 text [] a b (Ok count)
     → IsInsideOver after first b
 one_more before after text table it whole first a b count was h =
     let made = one_table a b text before after table count it whole was.schema_is h in

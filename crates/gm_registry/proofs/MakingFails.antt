@@ -1,5 +1,5 @@
--- Why a registry isn't made in a store without tables: no rule refuses its tables, nor the record of
--- `about`.
+-- Why a registry isn't made in a store without tables: no rule refuses its tables, nor the record
+-- of `about`.
 use Rattle.std.proofs.Common.{◌≡◌, inl, inr, ℕ, pos, true, not, ◌&&◌, ◌==◌, List, [], ◌∷◌, Option, None, Result, Ok, Err, IsTrue, IsSome, refl, sym, ap, subst, ◌∙◌, arith, eq-eqb}
 use Rattle.std.specs.List.{AllByRecursion, list_all}
 use Rattle.std.specs.Float.Ieee
@@ -47,28 +47,43 @@ use Rattle.gm_registry.proofs.SettlingFails.{refers}
 use Rattle.gm_registry.proofs.StepsInTurn.{Failed}
 use Rattle.gm_registry.proofs.TextMeanings.{put_about, put_about_is}
 
--- ---- a table
+-- ---- the tables, one after another
 
-module _ (before after : Schema) (text : List ℕ) (table : Table)
-    (makes : Makes before after text table) (first : Database) (a b : State)
-    (was : IsInsideOver before first a) where
-  pub table_fails : (e : Error) → ExecutesInside 0 text [] a b (Err e) → fault_of e ≡ Store
-      → Failed a b
-  table_fails e h is =
-      let it = makes.defines in
-      told a b e (inside_fault before text [] CreateTable it.command it.plain it.whole refl refl a b e
-      was.schema_is (λ stop does. absurd (create_stops before after text (record table { tree = 0 })
-      it.table_is it.schema_is makes.uncounted makes.can a.step_limit (mode_of a) [] a.now stop
-      was.schema_is (subst (λ t. Does a.step_limit (mode_of a) [] a.now t None CreateTable (Err stop))
-      it.alone does))) was.is_open h) is
+-- the tables that are made so far, and what a failure behind them is
+pub record Made (schema : Schema) (first : Database) (start now : State) : Type 1 where
+  pub over : IsInsideOver schema first now
+  pub since : (end : State) → Failed now end → Failed start end
 
-  -- a failure behind it
-  pub behind_table : (c : State) (Commits : Trees → Type 0) (count : ℕ)
-      → ExecutesInside 0 text [] a b (Ok count) → Survives a b Commits
-      → (IsInsideOver after first b → Failed b c) → Failed a c
-  behind_table c Commits count h left fails =
-      failed_since a b c Commits left (fails (one_more before after text table makes.defines
-      makes.uncounted first a b count was h))
+pub none_made : {schema : Schema} {first : Database} {s : State} → IsInsideOver schema first s
+    → Made schema first s s
+none_made was = record { over = was; since = λ end failed. failed }
+
+module _ {before after : Schema} {text : List ℕ} {table : Table} {first : Database}
+    {start a b : State} (makes : Makes before after text table) (so : Made before first start a)
+  where
+    -- one more
+    pub table_made : {Commits : Trees → Type 0} (count : ℕ) → Survives a b Commits
+        → (IsTrue a.in_transaction → ExecutesInside 0 text [] a b (Ok count))
+        → Made after first start b
+    table_made count left h = record {
+      over = one_more before after text table makes.defines makes.uncounted first a b count so.over
+          (h so.over.inside);
+      since = λ end failed. so.since end (failed_since a b end _ left failed);
+    }
+
+    -- why it isn't made
+    pub table_fails : {e : Error}
+        → (IsTrue a.in_transaction → ExecutesInside 0 text [] a b (Err e)) → fault_of e ≡ Store
+        → Failed start b
+    table_fails {e} h is =
+        let it = makes.defines in
+        let was = so.over in
+        so.since b (told a b e (inside_fault before text [] CreateTable it.command it.plain it.whole
+        refl refl a b e was.schema_is (λ stop does. absurd (create_stops before after text
+        (record table { tree = 0 }) it.table_is it.schema_is makes.uncounted makes.can a.step_limit
+        (mode_of a) [] a.now stop was.schema_is
+        (subst (λ t. Does a.step_limit (mode_of a) [] a.now t None CreateTable (Err stop)) it.alone
+        does))) was.is_open (h was.inside)) is)
 
 -- ---- the record of `about`
 
@@ -78,7 +93,8 @@ none_kept : (first : Database) (s : State) (rule : Constraint) → IsBareInside 
 none_kept first s rule was =
     let db = s.now.trees in
     let none = λ (table : Table) (rows : List Row) (is : rows ≡ []).
-    subst (λ l. AllByRecursion (λ row. passes rule registry_schema db table row ≡ true) l) (sym is) tt in (
+    subst (λ l. AllByRecursion (λ row. passes rule registry_schema db table row ≡ true) l) (sym is)
+    tt in (
       none about (db 0) was.about,
       (
         none mirrors (db 1) was.mirrors,
@@ -132,7 +148,8 @@ about_stops : (first : Database) (s : State) (text : List ℕ) (stop : Option Er
     → IsSome s.step_limit
 about_stops first s text stop was does =
     let db = s.now.trees in
-    insert_stops registry_schema 0 about refl about_terms 3 [] about_values about_values s.step_limit
+    insert_stops registry_schema 0 about refl about_terms 3 [] about_values about_values
+    s.step_limit
     db refl refl (rw (cast_int (pos 1), cast_null) refl) (about_allowed first s was)
     (λ next made. refers db next (made.tables.1.0 (λ e. let f : 1 ≡ 0 = e in cc))
     (made.tables.1.1.0 (λ e. let f : 4 ≡ 0 = e in cc)) (none_kept first s ForeignKey was)) stop

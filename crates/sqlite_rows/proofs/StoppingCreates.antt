@@ -29,8 +29,8 @@ pub record IsCreatable (schema : Schema) (sql : List ℕ) (table : Table) : Type
   pub named : IsUtf8 table.name
   pub unreserved : is_reserved table.name ≡ false
   pub free : is_used schema table.name ≡ false
-  pub indexes_free : list_all (λ i. not (is_used schema i.name)) (automatics table 0 0 table.uniques)
-      ≡ true
+  pub indexes_free : list_all (λ i. not (is_used schema i.name))
+      (automatics table 0 0 table.uniques) ≡ true
   pub low : next_tree schema + length table.uniques < 65536
   pub no_reals : table_reals table ≡ 0
   pub formed : is_formed table ≡ true
@@ -46,7 +46,8 @@ module _ (schema after : Schema) (sql : List ℕ) (table : Table)
   refused : (why : Refusal) → RefusesTable schema sql why → ⊥
   refused (Invalid e) by = let both : Err e ≡ Ok table = sym by ∙ defined in cc
   refused NameTaken (other, by, inl used) =
-      true≢false (sym used ∙ ap (λ (t : Table). is_used schema t.name) (the_one other by) ∙ can.free)
+      true≢false (sym used ∙ ap (λ (t : Table). is_used schema t.name) (the_one other by)
+      ∙ can.free)
   refused NameTaken (other, by, inr (index, has, used)) =
       let here = rw (the_one other by) at has in
       true≢false (sym used ∙ not-true _ (test_has (λ i. not (is_used schema i.name))

@@ -99,7 +99,8 @@ returns-in_err-put_about-clause-store g c clean =
     let end : Held _ = c.drop-tx-in_err-put_about.new.self.0 in
     let same : end ≡ c.conn-in_err-put_about-1.given.0 = search rules in
     let late : HasCleanDisk (state g.S.Store end) = rw (sym same) at clean in
-    let early : HasCleanDisk mid = omega (arith, c.drop-tx-in_err-put_about.ensures.survives.clean) in
+    let early : HasCleanDisk mid =
+    omega (arith, c.drop-tx-in_err-put_about.ensures.survives.clean) in
     let earlier : HasCleanDisk one = omega (arith, early, c.put_about.ensures.survives.clean) in
     passed_on c.from_residual-in_err-put_about.result c.in_err-put_about.field-0.0 _
     c.from_residual-in_err-put_about.ensures.1 (λ is was.

@@ -10,5 +10,5 @@ returns-clause-made g c clean =
 
 pub returns-clause-fails : goal.returns-clause-fails
 returns-clause-fails g c clean =
-    about_fails (state g.S.Store c.args.tx.now.conn.now) (state g.S.Store c.execute.new.self.conn.now)
-    c.execute.result (c.execute.ensures.runs clean)
+    about_fails (state g.S.Store c.args.tx.now.conn.now)
+    (state g.S.Store c.execute.new.self.conn.now) c.execute.result (c.execute.ensures.runs clean)

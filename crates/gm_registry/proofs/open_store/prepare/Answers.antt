@@ -235,7 +235,8 @@ returns-clause-store g c clean =
       | inr (inl sound) ↦
           let ours = registry_seen old is_open settled c.schema.ensures.live sound in
           failed is (ours_known _ ours) (λ _. ours) is_open
-      | inr (inr foreign) ↦ failed is (foreign_shown old is_open settled c.schema.ensures.live foreign)
+      | inr (inr foreign) ↦ failed is
+          (foreign_shown old is_open settled c.schema.ensures.live foreign)
           (λ lists. absurd (foreign.other (subst (λ (d : Database). ListsOurs d.trees) settled
           lists))) is_open
     ]) (c.check_registry.ensures.store clean)
