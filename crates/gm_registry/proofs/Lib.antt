@@ -26,6 +26,7 @@ pub mod PendingRows
 pub mod ReadsInTurn
 pub mod RecordsUnder
 pub mod RisingRowids
+pub mod SaidParts
 pub mod SettlingFails
 pub mod SomeReads
 pub mod StepsInTurn
