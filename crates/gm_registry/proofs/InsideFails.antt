@@ -11,8 +11,9 @@ use Rattle.sqlite.specs.Effect.{Database, is_query}
 use Rattle.sqlite.specs.Listing.{understood}
 use Rattle.sqlite.specs.State.{State, is_pragma, ExecutesInside}
 use Rattle.sqlite.specs.declared.error.Error.{Error}
+use Rattle.sqlite.proofs.Callers.{statement_of}
 use Rattle.sqlite_rows.proofs.Failing.{is_all_of}
-use Rattle.sqlite_rows.proofs.Stopping.{is_on_rows, at_once, inside_fault}
+use Rattle.sqlite_rows.proofs.Stopping.{stays_inside, at_once, inside_fault}
 use Rattle.gm_state.specs.Rows.{Tables}
 use Rattle.gm_rows.specs.Faults.{OnOther, fault_of}
 use Rattle.gm_rows.specs.declared.fault.StoreFault.TheVariants.{Store}
@@ -31,7 +32,7 @@ StopsOnly command params Fits =
 
 module _ (text : List ℕ) (params : Row) (command : Command) (means : Means text command)
     (whole : is_all_of text (length params) (understood registry_schema text) ≡ true)
-    (on_rows : is_on_rows command ≡ true) (quiet : is_query command || is_pragma command ≡ false)
+    (inside : stays_inside command ≡ true) (quiet : is_query command || is_pragma command ≡ false)
     (Fits : Trees → Tables → Type 0) (stops : StopsOnly command params Fits) where
   pub inside_fails : (old new : State) (x : Result ℕ Error)
       → (IsTrue old.in_transaction → ExecutesInside 0 text params old new x)
@@ -41,12 +42,14 @@ module _ (text : List ℕ) (params : Row) (command : Command) (means : Means tex
   inside_fails old new (Ok count) h = tt
   inside_fails old new (Err e) h = λ is first t was fits.
       told old new e (inside_fault registry_schema text params command means.command_is means.plain
-      whole on_rows quiet old new e was.schema_is
-      (λ statement stop does. stops old.now.trees t old.step_limit statement stop was.tables.rows
-      was.tables.sound fits
+      whole inside quiet old new e was.schema_is
+      (λ stop does. stops old.now.trees t old.step_limit
+      (statement_of text (understood registry_schema text)) stop was.tables.rows was.tables.sound
+      fits
       (subst (λ (schema : Schema). Does old.step_limit at_once params
-      (record { schema = schema; trees = old.now.trees }) statement None command (Err stop))
-      was.schema_is does)) was.is_open (h was.inside)) is
+      (record { schema = schema; trees = old.now.trees })
+      (statement_of text (understood registry_schema text)) None command (Err stop)) was.schema_is
+      does)) was.is_open (h was.inside)) is
 
 -- what fits where more is known
 pub fails_as : {X : Type 0} (x : Result X Error) (P Q : Type 0) → (P → Q) → OnOther x P

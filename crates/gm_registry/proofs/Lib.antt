@@ -3,6 +3,7 @@ pub mod CallsLeave
 pub mod ChangedTables
 pub mod ChangesFit
 pub mod CountedThrough
+pub mod CreatableTables
 pub mod Failures
 pub mod FittingCommands
 pub mod FittingComponents
@@ -17,6 +18,7 @@ pub mod InsideFails
 pub mod Keys
 pub mod LastCommand
 pub mod MadeTables
+pub mod MakingFails
 pub mod NumberedSteps
 pub mod OneReading
 pub mod OpenedConnection
@@ -25,6 +27,7 @@ pub mod PendingRows
 pub mod ReadsInTurn
 pub mod RecordsUnder
 pub mod RisingRowids
+pub mod SaidParts
 pub mod SettlingFails
 pub mod SomeReads
 pub mod StepsInTurn
