@@ -145,6 +145,9 @@ pub reads_then : {S : Type 0} (g : Ghosts S) (r mid s : Held S)
     → Reads g r s
 reads_then g r mid s has first second = record {
   kept = λ clean t h is_open. second.kept clean t (has t h) is_open;
+  same = λ clean t h is_open.
+      let early : DiskKept g mid = omega (arith, second.clean, clean) in
+      second.same clean t (has t h) is_open ∙ first.same early t h (has t h).is_open;
   left = λ t h. nothing_then g r mid s (first.left t h) (second.left t (has t h));
   clean = let one = first.clean in
       let two = second.clean in omega (arith, one, two);
@@ -154,6 +157,7 @@ reads_then g r mid s has first second = record {
 pub reads_none : {S : Type 0} (g : Ghosts S) → IsSettling g → (r : Held S) → Reads g r r
 reads_none g settling r = record {
   kept = λ clean t h is_open. saved g settling r t h;
+  same = λ clean t h is_open. refl;
   left = λ t h. record {
     clean = omega arith;
     shield = λ is. is;

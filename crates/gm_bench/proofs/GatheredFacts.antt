@@ -1,18 +1,20 @@
 -- What is gathered to decide on a command serves to decide on it.
-use Rattle.std.proofs.Common.{◌≡◌, ◌∙◌, ℕ, List, [], Option, None, map, sym, option_map}
+use Rattle.std.proofs.Common.{◌≡◌, ◌∙◌, ℕ, List, [], Option, None, map, refl, sym, option_map}
 use Rattle.sqlite_trees.specs.declared.store.Store.{Ghosts}
 use Rattle.sqlite.specs.Held.{Held}
 use Rattle.gm_metadata.specs.Images.{Image, Sizes}
 use Rattle.gm_shelf.specs.Disk.{View, IsLawful}
+use Rattle.gm_shelf.specs.declared.shelf.Shelf.{Ghosts as ShelfGhosts}
 use Rattle.gm_commands.specs.declared.command.Command.{Command}
 use Rattle.gm_commands.specs.declared.command.Command.TheVariants.{Adopt}
-use Rattle.gm_state.specs.Records.{Records, provider}
+use Rattle.gm_state.specs.declared.records.Mirror.{Mirror}
+use Rattle.gm_state.specs.Records.{Records, IsState, provider}
 use Rattle.gm_lists.specs.Ordered.{Has}
 use Rattle.gm_state.specs.World.{World}
 use Rattle.gm_lists.proofs.Finding.{Has-append_left}
 use Rattle.gm_refusals.specs.declared.facts.Fact.{Fact}
 use Rattle.gm_refusals.specs.Adoptable.{found_mids, source_in}
-use Rattle.gm_refusals.specs.Applies.{awaited}
+use Rattle.gm_refusals.specs.Applies.{awaited, takes_mid}
 use Rattle.gm_refusals.specs.PartOf.{IsPartOf, IsPartToDecide, part_of}
 use Rattle.gm_refusals.specs.Seen.{seen_in}
 use Rattle.gm_refusals.specs.WorldFacts.{AreFacts, needed_by}
@@ -21,7 +23,7 @@ use Rattle.gm_bench.specs.declared.adopt_scope.Compared.{Compared}
 use Rattle.gm_bench.specs.AdoptScope.{adopted_from, compared_with}
 use Rattle.gm_bench.specs.Leading.{whole, Leads}
 use Rattle.gm_bench.specs.Recovering.{IsAt}
-use Rattle.gm_bench.specs.ShelfFacts.{Tell}
+use Rattle.gm_bench.specs.ShelfFacts.{IsHonestToAdopt, Tell}
 use Rattle.gm_bench.proofs.Asked.{serves, takes_alike}
 use Rattle.gm_bench.proofs.FactsLookedUp.{are_facts}
 
@@ -64,3 +66,27 @@ module _ {S H : Type 0} (g : Ghosts S) (view : H → View) (size : H → Sizes) 
         are_facts at.tables u (size h) away (view h).seen at.sizes leads facts first c against is
             before now,
       )
+
+-- what two looks at images to be adopted tell alike, where the shelf is honest
+takes_told : {H : Type 0} (h : ShelfGhosts H) (shelf : H) (c : Command) (first facts : List Fact)
+    (against : Option Compared) (size : Sizes) (seen : Image) → IsHonestToAdopt h shelf c
+    → (h.honest shelf → (q : List ℕ) → Has (adopted_from c) q → Tell first size seen None q)
+    → (h.honest shelf → (q : List ℕ) → Has (adopted_from c) q → Tell facts size seen against q)
+    → (m : Mirror) → takes_mid (seen_in facts) c m ≡ takes_mid (seen_in first) c m
+takes_told h shelf (Adopt n ps) first facts against size seen honest before now m =
+    takes_alike (seen_in facts) (seen_in first) (Adopt n ps)
+    (λ p k. (now honest p k).last_is ∙ sym (before honest p k).last_is) m
+takes_told h shelf _ first facts against size seen honest before now m = refl
+
+-- so the part that was read behind the first serves behind the second
+pub told_part : {H : Type 0} (h : ShelfGhosts H) (shelf : H) (s part : Records) (c : Command)
+    (first facts : List Fact) (against : Option Compared) (size : Sizes) (seen : Image)
+    → IsState s → part ≡ part_of s c (found_mids (seen_in first) (adopted_from c))
+    → IsHonestToAdopt h shelf c
+    → (h.honest shelf → (q : List ℕ) → Has (adopted_from c) q → Tell first size seen None q)
+    → (h.honest shelf → (q : List ℕ) → Has (needed_by part c) q → Tell facts size seen against q)
+    → IsPartToDecide part (seen_in facts) c s
+told_part h shelf s part c first facts against size seen state read honest before now =
+    serves s part c (seen_in first) (seen_in facts) state read
+    (takes_told h shelf c first facts against size seen honest before
+    (λ is p k. now is p (adopted_needed part c p k)))

@@ -9,6 +9,7 @@ pub mod Commits
 pub mod DecidesOnly
 pub mod FactsAreWorlds
 pub mod FactsLookedUp
+pub mod FittingPlans
 pub mod Found
 pub mod GatheredFacts
 pub mod Induction
@@ -37,6 +38,8 @@ pub mod ReopenedLoss
 pub mod ReopenedStore
 pub mod ScrubbedSoFar
 pub mod ShelfProviders
+pub mod ShortWords
 pub mod ShownSoFar
+pub mod StoreFails
 pub mod TakenUp
 pub mod WorldAtRest

@@ -48,6 +48,7 @@ module _ (s : Records) (x y : Seen) (n p : List ℕ)
   loss_alike (Ok ch) makes = record {
     good = λ r listed. sym (applies_alike r) ∙ makes.good r listed;
     records = makes.records;
+    in_place = makes.in_place;
     intents = makes.intents;
     reply = makes.reply;
   }

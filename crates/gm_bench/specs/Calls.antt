@@ -1,18 +1,19 @@
 -- What a call leaves of the media and of the phase of a bench, and which faults it tells, beside
 -- what is particular to it.
-use Rattle.std.specs.Prelude.{◌≡◌, ◌≤◌, ◌<◌, ℕ, List, Result, IfOk, IfErr, OnOk, OnErr, IsErrOf}
+use Rattle.std.specs.Prelude.{◌≡◌, ◌≤◌, ◌<◌, ℕ, List, [], Result, IfOk, IfErr, OnOk, OnErr, IsErrOf}
 use Rattle.sqlite_trees.specs.declared.store.Store.{Ghosts as StoreGhosts}
-use Rattle.sqlite.specs.Held.{Held}
+use Rattle.sqlite.specs.Held.{Held, state}
 use Rattle.gm_shelf.specs.declared.shelf.Shelf.{Ghosts as ShelfGhosts}
 use Rattle.gm_shelf.specs.Keeping.{Keeps, ReadsOnly}
 use Rattle.gm_state.specs.Rows.{Tables}
 use Rattle.gm_state.specs.Records.{Records}
 use Rattle.gm_commands.specs.declared.command.Command.{Command}
 use Rattle.gm_rows.specs.ReadableTables.{AreRecordsOf}
+use Rattle.gm_registry.specs.Fitting.{HasRoom}
 use Rattle.gm_registry.specs.Replies.{AreWrittenUnder, count_of}
 use Rattle.gm_bench.specs.Benches.{media_of, progress_of, redone_of, registry_of, shelf_of}
 use Rattle.gm_bench.specs.ShelfFacts.{IsHonestToAdopt}
-use Rattle.gm_registry.specs.Registry.{DiskKept, HasTables, IsOpen, LeavesNothingNew, Reads, StoreFailed, WasClean}
+use Rattle.gm_registry.specs.Registry.{DiskKept, HasTables, IsOpen, LeavesNothingNew, Reads, StoreFailed, WasClean, seen}
 use Rattle.gm_bench.specs.declared.bench.Bench.{Bench}
 use Rattle.gm_bench.specs.declared.fault.BenchFault.{BenchFault}
 use Rattle.gm_bench.specs.declared.fault.BenchFault.TheVariants.{Absent, Closed, Disk, Store, Unreadable}
@@ -35,6 +36,19 @@ abbrev pub TellsStore : {S T : Type 0} → StoreGhosts S → Held S → Held S �
     → Type 0
 TellsStore s old new result =
     DiskKept s new → IsErrOf result Store → (t : Tables) → HasTables s old t → StoreFailed s old new
+
+-- so many rows the store is to number for a command at most: those of the components of a mirror,
+-- of the mirror and of the command
+abbrev pub most_rows : ℕ
+most_rows = 18
+
+-- A registry has tables behind a call, and its store forgot no fault, and has the limit on steps
+-- that it had.
+pub record GoesOn {S : Type 0} (s : StoreGhosts S) (old new : Held S) : Type 0 where
+  pub tables : Tables
+  pub has : HasTables s new tables
+  pub counts : (state s old).faults ≤ (state s new).faults
+  pub limit : (state s new).step_limit ≡ (state s old).step_limit
 
 -- a call that only reads a shelf, and asks no store
 pub record Looks {H T : Type 0} (h : ShelfGhosts H) (old new : H)
@@ -73,6 +87,23 @@ module _ {S H T : Type 0} (s : StoreGhosts S) (h : ShelfGhosts H) (old new : Med
   TellsUnreadable key c = DiskKept s new.registry → IsErrOf result Unreadable
       → (t : Tables) (r : Records) → HasTables s old.registry t → AreRecordsOf t r
       → count_of t ≤ 100000 → AreWrittenUnder key t → IsHonestToAdopt h old.shelf c → ⊥
+
+  -- Store only where the store failed, wherever the rows say a state, the tables are such, and the
+  -- store can number the rows of a command
+  abbrev pub TellsStoreWhere : (Tables → Type 0) → Command → Type 0
+  TellsStoreWhere AreSuch c = DiskKept s new.registry → IsErrOf result Store
+      → (t : Tables) (r : Records) → HasTables s old.registry t → AreRecordsOf t r → AreSuch t
+      → HasRoom most_rows (seen s old.registry) → IsHonestToAdopt h old.shelf c
+      → StoreFailed s old.registry new.registry
+
+  -- the same wherever no intent is pending
+  abbrev pub TellsStoreOf : Command → Type 0
+  TellsStoreOf = TellsStoreWhere (λ t. t.intents ≡ [])
+
+  -- where it succeeds, the registry goes on, wherever the rows say a state
+  abbrev pub StaysRegistry : Type 0
+  StaysRegistry = DiskKept s new.registry → OnOk result ((t : Tables) (r : Records)
+      → HasTables s old.registry t → AreRecordsOf t r → GoesOn s old.registry new.registry)
 
   -- what is then to be carried out is at hand, where the rows say a state
   abbrev pub TellsAtHand : (T → Type 0) → Type 0
@@ -127,13 +158,16 @@ module _ {S H T : Type 0} (s : StoreGhosts S) (h : ShelfGhosts H) (old new : Ben
         → TellsDisk h (shelf_of old) (shelf_of new) result
 
 -- A command that is handed in, by the registry's rows and the shelf's sizes alone: what is then
--- pending is at hand, and where it fails the tables stay.
+-- pending is at hand, where it fails the tables stay, and else the registry goes on. `Store` comes
+-- only where the store failed.
 pub record TellsOfRows {S H : Type 0} (s : StoreGhosts S) (h : ShelfGhosts H) (old new : Bench S H)
     (result : Result Answer BenchFault) (key : List ℕ) (c : Command) : Type 0 where
   pub readable : TellsUnreadable s h (media_of old) (media_of new) result key c
   pub at_hand : TellsAtHand s h (media_of old) (media_of new) result (λ a. (work : Work)
       → progress_of new ≡ Pending work → AreAtHand (h.size (shelf_of old)) work.intents.items)
   pub refused : RefusesCall s h (media_of old) (media_of new) result
+  pub store : TellsStoreOf s h (media_of old) (media_of new) result c
+  pub goes_on : StaysRegistry s h (media_of old) (media_of new) result
 
 -- A command that is run: where an answer says that nothing was done it only read the registry, and
 -- where the registry's rows say a state it tells of the disk only where that failed.

@@ -1,10 +1,12 @@
 -- What is decided on a command, and what is carried out once that is accepted.
-use Rattle.std.specs.Prelude.{◌≡◌, ◌≤◌, length, Result, Ok, Err}
+use Rattle.std.specs.Prelude.{◌≡◌, ◌≤◌, ℕ, List, length, Result, Ok, Err}
 use Rattle.gm_commands.specs.declared.command.Command.{Command}
+use Rattle.gm_commands.specs.Commands.{words_of}
 use Rattle.gm_state.specs.Records.{Records, IsState}
-use Rattle.gm_state.specs.World.{World}
+use Rattle.gm_state.specs.Rows.{Tables}
+use Rattle.gm_state.specs.World.{World, ReplyFits}
 use Rattle.gm_refusals.specs.declared.refusals.Refusal.{Refusal}
-use Rattle.gm_changes.specs.Decides.{Makes, changed_by}
+use Rattle.gm_changes.specs.Decides.{Changed, Makes, changed_by}
 use Rattle.gm_refusals.specs.Applies.{IsLeast}
 use Rattle.gm_refusals.specs.PartOf.{IsPartToDecide}
 use Rattle.gm_changes.specs.PartChange.{LeavesPart}
@@ -13,6 +15,7 @@ use Rattle.gm_refusals.specs.WorldFacts.{AreFacts, seen_of}
 use Rattle.gm_metadata.specs.Images.{Sizes}
 use Rattle.gm_shelf.specs.declared.shelf.Shelf.{Ghosts as ShelfGhosts}
 use Rattle.gm_rules.specs.Itself.{IsItself}
+use Rattle.gm_registry.specs.FittingChanges.{FitsRecords}
 use Rattle.gm_bench.specs.declared.answer.Work.{Work}
 use Rattle.gm_bench.specs.declared.answer.Accepted.{Accepted}
 use Rattle.gm_bench.specs.declared.answer.Accepted.TheVariants.{Done}
@@ -42,6 +45,11 @@ pub record IsKnown (u : World) (c : Command) (g : Gathered) : Type 0 where
   pub mirrors : g.part.mirrors ≡ length u.state.mirrors
   pub facts : AreFacts g.facts u c
 
+-- the same of these records alone, whatever the world is
+pub record IsPartKnown (s : Records) (c : Command) (g : Gathered) : Type 0 where
+  pub part : IsPartToDecide g.part.state (seen_in g.facts) c s
+  pub mirrors : g.part.mirrors ≡ length s.mirrors
+
 -- What serves to decide on the command, whatever the shelf is: a part of a state, of which there
 -- are no fewer mirrors and no more than there may be, and facts with the shelf's sizes.
 pub record IsToDecide {H : Type 0} (h : ShelfGhosts H) (shelf : H) (c : Command)
@@ -56,6 +64,20 @@ pub record IsToDecide {H : Type 0} (h : ShelfGhosts H) (shelf : H) (c : Command)
 abbrev pub IsPlanAtHand : Sizes → Result Planned Refusal → Type 0
 IsPlanAtHand size (Ok planned) = AreAtHand size planned.work.intents.items
 IsPlanAtHand size (Err r) = Unit {0}
+
+-- The records of a change break no rule of these tables, it puts and writes no more than a mirror
+-- has, and its reply and the words of its command are in range.
+pub record IsFitting (ch : Changed) (words : List ℕ) (t : Tables) : Type 0 where
+  pub records : FitsRecords ch t
+  pub few_put : length ch.components ≤ 16
+  pub few_written : length ch.intents ≤ 17
+  pub reply : ReplyFits ch.reply
+  pub short : length words ≤ 1000
+
+-- the same of what is planned for a command
+abbrev pub IsPlanFitting : Command → Tables → Result Planned Refusal → Type 0
+IsPlanFitting c t (Ok planned) = IsFitting planned.change (words_of c) t
+IsPlanFitting c t (Err r) = Unit {0}
 
 -- a command is done, with this work still to be carried out
 abbrev pub IsWith : Work → Accepted → Type 0

@@ -1,6 +1,6 @@
 //! Commands that are handed in.
 
-ghost use Rattle.std.specs.Prelude.{◌≡◌, ◌<◌, ◌≤◌, true, List, [], IfOk, IfErr, IsErrOf};
+ghost use Rattle.std.specs.Prelude.{◌≡◌, ◌<◌, ◌≤◌, true, List, [], IfOk, IfErr, OnOk, IsErrOf};
 ghost use Rattle.gm_metadata.specs.Images.{Image};
 ghost use Rattle.gm_shelf.specs.Disk.{AreReads};
 ghost use Rattle.gm_commands.specs.declared.command.Command.{Command};
@@ -9,14 +9,15 @@ ghost use Rattle.gm_state.specs.World.{World};
 ghost use Rattle.gm_commands.specs.Commands.{is_key};
 ghost use Rattle.gm_rules.specs.Step.{CanAnswer};
 ghost use Rattle.gm_state.specs.Rows.{Tables};
-ghost use Rattle.gm_registry.specs.Registry.{DiskKept, HasTables, LeavesNothingNew, Refuses, WasClean, Reads};
+ghost use Rattle.gm_registry.specs.Registry.{DiskKept, HasTables, LeavesNothingNew, Refuses, StoreFailed, WasClean, Reads, seen};
+ghost use Rattle.gm_registry.specs.Fitting.{HasRoom};
 ghost use Rattle.gm_registry.specs.Replies.{IsFree, count_of};
 ghost use Rattle.gm_bench.specs.Accepting.{LeavesStep, IsAnswered};
 ghost use Rattle.gm_bench.specs.Faults.{IsOfCall};
-ghost use Rattle.gm_bench.specs.Planning.{IsPlanned, IsWith, IsWorkAtHand};
+ghost use Rattle.gm_bench.specs.Planning.{IsFitting, IsPlanned, IsWith, IsWorkAtHand};
 ghost use Rattle.gm_bench.specs.Recovering.{IsAt};
 ghost use Rattle.gm_bench.specs.Phases.{IsUndone, answer_of};
-ghost use Rattle.gm_bench.specs.Calls.{Accepts, RefusesCall, TellsAtHand, TellsUnreadable};
+ghost use Rattle.gm_bench.specs.Calls.{Accepts, GoesOn, RefusesCall, StaysRegistry, TellsAtHand, TellsStoreOf, TellsStoreWhere, TellsUnreadable, most_rows};
 
 use crate::answer::Accepted;
 use crate::fault::BenchFault;
@@ -44,6 +45,16 @@ impl<S: Alter, H: Shelf> Media<S, H> {
             → IsAnswered S.Store H.view H.size self.new.registry self.old.shelf away
             u key.now c a) }
         ensures refused { Refuses S.Store self.old.registry self.new.registry result }
+        // Of a change that fits the tables, `Store` comes only where the store failed.
+        ensures store { DiskKept S.Store self.new.registry → IsErrOf result BenchFault.Store
+            → (t : Tables) → HasTables S.Store self.old.registry t → count_of t < 100000
+            → is_key key.now ≡ true → IsFree t key.now → t.intents ≡ []
+            → IsFitting planned.change words.now t
+            → HasRoom most_rows (seen S.Store self.old.registry)
+            → StoreFailed S.Store self.old.registry self.new.registry }
+        ensures goes_on { DiskKept S.Store self.new.registry → OnOk result ((t : Tables)
+            → HasTables S.Store self.old.registry t
+            → GoesOn S.Store self.old.registry self.new.registry) }
         ensures disk { IsErrOf result BenchFault.Disk → ⊥ }
         ensures work { IfOk result (IsWith planned.work) }
         ensures fault { IfErr result IsOfCall }
@@ -89,6 +100,10 @@ impl<S: Alter, H: Shelf> Media<S, H> {
         ensures at_hand { CommandFits command.now → TellsAtHand S.Store H.Shelf
             self.old self.new result (IsWorkAtHand (H.size self.old.shelf)) }
         ensures refused { RefusesCall S.Store H.Shelf self.old self.new result }
+        ensures store { words.now ≡ words_of command.now → is_key key.now ≡ true
+            → CommandFits command.now → TellsStoreWhere S.Store H.Shelf self.old self.new result
+            (λ t. (t.intents ≡ []) × (count_of t < 100000) × IsFree t key.now) command.now }
+        ensures goes_on { StaysRegistry S.Store H.Shelf self.old self.new result }
         ensures accepts { Accepts S.Store H.Shelf self.old self.new result
             (λ a. IsUndone (answer_of a)) }
     {
@@ -126,6 +141,10 @@ impl<S: Alter, H: Shelf> Media<S, H> {
         ensures at_hand { CommandFits command.now → TellsAtHand S.Store H.Shelf
             self.old self.new result (IsWorkAtHand (H.size self.old.shelf)) }
         ensures refused { RefusesCall S.Store H.Shelf self.old self.new result }
+        ensures store { words.now ≡ words_of command.now → is_key key.now ≡ true
+            → CommandFits command.now → TellsStoreWhere S.Store H.Shelf self.old self.new result
+            (λ t. (t.intents ≡ []) × IsFree t key.now) command.now }
+        ensures goes_on { StaysRegistry S.Store H.Shelf self.old self.new result }
         ensures accepts { Accepts S.Store H.Shelf self.old self.new result
             (λ a. IsUndone (answer_of a)) }
     {
@@ -161,6 +180,10 @@ impl<S: Alter, H: Shelf> Media<S, H> {
         ensures at_hand { CommandFits command.now → TellsAtHand S.Store H.Shelf
             self.old self.new result (IsWorkAtHand (H.size self.old.shelf)) }
         ensures refused { RefusesCall S.Store H.Shelf self.old self.new result }
+        ensures store { words.now ≡ words_of command.now → is_key key.now ≡ true
+            → CommandFits command.now
+            → TellsStoreOf S.Store H.Shelf self.old self.new result command.now }
+        ensures goes_on { StaysRegistry S.Store H.Shelf self.old self.new result }
         ensures accepts { Accepts S.Store H.Shelf self.old self.new result
             (λ a. IsUndone (answer_of a)) }
     {
@@ -200,6 +223,8 @@ impl<S: Alter, H: Shelf> Media<S, H> {
         ensures at_hand { TellsAtHand S.Store H.Shelf
             self.old self.new result (IsWorkAtHand (H.size self.old.shelf)) }
         ensures refused { RefusesCall S.Store H.Shelf self.old self.new result }
+        ensures store { TellsStoreOf S.Store H.Shelf self.old self.new result command.now }
+        ensures goes_on { StaysRegistry S.Store H.Shelf self.old self.new result }
         ensures accepts { Accepts S.Store H.Shelf self.old self.new result
             (λ a. IsUndone (answer_of a)) }
     {

@@ -13,7 +13,7 @@ ghost use Rattle.gm_bench.specs.Owed.{AcceptAnswers, AcceptLeaves, ApplyDoes, Ap
 ghost use Rattle.gm_bench.specs.Phases.{TakesCommands, HasWork, HasDone, answer_of, phase_after, phase_of, progress_after, IsUndone};
 ghost use Rattle.gm_bench.specs.Recovering.{IsAt, IsAtWork, LeavesOnly};
 ghost use Rattle.gm_bench.specs.Presence.{AreAtHand};
-ghost use Rattle.gm_bench.specs.Calls.{Accepts, ClosesOnFault, CarriesOut, RunsOnce, Settles, TellsOfRows, TellsStore, TellsUnreadable};
+ghost use Rattle.gm_bench.specs.Calls.{Accepts, ClosesOnFault, CarriesOut, RunsOnce, Settles, TellsOfRows, TellsStore, TellsStoreOf, TellsUnreadable};
 
 use crate::answer::Answer;
 use crate::bench::Bench;
@@ -146,6 +146,7 @@ impl<S: Alter, H: Shelf> Bench<S, H> {
             (registry_of self.old) (registry_of self.new)
             (shelf_of self.old) (shelf_of self.new) away u w }
         ensures phase { OnOk result (progress_of self.new ≡ Progress.Ready) }
+        ensures store { TellsStore S.Store (registry_of self.old) (registry_of self.new) result }
         ensures carries { CarriesOut S.Store H.Shelf self.old self.new result }
         ensures closes { ClosesOnFault self.old self.new result }
     {
@@ -169,6 +170,8 @@ impl<S: Alter, H: Shelf> Bench<S, H> {
         // Also of files: by the registry's rows alone.
         ensures readable { TellsUnreadable S.Store H.Shelf (media_of self.old) (media_of self.new)
             result key.now command.now }
+        ensures store { TellsStoreOf S.Store H.Shelf (media_of self.old) (media_of self.new)
+            result command.now }
         ensures runs { RunsOnce S.Store H.Shelf self.old self.new result }
         ensures closes { ClosesOnFault self.old self.new result }
     {

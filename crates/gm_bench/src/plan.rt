@@ -18,10 +18,10 @@ ghost use Rattle.gm_registry.specs.Registry.{DiskKept, HasTables, Reads};
 ghost use Rattle.gm_registry.specs.Replies.{count_of};
 ghost use Rattle.gm_bench.specs.Faults.{IsOfCall, IsOfMedia};
 ghost use Rattle.gm_bench.specs.Recovering.{IsAt};
-ghost use Rattle.gm_bench.specs.Planning.{IsDecided, IsKnown, IsPlanAtHand, IsToDecide};
+ghost use Rattle.gm_bench.specs.Planning.{IsDecided, IsKnown, IsPartKnown, IsPlanAtHand, IsPlanFitting, IsToDecide};
 ghost use Rattle.gm_bench.specs.ShelfFacts.{IsHonestToAdopt, Tell, TellSizes};
 ghost use Rattle.gm_lists.specs.Ordered.{Has};
-ghost use Rattle.gm_bench.specs.Calls.{Looks, Asks};
+ghost use Rattle.gm_bench.specs.Calls.{Asks, Looks, TellsStore};
 
 use crate::adopt_scope::{Compared, adopted_from, compared_with};
 use crate::answer::Work;
@@ -59,6 +59,7 @@ fn plan(alloc: Global, part: &State, change: Change) -> Result<Planned, BenchFau
         × (p.work.part ≡ changed_by change part.now)
         × (p.work.intents.items ≡ change.intents)) }
     ensures disk { IsErrOf result BenchFault.Disk → ⊥ }
+    ensures not_store { IsErrOf result BenchFault.Store → ⊥ }
     ensures fault { IfErr result IsOfCall }
     ensures readable { IsErrOf result BenchFault.Unreadable → IsState (changed_by change part.now)
         → ⊥ }
@@ -93,7 +94,13 @@ fn decide_on(
         → count ≡ length u.state.mirrors → AreFacts facts.now u command.now
         → IsDecided u command.now r) }
     ensures disk { IsErrOf result BenchFault.Disk → ⊥ }
+    ensures not_store { IsErrOf result BenchFault.Store → ⊥ }
     ensures fault { IfErr result IsOfCall }
+    // The change fits the tables of each state that the part is of.
+    ensures fits { IfOk result (λ r. (t : Tables) (s : Records) → AreRecordsOf t s
+        → IsPartToDecide part.now (seen_in facts.now) command.now s → count ≡ length s.mirrors
+        → CommandFits command.now → IsItself (seen_in facts.now) command.now
+        → IsPlanFitting command.now t r) }
     ensures readable { IsErrOf result BenchFault.Unreadable → CommandFits command.now
         → IsState part.now → length part.now.mirrors ≤ count → count ≤ 64
         → IsItself (seen_in facts.now) command.now → ⊥ }
@@ -118,6 +125,7 @@ impl<S: Alter, H: Shelf> Media<S, H> {
             → HasTables S.Store self.old.registry t
             → (n ≡ count_of t) × HasTables S.Store self.new.registry t) }
         ensures disk { IsErrOf result BenchFault.Disk → ⊥ }
+        ensures store { TellsStore S.Store self.old.registry self.new.registry result }
         ensures fault { IfErr result IsOfCall }
         ensures readable { DiskKept S.Store self.new.registry
             → IsErrOf result BenchFault.Unreadable → (t : Tables)
@@ -137,6 +145,7 @@ impl<S: Alter, H: Shelf> Media<S, H> {
             → HasTables S.Store self.old.registry t
             → (full ≡ nat_le 100000 (count_of t)) × HasTables S.Store self.new.registry t) }
         ensures disk { IsErrOf result BenchFault.Disk → ⊥ }
+        ensures store { TellsStore S.Store self.old.registry self.new.registry result }
         ensures fault { IfErr result IsOfCall }
         ensures readable { DiskKept S.Store self.new.registry
             → IsErrOf result BenchFault.Unreadable → (t : Tables)
@@ -161,6 +170,7 @@ impl<S: Alter, H: Shelf> Media<S, H> {
             → HasTables S.Store self.old.registry t → AreRecordsOf t s
             → IsPartFor s command.now mids.now r × HasTables S.Store self.new.registry t) }
         ensures disk { IsErrOf result BenchFault.Disk → ⊥ }
+        ensures store { TellsStore S.Store self.old.registry self.new.registry result }
         ensures fault { IfErr result IsOfCall }
         ensures readable { DiskKept S.Store self.new.registry
             → IsErrOf result BenchFault.Unreadable → (t : Tables) (s : Records)
@@ -223,7 +233,10 @@ impl<S: Alter, H: Shelf> Media<S, H> {
             → IfOk result (λ r. (t : Tables) (s : Records)
             → HasTables S.Store self.old.registry t → AreRecordsOf t s
             → IsToDecide H.Shelf self.old.shelf command.now r
-            × HasTables S.Store self.new.registry t) }
+            × HasTables S.Store self.new.registry t
+            × (IsHonestToAdopt H.Shelf self.old.shelf command.now
+            → IsPartKnown s command.now r)) }
+        ensures store { TellsStore S.Store self.old.registry self.new.registry result }
         ensures readable { DiskKept S.Store self.new.registry
             → IsErrOf result BenchFault.Unreadable → (t : Tables) (s : Records)
             → HasTables S.Store self.old.registry t → AreRecordsOf t s → ⊥ }
@@ -256,6 +269,12 @@ impl<S: Alter, H: Shelf> Media<S, H> {
             → HasTables S.Store self.old.registry t → AreRecordsOf t s
             → HasTables S.Store self.new.registry t
             × (CommandFits command.now → IsPlanAtHand (H.size self.old.shelf) r)) }
+        ensures fits { DiskKept S.Store self.new.registry
+            → IfOk result (λ r. (t : Tables) (s : Records)
+            → HasTables S.Store self.old.registry t → AreRecordsOf t s → CommandFits command.now
+            → IsHonestToAdopt H.Shelf self.old.shelf command.now
+            → IsPlanFitting command.now t r) }
+        ensures store { TellsStore S.Store self.old.registry self.new.registry result }
         ensures readable { DiskKept S.Store self.new.registry
             → IsErrOf result BenchFault.Unreadable → (t : Tables) (s : Records)
             → HasTables S.Store self.old.registry t → AreRecordsOf t s → CommandFits command.now

@@ -222,6 +222,7 @@ decides_in facts u c are (Ok ch) d =
     record {
       good = good;
       records = d.records ∙ e;
+      in_place = d.in_place;
       intents = d.intents ∙ ap (intents_of c u.state) e;
       reply = d.reply;
     }

@@ -3,6 +3,7 @@ use Rattle.std.proofs.Common.{◌≡◌, ◌∙◌, inl, inr, ℕ, Bool, refl, a
 use Rattle.std.proofs.lemmas.Bool.{cases_Bool}
 use Rattle.gm_metadata.specs.Images.{same_label}
 use Rattle.gm_commands.specs.declared.command.Settings.{Settings}
+use Rattle.gm_state.specs.declared.records.Mirror.{Mirror}
 use Rattle.gm_state.specs.declared.records.Component.{Component}
 use Rattle.gm_state.specs.declared.records.Disk.TheVariants.{Inactive}
 use Rattle.gm_lists.specs.Ordered.{Has, Ascends, put, put_all}
@@ -10,7 +11,7 @@ use Rattle.gm_state.specs.Records.{members, provider}
 use Rattle.gm_state.specs.Lookups.{is_inactive}
 use Rattle.gm_lists.proofs.Mapped.{map_id, filter-map, put-map}
 use Rattle.gm_lists.proofs.Putting.{filter-where, put_all-where}
-use Rattle.gm_changes.specs.After.{configured, deactivated}
+use Rattle.gm_changes.specs.After.{activated, advanced, configured, deactivated, rebuilt}
 
 -- to put what is there changes nothing
 pub put-again : {X : Type 0} (key : X → List ℕ) (xs : List X) → Ascends key xs → (x : X) → Has xs x
@@ -76,7 +77,7 @@ members_put n f keeps ks a =
     ap (λ l. members l n) (put_mapped n f keeps ks a) ∙ filter-where (λ k. same_label k.mirror n) f
     (λ k. ap (λ x. same_label x n) (keeps.mirror k)) ks
 
--- ---- the changes of deactivate and configure are such ones
+-- ---- the changes of commands are such ones
 
 pub keeps_deactivated : (syncid : ℕ) (p : List ℕ) → Keeps (deactivated syncid p)
 keeps_deactivated syncid p =
@@ -94,3 +95,15 @@ keeps_configured settings = record {
   did = λ k. refl;
   sectors = λ k. refl;
 }
+
+pub keeps_activated : (m : Mirror) → Keeps (activated m)
+keeps_activated m =
+    record { provider = λ k. refl; mirror = λ k. refl; did = λ k. refl; sectors = λ k. refl }
+
+pub keeps_rebuilt : Keeps rebuilt
+keeps_rebuilt =
+    record { provider = λ k. refl; mirror = λ k. refl; did = λ k. refl; sectors = λ k. refl }
+
+pub keeps_advanced : (m : Mirror) → Keeps (advanced m)
+keeps_advanced m =
+    record { provider = λ k. refl; mirror = λ k. refl; did = λ k. refl; sectors = λ k. refl }

@@ -5,3 +5,5 @@ pub mod LendingComponent
 pub mod MadeOfPart
 pub mod MakesChange
 pub mod ReplacedRecords
+pub mod PuttingInPlace
+pub mod FewWritten

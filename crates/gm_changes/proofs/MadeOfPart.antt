@@ -1,9 +1,10 @@
 -- What is made of a part is what the command makes of the whole.
 use Rattle.std.proofs.Common.{◌≡◌, ◌≢◌, ◌≤◌, ◌==◌, arith, ◌∙◌, inl, ℕ, ◌+◌, ◌-◌, Bool, true, false, not, refl, inr, option_map, sym, ap, ap₂, subst, List, [], ◌∷◌, Option, Some, None, Result, Ok, Err, OnErr, map, filter, find, length, if◌then◌else◌}
 use Rattle.gm_commands.specs.declared.command.NewComponent.{NewComponent}
+use Rattle.gm_commands.specs.declared.command.NewMirror.{NewMirror}
 use Rattle.gm_commands.specs.declared.command.Settings.{Settings}
 use Rattle.gm_commands.specs.declared.command.Command.{Command}
-use Rattle.gm_commands.specs.declared.command.Command.TheVariants.{Insert, Remove, Deactivate, Activate, Forget, Rebuild, Configure, Destroy, Lost, Advance, Adopt}
+use Rattle.gm_commands.specs.declared.command.Command.TheVariants.{Label, Insert, Remove, Deactivate, Activate, Forget, Rebuild, Configure, Destroy, Lost, Advance, Adopt}
 use Rattle.gm_state.specs.declared.intents.Intent.TheVariants.{Meta, Clear}
 use Rattle.gm_state.specs.declared.intents.Reply.TheVariants.{Plain, Copied}
 use Rattle.gm_taste.specs.declared.tasted.Member.{Member}
@@ -13,7 +14,7 @@ use Rattle.gm_lists.specs.Ordered.{Has, put, without}
 use Rattle.gm_state.specs.Records.{Records, members, provider}
 use Rattle.gm_state.specs.Lookups.{mirror_of, component_of}
 use Rattle.gm_state.specs.Sources.{source_among, source_of}
-use Rattle.gm_changes.specs.After.{metas, clears_of, advanced, filling, reach, spare, deactivated, activated, rebuilt, configured_mirror, configured}
+use Rattle.gm_changes.specs.After.{metas, clears_of, new_mirror, first_component, advanced, filling, reach, spare, deactivated, activated, rebuilt, configured_mirror, configured}
 use Rattle.gm_refusals.specs.Seen.{Seen}
 use Rattle.gm_refusals.specs.Applies.{applies, name_of, providers_of, takes_mid, is_on_any}
 use Rattle.gm_changes.specs.Decides.{Changed, adopting}
@@ -30,7 +31,7 @@ use Rattle.gm_refusals.specs.declared.refusals.Refusal.{Refusal}
 use Rattle.std.proofs.lemmas.Bool.{cases_Bool, ne_eqb}
 use Rattle.gm_state.proofs.FoundRecords.{home_of}
 use Rattle.gm_refusals.specs.declared.refusals.Refusal.TheVariants as refusals
-use Rattle.gm_changes.proofs.MakesChange.{insert_makes, remove_makes, deactivate_makes, activate_makes, forget_makes, rebuild_makes, advance_makes, configure_makes, destroy_makes, lost_makes, adopt_makes}
+use Rattle.gm_changes.proofs.MakesChange.{label_makes, insert_makes, remove_makes, deactivate_makes, activate_makes, forget_makes, rebuild_makes, advance_makes, configure_makes, destroy_makes, lost_makes, adopt_makes}
 use Rattle.gm_refusals.proofs.Listed.{listed}
 
 module _ (part s : Records) (c : Command) (of : IsPartOf part c s) where
@@ -49,6 +50,22 @@ module _ (part s : Records) (c : Command) (of : IsPartOf part c s) where
       → component_of part p ≡ o → component_of s p ≡ o
   component_in p o h found = sym (same_component s c of.mids of.state p h)
       ∙ (sym (ap (λ (r : Records). component_of r p) of.is) ∙ found)
+
+pub label_made : (part : Records) (x : Seen) (new : NewMirror) (sectors : ℕ) (m : Mirror)
+    (k : Component) (ch : Changed)
+    → x.size new.provider ≡ Some sectors → m ≡ new_mirror new sectors
+    → k ≡ first_component new sectors
+    → ch ≡ record {
+      mirror = Some m;
+      gone_mirror = None;
+      components = k ∷ [];
+      gone_components = [];
+      intents = Meta k.provider ∷ [];
+      reply = Plain;
+    }
+    → IsMade part x (Label new) ch
+label_made part x new sectors m k ch size mirror first is s to good =
+    label_makes s x new sectors m k ch good size mirror first is
 
 pub insert_made : (part : Records) (x : Seen) (new : NewComponent) (m : Mirror)
     (ks : List Component) (sectors : ℕ) (k : Component) (ch : Changed)
@@ -122,7 +139,7 @@ pub activate_made : (part : Records) (x : Seen) (n p : List ℕ) (m : Mirror) (k
     → IsMade part x (Activate n p) ch
 activate_made part x n p m k ch found at is s to good =
     let c : Command = Activate n p in
-    activate_makes s x n p m k ch good (mirror_in part s c to.of n m refl found)
+    activate_makes s x n p m k ch good to.of.state (mirror_in part s c to.of n m refl found)
     (component_in part s c to.of p (Some k) (inl refl) at) is
 
 pub forget_made : (part : Records) (x : Seen) (n : List ℕ) (m : Mirror) (ks : List Component)
@@ -154,8 +171,8 @@ pub rebuild_made : (part : Records) (x : Seen) (n p : List ℕ) (k : Component) 
     }
     → IsMade part x (Rebuild n p) ch
 rebuild_made part x n p k ch at is s to good =
-    rebuild_makes s x n p k ch good (component_in part s (Rebuild n p) to.of p (Some k)
-    (inl refl) at) is
+    rebuild_makes s x n p k ch good to.of.state
+    (component_in part s (Rebuild n p) to.of p (Some k) (inl refl) at) is
 
 pub advance_made : (part : Records) (x : Seen) (n p : List ℕ) (m : Mirror) (k : Component)
     (source : List ℕ) (ch : Changed)
@@ -180,8 +197,8 @@ advance_made part x n p m k source ch found at lent is s to good =
     (members_in part s c to.of n (members part.components n) refl refl) in
     let here : option_map provider (source_among k (members part.components k.mirror))
     ≡ Some source = rw at at lent in
-    advance_makes s x n p m k source ch good (mirror_in part s c to.of n m refl found) there
-    (rw mine here) is
+    advance_makes s x n p m k source ch good to.of.state
+    (mirror_in part s c to.of n m refl found) there (rw mine here) is
 
 pub configure_made : (part : Records) (x : Seen) (n : List ℕ) (settings : Settings) (m : Mirror)
     (ks : List Component) (ch : Changed)

@@ -4,8 +4,9 @@ use Rattle.std.specs.List.{list_any}
 use Rattle.std.proofs.lemmas.Bool.{cases_Bool}
 use Rattle.gm_metadata.specs.Images.{same_label}
 use Rattle.gm_commands.specs.declared.command.NewComponent.{NewComponent}
+use Rattle.gm_commands.specs.declared.command.NewMirror.{NewMirror}
 use Rattle.gm_commands.specs.declared.command.Settings.{Settings}
-use Rattle.gm_commands.specs.declared.command.Command.TheVariants.{Insert, Remove, Deactivate, Activate, Forget, Rebuild, Configure, Destroy, Lost, Advance, Adopt}
+use Rattle.gm_commands.specs.declared.command.Command.TheVariants.{Label, Insert, Remove, Deactivate, Activate, Forget, Rebuild, Configure, Destroy, Lost, Advance, Adopt}
 use Rattle.gm_state.specs.declared.intents.Intent.TheVariants.{Meta, Clear}
 use Rattle.gm_state.specs.declared.intents.Reply.TheVariants.{Plain, Copied}
 use Rattle.gm_taste.specs.declared.tasted.Member.{Member}
@@ -20,10 +21,10 @@ use Rattle.gm_lists.proofs.Putting.{filter-put, filter_swap, filter_id, one}
 use Rattle.gm_lists.proofs.Lists.{Has-filter, filter-Has}
 use Rattle.gm_refusals.specs.Seen.{Seen}
 use Rattle.gm_refusals.specs.Applies.{is_on_any}
-use Rattle.gm_changes.specs.After.{metas, clears_of, advanced, filling, reach, spare, deactivated, activated, rebuilt, configured_mirror, configured}
+use Rattle.gm_changes.specs.After.{metas, clears_of, new_mirror, first_component, advanced, filling, reach, spare, deactivated, activated, rebuilt, configured_mirror, configured}
 use Rattle.gm_changes.specs.Decides.{Changed, Makes, adopting}
 use Rattle.gm_refusals.specs.Applies.{IsGood}
-use Rattle.gm_lists.proofs.Finding.{filter_agree, any-map, any_from, some_any, none_any, found_none, not_both}
+use Rattle.gm_lists.proofs.Finding.{filter_agree, any-map, any_from, any_one, some_any, none_any, found_none, not_both}
 use Rattle.gm_state.proofs.NoMembers.{no_members}
 use Rattle.gm_refusals.specs.declared.refusals.Refusal.TheVariants as refusals
 use Rattle.gm_refusals.specs.Adoptable.{source_in, adopted}
@@ -31,7 +32,34 @@ use Rattle.gm_refusals.proofs.NothingApplies.{none_from}
 use Rattle.gm_state.proofs.FoundRecords.{named, new_name, provider_at}
 use Rattle.gm_lists.proofs.PutTogether.{filter-put_all, put_ordered}
 use Rattle.gm_refusals.proofs.TakenProviders.{adopted_on, adopted_mirror_is, Ascends-adopted}
-use Rattle.gm_changes.proofs.KeptComponents.{keeps_configured, keeps_deactivated, members_put}
+use Rattle.gm_changes.proofs.KeptComponents.{keeps_activated, keeps_advanced, keeps_configured, keeps_deactivated, keeps_rebuilt, members_put}
+use Rattle.gm_changes.proofs.PuttingInPlace.{puts_none, puts_nothing, members_in_place, puts_new, puts_one_new, puts_one_changed}
+
+pub label_makes : (s : Records) (x : Seen) (new : NewMirror) (sectors : ℕ) (m : Mirror)
+    (k : Component) (ch : Changed)
+    → IsGood s x (Label new) → x.size new.provider ≡ Some sectors → m ≡ new_mirror new sectors
+    → k ≡ first_component new sectors
+    → ch ≡ record {
+      mirror = Some m;
+      gone_mirror = None;
+      components = k ∷ [];
+      gone_components = [];
+      intents = Meta k.provider ∷ [];
+      reply = Plain;
+    }
+    → Makes s x (Label new) ch
+label_makes s x new sectors m k ch good size mirror first is =
+    let free : component_of s new.provider ≡ None =
+    none_from (component_of s new.provider)
+    (any_one (λ p. is_some (component_of s p)) new.provider
+    (good refusals.ProviderTaken refl)) in
+    record {
+      good = good;
+      records = rw (is, mirror, first, size) refl;
+      in_place = rw is (puts_one_new s _ refl k refl (rw first free));
+      intents = rw (is, first) refl;
+      reply = rw is refl;
+    }
 
 pub insert_makes : (s : Records) (x : Seen) (new : NewComponent) (m : Mirror) (ks : List Component)
     (sectors : ℕ) (k : Component) (ch : Changed)
@@ -62,6 +90,7 @@ insert_makes s x new m ks sectors k ch good state found mine size none made is =
     record {
       good = good;
       records = rw (is, made, found, size) refl;
+      in_place = rw is (puts_one_new s _ refl k refl (rw made none));
       intents = rw (is, made, found, size, placed, mine) refl;
       reply = rw is refl;
     }
@@ -87,6 +116,7 @@ remove_makes s x n p m ks ch good found mine is =
     record {
       good = good;
       records = rw (is, found) refl;
+      in_place = rw is (puts_none s _ refl refl);
       intents = rw (is, found, swapped, mine) refl;
       reply = rw is refl;
     }
@@ -110,13 +140,15 @@ deactivate_makes s x n p m ks ch good state found mine is =
     record {
       good = good;
       records = rw (is, found, mine) refl;
+      in_place = rw is (members_in_place s state n (deactivated (m.syncid + 1) p)
+          (keeps_deactivated (m.syncid + 1) p) ks mine _ refl refl);
       intents = rw (is, found, placed, mine) refl;
       reply = rw is refl;
     }
 
 pub activate_makes : (s : Records) (x : Seen) (n p : List ℕ) (m : Mirror) (k : Component)
     (ch : Changed)
-    → IsGood s x (Activate n p) → mirror_of s n ≡ Some m → component_of s p ≡ Some k
+    → IsGood s x (Activate n p) → IsState s → mirror_of s n ≡ Some m → component_of s p ≡ Some k
     → ch ≡ record {
       mirror = None;
       gone_mirror = None;
@@ -126,10 +158,12 @@ pub activate_makes : (s : Records) (x : Seen) (n p : List ℕ) (m : Mirror) (k :
       reply = Plain;
     }
     → Makes s x (Activate n p) ch
-activate_makes s x n p m k ch good found at is =
+activate_makes s x n p m k ch good state found at is =
     record {
       good = good;
       records = rw (is, found, at) refl;
+      in_place = rw is
+          (puts_one_changed s _ refl state (activated m) (keeps_activated m) p k at refl);
       intents = rw (is, provider_at s p k at) refl;
       reply = rw is refl;
     }
@@ -150,12 +184,13 @@ forget_makes s x n m ks ch good found mine is =
     record {
       good = good;
       records = rw (is, found, mine) refl;
+      in_place = rw is (puts_none s _ refl refl);
       intents = rw (is, found, mine) refl;
       reply = rw is refl;
     }
 
 pub rebuild_makes : (s : Records) (x : Seen) (n p : List ℕ) (k : Component) (ch : Changed)
-    → IsGood s x (Rebuild n p) → component_of s p ≡ Some k
+    → IsGood s x (Rebuild n p) → IsState s → component_of s p ≡ Some k
     → ch ≡ record {
       mirror = None;
       gone_mirror = None;
@@ -165,17 +200,18 @@ pub rebuild_makes : (s : Records) (x : Seen) (n p : List ℕ) (k : Component) (c
       reply = Plain;
     }
     → Makes s x (Rebuild n p) ch
-rebuild_makes s x n p k ch good at is =
+rebuild_makes s x n p k ch good state at is =
     record {
       good = good;
       records = rw (is, at) refl;
+      in_place = rw is (puts_one_changed s _ refl state rebuilt keeps_rebuilt p k at refl);
       intents = rw (is, provider_at s p k at) refl;
       reply = rw is refl;
     }
 
 pub advance_makes : (s : Records) (x : Seen) (n p : List ℕ) (m : Mirror) (k : Component)
     (source : List ℕ) (ch : Changed)
-    → IsGood s x (Advance n p) → mirror_of s n ≡ Some m → component_of s p ≡ Some k
+    → IsGood s x (Advance n p) → IsState s → mirror_of s n ≡ Some m → component_of s p ≡ Some k
     → option_map provider (source_among k (members s.components k.mirror)) ≡ Some source
     → ch ≡ record {
       mirror = None;
@@ -187,10 +223,12 @@ pub advance_makes : (s : Records) (x : Seen) (n p : List ℕ) (m : Mirror) (k : 
           Copied (reach m k) m.data_sectors;
     }
     → Makes s x (Advance n p) ch
-advance_makes s x n p m k source ch good found at lent is =
+advance_makes s x n p m k source ch good state found at lent is =
     record {
       good = good;
       records = rw (is, found, at) refl;
+      in_place = rw is
+          (puts_one_changed s _ refl state (advanced m) (keeps_advanced m) p k at refl);
       intents = rw (is, found, at, lent) refl;
       reply = rw (is, found, at) refl;
     }
@@ -215,6 +253,8 @@ configure_makes s x n settings m ks ch good state found mine is =
     record {
       good = good;
       records = rw (is, found, mine) refl;
+      in_place = rw is (members_in_place s state n (configured settings)
+          (keeps_configured settings) ks mine _ refl refl);
       intents = rw (is, found, placed, mine) refl;
       reply = rw is refl;
     }
@@ -269,12 +309,13 @@ lost_makes s x n ps m ks ch good found mine is =
     record {
       good = good;
       records = rw (is, found) refl;
+      in_place = rw is (puts_none s _ refl refl);
       intents = rw (is, found, left) refl;
       reply = rw is refl;
     }
 
 -- a mirror that isn't registered has no components
-no_component : (s : Records) (n : List ℕ) → IsState s → mirror_of s n ≡ None → (k : Component)
+pub no_component : (s : Records) (n : List ℕ) → IsState s → mirror_of s n ≡ None → (k : Component)
     → Has s.components k → same_label k.mirror n ≡ false
 no_component s n state none k h =
     let home = state.homes k h in
@@ -326,6 +367,7 @@ destroy_makes s x n ks ch good state mine is =
     record {
       good = good;
       records = rw (is, ← mine, left) refl;
+      in_place = rw is (puts_nothing s _ refl refl);
       intents = rw (is, mine) refl;
       reply = rw is refl;
     }
@@ -355,6 +397,10 @@ adopt_makes s x n ps b ch good state from is =
     record {
       good = good;
       records = rw (is, from) refl;
+      in_place = rw is (puts_new s _ refl n (adopted_mirror_is x n ps b)
+          (Ascends-adopted x n ps b) (λ k h.
+          none_from (component_of s k.provider) (none_any (λ p. is_some (component_of s p)) ps
+          (good refusals.ProviderTaken refl) k.provider (adopted_on x n ps b k h))));
       intents = rw (is, from, placed) refl;
       reply = rw is refl;
     }

@@ -1,5 +1,5 @@
 -- What `decide` answers.
-use Rattle.std.specs.Prelude.{◌≡◌, ℕ, List, [], Option, Some, None, Result, Ok, Err}
+use Rattle.std.specs.Prelude.{◌≡◌, ℕ, List, [], Option, Some, None, IfSome, Result, Ok, Err}
 use Rattle.gm_taste.specs.declared.tasted.Member.{Member}
 use Rattle.gm_commands.specs.declared.command.Command.{Command}
 use Rattle.gm_state.specs.declared.intents.Intent.{Intent}
@@ -7,7 +7,7 @@ use Rattle.gm_state.specs.declared.intents.Reply.{Reply}
 use Rattle.gm_state.specs.declared.intents.Reply.TheVariants.{Plain}
 use Rattle.gm_state.specs.declared.records.Mirror.{Mirror}
 use Rattle.gm_state.specs.declared.records.Component.{Component}
-use Rattle.gm_lists.specs.Ordered.{put, put_all, without, without_all}
+use Rattle.gm_lists.specs.Ordered.{Has, Ascends, put, put_all, without, without_all}
 use Rattle.gm_state.specs.Records.{Records, name, provider}
 use Rattle.gm_refusals.specs.declared.refusals.Refusal.{Refusal}
 use Rattle.gm_refusals.specs.Seen.{Seen}
@@ -59,11 +59,22 @@ changed_by ch s = record {
       put_all provider ch.components (without_all provider ch.gone_components s.components);
 }
 
+-- Where a mirror goes nothing is put; components are put of one mirror, each once, and one that is
+-- put in place of another has the mirror and the number of that one.
+pub record PutsInPlace (s : Records) (ch : Changed) : Type 0 where
+  pub alone : IfSome ch.gone_mirror (λ n. (ch.mirror ≡ None) × (ch.components ≡ []))
+  pub of_one : (j k : Component) → Has ch.components j → Has ch.components k
+      → j.mirror ≡ k.mirror
+  pub once : Ascends provider ch.components
+  pub numbers : (k j : Component) → Has ch.components k → Has s.components j
+      → j.provider ≡ k.provider → (j.mirror ≡ k.mirror) × (j.did ≡ k.did)
+
 -- no refusal applies, and the change is what the command makes of the records, with its intents and
 -- its reply
 pub record Makes (s : Records) (x : Seen) (c : Command) (ch : Changed) : Type 0 where
   pub good : IsGood s x c
   pub records : changed_by ch s ≡ after x c s
+  pub in_place : PutsInPlace s ch
   pub intents : ch.intents ≡ intents_of c s (after x c s)
   pub reply : ch.reply ≡ reply_to c s
 

@@ -1,14 +1,23 @@
 -- What a call that reads or writes leaves, over values of the registry.
-use Rattle.std.proofs.Common.{◌≡◌, inl, inr, arith, IsTrue, Result, Ok, Err, OnOk, OnErr, IsErrAnd, sym, subst}
+use Rattle.std.proofs.Common.{◌≡◌, ◌∙◌, inl, inr, arith, ℕ, List, IsTrue, Result, Ok, Err, IfOk, IfErr, OnOk, OnErr, IsErrAnd, sym, ap, subst}
 use Rattle.sqlite_trees.specs.declared.store.Store.{Ghosts}
 use Rattle.sqlite.specs.Tree.{Trees}
 use Rattle.sqlite.specs.Held.{Held, state}
-use Rattle.sqlite.specs.State.{Survives}
+use Rattle.sqlite.specs.Order.{Row}
+use Rattle.sqlite.specs.Schema.{Schema}
+use Rattle.sqlite.specs.Effect.{Database}
+use Rattle.sqlite.specs.declared.error.Error.{Error}
+use Rattle.sqlite.specs.Listing.{understood}
+use Rattle.sqlite.specs.Given.{IsPlain}
+use Rattle.sqlite.specs.State.{CommitsShowing, FailsToQuery, Shown, Survives}
 use Rattle.sqlite.proofs.StateLemmas.{survives_then, survives_weaker}
+use Rattle.sqlite_rows.proofs.Reading.{failed_by, read_at_most, read_by}
+use Rattle.gm_rows.specs.Schema.{registry_schema}
+use Rattle.gm_registry.specs.Reads.{IsOurSchema}
 use Rattle.gm_state.specs.Rows.{Tables}
 use Rattle.gm_rows.specs.Tables.{Holds}
 use Rattle.gm_registry.specs.Registry as of
-use Rattle.gm_registry.proofs.ReadsInTurn.{tables_stay, tables_refused, nothing_new}
+use Rattle.gm_registry.proofs.ReadsInTurn.{failed_leaves, nothing_new, sees_registry, tables_refused}
 
 -- while a store is open, a crash leaves its last commit and nothing else
 abbrev pub IsSettling : {S : Type 0} → Ghosts S → Type 0
@@ -23,36 +32,41 @@ module _ {S : Type 0} (g : Ghosts S) (settling : IsSettling g) where
         has.tables;
   }
 
-  -- a call that reads, from what is known of it at Ok and at Err
-  pub reads : {X E : Type 0} (old new : Held S) (result : Result X E)
-      → (of.DiskKept g new → OnOk result ((t : Tables) → of.HasTables g old t
-      → of.HasTables g new t)) → of.Refuses g old new result
-      → ((t : Tables) → of.HasTables g old t → of.LeavesNothingNew g old new)
-      → of.WasClean g old new → of.Reads g old new
-  reads old new (Ok x) done refused left clean =
-      record { kept = λ kept t was is. saved new t (done kept t was); left = left; clean = clean }
-  reads old new (Err e) done refused left clean =
-      record {
-        kept = λ kept t was is. saved new t (refused kept t was is);
-        left = left;
-        clean = clean;
-      }
-
-  -- a read of our tables that was answered, or failed
+  -- a read of our tables that failed, or was answered
   pub failed_reads : (old new : Held S) → of.HasFailed g old new → of.Reads g old new
   failed_reads old new failed = record {
     kept = λ kept t was is. saved new t
         (tables_refused (state g old) (state g new) t failed kept was is);
+    same = λ kept t was is.
+        let then = tables_refused (state g old) (state g new) t failed kept was is in
+        let stays = (failed_leaves (state g old) (state g new) failed
+        (sees_registry (state g old) t was)).tables kept is in
+        ap (λ (d : Database). d.trees) (then.settled ∙ (stays ∙ sym was.settled));
     left = λ t was. nothing_new (state g old) (state g new) t failed.left was;
     clean = failed.left.clean;
   }
 
   pub answered_reads : (old new : Held S) → of.HasRead g old new → of.Reads g old new
-  answered_reads old new read = record {
-    kept = λ kept t was is. saved new t (tables_stay (state g old) (state g new) t read kept was);
-    left = λ t was. nothing_new (state g old) (state g new) t read.left was;
-    clean = read.left.clean;
-  }
+  answered_reads old new read =
+      failed_reads old new (read_at_most IsOurSchema (state g old) (state g new) read)
+
+  -- a query of them, answered or not
+  pub query_reads : {X : Type 0} (old new : Held S) (result : Result X Error) (items : X → List Row)
+      (sql : List ℕ) (params : Row) → IsPlain (understood registry_schema sql)
+      → (of.DiskKept g new
+      → IfOk result (λ rows. Shown sql params (state g old) (state g new) (items rows)))
+      → (of.DiskKept g new
+      → IfErr result (FailsToQuery sql params (state g old) (state g new)))
+      → Survives (state g old) (state g new) (CommitsShowing sql params (state g old))
+      → of.Reads g old new
+  query_reads old new (Ok rows) items sql params plain shown fails left =
+      answered_reads old new (read_by IsOurSchema sql params
+      (λ s is. subst (λ (x : Schema). IsPlain (understood x sql)) (sym is) plain)
+      (state g old) (state g new) (items rows) shown left)
+  query_reads old new (Err e) items sql params plain shown fails left =
+      failed_reads old new (failed_by IsOurSchema sql params
+      (λ s is. subst (λ (x : Schema). IsPlain (understood x sql)) (sym is) plain)
+      (state g old) (state g new) e fails left)
 
   -- a write, from what is known of it
   pub writes : {X E : Type 0} (old new : Held S) (result : Result X E) (after : Tables → Tables)

@@ -1,5 +1,5 @@
 -- The numbers of the commands through a change.
-use Rattle.std.proofs.Common.{◌≡◌, ℕ, suc, ◌+◌, true, List, [], ◌∷◌, map, length, Option, Some, None, refl, sym, ap, subst, ◌∙◌, arith, IsPermutation}
+use Rattle.std.proofs.Common.{◌≡◌, ℕ, suc, ◌+◌, true, List, [], ◌∷◌, map, length, refl, sym, ap, subst, ◌∙◌, arith, IsPermutation}
 use Rattle.std.proofs.lemmas.List.Sorted.{IsPermutation-cons}
 use Rattle.sqlite.specs.Effect.{Database}
 use Rattle.sqlite.specs.State.{State}
@@ -7,18 +7,17 @@ use Rattle.sqlite.specs.Held.{Held, state}
 use Rattle.sqlite_trees.specs.declared.store.Store as store
 use Rattle.sqlite_rows.specs.Calls.{IsInside as IsInsideBy}
 use Rattle.sqlite_rows.proofs.Statements.{Makes, inside_as, begun}
-use Rattle.gm_state.specs.declared.records.Mirror.{Mirror}
-use Rattle.gm_state.specs.declared.records.Component.{Component}
-use Rattle.gm_state.specs.Rows.{Tables, CommandRow, component_row}
+use Rattle.gm_state.specs.Rows.{Tables, CommandRow}
 use Rattle.gm_changes.specs.Decides.{Changed}
 use Rattle.gm_rows.specs.Schema.{registry_schema}
 use Rattle.gm_rows.specs.Tables.{HasRows, HasCounted, SeesTables, IsInside, AreNumbered, numbers_of}
 use Rattle.gm_registry.specs.declared.intents.Pending.{Pending}
 use Rattle.gm_registry.specs.declared.intents.Pending.TheVariants.{Stays, Goes}
-use Rattle.gm_registry.specs.Changes.{left_of, with_component, without_component, with_components, without_components, with_some_mirror, without_some_mirror, with_records, with_change, settled, command_row}
+use Rattle.gm_registry.specs.Changes.{left_of, with_records, with_change, settled, command_row}
 use Rattle.gm_registry.specs.Replies.{count_of}
 use Rattle.gm_registry.proofs.TextMeanings.{settle}
 use Rattle.gm_registry.proofs.ChangedTables.{settles_all}
+use Rattle.gm_registry.proofs.Written.{with_records_is}
 
 -- one command more, under the next number
 more_numbered : (c : CommandRow) (commands : List CommandRow) → c.seq ≡ length commands + 1
@@ -30,29 +29,9 @@ more_numbered c commands next numbered =
     (IsPermutation-cons c.seq (numbers_of (length commands))
     (map (λ (d : CommandRow). d.seq) commands) numbered)
 
-puts_keep : (ks : List Component) (t : Tables) → (with_components ks t).commands ≡ t.commands
-puts_keep [] t = refl
-puts_keep (k ∷ ks) t = puts_keep ks (with_component (component_row k) t)
-
-drops_keep : (names : List (List ℕ)) (t : Tables)
-    → (without_components names t).commands ≡ t.commands
-drops_keep [] t = refl
-drops_keep (name ∷ names) t = drops_keep names (without_component name t)
-
-put_keeps : (m : Option Mirror) (t : Tables) → (with_some_mirror m t).commands ≡ t.commands
-put_keeps None t = refl
-put_keeps (Some m) t = refl
-
-drop_keeps : (name : Option (List ℕ)) (t : Tables)
-    → (without_some_mirror name t).commands ≡ t.commands
-drop_keeps None t = refl
-drop_keeps (Some name) t = refl
-
 -- records leave the commands
-records_keep : (ch : Changed) (t : Tables) → (with_records ch t).commands ≡ t.commands
-records_keep ch t =
-    puts_keep ch.components _
-    ∙ (put_keeps ch.mirror _ ∙ (drop_keeps ch.gone_mirror _ ∙ drops_keep ch.gone_components t))
+pub records_keep : (ch : Changed) (t : Tables) → (with_records ch t).commands ≡ t.commands
+records_keep ch t = ap (λ (a : Tables). a.commands) (with_records_is ch t)
 
 -- the numbers go on without a gap
 pub change_numbered : (ch : Changed) (key : List ℕ) (n : ℕ) (words : List ℕ) (t : Tables)
@@ -70,8 +49,8 @@ left_commands Stays t = refl
 left_commands Goes t = refl
 
 -- so do they where intents go first
-pub left_numbered : (ch : Changed) (key : List ℕ) (n : ℕ) (words : List ℕ) (p : Pending) (t : Tables)
-    → n ≡ count_of t + 1 → AreNumbered t.commands
+pub left_numbered : (ch : Changed) (key : List ℕ) (n : ℕ) (words : List ℕ) (p : Pending)
+    (t : Tables) → n ≡ count_of t + 1 → AreNumbered t.commands
     → AreNumbered (with_change ch key n words (left_of p t)).commands
 left_numbered ch key n words Stays t next numbered = change_numbered ch key n words t next numbered
 left_numbered ch key n words Goes t next numbered =

@@ -1,17 +1,19 @@
 -- Why the queries of a registry fail.
 use Rattle.std.proofs.Common.{◌≡◌, ◌⊎◌, inl, inr, ℕ, true, List, [], ◌∷◌, IsTrue, IsSome, ◌≤◌, arith, refl, sym, ap, subst, ◌∙◌}
 use Rattle.std.specs.List.{Any}
+use Rattle.std.proofs.lemmas.Bool.{true≢false}
 use Rattle.sqlite_disk.specs.Disk.{MoreFaults}
 use Rattle.sqlite.specs.Order.{Row}
 use Rattle.sqlite.specs.Tree.{Trees}
 use Rattle.sqlite.specs.Listing.{understood}
 use Rattle.sqlite.specs.State.{State, HasCleanDisk, FailsToQuery, Survives}
+use Rattle.sqlite.specs.Steps.{FailsToCommit}
 use Rattle.sqlite.specs.declared.error.Error.{Error}
 use Rattle.sqlite.specs.declared.types.Value.TheVariants.{Text}
 use Rattle.sqlite_sql.specs.Program.{QueryOverflows}
 use Rattle.sqlite_tied.specs.Compute.{everything}
 use Rattle.sqlite_typing.specs.Types.{accepts_program}
-use Rattle.sqlite_rows.proofs.Failing.{is_all_of, IsReadFault, read_fault}
+use Rattle.sqlite_rows.proofs.Failing.{is_all_of, IsReadFault, read_fault, store_failed}
 use Rattle.gm_rows.specs.Faults.{fault_of}
 use Rattle.gm_rows.specs.Queries.{query_text, tree_of}
 use Rattle.gm_rows.specs.Schema.{registry_schema}
@@ -121,3 +123,19 @@ pub failed_later : (a b c : State) → HasRead a b → HasCleanDisk b → IsOurs
 failed_later a b c read clean ours is_open failed =
     failed_since a b c _ read.left
     (failed (ours_still a b read clean ours) (read.unchanged clean ours).0.is_open)
+
+-- a failure before a call is one at its end
+pub failed_until : (a b c : State) (Commits : Trees → Type 0) → Survives b c Commits
+    → MoreFaults a.faults b.faults ⊎ IsSome a.step_limit
+    → MoreFaults a.faults c.faults ⊎ IsSome a.step_limit
+failed_until a b c Commits left (inl more) = inl (omega (arith, more, left.counts))
+failed_until a b c Commits left (inr limit) = inr limit
+
+-- why a commit within a transaction fails
+pub commit_failed : (old new : State) (e : Error) → IsTrue old.in_transaction → IsTrue old.is_open
+    → FailsToCommit old new e → fault_of e ≡ Store
+    → MoreFaults old.faults new.faults ⊎ IsSome old.step_limit
+commit_failed old new e inside is_open (inl fails) is =
+    told old new e (store_failed old new [] [] e ⊥ (λ none. absurd none) is_open fails) is
+commit_failed old new e inside is_open (inr outside) is =
+    absurd (true≢false (sym inside ∙ outside.1))

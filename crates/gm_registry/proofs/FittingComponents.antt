@@ -129,7 +129,7 @@ module _ (k : ComponentRow) where
         sym mirror ∙ equal_text (column r 2) k.mirror parts.0 in cc in
         let equals : equal Binary (Int (pos of.0.did)) (Int (pos k.did)) ≡ true =
         subst (λ v. equal Binary v (Int (pos k.did)) ≡ true) is (and_parts _ _ parts.1).0 in
-        all_has _ t.components of.0 takes.number_free of.1
+        all_has _ t.components of.0 takes.placed.number_free of.1
         (λ named. true≢false (sym (ap (λ v. equal Binary v (Text k.prov)) name
         ∙ (texts_equal of.0.prov k.prov ∙ same_from of.0.prov k.prov named)) ∙ differs)) mine
         (same_number of.0.did k.did (ap is_eq (sym (value_cmp-Int (pos of.0.did) (pos k.did)))
@@ -177,7 +177,7 @@ put_component_stops k short brief db t limit text stop holds sound takes =
     refers_by next (λ row has.
     elim (put_has made.new _ row (subst (λ l. Stands l row) made.rows has)) [
       | inl is ↦
-          let m = takes.mirror in
+          let m = takes.placed.mirror in
           let of = row_of columns mirror_values t.mirrors (db 1) m.0 holds.mirrors
           (stands_from t.mirrors m.0 m.1) in
           let name : column of.0 1 ≡ Text k.mirror =

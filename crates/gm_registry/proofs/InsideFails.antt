@@ -1,5 +1,5 @@
 -- From why a statement stops to why its call within a transaction fails.
-use Rattle.std.proofs.Common.{◌≡◌, ◌⊎◌, ℕ, ◌||◌, true, false, List, length, Option, None, Result, Ok, Err, IsSome, IsTrue, IsErrAnd, ap, subst, sym, ◌∙◌, arith}
+use Rattle.std.proofs.Common.{◌≡◌, ◌⊎◌, ℕ, ◌||◌, true, false, List, length, Option, None, Result, Ok, Err, IsSome, IsTrue, IsErrAnd, ap, subst, sym, ◌∙◌}
 use Rattle.sqlite_disk.specs.Disk.{MoreFaults}
 use Rattle.sqlite_catalog.specs.Listing.{IsSound}
 use Rattle.sqlite.specs.Order.{Row}
@@ -9,17 +9,17 @@ use Rattle.sqlite.specs.Command.{Command}
 use Rattle.sqlite.specs.Does.{Does}
 use Rattle.sqlite.specs.Effect.{Database, is_query}
 use Rattle.sqlite.specs.Listing.{understood}
-use Rattle.sqlite.specs.State.{State, HasCleanDisk, Survives, is_pragma, ExecutesInside}
+use Rattle.sqlite.specs.State.{State, is_pragma, ExecutesInside}
 use Rattle.sqlite.specs.declared.error.Error.{Error}
+use Rattle.sqlite.proofs.Callers.{statement_of}
 use Rattle.sqlite_rows.proofs.Failing.{is_all_of}
-use Rattle.sqlite_rows.proofs.Looping.{SoFar}
-use Rattle.sqlite_rows.proofs.Stopping.{is_on_rows, at_once, inside_fault}
+use Rattle.sqlite_rows.proofs.Stopping.{stays_inside, at_once, inside_fault}
 use Rattle.gm_state.specs.Rows.{Tables}
 use Rattle.gm_rows.specs.Faults.{OnOther, fault_of}
 use Rattle.gm_rows.specs.declared.fault.StoreFault.TheVariants.{Store}
 use Rattle.gm_rows.specs.Schema.{registry_schema}
 use Rattle.gm_rows.specs.Tables.{HasRows, IsInside}
-use Rattle.gm_registry.proofs.Failures.{told, failed_since}
+use Rattle.gm_registry.proofs.Failures.{told}
 use Rattle.gm_registry.proofs.TextMeanings.{Means}
 
 -- over rows and tables that fit, the command stops only at the limit on steps
@@ -32,7 +32,7 @@ StopsOnly command params Fits =
 
 module _ (text : List ℕ) (params : Row) (command : Command) (means : Means text command)
     (whole : is_all_of text (length params) (understood registry_schema text) ≡ true)
-    (on_rows : is_on_rows command ≡ true) (quiet : is_query command || is_pragma command ≡ false)
+    (inside : stays_inside command ≡ true) (quiet : is_query command || is_pragma command ≡ false)
     (Fits : Trees → Tables → Type 0) (stops : StopsOnly command params Fits) where
   pub inside_fails : (old new : State) (x : Result ℕ Error)
       → (IsTrue old.in_transaction → ExecutesInside 0 text params old new x)
@@ -42,12 +42,14 @@ module _ (text : List ℕ) (params : Row) (command : Command) (means : Means tex
   inside_fails old new (Ok count) h = tt
   inside_fails old new (Err e) h = λ is first t was fits.
       told old new e (inside_fault registry_schema text params command means.command_is means.plain
-      whole on_rows quiet old new e was.schema_is
-      (λ statement stop does. stops old.now.trees t old.step_limit statement stop was.tables.rows
-      was.tables.sound fits
+      whole inside quiet old new e was.schema_is
+      (λ stop does. stops old.now.trees t old.step_limit
+      (statement_of text (understood registry_schema text)) stop was.tables.rows was.tables.sound
+      fits
       (subst (λ (schema : Schema). Does old.step_limit at_once params
-      (record { schema = schema; trees = old.now.trees }) statement None command (Err stop))
-      was.schema_is does)) was.is_open (h was.inside)) is
+      (record { schema = schema; trees = old.now.trees })
+      (statement_of text (understood registry_schema text)) None command (Err stop)) was.schema_is
+      does)) was.is_open (h was.inside)) is
 
 -- what fits where more is known
 pub fails_as : {X : Type 0} (x : Result X Error) (P Q : Type 0) → (P → Q) → OnOther x P
@@ -60,15 +62,3 @@ pub passed_on : {X : Type 0} (x : Result X Error) (e : Error) (P : Type 0) → I
     → (fault_of e ≡ Store → P) → OnOther x P
 passed_on (Ok a) e P none h = tt
 passed_on (Err f) e P same h = λ is. h (ap fault_of (sym same) ∙ is)
-
--- a failure of the step after those that went well
-pub fails_after : (old mid new : State) (change : Tables → Tables) → SoFar registry_schema HasRows old mid change
-    → Survives mid new (λ _. ⊥) → HasCleanDisk new → (Fits : Tables → Type 0) (Now : Tables → Type 0)
-    → ((t : Tables) → Fits t → Now (change t))
-    → ((first : Database) (t : Tables) → IsInside first mid t → Now t
-    → MoreFaults mid.faults new.faults ⊎ IsSome mid.step_limit)
-    → (first : Database) (t : Tables) → IsInside first old t → Fits t
-    → MoreFaults old.faults new.faults ⊎ IsSome old.step_limit
-fails_after old mid new change so survives clean Fits Now as_now fails first t was fits =
-    failed_since old mid new _ so.survives
-    (fails first (change t) (so.put (omega (arith, survives.clean, clean)) first t was) (as_now t fits))

@@ -126,15 +126,20 @@ some_in : {X : Type 0} (xs : List X) (x : X) → Has xs x → 0 < length xs
 some_in [] x h = absurd h
 some_in (y ∷ ys) x h = omega arith
 
--- numbers without gaps: the greatest says how many there are
+-- numbers without gaps: none is greater than there are commands
+pub seq_in_range : (commands : List CommandRow) → AreNumbered commands → (c : CommandRow)
+    → Stands commands c → c.seq ≤ length commands
+seq_in_range commands numbered c has =
+    let seqs = map (λ (d : CommandRow). d.seq) commands in
+    below (length commands) c.seq (stands_permuted seqs (numbers_of (length commands)) c.seq
+    (IsPermutation-sym _ _ numbered) (has_mapped (λ d. d.seq) commands c has))
+
+-- the greatest says how many there are
 counted : (commands : List CommandRow) → AreNumbered commands → (c : CommandRow) → Has commands c
     → ((d : CommandRow) → Has commands d → d.seq ≤ c.seq) → c.seq ≡ length commands
 counted commands numbered c has most =
     let seqs = map (λ (d : CommandRow). d.seq) commands in
-    let low : c.seq ≤ length commands =
-    below (length commands) c.seq (stands_permuted seqs (numbers_of (length commands)) c.seq
-    (IsPermutation-sym _ _ numbered) (has_mapped (λ d. d.seq) commands c
-    (stands_from commands c has))) in
+    let low = seq_in_range commands numbered c (stands_from commands c has) in
     let top = stands_permuted (numbers_of (length commands)) seqs (length commands) numbered
     (greatest (length commands) (some_in commands c has)) in
     let from = mapped_from (λ (d : CommandRow). d.seq) commands (length commands) top in

@@ -1,11 +1,14 @@
 pub mod Abouts
 pub mod CallsLeave
 pub mod ChangedTables
+pub mod ChangesFit
 pub mod CountedThrough
+pub mod CreatableTables
 pub mod Failures
 pub mod FittingCommands
 pub mod FittingComponents
 pub mod FittingDeletes
+pub mod FittingInTurn
 pub mod FittingIntents
 pub mod FittingMirrors
 pub mod FittingTables
@@ -15,6 +18,7 @@ pub mod InsideFails
 pub mod Keys
 pub mod LastCommand
 pub mod MadeTables
+pub mod MakingFails
 pub mod NumberedSteps
 pub mod OneReading
 pub mod OpenedConnection
@@ -23,8 +27,10 @@ pub mod PendingRows
 pub mod ReadsInTurn
 pub mod RecordsUnder
 pub mod RisingRowids
+pub mod SaidParts
 pub mod SettlingFails
 pub mod SomeReads
+pub mod StepsInTurn
 pub mod Stored
 pub mod TextMeanings
 pub mod Texts

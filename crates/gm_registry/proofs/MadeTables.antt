@@ -27,7 +27,7 @@ use Rattle.gm_rows.specs.Statements.{put_about_text}
 use Rattle.gm_rows.specs.Schema.{about, mirrors, components, intents, commands, no_schema, with_about, with_mirrors, with_components, with_intents, registry_schema}
 use Rattle.gm_rows.specs.Rows.{about_values, mirror_values, component_values, intent_values, command_values}
 use Rattle.gm_rows.specs.Tables.{HasRows, IsInside, no_tables, AreNumbered}
-use Rattle.gm_registry.specs.Opening.{IsBlank, IsBlankInside, IsBareInside}
+use Rattle.gm_registry.specs.Opening.{IsBlank, IsBlankInside, IsBareInside, IsInsideOver}
 use Rattle.gm_registry.proofs.TextMeanings.{Defines, about_is, mirrors_is, components_is, intents_is, commands_is, put_about, put_about_is}
 
 -- one CREATE of a table that the text defines
@@ -38,6 +38,21 @@ one_table : (a b : State) (text : List ℕ) (before after : Schema) (table : Tab
 one_table a b text before after table count it whole has h =
     creates a b text before after (record table { tree = 0 }) it.table_is it.schema_is whole
     it.command it.alone it.plain count has h
+
+-- the tables that are there then
+pub one_more : (before after : Schema) (text : List ℕ) (table : Table)
+    → Defines before after text table → lacks_sequence after ≡ false → (first : Database)
+    (a b : State) (count : ℕ) → IsInsideOver before first a
+    → ExecutesInside 0 text [] a b (Ok count)
+    → IsInsideOver after first b
+one_more before after text table it whole first a b count was h =
+    let made = one_table a b text before after table count it whole was.schema_is h in
+    record {
+      is_open = made.1.shown.is_open;
+      inside = made.1.shown.mode ∙ was.inside;
+      first_is = h.1.committed_is ∙ was.first_is;
+      schema_is = made.0.schema_is;
+    }
 
 pub tables_made : (first : Database) (a b c d e f : State) (k l m n o : ℕ) → IsBlankInside first a
     → ExecutesInside 0 about_text [] a b (Ok k) → ExecutesInside 0 mirrors_text [] b c (Ok l)

@@ -28,7 +28,7 @@ use Rattle.sqlite.specs.Rows.{Task, Written, Queried, Deletes}
 use Rattle.sqlite.specs.Listing.{understood}
 use Rattle.sqlite.specs.State.{State, mode_of, Executes}
 use Rattle.sqlite.specs.declared.error.Error.{Error}
-use Rattle.sqlite.proofs.Callers.{one_step}
+use Rattle.sqlite.proofs.Callers.{one_step, statement_of}
 use Rattle.sqlite_rows.proofs.Failing.{is_all_of}
 use Rattle.sqlite_rows.proofs.Stopping.{IsAllowed, never_stops, at_once, concluded, write_fault}
 use Rattle.sqlite_rows.proofs.Finding.{scan}
@@ -174,7 +174,8 @@ module _ (old new : State) (e : Error) (has : old.now.schema ≡ registry_schema
       → fault_of e ≡ Store → MoreFaults old.faults new.faults ⊎ IsSome old.step_limit
   settle_failed is_open h is =
       told old new e (write_fault registry_schema settle_text [] settle settle_is.command_is
-      settle_is.plain settle_whole refl refl old new e has stops is_open h) is
+      settle_is.plain settle_whole refl refl old new e has
+      (stops (statement_of settle_text (understood registry_schema settle_text))) is_open h) is
 
 pub settling_failed : (old new : State) (x : Result ℕ Error) → Executes settle_text [] old new x
     → OnOther x ((t : Tables) → SeesTables old t

@@ -17,6 +17,7 @@ use Rattle.sqlite_sql.specs.declared.ops.CompareOp.TheVariants.{Eq}
 use Rattle.sqlite.specs.Listing.{understood, reads_listing}
 use Rattle.sqlite.proofs.Callers.{IsPlain, command_of, statement_of}
 use Rattle.sqlite_tied.specs.Compute.{everything}
+use Rattle.sqlite_rows.proofs.Failing.{is_all_of}
 use Rattle.sqlite_rows.proofs.Finding.{scan}
 use Rattle.gm_rows.specs.Texts.{about_text, mirrors_text, components_text, intents_text, commands_text}
 use Rattle.gm_rows.specs.Statements.{put_about_text, upsert_mirror_text, drop_mirror_text, upsert_component_text, drop_component_text, put_intent_text, put_command_text, settle_text, find_command_text, last_command_text}
@@ -27,6 +28,7 @@ pub record Defines (before after : Schema) (text : List ℕ) (table : Table) : T
   pub command : command_of (understood before text) ≡ CreateTable
   pub alone : statement_of text (understood before text) ≡ text
   pub plain : IsPlain (understood before text)
+  pub whole : is_all_of text 0 (understood before text) ≡ true
   pub table_is : table_defined_by text ≡ Ok (record table { tree = 0 })
   pub schema_is : created before (record table { tree = 0 }) ≡ after
 
@@ -36,6 +38,7 @@ about_is = record {
   command = refl;
   alone = refl;
   plain = (refl, refl);
+  whole = refl;
   table_is = refl;
   schema_is = refl;
 }
@@ -46,6 +49,7 @@ mirrors_is = record {
   command = refl;
   alone = refl;
   plain = (refl, refl);
+  whole = refl;
   table_is = refl;
   schema_is = refl;
 }
@@ -56,6 +60,7 @@ components_is = record {
   command = refl;
   alone = refl;
   plain = (refl, refl);
+  whole = refl;
   table_is = refl;
   schema_is = refl;
 }
@@ -66,6 +71,7 @@ intents_is = record {
   command = refl;
   alone = refl;
   plain = (refl, refl);
+  whole = refl;
   table_is = refl;
   schema_is = refl;
 }
@@ -76,6 +82,7 @@ commands_is = record {
   command = refl;
   alone = refl;
   plain = (refl, refl);
+  whole = refl;
   table_is = refl;
   schema_is = refl;
 }

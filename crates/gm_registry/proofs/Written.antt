@@ -15,6 +15,7 @@ use Rattle.gm_lists.proofs.Putting.{Ascends-put, filter_id}
 use Rattle.gm_lists.proofs.Lists.{Ascends-filter}
 use Rattle.gm_changes.specs.Decides.{Changed, put_some, without_some, changed_by}
 use Rattle.gm_rows.specs.ReadableTables.{HoldState}
+use Rattle.gm_registry.specs.FittingChanges.{without_gone}
 use Rattle.gm_registry.specs.Changes.{mirror_key, component_key, without_component, with_component, without_some_mirror, with_some_mirror, without_components, with_components, with_intents, with_records, with_command, command_row, with_change, with_accepted}
 
 -- ---- lists of records and of their rows
@@ -129,7 +130,7 @@ written ch t = record {
   commands = t.commands;
 }
 
-with_records_is : (ch : Changed) (t : Tables) → with_records ch t ≡ written ch t
+pub with_records_is : (ch : Changed) (t : Tables) → with_records ch t ≡ written ch t
 with_records_is ch t =
     ap (λ (s : Tables). with_components ch.components
     (with_some_mirror ch.mirror (without_some_mirror ch.gone_mirror s)))
@@ -200,6 +201,48 @@ module _ (ch : Changed) (s : Records) (t : Tables) where
       (ascends_all ch.gone_components s.components a)
       (each_without component_row provider component_key
       (λ k. refl) ch.gone_components s.components t.components p)
+
+-- ---- the tables without what goes, and then with the mirror that is put
+
+abbrev pub left_by : Changed → Records → Records
+left_by ch s = record {
+  mirrors = without_some ch.gone_mirror s.mirrors;
+  components = without_all provider ch.gone_components s.components;
+}
+
+abbrev pub with_mirror_of : Changed → Records → Records
+with_mirror_of ch s = record (left_by ch s) { mirrors = (changed_by ch s).mirrors }
+
+module _ (ch : Changed) (s : Records) (t : Tables) (held : HoldState s t) where
+  pub components_left : IsPermutation (map component_row (left_by ch s).components)
+      (without_components ch.gone_components t).components
+  components_left =
+      subst (λ (a : Tables). IsPermutation (map component_row (left_by ch s).components)
+      a.components) (sym (without_components_is ch.gone_components t))
+      (each_without component_row provider component_key (λ k. refl) ch.gone_components
+      s.components t.components held.components)
+
+  pub left_held : HoldState (left_by ch s) (without_gone ch t)
+  left_held =
+      subst (HoldState (left_by ch s))
+      (sym (without_some_is ch.gone_mirror (without_components ch.gone_components t)))
+      (record {
+        mirrors = subst (λ (a : Tables). IsPermutation (map mirror_row (left_by ch s).mirrors)
+            (without_some_row ch.gone_mirror a.mirrors))
+            (sym (without_components_is ch.gone_components t))
+            (mirrors_without ch.gone_mirror s.mirrors t.mirrors held.mirrors);
+        components = components_left;
+      })
+
+  pub with_mirror_held : Ascends name s.mirrors
+      → HoldState (with_mirror_of ch s) (with_some_mirror ch.mirror (without_gone ch t))
+  with_mirror_held a =
+      subst (HoldState (with_mirror_of ch s)) (sym (with_some_is ch.mirror (without_gone ch t)))
+      (record {
+        mirrors = mirrors_with ch.mirror (left_by ch s).mirrors (without_gone ch t).mirrors
+            (ascends_without ch.gone_mirror s.mirrors a) left_held.mirrors;
+        components = left_held.components;
+      })
 
 -- the tables of the whole change
 abbrev committed : Changed → List ℕ → ℕ → List ℕ → Tables → Tables

@@ -17,17 +17,25 @@ pub record HasRoom (more : ℕ) (db : Trees) : Type 0 where
 abbrev pub AreShort : List ℕ → List ℕ → Type 0
 AreShort a b = length a + length b + 1000 ≤ 10 ^ 9
 
--- a mirror can be put in place of the one of its name: no other has its number
+-- no other mirror has its number
+abbrev pub HasFreeNumber : MirrorRow → Tables → Type 0
+HasFreeNumber m t =
+    AllByRecursion (λ (x : MirrorRow). x.name ≢ m.name → x.mid ≢ m.mid) t.mirrors
+
+-- a mirror can be put in place of the one of its name
 pub record TakesMirror (m : MirrorRow) (db : Trees) (t : Tables) : Type 0 where
-  pub number_free : AllByRecursion (λ (x : MirrorRow). x.name ≢ m.name → x.mid ≢ m.mid) t.mirrors
+  pub number_free : HasFreeNumber m t
   pub room : TakesMore 1 (db 1)
 
--- a component can be put in place of the one on its provider: its mirror is there, which has no
--- other of its number
-pub record TakesComponent (k : ComponentRow) (db : Trees) (t : Tables) : Type 0 where
+-- a component's mirror is there, which has no other of its number
+pub record IsPlaced (k : ComponentRow) (t : Tables) : Type 0 where
   pub mirror : (m : MirrorRow) × Has t.mirrors m × (m.name ≡ k.mirror)
   pub number_free : AllByRecursion (λ (x : ComponentRow). x.prov ≢ k.prov → x.mirror ≡ k.mirror
       → x.did ≢ k.did) t.components
+
+-- a component can be put in place of the one on its provider
+pub record TakesComponent (k : ComponentRow) (db : Trees) (t : Tables) : Type 0 where
+  pub placed : IsPlaced k t
   pub room : TakesMore 1 (db 4)
 
 -- no component is of this mirror
@@ -43,9 +51,13 @@ pub record TakesIntents (n : ℕ) (t : Tables) : Type 0 where
   pub few : n < 2 ^ 32
   pub free : (k : ℕ) → 1 ≤ k → k ≤ n → IsUnnumbered k t
 
+-- no command has this number
+abbrev pub IsUncounted : ℕ → Tables → Type 0
+IsUncounted n t = AllByRecursion (λ (c : CommandRow). c.seq ≢ n) t.commands
+
 -- a command can be added under this key and number, with these words
 pub record TakesCommand (key words : List ℕ) (number : ℕ) (db : Trees) (t : Tables) : Type 0 where
   pub key_free : IsFree t key
-  pub number_free : AllByRecursion (λ (c : CommandRow). c.seq ≢ number) t.commands
+  pub number_free : IsUncounted number t
   pub short : AreShort key words
   pub room : TakesMore 1 (db 8)

@@ -30,11 +30,14 @@ key_column Mirror = 2
 abbrev pub row_is_under : Key → List ℕ → Row → Bool
 row_is_under key label row = equal Binary (column row (key_column key)) (Text label)
 
+-- what is shown of those rows
+abbrev pub shown_under : Trees → Key → List ℕ → List Row
+shown_under db key label =
+    map (columns_at (shown_places Components)) (filter (row_is_under key label) (db 4))
+
 -- the rows that the query of the key may show for the label
 abbrev pub AreUnder : Trees → Key → List ℕ → List Row → Type 0
-AreUnder db key label rows =
-    IsPermutation (map (columns_at (shown_places Components))
-    (filter (row_is_under key label) (db 4))) rows
+AreUnder db key label rows = IsPermutation (shown_under db key label) rows
 
 -- the component is on this provider, or of this mirror
 abbrev pub is_under : Key → List ℕ → Component → Bool

@@ -1,6 +1,7 @@
 pub mod Accepting
 pub mod Changes
 pub mod Fitting
+pub mod FittingChanges
 pub mod Keys
 pub mod Listing
 pub mod Opening

@@ -18,12 +18,16 @@ pub record IsBlank (s : State) : Type 0 where
   pub settled : s.now ≡ s.committed
   pub schema_is : s.now.schema ≡ no_schema
 
--- within a transaction over this commit, where there is no table yet
-pub record IsBlankInside (first : Database) (s : State) : Type 0 where
+-- within a transaction over this commit, where the tables are these
+pub record IsInsideOver (schema : Schema) (first : Database) (s : State) : Type 0 where
   pub is_open : IsTrue s.is_open
   pub inside : s.in_transaction ≡ true
   pub first_is : s.committed ≡ first
-  pub schema_is : s.now.schema ≡ no_schema
+  pub schema_is : s.now.schema ≡ schema
+
+-- the same, where there is no table yet
+abbrev pub IsBlankInside : Database → State → Type 0
+IsBlankInside = IsInsideOver no_schema
 
 -- within a transaction over this commit, where the five tables are there, and empty
 pub record IsBareInside (first : Database) (s : State) : Type 0 where
@@ -64,3 +68,7 @@ pub record IsForeign (db : Trees) : Type 0 where
 -- a store that has tables, those of a registry or others
 abbrev pub HasSomeTables : Trees → Type 0
 HasSomeTables db = IsSound registry_schema db ⊎ IsForeign db
+
+-- what can be told of a store: that it has no tables, or those of a registry, or others
+abbrev pub IsKnownStore : Trees → Type 0
+IsKnownStore db = IsEmpty db ⊎ HasSomeTables db

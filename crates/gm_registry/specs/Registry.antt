@@ -123,9 +123,10 @@ module _ {S : Type 0} (g : Ghosts S) where
     pub crash : CrashLeavesOnly r t
 
   -- A call that writes nothing, at each of its exits: the tables are as before while it is open,
-  -- and a crash finds nothing new.
+  -- row by row, and a crash finds nothing new.
   pub record Reads (old new : Held S) : Type 0 where
     pub kept : DiskKept new → (t : Tables) → HasTables old t → IsOpen new → HasSaved new t
+    pub same : DiskKept new → (t : Tables) → HasTables old t → IsOpen new → seen new ≡ seen old
     pub left : (t : Tables) → HasTables old t → LeavesNothingNew old new
     pub clean : WasClean old new
 

@@ -1,15 +1,17 @@
 //! A command's change, with its intents and its key, in one transaction; also in place of what is
 //! pending.
 
-ghost use Rattle.std.specs.Prelude.{◌≡◌, ◌≤◌, ◌+◌, ◌↔◌, IfOk, OnOk, OnErr, IfSome, IsTrue};
+ghost use Rattle.std.specs.Prelude.{◌≡◌, ◌≤◌, ◌+◌, ◌↔◌, length, IfOk, OnOk, OnErr, IfSome, IsTrue};
 ghost use Rattle.sqlite.specs.State.{Survives};
 ghost use Rattle.sqlite.specs.Held.{state};
 ghost use Rattle.gm_state.specs.Rows.{Tables, mirror_row};
-ghost use Rattle.gm_registry.specs.Fitting.{HasNoComponents, TakesMirror};
+ghost use Rattle.gm_registry.specs.Fitting.{HasNoComponents, HasRoom, IsUncounted, TakesMirror};
+ghost use Rattle.gm_registry.specs.FittingChanges.{FitsRecords, FitsTables};
+ghost use Rattle.gm_rows.specs.Faults.{OnOther};
 ghost use Rattle.gm_state.specs.World.{ReplyFits};
 ghost use Rattle.gm_registry.specs.Replies.{count_of, IsFree};
 ghost use Rattle.gm_registry.specs.Changes.{left_of, with_accepted, with_records, with_change, with_pending, without_some_mirror, with_some_mirror};
-ghost use Rattle.gm_registry.specs.Registry.{DiskKept, IsOpen, HasTables, MayLeave, LeavesNothingNew, KeepsCommit, MakesInside, FailsInside, Writes};
+ghost use Rattle.gm_registry.specs.Registry.{DiskKept, IsOpen, HasTables, seen, MayLeave, LeavesNothingNew, KeepsCommit, MakesInside, FailsInside, NumbersInside, StoreFailed, Writes};
 ghost use Rattle.gm_registry.specs.Accepting.{Accepts};
 
 use crate::commands::put_command;
@@ -31,6 +33,7 @@ fn drop_some_mirror<S: Alter>(tx: &mut Transaction<'_, S>, name: Option<Label>) 
         (without_some_mirror name) }
     ensures fails { FailsInside S.Store tx.old.conn.now tx.new.conn.now result
         (λ _ t. IfSome name (λ n. HasNoComponents n t)) }
+    ensures numbers { NumbersInside S.Store tx.old.conn.now tx.new.conn.now result 0 }
     ensures kept { KeepsCommit S.Store tx.old.conn.now tx.new.conn.now }
     ensures survives { LeavesNothingNew S.Store tx.old.conn.now tx.new.conn.now }
 {
@@ -50,6 +53,7 @@ fn put_some_mirror<S: Alter>(
         (with_some_mirror mirror) }
     ensures fails { FailsInside S.Store tx.old.conn.now tx.new.conn.now result
         (λ db t. IfSome mirror (λ m. TakesMirror (mirror_row m) db t)) }
+    ensures numbers { NumbersInside S.Store tx.old.conn.now tx.new.conn.now result 1 }
     ensures kept { KeepsCommit S.Store tx.old.conn.now tx.new.conn.now }
     ensures survives { LeavesNothingNew S.Store tx.old.conn.now tx.new.conn.now }
 {
@@ -65,6 +69,10 @@ fn put_records<S: Alter>(tx: &mut Transaction<'_, S>, change: &Change) -> Result
     ensures same_reference { tx.new.conn.ghost_name ≡ tx.old.conn.ghost_name }
     ensures put { MakesInside S.Store tx.old.conn.now tx.new.conn.now result
         (with_records change.now) }
+    ensures fails { FailsInside S.Store tx.old.conn.now tx.new.conn.now result
+        (λ db t. FitsRecords change.now t × HasRoom (length change.now.components + 1) db) }
+    ensures numbers { NumbersInside S.Store tx.old.conn.now tx.new.conn.now result
+        (length change.now.components + 1) }
     ensures kept { KeepsCommit S.Store tx.old.conn.now tx.new.conn.now }
     ensures survives { LeavesNothingNew S.Store tx.old.conn.now tx.new.conn.now }
 {
@@ -86,6 +94,9 @@ fn put_change<S: Alter>(
     ensures same_reference { tx.new.conn.ghost_name ≡ tx.old.conn.ghost_name }
     ensures put { MakesInside S.Store tx.old.conn.now tx.new.conn.now result
         (with_change (with_pending change.now intents.now) key.now number words.now) }
+    ensures fails { FailsInside S.Store tx.old.conn.now tx.new.conn.now result
+        (λ db t. FitsTables (with_pending change.now intents.now) key.now words.now t
+        × IsUncounted number t × HasRoom (length change.now.components + 2) db) }
     ensures kept { KeepsCommit S.Store tx.old.conn.now tx.new.conn.now }
     ensures survives { LeavesNothingNew S.Store tx.old.conn.now tx.new.conn.now }
 {
@@ -109,6 +120,9 @@ fn put_over<S: Alter>(
     ensures put { MakesInside S.Store tx.old.conn.now tx.new.conn.now result (λ t.
         with_change (with_pending change.now intents.now) key.now number words.now
         (left_of pending t)) }
+    ensures fails { FailsInside S.Store tx.old.conn.now tx.new.conn.now result (λ db t.
+        FitsTables (with_pending change.now intents.now) key.now words.now (left_of pending t)
+        × IsUncounted number t × HasRoom (length change.now.components + 2) db) }
     ensures kept { KeepsCommit S.Store tx.old.conn.now tx.new.conn.now }
     ensures survives { LeavesNothingNew S.Store tx.old.conn.now tx.new.conn.now }
 {
@@ -133,6 +147,11 @@ fn write_change<S: Alter>(
     ensures refused { DiskKept S.Store conn.new
         → OnErr result ((t : Tables) → HasTables S.Store conn.old t → number ≡ count_of t + 1
         → IsOpen S.Store conn.new → HasTables S.Store conn.new t) }
+    ensures store { DiskKept S.Store conn.new
+        → OnOther result ((t : Tables) → HasTables S.Store conn.old t → number ≡ count_of t + 1
+        → FitsTables (with_pending change.now intents.now) key.now words.now (left_of pending t)
+        → HasRoom (length change.now.components + 2) (seen S.Store conn.old)
+        → StoreFailed S.Store conn.old conn.new) }
     ensures left { (t : Tables) → HasTables S.Store conn.old t → number ≡ count_of t + 1
         → MayLeave S.Store conn.old conn.new (with_change (with_pending change.now intents.now)
         key.now number words.now (left_of pending t)) }
@@ -167,7 +186,8 @@ pub(crate) fn accept_on<S: Alter>(
     key: &str,
     words: &str,
 ) -> Result<u64, StoreFault>
-    ensures accepts { Accepts S.Store conn.old conn.new result change.now.reply key.now }
+    ensures accepts { Accepts S.Store conn.old conn.new result
+        (with_pending change.now intents.now) (left_of pending) key.now words.now }
     ensures writes { Writes S.Store conn.old conn.new result (λ t.
         with_accepted (with_pending change.now intents.now) key.now words.now (left_of pending t)) }
 {

@@ -1,9 +1,10 @@
 //! The table of components, written by the provider, inside a transaction.
 
-ghost use Rattle.std.specs.Prelude.{◌≡◌, ⊤};
+ghost use Rattle.std.specs.Prelude.{◌≡◌, length, ⊤};
 ghost use Rattle.gm_state.specs.Rows.{component_row};
 ghost use Rattle.gm_registry.specs.Changes.{with_component, without_component, with_components, without_components};
-ghost use Rattle.gm_registry.specs.Fitting.{TakesComponent};
+ghost use Rattle.gm_registry.specs.Fitting.{HasRoom, TakesComponent};
+ghost use Rattle.gm_registry.specs.FittingChanges.{ArePlacedInTurn};
 ghost use Rattle.gm_registry.specs.Registry.{LeavesNothingNew, KeepsCommit, MakesInside, FailsInside, NumbersInside};
 
 use gm_metadata::Label;
@@ -49,6 +50,10 @@ pub(crate) fn put_components<S: Alter>(
     ensures same_reference { tx.new.conn.ghost_name ≡ tx.old.conn.ghost_name }
     ensures put { MakesInside S.Store tx.old.conn.now tx.new.conn.now result
         (with_components components.now) }
+    ensures fails { FailsInside S.Store tx.old.conn.now tx.new.conn.now result
+        (λ db t. ArePlacedInTurn components.now t × HasRoom (length components.now) db) }
+    ensures numbers { NumbersInside S.Store tx.old.conn.now tx.new.conn.now result
+        (length components.now) }
     ensures kept { KeepsCommit S.Store tx.old.conn.now tx.new.conn.now }
     ensures survives { LeavesNothingNew S.Store tx.old.conn.now tx.new.conn.now }
 {
@@ -83,6 +88,7 @@ pub(crate) fn drop_components<S: Alter>(
     ensures put { MakesInside S.Store tx.old.conn.now tx.new.conn.now result
         (without_components providers.now) }
     ensures fails { FailsInside S.Store tx.old.conn.now tx.new.conn.now result (λ _ _. ⊤) }
+    ensures numbers { NumbersInside S.Store tx.old.conn.now tx.new.conn.now result 0 }
     ensures kept { KeepsCommit S.Store tx.old.conn.now tx.new.conn.now }
     ensures survives { LeavesNothingNew S.Store tx.old.conn.now tx.new.conn.now }
 {

@@ -1,9 +1,10 @@
 //! The components under a key: on a provider, or of a mirror.
 
-ghost use Rattle.std.specs.Prelude.{◌≡◌, ◌≢◌, IfOk, IfErr, OnOk, OnErr, IsPermutation, flat_map};
+ghost use Rattle.std.specs.Prelude.{◌≡◌, ◌≢◌, IfOk, IfErr, OnOk, OnErr, IsPermutation, flat_map, map};
 ghost use Rattle.gm_state.specs.Records.{Records};
 ghost use Rattle.gm_state.specs.Rows.{Tables};
-ghost use Rattle.gm_registry.specs.Keys.{key_text, AreUnder, under};
+ghost use Rattle.gm_registry.specs.Keys.{key_text, shown_under, AreUnder, under};
+ghost use Rattle.gm_rows.specs.Says.{component_shown};
 ghost use Rattle.gm_rows.specs.ReadableTables.{AreRecordsOf};
 ghost use Rattle.gm_registry.specs.Registry.{DiskKept, IsOpen, seen, HasTables, HasRead, HaveRead, HasFailed, IsOurs, StoreFailed};
 ghost use Rattle.gm_rows.specs.Faults.{OnUnreadable, OnStore};
@@ -65,6 +66,9 @@ fn components_with<S: Alter>(
     key: Key,
     label: Label,
 ) -> Result<Vec<Component>, StoreFault>
+    ensures says { DiskKept S.Store conn.new → IfOk result (λ ks. IsOurs S.Store conn.old
+        → IsPermutation (shown_under (seen S.Store conn.old) key label)
+        (map component_shown ks.items)) }
     ensures found { DiskKept S.Store conn.new
         → IfOk result (λ ks. (t : Tables) (s : Records) → HasTables S.Store conn.old t
         → AreRecordsOf t s → IsPermutation (under key s.components label) ks.items) }
@@ -88,6 +92,9 @@ pub(crate) fn components_under<S: Alter>(
     key: Key,
     labels: &[Label],
 ) -> Result<Vec<Component>, StoreFault>
+    ensures says { DiskKept S.Store conn.new → IfOk result (λ ks. IsOurs S.Store conn.old
+        → IsPermutation (flat_map (shown_under (seen S.Store conn.old) key) labels.now)
+        (map component_shown ks.items)) }
     ensures found { DiskKept S.Store conn.new
         → IfOk result (λ ks. (t : Tables) (s : Records) → HasTables S.Store conn.old t
         → AreRecordsOf t s

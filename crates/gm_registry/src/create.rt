@@ -3,9 +3,10 @@
 ghost use Rattle.std.specs.Prelude.{◌≡◌, false, OnOk};
 ghost use Rattle.sqlite.specs.Held.{state};
 ghost use Rattle.sqlite.specs.Effect.{Database};
+ghost use Rattle.gm_rows.specs.Faults.{OnOther};
 ghost use Rattle.gm_rows.specs.Tables.{IsInside, no_tables};
 ghost use Rattle.gm_registry.specs.Opening.{IsBlank, IsBlankInside, IsBareInside};
-ghost use Rattle.gm_registry.specs.Registry.{DiskKept, HasTables, WasClean, MayLeave, LeavesNothingNew};
+ghost use Rattle.gm_registry.specs.Registry.{DiskKept, HasTables, WasClean, MayLeave, LeavesNothingNew, StoreFailed};
 
 use gm_rows::{ABOUT, COMMANDS, COMPONENTS, INTENTS, MIRRORS};
 use sqlite::{Alter, Connection, Error, Transaction};
@@ -16,6 +17,9 @@ fn create_tables<S: Alter>(tx: &mut Transaction<'_, S>) -> Result<(), Error>
     ensures made { DiskKept S.Store tx.new.conn.now
         → OnOk result ((first : Database) → IsBlankInside first (state S.Store tx.old.conn.now)
         → IsBareInside first (state S.Store tx.new.conn.now)) }
+    ensures fails { DiskKept S.Store tx.new.conn.now
+        → OnOther result ((first : Database) → IsBlankInside first (state S.Store tx.old.conn.now)
+        → StoreFailed S.Store tx.old.conn.now tx.new.conn.now) }
     ensures survives { LeavesNothingNew S.Store tx.old.conn.now tx.new.conn.now }
 {
     tx.execute(ABOUT, &[])?;
@@ -32,6 +36,9 @@ fn put_about<S: Alter>(tx: &mut Transaction<'_, S>) -> Result<usize, Error>
     ensures made { DiskKept S.Store tx.new.conn.now
         → OnOk result ((first : Database) → IsBareInside first (state S.Store tx.old.conn.now)
         → IsInside first (state S.Store tx.new.conn.now) no_tables) }
+    ensures fails { DiskKept S.Store tx.new.conn.now
+        → OnOther result ((first : Database) → IsBareInside first (state S.Store tx.old.conn.now)
+        → StoreFailed S.Store tx.old.conn.now tx.new.conn.now) }
     ensures survives { LeavesNothingNew S.Store tx.old.conn.now tx.new.conn.now }
 {
     tx.execute("INSERT INTO about (one, schema_no) VALUES (1, 1)", &[])
@@ -42,6 +49,8 @@ pub(crate) fn create_all<S: Alter>(conn: &mut Connection<S>) -> Result<(), Error
     requires { conn.old.in_transaction ≡ false }
     ensures made { DiskKept S.Store conn.new → OnOk result (IsBlank (state S.Store conn.old)
         → HasTables S.Store conn.new no_tables) }
+    ensures store { DiskKept S.Store conn.new → OnOther result (IsBlank (state S.Store conn.old)
+        → StoreFailed S.Store conn.old conn.new) }
     ensures left { IsBlank (state S.Store conn.old) → MayLeave S.Store conn.old conn.new no_tables }
     ensures clean { WasClean S.Store conn.old conn.new }
 {

@@ -88,6 +88,7 @@ pub(crate) fn put_intents<S: Alter>(
         (with_intents (intent_rows 1 intents.now)) }
     ensures fails { FailsInside S.Store tx.old.conn.now tx.new.conn.now result
         (λ _. TakesIntents (length intents.now)) }
+    ensures numbers { NumbersInside S.Store tx.old.conn.now tx.new.conn.now result 0 }
     ensures kept { KeepsCommit S.Store tx.old.conn.now tx.new.conn.now }
     ensures survives { LeavesNothingNew S.Store tx.old.conn.now tx.new.conn.now }
 {

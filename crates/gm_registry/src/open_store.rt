@@ -7,7 +7,7 @@ ghost use Rattle.gm_lists.specs.Ordered.{Has};
 ghost use Rattle.gm_state.specs.Rows.{Tables};
 ghost use Rattle.gm_rows.specs.Schema.{no_schema, registry_schema};
 ghost use Rattle.gm_rows.specs.Tables.{Holds, IsEmpty, no_tables};
-ghost use Rattle.gm_registry.specs.Opening.{IsOfSchema1, IsOpenable, IsForeign, HasSomeTables};
+ghost use Rattle.gm_registry.specs.Opening.{IsOfSchema1, IsOpenable, IsForeign, IsKnownStore};
 ghost use Rattle.gm_registry.specs.Listing.{listed, under_number, our_tables, AllStand, ListsOurs, ShowsList};
 ghost use Rattle.gm_rows.specs.Values.{columns_at, two};
 ghost use Rattle.sqlite_rows.specs.Reads.{HasReadOver, HasFailedOver};
@@ -142,7 +142,7 @@ pub(crate) fn prepare<S: Alter>(conn: &mut Connection<S>) -> Result<(), StoreFau
     ensures unreadable { DiskKept S.Store conn.new
         → OnUnreadable result (IsOpen S.Store conn.old → ¬ (IsOpenable (stored S.Store conn.old))) }
     ensures store { DiskKept S.Store conn.new
-        → OnStore result (IsOpen S.Store conn.old → HasSomeTables (stored S.Store conn.old)
+        → OnStore result (IsOpen S.Store conn.old → IsKnownStore (stored S.Store conn.old)
         → StoreFailed S.Store conn.old conn.new) }
     ensures refuses { DiskKept S.Store conn.new
         → OnOk result (IsOpen S.Store conn.old → ¬ (IsForeign (stored S.Store conn.old))) }

@@ -5,9 +5,13 @@ ghost use Rattle.std.specs.List.{list_any};
 ghost use Rattle.gm_metadata.specs.Images.{same_label};
 ghost use Rattle.gm_state.specs.Records.{Records, name};
 ghost use Rattle.gm_state.specs.Rows.{Tables};
-ghost use Rattle.gm_registry.specs.Parts.{is_asked_by, AreAsked, IsPartFor};
+ghost use Rattle.gm_registry.specs.Parts.{is_asked_by, AreAsked, AreSaidFor, IsPartFor, IsSaidFor};
+ghost use Rattle.gm_rows.specs.Queries.{shown_places};
+ghost use Rattle.gm_rows.specs.Says.{mirror_shown};
+ghost use Rattle.gm_rows.specs.Values.{columns_at};
+ghost use Rattle.gm_rows.specs.declared.fetched.Table.TheVariants.{Mirrors};
 ghost use Rattle.gm_rows.specs.ReadableTables.{AreRecordsOf};
-ghost use Rattle.gm_registry.specs.Registry.{DiskKept, IsOpen, HasTables, HasRead, HasFailed, IsOurs, StoreFailed, HasSaved, Reads};
+ghost use Rattle.gm_registry.specs.Registry.{DiskKept, IsOpen, seen, HasTables, IsRegistry, HasRead, HasFailed, IsOurs, StoreFailed, HasSaved, Reads};
 ghost use Rattle.gm_rows.specs.Faults.{OnUnreadable, OnStore};
 
 use crate::components_by_key::{Key, components_under};
@@ -40,6 +44,9 @@ pub(crate) struct Asked {
 
 /// All mirrors, in any order.
 fn all_mirrors<S: Alter>(alloc: Global, conn: &mut Connection<S>) -> Result<Vec<Mirror>, StoreFault>
+    ensures says { DiskKept S.Store conn.new → IfOk result (λ ms. IsOurs S.Store conn.old
+        → IsPermutation (map (columns_at (shown_places Mirrors)) (seen S.Store conn.old 1))
+        (map mirror_shown ms.items)) }
     ensures all { DiskKept S.Store conn.new
         → IfOk result (λ ms. (t : Tables) (s : Records) → HasTables S.Store conn.old t
         → AreRecordsOf t s → IsPermutation s.mirrors ms.items) }
@@ -101,6 +108,9 @@ fn read_asked<S: Alter>(
     command: &Command,
     mids: &[u32],
 ) -> Result<Asked, StoreFault>
+    ensures says { DiskKept S.Store conn.new → IfOk result (λ a. IsOurs S.Store conn.old
+        → AreSaidFor (seen S.Store conn.old) command.now mids.now a.mirrors.items
+        a.components.items a.count) }
     ensures asked { DiskKept S.Store conn.new
         → IfOk result (λ a. (t : Tables) (s : Records) → HasTables S.Store conn.old t
         → AreRecordsOf t s → AreAsked s command.now mids.now a) }
@@ -133,6 +143,8 @@ fn part_on<S: Alter>(
     command: &Command,
     mids: &[u32],
 ) -> Result<Part, StoreFault>
+    ensures says { DiskKept S.Store conn.new → IfOk result (λ p. IsRegistry S.Store conn.old
+        → IsSaidFor (seen S.Store conn.old) command.now mids.now p) }
     ensures part { DiskKept S.Store conn.new
         → IfOk result (λ p. (t : Tables) (s : Records) → HasTables S.Store conn.old t
         → AreRecordsOf t s → IsPartFor s command.now mids.now p × HasSaved S.Store conn.new t) }
@@ -164,6 +176,9 @@ impl<S: Alter> Registry<S> {
         command: &Command,
         mids: &[u32],
     ) -> Result<Part, StoreFault>
+        // Whatever rows the tables hold.
+        ensures says { DiskKept S.Store self.new → IfOk result (λ p. IsRegistry S.Store self.old
+            → IsSaidFor (seen S.Store self.old) command.now mids.now p) }
         ensures part { DiskKept S.Store self.new
             → IfOk result (λ p. (t : Tables) (s : Records) → HasTables S.Store self.old t
             → AreRecordsOf t s → IsPartFor s command.now mids.now p × HasSaved S.Store self.new t) }

@@ -5,7 +5,7 @@ ghost use Rattle.gm_state.specs.Rows.{Tables};
 ghost use Rattle.gm_rows.specs.Tables.{Holds, IsEmpty, no_tables};
 ghost use Rattle.sqlite_catalog.specs.Listing.{IsSound};
 ghost use Rattle.gm_rows.specs.Schema.{registry_schema};
-ghost use Rattle.gm_registry.specs.Opening.{IsOpenable, IsForeign, HasSomeTables};
+ghost use Rattle.gm_registry.specs.Opening.{IsOpenable, IsForeign, IsKnownStore};
 ghost use Rattle.gm_registry.specs.Accepting.{Accepts};
 ghost use Rattle.gm_registry.specs.Changes.{with_accepted, with_pending, settled};
 ghost use Rattle.gm_registry.specs.Replies.{IsKept, IsFree, AreWrittenUnder, count_of};
@@ -71,9 +71,8 @@ impl<S: Alter> Registry<S> {
         ensures unreadable { IsOpen S.Store store
             → IfErr result (λ e. DiskKept S.Store e.store → e.fault ≡ StoreFault.Unreadable
             → ¬ (IsOpenable (stored S.Store store))) }
-        // Of a store with tables, on a disk that didn't fail and without a limit on steps, never
-        // `Store`.
-        ensures store { IsOpen S.Store store → HasSomeTables (stored S.Store store)
+        // On a disk that didn't fail, without a limit on steps, it is never `Store`.
+        ensures store { IsOpen S.Store store → IsKnownStore (stored S.Store store)
             → IfErr result (λ e. DiskKept S.Store e.store → e.fault ≡ StoreFault.Store
             → StoreFailed S.Store store e.store) }
         ensures refuses { IsOpen S.Store store → IsForeign (stored S.Store store)
@@ -140,7 +139,8 @@ impl<S: Alter> Registry<S> {
     /// number. `Store` before anything is written where 100,000 commands were accepted already, or
     /// the numbers of the reply are out of range.
     pub fn accept(&mut self, change: &Change, key: &str, words: &str) -> Result<u64, StoreFault>
-        ensures accepts { Accepts S.Store self.old self.new result change.now.reply key.now }
+        ensures accepts { Accepts S.Store self.old self.new result change.now (λ t. t)
+            key.now words.now }
         ensures writes { Writes S.Store self.old self.new result
             (with_accepted change.now key.now words.now) }
     {
@@ -164,7 +164,8 @@ impl<S: Alter> Registry<S> {
         key: &str,
         words: &str,
     ) -> Result<u64, StoreFault>
-        ensures accepts { Accepts S.Store self.old self.new result change.now.reply key.now }
+        ensures accepts { Accepts S.Store self.old self.new result
+            (with_pending change.now intents.now) settled key.now words.now }
         ensures writes { Writes S.Store self.old self.new result (λ t. with_accepted
             (with_pending change.now intents.now) key.now words.now (settled t)) }
     {

@@ -1,11 +1,11 @@
 //! What is read of the accepted commands: the reply under a key, and the greatest number.
 
-ghost use Rattle.std.specs.Prelude.{◌≡◌, ◌≢◌, ◌≤◌, ◌<◌, ◌^◌, ◌==◌, ℕ, pos, filter, map, string_bytes, IfOk, IfErr, MatchOption, IsPermutation};
+ghost use Rattle.std.specs.Prelude.{◌≡◌, ◌≢◌, ◌≤◌, ◌<◌, ◌^◌, ◌==◌, ℕ, pos, filter, map, string_bytes, IfOk, IfErr, OnOk, MatchOption, IsPermutation};
 ghost use Rattle.sqlite.specs.Order.{column};
 ghost use Rattle.sqlite.specs.declared.types.Value.TheVariants.{Int, Text};
 ghost use Rattle.gm_state.specs.Rows.{Tables, CommandRow};
 ghost use Rattle.gm_registry.specs.Replies.{Fits, AreWrittenUnder, reply_in, is_under, reply_values, IsKept, IsFree, IsLastOf, count_of};
-ghost use Rattle.gm_registry.specs.Registry.{DiskKept, HasTables, StoreFailed, HasSaved, Reads};
+ghost use Rattle.gm_registry.specs.Registry.{DiskKept, HasTables, seen, StoreFailed, HasSaved, Reads};
 ghost use Rattle.gm_rows.specs.Faults.{OnUnreadable, OnStore, OnOther};
 
 use gm_rows::{StoreFault, text_at, u32_at};
@@ -115,6 +115,8 @@ fn last_command<S: Alter>(conn: &mut Connection<S>) -> Result<Vec<Row>, Error>
     ensures store { DiskKept S.Store conn.new
         → OnOther result ((t : Tables) → HasTables S.Store conn.old t
         → StoreFailed S.Store conn.old conn.new) }
+    ensures same { DiskKept S.Store conn.new → OnOk result ((t : Tables)
+        → HasTables S.Store conn.old t → seen S.Store conn.new ≡ seen S.Store conn.old) }
     ensures reads { Reads S.Store conn.old conn.new }
 {
     conn.query_all("SELECT seq FROM commands ORDER BY seq DESC LIMIT 1", &[])
@@ -131,6 +133,8 @@ pub(crate) fn accepted_on<S: Alter>(conn: &mut Connection<S>) -> Result<u32, Sto
     ensures store { DiskKept S.Store conn.new
         → OnStore result ((t : Tables) → HasTables S.Store conn.old t
         → StoreFailed S.Store conn.old conn.new) }
+    ensures same { DiskKept S.Store conn.new → OnOk result ((t : Tables)
+        → HasTables S.Store conn.old t → seen S.Store conn.new ≡ seen S.Store conn.old) }
     ensures reads { Reads S.Store conn.old conn.new }
 {
     let rows = last_command(conn)?;

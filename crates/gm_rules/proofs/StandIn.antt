@@ -21,7 +21,7 @@ use Rattle.gm_lists.specs.Ordered.{Has, put, put_all}
 use Rattle.gm_state.specs.Records.{Records, IsState, held_by, members, name, provider}
 use Rattle.gm_state.specs.Lookups.{mirror_of, component_of, metadata, metadata_of}
 use Rattle.gm_state.specs.Intents.{IsOf, is_last, IsAtHand}
-use Rattle.gm_state.specs.World.{World, Sound, present}
+use Rattle.gm_state.specs.World.{World, Sound, ReplyFits, present}
 use Rattle.gm_lists.proofs.Order.{same_is, same_from}
 use Rattle.gm_lists.proofs.Finding.{find_one, found_none, none_any, not_both, option_cases, some_any}
 use Rattle.gm_lists.proofs.PutTogether.{put_all_or}
@@ -40,10 +40,10 @@ use Rattle.gm_refusals.proofs.Listed.{listed}
 use Rattle.gm_refusals.proofs.NothingApplies.{none_from}
 use Rattle.gm_refusals.proofs.SeenAlike.{SeeAlike, same_source}
 use Rattle.gm_refusals.proofs.TakenProviders.{taken_name}
-use Rattle.gm_changes.specs.After.{after, intents_of}
+use Rattle.gm_changes.specs.After.{after, intents_of, reply_to}
 use Rattle.gm_changes.proofs.DecidedInWorld.{AdoptAlike, AskAlike, asks_last, same_after, same_applies}
 use Rattle.gm_rules.specs.Itself.{IsItself}
-use Rattle.gm_rules.specs.Step.{CanAnswer, HasPlan}
+use Rattle.gm_rules.specs.Step.{CanAnswer, HasPlan, answer}
 use Rattle.gm_rules.proofs.AdoptedState.{is_adopted, roomy, size_is}
 use Rattle.gm_rules.proofs.EveryPlan.{every_plan}
 use Rattle.gm_rules.proofs.FoundMembers.{IsAdoptable, adoptable, member_found}
@@ -514,3 +514,12 @@ pub state_told : (s : Records) (facts : List Fact) (c : Command) → IsState s �
     → IsState (after (seen_in facts) c s)
 state_told s facts c state fits good itself =
     state_by s facts state c fits good (adopts_itself s facts state c good itself)
+
+-- And the reply to it is in range.
+pub reply_told : (s : Records) (facts : List Fact) (c : Command) → IsState s → CommandFits c
+    → IsGood s (seen_in facts) c → ReplyFits (reply_to c s)
+reply_told s facts c state fits good =
+    let it = plan s facts state c fits good in
+    let step = it.1.step in
+    (it.1.sound.answers.fit (answer (stand_in s facts) (key s facts state c fits good) c
+    (reply_to c s)) (rw step.answered (inl refl))).reply

@@ -16,6 +16,7 @@ pub mod Showing
 pub mod SmallRows
 pub mod Statements
 pub mod Stopping
+pub mod StoppingCreates
 pub mod StoppingDeletes
 pub mod Unique
 pub mod ValueLemmas

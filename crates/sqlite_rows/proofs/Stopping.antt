@@ -1,4 +1,5 @@
--- Why a statement on the rows of a table fails, where its text is known and no rule refuses it.
+-- Why a statement fails, where its text is known and no rule refuses it, and why one on the rows of
+-- a table stops.
 use Rattle.std.proofs.Common.{◌≡◌, ◌⊎◌, inl, inr, ℕ, zero, suc, Bool, true, false, ◌||◌, cond, List, [], ◌∷◌, ◌/◌, length, Option, Some, None, Ok, Err, IsSome, IsTrue, refl, sym, ap, subst, subst₂, ◌∙◌, append-nil, arith}
 use Rattle.std.specs.Prelude.{is_some}
 use Rattle.std.specs.List.{list_all}
@@ -11,7 +12,7 @@ use Rattle.sqlite.specs.Table.{Table}
 use Rattle.sqlite.specs.Term.{Term}
 use Rattle.sqlite.specs.Source.TheVariants.{Values}
 use Rattle.sqlite.specs.Command.{Command}
-use Rattle.sqlite.specs.Command.TheVariants.{Insert, InsertOr, Update, Delete}
+use Rattle.sqlite.specs.Command.TheVariants.{Insert, InsertOr, Update, Delete, CreateTable}
 use Rattle.sqlite.specs.Calls.{IsWrite}
 use Rattle.sqlite.specs.Does.{Does, OnRows, Concludes, due}
 use Rattle.sqlite.specs.Rows.{Written, Task, Inserts, stamped, rowids_for, count_of}
@@ -23,7 +24,7 @@ use Rattle.sqlite.specs.Listing.{understood}
 use Rattle.sqlite.specs.State.{State, mode_of, text_of, shows_rows, is_pragma, Executes, ExecutesIn, ExecutesInside, EndsScope, IsNotRun, IsMisplaced, IsUnchanged, Fails}
 use Rattle.sqlite.specs.declared.error.Error.{Error}
 use Rattle.sqlite.specs.declared.run.Mode.{Mode}
-use Rattle.sqlite.proofs.Callers.{IsPlain, command_of, one_step}
+use Rattle.sqlite.proofs.Callers.{IsPlain, command_of, statement_of, one_step}
 use Rattle.sqlite_schema.specs.declared.command.Returning.{Returning}
 use Rattle.sqlite_schema.specs.declared.schema.Constraint.TheVariants.{Datatype, NotNull, Check, PrimaryKey, Unique, ForeignKey}
 use Rattle.sqlite_schema.specs.declared.schema.Keys.{Keys}
@@ -82,25 +83,28 @@ module _ (schema : Schema) (keys : Keys) (db : Trees) (edit : Edit)
   never_stops idle why (inr (inr (next, applies, (n, leads)))) =
       no_work n next why (subst (λ w. Leads schema keys n next w (Err why)) idle leads)
 
--- ---- a call of a text that is a command on rows
+-- ---- a call of a text that writes rows or makes a table
 
-abbrev pub is_on_rows : Command → Bool
-is_on_rows (Insert at from) = true
-is_on_rows (InsertOr at way from clauses) = true
-is_on_rows (Update at q) = true
-is_on_rows (Delete at q) = true
-is_on_rows _ = false
+-- it neither begins, ends nor divides a transaction
+abbrev pub stays_inside : Command → Bool
+stays_inside (Insert at from) = true
+stays_inside (InsertOr at way from clauses) = true
+stays_inside (Update at q) = true
+stays_inside (Delete at q) = true
+stays_inside CreateTable = true
+stays_inside _ = false
 
 module _ (schema : Schema) (sql : List ℕ) (params : Row) (command : Command)
     (is : command_of (understood schema sql) ≡ command) (plain : IsPlain (understood schema sql))
     (whole : is_all_of sql (length params) (understood schema sql) ≡ true)
-    (on_rows : is_on_rows command ≡ true) (quiet : is_query command || is_pragma command ≡ false)
+    (inside : stays_inside command ≡ true) (quiet : is_query command || is_pragma command ≡ false)
     (old new : State) (e : Error) (has : old.now.schema ≡ schema)
-    (stops : (text : List ℕ) (stop : Option Error)
-    → Does old.step_limit (mode_of old) params old.now text None command (Err stop)
+    (stops : (stop : Option Error)
+    → Does old.step_limit (mode_of old) params old.now
+    (statement_of sql (understood schema sql)) None command (Err stop)
     → IsSome old.step_limit) where
-  other : {c : Command} → command ≡ c → is_on_rows c ≡ false → ⊥
-  other same not_it = true≢false (sym on_rows ∙ ap is_on_rows same ∙ not_it)
+  other : {c : Command} → command ≡ c → stays_inside c ≡ false → ⊥
+  other same not_it = true≢false (sym inside ∙ ap stays_inside same ∙ not_it)
 
   misplaced : IsMisplaced old command e → ⊥
   misplaced (inl (is, inl begins)) = other begins.0 refl
@@ -118,11 +122,11 @@ module _ (schema : Schema) (sql : List ℕ) (params : Row) (command : Command)
       ⊎ Fails old new
       (Does old.step_limit (mode_of old) params old.now text returning command (Err None)) e
 
-  ran : (text : List ℕ) → FailsAs text command None → IsTrue old.is_open → IsReadFault old new e
-  ran text (inl (inl bad, same)) is_open = absurd (misplaced bad)
-  ran text (inl (inr does, same)) is_open = inr (inr (stops text (Some e) does.1))
-  ran text (inr fails) is_open =
-      store_failed old new sql params e _ (stops text None) is_open fails
+  ran : FailsAs (statement_of sql (understood schema sql)) command None → IsTrue old.is_open
+      → IsReadFault old new e
+  ran (inl (inl bad, same)) is_open = absurd (misplaced bad)
+  ran (inl (inr does, same)) is_open = inr (inr (stops (Some e) does.1))
+  ran (inr fails) is_open = store_failed old new sql params e _ (stops None) is_open fails
 
   both_quiet : (a b : Bool) → a || b ≡ false → a || (b || false) ≡ false
   both_quiet true b h = h
@@ -152,7 +156,8 @@ module _ (schema : Schema) (sql : List ℕ) (params : Row) (command : Command)
             absurd (true≢false (sym f))
         | inr runs ↦ rw (runs, bare.1, append-nil params) at h
       ] in
-      ran (text_of sql c) (subst₂ (FailsAs (text_of sql c)) same bare.0 runs) is_open
+      ran (subst (λ t. FailsAs t command None) (ap (statement_of sql) known)
+      (subst₂ (FailsAs (text_of sql c)) same bare.0 runs)) is_open
 
   never_ends : EndsScope 0 sql params old → ⊥
   unfolding EndsScope

@@ -1,8 +1,11 @@
-use Rattle.std.proofs.Common.{◌≤◌, Err, IfOk, length, ap, subst}
+use Rattle.std.proofs.Common.{◌≤◌, Err, IfOk, length, sym, ap, subst}
 use Rattle.gm_state.specs.Records.{IsState}
-use Rattle.gm_changes.specs.Decides.{Makes}
+use Rattle.gm_commands.specs.Commands.{words_of}
+use Rattle.gm_changes.specs.Decides.{Changed, Makes}
 use Rattle.gm_refusals.specs.Seen.{seen_in}
 use Rattle.gm_bench.proofs.Causes.{fault_is}
+use Rattle.gm_bench.specs.Planning.{IsFitting}
+use Rattle.gm_bench.proofs.FittingPlans.{made_fits, made_of}
 use Rattle.gm_bench.proofs.PlannedAlone.{planned_hand, planned_state}
 use Rattle.gm_bench.proofs.plan.decide_on.Goals as goal
 
@@ -31,3 +34,15 @@ returns-in_ok-planned-in-Ok-Ok-clause-at_hand c fits state few most size tells =
     planned_hand part facts command c.in-Ok-Ok.change state fits (alone state few most)
     c.in_ok-planned-in-Ok-Ok.planned.work.intents.items size
     c.in_ok-planned-in-Ok-Ok.ensures.planned.2 tells
+
+pub returns-in_ok-planned-in-Ok-Ok-clause-fits : goal.returns-in_ok-planned-in-Ok-Ok-clause-fits
+returns-in_ok-planned-in-Ok-Ok-clause-fits c t s are to is fits itself =
+    let part = c.args.part.now in
+    let facts = c.args.facts.now in
+    let command = c.args.command.now in
+    let makes = subst (λ r. IfOk r (λ ch. Makes s (seen_in facts) command ch))
+    c.in-Ok-Ok.field-0-is
+    (made_of s (seen_in facts) command _ (c.in-Ok-Ok.ensures.facts s to is)) in
+    subst (λ (ch : Changed). IsFitting ch (words_of command) t)
+    (sym c.in_ok-planned-in-Ok-Ok.ensures.planned.0)
+    (made_fits s facts command c.in-Ok-Ok.change t are fits makes itself)

@@ -74,4 +74,5 @@ returns-clause-accepts g c =
           ∙ ap (λ (l : List CommandRow). command_row c.args.key.now number c.args.words.now
           c.args.change.now.reply ∷ l) (left_commands c.args.pending t)));
       unreadable = search rules;
+      store = search rules;
     }

@@ -1,17 +1,22 @@
-use Rattle.std.proofs.Common.{◌≡◌, ◌+◌, OnOk, OnErr, IsTrue, sym, subst, arith, rules}
+use Rattle.std.proofs.Common.{◌≡◌, ◌+◌, length, OnOk, OnErr, IsTrue, sym, subst, arith, rules}
 use Rattle.sqlite.specs.State.{HasCleanDisk, Survives}
 use Rattle.sqlite.specs.Held.{Held, state}
 use Rattle.sqlite.specs.Tree.{Trees}
 use Rattle.sqlite.proofs.StateLemmas.{survives_then}
 use Rattle.sqlite.proofs.Callers.{survives_begin}
 use Rattle.sqlite_rows.proofs.Statements.{rolled, not_committed, committed}
-use Rattle.sqlite_rows.proofs.Refusing.{on_err, under_ok, under_err, over_ok, over_err}
+use Rattle.sqlite_rows.proofs.Refusing.{if_err, on_err, under_ok, under_err, over_ok, over_err}
 use Rattle.gm_state.specs.Rows.{Tables}
 use Rattle.gm_rows.specs.Schema.{registry_schema}
 use Rattle.gm_rows.specs.Tables.{SeesTables, HasCounted, IsInside, Holds}
 use Rattle.gm_registry.specs.Changes.{left_of, with_change, with_pending}
+use Rattle.gm_registry.specs.Fitting.{HasRoom}
+use Rattle.gm_registry.specs.Registry.{StoreFailed, seen}
 use Rattle.gm_registry.specs.Replies.{count_of}
 use Rattle.gm_registry.proofs.CountedThrough.{begun_rows, left_numbered, counted_inside}
+use Rattle.gm_registry.proofs.Failures.{commit_failed, failed_since, failed_until}
+use Rattle.gm_registry.proofs.FittingInTurn.{next_uncounted}
+use Rattle.gm_registry.proofs.InsideFails.{passed_on}
 use Rattle.gm_registry.proofs.accept.write_change.Goals as goal
 
 pub returns-in_err-put_over-clause-refused : goal.returns-in_err-put_over-clause-refused
@@ -124,3 +129,47 @@ returns-clause-refused g c clean =
     (not_committed registry_schema HasCounted first (state g.S.Store old) start
     (state g.S.Store mid) (state g.S.Store end) t _ c.commit.result was (rw begin)
     (c.in_ok-put_over.ensures.kept early) inside (c.commit.ensures.err late)))))
+
+pub returns-in_err-put_over-clause-store : goal.returns-in_err-put_over-clause-store
+returns-in_err-put_over-clause-store g c clean =
+    let old = c.args.conn.now in
+    let start = state g.S.Store c.transaction-tx.result.conn.now in
+    let mid = state g.S.Store c.put_over.new.tx.conn.now in
+    let begin = c.transaction-tx.ensures.begun in
+    let end : Held _ = c.drop-tx.new.self.0 in
+    let same : end ≡ c.conn-1.given.0 = search rules in
+    let late : HasCleanDisk (state g.S.Store end) = rw (sym same) at clean in
+    let early : HasCleanDisk mid = omega (arith, c.drop-tx.ensures.survives.clean) in
+    passed_on c.from_residual.result c.in_err-put_over.field-0.0 _ c.from_residual.ensures.1
+    (λ is t was next fits room.
+    let failed = c.in_err-put_over.ensures.fails early is (state g.S.Store old).committed t
+    (subst (λ h. IsInside (state g.S.Store old).committed (state g.S.Store h) t) (sym begin)
+    (begun_rows g.S.Store old t was)) (
+      fits,
+      next_uncounted c.args.number t was.tables.rows.numbered next,
+      subst (λ h. HasRoom (length c.args.change.now.components + 2) (seen g.S.Store h)) (sym begin)
+          room,
+    ) in
+    subst (λ h. StoreFailed g.S.Store old h) same
+    (subst (λ h. StoreFailed g.S.Store h end) begin
+    (failed_until start mid (state g.S.Store end) _ c.drop-tx.ensures.survives failed)))
+
+pub returns-clause-store : goal.returns-clause-store
+returns-clause-store g c clean =
+    let old = c.args.conn.now in
+    let mid = state g.S.Store c.put_over.new.tx.conn.now in
+    let first = (state g.S.Store old).committed in
+    let begin = c.transaction-tx.ensures.begun in
+    let end : Held _ = c.commit.new.self.0 in
+    let same : end ≡ c.conn-2-1.given.0 = search rules in
+    let late : HasCleanDisk (state g.S.Store end) = rw (sym same) at clean in
+    let early : HasCleanDisk mid = omega (arith, c.commit.ensures.survives.clean) in
+    if_err c.commit.result _ _ (λ e fails is t was next fits room.
+    let inside = c.in_ok-put_over.ensures.put early first t
+    (subst (λ h. IsInside first (state g.S.Store h) t) (sym begin)
+    (begun_rows g.S.Store old t was)) in
+    subst (λ h. StoreFailed g.S.Store old h) same
+    (failed_since (state g.S.Store old) mid (state g.S.Store end) _
+    (survives_begin g.S.Store old mid _ (rw begin at c.put_over.ensures.survives))
+    (commit_failed mid (state g.S.Store end) e inside.inside inside.is_open fails is)))
+    (c.commit.ensures.err late)

@@ -10,12 +10,20 @@ use Rattle.gm_rows.proofs.FoundLabels.{one_more}
 use Rattle.gm_registry.proofs.ReadsInTurn.{clean_before}
 use Rattle.gm_rows.proofs.RowsSayRecords.{passed_on}
 use Rattle.gm_registry.proofs.SomeReads.{some_then, some_failed, some_stay, some_later, failed_clean}
+use Rattle.std.proofs.Common.{map}
+use Rattle.std.proofs.lemmas.List.{map-append}
+use Rattle.gm_rows.specs.Says.{component_shown}
+use Rattle.gm_registry.specs.Keys.{shown_under}
+use Rattle.gm_registry.specs.Registry.{seen}
+use Rattle.gm_registry.proofs.SaidParts.{some_carried}
 use Rattle.gm_registry.proofs.components_by_key.components_under.Goals as goal
 
 pub labels-init : goal.labels-init
 labels-init g c = record {
   read = inl refl;
   found = λ _ t s _ _. subst (IsPermutation []) (sym c.new-all.ensures.items)
+      (IsPermutation-refl []);
+  says = λ _ _. subst (λ ks. IsPermutation [] (map component_shown ks)) (sym c.new-all.ensures.items)
       (IsPermutation-refl []);
 }
 
@@ -67,6 +75,21 @@ labels-preserved g c =
           c.label-item.result c.labels.all.items c.in_ok-some.some.items c.labels-test.true
           c.label-item.is (before.found early t s was of) some in
           rw (c.in_ok-extend_from_slice.ensures.items, c.deref.ensures.value) both;
+      says = λ clean known.
+          let early = clean_before (state g.S.Store c.labels.conn)
+          (state g.S.Store c.components_with.new.conn) c.in_ok-some.ensures.read clean in
+          let db = seen g.S.Store c.args.conn.now in
+          let some = some_carried g.S.Store c.args.conn.now c.labels.conn
+          (λ trees. IsPermutation (shown_under trees c.args.key c.label-item.result)
+          (map component_shown c.in_ok-some.some.items)) before.read early
+          (c.in_ok-some.ensures.says clean) known in
+          let both = one_more (shown_under db c.args.key) c.args.labels.now c.labels.label-index
+          c.label-item.result (map component_shown c.labels.all.items)
+          (map component_shown c.in_ok-some.some.items) c.labels-test.true
+          c.label-item.is (before.says early known) some in
+          rw (c.in_ok-extend_from_slice.ensures.items, c.deref.ensures.value)
+          (subst (IsPermutation _) (sym (map-append component_shown c.labels.all.items
+          c.in_ok-some.some.items)) both);
     }
 
 pub returns-clause-found : goal.returns-clause-found
@@ -74,3 +97,10 @@ returns-clause-found g c clean t s was of =
     subst (λ all. IsPermutation (flat_map (under c.args.key s.components) all) c.labels.all.items)
     (take_all c.labels.label-index c.args.labels.now c.labels-test.false)
     (c.labels.invariant.found clean t s was of)
+
+pub returns-clause-says : goal.returns-clause-says
+returns-clause-says g c clean known =
+    subst (λ all. IsPermutation (flat_map (shown_under (seen g.S.Store c.args.conn.now) c.args.key)
+    all) (map component_shown c.labels.all.items))
+    (take_all c.labels.label-index c.args.labels.now c.labels-test.false)
+    (c.labels.invariant.says clean known)

@@ -1,9 +1,10 @@
-use Rattle.std.proofs.Common.{take, flat_map, IsPermutation}
+use Rattle.std.proofs.Common.{take, map, flat_map, IsPermutation}
 use Rattle.gm_state.specs.Records.{Records}
 use Rattle.gm_state.specs.Rows.{Tables}
-use Rattle.gm_registry.specs.Keys.{under}
+use Rattle.gm_registry.specs.Keys.{shown_under, under}
+use Rattle.gm_rows.specs.Says.{component_shown}
 use Rattle.gm_rows.specs.ReadableTables.{AreRecordsOf}
-use Rattle.gm_registry.specs.Registry.{DiskKept, HasTables, HaveRead}
+use Rattle.gm_registry.specs.Registry.{DiskKept, HasTables, HaveRead, IsOurs, seen}
 use Rattle.gm_registry.proofs.components_by_key.components_under.Given as goal
 
 -- the components of the labels so far
@@ -14,4 +15,8 @@ invariant-labels g l = record {
       → AreRecordsOf t s
       → IsPermutation (flat_map (under l.key s.components) (take l.label-index l.labels))
       l.all.items;
+  says : DiskKept g.S.Store l.conn → IsOurs g.S.Store l.fn.conn
+      → IsPermutation
+      (flat_map (shown_under (seen g.S.Store l.fn.conn) l.key) (take l.label-index l.labels))
+      (map component_shown l.all.items);
 }

@@ -7,6 +7,10 @@ use Rattle.gm_registry.specs.Reads.{IsOurSchema}
 use Rattle.gm_rows.specs.Values.{columns_at, nine}
 use Rattle.gm_registry.proofs.ReadsInTurn.{ours, counted}
 use Rattle.gm_registry.proofs.RecordsUnder.{components_read, no_components}
+use Rattle.std.proofs.Common.{filter}
+use Rattle.gm_rows.specs.Says.{component_shown}
+use Rattle.gm_registry.specs.Keys.{row_is_under}
+use Rattle.gm_registry.proofs.SaidParts.{said_by}
 use Rattle.gm_registry.proofs.components_by_key.components_with.Goals as goal
 
 pub returns-clause-found : goal.returns-clause-found
@@ -34,3 +38,13 @@ pub returns-clause-failed : goal.returns-clause-failed
 returns-clause-failed g c =
     on_err c.read_all.result _ (read_at_most IsOurSchema (state g.S.Store c.args.conn.now)
     (state g.S.Store c.rows_under.new.conn) c.in_ok-rows.ensures.read)
+
+pub returns-clause-says : goal.returns-clause-says
+returns-clause-says g c clean =
+    let old = state g.S.Store c.args.conn.now in
+    if_ok c.read_all.result _ _ (λ ks is known.
+    said_by component_shown (filter (row_is_under c.args.key c.args.label) (old.now.trees 4))
+    c.in_ok-rows.rows.items ks.items
+    (subst (λ label. AreUnder old.now.trees c.args.key label c.in_ok-rows.rows.items)
+    c.as_str.ensures.text (c.in_ok-rows.ensures.rows clean known))
+    (ap (map (columns_at nine)) (sym c.deref.ensures.value) ∙ is)) c.read_all.ensures.read

@@ -6,12 +6,15 @@ use Rattle.sqlite.proofs.StateLemmas.{survives_then}
 use Rattle.sqlite.proofs.Callers.{survives_begin}
 use Rattle.sqlite_rows.specs.Calls.{IsInside as IsInsideBy}
 use Rattle.sqlite_rows.proofs.Statements.{committed}
-use Rattle.sqlite_rows.proofs.Refusing.{under_ok}
+use Rattle.sqlite_rows.proofs.Refusing.{if_err, under_ok}
 use Rattle.gm_rows.specs.Schema.{registry_schema}
 use Rattle.gm_rows.specs.Tables.{HasCounted, SeesTables, Holds, no_tables}
 use Rattle.gm_registry.specs.Opening.{IsBlank, IsBlankInside}
+use Rattle.gm_registry.specs.Registry.{StoreFailed}
 use Rattle.gm_registry.proofs.MadeTables.{blank_begun, none_numbered}
 use Rattle.gm_registry.proofs.CountedThrough.{counted_inside}
+use Rattle.gm_registry.proofs.Failures.{commit_failed, failed_since, failed_until}
+use Rattle.gm_registry.proofs.InsideFails.{passed_on}
 use Rattle.gm_registry.proofs.create.create_all.Goals as goal
 
 pub returns-clause-made : goal.returns-clause-made
@@ -65,3 +68,72 @@ returns-clause-left g c was =
     (survives_begin g.S.Store old (state g.S.Store one) _
     (rw begin at c.create_tables.ensures.survives)) c.put_about.ensures.survives)
     c.commit.ensures.survives)
+
+pub returns-in_err-create_tables-clause-store : goal.returns-in_err-create_tables-clause-store
+returns-in_err-create_tables-clause-store g c clean =
+    let old = c.args.conn.now in
+    let start = state g.S.Store c.transaction-tx.result.conn.now in
+    let mid = state g.S.Store c.create_tables.new.tx.conn.now in
+    let begin = c.transaction-tx.ensures.begun in
+    let end : Held _ = c.drop-tx.new.self.0 in
+    let same : end ≡ c.conn-1.given.0 = search rules in
+    let late : HasCleanDisk (state g.S.Store end) = rw (sym same) at clean in
+    let early : HasCleanDisk mid = omega (arith, c.drop-tx.ensures.survives.clean) in
+    passed_on c.from_residual.result c.in_err-create_tables.field-0.0 _ c.from_residual.ensures.1
+    (λ is was.
+    let failed = c.in_err-create_tables.ensures.fails early is (state g.S.Store old).committed
+    (subst (λ h. IsBlankInside (state g.S.Store old).committed (state g.S.Store h)) (sym begin)
+    (blank_begun g.S.Store old was)) in
+    subst (λ h. StoreFailed g.S.Store old h) same
+    (subst (λ h. StoreFailed g.S.Store h end) begin
+    (failed_until start mid (state g.S.Store end) _ c.drop-tx.ensures.survives failed)))
+
+pub returns-in_err-put_about-clause-store : goal.returns-in_err-put_about-clause-store
+returns-in_err-put_about-clause-store g c clean =
+    let old = c.args.conn.now in
+    let start = state g.S.Store c.transaction-tx.result.conn.now in
+    let first = (state g.S.Store old).committed in
+    let one = state g.S.Store c.create_tables.new.tx.conn.now in
+    let mid = state g.S.Store c.put_about.new.tx.conn.now in
+    let begin = c.transaction-tx.ensures.begun in
+    let end : Held _ = c.drop-tx-in_err-put_about.new.self.0 in
+    let same : end ≡ c.conn-in_err-put_about-1.given.0 = search rules in
+    let late : HasCleanDisk (state g.S.Store end) = rw (sym same) at clean in
+    let early : HasCleanDisk mid =
+    omega (arith, c.drop-tx-in_err-put_about.ensures.survives.clean) in
+    let earlier : HasCleanDisk one = omega (arith, early, c.put_about.ensures.survives.clean) in
+    passed_on c.from_residual-in_err-put_about.result c.in_err-put_about.field-0.0 _
+    c.from_residual-in_err-put_about.ensures.1 (λ is was.
+    let bare = c.in_ok-create_tables.ensures.made earlier first
+    (subst (λ h. IsBlankInside first (state g.S.Store h)) (sym begin)
+    (blank_begun g.S.Store old was)) in
+    let failed = failed_since start one mid _ c.create_tables.ensures.survives
+    (c.in_err-put_about.ensures.fails early is first bare) in
+    subst (λ h. StoreFailed g.S.Store old h) same
+    (subst (λ h. StoreFailed g.S.Store h end) begin
+    (failed_until start mid (state g.S.Store end) _ c.drop-tx-in_err-put_about.ensures.survives
+    failed)))
+
+pub returns-clause-store : goal.returns-clause-store
+returns-clause-store g c clean =
+    let old = c.args.conn.now in
+    let one = state g.S.Store c.create_tables.new.tx.conn.now in
+    let mid = state g.S.Store c.put_about.new.tx.conn.now in
+    let first = (state g.S.Store old).committed in
+    let begin = c.transaction-tx.ensures.begun in
+    let end : Held _ = c.commit.new.self.0 in
+    let same : end ≡ c.conn-2-1.given.0 = search rules in
+    let late : HasCleanDisk (state g.S.Store end) = rw (sym same) at clean in
+    let early : HasCleanDisk mid = omega (arith, c.commit.ensures.survives.clean) in
+    let earlier : HasCleanDisk one = omega (arith, early, c.put_about.ensures.survives.clean) in
+    if_err c.commit.result _ _ (λ e fails is was.
+    let inside = c.in_ok-put_about.ensures.made early first
+    (c.in_ok-create_tables.ensures.made earlier first
+    (subst (λ h. IsBlankInside first (state g.S.Store h)) (sym begin)
+    (blank_begun g.S.Store old was))) in
+    subst (λ h. StoreFailed g.S.Store old h) same
+    (failed_since (state g.S.Store old) one (state g.S.Store end) _
+    (survives_begin g.S.Store old one _ (rw begin at c.create_tables.ensures.survives))
+    (failed_since one mid (state g.S.Store end) _ c.put_about.ensures.survives
+    (commit_failed mid (state g.S.Store end) e inside.inside inside.is_open fails is))))
+    (c.commit.ensures.err late)

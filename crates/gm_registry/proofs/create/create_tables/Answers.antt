@@ -1,7 +1,10 @@
 use Rattle.std.proofs.Common.{arith}
 use Rattle.sqlite.specs.State.{HasCleanDisk}
 use Rattle.sqlite.specs.Held.{state}
+use Rattle.gm_registry.proofs.CreatableTables.{makes_about, makes_mirrors, makes_components, makes_intents, makes_commands}
+use Rattle.gm_registry.proofs.InsideFails.{passed_on}
 use Rattle.gm_registry.proofs.MadeTables.{tables_made}
+use Rattle.gm_registry.proofs.MakingFails.{none_made, table_made, table_fails}
 use Rattle.gm_registry.proofs.create.create_tables.Goals as goal
 
 pub returns-clause-made : goal.returns-clause-made
@@ -27,3 +30,73 @@ returns-clause-made g c clean first was =
     (state g.S.Store c.execute-5.new.self.conn.now)
     c.in_ok-execute.field-0 c.in_ok-execute-2.field-0 c.in_ok-execute-3.field-0
     c.in_ok-execute-4.field-0 c.in_ok-execute-5.field-0 was one two three four five
+
+pub returns-in_err-execute-clause-fails : goal.returns-in_err-execute-clause-fails
+returns-in_err-execute-clause-fails g c clean =
+    passed_on c.from_residual.result c.in_err-execute.field-0.0 _
+    c.from_residual.ensures.1 (λ is first was.
+    table_fails makes_about (none_made was) (c.in_err-execute.ensures.runs clean) is)
+
+pub returns-in_err-execute-2-clause-fails : goal.returns-in_err-execute-2-clause-fails
+returns-in_err-execute-2-clause-fails g c clean =
+    let clean-1 : HasCleanDisk (state g.S.Store c.execute.new.self.conn.now) =
+    omega (arith, clean, c.execute-2.ensures.survives.clean) in
+    passed_on c.from_residual-in_err-execute-2.result c.in_err-execute-2.field-0.0 _
+    c.from_residual-in_err-execute-2.ensures.1 (λ is first was.
+    let one = table_made makes_about (none_made was) c.in_ok-execute.field-0
+    c.execute.ensures.survives (c.in_ok-execute.ensures.runs clean-1) in
+    table_fails makes_mirrors one (c.in_err-execute-2.ensures.runs clean) is)
+
+pub returns-in_err-execute-3-clause-fails : goal.returns-in_err-execute-3-clause-fails
+returns-in_err-execute-3-clause-fails g c clean =
+    let clean-2 : HasCleanDisk (state g.S.Store c.execute-2.new.self.conn.now) =
+    omega (arith, clean, c.execute-3.ensures.survives.clean) in
+    let clean-1 : HasCleanDisk (state g.S.Store c.execute.new.self.conn.now) =
+    omega (arith, clean-2, c.execute-2.ensures.survives.clean) in
+    passed_on c.from_residual-in_err-execute-3.result c.in_err-execute-3.field-0.0 _
+    c.from_residual-in_err-execute-3.ensures.1 (λ is first was.
+    let one = table_made makes_about (none_made was) c.in_ok-execute.field-0
+    c.execute.ensures.survives (c.in_ok-execute.ensures.runs clean-1) in
+    let two = table_made makes_mirrors one c.in_ok-execute-2.field-0
+    c.execute-2.ensures.survives (c.in_ok-execute-2.ensures.runs clean-2) in
+    table_fails makes_components two (c.in_err-execute-3.ensures.runs clean) is)
+
+pub returns-in_err-execute-4-clause-fails : goal.returns-in_err-execute-4-clause-fails
+returns-in_err-execute-4-clause-fails g c clean =
+    let clean-3 : HasCleanDisk (state g.S.Store c.execute-3.new.self.conn.now) =
+    omega (arith, clean, c.execute-4.ensures.survives.clean) in
+    let clean-2 : HasCleanDisk (state g.S.Store c.execute-2.new.self.conn.now) =
+    omega (arith, clean-3, c.execute-3.ensures.survives.clean) in
+    let clean-1 : HasCleanDisk (state g.S.Store c.execute.new.self.conn.now) =
+    omega (arith, clean-2, c.execute-2.ensures.survives.clean) in
+    passed_on c.from_residual-in_err-execute-4.result c.in_err-execute-4.field-0.0 _
+    c.from_residual-in_err-execute-4.ensures.1 (λ is first was.
+    let one = table_made makes_about (none_made was) c.in_ok-execute.field-0
+    c.execute.ensures.survives (c.in_ok-execute.ensures.runs clean-1) in
+    let two = table_made makes_mirrors one c.in_ok-execute-2.field-0
+    c.execute-2.ensures.survives (c.in_ok-execute-2.ensures.runs clean-2) in
+    let three = table_made makes_components two c.in_ok-execute-3.field-0
+    c.execute-3.ensures.survives (c.in_ok-execute-3.ensures.runs clean-3) in
+    table_fails makes_intents three (c.in_err-execute-4.ensures.runs clean) is)
+
+pub returns-in_err-execute-5-clause-fails : goal.returns-in_err-execute-5-clause-fails
+returns-in_err-execute-5-clause-fails g c clean =
+    let clean-4 : HasCleanDisk (state g.S.Store c.execute-4.new.self.conn.now) =
+    omega (arith, clean, c.execute-5.ensures.survives.clean) in
+    let clean-3 : HasCleanDisk (state g.S.Store c.execute-3.new.self.conn.now) =
+    omega (arith, clean-4, c.execute-4.ensures.survives.clean) in
+    let clean-2 : HasCleanDisk (state g.S.Store c.execute-2.new.self.conn.now) =
+    omega (arith, clean-3, c.execute-3.ensures.survives.clean) in
+    let clean-1 : HasCleanDisk (state g.S.Store c.execute.new.self.conn.now) =
+    omega (arith, clean-2, c.execute-2.ensures.survives.clean) in
+    passed_on c.from_residual-in_err-execute-5.result c.in_err-execute-5.field-0.0 _
+    c.from_residual-in_err-execute-5.ensures.1 (λ is first was.
+    let one = table_made makes_about (none_made was) c.in_ok-execute.field-0
+    c.execute.ensures.survives (c.in_ok-execute.ensures.runs clean-1) in
+    let two = table_made makes_mirrors one c.in_ok-execute-2.field-0
+    c.execute-2.ensures.survives (c.in_ok-execute-2.ensures.runs clean-2) in
+    let three = table_made makes_components two c.in_ok-execute-3.field-0
+    c.execute-3.ensures.survives (c.in_ok-execute-3.ensures.runs clean-3) in
+    let four = table_made makes_intents three c.in_ok-execute-4.field-0
+    c.execute-4.ensures.survives (c.in_ok-execute-4.ensures.runs clean-4) in
+    table_fails makes_commands four (c.in_err-execute-5.ensures.runs clean) is)

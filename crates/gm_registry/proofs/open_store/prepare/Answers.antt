@@ -206,16 +206,18 @@ returns-then-is_empty-clause-refuses g c clean is_open foreign =
 pub returns-in_err-create_all-clause-store : goal.returns-in_err-create_all-clause-store
 returns-in_err-create_all-clause-store g c clean =
     let old = state g.S.Store c.args.conn.now in
-    passed_on c.from_residual.result _ _ (λ e _ is is_open some.
+    passed_on c.from_residual.result _ _ (λ e same is is_open some.
     let settled =
     (c.is_autocommit-settled.ensures.settled (c.is_autocommit-settled.ensures.value
     ∙ ap not c.requires) is_open) in
     elim some [
-      | inl sound ↦ absurd (shows_some old c.schema.result.now c.is_empty.result
+      | inl empty ↦ c.in_err-create_all.ensures.store clean (sym same ∙ is)
+          (blank old is_open c.requires settled c.schema.ensures.live empty)
+      | inr (inl sound) ↦ absurd (shows_some old c.schema.result.now c.is_empty.result
           (registry_seen old is_open settled c.schema.ensures.live sound) c.schema.ensures.value
           c.is_empty.ensures c.if-is_empty.true)
-      | inr foreign ↦ absurd (not_foreign_empty old c.schema.result.now c.is_empty.result is_open
-          settled c.schema.ensures.live foreign c.schema.ensures.value c.is_empty.ensures
+      | inr (inr foreign) ↦ absurd (not_foreign_empty old c.schema.result.now c.is_empty.result
+          is_open settled c.schema.ensures.live foreign c.schema.ensures.value c.is_empty.ensures
           c.if-is_empty.true)
     ]) c.from_residual.ensures.1
 
@@ -227,10 +229,14 @@ returns-clause-store g c clean =
     (c.is_autocommit-settled.ensures.settled (c.is_autocommit-settled.ensures.value
     ∙ ap not c.requires) is_open) in
     elim some [
-      | inl sound ↦
+      | inl empty ↦ absurd (not_full old c.schema.result.now c.is_empty.result
+          (blank old is_open c.requires settled c.schema.ensures.live empty) c.schema.ensures.value
+          c.is_empty.ensures c.if-is_empty.false)
+      | inr (inl sound) ↦
           let ours = registry_seen old is_open settled c.schema.ensures.live sound in
           failed is (ours_known _ ours) (λ _. ours) is_open
-      | inr foreign ↦ failed is (foreign_shown old is_open settled c.schema.ensures.live foreign)
+      | inr (inr foreign) ↦ failed is
+          (foreign_shown old is_open settled c.schema.ensures.live foreign)
           (λ lists. absurd (foreign.other (subst (λ (d : Database). ListsOurs d.trees) settled
           lists))) is_open
     ]) (c.check_registry.ensures.store clean)

@@ -6,6 +6,8 @@ use Rattle.gm_registry.specs.Reads.{IsOurSchema}
 use Rattle.gm_rows.specs.Values.{columns_at, nine}
 use Rattle.gm_registry.proofs.ReadsInTurn.{ours, counted}
 use Rattle.gm_registry.proofs.RecordsUnder.{mirrors_read, no_mirrors}
+use Rattle.gm_rows.specs.Says.{mirror_shown}
+use Rattle.gm_registry.proofs.SaidParts.{said_by}
 use Rattle.gm_registry.proofs.part.all_mirrors.Goals as goal
 
 pub returns-clause-all : goal.returns-clause-all
@@ -29,3 +31,11 @@ pub returns-clause-failed : goal.returns-clause-failed
 returns-clause-failed g c =
     on_err c.read_all.result _ (read_at_most IsOurSchema (state g.S.Store c.args.conn.now)
     (state g.S.Store c.rows_of.new.conn) c.in_ok-rows.ensures.read)
+
+pub returns-clause-says : goal.returns-clause-says
+returns-clause-says g c clean =
+    let old = state g.S.Store c.args.conn.now in
+    if_ok c.read_all.result _ _ (λ ms is known.
+    said_by mirror_shown (old.now.trees 1) c.in_ok-rows.rows.items ms.items
+    (c.in_ok-rows.ensures.rows clean known)
+    (ap (map (columns_at nine)) (sym c.deref.ensures.value) ∙ is)) c.read_all.ensures.read

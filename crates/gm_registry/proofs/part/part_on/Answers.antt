@@ -4,6 +4,8 @@ use Rattle.gm_refusals.specs.PartOf.{part_of}
 use Rattle.gm_registry.proofs.PartOf.{is_part}
 use Rattle.gm_registry.proofs.ReadsInTurn.{tables_stay}
 use Rattle.gm_registry.proofs.CallsLeave.{saved}
+use Rattle.gm_registry.proofs.ReadsInTurn.{registry_ours}
+use Rattle.gm_registry.proofs.SaidParts.{said_in_order}
 use Rattle.gm_registry.proofs.part.part_on.Goals as goal
 
 pub returns-in-Some-clause-part : goal.returns-in-Some-clause-part
@@ -33,3 +35,13 @@ returns-in-None-clause-unreadable g c clean is t s was of =
     c.in-None.ensures.none (part_of s command mids)
     (is_part s command mids of.state asked.mirrors.items asked.components.items
     (c.a_part_is_a_state.ensures s command mids of.state) are.mirrors are.components)
+
+pub returns-in-Some-clause-says : goal.returns-in-Some-clause-says
+returns-in-Some-clause-says g c clean was =
+    let old = state g.S.Store c.args.conn.now in
+    let asked = c.in_ok-asked.asked in (
+      c.in-Some.ensures.some.state,
+      said_in_order old.now.trees c.args.command.now c.args.mids.now asked.mirrors.items
+          asked.components.items asked.count c.in-Some.state
+          (c.in_ok-asked.ensures.says clean (registry_ours old was)) c.in-Some.ensures.some,
+    )

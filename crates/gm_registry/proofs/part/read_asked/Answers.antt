@@ -14,6 +14,16 @@ use Rattle.gm_registry.proofs.PartOf.{mirrors_asked, components_asked}
 use Rattle.gm_registry.proofs.ReadsInTurn.{failed_then, tables_stay}
 use Rattle.gm_rows.proofs.RowsSayRecords.{passed_on}
 use Rattle.gm_registry.proofs.SomeReads.{then_some, some_clean, some_stay, failed_clean}
+use Rattle.std.proofs.Common.{refl}
+use Rattle.std.proofs.lemmas.List.{length-map}
+use Rattle.std.proofs.lemmas.List.Sorted.{IsPermutation-refl}
+use Rattle.sqlite.specs.Tree.{Trees}
+use Rattle.gm_rows.specs.Queries.{shown_places}
+use Rattle.gm_rows.specs.Says.{mirror_shown, component_shown}
+use Rattle.gm_rows.specs.Values.{columns_at}
+use Rattle.gm_rows.specs.declared.fetched.Table.TheVariants.{Mirrors}
+use Rattle.gm_registry.specs.Keys.{shown_under}
+use Rattle.gm_registry.proofs.ReadsInTurn.{carried}
 use Rattle.gm_registry.proofs.part.read_asked.Goals as goal
 
 pub returns-in_err-named-clause-unreadable : goal.returns-in_err-named-clause-unreadable
@@ -144,3 +154,55 @@ returns-clause-read g c =
     c.components_under.new.conn c.in_ok-all.ensures.read c.in_ok-named.ensures.read in
     then_some g.S.Store c.args.conn.now c.components_under.new.conn c.components_under-2.new.conn
     both c.in_ok-components.ensures.read
+
+pub returns-clause-says : goal.returns-clause-says
+returns-clause-says g c clean known =
+    let old = state g.S.Store c.args.conn.now in
+    let one = state g.S.Store c.all_mirrors.new.conn in
+    let two = state g.S.Store c.components_under.new.conn in
+    let command = c.args.command.now in
+    let mids = c.args.mids.now in
+    let all = c.in_ok-all.all.items in
+    let named = c.in_ok-named.named.items in
+    let mirrors = c.in_ok-mirrors.mirrors.items in
+    let owned = c.in_ok-components.components.items in
+    let clean2 = some_clean g.S.Store c.components_under.new.conn c.components_under-2.new.conn
+    c.in_ok-components.ensures.read clean in
+    let clean1 = some_clean g.S.Store c.all_mirrors.new.conn c.components_under.new.conn
+    c.in_ok-named.ensures.read clean2 in
+    let both = then_some g.S.Store c.args.conn.now c.all_mirrors.new.conn
+    c.components_under.new.conn c.in_ok-all.ensures.read c.in_ok-named.ensures.read in
+    let on = carried old one (λ (trees : Trees). IsPermutation
+    (flat_map (shown_under trees Provider) c.providers_of.result.now) (map component_shown named))
+    c.in_ok-all.ensures.read clean1 (c.in_ok-named.ensures.says clean2) known in
+    let mirrors_are : mirrors ≡ filter (is_asked_by command mids named) all =
+    c.in_ok-mirrors.ensures
+    ∙ (λ i. filter (is_asked_by command mids (c.deref.ensures.value i))
+    (c.deref-2.ensures.value i)) in
+    let names_are : c.deref-4.result.now ≡ map name mirrors =
+    c.deref-4.ensures.value ∙ (c.in_ok-names.ensures ∙ ap (map name) c.deref-3.ensures.value) in
+    let theirs = carried old two (λ (trees : Trees). IsPermutation
+    (flat_map (shown_under trees Mirror) c.deref-4.result.now) (map component_shown owned))
+    both clean2 (c.in_ok-components.ensures.says clean) known in
+    let said = c.in_ok-all.ensures.says clean1 known in
+    let many = length_permutation _ _ said in
+    record {
+      mirrors = all;
+      named = named;
+      mirrors_are = said;
+      named_are = subst (λ ps. IsPermutation (flat_map (shown_under old.now.trees Provider) ps)
+          (map component_shown named)) c.providers_of.ensures on;
+      asked_are = subst (λ l. IsPermutation l mirrors) mirrors_are (IsPermutation-refl mirrors);
+      owned_are = subst (λ (ns : List (List ℕ)). IsPermutation
+          (flat_map (shown_under old.now.trees Mirror) ns) (map component_shown owned)) names_are
+          theirs;
+      count_is = omega (
+        arith,
+        many,
+        length-map (old.now.trees 1) (columns_at (shown_places Mirrors)),
+        length-map all mirror_shown,
+        c.len-count.ensures,
+        c.deref-2.ensures.len,
+        ap length c.deref-2.ensures.value,
+      );
+    }

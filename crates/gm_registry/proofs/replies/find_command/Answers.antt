@@ -1,13 +1,13 @@
 use Rattle.std.proofs.Common.{[], ◌∷◌}
 use Rattle.sqlite.specs.declared.types.Value.TheVariants.{Text}
 use Rattle.sqlite.specs.Held.{state}
-use Rattle.sqlite_rows.proofs.Refusing.{if_ok, if_err, shown_has, shown_ok, asked_has, asks_only}
+use Rattle.sqlite_rows.proofs.Refusing.{if_ok, if_err, shown_has}
 use Rattle.gm_rows.specs.Statements.{find_command_text}
 use Rattle.gm_rows.specs.Schema.{registry_schema}
 use Rattle.gm_rows.specs.Tables.{HasCounted}
 use Rattle.gm_registry.proofs.TextMeanings.{find_is}
 use Rattle.gm_registry.proofs.FoundReply.{finds}
-use Rattle.gm_registry.proofs.CallsLeave.{reads}
+use Rattle.gm_registry.proofs.CallsLeave.{query_reads}
 use Rattle.gm_registry.proofs.Failures.{find_failed}
 use Rattle.gm_registry.proofs.ReadsInTurn.{ours}
 use Rattle.gm_registry.proofs.replies.find_command.Goals as goal
@@ -25,15 +25,9 @@ returns-clause-rows g c clean =
 
 pub returns-clause-reads : goal.returns-clause-reads
 returns-clause-reads g c =
-    let old = state g.S.Store c.args.conn.now in
-    let new = state g.S.Store c.query_all.new.self in
-    reads g.S.Store g.met.S.Store.settled c.args.conn.now c.query_all.new.self c.query_all.result
-    (λ clean. shown_ok registry_schema HasCounted (λ rows. rows.items) find_command_text _ old new
-    c.query_all.result find_is.plain (c.query_all.ensures.ok clean))
-    (λ clean. asked_has registry_schema HasCounted find_command_text _ old new c.query_all.result
-    (c.query_all.ensures.err clean))
-    (λ t was. asks_only registry_schema HasCounted find_command_text _ old new t was find_is.plain
-    c.query_all.ensures.survives) c.query_all.ensures.survives.clean
+    query_reads g.S.Store g.met.S.Store.settled c.args.conn.now c.query_all.new.self
+    c.query_all.result (λ rows. rows.items) find_command_text _ find_is.plain c.query_all.ensures.ok
+    c.query_all.ensures.err c.query_all.ensures.survives
 
 pub returns-clause-store : goal.returns-clause-store
 returns-clause-store g c clean =

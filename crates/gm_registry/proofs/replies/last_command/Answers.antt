@@ -1,12 +1,13 @@
-use Rattle.std.proofs.Common.{[]}
+use Rattle.std.proofs.Common.{[], ap}
+use Rattle.sqlite.specs.Effect.{Database}
 use Rattle.sqlite.specs.Held.{state}
-use Rattle.sqlite_rows.proofs.Refusing.{if_ok, if_err, shown_has, shown_ok, asked_has, asks_only}
+use Rattle.sqlite_rows.proofs.Refusing.{if_ok, if_err, map_ok, alone_ok, shown_has}
 use Rattle.gm_rows.specs.Statements.{last_command_text}
 use Rattle.gm_rows.specs.Schema.{registry_schema}
 use Rattle.gm_rows.specs.Tables.{HasCounted}
 use Rattle.gm_registry.proofs.TextMeanings.{last_is}
 use Rattle.gm_registry.proofs.LastCommand.{lasts}
-use Rattle.gm_registry.proofs.CallsLeave.{reads}
+use Rattle.gm_registry.proofs.CallsLeave.{query_reads}
 use Rattle.gm_registry.proofs.Failures.{last_failed}
 use Rattle.gm_registry.proofs.ReadsInTurn.{ours}
 use Rattle.gm_registry.proofs.replies.last_command.Goals as goal
@@ -24,15 +25,9 @@ returns-clause-rows g c clean =
 
 pub returns-clause-reads : goal.returns-clause-reads
 returns-clause-reads g c =
-    let old = state g.S.Store c.args.conn.now in
-    let new = state g.S.Store c.query_all.new.self in
-    reads g.S.Store g.met.S.Store.settled c.args.conn.now c.query_all.new.self c.query_all.result
-    (λ clean. shown_ok registry_schema HasCounted (λ rows. rows.items) last_command_text _ old new
-    c.query_all.result last_is.plain (c.query_all.ensures.ok clean))
-    (λ clean. asked_has registry_schema HasCounted last_command_text _ old new c.query_all.result
-    (c.query_all.ensures.err clean))
-    (λ t was. asks_only registry_schema HasCounted last_command_text _ old new t was last_is.plain
-    c.query_all.ensures.survives) c.query_all.ensures.survives.clean
+    query_reads g.S.Store g.met.S.Store.settled c.args.conn.now c.query_all.new.self
+    c.query_all.result (λ rows. rows.items) last_command_text _ last_is.plain c.query_all.ensures.ok
+    c.query_all.ensures.err c.query_all.ensures.survives
 
 pub returns-clause-store : goal.returns-clause-store
 returns-clause-store g c clean =
@@ -41,3 +36,12 @@ returns-clause-store g c clean =
     if_err c.query_all.result _ _ (λ e fails is t was.
     last_failed old new e (ours old t was) was.is_open fails is)
     (c.query_all.ensures.err clean)
+
+pub returns-clause-same : goal.returns-clause-same
+returns-clause-same g c clean =
+    let old = state g.S.Store c.args.conn.now in
+    let new = state g.S.Store c.query_all.new.self in
+    map_ok c.query_all.result _ _
+    (λ alone t was. ap (λ (d : Database). d.trees) (alone (ours old t was)).0.now_is)
+    (alone_ok registry_schema (λ rows. rows.items) last_command_text _ old new c.query_all.result
+    last_is.plain (c.query_all.ensures.ok clean))

@@ -1,5 +1,5 @@
 use Rattle.std.proofs.Common.{rules, ◌≡◌, ◌∙◌, Err, sym, ap, subst}
-use Rattle.gm_bench.specs.declared.fault.BenchFault.TheVariants.{Unreadable}
+use Rattle.gm_bench.specs.declared.fault.BenchFault.TheVariants.{Store, Unreadable}
 use Rattle.gm_registry.proofs.CallsLeave.{saved}
 use Rattle.gm_bench.proofs.DecidesOnly.{unstepped_same}
 use Rattle.gm_bench.proofs.Phases.{takes_failed, work_hand}
@@ -43,6 +43,10 @@ returns-in-Err-clause-rows g c =
           c.in-Err.ensures.readable clean (ap Err fault) t s has records few written honest);
       at_hand = search rules;
       refused = λ clean. c.in-Err.ensures.refused clean;
+      store = λ clean is t s has records none room honest. (
+          let fault : c.in-Err.fault ≡ Store = cc in
+          c.in-Err.ensures.store clean (ap Err fault) t s has records none room honest);
+      goes_on = search rules;
     }
 
 pub returns-in-Ok-clause-rows : goal.returns-in-Ok-clause-rows
@@ -53,6 +57,8 @@ returns-in-Ok-clause-rows g c =
           work_hand (g.H.Shelf.size c.args.self.now.media.shelf) c.in-Ok.accepted work
           (sym c.tell-answer.ensures.1 ∙ pending) (c.in-Ok.ensures.at_hand clean t s has records);
       refused = search rules;
+      store = search rules;
+      goes_on = λ clean. c.in-Ok.ensures.goes_on clean;
     }
 
 pub returns-in-Ok-clause-accepts : goal.returns-in-Ok-clause-accepts

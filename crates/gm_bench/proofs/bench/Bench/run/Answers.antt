@@ -5,6 +5,7 @@ use Rattle.gm_bench.proofs.Phases.{not_pending, has_pending}
 use Rattle.gm_bench.proofs.Carried.{rest_answers, work, is_work, carried_answers, carried_leaves}
 use Rattle.gm_metadata.specs.Images.{Sizes}
 use Rattle.gm_bench.specs.Presence.{AreAtHand}
+use Rattle.gm_bench.proofs.StoreFails.{failed_behind}
 use Rattle.gm_bench.proofs.bench.Bench.run.Goals as goal
 use Rattle.gm_bench.specs.declared.phase.Phase.TheVariants as phase
 use Rattle.gm_bench.specs.Phases.{phase_after}
@@ -158,3 +159,20 @@ pub returns-in_err-answer-clause-readable : goal.returns-in_err-answer-clause-re
 returns-in_err-answer-clause-readable g c clean is =
     c.in_err-answer.ensures.rows.readable clean
     (ap Err (fault_is c.from_residual.result _ _ c.from_residual.ensures.1 is))
+
+pub returns-in_err-answer-clause-store : goal.returns-in_err-answer-clause-store
+returns-in_err-answer-clause-store g c clean is =
+    c.in_err-answer.ensures.rows.store clean
+    (ap Err (fault_is c.from_residual.result _ _ c.from_residual.ensures.1 is))
+
+pub returns-in_err-carry_out-in-Pending-clause-store :
+    goal.returns-in_err-carry_out-in-Pending-clause-store
+returns-in_err-carry_out-in-Pending-clause-store g c clean is t s has records none room honest =
+    let mid : DiskKept g.S.Store c.accept.new.self.media.registry =
+    omega (arith, clean, c.carry_out.ensures.carries.keep.clean) in
+    let goes = c.in_ok-answer.ensures.rows.goes_on mid t s has records in
+    failed_behind g.S.Store c.args.self.now.media.registry c.accept.new.self.media.registry
+    goes.counts goes.limit c.carry_out.new.self.media.registry
+    (c.in_err-carry_out-in-Pending.ensures.store clean (ap Err (fault_is
+    c.from_residual-in_err-carry_out-in-Pending.result _ _
+    c.from_residual-in_err-carry_out-in-Pending.ensures.1 is)) goes.tables goes.has)

@@ -1,4 +1,4 @@
-use Rattle.std.proofs.Common.{rules}
+use Rattle.std.proofs.Common.{rules, ◌∙◌, sym}
 use Rattle.gm_registry.proofs.CallsLeave.{saved}
 use Rattle.gm_bench.proofs.DecidesOnly.{unstepped_same, reads_none}
 use Rattle.gm_bench.proofs.media.Media.accept.Goals as goal
@@ -35,3 +35,8 @@ returns-then-not-is_key-clause-accepts g c =
           reads_none g.S.Store g.met.S.Store.settled c.args.self.now.registry);
       clean = search rules;
     }
+
+pub returns-in-Ok-clause-store : goal.returns-in-Ok-clause-store
+returns-in-Ok-clause-store g c =
+    c.answer.ensures.store (c.deref.ensures ∙ c.in-Ok.ensures.words)
+    (sym c.is_key.ensures ∙ c.if-not-is_key.false) c.in-Ok.ensures.fits

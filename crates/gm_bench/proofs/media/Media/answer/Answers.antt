@@ -1,5 +1,5 @@
 use Rattle.std.proofs.Common.{rules, ◌≡◌, ◌≢◌, ◌∙◌, ℕ, refl, sym, subst, subst₂, arith, string_bytes, true≢false}
-use Rattle.std.proofs.lemmas.Result.{on_err_weaker}
+use Rattle.std.proofs.lemmas.Result.{on_err_weaker, on_ok_weaker}
 use Rattle.std.specs.Prelude.{MatchOption}
 use Rattle.gm_lists.proofs.Order.{same_is, same_from}
 use Rattle.gm_rules.specs.AbstractCalls as run
@@ -9,6 +9,8 @@ use Rattle.gm_registry.proofs.CallsLeave.{saved}
 use Rattle.gm_shelf.proofs.InTurn.{quiet_itself}
 use Rattle.gm_bench.proofs.CallAnswers.{kept_answer, same_again, other_command}
 use Rattle.gm_bench.proofs.DecidesOnly.{nothing_then, still, unstepped, then_step, ok_then, reads_then}
+use Rattle.gm_bench.specs.Calls.{most_rows}
+use Rattle.gm_bench.proofs.StoreFails.{failed_later, goes_later, room_later}
 use Rattle.gm_bench.proofs.media.Media.answer.Goals as goal
 
 pub returns-then-eq-clause-leaves : goal.returns-then-eq-clause-leaves
@@ -172,3 +174,28 @@ returns-in-Ok-None-clause-refused g c clean =
     omega (arith, clean, c.decide.ensures.accepts.clean) in
     on_err_weaker c.decide.result (λ kept t s has.
     kept t s (c.in-Ok-None.ensures.found asked t has).1.tables) (c.decide.ensures.refused clean)
+
+pub returns-in-Ok-None-clause-store : goal.returns-in-Ok-None-clause-store
+returns-in-Ok-None-clause-store g c words key_ok fits clean is t s has records none room honest =
+    let asked : DiskKept g.S.Store c.reply_of.new.self =
+    omega (arith, clean, c.decide.ensures.accepts.clean) in
+    let found = c.in-Ok-None.ensures.found asked t has in
+    let free : IsFree t c.args.key.now =
+    subst (λ o. MatchOption o (IsFree t c.args.key.now)
+    (λ it. IsKept t c.args.key.now it.0 (string_bytes it.1) it.2))
+    c.in-Ok-None.field-0-is found.0 in
+    failed_later g.S.Store c.args.self.now.registry c.reply_of.new.self t
+    c.reply_of.ensures.reads has found.1.tables c.decide.new.self.registry
+    (c.decide.ensures.store words key_ok fits clean is t s found.1.tables records (none, free)
+    (room_later g.S.Store c.args.self.now.registry c.reply_of.new.self t c.reply_of.ensures.reads
+    has found.1.tables most_rows asked room) honest)
+
+pub returns-in-Ok-None-clause-goes_on : goal.returns-in-Ok-None-clause-goes_on
+returns-in-Ok-None-clause-goes_on g c clean =
+    let asked : DiskKept g.S.Store c.reply_of.new.self =
+    omega (arith, clean, c.decide.ensures.accepts.clean) in
+    on_ok_weaker c.decide.result (λ goes t s has records. (
+    let found = c.in-Ok-None.ensures.found asked t has in
+    goes_later g.S.Store c.args.self.now.registry c.reply_of.new.self t c.reply_of.ensures.reads
+    has found.1.tables c.decide.new.self.registry (goes t s found.1.tables records)))
+    (c.decide.ensures.goes_on clean)

@@ -27,3 +27,10 @@ returns-clause-readable g c clean is t s has records fits honest =
     let known = c.in_ok-known.ensures.serves clean t s has records in
     c.decide_on.ensures.readable is fits known.0.state known.0.few known.0.most
     (known.0.itself honest)
+
+pub returns-clause-fits : goal.returns-clause-fits
+returns-clause-fits g c clean = ok_then _ _ (λ r fitting t s has records fits honest. (
+    let known = c.in_ok-known.ensures.serves clean t s has records in
+    let of = known.2 honest in
+    fitting t s records of.part of.mirrors fits (known.0.itself honest)))
+    c.decide_on.result c.decide_on.ensures.fits

@@ -1,16 +1,19 @@
-use Rattle.std.proofs.Common.{rules, Err, sym, ap, subst, arith}
-use Rattle.std.proofs.lemmas.Result.{on_err_weaker}
+use Rattle.std.proofs.Common.{rules, ℕ, List, Err, sym, ap, subst, arith}
+use Rattle.std.proofs.lemmas.Result.{on_err_weaker, on_ok_weaker}
 use Rattle.gm_registry.specs.Registry.{DiskKept}
 use Rattle.gm_registry.proofs.CallsLeave.{saved}
 use Rattle.gm_refusals.specs.Applies.{IsLeast}
 use Rattle.gm_refusals.specs.WorldFacts.{seen_of}
+use Rattle.gm_commands.specs.Commands.{words_of}
+use Rattle.gm_bench.specs.Calls.{most_rows}
 use Rattle.gm_bench.specs.Accepting.{LeavesStep, IsAnswered}
-use Rattle.gm_bench.specs.Planning.{IsPlanned, IsDecided, IsPlanAtHand}
+use Rattle.gm_bench.specs.Planning.{IsFitting, IsPlanned, IsDecided, IsPlanAtHand, IsPlanFitting}
 use Rattle.gm_bench.specs.Presence.{AreAtHand}
 use Rattle.gm_bench.proofs.CallAnswers.{least}
 use Rattle.gm_bench.proofs.Causes.{fault_is}
 use Rattle.gm_bench.proofs.DecidesOnly.{still, unstepped, then_step, ok_then}
 use Rattle.gm_bench.proofs.Phases.{with_done, with_hand}
+use Rattle.gm_bench.proofs.StoreFails.{failed_later, goes_later, read_goes, room_later}
 use Rattle.gm_bench.proofs.media.Media.choose.Goals as goal
 
 pub returns-in-Ok-clause-leaves : goal.returns-in-Ok-clause-leaves
@@ -139,3 +142,33 @@ returns-in-Ok-clause-refused g c clean =
     on_err_weaker c.commit.result (λ kept t s has records.
     kept t (c.in_ok-planned.ensures.at_hand asked t s has records).0) (c.commit.ensures.refused
     clean)
+
+pub returns-in-Ok-clause-store : goal.returns-in-Ok-clause-store
+returns-in-Ok-clause-store g c words key_ok fits clean is t s has records such room honest =
+    let asked : DiskKept g.S.Store c.ask.new.self.registry =
+    omega (arith, clean, c.commit.ensures.clean) in
+    let at = (c.in_ok-planned.ensures.at_hand asked t s has records).0 in
+    let planned : IsFitting c.in-Ok.planned.change (words_of c.args.command.now) t =
+    subst (λ r. IsPlanFitting c.args.command.now t r) c.in-Ok.is
+    (c.in_ok-planned.ensures.fits asked t s has records fits honest) in
+    failed_later g.S.Store c.args.self.now.registry c.ask.new.self.registry t
+    c.ask.ensures.asks.store has at c.commit.new.self.registry
+    (c.commit.ensures.store clean is t at such.1 key_ok such.2 such.0
+    (subst (λ (w : List ℕ). IsFitting c.in-Ok.planned.change w t) (sym words) planned)
+    (room_later g.S.Store c.args.self.now.registry c.ask.new.self.registry t
+    c.ask.ensures.asks.store has at most_rows asked room))
+
+pub returns-in-Ok-clause-goes_on : goal.returns-in-Ok-clause-goes_on
+returns-in-Ok-clause-goes_on g c clean =
+    let asked : DiskKept g.S.Store c.ask.new.self.registry =
+    omega (arith, clean, c.commit.ensures.clean) in
+    on_ok_weaker c.commit.result (λ goes t s has records. (
+    let at = (c.in_ok-planned.ensures.at_hand asked t s has records).0 in
+    goes_later g.S.Store c.args.self.now.registry c.ask.new.self.registry t
+    c.ask.ensures.asks.store has at c.commit.new.self.registry (goes t at)))
+    (c.commit.ensures.goes_on clean)
+
+pub returns-in-Err-clause-goes_on : goal.returns-in-Err-clause-goes_on
+returns-in-Err-clause-goes_on g c clean t s has records =
+    read_goes g.S.Store c.args.self.now.registry c.ask.new.self.registry t
+    c.ask.ensures.asks.store has (c.in_ok-planned.ensures.at_hand clean t s has records).0

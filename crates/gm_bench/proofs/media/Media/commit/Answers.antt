@@ -1,3 +1,10 @@
+use Rattle.std.proofs.Common.{◌≡◌, ◌∙◌, ◌≤◌, ◌+◌, arith, length, sym}
+use Rattle.gm_registry.specs.Registry.{seen}
+use Rattle.gm_bench.specs.declared.fault.BenchFault.TheVariants.{Store}
+use Rattle.gm_bench.specs.Calls.{most_rows}
+use Rattle.gm_bench.proofs.Causes.{of_failed}
+use Rattle.gm_bench.proofs.FittingPlans.{fits_with}
+use Rattle.gm_registry.proofs.StepsInTurn.{less_room}
 use Rattle.gm_registry.proofs.CallsLeave.{saved}
 use Rattle.gm_bench.proofs.Commits.{commit_leaves, commit_done}
 use Rattle.gm_bench.proofs.media.Media.commit.Goals as goal
@@ -30,3 +37,16 @@ returns-in-Ok-clause-done g c h clean away cmd u words at planned can =
 pub returns-in-Err-clause-refused : goal.returns-in-Err-clause-refused
 returns-in-Err-clause-refused g c clean t has is_open =
     (c.in-Err.ensures.writes.refused clean t has is_open).tables
+
+pub returns-in-Err-clause-store : goal.returns-in-Err-clause-store
+returns-in-Err-clause-store g c clean is t has room_left key_ok free none fits room =
+    let fault : c.of_store.result ≡ Store = cc in
+    let ch = c.args.planned.change in
+    let few : length ch.components ≤ 16 = fits.few_put in
+    let written : length ch.intents ≤ 17 = fits.few_written in
+    c.in-Err.ensures.accepts.store clean (of_failed c.in-Err.fault
+    (sym c.of_store.ensures.value ∙ fault)) t has room_left fits.reply
+    (fits_with ch ch.intents c.args.key.now c.args.words.now t fits (omega (arith, written)) none
+    key_ok free)
+    (less_room (length ch.components + 2) most_rows (seen g.S.Store c.args.self.now.registry)
+    (omega (arith, few)) room)

@@ -1,5 +1,5 @@
 use Rattle.std.proofs.Common.{rules, ◌<◌, Err, length, sym, ap, subst, arith}
-use Rattle.std.proofs.lemmas.Result.{on_err_weaker}
+use Rattle.std.proofs.lemmas.Result.{on_err_weaker, on_ok_weaker}
 use Rattle.gm_rules.specs.Step.{CanAnswer}
 use Rattle.gm_registry.specs.Registry.{DiskKept}
 use Rattle.gm_registry.specs.Replies.{count_of}
@@ -8,8 +8,10 @@ use Rattle.gm_shelf.specs.Disk.{IsQuiet}
 use Rattle.gm_bench.proofs.CallAnswers.{as_many, free_key, too_many}
 use Rattle.gm_bench.proofs.Causes.{fault_is}
 use Rattle.gm_bench.proofs.DecidesOnly.{nothing_then, quiet_same, still, unstepped, then_step, ok_then, many_of, room_of, reads_then}
+use Rattle.gm_bench.specs.Calls.{most_rows}
 use Rattle.gm_bench.specs.Planning.{IsWorkAtHand}
 use Rattle.gm_bench.specs.ShelfFacts.{IsHonestToAdopt}
+use Rattle.gm_bench.proofs.StoreFails.{failed_later, goes_later, room_later}
 use Rattle.gm_bench.proofs.media.Media.decide.Goals as goal
 
 pub returns-then-branch-clause-leaves : goal.returns-then-branch-clause-leaves
@@ -158,3 +160,27 @@ returns-clause-refused g c clean =
     omega (arith, clean, c.choose.ensures.accepts.clean) in
     on_err_weaker c.choose.result (λ kept t s has.
     kept t s (c.in_ok-is_full.ensures.told counted t has).1) (c.choose.ensures.refused clean)
+
+pub returns-clause-store : goal.returns-clause-store
+returns-clause-store g c words key_ok fits clean is t s has records such room honest =
+    let counted : DiskKept g.S.Store c.is_full.new.self.registry =
+    omega (arith, clean, c.choose.ensures.accepts.clean) in
+    let told = c.in_ok-is_full.ensures.told counted t has in
+    let few = room_of c.in_ok-is_full.field-0 (count_of t) told.0 c.if-branch.false in
+    failed_later g.S.Store c.args.self.now.registry c.is_full.new.self.registry t
+    c.is_full.ensures.reads has told.1 c.choose.new.self.registry
+    (c.choose.ensures.store words key_ok fits clean is t s told.1 records (such.0, few, such.1)
+    (room_later g.S.Store c.args.self.now.registry c.is_full.new.self.registry t
+    c.is_full.ensures.reads has told.1 most_rows counted room)
+    (subst (λ (k : g.row.H.Denot). IsHonestToAdopt g.H.Shelf k c.args.command.now)
+    (sym c.is_full.ensures.shelf) honest))
+
+pub returns-clause-goes_on : goal.returns-clause-goes_on
+returns-clause-goes_on g c clean =
+    let counted : DiskKept g.S.Store c.is_full.new.self.registry =
+    omega (arith, clean, c.choose.ensures.accepts.clean) in
+    on_ok_weaker c.choose.result (λ goes t s has records. (
+    let told = c.in_ok-is_full.ensures.told counted t has in
+    goes_later g.S.Store c.args.self.now.registry c.is_full.new.self.registry t
+    c.is_full.ensures.reads has told.1 c.choose.new.self.registry
+    (goes t s told.1 records))) (c.choose.ensures.goes_on clean)

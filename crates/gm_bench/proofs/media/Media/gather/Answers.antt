@@ -14,7 +14,7 @@ use Rattle.gm_refusals.proofs.PartAgrees.{whole_is_part}
 use Rattle.gm_bench.proofs.Causes.{fault_is}
 use Rattle.gm_bench.proofs.FactsLookedUp.{itself_told}
 use Rattle.gm_bench.proofs.PlannedAlone.{read_state, read_few, read_most}
-use Rattle.gm_bench.proofs.GatheredFacts.{are_records, gathered}
+use Rattle.gm_bench.proofs.GatheredFacts.{are_records, gathered, told_part}
 use Rattle.gm_bench.proofs.FactsAreWorlds.{tell_moved}
 use Rattle.gm_bench.proofs.media.Media.gather.Goals as goal
 
@@ -111,6 +111,15 @@ returns-clause-serves g c clean t s has records =
     → Has (needed_by part command) q → Tell facts (size k) (view k).seen against q)
     c.part.ensures.shelf
     (λ h. c.in_ok-facts.ensures.tell h part (whole_is_part part command state)) in
+    let again : g.H.Shelf.honest shelf → (q : List ℕ) → Has (needed_by part command) q
+    → Tell facts (size shelf) (view shelf).seen against q =
+    λ h q k. tell_moved (size shelf) (size read) (view shelf).seen
+    (view read).seen against facts q c.look_at.ensures.looks.only.keeps.size
+    (c.look_at.ensures.looks.only.reads h).quiet.seen
+    (then (c.look_at.ensures.looks.only.keeps.honest h) q k) in
+    let mids : c.deref.result.now ≡ found_mids (seen_in first) (adopted_from command) =
+    c.deref.ensures.value ∙ (c.in-Ok.ensures
+    ∙ ap (found_mids (seen_in first)) c.adopted_from-providers.ensures) in
     let sizes : TellSizes facts (size shelf) =
     subst (λ (z : Sizes). TellSizes facts z) c.look_at.ensures.looks.only.keeps.size
     (subst (λ (k : g.row.H.Denot). TellSizes facts (size k)) c.part.ensures.shelf
@@ -122,11 +131,14 @@ returns-clause-serves g c clean t s has records =
         sizes = sizes;
         itself = λ honest. itself_told g.H.Shelf shelf facts first command against part
             (size shelf) (view shelf).seen honest source before
-            (λ h q k. tell_moved (size shelf) (size read) (view shelf).seen
-            (view read).seen against facts q c.look_at.ensures.looks.only.keeps.size
-            (c.look_at.ensures.looks.only.reads h).quiet.seen
-            (then (c.look_at.ensures.looks.only.keeps.honest h) q k));
+            again;
       },
       subst (λ (k : Held g.row.S.Denot). HasTables g.S.Store k t) (sym c.look.ensures.registry)
           said.1,
+      λ honest. record {
+        part = told_part g.H.Shelf shelf s part command first facts against (size shelf)
+            (view shelf).seen records.state (said.0.state ∙ ap (part_of s command) mids) honest
+            before again;
+        mirrors = said.0.mirrors;
+      },
     )

@@ -1,0 +1,137 @@
+-- How much a change writes: the components and the intents of one mirror.
+use Rattle.std.proofs.Common.{◌≡◌, ◌∙◌, ℕ, ◌+◌, ◌≤◌, not, refl, inl, inr, sym, ap, arith, List, [], ◌∷◌, Option, Some, None, length, map}
+use Rattle.std.proofs.lemmas.List.{length-map}
+use Rattle.std.specs.Str.{bytes_eq}
+use Rattle.gm_metadata.specs.Images.{same_label}
+use Rattle.gm_commands.specs.declared.command.Command.{Command}
+use Rattle.gm_commands.specs.declared.command.Command.TheVariants.{Label, Insert, Remove, Deactivate, Activate, Forget, Rebuild, Configure, Clear, Destroy, Lost, Advance, Adopt}
+use Rattle.gm_state.specs.declared.intents.Intent.{Intent}
+use Rattle.gm_state.specs.declared.intents.Intent.TheVariants.{Meta, Clear as Clears}
+use Rattle.gm_state.specs.declared.records.Component.{Component}
+use Rattle.gm_lists.specs.Ordered.{Has, Ascends, Distinct, without}
+use Rattle.gm_lists.proofs.Finding.{option_cases}
+use Rattle.gm_lists.proofs.Lists.{Has-map, filter-Has}
+use Rattle.gm_lists.proofs.Order.{differ, lt_differ, same_from}
+use Rattle.gm_lists.proofs.PutTogether.{put_all_there}
+use Rattle.gm_lists.proofs.Putting.{length-filter_lt, one}
+use Rattle.gm_state.specs.Records.{Records, IsState, members, provider}
+use Rattle.gm_state.specs.Lookups.{mirror_of, component_of}
+use Rattle.gm_state.specs.Sources.{source_of}
+use Rattle.gm_state.proofs.FoundRecords.{rules_of}
+use Rattle.gm_state.proofs.NoMembers.{no_members}
+use Rattle.gm_changes.specs.After.{intents_of, metas, on_found}
+use Rattle.gm_changes.specs.Decides.{Changed, PutsInPlace, changed_by}
+use Rattle.gm_changes.proofs.MakesChange.{no_component}
+
+-- names that differ are no more than the records among which each of them is one's name
+pub names_among : {X : Type 0} (key : X → List ℕ) (names : List (List ℕ)) (xs : List X)
+    → Distinct (λ (n : List ℕ). n) names
+    → ((n : List ℕ) → Has names n → (x : X) × Has xs x × (key x ≡ n)) → length names ≤ length xs
+names_among key [] xs apart h = omega arith
+names_among {X = X} key (n ∷ names) xs apart h =
+    let at = h n (inl refl) in
+    let others : List X = without key n xs in
+    let rest : length names ≤ length others =
+    names_among key names others apart.1 (λ m i. let it = h m (inr i) in (
+      it.0,
+      filter-Has (λ (x : X). not (bytes_eq (key x) n)) xs it.0 it.1
+          (ap not (differ (key it.0) n (λ e. apart.0 m i (sym e ∙ it.2)))),
+      it.2,
+    )) in
+    let less : length others + 1 ≤ length xs =
+    length-filter_lt (λ (x : X). not (bytes_eq (key x) n)) xs at.0 at.1
+    (ap not (same_from (key at.0) n at.2)) in
+    omega (arith, rest, less)
+
+-- so records in order are no more than those among which each of them stands
+keys_differ : {X : Type 0} (key : X → List ℕ) (xs : List X) → Ascends key xs
+    → Distinct (λ (n : List ℕ). n) (map key xs)
+keys_differ key [] a = tt
+keys_differ key (x ∷ xs) a = (
+  λ n h e. let at = Has-map key xs n h in
+      lt_differ (key x) (key at.0) (a.0 at.0 at.1) (e ∙ sym at.2),
+  keys_differ key xs a.1,
+)
+
+length_among : {X : Type 0} (key : X → List ℕ) (xs ys : List X) → Ascends key xs
+    → ((x : X) → Has xs x → Has ys x) → length xs ≤ length ys
+length_among key xs ys a h =
+    let few : length (map key xs) ≤ length ys =
+    names_among key (map key xs) ys (keys_differ key xs a) (λ n i.
+    let at = Has-map key xs n i in (at.0, h at.0 at.1, at.2)) in
+    let as_many : length (map key xs) ≡ length xs = length-map xs key in
+    omega (arith, few, as_many)
+
+-- a mirror has at most 16 components
+pub few_members : (s : Records) → IsState s → (n : List ℕ) → length (members s.components n) ≤ 16
+few_members s state n =
+    elim (option_cases (mirror_of s n)) [
+      | inl none ↦
+          let bare : members s.components n ≡ [] =
+          no_members s.components n (no_component s n state none) in
+          rw bare (omega arith)
+      | inr some ↦
+          let rules = rules_of s n some.0 state some.1 in
+          let room : length (members s.components n) ≤ some.0.all = rules.room in
+          let all : some.0.all ≤ 16 = rules.all in
+          omega (arith, room, all)
+    ]
+
+-- so at most 16 are put
+pub few_put : (s : Records) (ch : Changed) → PutsInPlace s ch → IsState (changed_by ch s)
+    → length ch.components ≤ 16
+few_put s ch puts state = of_list ch.components refl
+  where
+    there : (k : Component) → Has ch.components k → Has (changed_by ch s).components k
+    there k h = put_all_there provider ch.components _ k
+        (λ x i e. one provider ch.components puts.once x k i h e) h
+
+    of_list : (ks : List Component) → ch.components ≡ ks → length ks ≤ 16
+    of_list [] e = omega arith
+    of_list (k ∷ ks) e =
+        let here : Has ch.components k = rw e (inl refl) in
+        let own : List Component = members (changed_by ch s).components k.mirror in
+        let among : length ch.components ≤ length own =
+        length_among provider ch.components own puts.once
+        (λ j h. filter-Has (λ (c : Component). same_label c.mirror k.mirror)
+        (changed_by ch s).components j (there j h)
+        (same_from j.mirror k.mirror (puts.of_one j k h here))) in
+        let most : length own ≤ 16 =
+        few_members (changed_by ch s) state k.mirror in
+        let as_many : length ch.components ≡ length (k ∷ ks) = ap length e in
+        omega (arith, among, most, as_many)
+
+-- ---- what is written
+
+few_metas : (s : Records) → IsState s → (n : List ℕ) → length (metas (members s.components n)) ≤ 16
+few_metas s state n =
+    let as_many : length (metas (members s.components n)) ≡ length (members s.components n) =
+    length-map (members s.components n) (λ (k : Component). Meta k.provider) in
+    let few : length (members s.components n) ≤ 16 = few_members s state n in
+    omega (arith, as_many, few)
+
+few_found : {X : Type 0} (o : Option X) (f : X → List Intent) → ((x : X) → length (f x) ≤ 17)
+    → length (on_found o [] f) ≤ 17
+few_found None f few = omega arith
+few_found (Some x) f few = few x
+
+-- one intent more than a mirror has components, at most
+pub few_intents : (c : Command) (s t : Records) → IsState s → IsState t
+    → length (intents_of c s t) ≤ 17
+few_intents (Label new) s t before after = omega arith
+few_intents (Insert new) s t before after = omega (arith, few_metas t after new.name)
+few_intents (Remove n p) s t before after = omega (arith, few_metas t after n)
+few_intents (Deactivate n p) s t before after = omega (arith, few_metas t after n)
+few_intents (Activate n p) s t before after = omega arith
+few_intents (Forget n) s t before after = omega (arith, few_metas t after n)
+few_intents (Rebuild n p) s t before after = omega arith
+few_intents (Configure n settings) s t before after = omega (arith, few_metas t after n)
+few_intents (Clear p) s t before after = omega arith
+few_intents (Destroy n) s t before after =
+    let as_many = length-map (members s.components n) (λ (k : Component). Clears k.provider) in
+    omega (arith, as_many, few_members s before n)
+few_intents (Lost n ps) s t before after = omega (arith, few_metas t after n)
+few_intents (Advance n p) s t before after =
+    few_found (mirror_of s n) _ (λ m. few_found (component_of s p) _
+    (λ k. few_found (source_of s p) _ (λ source. omega arith)))
+few_intents (Adopt n ps) s t before after = omega (arith, few_metas t after n)

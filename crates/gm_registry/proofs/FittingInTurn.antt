@@ -1,0 +1,96 @@
+-- From what a change needs of the tables to what each of its steps needs.
+use Rattle.std.proofs.Common.{◌≡◌, ◌≢◌, ℕ, zero, suc, ◌+◌, ◌<◌, ◌≤◌, List, [], ◌∷◌, filter, length, take, get_or, Option, Some, None, IfSome, sym, ap, subst, arith}
+use Rattle.std.specs.List.{AllByRecursion}
+use Rattle.std.proofs.lemmas.List.{length-take-le}
+use Rattle.sqlite.specs.Tree.{Trees}
+use Rattle.sqlite_rules.proofs.ListLemmas.{all_from}
+use Rattle.gm_state.specs.declared.records.Mirror.{Mirror}
+use Rattle.gm_state.specs.declared.records.Component.{Component}
+use Rattle.gm_state.specs.declared.intents.Intent.{Intent}
+use Rattle.gm_state.specs.Rows.{Tables, IntentRow, CommandRow, mirror_row, component_row, intent_rows}
+use Rattle.gm_changes.specs.Decides.{Changed}
+use Rattle.gm_rows.specs.Tables.{AreNumbered}
+use Rattle.gm_registry.specs.declared.intents.Pending.{Pending}
+use Rattle.gm_registry.specs.Changes.{left_of, with_component, with_components, with_intents, with_pending, with_records}
+use Rattle.gm_registry.specs.Fitting.{HasFreeNumber, HasRoom, IsPlaced, IsUncounted, TakesCommand, TakesIntents, TakesMirror}
+use Rattle.gm_registry.specs.FittingChanges.{ArePlacedInTurn, FitsRecords, FitsTables}
+use Rattle.gm_registry.specs.Replies.{count_of, is_under}
+use Rattle.gm_registry.proofs.CountedThrough.{left_commands, records_keep}
+use Rattle.gm_registry.proofs.LastCommand.{seq_in_range}
+use Rattle.gm_registry.proofs.Written.{with_records_is}
+
+-- ---- components in turn
+
+-- behind those before it the next is placed
+pub placed_at : (ks : List Component) (i : ℕ) (k : Component) (t : Tables) → ArePlacedInTurn ks t
+    → i < length ks → k ≡ get_or ks i k → IsPlaced (component_row k) (with_components (take i ks) t)
+placed_at [] i k t placed low is = absurd (omega (arith, low))
+placed_at (x ∷ ks) zero k t placed low is =
+    subst (λ (y : Component). IsPlaced (component_row y) t) (sym is) placed.0
+placed_at (x ∷ ks) (suc i) k t placed low is =
+    placed_at ks i k (with_component (component_row x) t) placed.1 (omega (arith, low)) is
+
+-- one element more
+pub one_longer : {X : Type 0} (xs : List X) (i : ℕ) → i < length xs
+    → length (take i xs) + 1 ≤ length (take (i + 1) xs)
+one_longer xs i low =
+    let now = length-take-le i xs (omega (arith, low)) in
+    omega (arith, now, length-take-le (i + 1) xs (omega (arith, low)))
+
+-- the first elements and one more are at most all
+pub within_all : {X : Type 0} (xs : List X) (i : ℕ) → i < length xs
+    → 1 + length (take i xs) ≤ length xs
+within_all xs i low = omega (arith, length-take-le i xs (omega (arith, low)))
+
+-- ---- a mirror
+
+-- where there is one to put, it is taken
+pub takes_some : (m : Option Mirror) (db : Trees) (t : Tables)
+    → IfSome m (λ x. HasFreeNumber (mirror_row x) t) → HasRoom 1 db
+    → IfSome m (λ x. TakesMirror (mirror_row x) db t)
+takes_some None db t free room = tt
+takes_some (Some m) db t free room = record { number_free = free; room = room.mirrors }
+
+-- ---- behind the records
+
+-- records leave the intents
+pub takes_behind : (ch : Changed) (n : ℕ) (t : Tables) → TakesIntents n t
+    → TakesIntents n (with_records ch t)
+takes_behind ch n t takes = record {
+  few = takes.few;
+  free = λ k low high. subst
+      (λ (l : List IntentRow). AllByRecursion (λ (i : IntentRow). i.ord ≢ k) l) (sym (ap (λ (a : Tables). a.intents) (with_records_is ch t))) (takes.free k low high);
+}
+
+-- the next number is free
+pub next_uncounted : (n : ℕ) (t : Tables) → AreNumbered t.commands → n ≡ count_of t + 1
+    → IsUncounted n t
+next_uncounted n t numbered next =
+    all_from _ t.commands (λ c has same.
+    omega (arith, seq_in_range t.commands numbered c has, next, same))
+
+-- what becomes of the intents leaves it free
+pub left_uncounted : (n : ℕ) (p : Pending) (t : Tables) → IsUncounted n t
+    → IsUncounted n (left_of p t)
+left_uncounted n p t free =
+    subst (λ (l : List CommandRow). AllByRecursion (λ (c : CommandRow). c.seq ≢ n) l)
+    (sym (left_commands p t)) free
+
+-- a command is taken behind the records and the intents
+pub takes_last : (ch : Changed) (ts : List Intent) (key words : List ℕ) (n : ℕ) (db : Trees)
+    (t : Tables) → FitsTables (with_pending ch ts) key words t → IsUncounted n t → HasRoom 1 db
+    → TakesCommand key words n db (with_intents (intent_rows 1 ts) (with_records ch t))
+takes_last ch ts key words n db t fits free room =
+    let same = sym (records_keep ch t) in
+    record {
+      key_free = subst (λ (l : List CommandRow). filter (is_under key) l ≡ []) same fits.key_free;
+      number_free = subst
+          (λ (l : List CommandRow). AllByRecursion (λ (c : CommandRow). c.seq ≢ n) l) same free;
+      short = fits.short;
+      room = room.commands;
+    }
+
+-- the records fit whatever the intents are
+pub records_fit : (ch : Changed) (ts : List Intent) (t : Tables)
+    → FitsRecords (with_pending ch ts) t → FitsRecords ch t
+records_fit ch ts t fits = record { gone = fits.gone; put = fits.put; placed = fits.placed }

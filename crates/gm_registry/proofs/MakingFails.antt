@@ -1,0 +1,171 @@
+-- Why a registry isn't made in a store without tables: no rule refuses its tables, nor the record
+-- of `about`.
+use Rattle.std.proofs.Common.{◌≡◌, inl, inr, ℕ, pos, true, not, ◌&&◌, ◌==◌, List, [], ◌∷◌, Option, None, Result, Ok, Err, IsTrue, IsSome, refl, sym, ap, subst, ◌∙◌, arith, eq-eqb}
+use Rattle.std.specs.List.{AllByRecursion, list_all}
+use Rattle.std.specs.Float.Ieee
+use Rattle.std.proofs.lemmas.Bool.{true≢false, not-true}
+use Rattle.sqlite.specs.Order.{Row}
+use Rattle.sqlite.specs.Table.{Table}
+use Rattle.sqlite.specs.Tree.{Trees}
+use Rattle.sqlite.specs.Schema.{Schema}
+use Rattle.sqlite.specs.Term.{Term, lit}
+use Rattle.sqlite.specs.Command.TheVariants.{CreateTable}
+use Rattle.sqlite.specs.Does.{Does}
+use Rattle.sqlite.specs.Effect.{Database}
+use Rattle.sqlite.specs.Listing.{understood}
+use Rattle.sqlite.specs.State.{State, mode_of, ExecutesInside, Survives}
+use Rattle.sqlite.specs.declared.error.Error.{Error}
+use Rattle.sqlite.specs.declared.types.Value.TheVariants.{Null, Int}
+use Rattle.sqlite.proofs.Callers.{statement_of}
+use Rattle.sqlite_rules.proofs.ListLemmas.{test_has}
+use Rattle.sqlite_rules.specs.Edit.{is_taken, IsOversized}
+use Rattle.sqlite_schema.specs.Rules.{Keeps, guards, passes}
+use Rattle.sqlite_schema.specs.declared.schema.Constraint.{Constraint}
+use Rattle.sqlite_schema.specs.declared.schema.Constraint.TheVariants.{Check, Unique, ForeignKey}
+use Rattle.sqlite_schema.specs.declared.schema.Keys.TheVariants.{Enforced}
+use Rattle.sqlite_sql.specs.Ops.{binary}
+use Rattle.sqlite_value.specs.Order.{value_cmp}
+use Rattle.sqlite_tied.specs.Compute.{everything}
+use Rattle.sqlite_trees.specs.Tree.{IsTable}
+use Rattle.sqlite_rows.proofs.Failing.{is_all_of}
+use Rattle.sqlite_rows.proofs.KeptUnique.{unique_added}
+use Rattle.sqlite_rows.proofs.SmallRows.{small}
+use Rattle.sqlite_rows.proofs.Stopping.{IsAllowed, inside_fault, insert_stops}
+use Rattle.sqlite_rows.proofs.StoppingCreates.{create_stops}
+use Rattle.sqlite_rows.proofs.ValueLemmas.{cast_null, cast_int}
+use Rattle.gm_rows.specs.Faults.{OnOther, fault_of}
+use Rattle.gm_rows.specs.Rows.{about_values}
+use Rattle.gm_rows.specs.Schema.{about, mirrors, components, intents, commands, registry_schema}
+use Rattle.gm_rows.specs.Statements.{put_about_text}
+use Rattle.gm_rows.specs.declared.fault.StoreFault.TheVariants.{Store}
+use Rattle.gm_registry.specs.Opening.{IsBareInside, IsInsideOver}
+use Rattle.gm_registry.proofs.CreatableTables.{Makes}
+use Rattle.gm_registry.proofs.Failures.{failed_since, told}
+use Rattle.gm_registry.proofs.FittingTables.{apart, only}
+use Rattle.gm_registry.proofs.MadeTables.{one_more}
+use Rattle.gm_registry.proofs.SettlingFails.{refers}
+use Rattle.gm_registry.proofs.StepsInTurn.{Failed}
+use Rattle.gm_registry.proofs.TextMeanings.{put_about, put_about_is}
+
+-- ---- the tables, one after another
+
+-- the tables that are made so far, and what a failure behind them is
+pub record Made (schema : Schema) (first : Database) (start now : State) : Type 1 where
+  pub over : IsInsideOver schema first now
+  pub since : (end : State) → Failed now end → Failed start end
+
+pub none_made : {schema : Schema} {first : Database} {s : State} → IsInsideOver schema first s
+    → Made schema first s s
+none_made was = record { over = was; since = λ end failed. failed }
+
+module _ {before after : Schema} {text : List ℕ} {table : Table} {first : Database}
+    {start a b : State} (makes : Makes before after text table) (so : Made before first start a)
+  where
+    -- one more
+    pub table_made : {Commits : Trees → Type 0} (count : ℕ) → Survives a b Commits
+        → (IsTrue a.in_transaction → ExecutesInside 0 text [] a b (Ok count))
+        → Made after first start b
+    table_made count left h = record {
+      over = one_more before after text table makes.defines makes.uncounted first a b count so.over
+          (h so.over.inside);
+      since = λ end failed. so.since end (failed_since a b end _ left failed);
+    }
+
+    -- why it isn't made
+    pub table_fails : {e : Error}
+        → (IsTrue a.in_transaction → ExecutesInside 0 text [] a b (Err e)) → fault_of e ≡ Store
+        → Failed start b
+    table_fails {e} h is =
+        let it = makes.defines in
+        let was = so.over in
+        so.since b (told a b e (inside_fault before text [] CreateTable it.command it.plain it.whole
+        refl refl a b e was.schema_is (λ stop does. absurd (create_stops before after text
+        (record table { tree = 0 }) it.table_is it.schema_is makes.uncounted makes.can a.step_limit
+        (mode_of a) [] a.now stop was.schema_is
+        (subst (λ t. Does a.step_limit (mode_of a) [] a.now t None CreateTable (Err stop)) it.alone
+        does))) was.is_open (h was.inside)) is)
+
+-- ---- the record of `about`
+
+-- the tables are there, and empty
+none_kept : (first : Database) (s : State) (rule : Constraint) → IsBareInside first s
+    → Keeps rule registry_schema s.now.trees
+none_kept first s rule was =
+    let db = s.now.trees in
+    let none = λ (table : Table) (rows : List Row) (is : rows ≡ []).
+    subst (λ l. AllByRecursion (λ row. passes rule registry_schema db table row ≡ true) l) (sym is)
+    tt in (
+      none about (db 0) was.about,
+      (
+        none mirrors (db 1) was.mirrors,
+        (
+          none components (db 4) was.components,
+          (none intents (db 7) was.intents, (none commands (db 8) was.commands, tt)),
+        ),
+      ),
+    )
+
+abbrev about_terms : List Term
+about_terms = lit (Int (pos 1)) ∷ lit Null ∷ lit (Int (pos 1)) ∷ []
+
+-- its check holds
+about_checked : (db : Trees)
+    → list_all (passes Check registry_schema db about) (about_values ∷ []) ≡ true
+unfolding binary value_cmp Ieee.lt Ieee.is_nan
+about_checked db = refl
+
+-- the row is taken
+about_allowed : (first : Database) (s : State) → IsBareInside first s
+    → IsAllowed registry_schema Enforced s.now.trees
+    (record { table = about; gone = []; news = about_values ∷ [] })
+about_allowed first s was =
+    let db = s.now.trees in
+    let fresh : not (is_taken (db 0) about_values) && true ≡ true =
+    ap (λ rows. not (is_taken rows about_values) && true) was.about in
+    record {
+      typed = refl;
+      present = refl;
+      checked = about_checked db;
+      keyed = refl;
+      numbers = refl;
+      fresh = fresh;
+      unique = unique_added registry_schema db
+          (record { table = about; gone = []; news = about_values ∷ [] }) apart (inl refl)
+          (subst (λ rows. IsTable rows) (sym was.about) tt) fresh about_values refl
+          (λ index known guarded. absurd (true≢false (sym guarded ∙ not-true _ (test_has
+          (λ i. not (guards i about)) registry_schema.indexes index refl known))))
+          (none_kept first s Unique was);
+      referred = refl;
+      small = λ row has. subst (λ r. IsOversized registry_schema about r → ⊥)
+          (sym (only about_values row has)) (small registry_schema about about_values refl refl
+          (omega arith, omega arith) (omega arith) (λ index known own. absurd (true≢false
+          (sym (eq-eqb _ _ own) ∙ not-true _ (test_has (λ i. not (i.table == 0))
+          registry_schema.indexes index refl known)))));
+    }
+
+about_stops : (first : Database) (s : State) (text : List ℕ) (stop : Option Error)
+    → IsBareInside first s → Does s.step_limit (mode_of s) [] s.now text None put_about (Err stop)
+    → IsSome s.step_limit
+about_stops first s text stop was does =
+    let db = s.now.trees in
+    insert_stops registry_schema 0 about refl about_terms 3 [] about_values about_values
+    s.step_limit
+    db refl refl (rw (cast_int (pos 1), cast_null) refl) (about_allowed first s was)
+    (λ next made. refers db next (made.tables.1.0 (λ e. let f : 1 ≡ 0 = e in cc))
+    (made.tables.1.1.0 (λ e. let f : 4 ≡ 0 = e in cc)) (none_kept first s ForeignKey was)) stop
+    (subst (λ (schema : Schema). Does s.step_limit (mode_of s) []
+    (record { schema = schema; trees = db }) text None put_about (Err stop)) was.schema_is does)
+
+about_whole : is_all_of put_about_text 0 (understood registry_schema put_about_text) ≡ true
+unfolding understood everything
+about_whole = refl
+
+pub about_fails : (old new : State) (x : Result ℕ Error)
+    → (IsTrue old.in_transaction → ExecutesInside 0 put_about_text [] old new x)
+    → OnOther x ((first : Database) → IsBareInside first old → Failed old new)
+about_fails old new (Ok count) h = tt
+about_fails old new (Err e) h = λ is first was.
+    told old new e (inside_fault registry_schema put_about_text [] put_about put_about_is.command_is
+    put_about_is.plain about_whole refl refl old new e was.schema_is
+    (λ stop. about_stops first old (statement_of put_about_text
+    (understood registry_schema put_about_text)) stop was) was.is_open (h was.inside)) is
