@@ -29,6 +29,7 @@ pub mod RecordsUnder
 pub mod RisingRowids
 pub mod SaidParts
 pub mod SettlingFails
+pub mod SilentParts
 pub mod SomeReads
 pub mod StepsInTurn
 pub mod Stored

@@ -1,6 +1,6 @@
 -- Why a registry isn't made in a store without tables: no rule refuses its tables, nor the record
 -- of `about`.
-use Rattle.std.proofs.Common.{◌≡◌, inl, inr, ℕ, pos, true, not, ◌&&◌, ◌==◌, List, [], ◌∷◌, Option, None, Result, Ok, Err, IsTrue, IsSome, refl, sym, ap, subst, ◌∙◌, arith, eq-eqb}
+use Rattle.std.proofs.Common.{◌≡◌, inl, ℕ, pos, true, not, ◌&&◌, ◌==◌, List, [], ◌∷◌, Option, None, Result, Ok, Err, IsTrue, IsSome, refl, sym, ap, subst, ◌∙◌, arith, eq-eqb}
 use Rattle.std.specs.List.{AllByRecursion, list_all}
 use Rattle.std.specs.Float.Ieee
 use Rattle.std.proofs.lemmas.Bool.{true≢false, not-true}

@@ -1,5 +1,5 @@
 -- What rows say that are read for a command, whatever the tables hold.
-use Rattle.std.proofs.Common.{◌≡◌, ◌∙◌, refl, inl, inr, ℕ, List, map, filter, flat_map, sym, subst, IsPermutation}
+use Rattle.std.proofs.Common.{◌≡◌, ◌∙◌, refl, inl, inr, ℕ, List, map, sym, subst, IsPermutation}
 use Rattle.std.proofs.lemmas.List.Sorted.{IsPermutation-map, IsPermutation-sym, IsPermutation-trans}
 use Rattle.sqlite_trees.proofs.ListLemmas.{IsPermutation-flat_map}
 use Rattle.sqlite_trees.specs.declared.store.Store.{Ghosts}
@@ -28,8 +28,10 @@ pub said_by : {A : Type 0} (f : A → Row) (kept rows : List Row) (list : List A
     → map (columns_at nine) rows ≡ numbered (λ _ x. f x) 1 list
     → IsPermutation (map (columns_at (shown_places Mirrors)) kept) (map f list)
 said_by f kept rows list shown is =
-    subst (IsPermutation (map (columns_at (shown_places Mirrors)) kept)) (is ∙ numbered_map f 1 list)
-    (again_shown (columns_at nine) (columns_at (shown_places Mirrors)) (λ row. refl) kept rows shown)
+    subst (IsPermutation (map (columns_at (shown_places Mirrors)) kept))
+    (is ∙ numbered_map f 1 list)
+    (again_shown (columns_at nine) (columns_at (shown_places Mirrors)) (λ row. refl) kept rows
+    shown)
 
 -- what is seen after reads, or none, was there before them
 pub some_carried : {S : Type 0} (g : Ghosts S) (a b : Held S) (P : Trees → Type 0) → HaveRead g a b
@@ -39,8 +41,8 @@ some_carried g a b P (inl same) clean now =
 some_carried g a b P (inr first) clean now = carried (state g a) (state g b) P first clean now
 
 -- the records of a state that they make
-pub said_in_order : (db : Trees) (c : Command) (mids : List ℕ) (ms : List Mirror) (ks : List Component)
-    (count : ℕ) (s : Records) → AreSaidFor db c mids ms ks count → IsStateOf ms ks s
+pub said_in_order : (db : Trees) (c : Command) (mids : List ℕ) (ms : List Mirror)
+    (ks : List Component) (count : ℕ) (s : Records) → AreSaidFor db c mids ms ks count → IsStateOf ms ks s
     → AreSaidFor db c mids s.mirrors s.components count
 said_in_order db c mids ms ks count s says of = record {
   mirrors = says.mirrors;

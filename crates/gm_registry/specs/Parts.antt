@@ -2,7 +2,9 @@
 use Rattle.std.specs.Prelude.{◌≡◌, ◌||◌, ℕ, Bool, List, length, filter, flat_map, map}
 use Rattle.std.specs.List.{list_any}
 use Rattle.std.specs.List.Sorted.{IsPermutation}
+use Rattle.sqlite.specs.Order.{Row}
 use Rattle.sqlite.specs.Tree.{Trees}
+use Rattle.gm_lists.specs.Ordered.{Has}
 use Rattle.gm_metadata.specs.Images.{same_label}
 use Rattle.gm_commands.specs.declared.command.Command.{Command}
 use Rattle.gm_state.specs.declared.records.Component.{Component}
@@ -12,7 +14,7 @@ use Rattle.gm_refusals.specs.Applies.{providers_of}
 use Rattle.gm_refusals.specs.PartOf.{is_called, part_of}
 use Rattle.gm_rows.specs.Queries.{shown_places}
 use Rattle.gm_rows.specs.Says.{mirror_shown, component_shown}
-use Rattle.gm_rows.specs.Values.{columns_at}
+use Rattle.gm_rows.specs.Values.{columns_at, IsMirrorValue, IsComponentValue}
 use Rattle.gm_rows.specs.declared.fetched.Table.TheVariants.{Mirrors}
 use Rattle.gm_registry.specs.Keys.{shown_under}
 use Rattle.gm_registry.specs.declared.components_by_key.Key.TheVariants.{Provider, Mirror as OfMirror}
@@ -52,6 +54,17 @@ abbrev pub IsSaidFor : Trees → Command → List ℕ → Part → Type 0
 IsSaidFor db c mids p =
     IsState p.state × AreSaidFor db c mids p.state.mirrors p.state.components p.mirrors
 
+-- each record that is read is one that the code can be
+pub record AreValues {db : Trees} {c : Command} {mids : List ℕ} {asked : List Mirror}
+    {owned : List Component} {count : ℕ} (said : AreSaidFor db c mids asked owned count) : Type 0
+  where
+    pub mirrors : (m : Mirror) → Has said.mirrors m → IsMirrorValue m
+    pub named : (k : Component) → Has said.named k → IsComponentValue k
+
+-- the rows say no part that is a state
+abbrev pub SaysNoPart : Trees → Command → List ℕ → Type 0
+SaysNoPart db c mids = (p : Part) → (said : IsSaidFor db c mids p) → AreValues said.1 → ⊥
+
 -- ---- the form that code goes by
 
 -- the records of the part, in some order
@@ -59,3 +72,8 @@ pub record AreAsked (s : Records) (c : Command) (mids : List ℕ) (a : Asked) : 
   pub mirrors : IsPermutation (part_of s c mids).mirrors a.mirrors.items
   pub components : IsPermutation (part_of s c mids).components a.components.items
   pub count : a.count ≡ length s.mirrors
+
+-- the rows say no records that the code can be
+abbrev pub SayNone : {A : Type 0} → (A → Row) → (A → Type 0) → List Row → Type 0
+SayNone {A} shown IsValue rows =
+    (list : List A) → ((x : A) → Has list x → IsValue x) → IsPermutation rows (map shown list) → ⊥

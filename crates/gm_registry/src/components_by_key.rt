@@ -4,7 +4,9 @@ ghost use Rattle.std.specs.Prelude.{◌≡◌, ◌≢◌, IfOk, IfErr, OnOk, OnE
 ghost use Rattle.gm_state.specs.Records.{Records};
 ghost use Rattle.gm_state.specs.Rows.{Tables};
 ghost use Rattle.gm_registry.specs.Keys.{key_text, shown_under, AreUnder, under};
+ghost use Rattle.gm_registry.specs.Parts.{SayNone};
 ghost use Rattle.gm_rows.specs.Says.{component_shown};
+ghost use Rattle.gm_rows.specs.Values.{IsComponentValue};
 ghost use Rattle.gm_rows.specs.ReadableTables.{AreRecordsOf};
 ghost use Rattle.gm_registry.specs.Registry.{DiskKept, IsOpen, seen, HasTables, HasRead, HaveRead, HasFailed, IsOurs, StoreFailed};
 ghost use Rattle.gm_rows.specs.Faults.{OnUnreadable, OnStore};
@@ -69,6 +71,9 @@ fn components_with<S: Alter>(
     ensures says { DiskKept S.Store conn.new → IfOk result (λ ks. IsOurs S.Store conn.old
         → IsPermutation (shown_under (seen S.Store conn.old) key label)
         (map component_shown ks.items)) }
+    ensures silent { DiskKept S.Store conn.new → OnUnreadable result (IsOurs S.Store conn.old
+        → SayNone component_shown IsComponentValue
+        (shown_under (seen S.Store conn.old) key label)) }
     ensures found { DiskKept S.Store conn.new
         → IfOk result (λ ks. (t : Tables) (s : Records) → HasTables S.Store conn.old t
         → AreRecordsOf t s → IsPermutation (under key s.components label) ks.items) }
@@ -95,6 +100,9 @@ pub(crate) fn components_under<S: Alter>(
     ensures says { DiskKept S.Store conn.new → IfOk result (λ ks. IsOurs S.Store conn.old
         → IsPermutation (flat_map (shown_under (seen S.Store conn.old) key) labels.now)
         (map component_shown ks.items)) }
+    ensures silent { DiskKept S.Store conn.new → OnUnreadable result (IsOurs S.Store conn.old
+        → SayNone component_shown IsComponentValue
+        (flat_map (shown_under (seen S.Store conn.old) key) labels.now)) }
     ensures found { DiskKept S.Store conn.new
         → IfOk result (λ ks. (t : Tables) (s : Records) → HasTables S.Store conn.old t
         → AreRecordsOf t s

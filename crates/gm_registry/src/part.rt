@@ -5,10 +5,10 @@ ghost use Rattle.std.specs.List.{list_any};
 ghost use Rattle.gm_metadata.specs.Images.{same_label};
 ghost use Rattle.gm_state.specs.Records.{Records, name};
 ghost use Rattle.gm_state.specs.Rows.{Tables};
-ghost use Rattle.gm_registry.specs.Parts.{is_asked_by, AreAsked, AreSaidFor, IsPartFor, IsSaidFor};
+ghost use Rattle.gm_registry.specs.Parts.{is_asked_by, AreAsked, AreSaidFor, IsPartFor, IsSaidFor, SayNone, SaysNoPart};
 ghost use Rattle.gm_rows.specs.Queries.{shown_places};
 ghost use Rattle.gm_rows.specs.Says.{mirror_shown};
-ghost use Rattle.gm_rows.specs.Values.{columns_at};
+ghost use Rattle.gm_rows.specs.Values.{columns_at, IsMirrorValue};
 ghost use Rattle.gm_rows.specs.declared.fetched.Table.TheVariants.{Mirrors};
 ghost use Rattle.gm_rows.specs.ReadableTables.{AreRecordsOf};
 ghost use Rattle.gm_registry.specs.Registry.{DiskKept, IsOpen, seen, HasTables, IsRegistry, HasRead, HasFailed, IsOurs, StoreFailed, HasSaved, Reads};
@@ -47,6 +47,9 @@ fn all_mirrors<S: Alter>(alloc: Global, conn: &mut Connection<S>) -> Result<Vec<
     ensures says { DiskKept S.Store conn.new → IfOk result (λ ms. IsOurs S.Store conn.old
         → IsPermutation (map (columns_at (shown_places Mirrors)) (seen S.Store conn.old 1))
         (map mirror_shown ms.items)) }
+    ensures silent { DiskKept S.Store conn.new → OnUnreadable result (IsOurs S.Store conn.old
+        → SayNone mirror_shown IsMirrorValue
+        (map (columns_at (shown_places Mirrors)) (seen S.Store conn.old 1))) }
     ensures all { DiskKept S.Store conn.new
         → IfOk result (λ ms. (t : Tables) (s : Records) → HasTables S.Store conn.old t
         → AreRecordsOf t s → IsPermutation s.mirrors ms.items) }
@@ -111,6 +114,8 @@ fn read_asked<S: Alter>(
     ensures says { DiskKept S.Store conn.new → IfOk result (λ a. IsOurs S.Store conn.old
         → AreSaidFor (seen S.Store conn.old) command.now mids.now a.mirrors.items
         a.components.items a.count) }
+    ensures silent { DiskKept S.Store conn.new → OnUnreadable result (IsOurs S.Store conn.old
+        → SaysNoPart (seen S.Store conn.old) command.now mids.now) }
     ensures asked { DiskKept S.Store conn.new
         → IfOk result (λ a. (t : Tables) (s : Records) → HasTables S.Store conn.old t
         → AreRecordsOf t s → AreAsked s command.now mids.now a) }
@@ -145,6 +150,8 @@ fn part_on<S: Alter>(
 ) -> Result<Part, StoreFault>
     ensures says { DiskKept S.Store conn.new → IfOk result (λ p. IsRegistry S.Store conn.old
         → IsSaidFor (seen S.Store conn.old) command.now mids.now p) }
+    ensures silent { DiskKept S.Store conn.new → OnUnreadable result (IsRegistry S.Store conn.old
+        → SaysNoPart (seen S.Store conn.old) command.now mids.now) }
     ensures part { DiskKept S.Store conn.new
         → IfOk result (λ p. (t : Tables) (s : Records) → HasTables S.Store conn.old t
         → AreRecordsOf t s → IsPartFor s command.now mids.now p × HasSaved S.Store conn.new t) }
@@ -168,8 +175,8 @@ fn part_on<S: Alter>(
 impl<S: Alter> Registry<S> {
     /// The part of the records that a command asks for, after some further mids, and how many
     /// mirrors there are. It reads all mirrors, of which the rules allow 64, and components by
-    /// their keys alone. `Unreadable` only where the rows of mirrors and components aren't those of
-    /// a state, though it doesn't see each such row; `Memory`, `Store` as of any call.
+    /// their keys alone. `Unreadable` exactly where those rows say no state, though others may say
+    /// none either; `Memory`, `Store` as of any call.
     pub fn part(
         &mut self,
         alloc: Global,
@@ -179,6 +186,9 @@ impl<S: Alter> Registry<S> {
         // Whatever rows the tables hold.
         ensures says { DiskKept S.Store self.new → IfOk result (λ p. IsRegistry S.Store self.old
             → IsSaidFor (seen S.Store self.old) command.now mids.now p) }
+        ensures silent { DiskKept S.Store self.new
+            → OnUnreadable result (IsRegistry S.Store self.old
+            → SaysNoPart (seen S.Store self.old) command.now mids.now) }
         ensures part { DiskKept S.Store self.new
             → IfOk result (λ p. (t : Tables) (s : Records) → HasTables S.Store self.old t
             → AreRecordsOf t s → IsPartFor s command.now mids.now p × HasSaved S.Store self.new t) }

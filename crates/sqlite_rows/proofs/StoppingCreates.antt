@@ -1,5 +1,5 @@
 -- Why a CREATE TABLE stops: nothing of the schema refuses a table of a small text and a free name.
-use Rattle.std.proofs.Common.{◌≡◌, ◌⊎◌, inl, inr, ℕ, ◌+◌, ◌*◌, ◌^◌, ◌<◌, ◌≤◌, true, false, not, List, [], length, codes, Option, Some, None, Ok, Err, IsUtf8, sym, ap, subst, ◌∙◌, arith}
+use Rattle.std.proofs.Common.{◌≡◌, inl, inr, ℕ, ◌+◌, ◌*◌, ◌^◌, ◌<◌, true, false, not, List, length, codes, Option, Some, None, Ok, Err, IsUtf8, sym, ap, subst, ◌∙◌, arith}
 use Rattle.std.specs.List.{list_all}
 use Rattle.std.proofs.lemmas.Bool.{true≢false, not-true}
 use Rattle.sqlite.specs.Order.{Row}

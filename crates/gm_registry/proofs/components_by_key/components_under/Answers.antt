@@ -15,7 +15,11 @@ use Rattle.std.proofs.lemmas.List.{map-append}
 use Rattle.gm_rows.specs.Says.{component_shown}
 use Rattle.gm_registry.specs.Keys.{shown_under}
 use Rattle.gm_registry.specs.Registry.{seen}
+use Rattle.gm_lists.proofs.Sorting.{Contains-Has}
+use Rattle.gm_rows.specs.Values.{IsComponentValue}
+use Rattle.gm_registry.specs.Parts.{SayNone}
 use Rattle.gm_registry.proofs.SaidParts.{some_carried}
+use Rattle.gm_registry.proofs.SilentParts.{none_under}
 use Rattle.gm_registry.proofs.components_by_key.components_under.Goals as goal
 
 pub labels-init : goal.labels-init
@@ -23,8 +27,8 @@ labels-init g c = record {
   read = inl refl;
   found = λ _ t s _ _. subst (IsPermutation []) (sym c.new-all.ensures.items)
       (IsPermutation-refl []);
-  says = λ _ _. subst (λ ks. IsPermutation [] (map component_shown ks)) (sym c.new-all.ensures.items)
-      (IsPermutation-refl []);
+  says = λ _ _. subst (λ ks. IsPermutation [] (map component_shown ks))
+      (sym c.new-all.ensures.items) (IsPermutation-refl []);
 }
 
 pub returns-in_err-some-clause-unreadable : goal.returns-in_err-some-clause-unreadable
@@ -104,3 +108,18 @@ returns-clause-says g c clean known =
     all) (map component_shown c.labels.all.items))
     (take_all c.labels.label-index c.args.labels.now c.labels-test.false)
     (c.labels.invariant.says clean known)
+
+pub returns-in_err-some-clause-silent : goal.returns-in_err-some-clause-silent
+returns-in_err-some-clause-silent g c clean =
+    let early = failed_clean (state g.S.Store c.labels.conn)
+    (state g.S.Store c.components_with.new.conn) c.in_err-some.ensures.failed clean in
+    let label = c.label-item.result in
+    passed_on c.from_residual.result _ _ (λ e same is known.
+    none_under component_shown IsComponentValue
+    (shown_under (seen g.S.Store c.args.conn.now) c.args.key) c.args.labels.now label
+    (Contains-Has c.args.labels.now label c.labels.label-index c.labels-test.true
+    (sym c.label-item.is))
+    (some_carried g.S.Store c.args.conn.now c.labels.conn
+    (λ trees. SayNone component_shown IsComponentValue (shown_under trees c.args.key label))
+    c.labels.invariant.read early (c.in_err-some.ensures.silent clean (sym same ∙ is)) known))
+    c.from_residual.ensures.1

@@ -11,6 +11,8 @@ use Rattle.std.proofs.Common.{filter}
 use Rattle.gm_rows.specs.Says.{component_shown}
 use Rattle.gm_registry.specs.Keys.{row_is_under}
 use Rattle.gm_registry.proofs.SaidParts.{said_by}
+use Rattle.gm_rows.specs.Values.{IsComponentValue}
+use Rattle.gm_registry.proofs.SilentParts.{none_by}
 use Rattle.gm_registry.proofs.components_by_key.components_with.Goals as goal
 
 pub returns-clause-found : goal.returns-clause-found
@@ -48,3 +50,14 @@ returns-clause-says g c clean =
     (subst (λ label. AreUnder old.now.trees c.args.key label c.in_ok-rows.rows.items)
     c.as_str.ensures.text (c.in_ok-rows.ensures.rows clean known))
     (ap (map (columns_at nine)) (sym c.deref.ensures.value) ∙ is)) c.read_all.ensures.read
+
+pub returns-clause-silent : goal.returns-clause-silent
+returns-clause-silent g c clean =
+    let old = state g.S.Store c.args.conn.now in
+    if_err c.read_all.result _ _ (λ e none is known.
+    none_by component_shown IsComponentValue
+    (filter (row_is_under c.args.key c.args.label) (old.now.trees 4)) c.in_ok-rows.rows.items
+    (subst (λ label. AreUnder old.now.trees c.args.key label c.in_ok-rows.rows.items)
+    c.as_str.ensures.text (c.in_ok-rows.ensures.rows clean known))
+    (λ list all same. none is list all (ap (map (columns_at nine)) c.deref.ensures.value ∙ same)))
+    c.read_all.ensures.unreadable

@@ -8,6 +8,8 @@ use Rattle.gm_registry.proofs.ReadsInTurn.{ours, counted}
 use Rattle.gm_registry.proofs.RecordsUnder.{mirrors_read, no_mirrors}
 use Rattle.gm_rows.specs.Says.{mirror_shown}
 use Rattle.gm_registry.proofs.SaidParts.{said_by}
+use Rattle.gm_rows.specs.Values.{IsMirrorValue}
+use Rattle.gm_registry.proofs.SilentParts.{none_by}
 use Rattle.gm_registry.proofs.part.all_mirrors.Goals as goal
 
 pub returns-clause-all : goal.returns-clause-all
@@ -39,3 +41,12 @@ returns-clause-says g c clean =
     said_by mirror_shown (old.now.trees 1) c.in_ok-rows.rows.items ms.items
     (c.in_ok-rows.ensures.rows clean known)
     (ap (map (columns_at nine)) (sym c.deref.ensures.value) ∙ is)) c.read_all.ensures.read
+
+pub returns-clause-silent : goal.returns-clause-silent
+returns-clause-silent g c clean =
+    let old = state g.S.Store c.args.conn.now in
+    if_err c.read_all.result _ _ (λ e none is known.
+    none_by mirror_shown IsMirrorValue (old.now.trees 1) c.in_ok-rows.rows.items
+    (c.in_ok-rows.ensures.rows clean known)
+    (λ list all same. none is list all (ap (map (columns_at nine)) c.deref.ensures.value ∙ same)))
+    c.read_all.ensures.unreadable

@@ -6,6 +6,9 @@ use Rattle.gm_registry.proofs.ReadsInTurn.{tables_stay}
 use Rattle.gm_registry.proofs.CallsLeave.{saved}
 use Rattle.gm_registry.proofs.ReadsInTurn.{registry_ours}
 use Rattle.gm_registry.proofs.SaidParts.{said_in_order}
+use Rattle.std.proofs.Common.{◌∙◌, sym}
+use Rattle.gm_rows.proofs.RowsSayRecords.{passed_on}
+use Rattle.gm_registry.proofs.SilentParts.{same_part}
 use Rattle.gm_registry.proofs.part.part_on.Goals as goal
 
 pub returns-in-Some-clause-part : goal.returns-in-Some-clause-part
@@ -45,3 +48,19 @@ returns-in-Some-clause-says g c clean was =
           asked.components.items asked.count c.in-Some.state
           (c.in_ok-asked.ensures.says clean (registry_ours old was)) c.in-Some.ensures.some,
     )
+
+pub returns-in-None-clause-silent : goal.returns-in-None-clause-silent
+returns-in-None-clause-silent g c clean is was p said values =
+    let old = state g.S.Store c.args.conn.now in
+    let asked = c.in_ok-asked.asked in
+    let same = same_part old.now.trees c.args.command.now c.args.mids.now p.state.mirrors
+    p.state.components p.mirrors said.1 asked.mirrors.items asked.components.items asked.count
+    (c.in_ok-asked.ensures.says clean (registry_ours old was)) in
+    c.in-None.ensures.none p.state
+    (record { state = said.0; mirrors_are = same.0; components_are = same.1 })
+
+pub returns-in_err-asked-clause-silent : goal.returns-in_err-asked-clause-silent
+returns-in_err-asked-clause-silent g c clean =
+    passed_on c.from_residual.result _ _ (λ e same is was.
+    c.in_err-asked.ensures.silent clean (sym same ∙ is)
+    (registry_ours (state g.S.Store c.args.conn.now) was)) c.from_residual.ensures.1

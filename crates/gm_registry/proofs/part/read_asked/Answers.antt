@@ -14,7 +14,6 @@ use Rattle.gm_registry.proofs.PartOf.{mirrors_asked, components_asked}
 use Rattle.gm_registry.proofs.ReadsInTurn.{failed_then, tables_stay}
 use Rattle.gm_rows.proofs.RowsSayRecords.{passed_on}
 use Rattle.gm_registry.proofs.SomeReads.{then_some, some_clean, some_stay, failed_clean}
-use Rattle.std.proofs.Common.{refl}
 use Rattle.std.proofs.lemmas.List.{length-map}
 use Rattle.std.proofs.lemmas.List.Sorted.{IsPermutation-refl}
 use Rattle.sqlite.specs.Tree.{Trees}
@@ -24,6 +23,10 @@ use Rattle.gm_rows.specs.Values.{columns_at}
 use Rattle.gm_rows.specs.declared.fetched.Table.TheVariants.{Mirrors}
 use Rattle.gm_registry.specs.Keys.{shown_under}
 use Rattle.gm_registry.proofs.ReadsInTurn.{carried}
+use Rattle.gm_rows.specs.Values.{IsComponentValue}
+use Rattle.gm_rows.proofs.TypedRecords.{component_value}
+use Rattle.gm_registry.specs.Parts.{SayNone}
+use Rattle.gm_registry.proofs.SilentParts.{asked_alike, owned_alike}
 use Rattle.gm_registry.proofs.part.read_asked.Goals as goal
 
 pub returns-in_err-named-clause-unreadable : goal.returns-in_err-named-clause-unreadable
@@ -206,3 +209,63 @@ returns-clause-says g c clean known =
         ap length c.deref-2.ensures.value,
       );
     }
+
+pub returns-in_err-all-clause-silent : goal.returns-in_err-all-clause-silent
+returns-in_err-all-clause-silent g c clean =
+    passed_on c.from_residual.result _ _ (λ e same is known p said values.
+    c.in_err-all.ensures.silent clean (sym same ∙ is) known said.1.mirrors values.mirrors
+    said.1.mirrors_are) c.from_residual.ensures.1
+
+pub returns-in_err-named-clause-silent : goal.returns-in_err-named-clause-silent
+returns-in_err-named-clause-silent g c clean =
+    let old = state g.S.Store c.args.conn.now in
+    let one = state g.S.Store c.all_mirrors.new.conn in
+    let early = failed_clean one (state g.S.Store c.components_under.new.conn)
+    c.in_err-named.ensures.failed clean in
+    passed_on c.from_residual-in_err-named.result _ _ (λ e same is known p said values.
+    carried old one (λ (trees : Trees). SayNone component_shown IsComponentValue
+    (flat_map (shown_under trees Provider) c.providers_of.result.now))
+    c.in_ok-all.ensures.read early (c.in_err-named.ensures.silent clean (sym same ∙ is)) known said.1.named values.named
+    (subst (λ ps. IsPermutation (flat_map (shown_under old.now.trees Provider) ps)
+    (map component_shown said.1.named)) (sym c.providers_of.ensures) said.1.named_are))
+    c.from_residual-in_err-named.ensures.1
+
+pub returns-in_err-components-clause-silent : goal.returns-in_err-components-clause-silent
+returns-in_err-components-clause-silent g c clean =
+    let old = state g.S.Store c.args.conn.now in
+    let one = state g.S.Store c.all_mirrors.new.conn in
+    let two = state g.S.Store c.components_under.new.conn in
+    let command = c.args.command.now in
+    let mids = c.args.mids.now in
+    let all = c.in_ok-all.all.items in
+    let named = c.in_ok-named.named.items in
+    let mirrors = c.in_ok-mirrors.mirrors.items in
+    let clean2 = failed_clean two (state g.S.Store c.components_under-2.new.conn)
+    c.in_err-components.ensures.failed clean in
+    let clean1 = some_clean g.S.Store c.all_mirrors.new.conn c.components_under.new.conn
+    c.in_ok-named.ensures.read clean2 in
+    let both = then_some g.S.Store c.args.conn.now c.all_mirrors.new.conn
+    c.components_under.new.conn c.in_ok-all.ensures.read c.in_ok-named.ensures.read in
+    let mirrors_are : mirrors ≡ filter (is_asked_by command mids named) all =
+    c.in_ok-mirrors.ensures
+    ∙ (λ i. filter (is_asked_by command mids (c.deref.ensures.value i))
+    (c.deref-2.ensures.value i)) in
+    let names_are : c.deref-4.result.now ≡ map name mirrors =
+    c.deref-4.ensures.value ∙ (c.in_ok-names.ensures ∙ ap (map name) c.deref-3.ensures.value) in
+    passed_on c.from_residual-in_err-components.result _ _ (λ e same is known p said values.
+    let on = subst (λ ps. IsPermutation (flat_map (shown_under old.now.trees Provider) ps)
+    (map component_shown named)) c.providers_of.ensures
+    (carried old one (λ (trees : Trees). IsPermutation
+    (flat_map (shown_under trees Provider) c.providers_of.result.now) (map component_shown named))
+    c.in_ok-all.ensures.read clean1 (c.in_ok-named.ensures.says clean2) known) in
+    let alike = subst (λ l. IsPermutation l p.state.mirrors) (sym mirrors_are)
+    (asked_alike old.now.trees command mids p.state.mirrors p.state.components p.mirrors said.1 all
+    named (c.in_ok-all.ensures.says clean1 known) on) in
+    carried old two (λ (trees : Trees). SayNone component_shown IsComponentValue
+    (flat_map (shown_under trees Mirror) c.deref-4.result.now)) both clean2
+    (c.in_err-components.ensures.silent clean (sym same ∙ is)) known p.state.components
+    (component_value p.state said.0)
+    (subst (λ (ns : List (List ℕ)). IsPermutation (flat_map (shown_under old.now.trees Mirror) ns)
+    (map component_shown p.state.components)) (sym names_are)
+    (owned_alike old.now.trees command mids p.state.mirrors p.state.components p.mirrors said.1
+    mirrors alike))) c.from_residual-in_err-components.ensures.1
