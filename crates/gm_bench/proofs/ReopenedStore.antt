@@ -27,7 +27,8 @@ module _ {S H : Type 0} (g : Ghosts S) (view : H → View) (size : H → Sizes) 
     (only : (db : Trees) → CrashLeaves g start db → db ≡ stored g start)
     (r : Recovers (stored g start) (size h) away (view h).may_leave u w) where
   -- the store as it was, with any images that lead on
-  pub as_it_was : (X : Image → Type 0) → AllLead r.tables r.intents (size h) away X u w → (db : Trees)
+  pub as_it_was : (X : Image → Type 0) → AllLead r.tables r.intents (size h) away X u w
+      → (db : Trees)
       → CrashLeaves g start db → Recovers db (size h) away X u w
   as_it_was X leads db left = record {
     tables = r.tables;

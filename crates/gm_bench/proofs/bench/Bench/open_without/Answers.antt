@@ -62,7 +62,8 @@ returns-in-Ok-NotLost-clause-leaves g c h is_open closed =
 pub returns-in-Err-take_up_without-clause-leaves : goal.returns-in-Err-take_up_without-clause-leaves
 returns-in-Err-take_up_without-clause-leaves g c h is_open closed =
     let clean : DiskKept g.S.Store c.take_up_without.new.self.registry =
-    subst (λ (k : Held g.row.S.Denot). DiskKept g.S.Store k) c.close-in-Err-take_up_without.ensures closed in
+    subst (λ (k : Held g.row.S.Denot). DiskKept g.S.Store k) c.close-in-Err-take_up_without.ensures
+    closed in
     let mid : DiskKept g.S.Store c.in-Ok.registry =
     omega (arith, clean, c.take_up_without.ensures.keep.clean) in
     let only : (db : Trees) → CrashLeaves g.S.Store c.args.store db
@@ -82,7 +83,8 @@ pub returns-in-Err-take_up_without-clause-foreign :
     goal.returns-in-Err-take_up_without-clause-foreign
 returns-in-Err-take_up_without-clause-foreign g c is_open foreign closed =
     let clean : DiskKept g.S.Store c.take_up_without.new.self.registry =
-    subst (λ (k : Held g.row.S.Denot). DiskKept g.S.Store k) c.close-in-Err-take_up_without.ensures closed in
+    subst (λ (k : Held g.row.S.Denot). DiskKept g.S.Store k) c.close-in-Err-take_up_without.ensures
+    closed in
     let mid : DiskKept g.S.Store c.in-Ok.registry =
     omega (arith, clean, c.take_up_without.ensures.keep.clean) in
     absurd (c.in-Ok.ensures.refuses is_open foreign mid)
@@ -120,11 +122,13 @@ returns-in-Ok-Carried-clause-opened g c =
             progress = Ready;
             redone = c.in-Ok-Carried.redone;
           } in
-          answered g.S.Store g.H.Shelf.view g.H.Shelf.size c.args.store c.in-Ok.registry c.args.shelf
+          answered g.S.Store g.H.Shelf.view g.H.Shelf.size c.args.store c.in-Ok.registry
+          c.args.shelf
           lawful only (λ empty. c.in-Ok.ensures.made is_open empty mid)
           (λ t holds. c.in-Ok.ensures.found t is_open holds mid) c.args.key.now c.args.provider b
           c.in-Ok-Carried.answer c.in-Ok-Carried.redone refl
-          (subst (λ (x : TakenUp). DoesWithout g.S.Store g.H.Shelf.view g.H.Shelf.size c.args.key.now
+          (subst
+          (λ (x : TakenUp). DoesWithout g.S.Store g.H.Shelf.view g.H.Shelf.size c.args.key.now
           c.args.provider c.in-Ok.registry c.take_up_without.new.self.registry c.args.shelf
           c.take_up_without.new.self.shelf x) c.in-Ok-Carried.field-0-is
           (c.in-Ok-Carried.ensures.does h clean)));
@@ -144,7 +148,8 @@ returns-in-Ok-Carried-clause-opened g c =
           lawful only (λ empty. c.in-Ok.ensures.made is_open empty mid)
           (λ t holds. c.in-Ok.ensures.found t is_open holds mid) c.args.key.now c.args.provider b
           c.in-Ok-Carried.answer c.in-Ok-Carried.redone
-          (subst (λ (x : TakenUp). KeepsUndone g.S.Store g.H.Shelf.view g.H.Shelf.size c.args.key.now
+          (subst
+          (λ (x : TakenUp). KeepsUndone g.S.Store g.H.Shelf.view g.H.Shelf.size c.args.key.now
           c.args.provider c.in-Ok.registry c.take_up_without.new.self.registry c.args.shelf
           c.take_up_without.new.self.shelf x) c.in-Ok-Carried.field-0-is
           (c.in-Ok-Carried.ensures.undone h clean)));
@@ -169,7 +174,8 @@ returns-in-Ok-NotLost-clause-opened g c =
           c.args.shelf c.take_up_without.new.self.shelf x) c.in-Ok-NotLost.field-0-is
           (c.in-Ok-NotLost.ensures.does h clean) in
           λ away u w left. does away left.recovers.intents u w
-          (at_opened g.S.Store g.H.Shelf.view g.H.Shelf.size c.args.store c.in-Ok.registry c.args.shelf
+          (at_opened g.S.Store g.H.Shelf.view g.H.Shelf.size c.args.store c.in-Ok.registry
+          c.args.shelf
           lawful only (λ empty. c.in-Ok.ensures.made is_open empty mid)
           (λ t holds. c.in-Ok.ensures.found t is_open holds mid) away u w left));
       undone = λ h is_open closed. (
@@ -195,7 +201,8 @@ returns-in-Ok-NotLost-clause-opened g c =
       refused = search rules;
     }
 
-pub returns-in-Err-take_up_without-clause-unopened : goal.returns-in-Err-take_up_without-clause-unopened
+pub returns-in-Err-take_up_without-clause-unopened :
+    goal.returns-in-Err-take_up_without-clause-unopened
 returns-in-Err-take_up_without-clause-unopened g c =
     record {
       lacks = λ h is_open closed q is. (
@@ -208,10 +215,13 @@ returns-in-Err-take_up_without-clause-unopened g c =
           → db ≡ stored g.S.Store c.args.store =
           λ db left. g.met.S.Store.settled c.args.store.store db is_open left in
           subst (λ (k : Held g.row.S.Denot). LacksImage g.S.Store g.H.Shelf.view g.H.Shelf.size
-          c.args.store c.args.shelf c.args.key.now c.args.provider k c.take_up_without.new.self.shelf q)
+          c.args.store c.args.shelf c.args.key.now c.args.provider k
+          c.take_up_without.new.self.shelf q)
           (sym c.close-in-Err-take_up_without.ensures)
-          (lacking g.S.Store g.H.Shelf.view g.H.Shelf.size c.args.store c.in-Ok.registry c.args.shelf
-          (g.met.H.Shelf.lawful c.args.shelf h) only (λ empty. c.in-Ok.ensures.made is_open empty mid)
+          (lacking g.S.Store g.H.Shelf.view g.H.Shelf.size c.args.store c.in-Ok.registry
+          c.args.shelf
+          (g.met.H.Shelf.lawful c.args.shelf h) only
+          (λ empty. c.in-Ok.ensures.made is_open empty mid)
           (λ t holds. c.in-Ok.ensures.found t is_open holds mid) c.args.key.now c.args.provider
           c.take_up_without.new.self.registry c.take_up_without.new.self.shelf q
           (c.in-Err-take_up_without.ensures.lacks h clean q (ap Err is))));

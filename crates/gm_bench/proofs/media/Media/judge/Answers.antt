@@ -26,7 +26,8 @@ returns-in-Ok-None-clause-judged g c clean =
     let free : IsFree t c.args.key.now =
     subst (λ o. MatchOption o (IsFree t c.args.key.now)
     (λ it. IsKept t c.args.key.now it.0 (string_bytes it.1) it.2)) c.in-Ok-None.field-0-is f.0 in
-    judged w c.args.key.now t of holds f.1.tables (sym c.is_key.ensures ∙ c.if-not-is_key.false) free))
+    judged w c.args.key.now t of holds f.1.tables (sym c.is_key.ensures ∙ c.if-not-is_key.false)
+    free))
     c.judge_free.result (c.judge_free.ensures.judged clean)
 
 pub returns-in-Ok-None-clause-reads : goal.returns-in-Ok-None-clause-reads

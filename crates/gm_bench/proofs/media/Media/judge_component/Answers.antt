@@ -79,7 +79,8 @@ returns-clause-fits g c =
     let fits = subst (λ (r : Result Changed Refusal). IfOk r
     (λ ch. IsFitting ch (words_of c.in_ok-command.command) (settled t))) c.in-Ok-Ok.field-0-is
     (c.in-Ok-Ok.ensures.fits (settled t) k.mirror k.provider
-    (records_settled t c.args.state.now are) c.in-Ok.ensures.fits c.in_ok-command.ensures.command) in
+    (records_settled t c.args.state.now are) c.in-Ok.ensures.fits
+    c.in_ok-command.ensures.command) in
     can_commit c.args.state.now (g.H.Shelf.size c.args.self.now.shelf) c.args.intents.now k.mirror
     k.provider (string_bytes c.in-Ok.words) key c.in-Ok-Ok.change t j comes key_ok free room
     (subst (λ (l : List ℕ). IsFitting c.in-Ok-Ok.change l (settled t)) (sym c.in-Ok.ensures.words)

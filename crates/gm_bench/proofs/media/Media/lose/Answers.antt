@@ -42,10 +42,12 @@ returns-in_err-finish-clause-leaves g c h clean p =
       c.commit_loss.ensures.leaves h clean1 p,
       λ away ts u w was. (
           let it = c.in_ok-number.ensures.done h clean1 p away ts u w was in
-          let here = at_hand g.S.Store view size mid k0 k1 away c.args.loss.now c.args.key.now p ts u
+          let here =
+          at_hand g.S.Store view size mid k0 k1 away c.args.loss.now c.args.key.now p ts u
           w c.in_ok-number.number lawful c.commit_loss.ensures.shelf it none c.deref-2.result.now
           c.deref-2.ensures.value in
-          let cover = covers g.S.Store view size mid k0 k1 away c.args.loss.now c.args.key.now p ts u
+          let cover =
+          covers g.S.Store view size mid k0 k1 away c.args.loss.now c.args.key.now p ts u
           w c.in_ok-number.number lawful c.commit_loss.ensures.shelf it none c.deref-2.result.now
           c.deref-2.ensures.value in (
             it.0,
@@ -76,10 +78,12 @@ returns-clause-leaves g c h clean p =
       c.commit_loss.ensures.leaves h clean1 p,
       λ away ts u w was. (
           let it = c.in_ok-number.ensures.done h clean1 p away ts u w was in
-          let here = at_hand g.S.Store view size mid k0 k1 away c.args.loss.now c.args.key.now p ts u
+          let here =
+          at_hand g.S.Store view size mid k0 k1 away c.args.loss.now c.args.key.now p ts u
           w c.in_ok-number.number lawful c.commit_loss.ensures.shelf it none c.deref-2.result.now
           c.deref-2.ensures.value in
-          let cover = covers g.S.Store view size mid k0 k1 away c.args.loss.now c.args.key.now p ts u
+          let cover =
+          covers g.S.Store view size mid k0 k1 away c.args.loss.now c.args.key.now p ts u
           w c.in_ok-number.number lawful c.commit_loss.ensures.shelf it none c.deref-2.result.now
           c.deref-2.ensures.value in (
             it.0,

@@ -42,7 +42,8 @@ returns-clause-state g c =
 
 pub returns-clause-again : goal.returns-clause-again
 returns-clause-again g c =
-    ok_then _ _ (λ r by k p is on fits state. stays_behind c.args.state.now c.in_ok-facts.facts k p r
+    ok_then _ _
+    (λ r by k p is on fits state. stays_behind c.args.state.now c.in_ok-facts.facts k p r
     (subst (λ (x : Command). Decides c.args.state.now (seen_in c.in_ok-facts.facts) x r) is by)
     state on (subst CommandFits is fits)) c.decide.result c.decide.ensures.facts
 

@@ -50,7 +50,8 @@ returns-in_err-check_and_finish-in-Kept-clause-leaves g c h clean =
     let k = c.args.self.now.shelf in
     let mid = c.look_for_loss.new.self.registry in
     let k1 = c.look_for_loss.new.self.shelf in
-    let clean1 : DiskKept g.S.Store mid = omega (arith, clean, c.check_and_finish.ensures.keep.clean) in
+    let clean1 : DiskKept g.S.Store mid =
+    omega (arith, clean, c.check_and_finish.ensures.keep.clean) in
     let h1 : g.H.Shelf.honest k1 = subst g.H.Shelf.honest (sym c.look_for_loss.ensures.shelf) h in
     inl (λ away ts u w at. (
     let looked = c.in_ok-looked.ensures.looked h clean1 away ts u w at in
@@ -77,7 +78,8 @@ returns-in-Kept-clause-leaves g c h clean =
     let k = c.args.self.now.shelf in
     let mid = c.look_for_loss.new.self.registry in
     let k1 = c.look_for_loss.new.self.shelf in
-    let clean1 : DiskKept g.S.Store mid = omega (arith, clean, c.check_and_finish.ensures.keep.clean) in
+    let clean1 : DiskKept g.S.Store mid =
+    omega (arith, clean, c.check_and_finish.ensures.keep.clean) in
     let h1 : g.H.Shelf.honest k1 = subst g.H.Shelf.honest (sym c.look_for_loss.ensures.shelf) h in
     inl (λ away ts u w at. (
     let looked = c.in_ok-looked.ensures.looked h clean1 away ts u w at in
@@ -104,7 +106,8 @@ returns-in-Kept-clause-does g c h clean away ts u w at =
     let k = c.args.self.now.shelf in
     let mid = c.look_for_loss.new.self.registry in
     let k1 = c.look_for_loss.new.self.shelf in
-    let clean1 : DiskKept g.S.Store mid = omega (arith, clean, c.check_and_finish.ensures.keep.clean) in
+    let clean1 : DiskKept g.S.Store mid =
+    omega (arith, clean, c.check_and_finish.ensures.keep.clean) in
     let h1 : g.H.Shelf.honest k1 = subst g.H.Shelf.honest (sym c.look_for_loss.ensures.shelf) h in
     let looked = c.in_ok-looked.ensures.looked h clean1 away ts u w at in
     let was = looked.0 in
@@ -230,7 +233,8 @@ returns-in_err-check_and_finish-in-Kept-clause-lacks g c h clean q is =
     let k = c.args.self.now.shelf in
     let mid = c.look_for_loss.new.self.registry in
     let k1 = c.look_for_loss.new.self.shelf in
-    let clean1 : DiskKept g.S.Store mid = omega (arith, clean, c.check_and_finish.ensures.keep.clean) in
+    let clean1 : DiskKept g.S.Store mid =
+    omega (arith, clean, c.check_and_finish.ensures.keep.clean) in
     let fault = fault_is c.from_residual-in_err-check_and_finish-in-Kept.result _ _
     c.from_residual-in_err-check_and_finish-in-Kept.ensures.1 is in
     let lack = c.in_err-check_and_finish-in-Kept.ensures.absent q (ap Err fault) in
@@ -296,7 +300,8 @@ returns-in-Kept-clause-undone g c h clean =
     let k = c.args.self.now.shelf in
     let mid = c.look_for_loss.new.self.registry in
     let k1 = c.look_for_loss.new.self.shelf in
-    let clean1 : DiskKept g.S.Store mid = omega (arith, clean, c.check_and_finish.ensures.keep.clean) in
+    let clean1 : DiskKept g.S.Store mid =
+    omega (arith, clean, c.check_and_finish.ensures.keep.clean) in
     let h1 : g.H.Shelf.honest k1 = subst g.H.Shelf.honest (sym c.look_for_loss.ensures.shelf) h in
     (λ away ts u w at. (
     let looked = c.in_ok-looked.ensures.looked h clean1 away ts u w at in
