@@ -9,6 +9,7 @@ pub mod Commits
 pub mod DecidesOnly
 pub mod FactsAreWorlds
 pub mod FactsLookedUp
+pub mod FittingLosses
 pub mod FittingPlans
 pub mod Found
 pub mod GatheredFacts
@@ -27,6 +28,7 @@ pub mod LossRules
 pub mod LossSources
 pub mod Losses
 pub mod MirrorSource
+pub mod OpenedRoom
 pub mod PartCovers
 pub mod Phases
 pub mod PlannedAlone

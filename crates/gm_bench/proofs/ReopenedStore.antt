@@ -2,28 +2,33 @@
 use Rattle.std.proofs.Common.{◌≡◌, inl, inr, sym, subst}
 use Rattle.sqlite_trees.specs.declared.store.Store.{Ghosts}
 use Rattle.sqlite.specs.Tree.{Trees}
-use Rattle.sqlite.specs.Held.{Held}
+use Rattle.sqlite.specs.Held.{Held, state}
 use Rattle.gm_metadata.specs.Images.{Image, Sizes}
 use Rattle.gm_shelf.specs.Disk.{View, IsLawful}
 use Rattle.gm_state.specs.Rows.{Tables}
 use Rattle.gm_state.specs.World.{World, present}
-use Rattle.gm_registry.specs.Registry.{DiskKept, CrashLeaves, HasTables, LeavesNothingNew, MayLeave, stored}
+use Rattle.gm_registry.specs.Registry.{DiskKept, CrashLeaves, HasTables, LeavesNothingNew, MayLeave, StoreFailed, stored}
 use Rattle.gm_rows.specs.Tables.{Holds, IsEmpty, no_tables}
-use Rattle.gm_registry.specs.Opening.{HasSomeTables}
+use Rattle.gm_registry.specs.Opening.{IsKnownStore}
+use Rattle.gm_registry.proofs.Failures.{failed_since}
 use Rattle.gm_bench.specs.Leading.{AllLead}
-use Rattle.gm_bench.specs.Opened.{HoldsSome}
+use Rattle.gm_bench.specs.Opened.{HoldsKnown}
 use Rattle.gm_bench.specs.Recovering.{IsStored, Recovers, IsFound, LeavesOnly}
 
-pub some_tables : (db : Trees) → HoldsSome db → HasSomeTables db
-some_tables db (inl held) = inl held.1.sound
-some_tables db (inr foreign) = inr foreign
+pub known_store : (db : Trees) → HoldsKnown db → IsKnownStore db
+known_store db (inl stored) = elim stored.1 [
+  | inl held ↦ inr (inl held.sound)
+  | inr empty ↦ inl empty.0
+]
+known_store db (inr foreign) = inr (inr foreign)
 
 module _ {S H : Type 0} (g : Ghosts S) (view : H → View) (size : H → Sizes) (start : Held S) (h : H)
     (away : Image) (u w : World) (lawful : IsLawful (view h))
     (only : (db : Trees) → CrashLeaves g start db → db ≡ stored g start)
     (r : Recovers (stored g start) (size h) away (view h).may_leave u w) where
   -- the store as it was, with any images that lead on
-  pub as_it_was : (X : Image → Type 0) → AllLead r.tables r.intents (size h) away X u w → (db : Trees)
+  pub as_it_was : (X : Image → Type 0) → AllLead r.tables r.intents (size h) away X u w
+      → (db : Trees)
       → CrashLeaves g start db → Recovers db (size h) away X u w
   as_it_was X leads db left = record {
     tables = r.tables;
@@ -95,3 +100,13 @@ pub opened_tables : {S : Type 0} (g : Ghosts S) (start mid : Held S)
 opened_tables g start mid made found t (inl holds) = found t holds
 opened_tables g start mid made found t (inr empty) =
     subst (HasTables g mid) (sym empty.1) (made empty.0)
+
+-- a failure of the store behind an opening is one since before it
+pub failed_opened : {S : Type 0} (g : Ghosts S) (start mid new : Held S)
+    → (IsEmpty (stored g start) → MayLeave g start mid no_tables)
+    → ((t : Tables) → Holds (stored g start) t → LeavesNothingNew g start mid) → (t : Tables)
+    → IsStored (stored g start) t → StoreFailed g mid new → StoreFailed g start new
+failed_opened g start mid new made found t (inl holds) failed =
+    failed_since (state g start) (state g mid) (state g new) _ (found t holds) failed
+failed_opened g start mid new made found t (inr empty) failed =
+    failed_since (state g start) (state g mid) (state g new) _ (made empty.0) failed

@@ -1,8 +1,9 @@
 -- What an opening without a provider leaves, and what it answers, from the store and the shelf
 -- before it.
-use Rattle.std.specs.Prelude.{◌≡◌, ◌⊎◌, ◌+◌, ◌<◌, ℕ, List, [], length}
+use Rattle.std.specs.Prelude.{◌≡◌, ◌⊎◌, ◌+◌, ◌^◌, ◌<◌, ℕ, List, [], length}
 use Rattle.sqlite_trees.specs.declared.store.Store.{Ghosts}
 use Rattle.sqlite.specs.Held.{Held}
+use Rattle.sqlite.specs.Tree.{Trees}
 use Rattle.gm_metadata.specs.Images.{Image, Sizes}
 use Rattle.gm_shelf.specs.declared.shelf.Shelf.{Ghosts as ShelfGhosts}
 use Rattle.gm_shelf.specs.Disk.{View}
@@ -12,16 +13,18 @@ use Rattle.gm_state.specs.Records.{Records}
 use Rattle.gm_state.specs.Rows.{Tables}
 use Rattle.gm_state.specs.World.{World, Answered}
 use Rattle.gm_rows.specs.ReadableTables.{AreTablesOf}
-use Rattle.gm_registry.specs.Opening.{IsOpenable}
-use Rattle.gm_registry.specs.Registry.{DiskKept, IsOpen, stored}
+use Rattle.gm_registry.specs.Opening.{IsForeign, IsOpenable}
+use Rattle.gm_registry.specs.Fitting.{HasRoom}
+use Rattle.gm_registry.specs.Registry.{DiskKept, IsOpen, StoreFailed, stored}
 use Rattle.gm_registry.specs.Replies.{AreWrittenUnder}
 use Rattle.gm_bench.specs.declared.bench.OpenFault.{OpenFault}
-use Rattle.gm_bench.specs.declared.fault.BenchFault.TheVariants.{Absent, Closed, Disk, Unreadable}
+use Rattle.gm_bench.specs.declared.fault.BenchFault.TheVariants.{Absent, Closed, Disk, Store, Unreadable}
 use Rattle.gm_bench.specs.declared.answer.Answer.TheVariants.{Done, Repeated, Refused as NotDone}
 use Rattle.gm_bench.specs.declared.open_without.Without.{Without}
 use Rattle.gm_bench.specs.declared.open_without.Without.TheVariants.{Opened, Refused}
 use Rattle.gm_bench.specs.declared.phase.Progress.TheVariants.{Ready}
 use Rattle.gm_bench.specs.Benches.{progress_of, redone_of, registry_of, shelf_of}
+use Rattle.gm_bench.specs.Calls.{most_rows}
 use Rattle.gm_bench.specs.Owed.{IsLeft, OpenLeaves}
 use Rattle.gm_bench.specs.Recovering.{IsAt, IsStored}
 use Rattle.gm_bench.specs.Schedule.{WithoutCarries, WithoutDoes, WithoutLeaves}
@@ -93,6 +96,17 @@ module _ {S H : Type 0} (g : Ghosts S) (view : H → View) (size : H → Sizes) 
       (away : Image) (u w : World) → (left : IsLeft g view size store h away u w)
       → IsRefusedLoss w left.recovers.intents key p why
 
+-- The store has tables of a state, or none, with these intents pending: few enough that those of a
+-- loss can be numbered behind them; and it can number the rows of a command.
+pub record TakesLoss (db : Trees) : Type 0 where
+  pub tables : Tables
+  pub stands : IsStored db tables
+  pub records : Records
+  pub intents : List Intent
+  pub are : AreTablesOf tables records intents
+  pub few : length intents + 17 < 2 ^ 32
+  pub room : HasRoom most_rows db
+
 module _ {S H : Type 0} (s : Ghosts S) (h : ShelfGhosts H) (store : Held S) (shelf : H)
     (key p : List ℕ) where
   -- what is answered of the loss
@@ -106,7 +120,8 @@ module _ {S H : Type 0} (s : Ghosts S) (h : ShelfGhosts H) (store : Held S) (she
 
   -- Why it failed. By the tables that are stored and the sizes alone: F3 only where the device
   -- failed, and F6 only where the tables don't say a state with readable intents, or the key's row
-  -- is one that this program doesn't write. F5 comes before anything is written.
+  -- is one that this program doesn't write. F2 comes only where the store failed, of one that takes
+  -- a loss, or has other tables. F5 comes before anything is written.
   pub record IsUnopenedWithout (e : OpenFault S H) : Type 0 where
     pub lacks : h.honest shelf → IsOpen s store → DiskKept s e.store → (q : List ℕ)
         → e.fault ≡ Absent q → LacksImage s h.view h.size store shelf key p e.store e.shelf q
@@ -117,4 +132,6 @@ module _ {S H : Type 0} (s : Ghosts S) (h : ShelfGhosts H) (store : Held S) (she
     pub unreadable : IsOpen s store → DiskKept s e.store → e.fault ≡ Unreadable
         → IsOpenable (stored s store) → (t : Tables) (r : Records) (ts : List Intent)
         → IsStored (stored s store) t → AreTablesOf t r ts → AreWrittenUnder key t → ⊥
+    pub failed : IsOpen s store → DiskKept s e.store → e.fault ≡ Store
+        → TakesLoss (stored s store) ⊎ IsForeign (stored s store) → StoreFailed s store e.store
     pub closed : e.fault ≡ Closed → ⊥

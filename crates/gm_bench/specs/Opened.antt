@@ -12,7 +12,6 @@ use Rattle.gm_state.specs.Rows.{Tables}
 use Rattle.gm_state.specs.World.{World}
 use Rattle.gm_rows.specs.ReadableTables.{AreTablesOf}
 use Rattle.gm_rows.specs.Schema.{registry_schema}
-use Rattle.gm_rows.specs.Tables.{Holds}
 use Rattle.gm_registry.specs.Opening.{IsForeign, IsOpenable}
 use Rattle.gm_registry.specs.Registry.{DiskKept, HasTables, IsOpen, IsRegistry, LeavesAlone, StoreFailed, stored}
 use Rattle.gm_bench.specs.declared.bench.Bench.{Bench}
@@ -58,9 +57,9 @@ pub record StaysBefore {S H T : Type 0} (s : StoreGhosts S) (old new : Media S H
 
 -- ---- of a store and a shelf
 
--- it holds the tables of a registry, or others
-abbrev pub HoldsSome : Trees → Type 0
-HoldsSome db = ((t : Tables) × Holds db t) ⊎ IsForeign db
+-- it has no tables, or holds those of a registry, or has others
+abbrev pub HoldsKnown : Trees → Type 0
+HoldsKnown db = ((t : Tables) × IsStored db t) ⊎ IsForeign db
 
 module _ {S H : Type 0} (s : StoreGhosts S) (h : ShelfGhosts H) (store : Held S) (shelf : H) where
   -- The bench is at rest in the world that was left; the number is that of the intents that were
@@ -78,8 +77,8 @@ module _ {S H : Type 0} (s : StoreGhosts S) (h : ShelfGhosts H) (store : Held S)
         → first_absent r (h.size shelf) ts ≡ None
 
   -- Why it failed, by the tables that are stored and the sizes alone. F2 comes only where the store
-  -- failed, if it holds some. A fault before anything is written leaves both media as they were,
-  -- whatever rows the tables hold.
+  -- failed, of an empty store too. A fault before anything is written leaves both media as they
+  -- were, whatever rows the tables hold.
   pub record IsUnopened (e : OpenFault S H) : Type 0 where
     pub absent : IsOpen s store → DiskKept s e.store → (p : List ℕ) → e.fault ≡ Absent p
         → (t : Tables) (r : Records) (ts : List Intent)
@@ -92,7 +91,7 @@ module _ {S H : Type 0} (s : StoreGhosts S) (h : ShelfGhosts H) (store : Held S)
         → IsOpenable (stored s store) → (t : Tables) (r : Records) (ts : List Intent)
         → IsStored (stored s store) t → AreTablesOf t r ts → ⊥
     pub failed : IsOpen s store → DiskKept s e.store → e.fault ≡ Store
-        → HoldsSome (stored s store) → StoreFailed s store e.store
+        → HoldsKnown (stored s store) → StoreFailed s store e.store
     pub closed : e.fault ≡ Closed → ⊥
     pub untouched : IsBeforeWrites e.fault → e.shelf ≡ shelf
     pub alone : IsOpen s store → IsSound registry_schema (stored s store)

@@ -1,5 +1,5 @@
 -- Why an opening without a provider is refused, and what it does where it isn't.
-use Rattle.std.specs.Prelude.{◌≡◌, ◌⊎◌, ◌≤◌, ◌+◌, ◌++◌, ℕ, false, IsTrue, IsSome, IsSomeAnd, List, [], ◌∷◌, length, Option, Some, None, MatchOption, option_map, string_bytes}
+use Rattle.std.specs.Prelude.{◌≡◌, ◌⊎◌, ◌≤◌, ◌<◌, ◌+◌, ◌++◌, ℕ, true, false, IsTrue, IsSome, IsSomeAnd, List, [], ◌∷◌, length, Option, Some, None, MatchOption, option_map, string_bytes}
 use Rattle.gm_metadata.specs.Labels.{is_label}
 use Rattle.gm_commands.specs.declared.command.Command.{Command}
 use Rattle.gm_commands.specs.declared.command.Command.TheVariants.{Lost}
@@ -28,6 +28,10 @@ use Rattle.gm_bench.specs.declared.answer.Answer.TheVariants.{Done, Repeated, Re
 use Rattle.gm_bench.specs.declared.take_up_without.Looked.{Looked}
 use Rattle.gm_bench.specs.declared.take_up_without.TakenUp.{TakenUp}
 use Rattle.gm_bench.specs.declared.take_up_without.TakenUp.TheVariants.{Carried, NotLost}
+use Rattle.gm_state.specs.Rows.{Tables}
+use Rattle.gm_registry.specs.Changes.{settled}
+use Rattle.gm_registry.specs.Replies.{IsFree, count_of}
+use Rattle.gm_bench.specs.Planning.{IsFitting}
 use Rattle.gm_bench.specs.Losing.{dropped, next_of, pending_after, remaining}
 use Rattle.gm_bench.specs.Leading.{AllLead}
 use Rattle.gm_bench.specs.Presence.{first_absent}
@@ -142,6 +146,21 @@ StaysReadable s ts (Kept n reply) = Unit {0}
 StaysReadable s ts (Refused r) = Unit {0}
 StaysReadable s ts (New loss) =
     AreReadable s ts → IsState loss.after × AreReadable loss.after loss.intents.items
+
+-- The loss can be committed under the key, in place of the intents that are pending: its change
+-- fits the tables, and behind it no more than 17 intents more are pending.
+pub record CanCommit (key : List ℕ) (ts : List Intent) (t : Tables) (loss : Loss) : Type 0 where
+  pub key_ok : is_key key ≡ true
+  pub free : IsFree t key
+  pub room : count_of t < 100000
+  pub change : IsFitting loss.change (string_bytes loss.words) (settled t)
+  pub few : length loss.intents.items ≤ length ts + 17
+
+-- the same of a loss that was judged, where it is to be written
+abbrev pub CanBeCommitted : List ℕ → List Intent → Tables → Judged → Type 0
+CanBeCommitted key ts t (Kept n reply) = Unit {0}
+CanBeCommitted key ts t (Refused r) = Unit {0}
+CanBeCommitted key ts t (New loss) = CanCommit key ts t loss
 
 -- the records are the world's, and so are the providers that are there
 pub record AreOfWorld (s : Records) (size : Sizes) (w : World) : Type 0 where

@@ -1,18 +1,19 @@
 //! A component whose image is gone for good is given up, and the rest is carried out.
 
-ghost use Rattle.std.specs.Prelude.{◌≡◌, ◌≤◌, ℕ, List, Some, None, IfOk, IfErr, OnOk, IsErrOf};
+ghost use Rattle.std.specs.Prelude.{◌≡◌, ◌≤◌, ◌<◌, ◌+◌, ◌^◌, ℕ, List, Some, None, length, IfOk, IfErr, OnOk, IsErrOf};
 ghost use Rattle.gm_metadata.specs.Images.{Image};
 ghost use Rattle.gm_state.specs.declared.intents.Intent.{Intent};
 ghost use Rattle.gm_state.specs.Readable.{AreReadable};
 ghost use Rattle.gm_state.specs.Records.{IsState};
 ghost use Rattle.gm_state.specs.Rows.{Tables};
 ghost use Rattle.gm_state.specs.World.{World};
-ghost use Rattle.gm_registry.specs.Registry.{DiskKept, HasTables, WasClean};
+ghost use Rattle.gm_registry.specs.Registry.{DiskKept, HasTables, StoreFailed, WasClean, seen};
+ghost use Rattle.gm_registry.specs.Fitting.{HasRoom};
 ghost use Rattle.gm_registry.specs.Replies.{count_of};
-ghost use Rattle.gm_bench.specs.Calls.{Keep, TellsDisk};
+ghost use Rattle.gm_bench.specs.Calls.{GoesOn, Keep, TellsDisk, most_rows};
 ghost use Rattle.gm_bench.specs.Faults.{IsOfCall};
 ghost use Rattle.gm_bench.specs.Presence.{first_absent};
-ghost use Rattle.gm_bench.specs.Without.{Commits, DoesLoss, HasJudged, IsLost, LeavesLoss, loss_call};
+ghost use Rattle.gm_bench.specs.Without.{CanCommit, Commits, DoesLoss, HasJudged, IsLost, LeavesLoss, loss_call};
 
 use crate::fault::BenchFault;
 use crate::loss::Loss;
@@ -36,6 +37,15 @@ impl<S: Alter, H: Shelf> Media<S, H> {
             away ts u w
             → IsLost S.Store H.view H.size self.new.registry self.old.shelf away
             loss.now key.now p ts u w n) }
+        // Of a loss that fits the tables, `Store` comes only where the store failed.
+        ensures store { DiskKept S.Store self.new.registry → IsErrOf result BenchFault.Store
+            → (t : Tables) (ts : List Intent) → HasTables S.Store self.old.registry t
+            → CanCommit key.now ts t loss.now → length ts + 17 < 2 ^ 32
+            → HasRoom most_rows (seen S.Store self.old.registry)
+            → StoreFailed S.Store self.old.registry self.new.registry }
+        ensures goes_on { DiskKept S.Store self.new.registry → OnOk result ((t : Tables)
+            → HasTables S.Store self.old.registry t
+            → GoesOn S.Store self.old.registry self.new.registry) }
         ensures disk { IsErrOf result BenchFault.Disk → ⊥ }
         ensures fault { IfErr result IsOfCall }
         ensures readable { DiskKept S.Store self.new.registry
@@ -78,6 +88,11 @@ impl<S: Alter, H: Shelf> Media<S, H> {
         ensures readable { DiskKept S.Store self.new.registry
             → IsErrOf result BenchFault.Unreadable → (t : Tables)
             → HasTables S.Store self.old.registry t → count_of t ≤ 100000 → ⊥ }
+        ensures store { DiskKept S.Store self.new.registry → IsErrOf result BenchFault.Store
+            → (t : Tables) (ts : List Intent) → HasTables S.Store self.old.registry t
+            → CanCommit key.now ts t loss.now → length ts + 17 < 2 ^ 32
+            → HasRoom most_rows (seen S.Store self.old.registry)
+            → StoreFailed S.Store self.old.registry self.new.registry }
         ensures closed { IsErrOf result BenchFault.Closed → ⊥ }
         ensures keep { Keep S.Store H.Shelf self.old.registry self.new.registry
             self.old.shelf self.new.shelf }

@@ -1,19 +1,20 @@
 //! The opening of a bench without a provider.
 
-ghost use Rattle.std.specs.Prelude.{◌≡◌, ℕ, List, IfOk, IfErr, IsErrOf};
+ghost use Rattle.std.specs.Prelude.{◌≡◌, ◌<◌, ◌+◌, ◌^◌, ℕ, List, length, IfOk, IfErr, IsErrOf};
 ghost use Rattle.gm_metadata.specs.Images.{Image};
 ghost use Rattle.gm_state.specs.declared.intents.Intent.{Intent};
 ghost use Rattle.gm_state.specs.Records.{Records};
 ghost use Rattle.gm_state.specs.Rows.{Tables};
 ghost use Rattle.gm_state.specs.World.{World};
 ghost use Rattle.gm_rows.specs.ReadableTables.{AreTablesOf};
-ghost use Rattle.gm_registry.specs.Registry.{DiskKept, HasTables, LeavesNothingNew, WasClean};
+ghost use Rattle.gm_registry.specs.Registry.{DiskKept, HasTables, LeavesNothingNew, Reads, StoreFailed, WasClean, seen};
+ghost use Rattle.gm_registry.specs.Fitting.{HasRoom};
 ghost use Rattle.gm_registry.specs.Replies.{AreWrittenUnder};
 ghost use Rattle.gm_bench.specs.declared.loss.LossRefusal.{LossRefusal};
-ghost use Rattle.gm_bench.specs.Calls.{Keep, TellsDisk};
+ghost use Rattle.gm_bench.specs.Calls.{Keep, TellsDisk, TellsStore, most_rows};
 ghost use Rattle.gm_bench.specs.Faults.{IsOfCall};
 ghost use Rattle.gm_bench.specs.Recovering.{IsFound};
-ghost use Rattle.gm_bench.specs.Without.{DoesWithout, IsLooked, KeepsUndone, LacksFirst, LeavesWithout, StaysReadable};
+ghost use Rattle.gm_bench.specs.Without.{CanBeCommitted, DoesWithout, IsLooked, KeepsUndone, LacksFirst, LeavesWithout, StaysReadable};
 
 use crate::answer::Answer;
 use crate::fault::BenchFault;
@@ -64,6 +65,12 @@ impl<S: Alter, H: Shelf> Media<S, H> {
             → HasTables S.Store self.old.registry t → AreTablesOf t l.state l.intents.items
             × HasTables S.Store self.new.registry t
             × StaysReadable l.state l.intents.items l.judged) }
+        ensures fits { DiskKept S.Store self.new.registry → IfOk result (λ l. (t : Tables)
+            → HasTables S.Store self.old.registry t
+            → CanBeCommitted key.now l.intents.items t l.judged) }
+        ensures store { TellsStore S.Store self.old.registry self.new.registry result }
+        ensures reads { DiskKept S.Store self.new.registry
+            → Reads S.Store self.old.registry self.new.registry }
         ensures left { DiskKept S.Store self.new.registry → (t : Tables)
             → HasTables S.Store self.old.registry t
             → LeavesNothingNew S.Store self.old.registry self.new.registry }
@@ -112,6 +119,11 @@ impl<S: Alter, H: Shelf> Media<S, H> {
             → IsErrOf result BenchFault.Unreadable → (t : Tables) (s : Records) (ts : List Intent)
             → HasTables S.Store self.old.registry t → AreTablesOf t s ts
             → AreWrittenUnder key.now t → ⊥ }
+        ensures store { DiskKept S.Store self.new.registry → IsErrOf result BenchFault.Store
+            → (t : Tables) (s : Records) (ts : List Intent)
+            → HasTables S.Store self.old.registry t → AreTablesOf t s ts
+            → length ts + 17 < 2 ^ 32 → HasRoom most_rows (seen S.Store self.old.registry)
+            → StoreFailed S.Store self.old.registry self.new.registry }
         ensures refused { IfOk result (λ it. (why : LossRefusal) → it ≡ TakenUp.NotLost why
             → self.new.shelf ≡ self.old.shelf) }
         ensures closed { IsErrOf result BenchFault.Closed → ⊥ }

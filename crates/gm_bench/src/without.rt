@@ -5,7 +5,7 @@
 ghost use Rattle.std.specs.Prelude.{◌≡◌, ◌<◌, ◌≤◌, ◌+◌, ◌∷◌, true, ℕ, List, [], None, Some, length, IfOk, IfErr, OnOk, IsErrOf, string_bytes};
 ghost use Rattle.gm_metadata.specs.Images.{Image};
 ghost use Rattle.gm_commands.specs.declared.command.Command.TheVariants.{Lost};
-ghost use Rattle.gm_commands.specs.Commands.{CommandFits, is_key};
+ghost use Rattle.gm_commands.specs.Commands.{CommandFits, is_key, words_of};
 ghost use Rattle.gm_lists.specs.Ordered.{Has};
 ghost use Rattle.gm_shelf.specs.Keeping.{ReadsOnly};
 ghost use Rattle.gm_state.specs.declared.intents.Intent.{Intent};
@@ -18,14 +18,15 @@ ghost use Rattle.gm_refusals.specs.WorldFacts.{seen_of};
 ghost use Rattle.gm_changes.specs.Decides.{Decides, changed_by};
 ghost use Rattle.gm_registry.specs.Registry.{DiskKept, HasTables, Reads, WasClean};
 ghost use Rattle.gm_registry.specs.Replies.{AreWrittenUnder, IsFree, count_of};
-ghost use Rattle.gm_rows.specs.ReadableTables.{AreTablesOf};
-ghost use Rattle.gm_bench.specs.Calls.{Asks, Keep, Looks, TellsDisk};
+ghost use Rattle.gm_rows.specs.ReadableTables.{AreRecordsOf, AreTablesOf};
+ghost use Rattle.gm_bench.specs.Calls.{Asks, Keep, Looks, TellsDisk, TellsStore};
 ghost use Rattle.gm_bench.specs.Faults.{IsOfCall, IsOfMedia};
 ghost use Rattle.gm_bench.specs.Losing.{dropped};
+ghost use Rattle.gm_bench.specs.Planning.{IsFitting};
 ghost use Rattle.gm_bench.specs.Presence.{first_absent};
 ghost use Rattle.gm_bench.specs.Recovering.{IsFound};
 ghost use Rattle.gm_bench.specs.Schedule.{IsStepWithout, LeavesCommit};
-ghost use Rattle.gm_bench.specs.Without.{AreOfWorld, DoesLoss, IsJudged, IsNewLoss, IsRedirected, LeavesLoss, StayReadableBehind, StaysReadable, loss_call};
+ghost use Rattle.gm_bench.specs.Without.{AreOfWorld, CanBeCommitted, DoesLoss, IsJudged, IsNewLoss, IsRedirected, LeavesLoss, StayReadableBehind, StaysReadable, loss_call};
 
 use crate::fault::BenchFault;
 use crate::loss::{Judged, LossRefusal, are_of_loss, loss_with, next_source};
@@ -46,6 +47,7 @@ fn loss_of(alloc: Global, component: &Component) -> Result<Command, BenchFault>
         c ≡ Lost component.now.mirror (component.now.provider ∷ [])) }
     ensures fault { IfErr result IsOfMedia }
     ensures disk { IsErrOf result BenchFault.Disk → ⊥ }
+    ensures not_store { IsErrOf result BenchFault.Store → ⊥ }
 {
     let mut named = Vec::new(alloc);
     if named.push(component.provider).is_err() {
@@ -78,6 +80,10 @@ impl<S: Alter, H: Shelf> Media<S, H> {
             → command.now ≡ Lost k.mirror (p ∷ []) → component_of state.now p ≡ Some k
             → CommandFits command.now → IsState state.now
             → IfOk r (StayReadableBehind state.now p)) }
+        // The change fits the tables of the records.
+        ensures fits { IfOk result (λ r. (t : Tables) (n p : List ℕ) → AreRecordsOf t state.now
+            → CommandFits command.now → command.now ≡ Lost n (p ∷ [])
+            → IfOk r (λ ch. IsFitting ch (words_of command.now) t)) }
     {
         let names = needed(alloc, state, command)?;
         let facts = sizes_of(alloc, &self.shelf, &names)?;
@@ -98,6 +104,7 @@ impl<S: Alter, H: Shelf> Media<S, H> {
             component.now.mirror component.now.provider (string_bytes words) change) }
         ensures fault { IfErr result IsOfCall }
         ensures disk { IsErrOf result BenchFault.Disk → ⊥ }
+        ensures not_store { IsErrOf result BenchFault.Store → ⊥ }
         ensures readable { IsErrOf result BenchFault.Unreadable
             → IsState (changed_by change state.now) → ⊥ }
     {
@@ -136,8 +143,12 @@ impl<S: Alter, H: Shelf> Media<S, H> {
         ensures readable { IsErrOf result BenchFault.Unreadable → IsState state.now → ⊥ }
         ensures again { IfOk result (λ j. component_of state.now component.now.provider
             ≡ Some component.now → IsState state.now → StaysReadable state.now intents.now j) }
+        ensures fits { IfOk result (λ j. (key : List ℕ) (t : Tables) → AreRecordsOf t state.now
+            → is_key key ≡ true → IsFree t key → count_of t < 100000
+            → CanBeCommitted key intents.now t j) }
         ensures fault { IfErr result IsOfCall }
         ensures disk { IsErrOf result BenchFault.Disk → ⊥ }
+        ensures not_store { IsErrOf result BenchFault.Store → ⊥ }
     {
         let command = loss_of(alloc, component)?;
         let Ok(words) = words_of(alloc, &command) else {
@@ -169,6 +180,11 @@ impl<S: Alter, H: Shelf> Media<S, H> {
         ensures again { DiskKept S.Store self.new.registry
             → IfOk result (λ j. (t : Tables) → HasTables S.Store self.old.registry t
             → HasTables S.Store self.new.registry t × StaysReadable state.now intents.now j) }
+        ensures fits { DiskKept S.Store self.new.registry
+            → IfOk result (λ j. (key : List ℕ) (t : Tables)
+            → HasTables S.Store self.old.registry t → AreRecordsOf t state.now
+            → is_key key ≡ true → IsFree t key → CanBeCommitted key intents.now t j) }
+        ensures store { TellsStore S.Store self.old.registry self.new.registry result }
         ensures reads { Reads S.Store self.old.registry self.new.registry }
         ensures fault { IfErr result IsOfCall }
         ensures disk { IsErrOf result BenchFault.Disk → ⊥ }
@@ -204,6 +220,10 @@ impl<S: Alter, H: Shelf> Media<S, H> {
         ensures again { DiskKept S.Store self.new.registry
             → IfOk result (λ j. (t : Tables) → HasTables S.Store self.old.registry t
             → HasTables S.Store self.new.registry t × StaysReadable state.now intents.now j) }
+        ensures fits { DiskKept S.Store self.new.registry → IfOk result (λ j. (t : Tables)
+            → HasTables S.Store self.old.registry t → AreRecordsOf t state.now
+            → CanBeCommitted key.now intents.now t j) }
+        ensures store { TellsStore S.Store self.old.registry self.new.registry result }
         ensures reads { DiskKept S.Store self.new.registry
             → Reads S.Store self.old.registry self.new.registry }
         ensures clean { WasClean S.Store self.old.registry self.new.registry }

@@ -1,5 +1,5 @@
--- Why the insertion of a command fails: no rule of its table refuses it where its key and its number
--- are free.
+-- Why the insertion of a command fails: no rule of its table refuses it where its key and its
+-- number are free.
 use Rattle.std.proofs.Common.{◌≡◌, inl, inr, pos, ◌^◌, ◌<◌, ◌≤◌, true, false, not, ◌&&◌, [], ◌∷◌, length, refl, sym, ap, subst, ◌∙◌, arith}
 use Rattle.std.specs.Ordering.{is_eq}
 use Rattle.std.specs.List.{AllByRecursion, list_all}
@@ -50,10 +50,16 @@ use Rattle.gm_registry.proofs.TextMeanings.{command_terms}
 module _ (c : CommandRow) (db : Trees) (t : Tables) (holds : HasRows db t)
     (sound : IsSound registry_schema db) (takes : TakesCommand c.call_key c.words c.seq db t) where
   abbrev edit : Edit
-  edit = record { table = commands; gone = []; news = (Int (next_rowid (db 8)) ∷ command_values c) ∷ [] }
+  edit = record {
+    table = commands;
+    gone = [];
+    news = (Int (next_rowid (db 8)) ∷ command_values c)
+        ∷ [];
+  }
 
   -- no command has its key
-  other_key : (r : Row) → Stands (db 8) r → equal Binary (column r 1) (Text c.call_key) && true ≡ false
+  other_key : (r : Row) → Stands (db 8) r → equal Binary (column r 1) (Text c.call_key) && true
+      ≡ false
   other_key r has = false_from_ne_true _ (λ same.
       let of = record_of columns command_values t.commands (db 8) r holds.commands has in
       let is : column r 1 ≡ Text of.0.call_key = sym (key_place r) ∙ ap (λ v. column v 0) of.2 in
@@ -65,7 +71,8 @@ module _ (c : CommandRow) (db : Trees) (t : Tables) (holds : HasRows db t)
       (has_kept (is_under c.call_key) t.commands of.0 of.1 under))
 
   -- nor its number
-  other_number : (r : Row) → Stands (db 8) r → equal Binary (column r 2) (Int (pos c.seq)) && true ≡ false
+  other_number : (r : Row) → Stands (db 8) r → equal Binary (column r 2) (Int (pos c.seq)) && true
+      ≡ false
   other_number r has = false_from_ne_true _ (λ same.
       let of = record_of columns command_values t.commands (db 8) r holds.commands has in
       let is : column r 2 ≡ Int (pos of.0.seq) = sym (second_place r) ∙ ap (λ v. column v 1) of.2 in
@@ -84,12 +91,22 @@ module _ (c : CommandRow) (db : Trees) (t : Tables) (holds : HasRows db t)
   keys_apart =
       let none : false ≡ true → ⊥ = λ e. true≢false (sym e) in (
         (λ e. absurd (none e)),
-        ((λ e. absurd (none e)), ((λ e. absurd (none e)), ((λ e. absurd (none e)), ((λ e r has. other_key r has), ((λ e r has. other_number r has), tt))))),
+        (
+          (λ e. absurd (none e)),
+          (
+            (λ e. absurd (none e)),
+            (
+              (λ e. absurd (none e)),
+              ((λ e r has. other_key r has), ((λ e r has. other_number r has), tt)),
+            ),
+          ),
+        ),
       )
 
   abbrev IsSmall : Index → Type 0
   IsSmall i = i.table ≡ 8
-      → (list_all is_no_float (entry_of i.columns (Int (next_rowid (db 8)) ∷ command_values c)) ≡ true)
+      → (list_all is_no_float (entry_of i.columns (Int (next_rowid (db 8)) ∷ command_values c))
+      ≡ true)
       × ((0 < length (entry_of i.columns (Int (next_rowid (db 8)) ∷ command_values c)))
       × (length (entry_of i.columns (Int (next_rowid (db 8)) ∷ command_values c)) ≤ 2001))
       × (weight (entry_of i.columns (Int (next_rowid (db 8)) ∷ command_values c)) ≤ 10 ^ 9)
@@ -104,7 +121,10 @@ module _ (c : CommandRow) (db : Trees) (t : Tables) (holds : HasRows db t)
             (λ e. absurd (let f : 4 ≡ 8 = e in cc)),
             (
               (λ e. absurd (let f : 4 ≡ 8 = e in cc)),
-              ((λ e. (refl, (omega arith, omega arith), omega arith)), ((λ e. (refl, (omega arith, omega arith), omega arith)), tt)),
+              (
+                (λ e. (refl, (omega arith, omega arith), omega arith)),
+                ((λ e. (refl, (omega arith, omega arith), omega arith)), tt),
+              ),
             ),
           ),
         ),
@@ -114,7 +134,8 @@ module _ (c : CommandRow) (db : Trees) (t : Tables) (holds : HasRows db t)
   command_allowed =
       let first : is_taken (db 8) (Int (next_rowid (db 8)) ∷ command_values c) ≡ false =
       next_is_free Chosen (db 8) (command_values c) holds.commands.keyed.0 holds.commands.keyed.1 in
-      let fresh : not (is_taken (db 8) (Int (next_rowid (db 8)) ∷ command_values c)) && true ≡ true =
+      let fresh : not (is_taken (db 8) (Int (next_rowid (db 8)) ∷ command_values c)) && true
+      ≡ true =
       ap (λ b. not b && true) first in
       let short = takes.short in
       record {
@@ -136,7 +157,8 @@ module _ (c : CommandRow) (db : Trees) (t : Tables) (holds : HasRows db t)
             (λ i known. all_has IsSmall registry_schema.indexes i entries_small known));
       }
 
-pub put_command_whole : is_all_of put_command_text 5 (understood registry_schema put_command_text) ≡ true
+pub put_command_whole : is_all_of put_command_text 5 (understood registry_schema put_command_text)
+    ≡ true
 unfolding understood everything
 put_command_whole = refl
 

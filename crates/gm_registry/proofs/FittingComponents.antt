@@ -103,7 +103,10 @@ module _ (k : ComponentRow) where
           (λ e. (refl, (omega arith, omega arith), omega arith)),
           (
             (λ e. (refl, (omega arith, omega arith), omega arith)),
-            ((λ e. absurd (let f : 8 ≡ 4 = e in cc)), ((λ e. absurd (let f : 8 ≡ 4 = e in cc)), tt)),
+            (
+              (λ e. absurd (let f : 8 ≡ 4 = e in cc)),
+              ((λ e. absurd (let f : 8 ≡ 4 = e in cc)), tt),
+            ),
           ),
         ),
       ),
@@ -111,7 +114,8 @@ module _ (k : ComponentRow) where
 
     little : (n : ℤ) → IsOversized registry_schema components (row_at n) → ⊥
     little n =
-        small registry_schema components (row_at n) refl refl (omega arith, omega arith) (omega arith)
+        small registry_schema components (row_at n) refl refl (omega arith, omega arith)
+        (omega arith)
         (λ i known. all_has (IsSmall n) registry_schema.indexes i (entries_small n) known)
 
   module _ (db : Trees) (t : Tables) (holds : HasRows db t) (takes : TakesComponent k db t) where
@@ -120,8 +124,10 @@ module _ (k : ComponentRow) where
         && (equal Binary (column r 3) (Int (pos k.did)) && true) ≡ false
     other_number r has differs = false_from_ne_true _ (λ same.
         let of = record_of columns component_values t.components (db 4) r holds.components has in
-        let mirror : column r 2 ≡ Text of.0.mirror = sym (second_place r) ∙ ap (λ v. column v 1) of.2 in
-        let is : column r 3 ≡ Int (pos of.0.did) = sym (fourth_place r) ∙ ap (λ v. column v 2) of.2 in
+        let mirror : column r 2 ≡ Text of.0.mirror = sym (second_place r)
+        ∙ ap (λ v. column v 1) of.2 in
+        let is : column r 3 ≡ Int (pos of.0.did) = sym (fourth_place r)
+        ∙ ap (λ v. column v 2) of.2 in
         let name : column r 1 ≡ Text of.0.prov = sym (key_place r) ∙ ap (λ v. column v 0) of.2 in
         let parts = and_parts _ _ same in
         let mine : of.0.mirror ≡ k.mirror =
@@ -145,7 +151,16 @@ module _ (k : ComponentRow) where
     keys_apart n r has differs =
         let none : false ≡ true → ⊥ = λ e. true≢false (sym e) in (
           (λ e. absurd (none e)),
-          ((λ e. absurd (none e)), ((λ e. ap (λ b. b && true) differs), ((λ e. other_number r has differs), ((λ e. absurd (none e)), ((λ e. absurd (none e)), tt))))),
+          (
+            (λ e. absurd (none e)),
+            (
+              (λ e. ap (λ b. b && true) differs),
+              (
+                (λ e. other_number r has differs),
+                ((λ e. absurd (none e)), ((λ e. absurd (none e)), tt)),
+              ),
+            ),
+          ),
         )
 
 pub put_component_stops : (k : ComponentRow) → length k.prov < 16 → length k.mirror < 16
@@ -169,7 +184,8 @@ put_component_stops k short brief db t limit text stop holds sound takes =
       unique = sound.obeys.rules Unique;
       numbers = λ r has. number_fits (db 4) 1 r takes.room has;
       next = next_fits (db 4) 0 takes.room;
-      others = λ n r has differs i known. all_has (IsApart k db t holds takes n r) registry_schema.indexes i
+      others = λ n r has differs i known.
+          all_has (IsApart k db t holds takes n r) registry_schema.indexes i
           (keys_apart k db t holds takes n r has differs) known;
     }) refl refl
     (λ next made.

@@ -1,5 +1,5 @@
--- Why the deletion of a mirror or a component fails: no rule refuses that of a component, nor that of
--- a mirror without components.
+-- Why the deletion of a mirror or a component fails: no rule refuses that of a component, nor that
+-- of a mirror without components.
 use Rattle.std.proofs.Common.{◌≡◌, inl, inr, ℕ, Bool, true, false, not, List, [], ◌∷◌, refl, sym, ap, subst, ◌∙◌}
 use Rattle.std.specs.Prelude.{⊤}
 use Rattle.std.proofs.lemmas.Bool.{false_from_ne_true}
@@ -33,22 +33,26 @@ use Rattle.gm_registry.proofs.InsideFails.{StopsOnly}
 use Rattle.gm_registry.proofs.TextMeanings.{by_key, drop, settle}
 use Rattle.gm_registry.proofs.SettlingFails.{settle_stops}
 
-pub drop_mirror_whole : is_all_of drop_mirror_text 1 (understood registry_schema drop_mirror_text) ≡ true
+pub drop_mirror_whole : is_all_of drop_mirror_text 1 (understood registry_schema drop_mirror_text)
+    ≡ true
 unfolding understood everything
 drop_mirror_whole = refl
 
-pub drop_component_whole : is_all_of drop_component_text 1 (understood registry_schema drop_component_text)
+pub drop_component_whole : is_all_of drop_component_text 1
+    (understood registry_schema drop_component_text)
     ≡ true
 unfolding understood everything
 drop_component_whole = refl
 
 mirror_typed : (name : List ℕ)
-    → accepts_program registry_schema [] (scan 1 (by_key ∷ []) (col 1 0 ∷ []) []) (Text name ∷ []) ≡ true
+    → accepts_program registry_schema [] (scan 1 (by_key ∷ []) (col 1 0 ∷ []) []) (Text name ∷ [])
+    ≡ true
 unfolding everything
 mirror_typed name = refl
 
 component_typed : (name : List ℕ)
-    → accepts_program registry_schema [] (scan 4 (by_key ∷ []) (col 1 0 ∷ []) []) (Text name ∷ []) ≡ true
+    → accepts_program registry_schema [] (scan 4 (by_key ∷ []) (col 1 0 ∷ []) []) (Text name ∷ [])
+    ≡ true
 unfolding everything
 component_typed name = refl
 
@@ -84,7 +88,8 @@ drop_component_stops prov db t limit text stop holds sound fits =
     let it = parent_of db t holds sound k before in
     (it.3, subst (λ l. Stands l it.3) (sym same) it.4, it.5))) stop
 
-pub drop_mirror_stops : (name : List ℕ) → StopsOnly (drop 1 1) (Text name ∷ []) (λ _. HasNoComponents name)
+pub drop_mirror_stops : (name : List ℕ)
+    → StopsOnly (drop 1 1) (Text name ∷ []) (λ _. HasNoComponents name)
 drop_mirror_stops name db t limit text stop holds sound none =
     delete_stops registry_schema 1 mirrors (inr (inl refl)) apart (λ olds. idle 1 olds [])
     limit (Text name ∷ []) db by_key holds.mirrors.keyed (sound.obeys.rules Unique)
@@ -98,7 +103,8 @@ drop_mirror_stops name db t limit text stop holds sound none =
     (subst (λ v. equal Binary (column it.3 1) v ≡ true) it.2 it.5) in
     let other : has_key name it.3 ≡ false = false_from_ne_true _ (λ named.
     all_has _ t.components it.0 none it.1
-    (let e : Text it.0.mirror ≡ Text name = sym its ∙ equal_text (column it.3 1) name named in cc)) in
+    (let e : Text it.0.mirror ≡ Text name = sym its ∙ equal_text (column it.3 1) name named in
+    cc)) in
     let stays = has_kept (λ r. not (has_key name r)) (db 1) it.3 it.4 (ap not other) in
     (it.3, subst (λ l. Stands l it.3) (sym lost.rows) stays, it.5))) stop
 

@@ -59,7 +59,8 @@ pub takes_behind : (ch : Changed) (n : ℕ) (t : Tables) → TakesIntents n t
 takes_behind ch n t takes = record {
   few = takes.few;
   free = λ k low high. subst
-      (λ (l : List IntentRow). AllByRecursion (λ (i : IntentRow). i.ord ≢ k) l) (sym (ap (λ (a : Tables). a.intents) (with_records_is ch t))) (takes.free k low high);
+      (λ (l : List IntentRow). AllByRecursion (λ (i : IntentRow). i.ord ≢ k) l)
+      (sym (ap (λ (a : Tables). a.intents) (with_records_is ch t))) (takes.free k low high);
 }
 
 -- the next number is free

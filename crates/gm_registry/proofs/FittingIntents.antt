@@ -83,14 +83,20 @@ module _ (i : IntentRow) (db : Trees) (t : Tables) (holds : HasRows db t)
             (record { table = intents; gone = []; news = intent_values i ∷ [] }) apart
             (inr (inr (inr (inl refl)))) holds.intents.keyed.0 fresh (intent_values i) refl
             (λ index known guarded. absurd (true≢false (sym guarded ∙ not-true _ (test_has
-            (λ index. not (guards index intents)) registry_schema.indexes index refl known)))) (sound.obeys.rules Unique);
+            (λ index. not (guards index intents)) registry_schema.indexes index refl known))))
+            (sound.obeys.rules Unique);
         referred = refl;
-        small = λ row has. subst (λ r. IsOversized registry_schema intents r → ⊥) (sym (only (intent_values i) row has)) (small registry_schema intents (intent_values i) refl refl (omega arith, omega arith)
-            (omega (arith, short)) (λ index known own. absurd (true≢false (sym (eq-eqb _ _ own) ∙ not-true _ (test_has
+        small = λ row has.
+            subst (λ r. IsOversized registry_schema intents r → ⊥)
+            (sym (only (intent_values i) row has))
+            (small registry_schema intents (intent_values i) refl refl (omega arith, omega arith)
+            (omega (arith, short))
+            (λ index known own. absurd (true≢false (sym (eq-eqb _ _ own) ∙ not-true _ (test_has
             (λ index. not (index.table == 7)) registry_schema.indexes index refl known)))));
       }
 
-pub put_intent_whole : is_all_of put_intent_text 6 (understood registry_schema put_intent_text) ≡ true
+pub put_intent_whole : is_all_of put_intent_text 6 (understood registry_schema put_intent_text)
+    ≡ true
 unfolding understood everything
 put_intent_whole = refl
 

@@ -49,7 +49,8 @@ use Rattle.gm_registry.proofs.InsideFails.{StopsOnly}
 use Rattle.gm_registry.proofs.TextMeanings.{nine_terms, updated, upsert}
 use Rattle.gm_registry.specs.Fitting.{TakesMirror}
 
-pub upsert_mirror_whole : is_all_of upsert_mirror_text 9 (understood registry_schema upsert_mirror_text)
+pub upsert_mirror_whole : is_all_of upsert_mirror_text 9
+    (understood registry_schema upsert_mirror_text)
     ≡ true
 unfolding understood everything
 upsert_mirror_whole = refl
@@ -119,7 +120,8 @@ module _ (m : MirrorRow) where
         → equal Binary (column r 2) (Int (pos m.mid)) && true ≡ false
     other_number r has differs = false_from_ne_true _ (λ same.
         let of = record_of columns mirror_values t.mirrors (db 1) r holds.mirrors has in
-        let is : column r 2 ≡ Int (pos of.0.mid) = sym (second_place r) ∙ ap (λ v. column v 1) of.2 in
+        let is : column r 2 ≡ Int (pos of.0.mid) = sym (second_place r)
+        ∙ ap (λ v. column v 1) of.2 in
         let name : column r 1 ≡ Text of.0.name = sym (key_place r) ∙ ap (λ v. column v 0) of.2 in
         let equals : equal Binary (Int (pos of.0.mid)) (Int (pos m.mid)) ≡ true =
         subst (λ v. equal Binary v (Int (pos m.mid)) ≡ true) is (and_parts _ _ same).0 in
@@ -139,7 +141,13 @@ module _ (m : MirrorRow) where
     keys_apart n r has differs =
         let none : false ≡ true → ⊥ = λ e. true≢false (sym e) in (
           (λ e. ap (λ b. b && true) differs),
-          ((λ e. other_number r has differs), ((λ e. absurd (none e)), ((λ e. absurd (none e)), ((λ e. absurd (none e)), ((λ e. absurd (none e)), tt))))),
+          (
+            (λ e. other_number r has differs),
+            (
+              (λ e. absurd (none e)),
+              ((λ e. absurd (none e)), ((λ e. absurd (none e)), ((λ e. absurd (none e)), tt))),
+            ),
+          ),
         )
 
 pub put_mirror_stops : (m : MirrorRow) → length m.name < 16
@@ -162,7 +170,8 @@ put_mirror_stops m short db t limit text stop holds sound takes =
       unique = sound.obeys.rules Unique;
       numbers = λ r has. number_fits (db 1) 1 r takes.room has;
       next = next_fits (db 1) 0 takes.room;
-      others = λ n r has differs i known. all_has (IsApart m db t holds takes n r) registry_schema.indexes i
+      others = λ n r has differs i known.
+          all_has (IsApart m db t holds takes n r) registry_schema.indexes i
           (keys_apart m db t holds takes n r has differs) known;
     }) refl refl
     (λ next made.

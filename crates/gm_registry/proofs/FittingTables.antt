@@ -34,11 +34,13 @@ pub record_of : {A : Type 0} (part : Row → Row) (row_of : A → Row) (all : Li
     → (x : A) × Stands all x × (part row ≡ row_of x)
 record_of part row_of all rows row kept has =
     mapped_from row_of all (part row)
-    (stands_permuted _ _ (part row) (IsPermutation-sym _ _ kept.same) (has_mapped part rows row has))
+    (stands_permuted _ _ (part row) (IsPermutation-sym _ _ kept.same)
+    (has_mapped part rows row has))
 
 -- a record has a row
-pub row_of : {A : Type 0} (part : Row → Row) (values : A → Row) (all : List A) (rows : List Row) (x : A)
-    → Keeps part values all rows → Stands all x → (row : Row) × Stands rows row × (values x ≡ part row)
+pub row_of : {A : Type 0} (part : Row → Row) (values : A → Row) (all : List A) (rows : List Row)
+    (x : A) → Keeps part values all rows → Stands all x → (row : Row) × Stands rows row
+    × (values x ≡ part row)
 row_of part values all rows x kept has =
     mapped_from part rows (values x)
     (stands_permuted _ _ (values x) kept.same (has_mapped values all x has))
@@ -53,9 +55,18 @@ same_number m n h = grind (arith, nat_tests)
 -- no two tables have one tree
 pub apart : IsAscending (λ (a b : Table). a.tree ≡ b.tree → ⊥) registry_schema.tables
 apart = (
-  ((λ e. let f : 0 ≡ 1 = e in cc), ((λ e. let f : 0 ≡ 4 = e in cc), ((λ e. let f : 0 ≡ 7 = e in cc), ((λ e. let f : 0 ≡ 8 = e in cc), tt)))),
   (
-    ((λ e. let f : 1 ≡ 4 = e in cc), ((λ e. let f : 1 ≡ 7 = e in cc), ((λ e. let f : 1 ≡ 8 = e in cc), tt))),
+    (λ e. let f : 0 ≡ 1 = e in cc),
+    (
+      (λ e. let f : 0 ≡ 4 = e in cc),
+      ((λ e. let f : 0 ≡ 7 = e in cc), ((λ e. let f : 0 ≡ 8 = e in cc), tt)),
+    ),
+  ),
+  (
+    (
+      (λ e. let f : 1 ≡ 4 = e in cc),
+      ((λ e. let f : 1 ≡ 7 = e in cc), ((λ e. let f : 1 ≡ 8 = e in cc), tt)),
+    ),
     (
       ((λ e. let f : 4 ≡ 7 = e in cc), ((λ e. let f : 4 ≡ 8 = e in cc), tt)),
       (((λ e. let f : 7 ≡ 8 = e in cc), tt), (tt, tt)),
@@ -71,7 +82,8 @@ pub refers_by : (next : Trees) → ((k : Row) → Stands (next 4) k
 unfolding same_name joined first_key
 refers_by next each =
     let none = all_of (λ (_ : Row). true ≡ true) (λ _. refl) in
-    let held = all_from (λ row. passes ForeignKey registry_schema next components row ≡ true) (next 4)
+    let held =
+    all_from (λ row. passes ForeignKey registry_schema next components row ≡ true) (next 4)
     (λ k has. let it = each k has in
     and_from _ _ (or_right _ _ (some_from _ (next 1) it.0 it.1 (and_from _ _ it.2 refl))) refl) in
     (none (next 0), (none (next 1), (held, (none (next 7), (none (next 8), tt)))))

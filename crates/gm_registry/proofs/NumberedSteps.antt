@@ -35,8 +35,9 @@ use Rattle.gm_registry.proofs.TextMeanings.{Means, nine_terms, updated, upsert, 
 abbrev pub StepNumbers : Command → Row → ℕ → Type 0
 StepNumbers command params count =
     (db : Trees) (t : Tables) (limit : Option ℕ) (text : List ℕ) (tally : Tally) (after : Database)
-    → HasRows db t → Does limit at_once params (record { schema = registry_schema; trees = db }) text
-    None command (Ok (tally, after)) → (more : ℕ) → HasRoom (more + count) db → HasRoom more after.trees
+    → HasRows db t → Does limit at_once params (record { schema = registry_schema; trees = db })
+    text None command (Ok (tally, after)) → (more : ℕ) → HasRoom (more + count) db
+    → HasRoom more after.trees
 
 module _ (text : List ℕ) (params : Row) (command : Command) (means : Means text command)
     (writes : (old new : State) (statement : List ℕ) (n : ℕ)
@@ -57,7 +58,8 @@ module _ (text : List ℕ) (params : Row) (command : Command) (means : Means tex
   numbers_inside old new (Err e) h = tt
 
 -- of rows that stay
-pub stay_numbered : (more count : ℕ) (rows now : List Row) → now ≡ rows → TakesMore (more + count) rows
+pub stay_numbered : (more count : ℕ) (rows now : List Row) → now ≡ rows
+    → TakesMore (more + count) rows
     → TakesMore more now
 stay_numbered more count rows now same takes =
     let room = takes.room in
@@ -82,7 +84,8 @@ put_fewer new rows some more is among takes =
     }
 
 -- behind a row with the number of one that was there
-old_takes : (new : Row) (rows some : List Row) (more : ℕ) (r : Row) → Has rows r → rowid r ≡ rowid new
+old_takes : (new : Row) (rows some : List Row) (more : ℕ) (r : Row) → Has rows r → rowid r
+    ≡ rowid new
     → ((x : Row) → Has some x → Has rows x) → TakesMore (more + 1) rows
     → TakesMore more (put_row new some)
 old_takes new rows some more r has is among takes =

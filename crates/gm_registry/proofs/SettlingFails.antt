@@ -151,7 +151,8 @@ settle_stops limit text db stop unique keys (inl (why, deletes, is)) =
     deletes_stops limit db why unique deletes
 settle_stops limit text db stop unique keys (inr (w, deletes, ends)) =
     let same = others limit db w deletes in
-    absurd (concluded (task limit db) at_once refl w stop (refers db w.trees same.0 same.1 keys) ends)
+    absurd
+    (concluded (task limit db) at_once refl w stop (refers db w.trees same.0 same.1 keys) ends)
 
 -- ---- and the call
 

@@ -103,8 +103,8 @@ module _ {S : Type 0} (g : Ghosts S) where
   StoreFailed old new = MoreFaults (state g old).faults (state g new).faults
       ⊎ IsSome (state g old).step_limit
 
-  -- within a transaction over rows and tables that fit, it fails only for want of memory or where the
-  -- store did
+  -- within a transaction over rows and tables that fit, it fails only for want of memory or where
+  -- the store did
   abbrev pub FailsInside : {X : Type 0} → Held S → Held S → Result X Error
       → (Trees → Tables → Type 0) → Type 0
   FailsInside old new result Fits =

@@ -52,7 +52,8 @@ returns-clause-done g c clean =
     let inside = c.in_ok-put_over.ensures.put early first t
     (subst (λ h. IsInside first (state g.S.Store h) t) (sym c.transaction-tx.ensures.begun)
     (begun_rows g.S.Store old t was)) in
-    let numbered = left_numbered changed c.args.key.now c.args.number c.args.words.now c.args.pending t
+    let numbered =
+    left_numbered changed c.args.key.now c.args.number c.args.words.now c.args.pending t
     next was.tables.rows.numbered in
     subst (λ h. OnOk c.commit.result (SeesTables (state g.S.Store h) (change t))) same
     (committed registry_schema HasCounted first (state g.S.Store mid)
@@ -72,7 +73,8 @@ returns-clause-left g c t was next =
     let P = λ (trees : Trees). Holds trees (change t) in
     let end : Held _ = c.commit.new.self.0 in
     let same : end ≡ c.conn-2-1.given.0 = search rules in
-    let numbered = left_numbered changed c.args.key.now c.args.number c.args.words.now c.args.pending t
+    let numbered =
+    left_numbered changed c.args.key.now c.args.number c.args.words.now c.args.pending t
     next was.tables.rows.numbered in
     let inside = λ (clean : HasCleanDisk (state g.S.Store mid)).
     counted_inside first (state g.S.Store mid) (change t) numbered
@@ -118,7 +120,8 @@ returns-clause-refused g c clean =
     over_err c.commit.result Tables _ (λ t. under_err c.commit.result
     (SeesTables (state g.S.Store old) t) _
     (λ was. under_err c.commit.result (c.args.number ≡ count_of t + 1) _ (λ next.
-    let numbered = left_numbered changed c.args.key.now c.args.number c.args.words.now c.args.pending t
+    let numbered =
+    left_numbered changed c.args.key.now c.args.number c.args.words.now c.args.pending t
     next was.tables.rows.numbered in
     let inside = counted_inside first (state g.S.Store mid) (change t) numbered
     (c.in_ok-put_over.ensures.put early first t

@@ -53,8 +53,10 @@ returns-clause-fails g c clean =
       copied = c.args.copied;
       of_total = c.args.of_total;
     } in
-    inside_fails put_command_text (command_values row) (Insert 4 (Values command_terms 6)) put_command_is
-    put_command_whole refl refl (TakesCommand row.call_key row.words row.seq) (put_command_stops row)
+    inside_fails put_command_text (command_values row) (Insert 4 (Values command_terms 6))
+    put_command_is
+    put_command_whole refl refl (TakesCommand row.call_key row.words row.seq)
+    (put_command_stops row)
     (state g.S.Store c.args.tx.now.conn.now) (state g.S.Store c.execute.new.self.conn.now)
     c.execute.result
     (rw (
@@ -74,7 +76,8 @@ returns-clause-numbers g c clean =
       copied = c.args.copied;
       of_total = c.args.of_total;
     } in
-    numbers_inside put_command_text (command_values row) (Insert 4 (Values command_terms 6)) put_command_is
+    numbers_inside put_command_text (command_values row) (Insert 4 (Values command_terms 6))
+    put_command_is
     (λ old new text count h. h) 1
     (put_command_numbers row)
     (state g.S.Store c.args.tx.now.conn.now) (state g.S.Store c.execute.new.self.conn.now)

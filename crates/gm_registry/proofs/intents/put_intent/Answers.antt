@@ -20,16 +20,19 @@ returns-in-Copy-clause-put g c =
 pub returns-in-Meta-clause-fails : goal.returns-in-Meta-clause-fails
 returns-in-Meta-clause-fails g c clean =
     let short : AreShort c.as_str.result.now [] =
-    labels_short _ [] (text_of_label _ _ c.as_str.ensures.text c.as_str.ensures.label) (omega arith) in
+    labels_short _ [] (text_of_label _ _ c.as_str.ensures.text c.as_str.ensures.label)
+    (omega arith) in
     fails_as c.put_row.result _ _ (λ fails first t was free. fails first t was (free, short))
     (c.put_row.ensures.fails clean)
 
 pub returns-in-Clear-clause-fails : goal.returns-in-Clear-clause-fails
 returns-in-Clear-clause-fails g c clean =
     let short : AreShort c.as_str-in-Clear.result.now [] =
-    labels_short _ [] (text_of_label _ _ c.as_str-in-Clear.ensures.text c.as_str-in-Clear.ensures.label)
+    labels_short _ []
+    (text_of_label _ _ c.as_str-in-Clear.ensures.text c.as_str-in-Clear.ensures.label)
     (omega arith) in
-    fails_as c.put_row-in-Clear.result _ _ (λ fails first t was free. fails first t was (free, short))
+    fails_as c.put_row-in-Clear.result _ _
+    (λ fails first t was free. fails first t was (free, short))
     (c.put_row-in-Clear.ensures.fails clean)
 
 pub returns-in-Copy-clause-fails : goal.returns-in-Copy-clause-fails
@@ -39,5 +42,6 @@ returns-in-Copy-clause-fails g c clean =
     let short : AreShort c.as_str-in-Copy.result.now c.as_str-in-Copy-2.result.now =
     labels_short _ _ (text_of_label _ _ target.text target.label)
     (text_of_label _ _ source.text source.label) in
-    fails_as c.put_row-in-Copy.result _ _ (λ fails first t was free. fails first t was (free, short))
+    fails_as c.put_row-in-Copy.result _ _
+    (λ fails first t was free. fails first t was (free, short))
     (c.put_row-in-Copy.ensures.fails clean)

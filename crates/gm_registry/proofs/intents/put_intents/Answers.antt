@@ -62,7 +62,8 @@ returns-in_err-put_intent-clause-fails g c clean =
     passed_on c.from_residual.result c.in_err-put_intent.field-0.0 _ c.from_residual.ensures.1
     (λ is. fails_after (state g.S.Store c.args.tx.now.conn.now) (state g.S.Store c.puts.tx.conn.now)
     (state g.S.Store c.put_intent.new.tx.conn.now)
-    (with_intents (intent_rows 1 (take i all))) 0 so.2 c.put_intent.ensures.survives clean (λ _. TakesIntents (length all))
+    (with_intents (intent_rows 1 (take i all))) 0 so.2 c.put_intent.ensures.survives clean
+    (λ _. TakesIntents (length all))
     (λ _. IsUnnumbered c.in-Some.next)
     (λ t takes room. next_unnumbered all i c.in-Some.next t takes c.puts-test.true next)
     (c.in_err-put_intent.ensures.fails clean is))

@@ -55,7 +55,8 @@ returns-clause-fails g c clean =
       first_sector = c.args.first;
       end_sector = c.args.end;
     } in
-    inside_fails put_intent_text (intent_params row) (Insert 3 (Values intent_terms 7)) put_intent_is
+    inside_fails put_intent_text (intent_params row) (Insert 3 (Values intent_terms 7))
+    put_intent_is
     put_intent_whole refl refl (λ _ t. IsUnnumbered row.ord t × AreShort row.prov row.source)
     (put_intent_stops row (omega arith)) (state g.S.Store c.args.tx.now.conn.now)
     (state g.S.Store c.execute.new.self.conn.now) c.execute.result
@@ -78,7 +79,8 @@ returns-clause-numbers g c clean =
       first_sector = c.args.first;
       end_sector = c.args.end;
     } in
-    numbers_inside put_intent_text (intent_params row) (Insert 3 (Values intent_terms 7)) put_intent_is
+    numbers_inside put_intent_text (intent_params row) (Insert 3 (Values intent_terms 7))
+    put_intent_is
     (λ old new text count h. h) 0
     (put_intent_numbers row)
     (state g.S.Store c.args.tx.now.conn.now) (state g.S.Store c.execute.new.self.conn.now)

@@ -52,7 +52,8 @@ returns-clause-kept g c clean =
 pub returns-clause-fails : goal.returns-clause-fails
 returns-clause-fails g c clean =
     let row = mirror_row c.args.mirror in
-    inside_fails upsert_mirror_text (mirror_values row) (upsert 1 1) upsert_mirror_is upsert_mirror_whole
+    inside_fails upsert_mirror_text (mirror_values row) (upsert 1 1) upsert_mirror_is
+    upsert_mirror_whole
     refl refl (TakesMirror row)
     (put_mirror_stops row (subst (λ n. length n < 16) c.as_str.ensures.text
     (text_of_label _ _ c.as_str.ensures.text c.as_str.ensures.label)))

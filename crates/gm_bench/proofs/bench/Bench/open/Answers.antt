@@ -1,12 +1,11 @@
 use Rattle.std.proofs.Common.{rules, ◌≡◌, ◌∙◌, Err, inl, inr, refl, sym, ap, subst, arith}
-use Rattle.sqlite.specs.Held.{Held, state}
+use Rattle.sqlite.specs.Held.{Held}
 use Rattle.sqlite.specs.Tree.{Trees}
 use Rattle.gm_registry.specs.Registry.{CrashLeaves, DiskKept, LeavesAlone, StoreFailed, stored}
 use Rattle.gm_bench.specs.Recovering.{LeavesOnly}
 use Rattle.gm_bench.proofs.Causes.{of_failed, of_unreadable}
-use Rattle.gm_registry.proofs.Failures.{failed_since}
 use Rattle.gm_bench.proofs.DecidesOnly.{alone_then}
-use Rattle.gm_bench.proofs.ReopenedStore.{opened_tables, reopened, some_tables, unopened, recovered}
+use Rattle.gm_bench.proofs.ReopenedStore.{failed_opened, known_store, opened_tables, reopened, unopened, recovered}
 use Rattle.gm_bench.proofs.bench.Bench.open.Goals as goal
 
 pub returns-in-Err-clause-leaves : goal.returns-in-Err-clause-leaves
@@ -25,8 +24,8 @@ returns-in-Err-clause-unopened g c =
       unreadable = λ is_open clean is openable t s ts stands of. (
           absurd (c.in-Err.ensures.unreadable is_open clean
           (of_unreadable c.in-Err.e.fault (sym c.of_store.ensures.value ∙ is)) openable));
-      failed = λ is_open clean is some.
-          c.in-Err.ensures.store is_open (some_tables (stored g.S.Store c.args.store) some) clean
+      failed = λ is_open clean is known.
+          c.in-Err.ensures.store is_open (known_store (stored g.S.Store c.args.store) known) clean
           (of_failed c.in-Err.e.fault (sym c.of_store.ensures.value ∙ is));
       closed = search rules;
       untouched = search rules;
@@ -142,19 +141,22 @@ returns-in-Err-take_up-clause-unopened g c =
           (λ empty. c.in-Ok.ensures.made is_open empty mid)
           (λ t holds. c.in-Ok.ensures.found t is_open holds mid) t stands in
           c.in-Err-take_up.ensures.tells.unreadable clean (ap Err is) t s ts has of);
-      failed = λ is_open closed is some. (
+      failed = λ is_open closed is known. (
           let clean : DiskKept g.S.Store c.take_up.new.self.registry =
           subst (λ (k : Held g.row.S.Denot). DiskKept g.S.Store k) c.close.ensures closed in
           let mid : DiskKept g.S.Store c.in-Ok.registry =
           omega (arith, clean, c.take_up.ensures.keep.clean) in
-          elim some [
-            | inl held ↦ subst (λ (k : Held g.row.S.Denot). StoreFailed g.S.Store c.args.store k)
+          elim known [
+            | inl stands ↦
+                let has = opened_tables g.S.Store c.args.store c.in-Ok.registry
+                (λ empty. c.in-Ok.ensures.made is_open empty mid)
+                (λ t holds. c.in-Ok.ensures.found t is_open holds mid) stands.0 stands.1 in
+                subst (λ (k : Held g.row.S.Denot). StoreFailed g.S.Store c.args.store k)
                 (sym c.close.ensures)
-                (failed_since (state g.S.Store c.args.store) (state g.S.Store c.in-Ok.registry)
-                (state g.S.Store c.take_up.new.self.registry) _
-                (c.in-Ok.ensures.left_found held.0 is_open held.1)
-                (c.in-Err-take_up.ensures.store clean (ap Err is) held.0
-                (c.in-Ok.ensures.found held.0 is_open held.1 mid)))
+                (failed_opened g.S.Store c.args.store c.in-Ok.registry
+                c.take_up.new.self.registry (c.in-Ok.ensures.left_made is_open)
+                (λ t holds. c.in-Ok.ensures.left_found t is_open holds) stands.0 stands.1
+                (c.in-Err-take_up.ensures.store clean (ap Err is) stands.0 has))
             | inr foreign ↦ absurd (c.in-Ok.ensures.refuses is_open foreign mid)
           ]);
       closed = search rules;

@@ -1,16 +1,17 @@
-use Rattle.std.proofs.Common.{rules, ◌≡◌, ◌∙◌, inl, Err, refl, sym, ap, subst, arith}
+use Rattle.std.proofs.Common.{rules, ◌≡◌, ◌∙◌, inl, inr, Err, refl, sym, ap, subst, arith}
 use Rattle.sqlite.specs.Held.{Held}
 use Rattle.sqlite.specs.Tree.{Trees}
-use Rattle.gm_registry.specs.Registry.{CrashLeaves, DiskKept, stored}
+use Rattle.gm_registry.specs.Registry.{CrashLeaves, DiskKept, StoreFailed, stored}
 use Rattle.gm_bench.specs.declared.bench.Bench.{Bench}
 use Rattle.gm_bench.specs.declared.phase.Progress.TheVariants.{Ready}
 use Rattle.gm_bench.specs.declared.take_up_without.TakenUp.{TakenUp}
 use Rattle.gm_bench.specs.GivingUp.{GivesUp, LacksImage}
 use Rattle.gm_bench.specs.Without.{DoesWithout, KeepsUndone}
 use Rattle.gm_bench.specs.Owed.{OpenLeaves}
-use Rattle.gm_bench.proofs.Causes.{of_unreadable}
+use Rattle.gm_bench.proofs.Causes.{of_failed, of_unreadable}
+use Rattle.gm_bench.proofs.OpenedRoom.{room_opened}
 use Rattle.gm_bench.proofs.ReopenedLoss.{answered, at_opened, given_up, lacking, opened_behind, undone}
-use Rattle.gm_bench.proofs.ReopenedStore.{opened_tables, unopened}
+use Rattle.gm_bench.proofs.ReopenedStore.{failed_opened, known_store, opened_tables, unopened}
 use Rattle.gm_bench.proofs.bench.Bench.open_without.Goals as goal
 
 pub returns-in-Err-clause-leaves : goal.returns-in-Err-clause-leaves
@@ -61,7 +62,8 @@ returns-in-Ok-NotLost-clause-leaves g c h is_open closed =
 pub returns-in-Err-take_up_without-clause-leaves : goal.returns-in-Err-take_up_without-clause-leaves
 returns-in-Err-take_up_without-clause-leaves g c h is_open closed =
     let clean : DiskKept g.S.Store c.take_up_without.new.self.registry =
-    subst (λ (k : Held g.row.S.Denot). DiskKept g.S.Store k) c.close-in-Err-take_up_without.ensures closed in
+    subst (λ (k : Held g.row.S.Denot). DiskKept g.S.Store k) c.close-in-Err-take_up_without.ensures
+    closed in
     let mid : DiskKept g.S.Store c.in-Ok.registry =
     omega (arith, clean, c.take_up_without.ensures.keep.clean) in
     let only : (db : Trees) → CrashLeaves g.S.Store c.args.store db
@@ -81,7 +83,8 @@ pub returns-in-Err-take_up_without-clause-foreign :
     goal.returns-in-Err-take_up_without-clause-foreign
 returns-in-Err-take_up_without-clause-foreign g c is_open foreign closed =
     let clean : DiskKept g.S.Store c.take_up_without.new.self.registry =
-    subst (λ (k : Held g.row.S.Denot). DiskKept g.S.Store k) c.close-in-Err-take_up_without.ensures closed in
+    subst (λ (k : Held g.row.S.Denot). DiskKept g.S.Store k) c.close-in-Err-take_up_without.ensures
+    closed in
     let mid : DiskKept g.S.Store c.in-Ok.registry =
     omega (arith, clean, c.take_up_without.ensures.keep.clean) in
     absurd (c.in-Ok.ensures.refuses is_open foreign mid)
@@ -95,6 +98,12 @@ returns-in-Err-clause-unopened g c =
       unreadable = λ is_open clean is openable t s ts stands of written. (
           absurd (c.in-Err.ensures.unreadable is_open clean
           (of_unreadable c.in-Err.e.fault (sym c.of_store.ensures.value ∙ is)) openable));
+      failed = λ is_open clean is known.
+          c.in-Err.ensures.store is_open
+          (known_store (stored g.S.Store c.args.store) (elim known [
+            | inl takes ↦ inl (takes.tables, takes.stands)
+            | inr foreign ↦ inr foreign
+          ])) clean (of_failed c.in-Err.e.fault (sym c.of_store.ensures.value ∙ is));
       closed = search rules;
     }
 
@@ -113,11 +122,13 @@ returns-in-Ok-Carried-clause-opened g c =
             progress = Ready;
             redone = c.in-Ok-Carried.redone;
           } in
-          answered g.S.Store g.H.Shelf.view g.H.Shelf.size c.args.store c.in-Ok.registry c.args.shelf
+          answered g.S.Store g.H.Shelf.view g.H.Shelf.size c.args.store c.in-Ok.registry
+          c.args.shelf
           lawful only (λ empty. c.in-Ok.ensures.made is_open empty mid)
           (λ t holds. c.in-Ok.ensures.found t is_open holds mid) c.args.key.now c.args.provider b
           c.in-Ok-Carried.answer c.in-Ok-Carried.redone refl
-          (subst (λ (x : TakenUp). DoesWithout g.S.Store g.H.Shelf.view g.H.Shelf.size c.args.key.now
+          (subst
+          (λ (x : TakenUp). DoesWithout g.S.Store g.H.Shelf.view g.H.Shelf.size c.args.key.now
           c.args.provider c.in-Ok.registry c.take_up_without.new.self.registry c.args.shelf
           c.take_up_without.new.self.shelf x) c.in-Ok-Carried.field-0-is
           (c.in-Ok-Carried.ensures.does h clean)));
@@ -137,7 +148,8 @@ returns-in-Ok-Carried-clause-opened g c =
           lawful only (λ empty. c.in-Ok.ensures.made is_open empty mid)
           (λ t holds. c.in-Ok.ensures.found t is_open holds mid) c.args.key.now c.args.provider b
           c.in-Ok-Carried.answer c.in-Ok-Carried.redone
-          (subst (λ (x : TakenUp). KeepsUndone g.S.Store g.H.Shelf.view g.H.Shelf.size c.args.key.now
+          (subst
+          (λ (x : TakenUp). KeepsUndone g.S.Store g.H.Shelf.view g.H.Shelf.size c.args.key.now
           c.args.provider c.in-Ok.registry c.take_up_without.new.self.registry c.args.shelf
           c.take_up_without.new.self.shelf x) c.in-Ok-Carried.field-0-is
           (c.in-Ok-Carried.ensures.undone h clean)));
@@ -162,7 +174,8 @@ returns-in-Ok-NotLost-clause-opened g c =
           c.args.shelf c.take_up_without.new.self.shelf x) c.in-Ok-NotLost.field-0-is
           (c.in-Ok-NotLost.ensures.does h clean) in
           λ away u w left. does away left.recovers.intents u w
-          (at_opened g.S.Store g.H.Shelf.view g.H.Shelf.size c.args.store c.in-Ok.registry c.args.shelf
+          (at_opened g.S.Store g.H.Shelf.view g.H.Shelf.size c.args.store c.in-Ok.registry
+          c.args.shelf
           lawful only (λ empty. c.in-Ok.ensures.made is_open empty mid)
           (λ t holds. c.in-Ok.ensures.found t is_open holds mid) away u w left));
       undone = λ h is_open closed. (
@@ -188,7 +201,8 @@ returns-in-Ok-NotLost-clause-opened g c =
       refused = search rules;
     }
 
-pub returns-in-Err-take_up_without-clause-unopened : goal.returns-in-Err-take_up_without-clause-unopened
+pub returns-in-Err-take_up_without-clause-unopened :
+    goal.returns-in-Err-take_up_without-clause-unopened
 returns-in-Err-take_up_without-clause-unopened g c =
     record {
       lacks = λ h is_open closed q is. (
@@ -201,10 +215,13 @@ returns-in-Err-take_up_without-clause-unopened g c =
           → db ≡ stored g.S.Store c.args.store =
           λ db left. g.met.S.Store.settled c.args.store.store db is_open left in
           subst (λ (k : Held g.row.S.Denot). LacksImage g.S.Store g.H.Shelf.view g.H.Shelf.size
-          c.args.store c.args.shelf c.args.key.now c.args.provider k c.take_up_without.new.self.shelf q)
+          c.args.store c.args.shelf c.args.key.now c.args.provider k
+          c.take_up_without.new.self.shelf q)
           (sym c.close-in-Err-take_up_without.ensures)
-          (lacking g.S.Store g.H.Shelf.view g.H.Shelf.size c.args.store c.in-Ok.registry c.args.shelf
-          (g.met.H.Shelf.lawful c.args.shelf h) only (λ empty. c.in-Ok.ensures.made is_open empty mid)
+          (lacking g.S.Store g.H.Shelf.view g.H.Shelf.size c.args.store c.in-Ok.registry
+          c.args.shelf
+          (g.met.H.Shelf.lawful c.args.shelf h) only
+          (λ empty. c.in-Ok.ensures.made is_open empty mid)
           (λ t holds. c.in-Ok.ensures.found t is_open holds mid) c.args.key.now c.args.provider
           c.take_up_without.new.self.registry c.take_up_without.new.self.shelf q
           (c.in-Err-take_up_without.ensures.lacks h clean q (ap Err is))));
@@ -229,5 +246,28 @@ returns-in-Err-take_up_without-clause-unopened g c =
           (λ empty. c.in-Ok.ensures.made is_open empty mid)
           (λ t holds. c.in-Ok.ensures.found t is_open holds mid) t stands in
           c.in-Err-take_up_without.ensures.unreadable clean (ap Err is) t s ts has of written);
+      failed = λ is_open closed is known. (
+          let clean : DiskKept g.S.Store c.take_up_without.new.self.registry =
+          subst (λ (k : Held g.row.S.Denot). DiskKept g.S.Store k)
+          c.close-in-Err-take_up_without.ensures closed in
+          let mid : DiskKept g.S.Store c.in-Ok.registry =
+          omega (arith, clean, c.take_up_without.ensures.keep.clean) in
+          elim known [
+            | inl takes ↦
+                let has = opened_tables g.S.Store c.args.store c.in-Ok.registry
+                (λ empty. c.in-Ok.ensures.made is_open empty mid)
+                (λ t holds. c.in-Ok.ensures.found t is_open holds mid) takes.tables takes.stands in
+                subst (λ (k : Held g.row.S.Denot). StoreFailed g.S.Store c.args.store k)
+                (sym c.close-in-Err-take_up_without.ensures)
+                (failed_opened g.S.Store c.args.store c.in-Ok.registry
+                c.take_up_without.new.self.registry (c.in-Ok.ensures.left_made is_open)
+                (λ t holds. c.in-Ok.ensures.left_found t is_open holds) takes.tables takes.stands
+                (c.in-Err-take_up_without.ensures.store clean (ap Err is) takes.tables
+                takes.records takes.intents has takes.are takes.few
+                (room_opened g.S.Store c.args.store c.in-Ok.registry
+                (c.in-Ok.ensures.untouched is_open) mid takes.tables takes.stands has
+                takes.room)))
+            | inr foreign ↦ absurd (c.in-Ok.ensures.refuses is_open foreign mid)
+          ]);
       closed = search rules;
     }

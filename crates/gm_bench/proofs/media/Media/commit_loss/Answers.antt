@@ -1,10 +1,16 @@
-use Rattle.std.proofs.Common.{List, ℕ, ap₂, subst}
+use Rattle.std.proofs.Common.{◌≡◌, ◌∙◌, ◌+◌, ◌≤◌, List, ℕ, ap₂, arith, length, subst, subst₂, sym}
 use Rattle.gm_registry.proofs.CallsLeave.{saved}
 use Rattle.gm_registry.specs.Changes.{with_accepted, with_pending, settled}
-use Rattle.gm_registry.specs.Registry.{HasTables, MayLeave}
+use Rattle.gm_registry.specs.Registry.{HasTables, MayLeave, seen}
 use Rattle.gm_state.specs.Rows.{Tables}
 use Rattle.gm_state.specs.declared.intents.Intent.{Intent}
 use Rattle.gm_bench.proofs.LossCommits.{commits, lost}
+use Rattle.gm_registry.specs.FittingChanges.{FitsTables}
+use Rattle.gm_registry.proofs.StepsInTurn.{less_room}
+use Rattle.gm_bench.specs.Calls.{most_rows}
+use Rattle.gm_bench.specs.declared.fault.BenchFault.TheVariants.{Store}
+use Rattle.gm_bench.proofs.Causes.{of_failed}
+use Rattle.gm_bench.proofs.FittingLosses.{loss_fits_tables}
 use Rattle.gm_bench.proofs.media.Media.commit_loss.Goals as goal
 
 pub returns-in-Ok-clause-leaves : goal.returns-in-Ok-clause-leaves
@@ -45,3 +51,25 @@ returns-in-Ok-clause-done g c h clean p away ts u w was =
     (subst (λ (t : Tables). HasTables g.S.Store c.accept_instead.new.self t) is
     (c.in-Ok.ensures.writes.done clean at.tables at.has).tables) c.in-Ok.number
     (c.in-Ok.ensures.accepts.number clean at.tables at.has)
+
+pub returns-in-Err-clause-store : goal.returns-in-Err-clause-store
+returns-in-Err-clause-store g c clean is t ts has can low room =
+    let fault : c.of_store.result ≡ Store = cc in
+    let loss = c.args.loss.now in
+    let few : length loss.change.components ≤ 16 = can.change.few_put in
+    let fits = subst₂ (λ (is : List Intent) (l : List ℕ).
+    FitsTables (with_pending loss.change is) c.args.key.now l (settled t))
+    (sym c.deref.ensures.value) (sym c.as_str-words.ensures.value)
+    (loss_fits_tables c.args.key.now ts t loss can low) in
+    c.in-Err.ensures.accepts.store clean (of_failed c.in-Err.fault
+    (sym c.of_store.ensures.value ∙ fault)) t has can.room can.change.reply fits
+    (less_room (length loss.change.components + 2) most_rows
+    (seen g.S.Store c.args.self.now.registry) (omega (arith, few)) room)
+
+pub returns-in-Ok-clause-goes_on : goal.returns-in-Ok-clause-goes_on
+returns-in-Ok-clause-goes_on g c clean t has = record {
+  tables = _;
+  has = (c.in-Ok.ensures.writes.done clean t has).tables;
+  counts = (c.accept_instead.ensures.writes.left t has).counts;
+  limit = (c.accept_instead.ensures.writes.left t has).limit;
+}

@@ -7,10 +7,11 @@ use Rattle.gm_registry.specs.Registry.{DiskKept}
 use Rattle.gm_registry.specs.Replies.{IsFree, IsKept}
 use Rattle.gm_bench.specs.declared.loss.Judged.{Judged}
 use Rattle.gm_bench.specs.declared.loss.Judged.TheVariants.{Kept}
-use Rattle.gm_bench.specs.Without.{AreOfLoss, IsJudged, StaysReadable}
+use Rattle.gm_bench.specs.Without.{AreOfLoss, CanBeCommitted, IsJudged, StaysReadable}
 use Rattle.gm_bench.proofs.CallAnswers.{kept_answer}
 use Rattle.gm_bench.proofs.DecidesOnly.{ok_then, reads_then}
 use Rattle.gm_bench.proofs.LossJudged.{key_taken, kept_before}
+use Rattle.gm_bench.proofs.StoreFails.{failed_later}
 use Rattle.gm_bench.proofs.media.Media.judge.Goals as goal
 
 abbrev any : Command
@@ -25,7 +26,8 @@ returns-in-Ok-None-clause-judged g c clean =
     let free : IsFree t c.args.key.now =
     subst (λ o. MatchOption o (IsFree t c.args.key.now)
     (λ it. IsKept t c.args.key.now it.0 (string_bytes it.1) it.2)) c.in-Ok-None.field-0-is f.0 in
-    judged w c.args.key.now t of holds f.1.tables (sym c.is_key.ensures ∙ c.if-not-is_key.false) free))
+    judged w c.args.key.now t of holds f.1.tables (sym c.is_key.ensures ∙ c.if-not-is_key.false)
+    free))
     c.judge_free.result (c.judge_free.ensures.judged clean)
 
 pub returns-in-Ok-None-clause-reads : goal.returns-in-Ok-None-clause-reads
@@ -93,3 +95,28 @@ returns-in-Ok-Some-clause-again g c clean t has = (
   subst (λ (j : Judged). StaysReadable c.args.state.now c.args.intents.now j)
       (sym c.refused-else-are_of_loss.ensures) tt,
 )
+
+pub returns-in-Ok-None-clause-fits : goal.returns-in-Ok-None-clause-fits
+returns-in-Ok-None-clause-fits g c clean =
+    let asked : DiskKept g.S.Store c.reply_of.new.self =
+    omega (arith, clean, c.judge_free.ensures.reads.clean) in
+    ok_then _ _ (λ j fits t has are. (
+    let f = c.in-Ok-None.ensures.found asked t has in
+    let free : IsFree t c.args.key.now =
+    subst (λ o. MatchOption o (IsFree t c.args.key.now)
+    (λ it. IsKept t c.args.key.now it.0 (string_bytes it.1) it.2)) c.in-Ok-None.field-0-is f.0 in
+    fits c.args.key.now t f.1.tables are (sym c.is_key.ensures ∙ c.if-not-is_key.false) free))
+    c.judge_free.result (c.judge_free.ensures.fits clean)
+
+pub returns-in-Ok-Some-clause-fits : goal.returns-in-Ok-Some-clause-fits
+returns-in-Ok-Some-clause-fits g c clean t has are =
+    subst (λ (j : Judged). CanBeCommitted c.args.key.now c.args.intents.now t j)
+    (sym c.refused-else-are_of_loss.ensures) tt
+
+pub returns-in-Ok-None-clause-store : goal.returns-in-Ok-None-clause-store
+returns-in-Ok-None-clause-store g c clean is t has =
+    let asked : DiskKept g.S.Store c.reply_of.new.self =
+    omega (arith, clean, c.judge_free.ensures.reads.clean) in
+    let then = (c.in-Ok-None.ensures.found asked t has).1.tables in
+    failed_later g.S.Store c.args.self.now.registry c.reply_of.new.self t c.reply_of.ensures.reads
+    has then c.judge_free.new.self.registry (c.judge_free.ensures.store clean is t then)

@@ -7,10 +7,13 @@ use Rattle.gm_refusals.specs.declared.refusals.Refusal.{Refusal}
 use Rattle.gm_refusals.specs.WorldFacts.{seen_of}
 use Rattle.gm_changes.specs.Decides.{Changed, Decides, changed_by}
 use Rattle.gm_bench.specs.declared.loss.Judged.{Judged}
-use Rattle.gm_bench.specs.Without.{IsJudged, IsRedirected, StayReadableBehind, StaysReadable}
+use Rattle.gm_bench.specs.Without.{CanBeCommitted, IsJudged, IsRedirected, StayReadableBehind, StaysReadable}
 use Rattle.gm_bench.proofs.DecidesOnly.{ok_then}
 use Rattle.gm_bench.proofs.LossJudged.{rules_refuse, judged_by}
 use Rattle.gm_bench.proofs.LossRedone.{stays_readable}
+use Rattle.gm_registry.specs.Changes.{settled}
+use Rattle.gm_bench.specs.Planning.{IsFitting}
+use Rattle.gm_bench.proofs.FittingLosses.{can_commit, records_settled}
 use Rattle.gm_bench.proofs.media.Media.judge_component.Goals as goal
 
 pub returns-in-Ok-Err-clause-judged : goal.returns-in-Ok-Err-clause-judged
@@ -64,3 +67,21 @@ returns-clause-again g c =
     stays_readable s (g.H.Shelf.size c.args.self.now.shelf) c.args.intents.now k.mirror k.provider
     (string_bytes c.in-Ok.words) c.in-Ok-Ok.change j comes changed behind)) c.redirect.result
     c.redirect.ensures.comes
+
+pub returns-in-Ok-Err-clause-fits : goal.returns-in-Ok-Err-clause-fits
+returns-in-Ok-Err-clause-fits g c key t are key_ok free room =
+    subst (λ (j : Judged). CanBeCommitted key c.args.intents.now t j) (sym c.refused.ensures) tt
+
+pub returns-clause-fits : goal.returns-clause-fits
+returns-clause-fits g c =
+    ok_then _ _ (λ j comes key t are key_ok free room. (
+    let k = c.args.component.now in
+    let fits = subst (λ (r : Result Changed Refusal). IfOk r
+    (λ ch. IsFitting ch (words_of c.in_ok-command.command) (settled t))) c.in-Ok-Ok.field-0-is
+    (c.in-Ok-Ok.ensures.fits (settled t) k.mirror k.provider
+    (records_settled t c.args.state.now are) c.in-Ok.ensures.fits
+    c.in_ok-command.ensures.command) in
+    can_commit c.args.state.now (g.H.Shelf.size c.args.self.now.shelf) c.args.intents.now k.mirror
+    k.provider (string_bytes c.in-Ok.words) key c.in-Ok-Ok.change t j comes key_ok free room
+    (subst (λ (l : List ℕ). IsFitting c.in-Ok-Ok.change l (settled t)) (sym c.in-Ok.ensures.words)
+    fits))) c.redirect.result c.redirect.ensures.comes

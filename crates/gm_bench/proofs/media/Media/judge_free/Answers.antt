@@ -6,7 +6,7 @@ use Rattle.gm_state.specs.Records.{Records}
 use Rattle.gm_state.proofs.FoundRecords.{provider_at}
 use Rattle.gm_registry.specs.Replies.{count_of}
 use Rattle.gm_bench.specs.declared.loss.Judged.{Judged}
-use Rattle.gm_bench.specs.Without.{AreOfWorld, IsJudged, StaysReadable}
+use Rattle.gm_bench.specs.Without.{AreOfWorld, CanBeCommitted, IsJudged, StaysReadable}
 use Rattle.gm_bench.proofs.CallAnswers.{as_many, free_key}
 use Rattle.gm_bench.proofs.DecidesOnly.{many_of, ok_then, room_of}
 use Rattle.gm_bench.proofs.LossJudged.{no_room, not_member}
@@ -89,3 +89,20 @@ returns-in-Some-clause-again g c clean =
     at in
     ((c.in_ok-is_full.ensures.told clean t has).1, again on c.component.ensures.state)))
     c.judge_component.result c.judge_component.ensures.again
+
+pub returns-then-branch-clause-fits : goal.returns-then-branch-clause-fits
+returns-then-branch-clause-fits g c clean key t has are key_ok free =
+    subst (λ (j : Judged). CanBeCommitted key c.args.intents.now t j) (sym c.refused.ensures) tt
+
+pub returns-in-None-clause-fits : goal.returns-in-None-clause-fits
+returns-in-None-clause-fits g c clean key t has are key_ok free =
+    subst (λ (j : Judged). CanBeCommitted key c.args.intents.now t j)
+    (sym c.refused-in-None.ensures) tt
+
+pub returns-in-Some-clause-fits : goal.returns-in-Some-clause-fits
+returns-in-Some-clause-fits g c clean =
+    ok_then _ _ (λ j fits key t has are key_ok free. (
+    let told = c.in_ok-is_full.ensures.told clean t has in
+    fits key t are key_ok free
+    (room_of c.in_ok-is_full.field-0 (count_of t) told.0 c.if-branch.false)))
+    c.judge_component.result c.judge_component.ensures.fits

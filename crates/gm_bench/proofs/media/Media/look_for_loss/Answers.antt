@@ -1,10 +1,15 @@
 use Rattle.std.proofs.Common.{◌∙◌, List, Err, refl, sym, ap, subst, arith}
+use Rattle.sqlite.specs.Held.{state}
 use Rattle.gm_registry.specs.Registry.{DiskKept}
 use Rattle.gm_state.specs.declared.intents.Intent.{Intent}
-use Rattle.gm_bench.specs.Without.{AreOfWorld, IsJudged, StaysReadable}
+use Rattle.gm_bench.specs.Without.{AreOfWorld, CanBeCommitted, IsJudged, StaysReadable}
 use Rattle.gm_bench.proofs.Causes.{fault_is}
 use Rattle.gm_bench.proofs.Found.{lead}
 use Rattle.gm_bench.proofs.TakenUp.{moved}
+use Rattle.gm_rows.specs.ReadableTables.{AreRecordsOf}
+use Rattle.gm_registry.proofs.ReadsInTurn.{sees_registry}
+use Rattle.gm_bench.proofs.DecidesOnly.{reads_then}
+use Rattle.gm_bench.proofs.StoreFails.{failed_later}
 use Rattle.gm_bench.proofs.media.Media.look_for_loss.Goals as goal
 
 pub returns-in_err-state-clause-unreadable : goal.returns-in_err-state-clause-unreadable
@@ -52,3 +57,46 @@ returns-clause-loaded g c clean t has =
       subst (λ (is : List Intent). StaysReadable c.in_ok-state.state is c.in_ok-judged.judged)
           c.deref.ensures.value again.1,
     )
+
+pub returns-clause-fits : goal.returns-clause-fits
+returns-clause-fits g c clean t has =
+    let clean1 : DiskKept g.S.Store c.load.new.self.registry =
+    omega (arith, clean, c.judge.ensures.clean) in
+    let loaded = c.in_ok-state.ensures.loaded clean1 t has in
+    let are : AreRecordsOf t c.in_ok-state.state = record {
+      state = loaded.0.state;
+      rows = record { mirrors = loaded.0.mirrors; components = loaded.0.components };
+    } in
+    subst (λ (is : List Intent). CanBeCommitted c.args.key.now is t c.in_ok-judged.judged)
+    c.deref.ensures.value (c.in_ok-judged.ensures.fits clean t loaded.1 are)
+
+pub returns-in_err-state-clause-store : goal.returns-in_err-state-clause-store
+returns-in_err-state-clause-store g c clean is t has =
+    c.in_err-state.ensures.store clean (ap Err (fault_is c.from_residual.result _ _
+    c.from_residual.ensures.1 is)) (sees_registry (state g.S.Store c.args.self.now.registry) t has)
+
+pub returns-in_err-judged-clause-store : goal.returns-in_err-judged-clause-store
+returns-in_err-judged-clause-store g c clean is t has =
+    let clean1 : DiskKept g.S.Store c.load.new.self.registry =
+    omega (arith, clean, c.judge.ensures.clean) in
+    let then = (c.in_ok-state.ensures.loaded clean1 t has).1 in
+    failed_later g.S.Store c.args.self.now.registry c.load.new.self.registry t
+    c.load.ensures.reads has then c.judge.new.self.registry
+    (c.in_err-judged.ensures.store clean (ap Err (fault_is
+    c.from_residual-in_err-judged.result _ _ c.from_residual-in_err-judged.ensures.1 is)) t then)
+
+pub returns-clause-reads : goal.returns-clause-reads
+returns-clause-reads g c clean =
+    let clean1 : DiskKept g.S.Store c.load.new.self.registry =
+    omega (arith, clean, c.judge.ensures.clean) in
+    reads_then g.S.Store c.args.self.now.registry c.load.new.self.registry
+    c.judge.new.self.registry (λ t has. (c.in_ok-state.ensures.loaded clean1 t has).1)
+    c.load.ensures.reads (c.judge.ensures.reads clean)
+
+pub returns-in_err-judged-clause-reads : goal.returns-in_err-judged-clause-reads
+returns-in_err-judged-clause-reads g c clean =
+    let clean1 : DiskKept g.S.Store c.load.new.self.registry =
+    omega (arith, clean, c.judge.ensures.clean) in
+    reads_then g.S.Store c.args.self.now.registry c.load.new.self.registry
+    c.judge.new.self.registry (λ t has. (c.in_ok-state.ensures.loaded clean1 t has).1)
+    c.load.ensures.reads (c.judge.ensures.reads clean)

@@ -9,6 +9,7 @@ use Rattle.gm_bench.specs.Without.{loss_call}
 use Rattle.gm_bench.proofs.Causes.{fault_is}
 use Rattle.gm_bench.proofs.LossCarried.{not_committed, at_hand, covers}
 use Rattle.gm_bench.proofs.Present.{at_hand as hand_at}
+use Rattle.gm_bench.proofs.StoreFails.{failed_behind}
 use Rattle.gm_bench.proofs.media.Media.lose.Goals as goal
 
 pub returns-in-Some-clause-leaves : goal.returns-in-Some-clause-leaves
@@ -41,10 +42,12 @@ returns-in_err-finish-clause-leaves g c h clean p =
       c.commit_loss.ensures.leaves h clean1 p,
       λ away ts u w was. (
           let it = c.in_ok-number.ensures.done h clean1 p away ts u w was in
-          let here = at_hand g.S.Store view size mid k0 k1 away c.args.loss.now c.args.key.now p ts u
+          let here =
+          at_hand g.S.Store view size mid k0 k1 away c.args.loss.now c.args.key.now p ts u
           w c.in_ok-number.number lawful c.commit_loss.ensures.shelf it none c.deref-2.result.now
           c.deref-2.ensures.value in
-          let cover = covers g.S.Store view size mid k0 k1 away c.args.loss.now c.args.key.now p ts u
+          let cover =
+          covers g.S.Store view size mid k0 k1 away c.args.loss.now c.args.key.now p ts u
           w c.in_ok-number.number lawful c.commit_loss.ensures.shelf it none c.deref-2.result.now
           c.deref-2.ensures.value in (
             it.0,
@@ -75,10 +78,12 @@ returns-clause-leaves g c h clean p =
       c.commit_loss.ensures.leaves h clean1 p,
       λ away ts u w was. (
           let it = c.in_ok-number.ensures.done h clean1 p away ts u w was in
-          let here = at_hand g.S.Store view size mid k0 k1 away c.args.loss.now c.args.key.now p ts u
+          let here =
+          at_hand g.S.Store view size mid k0 k1 away c.args.loss.now c.args.key.now p ts u
           w c.in_ok-number.number lawful c.commit_loss.ensures.shelf it none c.deref-2.result.now
           c.deref-2.ensures.value in
-          let cover = covers g.S.Store view size mid k0 k1 away c.args.loss.now c.args.key.now p ts u
+          let cover =
+          covers g.S.Store view size mid k0 k1 away c.args.loss.now c.args.key.now p ts u
           w c.in_ok-number.number lawful c.commit_loss.ensures.shelf it none c.deref-2.result.now
           c.deref-2.ensures.value in (
             it.0,
@@ -129,3 +134,18 @@ returns-in_err-finish-clause-disk g c readable state is =
     subst (λ (k : g.row.H.Denot). (g.H.Shelf.view k).faults
     < (g.H.Shelf.view c.finish.new.self.shelf).faults) c.commit_loss.ensures.shelf
     (c.in_err-finish.ensures.disk here (ap Err fault))
+
+pub returns-in_err-number-clause-store : goal.returns-in_err-number-clause-store
+returns-in_err-number-clause-store g c clean is =
+    c.in_err-number.ensures.store clean (ap Err (fault_is c.from_residual.result _ _
+    c.from_residual.ensures.1 is))
+
+pub returns-in_err-finish-clause-store : goal.returns-in_err-finish-clause-store
+returns-in_err-finish-clause-store g c clean is t ts has can low room =
+    let mid : DiskKept g.S.Store c.commit_loss.new.self.registry =
+    omega (arith, clean, c.finish.ensures.keep.clean) in
+    let goes = c.in_ok-number.ensures.goes_on mid t has in
+    failed_behind g.S.Store c.args.self.now.registry c.commit_loss.new.self.registry goes.counts
+    goes.limit c.finish.new.self.registry (c.in_err-finish.ensures.store clean
+    (ap Err (fault_is c.from_residual-in_err-finish.result _ _
+    c.from_residual-in_err-finish.ensures.1 is)) goes.tables goes.has)

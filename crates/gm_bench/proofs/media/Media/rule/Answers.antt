@@ -1,4 +1,4 @@
-use Rattle.std.proofs.Common.{◌≡◌, ◌∙◌, ◌∷◌, [], ℕ, List, sym, subst}
+use Rattle.std.proofs.Common.{◌≡◌, ◌∙◌, ◌∷◌, [], ℕ, List, IfOk, sym, subst}
 use Rattle.gm_commands.specs.declared.command.Command.{Command}
 use Rattle.gm_commands.specs.declared.command.Command.TheVariants.{Lost}
 use Rattle.gm_lists.specs.Ordered.{Has}
@@ -8,10 +8,12 @@ use Rattle.gm_refusals.specs.Seen.{seen_in}
 use Rattle.gm_refusals.specs.WorldFacts.{needed_by, seen_of}
 use Rattle.gm_changes.specs.Decides.{Decides}
 use Rattle.gm_state.specs.World.{present}
-use Rattle.gm_commands.specs.Commands.{CommandFits}
+use Rattle.gm_commands.specs.Commands.{CommandFits, words_of}
 use Rattle.gm_bench.proofs.DecidesOnly.{ok_then}
 use Rattle.gm_bench.proofs.LossRedone.{stays_behind}
 use Rattle.gm_bench.proofs.LossRules.{loss_alike, loss_state}
+use Rattle.gm_bench.specs.Planning.{IsFitting}
+use Rattle.gm_bench.proofs.FittingLosses.{loss_fits}
 use Rattle.gm_bench.proofs.media.Media.rule.Goals as goal
 
 pub returns-clause-decides : goal.returns-clause-decides
@@ -40,6 +42,15 @@ returns-clause-state g c =
 
 pub returns-clause-again : goal.returns-clause-again
 returns-clause-again g c =
-    ok_then _ _ (λ r by k p is on fits state. stays_behind c.args.state.now c.in_ok-facts.facts k p r
+    ok_then _ _
+    (λ r by k p is on fits state. stays_behind c.args.state.now c.in_ok-facts.facts k p r
     (subst (λ (x : Command). Decides c.args.state.now (seen_in c.in_ok-facts.facts) x r) is by)
     state on (subst CommandFits is fits)) c.decide.result c.decide.ensures.facts
+
+pub returns-clause-fits : goal.returns-clause-fits
+returns-clause-fits g c =
+    ok_then _ _ (λ r by t n p are fits is. subst (λ (x : Command). IfOk r
+    (λ ch. IsFitting ch (words_of x) t)) (sym is)
+    (loss_fits c.args.state.now c.in_ok-facts.facts n p r t
+    (subst (λ (x : Command). Decides c.args.state.now (seen_in c.in_ok-facts.facts) x r) is by)
+    are (subst CommandFits is fits))) c.decide.result c.decide.ensures.facts

@@ -1,4 +1,4 @@
-use Rattle.std.proofs.Common.{rules, ◌≡◌, ◌∙◌, ◌<◌, inl, inr, List, Some, Err, refl, length, sym, ap, subst, arith}
+use Rattle.std.proofs.Common.{rules, ◌≡◌, ◌∙◌, ◌<◌, ◌+◌, ◌^◌, inl, inr, List, Some, Err, refl, length, sym, ap, subst, arith}
 use Rattle.gm_metadata.specs.Images.{Image}
 use Rattle.gm_state.specs.World.{World}
 use Rattle.gm_state.specs.declared.intents.Intent.{Intent}
@@ -9,11 +9,15 @@ use Rattle.gm_bench.specs.declared.loss.Judged.{Judged}
 use Rattle.gm_bench.specs.declared.loss.Loss.{Loss}
 use Rattle.gm_bench.specs.Losing.{dropped}
 use Rattle.gm_bench.specs.Recovering.{IsFound}
-use Rattle.gm_bench.specs.Without.{HasJudged, IsJudged, LeavesOpened, StaysReadable, loss_call}
+use Rattle.gm_bench.specs.Without.{CanBeCommitted, HasJudged, IsJudged, LeavesOpened, StaysReadable, loss_call}
 use Rattle.gm_bench.proofs.LossCarried.{lost_behind, nothing_opened}
 use Rattle.gm_bench.proofs.TakenUp.{absent_back, leaves_back, moments_back, moved}
 use Rattle.gm_bench.proofs.Causes.{fault_is}
 use Rattle.gm_bench.specs.declared.media.Media.{Media}
+use Rattle.gm_state.proofs.SameRows.{same_mirror, same_component}
+use Rattle.gm_registry.proofs.OneReading.{one_reading}
+use Rattle.gm_bench.specs.Calls.{most_rows}
+use Rattle.gm_bench.proofs.StoreFails.{failed_later, room_later}
 use Rattle.gm_bench.proofs.media.Media.take_up_without.Goals as goal
 
 pub returns-in_err-looked-clause-leaves : goal.returns-in_err-looked-clause-leaves
@@ -46,7 +50,8 @@ returns-in_err-check_and_finish-in-Kept-clause-leaves g c h clean =
     let k = c.args.self.now.shelf in
     let mid = c.look_for_loss.new.self.registry in
     let k1 = c.look_for_loss.new.self.shelf in
-    let clean1 : DiskKept g.S.Store mid = omega (arith, clean, c.check_and_finish.ensures.keep.clean) in
+    let clean1 : DiskKept g.S.Store mid =
+    omega (arith, clean, c.check_and_finish.ensures.keep.clean) in
     let h1 : g.H.Shelf.honest k1 = subst g.H.Shelf.honest (sym c.look_for_loss.ensures.shelf) h in
     inl (λ away ts u w at. (
     let looked = c.in_ok-looked.ensures.looked h clean1 away ts u w at in
@@ -73,7 +78,8 @@ returns-in-Kept-clause-leaves g c h clean =
     let k = c.args.self.now.shelf in
     let mid = c.look_for_loss.new.self.registry in
     let k1 = c.look_for_loss.new.self.shelf in
-    let clean1 : DiskKept g.S.Store mid = omega (arith, clean, c.check_and_finish.ensures.keep.clean) in
+    let clean1 : DiskKept g.S.Store mid =
+    omega (arith, clean, c.check_and_finish.ensures.keep.clean) in
     let h1 : g.H.Shelf.honest k1 = subst g.H.Shelf.honest (sym c.look_for_loss.ensures.shelf) h in
     inl (λ away ts u w at. (
     let looked = c.in_ok-looked.ensures.looked h clean1 away ts u w at in
@@ -100,7 +106,8 @@ returns-in-Kept-clause-does g c h clean away ts u w at =
     let k = c.args.self.now.shelf in
     let mid = c.look_for_loss.new.self.registry in
     let k1 = c.look_for_loss.new.self.shelf in
-    let clean1 : DiskKept g.S.Store mid = omega (arith, clean, c.check_and_finish.ensures.keep.clean) in
+    let clean1 : DiskKept g.S.Store mid =
+    omega (arith, clean, c.check_and_finish.ensures.keep.clean) in
     let h1 : g.H.Shelf.honest k1 = subst g.H.Shelf.honest (sym c.look_for_loss.ensures.shelf) h in
     let looked = c.in_ok-looked.ensures.looked h clean1 away ts u w at in
     let was = looked.0 in
@@ -226,7 +233,8 @@ returns-in_err-check_and_finish-in-Kept-clause-lacks g c h clean q is =
     let k = c.args.self.now.shelf in
     let mid = c.look_for_loss.new.self.registry in
     let k1 = c.look_for_loss.new.self.shelf in
-    let clean1 : DiskKept g.S.Store mid = omega (arith, clean, c.check_and_finish.ensures.keep.clean) in
+    let clean1 : DiskKept g.S.Store mid =
+    omega (arith, clean, c.check_and_finish.ensures.keep.clean) in
     let fault = fault_is c.from_residual-in_err-check_and_finish-in-Kept.result _ _
     c.from_residual-in_err-check_and_finish-in-Kept.ensures.1 is in
     let lack = c.in_err-check_and_finish-in-Kept.ensures.absent q (ap Err fault) in
@@ -292,7 +300,8 @@ returns-in-Kept-clause-undone g c h clean =
     let k = c.args.self.now.shelf in
     let mid = c.look_for_loss.new.self.registry in
     let k1 = c.look_for_loss.new.self.shelf in
-    let clean1 : DiskKept g.S.Store mid = omega (arith, clean, c.check_and_finish.ensures.keep.clean) in
+    let clean1 : DiskKept g.S.Store mid =
+    omega (arith, clean, c.check_and_finish.ensures.keep.clean) in
     let h1 : g.H.Shelf.honest k1 = subst g.H.Shelf.honest (sym c.look_for_loss.ensures.shelf) h in
     (λ away ts u w at. (
     let looked = c.in_ok-looked.ensures.looked h clean1 away ts u w at in
@@ -352,3 +361,41 @@ pub returns-in_err-looked-clause-unreadable : goal.returns-in_err-looked-clause-
 returns-in_err-looked-clause-unreadable g c clean is t s ts has of written =
     let fault = fault_is c.from_residual.result _ _ c.from_residual.ensures.1 is in
     c.in_err-looked.ensures.unreadable clean (ap Err fault) t s ts has of written
+
+pub returns-in_err-looked-clause-store : goal.returns-in_err-looked-clause-store
+returns-in_err-looked-clause-store g c clean is t s ts has of low room =
+    c.in_err-looked.ensures.store clean (ap Err (fault_is c.from_residual.result _ _
+    c.from_residual.ensures.1 is)) t has
+
+pub returns-in_err-check_and_finish-in-Kept-clause-store :
+    goal.returns-in_err-check_and_finish-in-Kept-clause-store
+returns-in_err-check_and_finish-in-Kept-clause-store g c clean is t s ts has of low room =
+    let clean1 : DiskKept g.S.Store c.look_for_loss.new.self.registry =
+    omega (arith, clean, c.check_and_finish.ensures.keep.clean) in
+    let then = (c.in_ok-looked.ensures.loaded clean1 t has).1 in
+    failed_later g.S.Store c.args.self.now.registry c.look_for_loss.new.self.registry t
+    (c.look_for_loss.ensures.reads clean1) has then c.check_and_finish.new.self.registry
+    (c.in_err-check_and_finish-in-Kept.ensures.store clean (ap Err (fault_is
+    c.from_residual-in_err-check_and_finish-in-Kept.result _ _
+    c.from_residual-in_err-check_and_finish-in-Kept.ensures.1 is)) t then)
+
+pub returns-in_err-number-in-New-clause-store : goal.returns-in_err-number-in-New-clause-store
+returns-in_err-number-in-New-clause-store g c clean is t s ts has of low room =
+    let clean1 : DiskKept g.S.Store c.look_for_loss.new.self.registry =
+    omega (arith, clean, c.lose.ensures.keep.clean) in
+    let looked = c.in_ok-looked.looked in
+    let loaded = c.in_ok-looked.ensures.loaded clean1 t has in
+    let reads = c.look_for_loss.ensures.reads clean1 in
+    let same = (one_reading same_mirror same_component t looked.state s looked.intents.items ts
+    loaded.0 of).1 in
+    let can = subst (λ (j : Judged). CanBeCommitted c.args.key.now looked.intents.items t j)
+    c.in-New.is (c.in_ok-looked.ensures.fits clean1 t has) in
+    let few : length looked.intents.items + 17 < 2 ^ 32 =
+    subst (λ (is : List Intent). length is + 17 < 2 ^ 32) (sym same) low in
+    failed_later g.S.Store c.args.self.now.registry c.look_for_loss.new.self.registry t reads has
+    loaded.1 c.lose.new.self.registry
+    (c.in_err-number-in-New.ensures.store clean (ap Err (fault_is
+    c.from_residual-in_err-number-in-New.result _ _
+    c.from_residual-in_err-number-in-New.ensures.1 is)) t looked.intents.items loaded.1 can few
+    (room_later g.S.Store c.args.self.now.registry c.look_for_loss.new.self.registry t reads has
+    loaded.1 most_rows clean1 room))

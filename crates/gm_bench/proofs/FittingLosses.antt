@@ -1,0 +1,77 @@
+-- What the rules decide of a loss fits the tables, and how many intents are pending behind it.
+use Rattle.std.proofs.Common.{◌≡◌, inl, inr, ℕ, ◌+◌, ◌≤◌, ◌<◌, ◌^◌, true, refl, arith, List, [], ◌∷◌, length, string_bytes, IfOk, Result, Ok, Err, length-append}
+use Rattle.std.proofs.lemmas.Bool.{cases_Bool}
+use Rattle.gm_metadata.specs.Images.{Sizes}
+use Rattle.gm_commands.specs.declared.command.Command.TheVariants.{Lost}
+use Rattle.gm_commands.specs.Commands.{CommandFits, is_key, words_of}
+use Rattle.gm_state.specs.declared.intents.Intent.{Intent}
+use Rattle.gm_state.specs.Records.{Records}
+use Rattle.gm_state.specs.Rows.{Tables}
+use Rattle.gm_refusals.specs.declared.facts.Fact.{Fact}
+use Rattle.gm_refusals.specs.declared.refusals.Refusal.{Refusal}
+use Rattle.gm_refusals.specs.Seen.{seen_in}
+use Rattle.gm_changes.specs.Decides.{Changed, Decides}
+use Rattle.gm_rows.specs.ReadableTables.{AreRecordsOf}
+use Rattle.gm_registry.specs.Changes.{settled, with_pending}
+use Rattle.gm_registry.specs.FittingChanges.{FitsTables}
+use Rattle.gm_registry.specs.Replies.{IsFree, count_of}
+use Rattle.gm_bench.specs.declared.loss.Judged.{Judged}
+use Rattle.gm_bench.specs.declared.loss.Judged.TheVariants.{Kept, Refused, New}
+use Rattle.gm_bench.specs.declared.loss.Loss.{Loss}
+use Rattle.gm_bench.specs.Losing.{remaining, writes_to}
+use Rattle.gm_bench.specs.Planning.{IsFitting}
+use Rattle.gm_bench.specs.Without.{CanBeCommitted, CanCommit, IsRedirected}
+use Rattle.gm_bench.proofs.FittingPlans.{fits_with, made_fits}
+
+pub loss_fits : (s : Records) (facts : List Fact) (n p : List ℕ) (r : Result Changed Refusal)
+    (t : Tables) → Decides s (seen_in facts) (Lost n (p ∷ [])) r → AreRecordsOf t s
+    → CommandFits (Lost n (p ∷ []))
+    → IfOk r (λ ch. IsFitting ch (words_of (Lost n (p ∷ []))) t)
+loss_fits s facts n p (Ok ch) t makes are fits =
+    made_fits s facts (Lost n (p ∷ [])) ch t are fits makes tt
+loss_fits s facts n p (Err r) t least are fits = tt
+
+-- no more intents stay than were pending
+fewer_remain : (p next : List ℕ) (ts : List Intent) → length (remaining p next ts) ≤ length ts
+fewer_remain p next [] = omega arith
+fewer_remain p next (t ∷ ts) =
+    let rest : length (remaining p next ts) ≤ length ts = fewer_remain p next ts in
+    elim (cases_Bool (writes_to p t)) [
+      | inl gone ↦ rw gone (omega (arith, rest))
+      | inr left ↦ rw left (omega (arith, rest))
+    ]
+
+-- the records are those of the tables without what is pending, too
+pub records_settled : (t : Tables) (s : Records) → AreRecordsOf t s → AreRecordsOf (settled t) s
+records_settled t s are = record {
+  state = are.state;
+  rows = record { mirrors = are.rows.mirrors; components = are.rows.components };
+}
+
+pub can_commit : (s : Records) (size : Sizes) (ts : List Intent) (n p words key : List ℕ)
+    (ch : Changed) (t : Tables) (j : Judged) → IsRedirected s size ts n p words ch j
+    → is_key key ≡ true → IsFree t key → count_of t < 100000 → IsFitting ch words (settled t)
+    → CanBeCommitted key ts t j
+can_commit s size ts n p words key ch t (Kept number reply) is key_ok free room fits = tt
+can_commit s size ts n p words key ch t (Refused r) is key_ok free room fits = tt
+can_commit s size ts n p words key ch t (New loss) l key_ok free room fits =
+    let left : length (remaining p l.next ts) ≤ length ts = fewer_remain p l.next ts in
+    let more : length ch.intents ≤ 17 = fits.few_written in
+    let all = length-append (remaining p l.next ts) ch.intents in
+    record {
+      key_ok = key_ok;
+      free = free;
+      room = room;
+      change = rw (l.change, l.words_are) fits;
+      few = rw l.intents (omega (arith, left, more, all));
+    }
+
+-- so the tables take it in place of what is pending
+pub loss_fits_tables : (key : List ℕ) (ts : List Intent) (t : Tables) (loss : Loss)
+    → CanCommit key ts t loss → length ts + 17 < 2 ^ 32
+    → FitsTables (with_pending loss.change loss.intents.items) key (string_bytes loss.words)
+    (settled t)
+loss_fits_tables key ts t loss can low =
+    let few : length loss.intents.items ≤ length ts + 17 = can.few in
+    fits_with loss.change loss.intents.items key (string_bytes loss.words) (settled t) can.change
+    (omega (arith, few, low)) refl can.key_ok can.free

@@ -1,0 +1,45 @@
+-- What room for rows a registry has that was opened.
+use Rattle.std.proofs.Common.{◌≡◌, ◌∙◌, inl, inr, List, [], map, sym, subst, arith}
+use Rattle.std.proofs.lemmas.List.{length-map, nil_from_length}
+use Rattle.std.specs.List.Sorted.{IsPermutation}
+use Rattle.std.proofs.lemmas.List.Sorted.{length_permutation}
+use Rattle.sqlite.specs.Effect.{Database}
+use Rattle.sqlite.specs.Held.{Held}
+use Rattle.sqlite_catalog.specs.Listing.{IsSound}
+use Rattle.sqlite_trees.specs.declared.store.Store.{Ghosts}
+use Rattle.gm_state.specs.Rows.{Tables}
+use Rattle.gm_rows.specs.Schema.{registry_schema}
+use Rattle.gm_rows.specs.Tables.{no_tables}
+use Rattle.gm_registry.specs.Fitting.{HasRoom}
+use Rattle.gm_registry.specs.Registry.{DiskKept, HasTables, LeavesAlone, seen, stored}
+use Rattle.gm_bench.specs.Calls.{most_rows}
+use Rattle.gm_bench.specs.Recovering.{IsStored}
+
+-- a table of no records has no rows
+none_kept : {A B : Type 0} (part : A → B) (rows : List A) → IsPermutation [] (map part rows)
+    → rows ≡ []
+none_kept part rows same = nil_from_length rows
+    (sym (length-map rows part) ∙ length_permutation [] (map part rows) same)
+
+module _ {S : Type 0} (g : Ghosts S) (start mid : Held S) where
+  room_of_none : HasTables g mid no_tables → HasRoom most_rows (seen g mid)
+  room_of_none has =
+      let kept = has.tables.rows.rows in
+      subst (λ (d : Database). HasRoom most_rows d.trees) (sym has.settled) (record {
+        mirrors = rw (none_kept _ _ kept.mirrors.same)
+            (record { last = 0; up_to = tt; room = omega arith });
+        components = rw (none_kept _ _ kept.components.same)
+            (record { last = 0; up_to = tt; room = omega arith });
+        commands = rw (none_kept _ _ kept.commands.same)
+            (record { last = 0; up_to = tt; room = omega arith });
+      })
+
+  -- that of the store, whose tables stay; and in tables that were made there is room
+  pub room_opened : (IsSound registry_schema (stored g start) → LeavesAlone g start mid)
+      → DiskKept g mid → (t : Tables) → IsStored (stored g start) t → HasTables g mid t
+      → HasRoom most_rows (stored g start) → HasRoom most_rows (seen g mid)
+  room_opened untouched clean t (inl holds) has room =
+      let same = has.settled ∙ (untouched holds.sound).tables clean has.is_open in
+      subst (λ (d : Database). HasRoom most_rows d.trees) (sym same) room
+  room_opened untouched clean t (inr empty) has room =
+      room_of_none (subst (HasTables g mid) empty.1 has)
