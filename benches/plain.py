@@ -3,13 +3,14 @@
 
     benches/plain.py --registry FILE --shelf DIR [--fdatasync] <lines
 
-Takes the lines label, insert, remove, destroy and advance, and answers each with `KEY ok SEQ` before it reads the next. For
+Takes the lines label, insert, remove, destroy, advance and patch, and answers each with `KEY ok SEQ` before it reads the next. For
 each it
 
-1. writes the records, the intents and the key in one transaction of SQLite, which is synced;
+1. writes the records, the intents and the key in one transaction of SQLite, which is synced, and of a patch the bytes;
 2. writes the last sector of each image that an intent names, and syncs that image; an advance reads a stretch of both
-   images before, writes it whole where it differs, and syncs the image;
-3. empties the intents in a second transaction.
+   images before, writes it whole where it differs, and syncs the image; a patch marks the image dirty, writes the bytes
+   and then the last sector, and syncs the image behind each;
+3. empties the intents and the bytes in a second transaction.
 
 An image is synced by fsync, or as gmbench does it, by fdatasync. What a run that stopped left pending is carried out first.
 It tests little: that the key is new, the mirror known, and an image a component or not; a line that is no command ends it.
@@ -25,8 +26,10 @@ import sys
 SECTOR = 512
 BALANCES = {"round-robin": 1, "load": 2, "split": 3, "prefer": 4}
 SYNCHRONIZING = 2
-# What an intent does: metadata or zeros into the last sector of its image, or a stretch of another one.
-META, CLEAR, COPY = 1, 2, 3
+DIRTY_FLAG = 1
+# What an intent does: metadata or zeros into the last sector of its image, a stretch of another one, metadata with DIRTY,
+# or the bytes of a patch.
+META, CLEAR, COPY, DIRTY, PATCH = 1, 2, 3, 4, 5
 # How many sectors a stretch has at most.
 STRETCH = 256
 
@@ -42,6 +45,7 @@ CREATE TABLE IF NOT EXISTS intents(ord INTEGER PRIMARY KEY, kind INTEGER NOT NUL
   source TEXT NOT NULL, first_sector INTEGER NOT NULL, end_sector INTEGER NOT NULL);
 CREATE TABLE IF NOT EXISTS commands(call_key TEXT PRIMARY KEY NOT NULL, seq INTEGER NOT NULL UNIQUE,
   words TEXT NOT NULL, copied INTEGER NOT NULL, of_total INTEGER NOT NULL);
+CREATE TABLE IF NOT EXISTS patches(one INTEGER PRIMARY KEY CHECK (one = 1), bytes BLOB NOT NULL);
 """
 
 # The intents in their order, with the fields of the sector that each writes; those of a CLEAR are NULL, since its
@@ -88,6 +92,11 @@ class Shelf:
         os.pwrite(file, sector, self.size(prov) - SECTOR)
         self.sync(file)
 
+    def lay(self, prov, first, sectors):
+        file = self.file(prov)
+        os.pwrite(file, sectors, first * SECTOR)
+        self.sync(file)
+
     def copy(self, source, target, first, end):
         length, place = (end - first) * SECTOR, first * SECTOR
         file = self.file(target)
@@ -97,12 +106,12 @@ class Shelf:
         self.sync(file)
 
 
-def sector_of(prov, fields):
-    """The sector of metadata: the fields, their MD5, and zeros."""
+def sector_of(prov, fields, more_flags=0):
+    """The sector of metadata: the fields, with these flags of the component besides, their MD5, and zeros."""
     name, *numbers, mediasize, offset, mflags, dflags, hard, provsize = fields
     provider = prov.encode() if hard else b""
-    said = FIELDS.pack(b"GEOM::MIRROR", 4, name.encode(), *numbers, mediasize, SECTOR, offset, mflags, dflags, provider,
-                       provsize)
+    said = FIELDS.pack(b"GEOM::MIRROR", 4, name.encode(), *numbers, mediasize, SECTOR, offset, mflags,
+                       dflags | more_flags, provider, provsize)
     return (said + hashlib.md5(said).digest()).ljust(SECTOR, b"\0")
 
 
@@ -196,7 +205,28 @@ def advance(store, shelf, options, name, prov):
     return end, total
 
 
-COMMANDS = {"label": label, "insert": insert, "remove": remove, "destroy": destroy, "advance": advance}
+def patch(store, shelf, options, name):
+    (syncid,) = mirror_named(store, name)
+    first, sectors = int(options["first"]), bytes.fromhex(options["data"])
+    (total,) = store.execute("SELECT mediasize / 512 FROM mirrors WHERE name = ?", (name,)).fetchone()
+    members = store.execute("SELECT prov, dflags FROM components WHERE mirror = ? ORDER BY prov", (name,)).fetchall()
+    if any(dflags & SYNCHRONIZING for _, dflags in members):
+        raise Refused(30)
+    if first + len(sectors) // SECTOR > total:
+        raise Refused(31)
+    store.execute("UPDATE mirrors SET syncid = ? WHERE name = ?", (syncid + 1, name))
+    store.execute("UPDATE components SET syncid = ? WHERE mirror = ? AND dflags = 0", (syncid + 1, name))
+    for prov, dflags in members:
+        if dflags == 0:
+            put_intent(store, DIRTY, prov)
+            put_intent(store, PATCH, prov, "", first, first + len(sectors) // SECTOR)
+            put_intent(store, META, prov)
+    store.execute("INSERT INTO patches VALUES (1, ?)", (sectors,))
+
+
+COMMANDS = {
+    "label": label, "insert": insert, "remove": remove, "destroy": destroy, "advance": advance, "patch": patch,
+}
 
 
 def change(store, shelf, words):
@@ -230,10 +260,18 @@ def carry_out(store, shelf):
     for kind, prov, source, first, end, *fields in pending:
         if kind == COPY:
             shelf.copy(source, prov, first, end)
+        elif kind == PATCH:
+            (sectors,) = store.execute("SELECT bytes FROM patches").fetchone()
+            shelf.lay(prov, first, sectors)
+        elif kind == CLEAR:
+            shelf.write_last(prov, bytes(SECTOR))
         else:
-            shelf.write_last(prov, sector_of(prov, fields) if kind == META else bytes(SECTOR))
+            shelf.write_last(prov, sector_of(prov, fields, DIRTY_FLAG if kind == DIRTY else 0))
     if pending:
+        store.execute("BEGIN IMMEDIATE")
         store.execute("DELETE FROM intents")
+        store.execute("DELETE FROM patches")
+        store.execute("COMMIT")
 
 
 def answer(store, shelf, key, words):

@@ -20,13 +20,14 @@ _gmbench_command_options() {
         label) echo --mid --did --balance --slice --autosync --failsync --hardcode ;;
         insert) echo --did --priority --hardcode ;;
         configure) echo --balance --slice --autosync --failsync --hardcode --prov --priority ;;
+        patch) echo --first --data ;;
     esac
 }
 
 # Whether an image may stand behind so many names, of which the third is this command behind the key of `do`.
 _gmbench_wants_image() {
     case $1 in
-        '' | forget | destroy | configure) false ;;
+        '' | forget | destroy | configure | patch) false ;;
         clear) [[ $2 = 3 ]] ;;
         lost | adopt) [[ $2 -gt 3 ]] ;;
         *) [[ $2 = 4 ]] ;;
@@ -59,7 +60,7 @@ _gmbench_offer_paths() {
 
 _gmbench() {
     local subcommands='dump taste pending recover status list audit scrub do batch sync serve help'
-    local commands='label insert remove deactivate activate forget rebuild configure clear destroy lost advance adopt'
+    local commands='label insert remove deactivate activate forget rebuild configure clear destroy lost advance adopt patch'
     local word=${COMP_WORDS[COMP_CWORD]} shelf=${GMBENCH_SHELF-} option='' names=() before
     COMPREPLY=()
 
@@ -74,7 +75,7 @@ _gmbench() {
         fi
         case $before in
             --registry | --shelf | --without | --key | --port | --count | --mid | --did | --balance | --slice | \
-                --autosync | --failsync | --hardcode | --priority | --prov) option=$before ;;
+                --autosync | --failsync | --hardcode | --priority | --prov | --first | --data) option=$before ;;
             -*) ;;
             *) names+=("$before") ;;
         esac

@@ -3,7 +3,7 @@
 # The words before the cursor that are names, the subcommand first.
 function __gmbench_names
     set -l valued --registry --shelf --without --key --port --count --mid --did --balance --slice --autosync --failsync \
-        --hardcode --priority --prov
+        --hardcode --priority --prov --first --data
     set -l wants no
     for word in (commandline -opc)[2..-1]
         if test $wants = yes
@@ -40,7 +40,7 @@ function __gmbench_doing_images
     set -l names (__gmbench_names)
     test "$names[1]" = do; or return
     switch "$names[3]"
-        case '' forget destroy configure
+        case '' forget destroy configure patch
             false
         case clear
             test (count $names) -eq 3
@@ -119,7 +119,7 @@ complete -c gmbench -n __gmbench_doing_images -a '(__gmbench_images)' -d Image
 
 # The commands behind the key of `do`, and the options of each.
 complete -c gmbench -n '__gmbench_behind do 1' -d Command \
-    -a 'label insert remove deactivate activate forget rebuild configure clear destroy lost advance adopt'
+    -a 'label insert remove deactivate activate forget rebuild configure clear destroy lost advance adopt patch'
 complete -c gmbench -n '__gmbench_doing label' -l mid -x -d 'The number of the mirror'
 complete -c gmbench -n '__gmbench_doing label insert' -l did -x -d 'The number of the component'
 complete -c gmbench -n '__gmbench_doing label configure' -l balance -x -a 'load prefer round-robin split' \
@@ -130,3 +130,5 @@ complete -c gmbench -n '__gmbench_doing label configure' -l failsync -x -a 'on o
 complete -c gmbench -n '__gmbench_doing label insert configure' -l hardcode -x -a 'on off' -d 'Whether the name is written'
 complete -c gmbench -n '__gmbench_doing insert configure' -l priority -x -d 'The priority of the component'
 complete -c gmbench -n '__gmbench_doing configure' -l prov -x -a '(__gmbench_images)' -d 'The component of the priority'
+complete -c gmbench -n '__gmbench_doing patch' -l first -x -d 'The first sector that is changed'
+complete -c gmbench -n '__gmbench_doing patch' -l data -x -d 'The sectors as hexadecimal digits'

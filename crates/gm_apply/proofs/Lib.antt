@@ -1,10 +1,13 @@
 pub mod DifferingSectors
 pub mod EqualSectors
+pub mod LaidBytes
 pub mod LeadsOn
 pub mod Lists
 pub mod Others
-pub mod Safe
+pub mod Reached
 pub mod Sectors
+pub mod Stages
+pub mod Steps
 pub mod Stretches
 pub mod UnderWay
 pub mod Values

@@ -8,9 +8,9 @@ use Rattle.gm_state.specs.declared.intents.Intent.{Intent}
 use Rattle.gm_state.specs.Records.{Records}
 use Rattle.gm_lists.specs.Ordered.{Has}
 use Rattle.gm_lists.proofs.Finding.{any_from, not_both}
-use Rattle.gm_apply.specs.Redo.{Places, AgreeBut, KeepsOthers, writes, is_written}
+use Rattle.gm_apply.specs.Redo.{Places, last_of, AgreeBut, KeepsOthers, writes, is_written}
 use Rattle.gm_apply.proofs.UnderWay.{at_start, leaves_trans}
-use Rattle.gm_apply.proofs.Written.{last_of, by_size, here}
+use Rattle.gm_apply.proofs.Written.{by_size, here}
 
 pub agree_trans : (place : Places) (d y x : Image) → AgreeBut place d y → AgreeBut place y x
     → AgreeBut place d x

@@ -13,7 +13,7 @@ and_false : (b : Bool) → (b && false) ≡ false
 and_false true = refl
 and_false false = refl
 
-swapped : (a b : List ℕ) → same_label a b ≡ same_label b a
+pub swapped : (a b : List ℕ) → same_label a b ≡ same_label b a
 swapped a b =
     elim (label_tells a b) [
       | inl x ↦ elim (label_tells b a) [ inl y ↦ x.0 ∙ sym y.0 | inr y ↦ absurd (y.1 (sym x.1)) ]

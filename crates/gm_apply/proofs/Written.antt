@@ -1,8 +1,8 @@
 -- From the write of a last sector to the step of an intent.
-use Rattle.std.proofs.Common.{◌≡◌, ◌⊎◌, inl, inr, ⊎_elim, ℕ, ◌+◌, List, true, false, ◌==◌, ◌&&◌, refl, sym, ◌∙◌, ap, subst, arith, Option, None, Some, zero, suc, eqb-true}
+use Rattle.std.proofs.Common.{◌≡◌, ◌⊎◌, inl, inr, ⊎_elim, ℕ, ◌+◌, List, true, false, ◌==◌, refl, sym, ◌∙◌, ap, subst, arith, Option, option_map, None, Some, zero, suc, eqb-true}
 use Rattle.std.proofs.lemmas.Bool.{cases_Bool}
 use Rattle.std.proofs.lemmas.Bool.Decides.{eqb_tells}
-use Rattle.gm_metadata.specs.Images.{Image, Sizes, Same, put, same_label, label_tells, label_refl}
+use Rattle.gm_metadata.specs.Images.{Image, Sizes, Same, put, label_tells, label_refl}
 use Rattle.gm_shelf.specs.Disk.{View, IsPut, Torn}
 use Rattle.gm_shelf.specs.LastSector.{OldOrNew, IsDone}
 use Rattle.gm_metadata.specs.Reading.{encoded}
@@ -10,16 +10,12 @@ use Rattle.gm_metadata.specs.declared.metadata.Metadata.{Metadata}
 use Rattle.gm_state.specs.declared.records.Mirror.{Mirror}
 use Rattle.gm_state.specs.declared.records.Component.{Component}
 use Rattle.gm_state.specs.Records.{Records, IsState, name, provider}
-use Rattle.gm_state.specs.Lookups.{metadata, metadata_of, mirror_of, component_of}
+use Rattle.gm_state.specs.Lookups.{at_component, metadata, metadata_of, mirror_of, component_of}
 use Rattle.gm_state.specs.Intents.{IsOf, is_last}
 use Rattle.gm_lists.proofs.Finding.{find_one, not_both}
 use Rattle.gm_state.proofs.TestsTellRules.{member}
-use Rattle.gm_apply.specs.Redo.{Places, with_places, SomePlacesNew, PlacesAreNew, Moments}
+use Rattle.gm_apply.specs.Redo.{Places, last_of, with_places, SomePlacesNew, PlacesAreNew, Moments}
 use Rattle.gm_apply.proofs.UnderWay.{laid_in, laid_out}
-
--- the last sector of the provider is the one place
-abbrev pub last_of : Sizes → List ℕ → Places
-last_of size p q j = same_label p q && is_last (size q) j
 
 -- nothing is meant
 module _ (place : Places) (w : Image) (none : (q : List ℕ) (j : ℕ) → place q j ≡ true → ⊥) where
@@ -133,10 +129,10 @@ module _ (size : Sizes) (p s : List ℕ) (w : Image)
       by_size size p (size p) refl nothing
       (λ i is. last_moments size p i is s w (says p i (here size p i is)) old new (moments i is))
 
--- the metadata of a component are found by its provider
-pub metadata_found : (s : Records) → IsState s → (m : Mirror) (k : Component) → IsOf s m k
-    → metadata_of s k.provider ≡ Some (metadata m k)
-metadata_found s state m k o =
+-- what is said of a component is found by its provider
+pub found_at : {X : Type 0} (s : Records) → IsState s → (f : Mirror → Component → X) (m : Mirror)
+    (k : Component) → IsOf s m k → at_component s k.provider f ≡ Some (f m k)
+found_at s state f m k o =
     let mine = member s m.name k o.component in
     let found : component_of s k.provider ≡ Some k =
     find_one provider s.components state.components_in_order k mine.0 in
@@ -145,24 +141,16 @@ metadata_found s state m k o =
     (find_one name s.mirrors state.mirrors_in_order m o.mirror) in
     rw (found, home) refl
 
--- what Meta says is the encoding of the metadata that are found
-pub says_found : (s : Records) → IsState s → (p : List ℕ) (x : List ℕ) (d : Metadata)
-    → ((m : Mirror) × (k : Component) × IsOf s m k × (k.provider ≡ p)
-    × (x ≡ encoded (metadata m k))) → metadata_of s p ≡ Some d → x ≡ encoded d
-says_found s state p x d says found =
-    let m = says.0 in
-    let k = says.1 in
-    let there : metadata_of s p ≡ Some (metadata m k) =
-    subst (λ (q : List ℕ). metadata_of s q ≡ Some (metadata m k)) says.3
-    (metadata_found s state m k says.2) in
-    let same : metadata m k ≡ d = cc in
-    says.4 ∙ ap encoded same
+pub metadata_found : (s : Records) → IsState s → (m : Mirror) (k : Component) → IsOf s m k
+    → metadata_of s k.provider ≡ Some (metadata m k)
+metadata_found s state m k o = found_at s state metadata m k o
 
-pub says_of_none : (s : Records) → IsState s → (p : List ℕ) (x : List ℕ)
-    → ((m : Mirror) × (k : Component) × IsOf s m k × (k.provider ≡ p)
-    × (x ≡ encoded (metadata m k))) → metadata_of s p ≡ None → ⊥
-says_of_none s state p x says none =
-    let there : metadata_of s p ≡ Some (metadata says.0 says.1) =
-    subst (λ (q : List ℕ). metadata_of s q ≡ Some (metadata says.0 says.1)) says.3
-    (metadata_found s state says.0 says.1 says.2) in
-    cc
+-- what a component's last sector says is the encoding of what is found
+pub says_found : (s : Records) → IsState s → (f : Mirror → Component → Metadata) (p : List ℕ)
+    (x : List ℕ) → ((m : Mirror) × (k : Component) × IsOf s m k × (k.provider ≡ p)
+    × (x ≡ encoded (f m k))) → option_map encoded (at_component s p f) ≡ Some x
+says_found s state f p x says =
+    let there : at_component s p f ≡ Some (f says.0 says.1) =
+    subst (λ (q : List ℕ). at_component s q f ≡ Some (f says.0 says.1)) says.3
+    (found_at s state f says.0 says.1 says.2) in
+    ap (option_map encoded) there ∙ ap Some (sym says.4)

@@ -5,10 +5,11 @@ use Rattle.gm_state.specs.Records.{IsState}
 use Rattle.gm_state.specs.Intents.{AreThere}
 use Rattle.gm_state.specs.World.{World, Claims, CopiesData}
 
--- u's records are a state, and those of its components that an intent reads or writes are there; in
--- w the claims of all are true, and what was copied to them is their mirror's data
+-- the records of both are states, and those components of u that an intent reads or writes are
+-- there; in w the claims of all are true, and what was copied to them is their mirror's data
 pub record Continues (u w : World) (ts : List Intent) : Type 0 where
   pub state : IsState u.state
+  pub after : IsState w.state
   pub there : AreThere u.state ts u.size
   pub claims : Claims u w w.shelf
   pub copies : CopiesData u w ts

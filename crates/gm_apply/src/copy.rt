@@ -15,7 +15,7 @@ use gm_shelf::{Shelf, ShelfFault};
 pub(crate) const RUN: usize = 128;
 
 // Writes a stretch of sectors, where there are any.
-fn write_stretch<H: Shelf>(
+pub(crate) fn write_stretch<H: Shelf>(
     shelf: &mut H,
     target: Label,
     first: u64,

@@ -1,16 +1,17 @@
 //! Carries out pending intents on a shelf, from whatever a crash left of them, so that data come
 //! before claims.
 //!
-//! `redo.rt` has `apply`; `copy.rt` copies sectors. `specs/Redo.antt` says what is left of an image
-//! at the end and at every moment on the way, `laws.rt` what follows of it. `equal_data.rt` tells
-//! how many first sectors of two providers are equal, `differing_data.rt` how many differ and which
-//! is the first of those.
+//! `redo.rt` has `apply`; `copy.rt` copies sectors, `patch.rt` lays bytes over them.
+//! `specs/Redo.antt` says what is left of an image at the end and at every moment on the way,
+//! `laws.rt` what follows of it. `equal_data.rt` tells how many first sectors of two providers are
+//! equal, `differing_data.rt` how many differ and which is the first of those.
 #![tactic(auto)]
 
 mod copy;
 mod differing_data;
 mod equal_data;
 mod laws;
+mod patch;
 mod redo;
 
 pub use differing_data::{Difference, Watch, differing_sectors};

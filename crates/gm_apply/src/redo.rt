@@ -1,25 +1,64 @@
 //! Carries out intents one after another.
 
-ghost use Rattle.std.specs.Prelude.{◌≡◌, ◌≤◌, ◌<◌, ◌⊎◌, OnOk, IsErrOf};
+ghost use Rattle.std.specs.Prelude.{◌≡◌, ◌≤◌, ◌<◌, ◌⊎◌, ◌&&◌, Some, None, is_some, OnOk, IsErrOf};
 ghost use Rattle.gm_metadata.specs.Images.{Image};
 ghost use Rattle.gm_shelf.specs.Disk.{From};
 ghost use Rattle.gm_shelf.specs.Keeping.{Keeps};
 ghost use Rattle.gm_lists.specs.Ordered.{Has};
 ghost use Rattle.gm_state.specs.Intents.{names, is_place, IsRedo};
 ghost use Rattle.gm_state.specs.declared.intents.Intent.{Intent};
-ghost use Rattle.gm_apply.specs.Redo.{IsPartlyDone, CrashLeaves, PlacesAreNew, Moments, KeepsOthers, IsSaid, writes, is_written, LacksProvider, LacksSector};
+ghost use Rattle.gm_apply.specs.Redo.{IsPartlyDone, CrashLeaves, PlacesAreNew, Moments, KeepsOthers, IsLaid, IsFound, last_of, writes, is_written, LacksProvider, LacksSector};
 
 use crate::copy::copy_sectors;
+use crate::patch::lay_sectors;
+use gm_metadata::{Label, Metadata};
 use gm_shelf::{Shelf, ShelfFault, write_last, write_meta};
-use gm_state::{Intent, State, metadata_of};
+use gm_state::{Intent, State, dirty_metadata_of, metadata_of};
 
-fn apply_one<H: Shelf>(shelf: &mut H, state: &State, intent: &Intent) -> Result<(), ShelfFault>
+// Writes the metadata that were found for the provider into its last sector, and nothing where none
+// were found.
+fn write_found<H: Shelf>(
+    shelf: &mut H,
+    provider: Label,
+    found: Option<Metadata>,
+) -> Result<(), ShelfFault>
     ensures done { H.honest shelf.old → (w : Image)
-        → IsSaid state.now (H.size shelf.old) intent.now (H.view shelf.old).seen w
+        → IsFound (last_of (H.size shelf.old) provider) found w
+        → OnOk result (PlacesAreNew (last_of (H.size shelf.old) provider) w
+        (H.view shelf.old) (H.view shelf.new)) }
+    ensures moments { H.honest shelf.old → (w : Image)
+        → IsFound (last_of (H.size shelf.old) provider) found w
+        → Moments (last_of (H.size shelf.old) provider) w
+        (H.view shelf.old) (H.view shelf.new) }
+    ensures others { H.honest shelf.old →
+        KeepsOthers (λ q j. is_some found && last_of (H.size shelf.old) provider q j)
+        (H.view shelf.old) (H.view shelf.new) }
+
+    ensures absent { IsErrOf result ShelfFault.Absent → H.size shelf.old provider ≡ None }
+    ensures range { IsErrOf result ShelfFault.Range → H.size shelf.old provider ≡ Some 0 }
+    ensures device { IsErrOf result ShelfFault.Device →
+        (H.view shelf.old).faults < (H.view shelf.new).faults }
+
+    ensures keeps { Keeps H.Shelf shelf.old shelf.new }
+{
+    if let Some(metadata) = found {
+        write_meta(shelf, provider, &metadata)?;
+    }
+    Ok(())
+}
+
+fn apply_one<H: Shelf>(
+    shelf: &mut H,
+    state: &State,
+    intent: &Intent,
+    bytes: &[[u8; 512]],
+) -> Result<(), ShelfFault>
+    ensures done { H.honest shelf.old → (w : Image)
+        → IsLaid state.now bytes.now (H.size shelf.old) intent.now (H.view shelf.old).seen w
         → OnOk result (PlacesAreNew (names (H.size shelf.old) intent.now) w
         (H.view shelf.old) (H.view shelf.new)) }
     ensures moments { H.honest shelf.old → (w : Image)
-        → IsSaid state.now (H.size shelf.old) intent.now (H.view shelf.old).seen w
+        → IsLaid state.now bytes.now (H.size shelf.old) intent.now (H.view shelf.old).seen w
         → Moments (names (H.size shelf.old) intent.now) w (H.view shelf.old) (H.view shelf.new) }
     ensures others { H.honest shelf.old →
         KeepsOthers (writes state.now (H.size shelf.old) intent.now)
@@ -34,11 +73,7 @@ fn apply_one<H: Shelf>(shelf: &mut H, state: &State, intent: &Intent) -> Result<
     ensures keeps { Keeps H.Shelf shelf.old shelf.new }
 {
     match *intent {
-        Intent::Meta { provider } => {
-            if let Some(metadata) = metadata_of(state, provider) {
-                write_meta(shelf, provider, &metadata)?;
-            }
-        }
+        Intent::Meta { provider } => write_found(shelf, provider, metadata_of(state, provider))?,
         Intent::Clear { provider } => write_last(shelf, provider, &[0; 512])?,
         Intent::Copy {
             source,
@@ -46,6 +81,14 @@ fn apply_one<H: Shelf>(shelf: &mut H, state: &State, intent: &Intent) -> Result<
             first,
             end,
         } => copy_sectors(shelf, source, target, u64::from(first), u64::from(end))?,
+        Intent::Dirty { provider } => {
+            write_found(shelf, provider, dirty_metadata_of(state, provider))?;
+        }
+        Intent::Patch {
+            provider,
+            first,
+            end,
+        } => lay_sectors(shelf, provider, u64::from(first), u64::from(end), bytes)?,
     }
     Ok(())
 }
@@ -53,21 +96,28 @@ fn apply_one<H: Shelf>(shelf: &mut H, state: &State, intent: &Intent) -> Result<
 /// Carries out the intents in order. Each ends with a sync of the provider that it wrote. It takes
 /// no memory of its own; a shelf may answer want of it.
 ///
-/// It is meant for intents that are readable for the state. A `Meta` of a provider that is no
-/// component writes nothing.
-pub fn apply<H: Shelf>(shelf: &mut H, state: &State, intents: &[Intent]) -> Result<(), ShelfFault>
+/// It is meant for intents that are readable for the state, with the bytes that a `Patch` lays, and
+/// none where there is no `Patch`. A `Meta` and a `Dirty` of a provider that is no component write
+/// nothing, and a `Patch` no more than there are bytes.
+pub fn apply<H: Shelf>(
+    shelf: &mut H,
+    state: &State,
+    intents: &[Intent],
+    bytes: &[[u8; 512]],
+) -> Result<(), ShelfFault>
     // At Ok each place holds what its intent says, also in every image that a crash may leave, and
     // all else is as before.
     ensures done { H.honest shelf.old → OnOk result ((w : Image)
-        → IsRedo state.now (H.size shelf.old) intents.now (H.view shelf.old).seen w
+        → IsRedo state.now bytes.now (H.size shelf.old) intents.now (H.view shelf.old).seen w
         → PlacesAreNew (is_place (H.size shelf.old) intents.now) w
         (H.view shelf.old) (H.view shelf.new)) }
-    // At every moment of the call a crash leaves a part of that, with data before claims.
+    // At every moment of the call a crash leaves a part of that, with data before claims and dirt
+    // before the data of a patch.
     ensures moments { H.honest shelf.old → (w : Image)
-        → IsRedo state.now (H.size shelf.old) intents.now (H.view shelf.old).seen w
+        → IsRedo state.now bytes.now (H.size shelf.old) intents.now (H.view shelf.old).seen w
         → CrashLeaves (H.view shelf.old) (H.view shelf.new)
         (λ x. From (H.view shelf.old).may_leave
-        (λ d. IsPartlyDone (H.size shelf.old) intents.now w d x)) }
+        (λ d. IsPartlyDone state.now (H.size shelf.old) intents.now w d x)) }
 
     // Whatever the intents are: no sector is touched but those that they write.
     ensures others { H.honest shelf.old → KeepsOthers
@@ -84,7 +134,7 @@ pub fn apply<H: Shelf>(shelf: &mut H, state: &State, intents: &[Intent]) -> Resu
     ensures keeps { Keeps H.Shelf shelf.old shelf.new }
 {
     for intent in intents {
-        apply_one(shelf, state, intent)?;
+        apply_one(shelf, state, intent, bytes)?;
     }
     Ok(())
 }

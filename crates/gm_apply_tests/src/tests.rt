@@ -1,10 +1,11 @@
 //! A copy and the metadata that claim it, stopped before each call, with every image that a crash
 //! may then leave. `copies.rt` tries copies alone, `comparing.rt` the count of equal sectors,
-//! and `differing.rt` that of those which differ.
+//! `differing.rt` that of those which differ, and `patches.rt` a patch.
 
 mod comparing;
 mod copies;
 mod differing;
+mod patches;
 
 use gm_apply::apply;
 use gm_metadata::{Balance, Label, MirrorFlags, decode, encode};
@@ -102,7 +103,7 @@ fn try_apply<H: Shelf>(
     shelf: &mut H,
     intents: &[Intent],
 ) -> Result<(), ShelfFault> {
-    apply(shelf, &filled(rt), intents)
+    apply(shelf, &filled(rt), intents, &[])
 }
 
 // Of b nothing is copied yet.

@@ -18,7 +18,7 @@ use Rattle.gm_lists.proofs.Lists.{map-Has}
 use Rattle.gm_commands.proofs.OneCommand.{same_command}
 use Rattle.gm_lists.proofs.Lists.{Has-map}
 use Rattle.gm_refusals.specs.declared.refusals.Refusal.{Refusal}
-use Rattle.gm_refusals.specs.declared.refusals.Refusal.TheVariants.{NoMirror, NameTaken, MidTaken, Absent, ProviderTaken, CarriesMetadata, TooSmall, NotMember, DidTaken, Full, TooManyMirrors, SomeLost, LastActive, AlreadyInactive, NotInactive, NoneLost, Inactive, NotSynchronizing, LastSyncid, LastGenid, NothingGiven, NotAdoptable, WrongSize, NoMetadata}
+use Rattle.gm_refusals.specs.declared.refusals.Refusal.TheVariants.{NoMirror, NameTaken, MidTaken, Absent, ProviderTaken, CarriesMetadata, TooSmall, NotMember, DidTaken, Full, TooManyMirrors, SomeLost, LastActive, AlreadyInactive, NotInactive, NoneLost, Inactive, NotSynchronizing, LastSyncid, LastGenid, NothingGiven, NotAdoptable, WrongSize, NoMetadata, BeingFilled, BeyondEnd}
 use Rattle.gm_refusals.specs.Refusals.{number_of, number_of_call}
 use Rattle.gm_refusals.specs.declared.refusals.CallRefusal.{CallRefusal}
 use Rattle.gm_refusals.specs.declared.refusals.CallRefusal.TheVariants.{NoKey, KeyTaken, NoRoom, ByRules}
@@ -62,6 +62,8 @@ at_least_five NothingGiven = omega arith
 at_least_five NotAdoptable = omega arith
 at_least_five WrongSize = omega arith
 at_least_five NoMetadata = omega arith
+at_least_five BeingFilled = omega arith
+at_least_five BeyondEnd = omega arith
 
 module _ (u : World) (t : Tables) (sound : Sound u) (holds : HoldRecords u t) (key : List ℕ)
     (c : Command) where

@@ -58,14 +58,14 @@ module _ {S H : Type 0} (g : Ghosts S) (view : H → View) (size : H
     is_done : told.0 ≡ accepted.Done number reply work
     is_done = (was_done told.0 p told.2 pending).3
 
-    pub done : (away : Image) (u : World) → IsAt g view size r h away [] u u
+    pub done : (away : Image) (u : World) → IsAt g view size r h away [] [] u u
         → IsDone g view size s k away u key c number reply work
     done away u at = subst (λ (x : Accepted). IsAnswered g view size s k away u key c x) is_done
         (told.3 away u at)
 
     pub carried_answers : (end : Held S) (l : H)
         → ((away : Image) (u w : World) → IsAtWork g view size s k away work u w
-        → IsAt g view size end l away [] w w) → RunAnswers g view size r end h l key c a
+        → IsAt g view size end l away [] [] w w) → RunAnswers g view size r end h l key c a
     carried_answers end l does away u at =
         let d = done away u at in
         subst (λ (x : Answer). IsRun g view size end l away u key c x)
@@ -73,7 +73,7 @@ module _ {S H : Type 0} (g : Ghosts S) (view : H → View) (size : H
         (record { world = d.world; calls = d.calls; at = does away u d.world d.at })
 
     pub carried_leaves : (end : Held S) (l : H) → size k ≡ size h
-        → ((away : Image) (u : World) → IsAt g view size r h away [] u u
+        → ((away : Image) (u : World) → IsAt g view size r h away [] [] u u
         → LeavesStep g view size r s h k away u key c)
         → ((away : Image) (u w : World) → IsAtWork g view size s k away work u w
         → LeavesOnly g view size s end k l away u w) → RunLeaves g view size r end h l key c

@@ -4,7 +4,7 @@ use Rattle.std.specs.Prelude.{IsSomeAnd, IsErrOf}
 use Rattle.std.specs.Result.{IsErrAnd}
 use Rattle.gm_metadata.specs.Images.{Sizes}
 use Rattle.gm_state.specs.declared.intents.Intent.{Intent}
-use Rattle.gm_state.specs.declared.intents.Intent.TheVariants.{Meta, Clear, Copy}
+use Rattle.gm_state.specs.declared.intents.Intent.TheVariants.{Meta, Clear, Copy, Dirty, Patch}
 use Rattle.gm_state.specs.Intents.{IsAtHand}
 use Rattle.gm_apply.specs.Redo.{LacksProvider, LacksSector}
 use Rattle.gm_rows.specs.declared.fault.StoreFault.{StoreFault}
@@ -58,6 +58,8 @@ not_lacking_provider size (Meta p) hand e = none_there _ (size p) hand e
 not_lacking_provider size (Clear p) hand e = none_there _ (size p) hand e
 not_lacking_provider size (Copy a b x y) hand (inl e) = none_there _ (size a) hand.0 e
 not_lacking_provider size (Copy a b x y) hand (inr e) = none_there _ (size b) hand.1 e
+not_lacking_provider size (Dirty p) hand e = none_there _ (size p) hand e
+not_lacking_provider size (Patch p x y) hand e = none_there _ (size p) hand e
 
 too_short : (o : Option ℕ) (m : ℕ) → IsSomeAnd o (λ n. m ≤ n) → IsSomeAnd o (λ n. n < m) → ⊥
 too_short None m h e = h
@@ -72,6 +74,8 @@ not_lacking_sector size (Meta p) hand e = no_sector (size p) hand e
 not_lacking_sector size (Clear p) hand e = no_sector (size p) hand e
 not_lacking_sector size (Copy a b x y) hand (inl e) = too_short (size a) y hand.0 e
 not_lacking_sector size (Copy a b x y) hand (inr e) = too_short (size b) y hand.1 e
+not_lacking_sector size (Dirty p) hand e = no_sector (size p) hand e
+not_lacking_sector size (Patch p x y) hand e = too_short (size p) y hand e
 
 pub of_failed : (f : StoreFault) → of_store f ≡ Store → f ≡ store.Store
 of_failed store.Memory e = cc

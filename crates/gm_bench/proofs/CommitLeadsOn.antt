@@ -11,18 +11,19 @@ use Rattle.gm_state.specs.declared.intents.Reply.{Reply}
 use Rattle.gm_commands.specs.Commands.{words_of}
 use Rattle.gm_state.specs.Intents.{IsAtHand, IsRedo}
 use Rattle.gm_state.specs.Records.{Records}
-use Rattle.gm_state.specs.Rows.{Tables, CommandRow, answer_row, intent_rows}
+use Rattle.gm_state.specs.Rows.{Tables, CommandRow, answer_row, intent_rows, patch_rows}
 use Rattle.gm_state.specs.World.{World, Answered, present}
-use Rattle.gm_state.proofs.SoundClaims.{some_there, sound_claims, same_data}
+use Rattle.gm_state.proofs.SoundClaims.{some_there}
 use Rattle.gm_changes.specs.After.{reply_to}
 use Rattle.gm_changes.specs.Decides.{Changed, Makes, changed_by}
 use Rattle.gm_rules.specs.Step.{Plan, answer}
 use Rattle.gm_refusals.specs.WorldFacts.{seen_of}
 use Rattle.gm_registry.specs.Changes.{with_accepted, command_row}
 use Rattle.gm_rows.specs.ReadableTables.{HoldState}
-use Rattle.gm_registry.proofs.Written.{change_held, change_intents, change_commands}
+use Rattle.gm_registry.proofs.Written.{change_held, change_intents, change_commands, change_patches}
 use Rattle.gm_bench.specs.Leading.{Leads, KeepsClaims, EachNewClaims}
 use Rattle.gm_bench.proofs.ShelfProviders.{at_hand_up, masked}
+use Rattle.gm_bench.proofs.ClaimsBefore.{claims_before}
 use Rattle.gm_bench.proofs.WorldAtRest.{at_rest}
 
 no_rows : (t : Tables) → IsPermutation (intent_rows 1 []) t.intents → t.intents ≡ []
@@ -33,8 +34,8 @@ no_rows t p = by t.intents (length_permutation (intent_rows 1 []) t.intents p)
     by (x ∷ xs) e = absurd (omega (arith, e))
 
 module _ (u w : World) (key : List ℕ) (c : Command) (ch : Changed) (t : Tables) (x : Image)
-    (makes : Makes u.state (seen_of u) c ch) (plan : Plan u key c ch.intents w)
-    (l : Leads t [] x u) where
+    (makes : Makes u.state (seen_of u) c ch) (plan : Plan u key c ch.intents ch.bytes w)
+    (l : Leads t [] [] x u) where
   abbrev after : Tables
   after = with_accepted ch key (words_of c) t
 
@@ -76,12 +77,17 @@ module _ (u w : World) (key : List ℕ) (c : Command) (ch : Changed) (t : Tables
       ∙ (ap (λ rows. intent_rows 1 ch.intents ++ rows) (no_rows t l.intents)
       ∙ append-nil (intent_rows 1 ch.intents))
 
-  pub commit_leads : Leads after ch.intents x w
+  patches_are : after.patches ≡ patch_rows ch.bytes
+  patches_are = change_patches ch key (words_of c) t
+      ∙ (ap (λ rows. patch_rows ch.bytes ++ rows) l.patches ∙ append-nil (patch_rows ch.bytes))
+
+  pub commit_leads : Leads after ch.intents ch.bytes x w
   commit_leads =
-      let redo : IsRedo w.state u.size ch.intents x w.shelf =
+      let redo : IsRedo w.state ch.bytes u.size ch.intents x w.shelf =
       record {
         says = plan.redo.says;
         lends = plan.redo.lends;
+        clean = plan.redo.clean;
         agrees = λ q there j off. at_rest t x u l q there j ∙ plan.redo.agrees q there j off;
       } in
       record {
@@ -89,10 +95,11 @@ module _ (u w : World) (key : List ℕ) (c : Command) (ch : Changed) (t : Tables
         records = record { mirrors = held.mirrors; components = held.components; commands = keys };
         intents = subst (λ rows. IsPermutation (intent_rows 1 ch.intents) rows) (sym rows_are)
             (IsPermutation-refl (intent_rows 1 ch.intents));
+        patches = patches_are;
         readable = plan.readable;
         at_hand = λ r h. subst (λ (z : Sizes). IsAtHand z r) sizes_are
             (at_hand_up (present u) u.size (masked u (present u) refl) r (plan.at_hand r h));
-        redo = subst (λ (z : Sizes). IsRedo w.state z ch.intents x w.shelf) sizes_are redo;
+        redo = subst (λ (z : Sizes). IsRedo w.state ch.bytes z ch.intents x w.shelf) sizes_are redo;
       }
 
   -- what is new bore nothing, and claims nothing yet
@@ -110,9 +117,6 @@ module _ (u w : World) (key : List ℕ) (c : Command) (ch : Changed) (t : Tables
     sizes = sizes_are;
     after = plan.claims;
     copies = plan.copies;
-    old = λ m k d o ok bears named mid active clean i below.
-        sound_claims u x l.sound (at_rest t x u l) m k d o ok bears named mid active clean i below
-        ∙ (same_data u u m.name d.syncid i refl
-        ∙ sym (same_data u w m.name d.syncid i (plan.step.holds m o.mirror i)));
+    old = claims_before u w l.sound key ch.intents ch.bytes c plan x (at_rest t x u l);
     new = new_claims;
   }

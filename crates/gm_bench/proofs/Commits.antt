@@ -1,5 +1,5 @@
 -- The commit of a command: the world before or its step, and at the end the step.
-use Rattle.std.proofs.Common.{◌≡◌, ◌∙◌, inl, inr, ℕ, ◌+◌, List, [], None, sym, ap, subst, if◌then◌else◌}
+use Rattle.std.proofs.Common.{◌≡◌, ◌∙◌, inl, inr, ℕ, ◌+◌, List, [], None, sym, ap, subst, subst₂, if◌then◌else◌}
 use Rattle.sqlite_trees.specs.declared.store.Store.{Ghosts}
 use Rattle.sqlite.specs.Held.{Held}
 use Rattle.gm_metadata.specs.Images.{Image, Sizes}
@@ -33,12 +33,12 @@ use Rattle.gm_bench.proofs.RegistryLeaves.{leads_in}
 module _ {S H : Type 0} (g : Ghosts S) (view : H → View) (size : H → Sizes) (r s : Held S) (h : H)
     (away : Image) (u : World) (key : List ℕ) (c : Command) (p : Planned) (words : List ℕ)
     (words_is : words ≡ words_of c) (lawful : IsLawful (view h))
-    (at : IsAt g view size r h away [] u u) (planned : IsPlanned u c p)
+    (at : IsAt g view size r h away [] [] u u) (planned : IsPlanned u c p)
     (can : CanAnswer u key c) where
   abbrev ch : Changed
   ch = p.change
 
-  first_leads : Leads at.tables [] (whole (size h) away (view h).seen) u
+  first_leads : Leads at.tables [] [] (whole (size h) away (view h).seen) u
   first_leads = (at.leads (view h).seen lawful.holds_now).0
 
   abbrev has_plan : HasPlan u key c
@@ -50,16 +50,17 @@ module _ {S H : Type 0} (g : Ghosts S) (view : H → View) (size : H → Sizes) 
   are : intents_of c u.state w.state ≡ p.change.intents
   are = ap (intents_of c u.state) has_plan.1.step.records ∙ sym planned.makes.intents
 
-  plan : Plan u key c p.change.intents w
-  plan = subst (λ (l : List Intent). Plan u key c l w) are has_plan.1
+  plan : Plan u key c p.change.intents p.change.bytes w
+  plan = subst₂ (λ (l : List Intent) (b : List (List ℕ)). Plan u key c l b w) are
+      (sym planned.makes.bytes) has_plan.1
 
   abbrev t : Tables
   t = with_accepted p.change key words at.tables
 
-  leads : AllLead t p.change.intents (size h) away (view h).may_leave u w
+  leads : AllLead t p.change.intents p.change.bytes (size h) away (view h).may_leave u w
   leads x left = (
     subst (λ (text : List ℕ). Leads (with_accepted p.change key text at.tables) p.change.intents
-        (whole (size h) away x) w) (sym words_is)
+        p.change.bytes (whole (size h) away x) w) (sym words_is)
         (commit_leads u w key c p.change at.tables (whole (size h) away x) planned.makes plan
         (at.leads x left).0),
     commit_claims u w key c p.change at.tables (whole (size h) away x) planned.makes plan
@@ -69,16 +70,22 @@ module _ {S H : Type 0} (g : Ghosts S) (view : H → View) (size : H → Sizes) 
   pub commit_leaves : CrashLeavesOnly g r at.tables → DiskKept g s → MayLeave g r s t
       → LeavesStep g view size r s h h away u key c
   commit_leaves only clean may = record {
-    within = leads_in g view size r h away at.tables [] u u only
+    within = leads_in g view size r h away at.tables [] [] u u only
         ((view h).left_since (view h).moment) (λ x left. at.leads x (lawful.only_now x left));
     end = λ db left. elim (may.crash clean db left) [
-      | inl was ↦ inl (leads_in g view size r h away at.tables [] u u only
+      | inl was ↦ inl (leads_in g view size r h away at.tables [] [] u u only
           (view h).may_leave at.leads db was)
       | inr is ↦ inr (
         w,
         reply_to c u.state,
         plan.step,
-        record { tables = t; intents = p.change.intents; stored = inl is; leads = leads },
+        record {
+          tables = t;
+          intents = p.change.intents;
+          bytes = p.change.bytes;
+          stored = inl is;
+          leads = leads;
+        },
       )
     ];
   }
@@ -101,7 +108,8 @@ module _ {S H : Type 0} (g : Ghosts S) (view : H → View) (size : H → Sizes) 
         (stepped u at.tables first_leads.sound first_leads.records key c can.key_ok can.free
         can.room w (reply_to c u.state) n plan.step number_is);
     at = record {
-      at = subst (λ (ts : List Intent). IsAt g view size s h away ts u w) (sym planned.intents)
+      at = subst₂ (λ (ts : List Intent) (bytes : List (List ℕ)).
+          IsAt g view size s h away ts bytes u w) (sym planned.intents) (sym planned.bytes)
           (record {
             tables = t;
             has = saved.tables;
@@ -116,6 +124,7 @@ module _ {S H : Type 0} (g : Ghosts S) (view : H → View) (size : H → Sizes) 
     only = λ db left. record {
       tables = t;
       intents = p.change.intents;
+      bytes = p.change.bytes;
       stored = inl (saved.crash db left);
       leads = leads;
     };

@@ -24,22 +24,26 @@ use Rattle.gm_registry.proofs.CallsLeave.{IsSettling, saved}
 use Rattle.gm_state.specs.Rows.{Tables}
 
 module _ {S H : Type 0} (g : Ghosts S) (view : H → View) (size : H → Sizes) (r : Held S) (h : H)
-    (away : Image) (ts : List Intent) (u w : World) (at : IsAt g view size r h away ts u w) where
-  abbrev pub found_of : IsFound g view size r h away ts u w
+    (away : Image) (ts : List Intent) (bytes : List (List ℕ)) (u w : World)
+    (at : IsAt g view size r h away ts bytes u w) where
+  abbrev pub found_of : IsFound g view size r h away ts bytes u w
   found_of = record { tables = at.tables; has = at.has; sizes = at.sizes; leads = at.leads }
 
 -- a shelf that was only read
 module _ {S H : Type 0} (g : Ghosts S) (view : H → View) (size : H → Sizes) (r : Held S) (h k : H)
-    (away : Image) (ts : List Intent) (u w : World) (at : IsAt g view size r h away ts u w)
+    (away : Image) (ts : List Intent) (bytes : List (List ℕ)) (u w : World)
+    (at : IsAt g view size r h away ts bytes u w)
     (quiet : IsQuiet (view h) (view k)) (same : size k ≡ size h) where
   -- the same tables, in whatever phase
-  abbrev pub at_read : (s : Held S) → HasTables g s at.tables → IsAt g view size s k away ts u w
+  abbrev pub at_read : (s : Held S) → HasTables g s at.tables
+      → IsAt g view size s k away ts bytes u w
   at_read s has = record {
     tables = at.tables;
     has = has;
     sizes = at.sizes ∙ sym same;
     at_hand = subst (λ (z : Sizes). (t : Intent) → Has ts t → IsAtHand z t) (sym same) at.at_hand;
-    leads = subst (λ (z : Sizes). AllLead at.tables ts z away (view k).may_leave u w) (sym same)
+    leads = subst (λ (z : Sizes). AllLead at.tables ts bytes z away (view k).may_leave u w)
+        (sym same)
         (λ x left. at.leads x (quiet.crash x left));
   }
 
@@ -49,29 +53,30 @@ quiet_same view h k same = subst (λ x. IsQuiet (view h) (view x)) (sym same) (q
 
 -- a bench at rest, whose shelf was only read
 module _ {S H : Type 0} (g : Ghosts S) (view : H → View) (size : H → Sizes) (r : Held S) (h k : H)
-    (away : Image) (u : World) (at : IsAt g view size r h away [] u u) (lawful : IsLawful (view h))
+    (away : Image) (u : World) (at : IsAt g view size r h away [] [] u u)
+    (lawful : IsLawful (view h))
     (quiet : IsQuiet (view h) (view k)) (same : size k ≡ size h) where
-  abbrev moments : AllLead at.tables [] (size h) away ((view k).left_since (view h).moment) u u
+  abbrev moments : AllLead at.tables [] [] (size h) away ((view k).left_since (view h).moment) u u
   moments x left = at.leads x (quiet_moment (view h) (view k) lawful quiet x left)
 
-  abbrev now : AllLead at.tables [] (size h) away (view k).may_leave u u
+  abbrev now : AllLead at.tables [] [] (size h) away (view k).may_leave u u
   now x left = at.leads x (quiet.crash x left)
 
   -- the same tables
-  abbrev pub still : (s : Held S) → HasTables g s at.tables → IsAt g view size s k away [] u u
+  abbrev pub still : (s : Held S) → HasTables g s at.tables → IsAt g view size s k away [] [] u u
   still s has = record {
     tables = at.tables;
     has = has;
     sizes = at.sizes ∙ sym same;
     at_hand = λ t none. absurd none;
-    leads = subst (λ (z : Sizes). AllLead at.tables [] z away (view k).may_leave u u)
+    leads = subst (λ (z : Sizes). AllLead at.tables [] [] z away (view k).may_leave u u)
         (sym same) now;
   }
 
   before_step : CrashLeavesOnly g r at.tables → (db : Trees) → CrashLeaves g r db
       → Recovers db (size h) away ((view k).left_since (view h).moment) u u
   before_step only =
-      leads_in g view size r h away at.tables [] u u only
+      leads_in g view size r h away at.tables [] [] u u only
       ((view k).left_since (view h).moment) moments
 
   -- a registry that was only read
@@ -80,7 +85,7 @@ module _ {S H : Type 0} (g : Ghosts S) (view : H → View) (size : H → Sizes) 
   unstepped s key c only clean nothing = record {
     within = before_step only;
     end = λ db left. elim (nothing.crash clean db left) [
-      | inl was ↦ inl (leads_in g view size r h away at.tables [] u u only
+      | inl was ↦ inl (leads_in g view size r h away at.tables [] [] u u only
           (view k).may_leave now db was)
       | inr none ↦ absurd none
     ];
@@ -91,7 +96,7 @@ module _ {S H : Type 0} (g : Ghosts S) (view : H → View) (size : H → Sizes) 
       → CrashLeavesOnly g r at.tables → LeavesStep g view size mid s k l away u key c
       → LeavesStep g view size r s h l away u key c
   then_step mid s l key c all only leaves = record {
-    within = leads_in g view size r h away at.tables [] u u only
+    within = leads_in g view size r h away at.tables [] [] u u only
         ((view l).left_since (view h).moment)
         (λ x left. at.leads x (quiet_moment (view h) (view l) lawful all x left));
     end = λ db left.
@@ -101,13 +106,15 @@ module _ {S H : Type 0} (g : Ghosts S) (view : H → View) (size : H → Sizes) 
 
 -- nothing was asked
 pub unstepped_same : {S H : Type 0} (g : Ghosts S) (view : H → View) (size : H
-    → Sizes) (r : Held S) (h : H) (away : Image) (u : World) (at : IsAt g view size r h away [] u u)
+    → Sizes) (r : Held S) (h : H) (away : Image) (u : World)
+    (at : IsAt g view size r h away [] [] u u)
     (lawful : IsLawful (view h)) (key : List ℕ) (c : Command) → CrashLeavesOnly g r at.tables
     → LeavesStep g view size r r h h away u key c
 unstepped_same g view size r h away u at lawful key c only = record {
-  within = leads_in g view size r h away at.tables [] u u only ((view h).left_since (view h).moment)
+  within = leads_in g view size r h away at.tables [] [] u u only
+      ((view h).left_since (view h).moment)
       (λ x left. at.leads x (lawful.only_now x left));
-  end = λ db left. inl (leads_in g view size r h away at.tables [] u u only
+  end = λ db left. inl (leads_in g view size r h away at.tables [] [] u u only
       (view h).may_leave at.leads db left);
 }
 

@@ -49,7 +49,7 @@ within size p q a b d k first second below less low =
     rw (first, second) (le-min {a = d} {b = min a b} low both)
 
 module _ (t : Tables) (u : World) (size : Sizes) (away seen : Image) (sizes : present u ≡ size)
-    (l : Leads t [] (whole size away seen) u) where
+    (l : Leads t [] [] (whole size away seen) u) where
   seen_is : (q : List ℕ) → IsSome (size q) → (j : ℕ) → seen q j ≡ u.shelf q j
   seen_is q there j = sym (whole_there size away seen q there j)
       ∙ at_rest t (whole size away seen) u l q

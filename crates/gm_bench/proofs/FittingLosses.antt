@@ -1,16 +1,22 @@
 -- What the rules decide of a loss fits the tables, and how many intents are pending behind it.
-use Rattle.std.proofs.Common.{◌≡◌, inl, inr, ℕ, ◌+◌, ◌≤◌, ◌<◌, ◌^◌, true, refl, arith, List, [], ◌∷◌, length, string_bytes, IfOk, Result, Ok, Err, length-append}
+use Rattle.std.proofs.Common.{◌≡◌, inl, inr, ℕ, ◌+◌, ◌≤◌, ◌<◌, ◌^◌, true, refl, arith, subst, List, [], ◌∷◌, length, string_bytes, IfOk, Result, Ok, Err, length-append}
 use Rattle.std.proofs.lemmas.Bool.{cases_Bool}
+use Rattle.std.proofs.lemmas.List.{length-map}
 use Rattle.gm_metadata.specs.Images.{Sizes}
 use Rattle.gm_commands.specs.declared.command.Command.TheVariants.{Lost}
 use Rattle.gm_commands.specs.Commands.{CommandFits, is_key, words_of}
 use Rattle.gm_state.specs.declared.intents.Intent.{Intent}
-use Rattle.gm_state.specs.Records.{Records}
+use Rattle.gm_state.specs.declared.intents.Intent.TheVariants.{Meta}
+use Rattle.gm_state.specs.declared.records.Component.{Component}
+use Rattle.gm_state.specs.Readable.{AreReadable}
+use Rattle.gm_state.specs.Records.{Records, IsState, members}
 use Rattle.gm_state.specs.Rows.{Tables}
 use Rattle.gm_refusals.specs.declared.facts.Fact.{Fact}
 use Rattle.gm_refusals.specs.declared.refusals.Refusal.{Refusal}
 use Rattle.gm_refusals.specs.Seen.{seen_in}
+use Rattle.gm_changes.specs.After.{after, metas}
 use Rattle.gm_changes.specs.Decides.{Changed, Decides}
+use Rattle.gm_changes.proofs.FewWritten.{few_members}
 use Rattle.gm_rows.specs.ReadableTables.{AreRecordsOf}
 use Rattle.gm_registry.specs.Changes.{settled, with_pending}
 use Rattle.gm_registry.specs.FittingChanges.{FitsTables}
@@ -21,14 +27,27 @@ use Rattle.gm_bench.specs.declared.loss.Loss.{Loss}
 use Rattle.gm_bench.specs.Losing.{remaining, writes_to}
 use Rattle.gm_bench.specs.Planning.{IsFitting}
 use Rattle.gm_bench.specs.Without.{CanBeCommitted, CanCommit, IsRedirected}
+use Rattle.gm_bench.proofs.FewBytes.{few_pending}
 use Rattle.gm_bench.proofs.FittingPlans.{fits_with, made_fits}
+use Rattle.gm_bench.proofs.PlannedAlone.{planned_state}
 
 pub loss_fits : (s : Records) (facts : List Fact) (n p : List ℕ) (r : Result Changed Refusal)
     (t : Tables) → Decides s (seen_in facts) (Lost n (p ∷ [])) r → AreRecordsOf t s
     → CommandFits (Lost n (p ∷ []))
-    → IfOk r (λ ch. IsFitting ch (words_of (Lost n (p ∷ []))) t)
+    → IfOk r (λ ch. IsFitting ch (words_of (Lost n (p ∷ []))) t × (length ch.intents ≤ 17))
 loss_fits s facts n p (Ok ch) t makes are fits =
-    made_fits s facts (Lost n (p ∷ [])) ch t are fits makes tt
+    let left : IsState (after (seen_in facts) (Lost n (p ∷ [])) s) =
+    subst IsState makes.records
+    (planned_state s facts (Lost n (p ∷ [])) ch are.state fits makes tt) in
+    let others : List Component =
+    members (after (seen_in facts) (Lost n (p ∷ [])) s).components n in
+    let as_many : length (metas others) ≡ length others =
+    length-map others (λ (k : Component). Meta k.provider) in
+    let few : length others ≤ 16 =
+    few_members (after (seen_in facts) (Lost n (p ∷ [])) s) left n in (
+      made_fits s facts (Lost n (p ∷ [])) ch t are fits makes tt,
+      rw makes.intents (omega (arith, as_many, few)),
+    )
 loss_fits s facts n p (Err r) t least are fits = tt
 
 -- no more intents stay than were pending
@@ -48,15 +67,15 @@ records_settled t s are = record {
   rows = record { mirrors = are.rows.mirrors; components = are.rows.components };
 }
 
-pub can_commit : (s : Records) (size : Sizes) (ts : List Intent) (n p words key : List ℕ)
-    (ch : Changed) (t : Tables) (j : Judged) → IsRedirected s size ts n p words ch j
+pub can_commit : (s : Records) (size : Sizes) (ts : List Intent) (bytes : List (List ℕ))
+    (n p words key : List ℕ) (ch : Changed) (t : Tables) (j : Judged)
+    → IsRedirected s size ts bytes n p words ch j
     → is_key key ≡ true → IsFree t key → count_of t < 100000 → IsFitting ch words (settled t)
-    → CanBeCommitted key ts t j
-can_commit s size ts n p words key ch t (Kept number reply) is key_ok free room fits = tt
-can_commit s size ts n p words key ch t (Refused r) is key_ok free room fits = tt
-can_commit s size ts n p words key ch t (New loss) l key_ok free room fits =
+    → length ch.intents ≤ 17 → CanBeCommitted key ts t j
+can_commit s size ts bytes n p words key ch t (Kept number reply) is key_ok free room fits more = tt
+can_commit s size ts bytes n p words key ch t (Refused r) is key_ok free room fits more = tt
+can_commit s size ts bytes n p words key ch t (New loss) l key_ok free room fits more =
     let left : length (remaining p l.next ts) ≤ length ts = fewer_remain p l.next ts in
-    let more : length ch.intents ≤ 17 = fits.few_written in
     let all = length-append (remaining p l.next ts) ch.intents in
     record {
       key_ok = key_ok;
@@ -68,10 +87,15 @@ can_commit s size ts n p words key ch t (New loss) l key_ok free room fits =
 
 -- so the tables take it in place of what is pending
 pub loss_fits_tables : (key : List ℕ) (ts : List Intent) (t : Tables) (loss : Loss)
-    → CanCommit key ts t loss → length ts + 17 < 2 ^ 32
-    → FitsTables (with_pending loss.change loss.intents.items) key (string_bytes loss.words)
+    → CanCommit key ts t loss → length ts + 17 < 2 ^ 32 → IsState loss.after
+    → AreReadable loss.after loss.bytes.items loss.intents.items
+    → FitsTables (with_pending loss.change loss.intents.items loss.bytes.items) key
+    (string_bytes loss.words)
     (settled t)
-loss_fits_tables key ts t loss can low =
+loss_fits_tables key ts t loss can low state readable =
     let few : length loss.intents.items ≤ length ts + 17 = can.few in
-    fits_with loss.change loss.intents.items key (string_bytes loss.words) (settled t) can.change
-    (omega (arith, few, low)) refl can.key_ok can.free
+    fits_with loss.change loss.intents.items loss.bytes.items key (string_bytes loss.words)
+    (settled t) can.change
+    (omega (arith, few, low))
+    (few_pending loss.after state loss.bytes.items loss.intents.items readable) (refl, refl)
+    can.key_ok can.free

@@ -1,11 +1,11 @@
 -- What the rules decide on a state fits the tables of that state.
-use Rattle.std.proofs.Common.{◌≡◌, ◌≢◌, ◌≤◌, ℕ, ◌<◌, ◌^◌, true, sym, subst, arith, List, [], length, IfOk, Result, Ok, Err}
+use Rattle.std.proofs.Common.{◌≡◌, ◌≢◌, ◌≤◌, inr, ℕ, ◌<◌, ◌^◌, true, sym, subst, arith, List, [], length, IfOk, Result, Ok, Err}
 use Rattle.std.specs.List.{AllByRecursion}
 use Rattle.gm_commands.specs.declared.command.Command.{Command}
 use Rattle.gm_commands.specs.Commands.{CommandFits, is_key, words_of}
 use Rattle.gm_state.specs.declared.intents.Intent.{Intent}
 use Rattle.gm_state.specs.Records.{Records, IsState}
-use Rattle.gm_state.specs.Rows.{IntentRow, Tables}
+use Rattle.gm_state.specs.Rows.{IntentRow, Tables, joined}
 use Rattle.gm_state.specs.World.{ReplyFits}
 use Rattle.gm_refusals.specs.declared.facts.Fact.{Fact}
 use Rattle.gm_refusals.specs.declared.refusals.Refusal.{Refusal}
@@ -20,7 +20,9 @@ use Rattle.gm_registry.specs.Changes.{with_pending}
 use Rattle.gm_registry.specs.FittingChanges.{FitsTables}
 use Rattle.gm_registry.specs.Replies.{IsFree}
 use Rattle.gm_registry.proofs.ChangesFit.{records_fit}
+use Rattle.gm_bench.specs.Calls.{HasNothingPending}
 use Rattle.gm_bench.specs.Planning.{IsFitting}
+use Rattle.gm_bench.proofs.FewBytes.{few_laid}
 use Rattle.gm_bench.proofs.PlannedAlone.{planned_state}
 use Rattle.gm_bench.proofs.ShortWords.{key_short, words_short}
 
@@ -30,12 +32,13 @@ pub made_fits : (s : Records) (facts : List Fact) (c : Command) (ch : Changed) (
 made_fits s facts c ch t are fits makes itself =
     let left : IsState (changed_by ch s) =
     planned_state s facts c ch are.state fits makes itself in
-    let few : length (intents_of c s (after (seen_in facts) c s)) ≤ 17 =
+    let few : length (intents_of c s (after (seen_in facts) c s)) ≤ 48 =
     few_intents c s (after (seen_in facts) c s) are.state (subst IsState makes.records left) in
     record {
       records = records_fit ch s t are.state are.rows makes.in_place left;
       few_put = few_put s ch makes.in_place left;
       few_written = rw makes.intents few;
+      few_laid = rw makes.bytes (few_laid c fits);
       reply = subst ReplyFits (sym makes.reply) (reply_told s facts c are.state fits makes.good);
       short = words_short s (seen_in facts) c fits are.state makes.good;
     }
@@ -47,12 +50,14 @@ made_of s x c (Ok ch) makes = makes
 made_of s x c (Err r) least = tt
 
 -- so the tables take it under a free key, with some intents, where nothing is pending
-pub fits_with : (ch : Changed) (ts : List Intent) (key words : List ℕ) (t : Tables)
-    → IsFitting ch words t → length ts < 2 ^ 32 → t.intents ≡ [] → is_key key ≡ true
-    → IsFree t key → FitsTables (with_pending ch ts) key words t
-fits_with ch ts key words t fits few none is free =
+pub fits_with : (ch : Changed) (ts : List Intent) (bytes : List (List ℕ)) (key words : List ℕ)
+    (t : Tables)
+    → IsFitting ch words t → length ts < 2 ^ 32 → length (joined bytes) ≤ 536870912
+    → HasNothingPending t → is_key key ≡ true → IsFree t key
+    → FitsTables (with_pending ch ts bytes) key words t
+fits_with ch ts bytes key words t fits few laid none is free =
     let low : length key ≤ 32 = key_short key is in
-    let short : length words ≤ 1000 = fits.short in
+    let short : length words ≤ 70000 = fits.short in
     record {
       records = record {
         gone = fits.records.gone;
@@ -62,8 +67,9 @@ fits_with ch ts key words t fits few none is free =
       intents = record {
         few = few;
         free = λ n _ _. subst (λ (rows : List IntentRow).
-            AllByRecursion (λ (i : IntentRow). i.ord ≢ n) rows) (sym none) tt;
+            AllByRecursion (λ (i : IntentRow). i.ord ≢ n) rows) (sym none.0) tt;
       };
+      bytes = record { free = inr none.1; short = omega (arith, laid) };
       key_free = free;
       short = omega (arith, low, short);
     }

@@ -1,5 +1,5 @@
 -- What the tables of a bench say when they are loaded.
-use Rattle.std.proofs.Common.{◌≡◌, List, None, sym, subst}
+use Rattle.std.proofs.Common.{◌≡◌, ℕ, List, None, sym, subst}
 use Rattle.sqlite_trees.specs.declared.store.Store.{Ghosts}
 use Rattle.sqlite.specs.Held.{Held}
 use Rattle.gm_metadata.specs.Images.{Image, Sizes}
@@ -19,18 +19,20 @@ use Rattle.gm_bench.proofs.Present.{at_hand}
 use Rattle.gm_bench.proofs.ReadTables.{tables_of}
 
 module _ {S H : Type 0} (g : Ghosts S) (view : H → View) (size : H
-    → Sizes) (r : Held S) (h : H) (away : Image) (ts : List Intent) (u w : World)
-    (at : IsFound g view size r h away ts u w) (lawful : IsLawful (view h)) where
-  pub lead : Leads at.tables ts (whole (size h) away (view h).seen) w
+    → Sizes) (r : Held S) (h : H) (away : Image) (ts : List Intent) (bytes : List (List ℕ))
+    (u w : World)
+    (at : IsFound g view size r h away ts bytes u w) (lawful : IsLawful (view h)) where
+  pub lead : Leads at.tables ts bytes (whole (size h) away (view h).seen) w
   lead = (at.leads (view h).seen lawful.holds_now).0
 
-  pub readable : AreTablesOf at.tables w.state ts
-  readable = tables_of at.tables ts (whole (size h) away (view h).seen) w lead
+  pub readable : AreTablesOf at.tables w.state ts bytes
+  readable = tables_of at.tables ts bytes (whole (size h) away (view h).seen) w lead
 
   -- what is loaded is the world's
-  pub loaded : (s : Records) (is : List Intent) → AreTablesOf at.tables s is
-      → (s ≡ w.state) × (is ≡ ts)
-  loaded s is of = one_reading same_mirror same_component at.tables s w.state is ts of readable
+  pub loaded : (s : Records) (is : List Intent) (laid : List (List ℕ))
+      → AreTablesOf at.tables s is laid → (s ≡ w.state) × (is ≡ ts) × (laid ≡ bytes)
+  loaded s is laid of =
+      one_reading same_mirror same_component at.tables s w.state is ts laid bytes of readable
 
 -- all records say what is needed of themselves
 pub cover_whole : (s w : Records) (ts : List Intent) → s ≡ w → IsState w → Cover s w ts
@@ -41,23 +43,26 @@ cover_whole s w ts same state = record {
 
 -- with all images at hand
 abbrev pub found_at : {S H : Type 0} (g : Ghosts S) (view : H → View) (size : H
-    → Sizes) (r : Held S) (h : H) (away : Image) (ts : List Intent) (u w : World)
-    → IsFound g view size r h away ts u w → ((t : Intent) → Has ts t → IsAtHand (size h) t)
-    → IsAt g view size r h away ts u w
-found_at g view size r h away ts u w at hand =
+    → Sizes) (r : Held S) (h : H) (away : Image) (ts : List Intent) (bytes : List (List ℕ))
+    (u w : World)
+    → IsFound g view size r h away ts bytes u w → ((t : Intent) → Has ts t → IsAtHand (size h) t)
+    → IsAt g view size r h away ts bytes u w
+found_at g view size r h away ts bytes u w at hand =
     record { tables = at.tables; has = at.has; sizes = at.sizes; at_hand = hand; leads = at.leads }
 
 module _ {S H : Type 0} (g : Ghosts S) (view : H → View) (size : H
-    → Sizes) (r : Held S) (h : H) (away : Image) (ts : List Intent) (u w : World)
-    (at : IsFound g view size r h away ts u w) (lawful : IsLawful (view h)) (s : Records)
+    → Sizes) (r : Held S) (h : H) (away : Image) (ts : List Intent) (bytes : List (List ℕ))
+    (u w : World)
+    (at : IsFound g view size r h away ts bytes u w) (lawful : IsLawful (view h)) (s : Records)
     (same : s ≡ w.state) where
   -- where no image is lacking
-  abbrev pub ready : first_absent s (size h) ts ≡ None → IsAt g view size r h away ts u w
+  abbrev pub ready : first_absent s (size h) ts ≡ None → IsAt g view size r h away ts bytes u w
   ready none =
-      let l = lead g view size r h away ts u w at lawful in
-      found_at g view size r h away ts u w at
+      let l = lead g view size r h away ts bytes u w at lawful in
+      found_at g view size r h away ts bytes u w at
       (at_hand w.state (size h) l.sound.state ts l.readable.each
       (subst (λ (x : Records). first_absent x (size h) ts ≡ None) same none))
 
   pub covered : Cover s w.state ts
-  covered = cover_whole s w.state ts same (lead g view size r h away ts u w at lawful).sound.state
+  covered = cover_whole s w.state ts same (lead g view size r h away ts bytes u w at
+      lawful).sound.state

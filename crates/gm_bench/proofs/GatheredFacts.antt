@@ -34,9 +34,9 @@ adopted_needed s (Adopt n ps) p h = Has-append_left ps (map provider (awaited s 
 adopted_needed s _ p h = absurd h
 
 module _ {S H : Type 0} (g : Ghosts S) (view : H → View) (size : H → Sizes) (r : Held S) (h : H)
-    (away : Image) (u : World) (at : IsAt g view size r h away [] u u)
+    (away : Image) (u : World) (at : IsAt g view size r h away [] [] u u)
     (lawful : IsLawful (view h)) where
-  leads : Leads at.tables [] (whole (size h) away (view h).seen) u
+  leads : Leads at.tables [] [] (whole (size h) away (view h).seen) u
   leads = (at.leads (view h).seen lawful.holds_now).0
 
   pub are_records : AreRecordsOf at.tables u.state

@@ -109,6 +109,7 @@ fewer db size away X Y u w r less =
     record {
       tables = r.tables;
       intents = r.intents;
+      bytes = r.bytes;
       stored = r.stored;
       leads = λ x l. r.leads x (less x l);
     }
@@ -214,9 +215,10 @@ last_pending all [] u w last = absurd last
 last_pending all (Handed_in call ∷ older) u w last = last
 last_pending all (Without call p gone ∷ older) u w last = absurd last
 
-moved_leads : (t : Tables) (ts : List Intent) (x : Image) (w : World) (there : List ℕ → Bool)
-    → Leads t ts x w → Leads t ts x (with_there w there)
-moved_leads t ts x w there l = record {
+moved_leads : (t : Tables) (ts : List Intent) (bytes : List (List ℕ)) (x : Image) (w : World)
+    (there : List ℕ → Bool)
+    → Leads t ts bytes x w → Leads t ts bytes x (with_there w there)
+moved_leads t ts bytes x w there l = record {
   sound = record {
     state = l.sound.state;
     answers = l.sound.answers;
@@ -230,6 +232,7 @@ moved_leads t ts x w there l = record {
     commands = l.records.commands;
   };
   intents = l.intents;
+  patches = l.patches;
   readable = l.readable;
   at_hand = l.at_hand;
   redo = l.redo;
@@ -469,7 +472,8 @@ module _ {S H : Type 0} (g : Ghosts S) (view : H → View) (size : H → Sizes) 
     reached = o.reached;
     last = o.last;
     at = record {
-      at = looked_at g view size r s h k away work.intents.items o.before o.world does o.at.at;
+      at = looked_at g view size r s h k away work.intents.items work.bytes.items o.before o.world
+          does o.at.at;
       cover = o.at.cover;
     };
     told = o.told;
@@ -484,7 +488,7 @@ module _ {S H : Type 0} (g : Ghosts S) (view : H → View) (size : H → Sizes) 
       record {
         world = o.world;
         reached = o.reached;
-        at = looked_at g view size r s h k m.away [] o.world o.world does o.at;
+        at = looked_at g view size r s h k m.away [] [] o.world o.world does o.at;
         told = o.told;
       } in
       subst (λ (p : Phase (Held S) H). AtPhase m (with_media p s k)) (sym phase) after
@@ -509,20 +513,20 @@ module _ {S H : Type 0} (g : Ghosts S) (view : H → View) (size : H → Sizes) 
       let o : AtRest g view size all r h m.away m.accepted m.acknowledged =
       subst (AtPhase m) phase was in
       stopped r s h k db l m.away o.world o.world m.accepted m.acknowledged o.reached
-      (inl (stays o.world)) o.at.sizes o.told (leaves m.away [] o.world o.world o.at) stop
+      (inl (stays o.world)) o.at.sizes o.told (leaves m.away [] [] o.world o.world o.at) stop
   look_stopped r s h k db l m (inr (work, inl phase)) leaves stop was =
       let o : OnTheWay g view size all r h m.away work m.accepted m.acknowledged =
       subst (AtPhase m) phase was in
       stopped r s h k db l m.away o.before o.world m.accepted m.acknowledged o.reached
       (inr (last_pending all m.accepted o.before o.world o.last)) o.at.at.sizes o.told
-      (leaves m.away work.intents.items o.before o.world o.at.at) stop
+      (leaves m.away work.intents.items work.bytes.items o.before o.world o.at.at) stop
   look_stopped r s h k db l m (inr (work, inr phase)) leaves stop was =
       let it : (o : OnTheWay g view size all r h m.away work m.accepted m.acknowledged)
       × IsShelfOf (view h) o.world (size h) = subst (AtPhase m) phase was in
       let o = it.0 in
       stopped r s h k db l m.away o.before o.world m.accepted m.acknowledged o.reached
       (inr (last_pending all m.accepted o.before o.world o.last)) o.at.at.sizes o.told
-      (leaves m.away work.intents.items o.before o.world o.at.at) stop
+      (leaves m.away work.intents.items work.bytes.items o.before o.world o.at.at) stop
 
   -- the commit of an opening without a provider was stopped: it stands, or not
   without_stopped : (call : Call) (p : List ℕ) (gone : List Intent) (o s : Held S) (h : H)
@@ -600,14 +604,14 @@ module _ {S H : Type 0} (g : Ghosts S) (view : H → View) (size : H → Sizes) 
       let u : World = was.before in
       let there : List ℕ → Bool = there_of (size later) in
       let r = was.recovers in
-      let leads : AllLead r.tables r.intents (size later) beyond (view later).may_leave u
+      let leads : AllLead r.tables r.intents r.bytes (size later) beyond (view later).may_leave u
       (with_there w there) = λ y left.
       let from = move.images y left in
       let same : whole (size h) away from.0 ≡ whole (size later) beyond y =
       λ i p j. sym (from.2 p j) i in
       let lead = r.leads from.0 from.1 in (
-        moved_leads r.tables r.intents (whole (size later) beyond y) w there
-            (subst (λ (x : Image). Leads r.tables r.intents x w) same lead.0),
+        moved_leads r.tables r.intents r.bytes (whole (size later) beyond y) w there
+            (subst (λ (x : Image). Leads r.tables r.intents r.bytes x w) same lead.0),
         moved_keeps r.intents (whole (size later) beyond y) u w there
             (subst (λ (x : Image). KeepsClaims r.intents x u w) same lead.1),
       ) in
@@ -624,6 +628,7 @@ module _ {S H : Type 0} (g : Ghosts S) (view : H → View) (size : H → Sizes) 
         recovers = record {
           tables = r.tables;
           intents = r.intents;
+          bytes = r.bytes;
           stored = r.stored;
           leads = leads;
         };
@@ -744,10 +749,10 @@ module _ {S H : Type 0} (g : Ghosts S) (view : H → View) (size : H → Sizes) 
       ) (inr (o.world, o.reached, it.2, o.last)) it.3 (skips o.told) it.4 stop)
 
   started : (db : Trees) (h : H) (away : Image) (w : World) → IsStart g view size all db h away w
-      → AllLead no_tables [] (size h) away (view h).may_leave w w
+      → AllLead no_tables [] [] (size h) away (view h).may_leave w w
   started db h away w s x l = (
     rest_leads no_tables (whole (size h) away x) w (new_sound all w s.new)
-        (new_records all w s.new) refl (s.shelf x l),
+        (new_records all w s.new) refl refl (s.shelf x l),
     rest_claims (whole (size h) away x) w (new_sound all w s.new) (s.shelf x l),
   )
 
@@ -763,7 +768,8 @@ module _ {S H : Type 0} (g : Ghosts S) (view : H → View) (size : H → Sizes) 
         recovers = record {
           tables = no_tables;
           intents = [];
-          stored = inr (s.empty, refl);
+          bytes = [];
+          stored = inr (inr (s.empty, refl));
           leads = started db h away w s;
         };
         told = none;

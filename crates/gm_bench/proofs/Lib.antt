@@ -4,11 +4,13 @@ pub mod CallAnswers
 pub mod Carried
 pub mod CarriedIntents
 pub mod Causes
+pub mod ClaimsBefore
 pub mod CommitLeadsOn
 pub mod Commits
 pub mod DecidesOnly
 pub mod FactsAreWorlds
 pub mod FactsLookedUp
+pub mod FewBytes
 pub mod FittingLosses
 pub mod FittingPlans
 pub mod Found

@@ -22,15 +22,16 @@ use Rattle.gm_bench.proofs.TakenUp.{absent_back, moved}
 
 module _ {S H : Type 0} (g : Ghosts S) (view : H → View) (size : H → Sizes) where
   -- nothing was written
-  pub not_committed : (r s : Held S) (h : H) (away : Image) (ts : List Intent) (u w : World)
-      → IsLawful (view h) → (at : IsFound g view size r h away ts u w)
+  pub not_committed : (r s : Held S) (h : H) (away : Image) (ts : List Intent)
+      (bytes : List (List ℕ)) (u w : World)
+      → IsLawful (view h) → (at : IsFound g view size r h away ts bytes u w)
       → CrashLeavesOnly g r at.tables → ((db : Trees) → CrashLeaves g s db → CrashLeaves g r db)
       → (call : Call) (p : List ℕ) (gone : List Intent)
       → LeavesCommit g view size r s h away u w call p gone
-  not_committed r s h away ts u w lawful at only left call p gone = record {
-    within = leads_in g view size r h away at.tables ts u w only
+  not_committed r s h away ts bytes u w lawful at only left call p gone = record {
+    within = leads_in g view size r h away at.tables ts bytes u w only
         ((view h).left_since (view h).moment) (λ x l. at.leads x (lawful.only_now x l));
-    end = λ db l. inl (leads_in g view size r h away at.tables ts u w only (view h).may_leave
+    end = λ db l. inl (leads_in g view size r h away at.tables ts bytes u w only (view h).may_leave
         at.leads db (left db l));
   }
 
@@ -38,20 +39,22 @@ module _ {S H : Type 0} (g : Ghosts S) (view : H → View) (size : H → Sizes) 
       (u w : World) (n : ℕ) (lawful : IsLawful (view h)) (same : k ≡ h)
       (it : IsLost g view size r h away loss key p ts u w n)
       (none : first_absent loss.after (size h) loss.intents.items ≡ None) (items : List Intent)
-      (are : items ≡ loss.intents.items) where
-    abbrev found : IsFound g view size r k away items u it.0
-    found = moved g view size r r h k away loss.intents.items u it.0 it.6 same items are it.6.has
+      (are : items ≡ loss.intents.items) (laid : List (List ℕ))
+      (laid_are : laid ≡ loss.bytes.items) where
+    abbrev found : IsFound g view size r k away items laid u it.0
+    found = moved g view size r r h k away loss.intents.items loss.bytes.items u it.0 it.6 same
+        items are laid laid_are it.6.has
 
     lawful_still : IsLawful (view k)
     lawful_still = subst (λ (x : H). IsLawful (view x)) (sym same) lawful
 
-    pub at_hand : IsAt g view size r k away items u it.0
-    at_hand = ready g view size r k away items u it.0 found lawful_still loss.after it.5
+    pub at_hand : IsAt g view size r k away items laid u it.0
+    at_hand = ready g view size r k away items laid u it.0 found lawful_still loss.after it.5
         (absent_back loss.after loss.after (size h) (size k) loss.intents.items items None refl
         (sym (ap size same)) (sym are) none)
 
     pub covers : Cover loss.after it.0.state items
-    covers = covered g view size r k away items u it.0 found lawful_still loss.after it.5
+    covers = covered g view size r k away items laid u it.0 found lawful_still loss.after it.5
 
 -- behind a load and a look at the registry, which leave the shelf
 module _ {S H : Type 0} (g : Ghosts S) (view : H → View) (size : H → Sizes) (r mid : Held S)
@@ -60,33 +63,36 @@ module _ {S H : Type 0} (g : Ghosts S) (view : H → View) (size : H → Sizes) 
   pub nothing_opened : (key p : List ℕ) → DiskKept g mid
       → ((t : Tables) → HasTables g r t → LeavesNothingNew g r mid)
       → LeavesOpened g view size key p r mid h k
-  nothing_opened key p clean left away ts u w at = (
+  nothing_opened key p clean left away ts bytes u w at = (
     subst (λ (x : H). LeavesOnly g view size r mid h x away u w) (sym same)
-        (read_only g view size r mid h h away at.tables ts u w (only at.tables at.has) clean
+        (read_only g view size r mid h h away at.tables ts bytes u w (only at.tables at.has) clean
         (left at.tables at.has) (λ x l. at.leads x (lawful.only_now x l)) at.leads),
-    subst (λ (y : H). AllLead at.tables ts (size h) away ((view y).left_since (view h).moment) u w)
+    subst (λ (y : H). AllLead at.tables ts bytes (size h) away ((view y).left_since (view h).moment)
+        u w)
         (sym same) (λ x l. at.leads x (lawful.only_now x l)),
   )
 
-  pub lost_behind : (B : Image → List Intent → World → World → Type 0) (call : Call) (p : List ℕ)
-      → ((away : Image) (ts : List Intent) (u w : World) → IsFound g view size r h away ts u w
-      → B away ts u w) → (s : Held S) (l : H) → LeavesLoss g view size B call p mid s k l
+  pub lost_behind : (B : Image → List Intent → List (List ℕ) → World → World → Type 0) (call : Call)
+      (p : List ℕ)
+      → ((away : Image) (ts : List Intent) (bytes : List (List ℕ)) (u w : World)
+      → IsFound g view size r h away ts bytes u w
+      → B away ts bytes u w) → (s : Held S) (l : H) → LeavesLoss g view size B call p mid s k l
       → LeavesLoss g view size (IsFound g view size r h) call p r s h l
   lost_behind B call p so s l leaves =
       let here : LeavesLoss g view size B call p mid s h l =
       subst (λ (x : H). LeavesLoss g view size B call p mid s x l) same leaves in
       let began : (m : Held S) → Commits g view size B call p mid m h
       → Commits g view size (IsFound g view size r h) call p r m h =
-      λ m commits away ts u w at. record {
-        within = leads_in g view size r h away at.tables ts u w (only at.tables at.has)
+      λ m commits away ts bytes u w at. record {
+        within = leads_in g view size r h away at.tables ts bytes u w (only at.tables at.has)
             ((view h).left_since (view h).moment) (λ x l. at.leads x (lawful.only_now x l));
-        end = (commits away ts u w (so away ts u w at)).end;
+        end = (commits away ts bytes u w (so away ts bytes u w at)).end;
       } in
       elim here [
         | inl was ↦ inl (began s was.0, was.1)
         | inr is ↦ inr (
           is.0,
           began is.0 is.1,
-          λ away ts u w at. is.2 away ts u w (so away ts u w at),
+          λ away ts bytes u w at. is.2 away ts bytes u w (so away ts bytes u w at),
         )
       ]

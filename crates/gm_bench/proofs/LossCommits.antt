@@ -1,6 +1,6 @@
 -- The commit of an opening without a provider: the world that was left, or the step by the loss,
 -- whatever image goes with it.
-use Rattle.std.proofs.Common.{◌≡◌, ◌∙◌, inl, inr, ℕ, ◌+◌, ◌&&◌, true, false, List, [], ◌∷◌, map, length, None, Some, refl, sym, ap, subst, arith, append-nil, if◌then◌else◌}
+use Rattle.std.proofs.Common.{◌≡◌, ◌∙◌, inl, inr, ℕ, ◌+◌, ◌&&◌, true, false, List, [], ◌∷◌, map, length, None, Some, refl, sym, ap, subst, subst₂, arith, append-nil, if◌then◌else◌}
 use Rattle.std.specs.Prelude.{IsSome, string_bytes}
 use Rattle.std.specs.List.Sorted.{IsPermutation}
 use Rattle.std.proofs.lemmas.Bool.{cases_Bool}
@@ -20,7 +20,7 @@ use Rattle.gm_commands.specs.Commands.{words_of}
 use Rattle.gm_state.specs.Intents.{IsOf, names, is_place}
 use Rattle.gm_state.specs.Lookups.{mirror_of}
 use Rattle.gm_state.specs.Records.{Records, members, name}
-use Rattle.gm_state.specs.Rows.{Tables, CommandRow, HoldRecords, answer_row, intent_rows}
+use Rattle.gm_state.specs.Rows.{Tables, CommandRow, HoldRecords, answer_row, intent_rows, patch_rows}
 use Rattle.gm_lists.specs.Ordered.{Has}
 use Rattle.gm_state.specs.World.{World, Answered, present}
 use Rattle.gm_state.proofs.SoundClaims.{some_there}
@@ -39,10 +39,10 @@ use Rattle.gm_registry.specs.Replies.{count_of}
 use Rattle.gm_rules.specs.AbstractCalls.{Call}
 use Rattle.gm_rows.specs.ReadableTables.{HoldState}
 use Rattle.gm_registry.specs.Registry.{CrashLeavesOnly, DiskKept, HasTables, MayLeave}
-use Rattle.gm_registry.proofs.Written.{change_held, change_intents, change_commands}
+use Rattle.gm_registry.proofs.Written.{change_held, change_intents, change_commands, change_patches}
 use Rattle.gm_bench.specs.Leading.{whole, Leads, KeepsClaims, AllLead}
 use Rattle.gm_bench.specs.declared.loss.Loss.{Loss}
-use Rattle.gm_bench.specs.Losing.{writes_to, dropped, pending_after, as_left, next_of, HasNext}
+use Rattle.gm_bench.specs.Losing.{writes_to, dropped, left_to_lay, pending_after, as_left, next_of, HasNext}
 use Rattle.gm_bench.specs.Recovering.{IsFound}
 use Rattle.gm_bench.specs.Schedule.{IsStepWithout, LeavesCommit}
 use Rattle.gm_bench.specs.Without.{IsLost, IsNewLoss, loss_call}
@@ -83,12 +83,24 @@ no_place p size ts j off =
           ]
     ]
 
+-- the same is written where the lists and the words are the same
+pub same_pending : (ch : Changed) {ts us : List Intent} {a b : List (List ℕ)} → ts ≡ us → a ≡ b
+    → with_pending ch ts a ≡ with_pending ch us b
+same_pending ch is laid = λ i. with_pending ch (is i) (laid i)
+
+pub same_behind : (ch : Changed) (key : List ℕ) (t : Tables) {ts us : List Intent}
+    {a b : List (List ℕ)} {l m : List ℕ} → ts ≡ us → a ≡ b → l ≡ m
+    → with_accepted (with_pending ch ts a) key l t ≡ with_accepted (with_pending ch us b) key m t
+same_behind ch key t is laid words =
+    λ i. with_accepted (with_pending ch (is i) (laid i)) key (words i) t
+
 -- the records of a commit, beside whatever was pending
 module _ (w v : World) (key : List ℕ) (c : Command) (ch : Changed) (ts : List Intent) (t : Tables)
-    (y : Image) (l : Leads t ts y w) (makes : Makes w.state (seen_of w) c ch) (us : List Intent)
-    (plan : Plan w key c us v) (all : List Intent) where
+    (bytes : List (List ℕ)) (y : Image) (l : Leads t ts bytes y w)
+    (makes : Makes w.state (seen_of w) c ch) (us : List Intent) (laid : List (List ℕ))
+    (plan : Plan w key c us laid v) (all : List Intent) (left : List (List ℕ)) where
   abbrev change : Changed
-  change = record ch { intents = all }
+  change = record ch { intents = all; bytes = left }
 
   abbrev after : Tables
   after = with_accepted change key (words_of c) (settled t)
@@ -133,9 +145,13 @@ module _ (w v : World) (key : List ℕ) (c : Command) (ch : Changed) (ts : List 
       subst (λ rows. IsPermutation (intent_rows 1 all) rows) (sym is)
       (IsPermutation-refl (intent_rows 1 all))
 
+  pub patches_are : after.patches ≡ patch_rows left
+  patches_are = change_patches change key (words_of c) (settled t) ∙ append-nil (patch_rows left)
+
 module _ {S H : Type 0} (g : Ghosts S) (view : H → View) (size : H → Sizes) (r s : Held S) (h : H)
-    (away : Image) (ts : List Intent) (u w : World) (lawful : IsLawful (view h))
-    (at : IsFound g view size r h away ts u w) (key n p next : List ℕ)
+    (away : Image) (ts : List Intent) (bytes : List (List ℕ)) (u w : World)
+    (lawful : IsLawful (view h))
+    (at : IsFound g view size r h away ts bytes u w) (key n p next : List ℕ)
     (m : Mirror) (found_is : mirror_of w.state n ≡ Some m)
     (here : (k : Component) × IsOf w.state m k × (k.provider ≡ p)) (gone : size h p ≡ None)
     (ch : Changed) (makes : Makes w.state (seen_of w) (Lost n (p ∷ [])) ch)
@@ -147,10 +163,10 @@ module _ {S H : Type 0} (g : Ghosts S) (view : H → View) (size : H → Sizes) 
   y x = whole (size h) away x
 
   pub leads_with : (x : Image) → (view h).may_leave x
-      → Leads at.tables ts (y x) w × KeepsClaims ts (y x) u w
+      → Leads at.tables ts bytes (y x) w × KeepsClaims ts (y x) u w
   leads_with x left = at.leads x left
 
-  abbrev pub first : Leads at.tables ts (y (view h).seen) w
+  abbrev pub first : Leads at.tables ts bytes (y (view h).seen) w
   first = (leads_with (view h).seen lawful.holds_now).0
 
   abbrev pub has_plan : HasPlan w key c
@@ -162,7 +178,7 @@ module _ {S H : Type 0} (g : Ghosts S) (view : H → View) (size : H → Sizes) 
   abbrev pub us : List Intent
   us = intents_of c w.state v.state
 
-  abbrev pub plan : Plan w key c us v
+  abbrev pub plan : Plan w key c us [] v
   plan = has_plan.1
 
   pub loss_is : IsLoss w v m p
@@ -220,55 +236,63 @@ module _ {S H : Type 0} (g : Ghosts S) (view : H → View) (size : H → Sizes) 
     abbrev pub all : List Intent
     all = pending_after p next ts (members v.state.components m.name)
 
+    abbrev pub left : List (List ℕ)
+    left = left_to_lay all bytes
+
     -- the tables of the commit: nothing of what was pending but what is written anew
     abbrev pub t : Tables
-    t = with_accepted (record ch { intents = all }) key (words_of c) (settled at.tables)
+    t = with_accepted (record ch { intents = all; bytes = left }) key (words_of c)
+        (settled at.tables)
 
-    leads : AllLead t all (size h) away (view h).may_leave u world
-    leads x left =
-        let l = leads_with x left in
+    leads : AllLead t all left (size h) away (view h).may_leave u world
+    leads x may =
+        let l = leads_with x may in
         let rows_are : HoldRecords v t =
-        rows w v key c ch ts at.tables (y x) l.0 makes us plan all in
+        rows w v key c ch ts at.tables bytes (y x) l.0 makes us [] plan all left in
         let intents : IsPermutation (intent_rows 1 all) t.intents =
-        intents_are w v key c ch ts at.tables (y x) l.0 makes us plan all in (
-          leads_to_loss u w v m p next loss_is ts (y x) away
-              (at_p x) at.tables l.0 has_next t rows_are intents,
-          keeps_in_loss u w v m p next loss_is ts (y x) away (at_p x) at.tables l.0 has_next l.1,
+        intents_are w v key c ch ts at.tables bytes (y x) l.0 makes us [] plan all left in
+        let patches : t.patches ≡ patch_rows left =
+        patches_are w v key c ch ts at.tables bytes (y x) l.0 makes us [] plan all left in (
+          leads_to_loss u w v m p next loss_is ts bytes (y x) away
+              (at_p x) at.tables l.0 has_next t rows_are intents patches,
+          keeps_in_loss u w v m p next loss_is ts bytes (y x) away (at_p x) at.tables l.0 has_next
+              l.1,
         )
 
     pub loss_leaves : CrashLeavesOnly g r at.tables → DiskKept g s → MayLeave g r s t
         → LeavesCommit g view size r s h away u w (record { key = key; command = c }) p
         (dropped p ts)
     loss_leaves only clean may = record {
-      within = leads_in g view size r h away at.tables ts u w only
+      within = leads_in g view size r h away at.tables ts bytes u w only
           ((view h).left_since (view h).moment) (λ x l. at.leads x (lawful.only_now x l));
-      end = λ db left. elim (may.crash clean db left) [
-        | inl was ↦ inl (leads_in g view size r h away at.tables ts u w only
+      end = λ db it. elim (may.crash clean db it) [
+        | inl was ↦ inl (leads_in g view size r h away at.tables ts bytes u w only
             (view h).may_leave at.leads db was)
         | inr is ↦ inr (
           world,
           stepped,
           same_present,
-          record { tables = t; intents = all; stored = inl is; leads = leads },
+          record { tables = t; intents = all; bytes = left; stored = inl is; leads = leads },
         )
       ];
     }
 
     -- at its end those tables are found, with what is pending then
-    pub loss_found : HasTables g s t → IsFound g view size s h away all u world
+    pub loss_found : HasTables g s t → IsFound g view size s h away all left u world
     loss_found has =
         record { tables = t; has = has; sizes = same_present; leads = leads }
 
 -- of a loss that nothing refuses
 module _ {S H : Type 0} (g : Ghosts S) (view : H → View) (size : H → Sizes) (r s : Held S) (h : H)
-    (away : Image) (ts : List Intent) (u w : World) (lawful : IsLawful (view h))
-    (at : IsFound g view size r h away ts u w) (key p : List ℕ) (loss : Loss)
-    (j : IsNewLoss w ts key p loss) where
+    (away : Image) (ts : List Intent) (bytes : List (List ℕ)) (u w : World)
+    (lawful : IsLawful (view h))
+    (at : IsFound g view size r h away ts bytes u w) (key p : List ℕ) (loss : Loss)
+    (j : IsNewLoss w ts bytes key p loss) where
   abbrev k : Component
   k = j.component
 
-  began : Leads at.tables ts (whole (size h) away (view h).seen) w
-  began = lead g view size r h away ts u w at lawful
+  began : Leads at.tables ts bytes (whole (size h) away (view h).seen) w
+  began = lead g view size r h away ts bytes u w at lawful
 
   at_home : (m : Mirror) × IsOf w.state m k
   at_home = home w.state began.sound.state k
@@ -291,40 +315,48 @@ module _ {S H : Type 0} (g : Ghosts S) (view : H → View) (size : H → Sizes) 
   gone = subst (λ (z : Sizes). z p ≡ None) at.sizes j.away
 
   abbrev stepped_to : World
-  stepped_to = v g view size r s h away ts u w lawful at key k.mirror p j.next m found_is here gone
+  stepped_to = v g view size r s h away ts bytes u w lawful at key k.mirror p j.next m found_is here
+      gone
       loss.change j.makes j.can
 
   -- the records are those of the step
   after_is : loss.after ≡ stepped_to.state
-  after_is = j.after ∙ (j.makes.records ∙ sym (plan g view size r s h away ts u w lawful at key
+  after_is = j.after ∙ (j.makes.records ∙ sym (plan g view size r s h away ts bytes u w lawful at
+      key
       k.mirror p j.next m found_is here gone loss.change j.makes j.can).step.records)
 
   serves_next : HasNext stepped_to.state p j.next ts
   serves_next = has_next w stepped_to m p j.next
-      (loss_is g view size r s h away ts u w lawful at key k.mirror p j.next m found_is here gone
-      loss.change j.makes j.can) began.sound ts began.readable
+      (loss_is g view size r s h away ts bytes u w lawful at key k.mirror p j.next m found_is here
+      gone
+      loss.change j.makes j.can) began.sound ts bytes began.readable
       (λ t a b stands. next_told stepped_to.state p j.next ts began.readable.one_copy
       (subst (λ (x : Records). next_of x p ts ≡ Some j.next) after_is j.next_is) t a b stands)
 
   abbrev behind : Tables
-  behind = with_accepted (with_pending loss.change loss.intents.items) key
+  behind = with_accepted (with_pending loss.change loss.intents.items loss.bytes.items) key
       (string_bytes loss.words) (settled at.tables)
 
   abbrev now : Tables
-  now = t g view size r s h away ts u w lawful at key k.mirror p j.next m found_is here gone
+  now = t g view size r s h away ts bytes u w lawful at key k.mirror p j.next m found_is here gone
       loss.change j.makes j.can serves_next
 
-  all_is : loss.intents.items
-      ≡ pending_after p j.next ts (members stepped_to.state.components m.name)
+  abbrev all_behind : List Intent
+  all_behind = pending_after p j.next ts (members stepped_to.state.components m.name)
+
+  all_is : loss.intents.items ≡ all_behind
   all_is = j.intents ∙ (ap (λ (x : Records). pending_after p j.next ts
       (members x.components k.mirror)) after_is
       ∙ ap (λ (q : List ℕ). pending_after p j.next ts (members stepped_to.state.components q)) mine)
 
+  left_is : loss.bytes.items ≡ left_to_lay all_behind bytes
+  left_is = j.to_lay ∙ ap (λ (is : List Intent). left_to_lay is bytes) all_is
+
   now_is : behind ≡ now
-  now_is = ap (λ (is : List Intent). with_accepted (with_pending loss.change is) key
-      (string_bytes loss.words) (settled at.tables)) all_is
-      ∙ ap (λ (l : List ℕ). with_accepted (with_pending loss.change (pending_after p j.next ts
-      (members stepped_to.state.components m.name))) key l (settled at.tables)) j.words
+  now_is = (λ i. with_accepted (with_pending loss.change (all_is i) (left_is i)) key
+      (string_bytes loss.words) (settled at.tables))
+      ∙ ap (λ (l : List ℕ). with_accepted (with_pending loss.change all_behind
+      (left_to_lay all_behind bytes)) key l (settled at.tables)) j.words
 
   call_is : record { key = key; command = Lost k.mirror (p ∷ []) } ≡ loss_call key loss.mirror p
   call_is = ap (λ (q : List ℕ). loss_call key q p) (sym j.mirror)
@@ -333,7 +365,8 @@ module _ {S H : Type 0} (g : Ghosts S) (view : H → View) (size : H → Sizes) 
       → LeavesCommit g view size r s h away u w (loss_call key loss.mirror p) p (dropped p ts)
   commits only clean may =
       subst (λ (c : Call). LeavesCommit g view size r s h away u w c p (dropped p ts)) call_is
-      (loss_leaves g view size r s h away ts u w lawful at key k.mirror p j.next m found_is here
+      (loss_leaves g view size r s h away ts bytes u w lawful at key k.mirror p j.next m found_is
+      here
       gone loss.change j.makes j.can serves_next only clean
       (subst (λ (x : Tables). MayLeave g r s x) now_is may))
 
@@ -341,22 +374,25 @@ module _ {S H : Type 0} (g : Ghosts S) (view : H → View) (size : H → Sizes) 
       → IsLost g view size s h away loss key p ts u w n
   unfolding stepped
   lost has n is = (
-    world g view size r s h away ts u w lawful at key k.mirror p j.next m found_is here gone
+    world g view size r s h away ts bytes u w lawful at key k.mirror p j.next m found_is here gone
         loss.change j.makes j.can,
-    subst (λ (c : Call). IsStepWithout w c p (dropped p ts) (world g view size r s h away ts u w
+    subst (λ (c : Call). IsStepWithout w c p (dropped p ts) (world g view size r s h away ts bytes u
+        w
         lawful at key k.mirror p j.next m found_is here gone loss.change j.makes j.can)) call_is
-        (stepped g view size r s h away ts u w lawful at key k.mirror p j.next m found_is here
+        (stepped g view size r s h away ts bytes u w lawful at key k.mirror p j.next m found_is here
         gone loss.change j.makes j.can),
     sym j.makes.reply,
     (let many = as_many_of w at.tables began.sound began.records key (Lost k.mirror (p ∷ [])) in
         omega (arith, is, many)),
-    same_present g view size r s h away ts u w lawful at key k.mirror p j.next m found_is here gone
+    same_present g view size r s h away ts bytes u w lawful at key k.mirror p j.next m found_is here
+        gone
         loss.change j.makes j.can,
     after_is,
-    subst (λ (is : List Intent). IsFound g view size s h away is u (world g view size r s h away
-        ts u w lawful at key k.mirror p j.next m found_is here gone loss.change j.makes j.can))
-        (sym all_is)
-        (loss_found g view size r s h away ts u w lawful at key k.mirror p j.next m found_is here
+    subst₂ (λ (is : List Intent) (b : List (List ℕ)). IsFound g view size s h away is b u
+        (world g view size r s h away ts bytes u w lawful at key k.mirror p j.next m found_is here
+        gone loss.change j.makes j.can)) (sym all_is) (sym left_is)
+        (loss_found g view size r s h away ts bytes u w lawful at key k.mirror p j.next m found_is
+        here
         gone loss.change j.makes j.can serves_next
         (subst (λ (x : Tables). HasTables g s x) now_is has)),
   )

@@ -45,8 +45,9 @@ low_loss (ByCall (ByRules r)) = omega (arith, at_least_five r)
 low_loss OnlySource = omega arith
 low_loss OnShelf = omega arith
 
-module _ (w : World) (sound : Sound w) (ts : List Intent) (key p : List ℕ) where
-  pub no_key : is_key key ≡ false → IsJudged w ts key p (Refused (ByCall NoKey))
+module _ (w : World) (sound : Sound w) (ts : List Intent) (bytes : List (List ℕ))
+    (key p : List ℕ) where
+  pub no_key : is_key key ≡ false → IsJudged w ts bytes key p (Refused (ByCall NoKey))
   no_key bad = record {
     fresh = λ a k. true≢false (sym (sound.answers.fit a k.kept).key ∙ (ap is_key k.key_is ∙ bad));
     applies = bad;
@@ -70,7 +71,7 @@ module _ (w : World) (sound : Sound w) (ts : List Intent) (key p : List ℕ) whe
       fits = (sound.answers.fit a stands).command
 
       pub kept_before : AreOfLoss p (words_of a.command)
-          → IsJudged w ts key p (Kept a.number a.reply)
+          → IsJudged w ts bytes key p (Kept a.number a.reply)
       kept_before are = (
         a,
         record {
@@ -102,7 +103,7 @@ module _ (w : World) (sound : Sound w) (ts : List Intent) (key p : List ℕ) whe
           }
 
       pub key_taken : (AreOfLoss p (words_of a.command) → ⊥)
-          → IsJudged w ts key p (Refused (ByCall KeyTaken))
+          → IsJudged w ts bytes key p (Refused (ByCall KeyTaken))
       key_taken other = record {
         fresh = λ b kept. other (lost_of b kept);
         applies = (a, stands, same, λ kept. other (lost_of a kept));
@@ -121,7 +122,7 @@ module _ (w : World) (sound : Sound w) (ts : List Intent) (key p : List ℕ) whe
       with_free n more OnlySource b = more OnlySource (omega arith)
       with_free n more OnShelf b = more OnShelf (omega arith)
 
-      pub no_room : 100000 ≤ length w.answered → IsJudged w ts key p (Refused (ByCall NoRoom))
+      pub no_room : 100000 ≤ length w.answered → IsJudged w ts bytes key p (Refused (ByCall NoRoom))
       no_room many = record {
         fresh = λ a kept. free a kept.kept kept.key_is;
         applies = many;
@@ -144,7 +145,7 @@ module _ (w : World) (sound : Sound w) (ts : List Intent) (key p : List ℕ) whe
         else_twelve OnlySource b = omega arith
         else_twelve OnShelf b = omega arith
 
-        pub not_member : IsJudged w ts key p (Refused (ByCall (ByRules NotMember)))
+        pub not_member : IsJudged w ts bytes key p (Refused (ByCall (ByRules NotMember)))
         not_member = record {
           fresh = λ a kept. free a kept.kept kept.key_is;
           applies = subst (λ (o : Option Command). MatchOption o (NotMember ≡ NotMember)
@@ -152,7 +153,7 @@ module _ (w : World) (sound : Sound w) (ts : List Intent) (key p : List ℕ) whe
           least = else_twelve;
         }
 
-module _ (w : World) (ts : List Intent) (key p : List ℕ) (k : Component)
+module _ (w : World) (ts : List Intent) (bytes : List (List ℕ)) (key p : List ℕ) (k : Component)
     (on : component_of w.state p ≡ Some k) (key_ok : is_key key ≡ true)
     (free : (a : Answered) → Has w.answered a → a.key ≡ key → ⊥)
     (room : length w.answered < 100000) where
@@ -179,7 +180,7 @@ module _ (w : World) (ts : List Intent) (key p : List ℕ) (k : Component)
   each P rules only shelf OnShelf b = shelf b
 
   pub rules_refuse : (r : Refusal) → IsLeast w.state (seen_of w) c r
-      → IsJudged w ts key p (Refused (ByCall (ByRules r)))
+      → IsJudged w ts bytes key p (Refused (ByCall (ByRules r)))
   rules_refuse r least =
       let low : number_of r ≤ 24 = listed_low k.mirror (p ∷ []) r least.listed in
       record {
@@ -201,7 +202,7 @@ module _ (w : World) (ts : List Intent) (key p : List ℕ) (k : Component)
     after_is = ap (λ (s : Records). next_of s p ts) makes.records
 
     only_source : next_of (changed_by ch w.state) p ts ≡ None
-        → IsJudged w ts key p (Refused OnlySource)
+        → IsJudged w ts bytes key p (Refused OnlySource)
     only_source none = record {
       fresh = fresh;
       applies = subst (λ (o : Option Command). IsSomeAnd o (λ x.
@@ -218,7 +219,7 @@ module _ (w : World) (ts : List Intent) (key p : List ℕ) (k : Component)
         none_is (next_of (changed_by ch w.state) p ts) (after_is ∙ none) some
 
     on_shelf : IsSome (next_of (changed_by ch w.state) p ts) → IsSome (size p)
-        → IsJudged w ts key p (Refused OnShelf)
+        → IsJudged w ts bytes key p (Refused OnShelf)
     on_shelf some here = record {
       fresh = fresh;
       applies = subst (λ (z : Sizes). IsSome (z p)) (sym there) here;
@@ -226,8 +227,8 @@ module _ (w : World) (ts : List Intent) (key p : List ℕ) (k : Component)
           (λ bad. absurd (not_only some bad)) (λ _. omega arith);
     }
 
-    pub judged_by : (j : Judged) → IsRedirected w.state size ts k.mirror p words ch j
-        → IsJudged w ts key p j
+    pub judged_by : (j : Judged) → IsRedirected w.state size ts bytes k.mirror p words ch j
+        → IsJudged w ts bytes key p j
     judged_by (Kept n reply) none = absurd none
     judged_by (Refused (ByCall r)) none = absurd none
     judged_by (Refused OnlySource) none = only_source none
@@ -246,6 +247,7 @@ module _ (w : World) (ts : List Intent) (key p : List ℕ) (k : Component)
           next = l.next;
           next_is = l.next_is;
           intents = l.intents ∙ ap (λ (more : List Intent). remaining p l.next ts ++ more) written;
+          to_lay = l.to_lay;
           words = l.words_are ∙ words_are;
           away = (λ i. there i p) ∙ l.away;
         }

@@ -81,9 +81,10 @@ copies_from (r ∷ rs) t q j (inl s) e =
 copies_from (r ∷ rs) t q j (inr h) e =
     or_right (copies r q j) (any_copies rs q j) (copies_from rs t q j h e)
 
-pub copy_range : (s t : List ℕ) (a b : ℕ) (q : List ℕ) (j : ℕ) → copies (Copy s t a b) q j ≡ true
-    → (t ≡ q) × (a ≤ j) × (j < b)
-copy_range s t a b q j e =
+-- what a Copy and a Patch say of the sectors that they bring
+pub range_of : (t : List ℕ) (a b : ℕ) (q : List ℕ) (j : ℕ)
+    → (same_label t q && (nat_le a j && nat_lt j b)) ≡ true → (t ≡ q) × (a ≤ j) × (j < b)
+range_of t a b q j e =
     let parts = and_parts (same_label t q) (nat_le a j && nat_lt j b) e in
     let h : (nat_le a j && nat_lt j b) ≡ true = parts.1 in
     (same_is t q parts.0, grind (arith, nat_tests), grind (arith, nat_tests))

@@ -1,29 +1,33 @@
 -- What is pending behind a loss can be read again.
-use Rattle.std.proofs.Common.{◌≡◌, ◌≢◌, ◌∙◌, ◌⊎◌, inl, inr, ⊎_elim, ℕ, ◌+◌, ◌-◌, ◌&&◌, ◌==◌, eqb-true, true, false, not, refl, sym, ap, subst, arith, List, [], ◌∷◌, filter, Some, None}
+use Rattle.std.proofs.Common.{◌≡◌, ◌≢◌, ◌∙◌, ◌⊎◌, inl, inr, ⊎_elim, ℕ, ◌+◌, ◌-◌, ◌&&◌, ◌==◌, eqb-true, true, false, not, refl, sym, ap, subst, arith, List, [], ◌∷◌, filter, length, Option, Some, None}
+use Rattle.std.specs.Prelude.{IsSomeAnd}
 use Rattle.std.specs.List.{list_any}
 use Rattle.std.proofs.lemmas.Bool.{cases_Bool, and_parts}
 use Rattle.gm_metadata.specs.Images.{same_label}
 use Rattle.gm_commands.specs.declared.command.Command.TheVariants.{Lost}
 use Rattle.gm_state.specs.declared.intents.Intent.{Intent}
-use Rattle.gm_state.specs.declared.intents.Intent.TheVariants.{Meta, Clear, Copy}
+use Rattle.gm_state.specs.declared.intents.Intent.TheVariants.{Meta, Clear, Copy, Dirty, Patch}
 use Rattle.gm_state.specs.declared.records.Mirror.{Mirror}
 use Rattle.gm_state.specs.declared.records.Component.{Component}
+use Rattle.gm_state.specs.declared.records.Disk.TheVariants.{InSync}
 use Rattle.gm_lists.specs.Ordered.{Has, put}
-use Rattle.gm_state.specs.Records.{Records, IsState, members, name}
+use Rattle.gm_state.specs.Records.{Records, IsState, members, name, provider}
 use Rattle.gm_state.specs.Lookups.{component_of, mirror_of}
 use Rattle.gm_state.specs.Intents.{IsOf}
-use Rattle.gm_state.specs.Readable.{IsCopyWithin, IsReadable, AreReadable}
+use Rattle.gm_state.specs.Readable.{is_copy, is_patch, IsCopyWithin, IsPatchWithin, IsReadable, IsOfRange, AreOfOnePatch, AreReadable}
 use Rattle.gm_state.specs.World.{World, Sound}
-use Rattle.gm_lists.proofs.Finding.{not_both, option_cases, found, found_none, find_none, some_any}
+use Rattle.gm_lists.proofs.Finding.{not_both, option_cases, found, found_none, find_none, find_one, some_any}
 use Rattle.gm_lists.proofs.Order.{same_from, same_is, differ, same_tells}
+use Rattle.gm_state.proofs.CopyFound.{component_named}
+use Rattle.gm_state.proofs.PatchFound.{without_patch}
 use Rattle.gm_state.proofs.TestsTellRules.{member}
 use Rattle.gm_lists.proofs.Putting.{one, put_there, put_or, put_stays}
 use Rattle.gm_lists.proofs.Lists.{Has-filter, filter-Has}
 use Rattle.gm_changes.specs.After.{metas}
 use Rattle.gm_rules.specs.Step.{Plan}
-use Rattle.gm_bench.specs.Losing.{writes_to, redirected, remaining, pending_after, HasNext}
+use Rattle.gm_bench.specs.Losing.{writes_to, redirected, remaining, left_to_lay, pending_after, HasNext}
 use Rattle.gm_bench.proofs.LossLists.{Has-append}
-use Rattle.gm_bench.proofs.LossRemaining.{has_remaining, ordered_after, one_copy_after, has_meta}
+use Rattle.gm_bench.proofs.LossRemaining.{has_remaining, ordered_after, unpatched_after, uncopied_after, range_stays, one_copy_after, has_meta}
 
 pub apart_from : (a b : List ℕ) → same_label a b ≡ false → a ≢ b
 apart_from a b e s = not_both (same_label a b) (same_from a b s) e
@@ -72,8 +76,44 @@ home s state k h =
       },
     )
 
+module _ (w v : World) (m : Mirror) (p : List ℕ) (loss : IsLoss w v m p) (sound : Sound w) where
+  -- a component on another provider stays, of the same mirror, which has as many data
+  pub stays_home : (n : Mirror) (k : Component) → IsOf w.state n k → k.provider ≢ p
+      → (a : Mirror) × IsOf v.state a k × (a.name ≡ n.name) × (a.data_sectors ≡ n.data_sectors)
+  stays_home n k of other =
+      let was = member w.state n.name k of.component in
+      let at = home v.state loss.sound.state k (loss.stay k was.0 other) in
+      let named : at.0.name ≡ n.name =
+      sym (member v.state at.0.name k at.1.component).1 ∙ was.1 in
+      -- the mirror is the one of before, or the one whose genid rose
+      let same : at.0.data_sectors ≡ n.data_sectors =
+      elim (loss.mirrors at.0 at.1.mirror) [
+        | inl bumped ↦
+            let one_is : m ≡ n =
+            one name w.state.mirrors sound.state.mirrors_in_order m n loss.here
+            of.mirror (sym (ap (λ (x : Mirror). x.name) bumped) ∙ named) in
+            ap (λ (x : Mirror). x.data_sectors) bumped ∙ ap (λ (x : Mirror). x.data_sectors) one_is
+        | inr old ↦ ap (λ (x : Mirror). x.data_sectors)
+            (one name w.state.mirrors sound.state.mirrors_in_order at.0 n old.1
+            of.mirror named)
+      ] in
+      (at.0, at.1, named, same)
+
+-- what is left to lay is all, where a Patch stays, or nothing
+pub left_or_none : (ts : List Intent) (bytes : List (List ℕ))
+    → ((list_any is_patch ts ≡ true) × (left_to_lay ts bytes ≡ bytes))
+    ⊎ ((list_any is_patch ts ≡ false) × (left_to_lay ts bytes ≡ []))
+left_or_none ts bytes = elim (cases_Bool (list_any is_patch ts)) [
+  | inl some ↦ inl (some, rw some refl)
+  | inr none ↦ inr (none, rw none refl)
+]
+
+-- there is one, which is ACTIVE
+abbrev InSyncOn : Option Component → Type 0
+InSyncOn o = IsSomeAnd o (λ (c : Component). c.disk ≡ InSync)
+
 module _ (w v : World) (m : Mirror) (p next : List ℕ) (loss : IsLoss w v m p) (sound : Sound w)
-    (ts : List Intent) (readable : AreReadable w.state ts)
+    (ts : List Intent) (bytes : List (List ℕ)) (readable : AreReadable w.state bytes ts)
     (has_next : HasNext v.state p next ts) where
   abbrev others : List Component
   others = members v.state.components m.name
@@ -81,44 +121,51 @@ module _ (w v : World) (m : Mirror) (p next : List ℕ) (loss : IsLoss w v m p) 
   abbrev after : List Intent
   after = pending_after p next ts others
 
+  abbrev left : List (List ℕ)
+  left = left_to_lay after bytes
+
   -- a copy that doesn't write to p and doesn't take from it stays within the data
   copy_stays : (f t : List ℕ) (a b : ℕ) → t ≢ p → f ≢ p → IsCopyWithin w.state f t a b
       → IsCopyWithin v.state f t a b
   copy_stays f t a b other apart c =
-      let to = member w.state c.mirror.name c.to c.to_is.component in
       let from = member w.state c.mirror.name c.from c.from_is.component in
-      let to_stays = loss.stay c.to to.0 (λ e. other (sym c.target_is ∙ e)) in
       let from_stays = loss.stay c.from from.0 (λ e. apart (sym c.source_is ∙ e)) in
-      let mirror = home v.state loss.sound.state c.to to_stays in
-      let at : mirror.0.name ≡ c.mirror.name =
-      sym (member v.state mirror.0.name c.to mirror.1.component).1 ∙ to.1 in
-      -- the mirror is the one of before, or the one whose genid rose: it has as many data sectors
-      let same : mirror.0.data_sectors ≡ c.mirror.data_sectors =
-      elim (loss.mirrors mirror.0 mirror.1.mirror) [
-        | inl bumped ↦
-            let one : m ≡ c.mirror =
-            one name w.state.mirrors sound.state.mirrors_in_order m c.mirror loss.here
-            c.to_is.mirror (sym (ap (λ (x : Mirror). x.name) bumped) ∙ at) in
-            ap (λ (x : Mirror). x.data_sectors) bumped ∙ ap (λ (x : Mirror). x.data_sectors) one
-        | inr old ↦ ap (λ (x : Mirror). x.data_sectors)
-            (one name w.state.mirrors sound.state.mirrors_in_order mirror.0 c.mirror old.1
-            c.to_is.mirror at)
-      ] in
+      let at = stays_home w v m p loss sound c.mirror c.to c.to_is
+      (λ e. other (sym c.target_is ∙ e)) in
       let within = c.within in
+      let same = at.3 in
       record {
-        mirror = mirror.0;
+        mirror = at.0;
         to = c.to;
         from = c.from;
-        to_is = mirror.1;
+        to_is = at.1;
         from_is = record {
-          mirror = mirror.1.mirror;
-          component = filter-Has (λ (k : Component). same_label k.mirror mirror.0.name)
+          mirror = at.1.mirror;
+          component = filter-Has (λ (k : Component). same_label k.mirror at.0.name)
               v.state.components c.from from_stays
-              (same_from c.from.mirror mirror.0.name (from.1 ∙ sym at));
+              (same_from c.from.mirror at.0.name (from.1 ∙ sym at.2));
         };
         target_is = c.target_is;
         source_is = c.source_is;
         other = c.other;
+        active = c.active;
+        ordered = c.ordered;
+        within = (omega (arith, within, same));
+      }
+
+  -- so does a patch of another provider
+  patch_stays : (q : List ℕ) (a b : ℕ) → q ≢ p → IsPatchWithin w.state q a b
+      → IsPatchWithin v.state q a b
+  patch_stays q a b other c =
+      let at = stays_home w v m p loss sound c.mirror c.on c.on_is
+      (λ e. other (sym c.provider_is ∙ e)) in
+      let within = c.within in
+      let same = at.3 in
+      record {
+        mirror = at.0;
+        on = c.on;
+        on_is = at.1;
+        provider_is = c.provider_is;
         active = c.active;
         ordered = c.ordered;
         within = (omega (arith, within, same));
@@ -147,9 +194,65 @@ module _ (w v : World) (m : Mirror) (p next : List ℕ) (loss : IsLoss w v m p) 
             (has_next t a b (subst (λ (q : List ℕ). Has ts (Copy q t a b)) (same_is f p s) h) other)
         | inr s ↦ rw s (copy_stays f t a b other (apart_from f p s) c)
       ]
+  readable_stays (Dirty a) h e =
+      elim (option_cases (component_of w.state a)) [
+        | inl none ↦ absurd (let z : ⊥ = subst InSyncOn none (readable.each (Dirty a) h) in z)
+        | inr some ↦
+            let k : Component = some.0 in
+            let was = component_named w.state a k some.1 in
+            let stays = loss.stay k was.0 (λ s. apart_from a p e (sym was.1 ∙ s)) in
+            let at : component_of v.state k.provider ≡ Some k =
+            find_one provider v.state.components loss.sound.state.components_in_order k stays in
+            let active : k.disk ≡ InSync = subst InSyncOn some.1 (readable.each (Dirty a) h) in
+            subst (λ (q : List ℕ). InSyncOn (component_of v.state q)) was.1
+            (subst InSyncOn (sym at) active)
+      ]
+  readable_stays (Patch a x y) h e =
+      patch_stays a x y (apart_from a p e) (readable.each (Patch a x y) h)
 
-  pub are_readable : AreReadable v.state after
+  -- ---- the sectors that are to be laid
+
+  left_has : (x : List ℕ) → Has left x → Has bytes x
+  left_has x h = elim (left_or_none after bytes) [
+    | inl some ↦ subst (λ (b : List (List ℕ)). Has b x) some.1 h
+    | inr none ↦ absurd (subst (λ (b : List (List ℕ)). Has b x) none.1 h)
+  ]
+
+  one_range : (t : Intent) → Has after t
+      → IsOfRange readable.one_patch.start (length bytes) t
+  one_range t h =
+      let start = readable.one_patch.start in
+      ⊎_elim
+      (λ (g : Has (remaining p next ts) t).
+      let was = has_remaining p next ts t g in
+      subst (IsOfRange start (length bytes)) was.3
+      (range_stays p next start (length bytes) was.0
+      (readable.one_patch.ranges was.0 was.1)))
+      (λ (g : Has (metas others) t).
+      let k = has_meta p next others t g in
+      let none : IsOfRange start (length bytes) (Meta k.0.provider) = tt in
+      subst (IsOfRange start (length bytes)) k.2 none)
+      (Has-append (remaining p next ts) (metas others) t h)
+
+  one_patch : AreOfOnePatch left after
+  one_patch = elim (left_or_none after bytes) [
+    | inr none ↦ subst (λ (b : List (List ℕ)). AreOfOnePatch b after) (sym none.1)
+        (without_patch [] after none.0 refl)
+    | inl some ↦ subst (λ (b : List (List ℕ)). AreOfOnePatch b after) (sym some.1) (record {
+      start = readable.one_patch.start;
+      ranges = one_range;
+      apart = ⊎_elim
+          (λ (off : list_any is_patch ts ≡ false). not_both (list_any is_patch after) some.0
+          (unpatched_after p next ts others off))
+          (λ (off : list_any is_copy ts ≡ false). inr (uncopied_after p next ts others off))
+          readable.one_patch.apart;
+      needed = λ off. not_both (list_any is_patch after) some.0 off;
+    })
+  ]
+
+  pub are_readable : AreReadable v.state left after
   are_readable = record {
+    sectors = λ x h. readable.sectors x (left_has x h);
     each = λ t h. ⊎_elim
         (λ (g : Has (remaining p next ts) t). let was = has_remaining p next ts t g in
         subst (λ (x : Intent). IsReadable v.state x) was.3 (readable_stays was.0 was.1 was.2))
@@ -159,13 +262,14 @@ module _ (w v : World) (m : Mirror) (p next : List ℕ) (loss : IsLoss w v m p) 
         (is_some_there v.state k.0 (member v.state m.name k.0 k.1).0))
         (Has-append (remaining p next ts) (metas others) t h);
     one_copy = one_copy_after p next ts others readable.one_copy;
+    one_patch = one_patch;
     ordered = ordered_after p next ts others readable.ordered;
   }
 
 -- ---- the plan of `lost`
 
 module _ (w v : World) (key n p : List ℕ) (ts : List Intent) (m : Mirror) (sound : Sound w)
-    (found_is : mirror_of w.state n ≡ Some m) (plan : Plan w key (Lost n (p ∷ [])) ts v) where
+    (found_is : mirror_of w.state n ≡ Some m) (plan : Plan w key (Lost n (p ∷ [])) ts [] v) where
   there : Has w.state.mirrors m × (same_label m.name n ≡ true)
   there = found (λ (a : Mirror). same_label a.name n) w.state.mirrors m found_is
 

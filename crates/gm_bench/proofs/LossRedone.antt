@@ -23,7 +23,7 @@ use Rattle.gm_rules.specs.Step.{HasPlan}
 use Rattle.gm_rules.proofs.StandIn.{key, plan, planned, sound, stand_in}
 use Rattle.gm_bench.specs.declared.loss.Judged.{Judged}
 use Rattle.gm_bench.specs.declared.loss.Judged.TheVariants.{Kept, Refused, New}
-use Rattle.gm_bench.specs.Losing.{HasNext, next_of, pending_after, remaining}
+use Rattle.gm_bench.specs.Losing.{HasNext, left_to_lay, next_of, pending_after, remaining}
 use Rattle.gm_bench.specs.Without.{IsRedirected, StaysReadable, StayReadableBehind}
 use Rattle.gm_bench.proofs.LossReadable.{IsLoss, are_readable, home, loss_of}
 use Rattle.gm_bench.proofs.LossSources.{has_next, next_told}
@@ -63,10 +63,11 @@ module _ (s : Records) (facts : List Fact) (k : Component) (p : List ℕ) (ch : 
   loss = loss_of w there.0 (key s facts state c fits makes.good) k.mirror p
       (intents_of c s there.0.state) at_home.0 w_sound found_is there.1
 
-  module _ (ts : List Intent) (next : List ℕ) (readable : AreReadable s ts)
+  module _ (ts : List Intent) (bytes : List (List ℕ)) (next : List ℕ)
+      (readable : AreReadable s bytes ts)
       (next_is : next_of (changed_by ch s) p ts ≡ Some next) where
     serves : HasNext there.0.state p next ts
-    serves = has_next w there.0 at_home.0 p next loss w_sound ts readable
+    serves = has_next w there.0 at_home.0 p next loss w_sound ts bytes readable
         (λ t a b stands. next_told there.0.state p next ts readable.one_copy
         (subst (λ (r : Records). next_of r p ts ≡ Some next) (sym after_is) next_is) t a b stands)
 
@@ -77,26 +78,31 @@ module _ (s : Records) (facts : List Fact) (k : Component) (p : List ℕ) (ch : 
         (sym makes.records ∙ sym after_is)
         ∙ ap (λ (q : List ℕ). metas (members there.0.state.components q)) mine))
 
-    redone : AreReadable (changed_by ch s) (remaining p next ts ++ ch.intents)
-    redone = subst (λ (r : Records). AreReadable r (remaining p next ts ++ ch.intents)) after_is
-        (subst (AreReadable there.0.state) (sym all_is)
-        (are_readable w there.0 at_home.0 p next loss w_sound ts readable serves))
+    redone : AreReadable (changed_by ch s) (left_to_lay (remaining p next ts ++ ch.intents) bytes)
+        (remaining p next ts ++ ch.intents)
+    redone = subst₂ (λ (r : Records) (is : List Intent). AreReadable r (left_to_lay is bytes) is)
+        after_is (sym all_is)
+        (are_readable w there.0 at_home.0 p next loss w_sound ts bytes readable serves)
 
 pub stays_behind : (s : Records) (facts : List Fact) (k : Component) (p : List ℕ)
     (r : Result Changed Refusal) → Decides s (seen_in facts) (Lost k.mirror (p ∷ [])) r
     → IsState s → component_of s p ≡ Some k → CommandFits (Lost k.mirror (p ∷ []))
     → IfOk r (StayReadableBehind s p)
 stays_behind s facts k p (Ok ch) makes state on fits =
-    λ ts next readable next_is. redone s facts k p ch state on fits makes ts next readable next_is
+    λ ts bytes next readable next_is.
+    redone s facts k p ch state on fits makes ts bytes next readable next_is
 stays_behind s facts k p (Err r) least state on fits = tt
 
-pub stays_readable : (s : Records) (size : Sizes) (ts : List Intent) (n p words : List ℕ)
-    (ch : Changed) (j : Judged) → IsRedirected s size ts n p words ch j
-    → IsState (changed_by ch s) → StayReadableBehind s p ch → StaysReadable s ts j
-stays_readable s size ts n p words ch (Kept number reply) is state behind = tt
-stays_readable s size ts n p words ch (Refused r) is state behind = tt
-stays_readable s size ts n p words ch (New new) l state behind = λ readable. (
+pub stays_readable : (s : Records) (size : Sizes) (ts : List Intent) (bytes : List (List ℕ))
+    (n p words : List ℕ) (ch : Changed) (j : Judged)
+    → IsRedirected s size ts bytes n p words ch j
+    → IsState (changed_by ch s) → StayReadableBehind s p ch → StaysReadable s ts bytes j
+stays_readable s size ts bytes n p words ch (Kept number reply) is state behind = tt
+stays_readable s size ts bytes n p words ch (Refused r) is state behind = tt
+stays_readable s size ts bytes n p words ch (New new) l state behind = λ readable. (
   subst IsState (sym l.after) state,
-  subst₂ AreReadable (sym l.after) (sym l.intents) (behind ts l.next readable
-      (subst (λ (r : Records). next_of r p ts ≡ Some l.next) l.after l.next_is)),
+  subst (λ (b : List (List ℕ)). AreReadable new.after b new.intents.items) (sym l.to_lay)
+      (subst₂ (λ (r : Records) (is : List Intent). AreReadable r (left_to_lay is bytes) is)
+      (sym l.after) (sym l.intents) (behind ts bytes l.next readable
+      (subst (λ (r : Records). next_of r p ts ≡ Some l.next) l.after l.next_is))),
 )

@@ -1,14 +1,14 @@
 -- What stays of the pending intents.
-use Rattle.std.proofs.Common.{◌≡◌, ◌≢◌, ◌∙◌, ◌⊎◌, inl, inr, ⊎_elim, ℕ, ◌≤◌, ◌||◌, Bool, true, false, refl, sym, ap, arith, List, [], ◌∷◌, ◌++◌, length, filter}
+use Rattle.std.proofs.Common.{◌≡◌, ◌≢◌, ◌∙◌, ◌⊎◌, inl, inr, ⊎_elim, ℕ, ◌≤◌, ◌||◌, Bool, true, false, refl, sym, ap, subst, arith, List, [], ◌∷◌, ◌++◌, length, filter}
 use Rattle.std.specs.List.{list_any}
 use Rattle.std.proofs.lemmas.Bool.{cases_Bool, and_parts, or_parts}
 use Rattle.gm_metadata.specs.Images.{Sizes, same_label}
 use Rattle.gm_state.specs.declared.intents.Intent.{Intent}
-use Rattle.gm_state.specs.declared.intents.Intent.TheVariants.{Meta, Clear, Copy}
+use Rattle.gm_state.specs.declared.intents.Intent.TheVariants.{Meta, Clear, Copy, Dirty, Patch}
 use Rattle.gm_state.specs.declared.records.Component.{Component}
 use Rattle.gm_lists.specs.Ordered.{Has}
-use Rattle.gm_state.specs.Intents.{is_last, copies, names, any_copies, is_place}
-use Rattle.gm_state.specs.Readable.{is_copy, is_copy_to, is_meta_of, AreOrdered}
+use Rattle.gm_state.specs.Intents.{is_last, is_dirty_of, is_meta_of, copies, names, any_copies, is_place}
+use Rattle.gm_state.specs.Readable.{is_copy, is_patch, is_fill_of, IsOfRange, StandsBetween, AreOrdered, AreOrderedFrom}
 use Rattle.gm_lists.proofs.Finding.{not_both}
 use Rattle.gm_lists.proofs.Order.{same_from, same_is, differ}
 use Rattle.gm_state.proofs.Places.{place_from}
@@ -48,6 +48,8 @@ module _ (p next : List ℕ) where
       → names size (redirected p next t) q j ≡ names size t q j
   same_names size (Meta a) q j = refl
   same_names size (Clear a) q j = refl
+  same_names size (Dirty a) q j = refl
+  same_names size (Patch a b c) q j = refl
   same_names size (Copy s t a b) q j =
       elim (cases_Bool (same_label s p)) [ inl e ↦ rw e refl | inr e ↦ rw e refl ]
 
@@ -55,26 +57,50 @@ module _ (p next : List ℕ) where
       → copies (redirected p next t) q j ≡ copies t q j
   same_copies (Meta a) q j = refl
   same_copies (Clear a) q j = refl
+  same_copies (Dirty a) q j = refl
+  same_copies (Patch a b c) q j = refl
   same_copies (Copy s t a b) q j =
       elim (cases_Bool (same_label s p)) [ inl e ↦ rw e refl | inr e ↦ rw e refl ]
 
   same_copy : (t : Intent) → is_copy (redirected p next t) ≡ is_copy t
   same_copy (Meta a) = refl
   same_copy (Clear a) = refl
+  same_copy (Dirty a) = refl
+  same_copy (Patch a b c) = refl
   same_copy (Copy s t a b) =
       elim (cases_Bool (same_label s p)) [ inl e ↦ rw e refl | inr e ↦ rw e refl ]
 
-  same_to : (q : List ℕ) (t : Intent) → is_copy_to q (redirected p next t) ≡ is_copy_to q t
-  same_to q (Meta a) = refl
-  same_to q (Clear a) = refl
-  same_to q (Copy s t a b) =
+  same_fill : (q : List ℕ) (t : Intent) → is_fill_of q (redirected p next t) ≡ is_fill_of q t
+  same_fill q (Meta a) = refl
+  same_fill q (Clear a) = refl
+  same_fill q (Copy s t a b) =
       elim (cases_Bool (same_label s p)) [ inl e ↦ rw e refl | inr e ↦ rw e refl ]
+  same_fill q (Dirty a) = refl
+  same_fill q (Patch a b c) = refl
 
   same_of : (q : List ℕ) (t : Intent) → is_meta_of q (redirected p next t) ≡ is_meta_of q t
   same_of q (Meta a) = refl
   same_of q (Clear a) = refl
   same_of q (Copy s t a b) =
       elim (cases_Bool (same_label s p)) [ inl e ↦ rw e refl | inr e ↦ rw e refl ]
+  same_of q (Dirty a) = refl
+  same_of q (Patch a b c) = refl
+
+  same_dirty : (q : List ℕ) (t : Intent) → is_dirty_of q (redirected p next t) ≡ is_dirty_of q t
+  same_dirty q (Meta a) = refl
+  same_dirty q (Clear a) = refl
+  same_dirty q (Copy s t a b) =
+      elim (cases_Bool (same_label s p)) [ inl e ↦ rw e refl | inr e ↦ rw e refl ]
+  same_dirty q (Dirty a) = refl
+  same_dirty q (Patch a b c) = refl
+
+  same_patch : (t : Intent) → is_patch (redirected p next t) ≡ is_patch t
+  same_patch (Meta a) = refl
+  same_patch (Clear a) = refl
+  same_patch (Copy s t a b) =
+      elim (cases_Bool (same_label s p)) [ inl e ↦ rw e refl | inr e ↦ rw e refl ]
+  same_patch (Dirty a) = refl
+  same_patch (Patch a b c) = refl
 
   -- what names a sector of another provider doesn't write to p
   pub names_other : (size : Sizes) (t : Intent) (q : List ℕ) (j : ℕ) → q ≢ p
@@ -85,6 +111,10 @@ module _ (p next : List ℕ) where
       differ a p (λ s. d (sym (same_is a q h.0) ∙ s))
   names_other size (Copy s t a b) q j d e = let h = and_parts (same_label t q) _ e in
       differ t p (λ s. d (sym (same_is t q h.0) ∙ s))
+  names_other size (Dirty a) q j d e = let h = and_parts (same_label a q) (is_last (size q) j) e in
+      differ a p (λ s. d (sym (same_is a q h.0) ∙ s))
+  names_other size (Patch a b c) q j d e = let h = and_parts (same_label a q) _ e in
+      differ a p (λ s. d (sym (same_is a q h.0) ∙ s))
 
   -- and what doesn't write to p names none of its sectors
   pub names_none : (size : Sizes) (t : Intent) (j : ℕ) → writes_to p t ≡ false
@@ -92,6 +122,8 @@ module _ (p next : List ℕ) where
   names_none size (Meta a) j e = rw e refl
   names_none size (Clear a) j e = rw e refl
   names_none size (Copy s t a b) j e = rw e refl
+  names_none size (Dirty a) j e = rw e refl
+  names_none size (Patch a b c) j e = rw e refl
 
   pub place_stays : (size : Sizes) (ts : List Intent) (q : List ℕ) (j : ℕ) → q ≢ p
       → is_place size ts q j ≡ true → is_place size (remaining p next ts) q j ≡ true
@@ -135,49 +167,83 @@ module _ (p next : List ℕ) where
         ]
       ]
 
-  no_copy_to : (q : List ℕ) (ts : List Intent) → list_any (is_copy_to q) ts ≡ false
-      → list_any (is_copy_to q) (remaining p next ts) ≡ false
-  no_copy_to q [] e = refl
-  no_copy_to q (t ∷ ts) e =
-      let parts = or_parts (is_copy_to q t) (list_any (is_copy_to q) ts) e in
-      let head : is_copy_to q t ≡ false = parts.0 in
-      let rest = no_copy_to q ts parts.1 in
+  -- what no intent is none that stays is
+  none_stays : (f : Intent → Bool) → ((t : Intent) → f (redirected p next t) ≡ f t)
+      → (ts : List Intent) → list_any f ts ≡ false → list_any f (remaining p next ts) ≡ false
+  none_stays f same [] e = refl
+  none_stays f same (t ∷ ts) e =
+      let parts = or_parts (f t) (list_any f ts) e in
+      let rest = none_stays f same ts parts.1 in
       elim (cases_Bool (writes_to p t)) [
         | inl w ↦ rw w rest
-        | inr w ↦ rw w (or_none (is_copy_to q (redirected p next t)) _ (same_to q t ∙ head) rest)
+        | inr w ↦ rw w (or_none (f (redirected p next t)) _ (same t ∙ parts.0) rest)
       ]
 
-  -- a Meta of another provider than p stays
-  meta_stays : (q : List ℕ) (ts : List Intent) → q ≢ p → list_any (is_meta_of q) ts ≡ true
-      → list_any (is_meta_of q) (remaining p next ts) ≡ true
-  meta_stays q [] d e = e
-  meta_stays q (t ∷ ts) d e =
+  -- one that doesn't write to p stays
+  some_stays : (f : Intent → Bool) → ((t : Intent) → f (redirected p next t) ≡ f t)
+      → ((t : Intent) → f t ≡ true → writes_to p t ≡ false) → (ts : List Intent)
+      → list_any f ts ≡ true → list_any f (remaining p next ts) ≡ true
+  some_stays f same off [] e = e
+  some_stays f same off (t ∷ ts) e =
       ⊎_elim
-      (λ (h : is_meta_of q t ≡ true).
-      let off : writes_to p t ≡ false = other t h in
-      rw off (or_left (is_meta_of q (redirected p next t)) _ (same_of q t ∙ h)))
-      (λ (h : list_any (is_meta_of q) ts ≡ true).
-      let rest = meta_stays q ts d h in
+      (λ (h : f t ≡ true).
+      let w : writes_to p t ≡ false = off t h in
+      rw w (or_left (f (redirected p next t)) _ (same t ∙ h)))
+      (λ (h : list_any f ts ≡ true).
+      let rest = some_stays f same off ts h in
       elim (cases_Bool (writes_to p t)) [
         | inl w ↦ rw w rest
-        | inr w ↦ rw w (or_right (is_meta_of q (redirected p next t)) _ rest)
+        | inr w ↦ rw w (or_right (f (redirected p next t)) _ rest)
       ])
-      (or_true (is_meta_of q t) (list_any (is_meta_of q) ts) e)
-    where
-      other : (t : Intent) → is_meta_of q t ≡ true → writes_to p t ≡ false
-      other (Meta a) h = differ a p (λ s. d (sym (same_is a q h) ∙ s))
-      other (Clear a) h = cc
-      other (Copy s t a b) h = cc
+      (or_true (f t) (list_any f ts) e)
+
+  -- a Meta and a Dirty of another provider than p don't write to p
+  meta_off : (q : List ℕ) → q ≢ p → (t : Intent) → is_meta_of q t ≡ true → writes_to p t ≡ false
+  meta_off q d (Meta a) h = differ a p (λ s. d (sym (same_is a q h) ∙ s))
+  meta_off q d (Clear a) h = cc
+  meta_off q d (Copy s t a b) h = cc
+  meta_off q d (Dirty a) h = cc
+  meta_off q d (Patch a b c) h = cc
+
+  dirty_off : (q : List ℕ) → q ≢ p → (t : Intent) → is_dirty_of q t ≡ true → writes_to p t ≡ false
+  dirty_off q d (Meta a) h = cc
+  dirty_off q d (Clear a) h = cc
+  dirty_off q d (Copy s t a b) h = cc
+  dirty_off q d (Dirty a) h = differ a p (λ s. d (sym (same_is a q h) ∙ s))
+  dirty_off q d (Patch a b c) h = cc
+
+  remaining_append : (xs : List Intent) (t : Intent) → writes_to p t ≡ false
+      → remaining p next (xs ++ t ∷ []) ≡ remaining p next xs ++ redirected p next t ∷ []
+  remaining_append [] t w = rw w refl
+  remaining_append (x ∷ xs) t w =
+      elim (cases_Bool (writes_to p x)) [
+        | inl e ↦ rw e (remaining_append xs t w)
+        | inr e ↦ rw e (ap (λ (l : List Intent). redirected p next x ∷ l) (remaining_append xs t w))
+      ]
+
+  remaining_drop : (xs : List Intent) (t : Intent) → writes_to p t ≡ true
+      → remaining p next (xs ++ t ∷ []) ≡ remaining p next xs
+  remaining_drop [] t w = rw w refl
+  remaining_drop (x ∷ xs) t w =
+      elim (cases_Bool (writes_to p x)) [
+        | inl e ↦ rw e (remaining_drop xs t w)
+        | inr e ↦ rw e (ap (λ (l : List Intent). redirected p next x ∷ l) (remaining_drop xs t w))
+      ]
 
   -- ---- with the Metas behind them
 
-  metas_copy_none : (q : List ℕ) (ks : List Component) → list_any (is_copy_to q) (metas ks) ≡ false
-  metas_copy_none q [] = refl
-  metas_copy_none q (k ∷ ks) = metas_copy_none q ks
+  metas_none : (f : Intent → Bool) → ((q : List ℕ) → f (Meta q) ≡ false) → (ks : List Component)
+      → list_any f (metas ks) ≡ false
+  metas_none f off [] = refl
+  metas_none f off (k ∷ ks) = rw (off k.provider) (metas_none f off ks)
 
-  metas_ordered : (ks : List Component) → AreOrdered (metas ks)
-  metas_ordered [] = tt
-  metas_ordered (k ∷ ks) = (metas_copy_none k.provider ks, metas_ordered ks)
+  metas_ordered : (earlier : List Intent) (ks : List Component)
+      → AreOrderedFrom earlier (metas ks)
+  metas_ordered earlier [] = tt
+  metas_ordered earlier (k ∷ ks) = (
+    metas_none (is_fill_of k.provider) (λ q. refl) ks,
+    metas_ordered (earlier ++ Meta k.provider ∷ []) ks,
+  )
 
   any_append : {X : Type 0} (f : X → Bool) (xs ys : List X)
       → list_any f (xs ++ ys) ≡ (list_any f xs || list_any f ys)
@@ -189,37 +255,75 @@ module _ (p next : List ℕ) where
       assoc true b c = refl
       assoc false b c = refl
 
+  module _ (ks : List Component) where
+    abbrev behind : List Intent → List Intent
+    behind ts = remaining p next ts ++ metas ks
+
+    none_behind : (f : Intent → Bool) → ((t : Intent) → f (redirected p next t) ≡ f t)
+        → ((q : List ℕ) → f (Meta q) ≡ false) → (ts : List Intent) → list_any f ts ≡ false
+        → list_any f (behind ts) ≡ false
+    none_behind f same off ts e = any_append f (remaining p next ts) (metas ks)
+        ∙ or_none _ _ (none_stays f same ts e) (metas_none f off ks)
+
+    apart : (q : List ℕ) → same_label q p ≡ false → q ≢ p
+    apart q off s = not_both (same_label q p) (same_from q p s) off
+
+    meta_behind : (q : List ℕ) (ts : List Intent) → same_label q p ≡ false
+        → list_any (is_meta_of q) ts ≡ true → list_any (is_meta_of q) (behind ts) ≡ true
+    meta_behind q ts off e = any_append (is_meta_of q) (remaining p next ts) (metas ks)
+        ∙ or_left _ _ (some_stays (is_meta_of q) (same_of q) (meta_off q (apart q off)) ts e)
+
+    stands_behind : (earlier : List Intent) (t : Intent) (ts : List Intent)
+        → writes_to p t ≡ false → StandsBetween earlier t ts
+        → StandsBetween (remaining p next earlier) (redirected p next t) (behind ts)
+    stands_behind earlier (Meta a) ts w stands =
+        none_behind (is_fill_of a) (same_fill a) (λ q. refl) ts stands
+    stands_behind earlier (Clear a) ts w stands = tt
+    stands_behind earlier (Copy s t a b) ts w stands =
+        let meta = meta_behind t ts w stands in
+        elim (cases_Bool (same_label s p)) [ inl e ↦ rw e meta | inr e ↦ rw e meta ]
+    stands_behind earlier (Dirty a) ts w stands = meta_behind a ts w stands
+    stands_behind earlier (Patch a b c) ts w stands = (
+      some_stays (is_dirty_of a) (same_dirty a) (dirty_off a (apart a w)) earlier stands.0,
+      meta_behind a ts w stands.1,
+    )
+
+    order_behind : (earlier ts : List Intent) → AreOrderedFrom earlier ts
+        → AreOrderedFrom (remaining p next earlier) (behind ts)
+    order_behind earlier [] o = metas_ordered (remaining p next earlier) ks
+    order_behind earlier (t ∷ ts) o =
+        let rest = order_behind (earlier ++ t ∷ []) ts o.1 in
+        elim (cases_Bool (writes_to p t)) [
+          | inl w ↦ rw w (subst (λ (l : List Intent). AreOrderedFrom l (behind ts))
+              (remaining_drop earlier t w) rest)
+          | inr w ↦ rw w (
+            stands_behind earlier t ts w o.0,
+            subst (λ (l : List Intent). AreOrderedFrom l (behind ts))
+                (remaining_append earlier t w) rest,
+          )
+        ]
+
   pub ordered_after : (ts : List Intent) (ks : List Component) → AreOrdered ts
       → AreOrdered (remaining p next ts ++ metas ks)
-  ordered_after [] ks o = metas_ordered ks
-  ordered_after (Meta a ∷ ts) ks o =
-      let rest = ordered_after ts ks o.1 in
-      elim (cases_Bool (same_label a p)) [
-        | inl w ↦ rw w rest
-        | inr w ↦ rw w (
-          any_append (is_copy_to a) (remaining p next ts) (metas ks)
-              ∙ or_none _ _ (no_copy_to a ts o.0) (metas_copy_none a ks),
-          rest,
-        )
-      ]
-  ordered_after (Clear a ∷ ts) ks o =
-      let rest = ordered_after ts ks o in
-      elim (cases_Bool (same_label a p)) [ inl w ↦ rw w rest | inr w ↦ rw w rest ]
-  ordered_after (Copy s t a b ∷ ts) ks o =
-      let rest = ordered_after ts ks o.1 in
-      elim (cases_Bool (same_label t p)) [
-        | inl w ↦ rw w rest
-        | inr w ↦
-            let behind : list_any (is_meta_of t) (remaining p next ts ++ metas ks) ≡ true =
-            any_append (is_meta_of t) (remaining p next ts) (metas ks)
-            ∙ or_left _ _ (meta_stays t ts (λ e. not_both (same_label t p) (same_from t p e) w)
-            o.0) in
-            elim (cases_Bool (same_label s p)) [
-              | inl e ↦ rw (w, e) (behind, rest)
-              | inr e
-                  ↦ rw (w, e) (behind, rest)
-            ]
-      ]
+  ordered_after ts ks o = order_behind ks [] ts o
+
+  pub unpatched_after : (ts : List Intent) (ks : List Component) → list_any is_patch ts ≡ false
+      → list_any is_patch (remaining p next ts ++ metas ks) ≡ false
+  unpatched_after ts ks e = none_behind ks is_patch same_patch (λ q. refl) ts e
+
+  pub uncopied_after : (ts : List Intent) (ks : List Component) → list_any is_copy ts ≡ false
+      → list_any is_copy (remaining p next ts ++ metas ks) ≡ false
+  uncopied_after ts ks e = none_behind ks is_copy same_copy (λ q. refl) ts e
+
+  -- a Patch that stays goes over the same sectors
+  pub range_stays : (start count : ℕ) (t : Intent) → IsOfRange start count t
+      → IsOfRange start count (redirected p next t)
+  range_stays start count (Meta a) r = tt
+  range_stays start count (Clear a) r = tt
+  range_stays start count (Copy s t a b) r =
+      elim (cases_Bool (same_label s p)) [ inl e ↦ rw e tt | inr e ↦ rw e tt ]
+  range_stays start count (Dirty a) r = tt
+  range_stays start count (Patch a b c) r = r
 
   filter_append : {X : Type 0} (f : X → Bool) (xs ys : List X)
       → filter f (xs ++ ys) ≡ filter f xs ++ filter f ys

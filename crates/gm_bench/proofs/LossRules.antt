@@ -50,6 +50,7 @@ module _ (s : Records) (x y : Seen) (n p : List ℕ)
     records = makes.records;
     in_place = makes.in_place;
     intents = makes.intents;
+    bytes = makes.bytes;
     reply = makes.reply;
   }
   loss_alike (Err r) least = record {

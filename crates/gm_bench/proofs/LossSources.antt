@@ -5,7 +5,7 @@ use Rattle.std.specs.Prelude.{option_map}
 use Rattle.std.proofs.lemmas.Bool.{and_parts}
 use Rattle.gm_metadata.specs.Images.{same_label}
 use Rattle.gm_state.specs.declared.intents.Intent.{Intent}
-use Rattle.gm_state.specs.declared.intents.Intent.TheVariants.{Meta, Clear, Copy}
+use Rattle.gm_state.specs.declared.intents.Intent.TheVariants.{Meta, Clear, Copy, Dirty, Patch}
 use Rattle.gm_state.specs.declared.records.Disk.{Disk}
 use Rattle.gm_state.specs.declared.records.Disk.TheVariants.{InSync, Inactive, Copying}
 use Rattle.gm_state.specs.declared.records.Mirror.{Mirror}
@@ -49,7 +49,7 @@ source_is s t next at is =
     ]
 
 module _ (w v : World) (m : Mirror) (p next : List ℕ) (loss : IsLoss w v m p) (sound : Sound w)
-    (ts : List Intent) (readable : AreReadable w.state ts) where
+    (ts : List Intent) (bytes : List (List ℕ)) (readable : AreReadable w.state bytes ts) where
   pub has_next : ((t : List ℕ) (a b : ℕ) → Has ts (Copy p t a b) → source_of v.state t ≡ Some next)
       → HasNext v.state p next ts
   has_next sources t a b h other =
@@ -109,9 +109,13 @@ some_copy : (p t : List ℕ) (a b : ℕ) (ts : List Intent) → Has ts (Copy p t
 some_copy p t a b [] h = absurd h
 some_copy p t a b (Meta q ∷ ts) (inl e) = cc
 some_copy p t a b (Clear q ∷ ts) (inl e) = cc
+some_copy p t a b (Dirty q ∷ ts) (inl e) = cc
+some_copy p t a b (Patch q c d ∷ ts) (inl e) = cc
 some_copy p t a b (Copy x y c d ∷ ts) h = omega arith
 some_copy p t a b (Meta q ∷ ts) (inr h) = some_copy p t a b ts h
 some_copy p t a b (Clear q ∷ ts) (inr h) = some_copy p t a b ts h
+some_copy p t a b (Dirty q ∷ ts) (inr h) = some_copy p t a b ts h
+some_copy p t a b (Patch q c d ∷ ts) (inr h) = some_copy p t a b ts h
 
 -- of at most one copy, what is told of the one from p
 pub next_told : (s : Records) (p next : List ℕ) (ts : List Intent)
@@ -122,6 +126,10 @@ next_told s p next (Meta q ∷ ts) few is t a b (inl e) = cc
 next_told s p next (Meta q ∷ ts) few is t a b (inr h) = next_told s p next ts few is t a b h
 next_told s p next (Clear q ∷ ts) few is t a b (inl e) = cc
 next_told s p next (Clear q ∷ ts) few is t a b (inr h) = next_told s p next ts few is t a b h
+next_told s p next (Dirty q ∷ ts) few is t a b (inl e) = cc
+next_told s p next (Dirty q ∷ ts) few is t a b (inr h) = next_told s p next ts few is t a b h
+next_told s p next (Patch q x y ∷ ts) few is t a b (inl e) = cc
+next_told s p next (Patch q x y ∷ ts) few is t a b (inr h) = next_told s p next ts few is t a b h
 next_told s p next (Copy x y c d ∷ ts) few is t a b (inl e) =
     let from : x ≡ p = cc in
     let to : y ≡ t = cc in

@@ -1,8 +1,9 @@
 -- What is pending behind a loss leads, from the very image, to the world of the loss, and keeps the
 -- claims of the world before the first command.
-use Rattle.std.proofs.Common.{◌≡◌, ◌≢◌, ◌∙◌, inl, inr, ⊎_elim, ℕ, ◌+◌, ◌-◌, ◌*◌, ◌/◌, ◌<◌, ◌≤◌, ◌^◌, ◌==◌, ◌&&◌, Bool, true, false, IsTrue, refl, sym, ap, subst, arith, List, find, Option, Some, None, if◌then◌else◌}
+use Rattle.std.proofs.Common.{◌≡◌, ◌≢◌, ◌∙◌, inl, inr, ⊎_elim, ℕ, ◌+◌, ◌-◌, ◌*◌, ◌/◌, ◌<◌, ◌≤◌, ◌^◌, ◌==◌, ◌&&◌, Bool, true, false, IsTrue, refl, sym, ap, subst, arith, List, [], find, Option, Some, None, if◌then◌else◌}
+use Rattle.std.specs.List.{list_any}
 use Rattle.std.specs.List.Sorted.{IsPermutation}
-use Rattle.std.specs.Prelude.{IsSome, IsSomeAnd, IfSome}
+use Rattle.std.specs.Prelude.{IsSome, IsSomeAnd, IfSome, slice_get}
 use Rattle.std.proofs.lemmas.Bool.{cases_Bool}
 use Rattle.gm_metadata.specs.declared.version.Version.TheVariants.{Four}
 use Rattle.gm_metadata.proofs.Laid.{named, encoded_is_full}
@@ -12,31 +13,32 @@ use Rattle.gm_metadata.specs.Reading.{encoded}
 use Rattle.gm_metadata.specs.Sector.{IsMetadata, Bears}
 use Rattle.gm_metadata.specs.declared.metadata.Metadata.{Metadata}
 use Rattle.gm_state.specs.declared.intents.Intent.{Intent}
-use Rattle.gm_state.specs.declared.intents.Intent.TheVariants.{Meta, Clear, Copy}
+use Rattle.gm_state.specs.declared.intents.Intent.TheVariants.{Meta, Clear, Copy, Dirty, Patch}
 use Rattle.gm_state.specs.declared.records.Disk.{Disk}
 use Rattle.gm_state.specs.declared.records.Disk.TheVariants.{InSync, Inactive, Copying}
 use Rattle.gm_state.specs.declared.records.Mirror.{Mirror}
 use Rattle.gm_state.specs.declared.records.Component.{Component}
 use Rattle.gm_lists.specs.Ordered.{Has}
 use Rattle.gm_state.specs.Records.{Records, IsState, IsMirror, members, held_by, held_of, name, provider}
-use Rattle.gm_state.specs.Rows.{Tables, HoldRecords, intent_rows}
+use Rattle.gm_state.specs.Rows.{Tables, HoldRecords, intent_rows, patch_rows}
 use Rattle.gm_state.specs.Lookups.{component_of, mirror_of, metadata}
-use Rattle.gm_state.specs.Intents.{IsOf, AreThere, IsAtHand, is_last, copies, names, is_place, Says, AllSay, Agrees}
-use Rattle.gm_state.specs.Readable.{IsCopyWithin, IsReadable, AreReadable}
+use Rattle.gm_state.specs.Intents.{IsOf, AreThere, IsAtHand, is_last, copies, names, is_place, IsMeta, Says, AllSay, Agrees}
+use Rattle.gm_state.specs.Readable.{is_patch, IsCopyWithin, IsPatchWithin, IsReadable, AreReadable}
 use Rattle.gm_state.specs.World.{World, Sound, Below, Claims, CopiesData, claimed, has_syncid, data_at}
 use Rattle.gm_state.proofs.EncodedSectors.{bears_one}
-use Rattle.gm_lists.proofs.Finding.{not_both, option_cases, found, found_none, find_none, find_one}
+use Rattle.gm_lists.proofs.Finding.{any_from, not_both, option_cases, found, found_none, find_none, find_one}
 use Rattle.gm_lists.proofs.Order.{same_from, same_is, same_tells, differ}
+use Rattle.gm_state.proofs.PatchFound.{no_dirt_left}
 use Rattle.gm_state.proofs.Places.{place_from}
 use Rattle.gm_state.proofs.TestsTellRules.{member}
 use Rattle.gm_lists.proofs.Putting.{one}
 use Rattle.gm_lists.proofs.Lists.{filter-Has}
 use Rattle.gm_changes.specs.After.{metas}
-use Rattle.gm_apply.proofs.Safe.{lent as lends_on}
+use Rattle.gm_state.proofs.ReadableIntents.{lent as lends_on}
 use Rattle.gm_bench.specs.Leading.{Leads, KeepsClaims, ClaimsOf, EachNewClaims}
-use Rattle.gm_bench.specs.Losing.{writes_to, redirected, remaining, pending_after, as_left, HasNext}
-use Rattle.gm_bench.proofs.LossLists.{Has-append, append-left, append-right, last_is, last_at, last_named, placed_by, copies_from, copy_range}
-use Rattle.gm_bench.proofs.LossReadable.{IsLoss, apart_from, home, are_readable}
+use Rattle.gm_bench.specs.Losing.{writes_to, redirected, remaining, left_to_lay, pending_after, as_left, HasNext}
+use Rattle.gm_bench.proofs.LossLists.{Has-append, append-left, append-right, last_is, last_at, last_named, placed_by, copies_from, range_of}
+use Rattle.gm_bench.proofs.LossReadable.{IsLoss, apart_from, home, left_or_none, stays_home, are_readable}
 use Rattle.gm_bench.proofs.LossRemaining.{has_remaining, same_names, place_stays, copied_before, has_meta, meta_has, any_copies_metas, remaining_has}
 use Rattle.gm_bench.proofs.ShelfProviders.{have_sizes}
 
@@ -84,13 +86,18 @@ claims_there m k list x y same claims d ok bears named mid active clean i low =
     same i ∙ claims d ok was named mid active clean i low
 
 module _ (u w v : World) (m : Mirror) (p next : List ℕ) (loss : IsLoss w v m p) (ts : List Intent)
-    (y away : Image) (left : (j : ℕ) → y p j ≡ away p j) (before : Tables) (l : Leads before ts y w)
+    (bytes : List (List ℕ)) (y away : Image) (left : (j : ℕ) → y p j ≡ away p j) (before : Tables)
+    (l : Leads before ts bytes y w)
     (has_next : HasNext v.state p next ts) where
   abbrev others : List Component
   others = members v.state.components m.name
 
   abbrev after : List Intent
   after = pending_after p next ts others
+
+  -- what is still to be laid
+  abbrev left_laid : List (List ℕ)
+  left_laid = left_to_lay after bytes
 
   abbrev world : World
   world = as_left v p away
@@ -128,6 +135,14 @@ module _ (u w v : World) (m : Mirror) (p next : List ℕ) (loss : IsLoss w v m p
       let size : c.sectors ≡ k.sectors = ap (λ (x : Component). x.sectors) one_is in
       omega (arith, room, low, at, size))
 
+  -- nor is a data sector of a component of w on another provider
+  data_still : (n : Mirror) (k : Component) → IsOf w.state n k → k.provider ≢ p → (j : ℕ)
+      → j < n.data_sectors → v.shelf k.provider j ≡ w.shelf k.provider j
+  data_still n k o other j low =
+      let at = stays_home w v m p loss l.sound n k o other in
+      let same = at.3 in
+      data_stays at.0 k at.1 j (omega (arith, low, same))
+
   -- what a copy among the intents says in w
   module _ (f t : List ℕ) (a b : ℕ) (h : Has ts (Copy f t a b)) (other : t ≢ p) where
     abbrev c : IsCopyWithin w.state f t a b
@@ -137,26 +152,6 @@ module _ (u w v : World) (m : Mirror) (p next : List ℕ) (loss : IsLoss w v m p
     to_in = loss.stay c.to (member w.state c.mirror.name c.to c.to_is.component).0
         (λ e. other (sym c.target_is ∙ e))
 
-    to_home : (n : Mirror) × IsOf v.state n c.to
-    to_home = home v.state loss.sound.state c.to to_in
-
-    -- the mirror of the target has its name still, and as many data
-    home_name : to_home.0.name ≡ c.mirror.name
-    home_name = sym (member v.state to_home.0.name c.to to_home.1.component).1
-        ∙ (member w.state c.mirror.name c.to c.to_is.component).1
-
-    home_data : to_home.0.data_sectors ≡ c.mirror.data_sectors
-    home_data = elim (loss.mirrors to_home.0 to_home.1.mirror) [
-      | inl bumped ↦
-          let one_is : m ≡ c.mirror =
-          one name w.state.mirrors l.sound.state.mirrors_in_order m c.mirror loss.here
-          c.to_is.mirror (sym (ap (λ (x : Mirror). x.name) bumped) ∙ home_name) in
-          ap (λ (x : Mirror). x.data_sectors) bumped ∙ ap (λ (x : Mirror). x.data_sectors) one_is
-      | inr old ↦ ap (λ (x : Mirror). x.data_sectors)
-          (one name w.state.mirrors l.sound.state.mirrors_in_order to_home.0 c.mirror old.1
-          c.to_is.mirror home_name)
-    ]
-
     module _ (j : ℕ) (low : a ≤ j) (high : j < b) where
       in_data : j < c.mirror.data_sectors
       in_data = let within = c.within in omega (arith, within, high)
@@ -164,8 +159,7 @@ module _ (u w v : World) (m : Mirror) (p next : List ℕ) (loss : IsLoss w v m p
       -- the target's sector stays from w to v
       target_stays : v.shelf t j ≡ w.shelf t j
       target_stays = subst (λ (q : List ℕ). v.shelf q j ≡ w.shelf q j) c.target_is
-          (data_stays to_home.0 c.to to_home.1 j (let e = home_data in let d = in_data in
-          omega (arith, e, d)))
+          (data_still c.mirror c.to c.to_is (λ e. other (sym c.target_is ∙ e)) j in_data)
 
       -- and is the mirror's data
       target_data : (n : names w.size (Copy f t a b) t j ≡ true)
@@ -203,8 +197,8 @@ module _ (u w v : World) (m : Mirror) (p next : List ℕ) (loss : IsLoss w v m p
           ∙ (target_stays
           ∙ (target_data n ∙ (sym lists ∙ (sym source ∙ sym (off_p s apart j)))))
 
-  readable : AreReadable v.state after
-  readable = are_readable w v m p next loss l.sound ts l.readable has_next
+  readable : AreReadable v.state left_laid after
+  readable = are_readable w v m p next loss l.sound ts bytes l.readable has_next
 
   same_size : (q : List ℕ) → v.size q ≡ w.size q
   same_size q = λ i. loss.sizes i q
@@ -219,14 +213,12 @@ module _ (u w v : World) (m : Mirror) (p next : List ℕ) (loss : IsLoss w v m p
       last_is (v.size k.provider) k.sectors j (loss.sound.sizes at.0 k at.1) last in
       (at.0, at.1, ap (λ (i : ℕ). world.shelf k.provider i) is ∙ sound.full at.0 k at.1)
 
-  stays_say : (r : Intent) → Has ts r → writes_to p r ≡ false → (q : List ℕ) (j : ℕ)
-      → names v.size (redirected p next r) q j ≡ true
-      → Says v.state world.shelf (redirected p next r) j (world.shelf q j)
-  stays_say (Meta a) h e q j n =
+  -- a last sector that said metadata says those of after
+  meta_says : (a : List ℕ) → same_label a p ≡ false → (q : List ℕ) (j : ℕ)
+      → (same_label a q && is_last (v.size q) j) ≡ true → IsMeta w.state a (w.shelf q j)
+      → IsMeta v.state a (world.shelf q j)
+  meta_says a e q j n was =
       let at = last_named v.size a q j n in
-      let was : Says w.state w.shelf (Meta a) j (w.shelf q j) =
-      l.redo.says (Meta a) h q j
-      (subst (λ (o : Option ℕ). (same_label a q && is_last o j) ≡ true) (same_size q) n) in
       let k : Component = was.1 in
       let k_in = loss.stay k (member w.state was.0.name k was.2.component).0
       (λ s. apart_from a p e (sym was.3 ∙ s)) in
@@ -239,6 +231,37 @@ module _ (u w v : World) (m : Mirror) (p next : List ℕ) (loss : IsLoss w v m p
         was.3,
         subst (λ (x : List ℕ). world.shelf x j ≡ encoded (metadata says.0 k)) there says.2,
       )
+
+  stays_say : (r : Intent) → Has ts r → writes_to p r ≡ false → (q : List ℕ) (j : ℕ)
+      → names v.size (redirected p next r) q j ≡ true
+      → Says v.state left_laid world.shelf (redirected p next r) j (world.shelf q j)
+  stays_say (Meta a) h e q j n =
+      meta_says a e q j n (l.redo.says (Meta a) h q j
+      (subst (λ (o : Option ℕ). (same_label a q && is_last o j) ≡ true) (same_size q) n))
+  stays_say (Dirty a) h e q j n =
+      meta_says a e q j n (l.redo.says (Dirty a) h q j
+      (subst (λ (o : Option ℕ). (same_label a q && is_last o j) ≡ true) (same_size q) n))
+  stays_say (Patch a x z) h e q j n =
+      let c : IsPatchWithin w.state a x z = l.readable.each (Patch a x z) h in
+      let other : a ≢ p = apart_from a p e in
+      let range = range_of a x z q j n in
+      let within = c.within in
+      let high = range.2 in
+      let stays : v.shelf q j ≡ w.shelf q j =
+      subst (λ (i : List ℕ). v.shelf i j ≡ w.shelf i j) (c.provider_is ∙ range.0)
+      (data_still c.mirror c.on c.on_is (λ s. other (sym c.provider_is ∙ s)) j
+      (omega (arith, within, high))) in
+      let again : Has after (Patch a x z) =
+      append-left (remaining p next ts) (metas others) (Patch a x z)
+      (remaining_has p next ts (Patch a x z) h e) in
+      let all : left_laid ≡ bytes = elim (left_or_none after bytes) [
+        | inl some ↦ some.1
+        | inr none ↦ not_both (list_any is_patch after)
+            (any_from is_patch after (Patch a x z) again refl) none.0
+      ] in
+      ap (λ (b : List (List ℕ)). slice_get b (j - x)) all
+      ∙ (l.redo.says (Patch a x z) h q j n
+      ∙ ap Some (sym (off_p q (λ s. other (range.0 ∙ s)) j ∙ stays)))
   stays_say (Clear a) h e q j n =
       let at = last_named v.size a q j n in
       let clear : IsReadable w.state (Clear a) = l.readable.each (Clear a) h in
@@ -257,7 +280,7 @@ module _ (u w v : World) (m : Mirror) (p next : List ℕ) (loss : IsLoss w v m p
       let other : t ≢ p = apart_from t p e in
       let named : copies (Copy f t a b) q j ≡ true =
       sym (same_names p next v.size (Copy f t a b) q j) ∙ n in
-      let range = copy_range f t a b q j named in
+      let range = range_of t a b q j named in
       let at_t : copies (Copy f t a b) t j ≡ true =
       subst (λ (x : List ℕ). copies (Copy f t a b) x j ≡ true) (sym range.0) named in
       let again : Has after (redirected p next (Copy f t a b)) =
@@ -275,12 +298,12 @@ module _ (u w v : World) (m : Mirror) (p next : List ℕ) (loss : IsLoss w v m p
             (lent f t a b h other j range.1 range.2 f d at_t))
       ]
 
-  all_say : AllSay v.state v.size after world.shelf
+  all_say : AllSay v.state left_laid v.size after world.shelf
   all_say t h q j n =
       ⊎_elim
       (λ (g : Has (remaining p next ts) t).
       let was = has_remaining p next ts t g in
-      subst (λ (x : Intent). Says v.state world.shelf x j (world.shelf q j)) was.3
+      subst (λ (x : Intent). Says v.state left_laid world.shelf x j (world.shelf q j)) was.3
       (stays_say was.0 was.1 was.2 q j (subst (λ (x : Intent). names v.size x q j ≡ true)
       (sym was.3) n)))
       (λ (g : Has (metas others) t).
@@ -290,7 +313,7 @@ module _ (u w v : World) (m : Mirror) (p next : List ℕ) (loss : IsLoss w v m p
       let at = last_named v.size k.0.provider q j named in
       let says = last_says k.0 (member v.state m.name k.0 k.1).0 j
       (subst (λ (x : List ℕ). is_last (v.size x) j ≡ true) (sym at.0) at.1) in
-      subst (λ (x : Intent). Says v.state world.shelf x j (world.shelf q j)) k.2 (
+      subst (λ (x : Intent). Says v.state left_laid world.shelf x j (world.shelf q j)) k.2 (
         says.0,
         k.0,
         says.1,
@@ -353,6 +376,11 @@ module _ (u w v : World) (m : Mirror) (p next : List ℕ) (loss : IsLoss w v m p
       subst (λ (o : Option ℕ). IsSomeAnd o (λ n. 0 < n)) (sym (same_size a)) (l.at_hand (Meta a) h)
   hand_one (Clear a) h e is =
       subst (λ (o : Option ℕ). IsSomeAnd o (λ n. 0 < n)) (sym (same_size a)) (l.at_hand (Clear a) h)
+  hand_one (Dirty a) h e is =
+      subst (λ (o : Option ℕ). IsSomeAnd o (λ n. 0 < n)) (sym (same_size a)) (l.at_hand (Dirty a) h)
+  hand_one (Patch a x y) h e is =
+      subst (λ (o : Option ℕ). IsSomeAnd o (λ n. y ≤ n)) (sym (same_size a))
+      (l.at_hand (Patch a x y) h)
   hand_one (Copy f t a b) h e is =
       let was = l.at_hand (Copy f t a b) h in
       let to : IsSomeAnd (v.size t) (λ n. b ≤ n) =
@@ -396,8 +424,8 @@ module _ (u w v : World) (m : Mirror) (p next : List ℕ) (loss : IsLoss w v m p
       (Has-append (remaining p next ts) (metas others) t h)
 
   pub leads_to_loss : (t : Tables) → HoldRecords v t → IsPermutation (intent_rows 1 after) t.intents
-      → Leads t after y world
-  leads_to_loss t rows intents = record {
+      → t.patches ≡ patch_rows left_laid → Leads t after left_laid y world
+  leads_to_loss t rows intents patches = record {
     sound = sound;
     records = record {
       mirrors = rows.mirrors;
@@ -405,12 +433,14 @@ module _ (u w v : World) (m : Mirror) (p next : List ℕ) (loss : IsLoss w v m p
       commands = rows.commands;
     };
     intents = intents;
+    patches = patches;
     readable = readable;
     at_hand = at_hand;
     redo = record {
       says = all_say;
-      lends = λ r h. lends_on v.state v.size loss.sound.state after there_all after
+      lends = λ r h. lends_on v.state v.size loss.sound.state after there_all left_laid after
           (λ x g. g) readable r h;
+      clean = no_dirt_left [] after readable.ordered;
       agrees = agrees;
     };
   }
@@ -631,8 +661,10 @@ module _ (u w v : World) (m : Mirror) (p next : List ℕ) (loss : IsLoss w v m p
             × (mirror_of v.state a.name ≢ None)
         by (Meta q) h off is = cc
         by (Clear q) h off is = cc
+        by (Dirty q) h off is = cc
+        by (Patch q x z) h off is = cc
         by (Copy f t x z) h off is =
-            let range = copy_range f t x z c.provider i is in
+            let range = range_of t x z c.provider i is in
             let other : t ≢ p = apart_from t p off in
             let apart : c.provider ≢ p = λ s. other (range.0 ∙ s) in
             let stays : v.shelf c.provider i ≡ w.shelf c.provider i =

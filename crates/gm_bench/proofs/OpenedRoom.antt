@@ -8,7 +8,8 @@ use Rattle.sqlite.specs.Held.{Held}
 use Rattle.sqlite_catalog.specs.Listing.{IsSound}
 use Rattle.sqlite_trees.specs.declared.store.Store.{Ghosts}
 use Rattle.gm_state.specs.Rows.{Tables}
-use Rattle.gm_rows.specs.Schema.{registry_schema}
+use Rattle.gm_rows.specs.Schema.{first_schema, registry_schema}
+use Rattle.gm_registry.specs.Opening.{IsCarriedOver}
 use Rattle.gm_rows.specs.Tables.{no_tables}
 use Rattle.gm_registry.specs.Fitting.{HasRoom}
 use Rattle.gm_registry.specs.Registry.{DiskKept, HasTables, LeavesAlone, seen, stored}
@@ -34,12 +35,21 @@ module _ {S : Type 0} (g : Ghosts S) (start mid : Held S) where
             (record { last = 0; up_to = tt; room = omega arith });
       })
 
-  -- that of the store, whose tables stay; and in tables that were made there is room
+  -- that of the store, whose rows stay; and in tables that were made there is room
   pub room_opened : (IsSound registry_schema (stored g start) → LeavesAlone g start mid)
-      → DiskKept g mid → (t : Tables) → IsStored (stored g start) t → HasTables g mid t
+      → (IsSound first_schema (stored g start) → DiskKept g mid
+      → IsCarriedOver (stored g start) (stored g mid)) → DiskKept g mid
+      → (t : Tables) → IsStored (stored g start) t → HasTables g mid t
       → HasRoom most_rows (stored g start) → HasRoom most_rows (seen g mid)
-  room_opened untouched clean t (inl holds) has room =
+  room_opened untouched carried clean t (inl holds) has room =
       let same = has.settled ∙ (untouched holds.sound).tables clean has.is_open in
       subst (λ (d : Database). HasRoom most_rows d.trees) (sym same) room
-  room_opened untouched clean t (inr empty) has room =
+  room_opened untouched carried clean t (inr (inl first)) has room =
+      let over = carried first.sound clean in
+      subst (λ (d : Database). HasRoom most_rows d.trees) (sym has.settled) (record {
+        mirrors = rw over.mirrors room.mirrors;
+        components = rw over.components room.components;
+        commands = rw over.commands room.commands;
+      })
+  room_opened untouched carried clean t (inr (inr empty)) has room =
       room_of_none (subst (HasTables g mid) empty.1 has)

@@ -7,12 +7,12 @@ use Rattle.std.proofs.lemmas.Bool.{not-false}
 use Rattle.std.proofs.lemmas.List.Folds.{find-append}
 use Rattle.gm_metadata.specs.Images.{Sizes, same_label}
 use Rattle.gm_state.specs.declared.intents.Intent.{Intent}
-use Rattle.gm_state.specs.declared.intents.Intent.TheVariants.{Meta, Clear, Copy}
+use Rattle.gm_state.specs.declared.intents.Intent.TheVariants.{Meta, Clear, Copy, Dirty, Patch}
 use Rattle.gm_state.specs.declared.records.Mirror.{Mirror}
 use Rattle.gm_state.specs.declared.records.Component.{Component}
 use Rattle.gm_state.specs.Intents.{IsOf, IsAtHand}
 use Rattle.gm_state.specs.Lookups.{component_of}
-use Rattle.gm_state.specs.Readable.{IsCopyWithin, IsReadable}
+use Rattle.gm_state.specs.Readable.{IsCopyWithin, IsPatchWithin, IsReadable}
 use Rattle.gm_state.specs.Records.{Records, IsState, members, provider}
 use Rattle.gm_lists.specs.Ordered.{Has}
 use Rattle.gm_lists.proofs.Finding.{find_one, found, found_none, Has-append_left, Has-append_right}
@@ -108,6 +108,14 @@ module _ (s : Records) (size : Sizes) (state : IsState s) where
         at_least (size a) c.from.sectors y from (omega (arith, room_from, within)),
         at_least (size b) c.to.sectors y to (omega (arith, room_to, within)),
       )
+  hand_one (Dirty p) r each =
+      some_sector (component_of s p) (size p) (each p (inl refl)) (component_sectors p)
+  hand_one (Patch p x y) r each =
+      let c : IsPatchWithin s p x y = r in
+      let on = of_component c.mirror c.on c.on_is p c.provider_is (each p (inl refl)) in
+      let room = (state.each c.mirror c.on_is.mirror).sizes c.on c.on_is.component in
+      let within = c.within in
+      at_least (size p) c.on.sectors y on (omega (arith, room, within))
 
   pub at_hand : (ts : List Intent) → ((t : Intent) → Has ts t → IsReadable s t)
       → first_absent s size ts ≡ None → (t : Intent) → Has ts t → IsAtHand size t

@@ -1,5 +1,5 @@
 -- The tables that a bench has are readable, and say what it stands for.
-use Rattle.std.proofs.Common.{◌≡◌, ◌≤◌, List, map, length, subst, arith}
+use Rattle.std.proofs.Common.{◌≡◌, ◌≤◌, ℕ, List, map, length, subst, arith}
 use Rattle.std.proofs.lemmas.List.{length-map}
 use Rattle.std.proofs.lemmas.List.Sorted.{IsPermutation-sym, length_permutation}
 use Rattle.gm_metadata.specs.Images.{Image}
@@ -18,13 +18,14 @@ in_range Plain f = (omega arith, omega arith)
 in_range (Copied held total) f = let a : held ≤ total = f.1 in let b : total ≤ 1048576 = f.2 in
     (omega arith, omega arith)
 
-pub tables_of : (t : Tables) (ts : List Intent) (x : Image) (w : World) → Leads t ts x w
-    → AreTablesOf t w.state ts
-tables_of t ts x w l = record {
+pub tables_of : (t : Tables) (ts : List Intent) (bytes : List (List ℕ)) (x : Image) (w : World)
+    → Leads t ts bytes x w → AreTablesOf t w.state ts bytes
+tables_of t ts bytes x w l = record {
   state = l.sound.state;
   mirrors = l.records.mirrors;
   components = l.records.components;
   intents = l.intents;
+  patches = l.patches;
   readable = l.readable;
   commands = λ c h.
       let from = Has-map answer_row w.answered c

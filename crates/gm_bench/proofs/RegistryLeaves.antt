@@ -1,5 +1,5 @@
 -- What a registry leaves, from what its calls promise.
-use Rattle.std.proofs.Common.{◌≡◌, inl, inr, List, [], refl, sym, subst}
+use Rattle.std.proofs.Common.{◌≡◌, inl, inr, ℕ, List, [], refl, sym, subst}
 use Rattle.sqlite_trees.specs.declared.store.Store.{Ghosts}
 use Rattle.sqlite.specs.Tree.{Trees}
 use Rattle.sqlite.specs.Held.{Held}
@@ -24,14 +24,16 @@ settled_records w t r = record {
 
 module _ {S H : Type 0} (g : Ghosts S) (view : H → View) (size : H → Sizes) where
   -- a store that a crash leaves of a registry with these tables
-  pub leads_in : (r : Held S) (h : H) (away : Image) (t : Tables) (ts : List Intent) (u w : World)
-      → CrashLeavesOnly g r t → (X : Image → Type 0) → AllLead t ts (size h) away X u w
+  pub leads_in : (r : Held S) (h : H) (away : Image) (t : Tables) (ts : List Intent)
+      (bytes : List (List ℕ)) (u w : World)
+      → CrashLeavesOnly g r t → (X : Image → Type 0) → AllLead t ts bytes (size h) away X u w
       → (db : Trees) → CrashLeaves g r db → Recovers db (size h) away X u w
-  leads_in r h away t ts u w only X leads db left =
-      record { tables = t; intents = ts; stored = inl (only db left); leads = leads }
+  leads_in r h away t ts bytes u w only X leads db left =
+      record { tables = t; intents = ts; bytes = bytes; stored = inl (only db left); leads = leads }
 
-  module _ (r : Held S) (h k : H) (away : Image) (ts : List Intent) (u w : World)
-      (at : IsAt g view size r h away ts u w) (only : CrashLeavesOnly g r at.tables)
+  module _ (r : Held S) (h k : H) (away : Image) (ts : List Intent) (bytes : List (List ℕ))
+      (u w : World)
+      (at : IsAt g view size r h away ts bytes u w) (only : CrashLeavesOnly g r at.tables)
       (lawful : IsLawful (view h)) where
     abbrev before : View
     before = view h
@@ -40,37 +42,41 @@ module _ {S H : Type 0} (g : Ghosts S) (view : H → View) (size : H → Sizes) 
     mask = masked w (size h) at.sizes
 
     -- a redo, whose registry isn't touched
-    pub redo_leaves : AllLead at.tables ts (size h) away ((view k).left_since before.moment) u w
+    pub redo_leaves : AllLead at.tables ts bytes (size h) away ((view k).left_since before.moment) u
+        w
         → ((x : Image) → (view k).may_leave x → (view k).left_since before.moment x)
         → LeavesOnly g view size r r h k away u w
     redo_leaves leads counts = record {
-      within = leads_in r h away at.tables ts u w only ((view k).left_since before.moment) leads;
-      end = leads_in r h away at.tables ts u w only (view k).may_leave
+      within = leads_in r h away at.tables ts bytes u w only ((view k).left_since before.moment)
+          leads;
+      end = leads_in r h away at.tables ts bytes u w only (view k).may_leave
           (λ x l. leads x (counts x l));
     }
 
-    first : Leads at.tables ts (whole (size h) away before.seen) w
+    first : Leads at.tables ts bytes (whole (size h) away before.seen) w
     first = (at.leads before.seen lawful.holds_now).0
 
     -- tables that are settled, with the shelf of the world
     pub settled_leads : IsShelfOf before w (size h) → (x : Image) → before.may_leave x
-        → Leads (settled at.tables) [] (whole (size h) away x) w
+        → Leads (settled at.tables) [] [] (whole (size h) away x) w
     settled_leads shelf x left =
         rest_leads (settled at.tables) (whole (size h) away x) w first.sound
-        (settled_records w at.tables first.records) refl
-        (whole_rest at.tables ts (size h) away before.seen x w mask at.at_hand first (shelf x left))
+        (settled_records w at.tables first.records) refl refl
+        (whole_rest at.tables ts bytes (size h) away before.seen x w mask at.at_hand first
+        (shelf x left))
 
     -- the settling, which leaves the shelf
     pub settle_leaves : (s : Held S) → DiskKept g s → MayLeave g r s (settled at.tables)
         → IsShelfOf before w (size h) → LeavesOnly g view size r s h h away u w
     settle_leaves s clean may shelf = record {
-      within = leads_in r h away at.tables ts u w only (before.left_since before.moment)
+      within = leads_in r h away at.tables ts bytes u w only (before.left_since before.moment)
           (λ x l. at.leads x (lawful.only_now x l));
       end = λ db left. elim (may.crash clean db left) [
-        | inl was ↦ leads_in r h away at.tables ts u w only before.may_leave at.leads db was
+        | inl was ↦ leads_in r h away at.tables ts bytes u w only before.may_leave at.leads db was
         | inr is ↦ record {
           tables = settled at.tables;
           intents = [];
+          bytes = [];
           stored = inl is;
           leads = λ x l. (
             settled_leads shelf x l,
@@ -81,7 +87,7 @@ module _ {S H : Type 0} (g : Ghosts S) (view : H → View) (size : H → Sizes) 
     }
 
     pub settle_rests : (s : Held S) → HasTables g s (settled at.tables)
-        → IsShelfOf before w (size h) → IsAt g view size s h away [] w w
+        → IsShelfOf before w (size h) → IsAt g view size s h away [] [] w w
     settle_rests s has shelf = record {
       tables = settled at.tables;
       has = has;
@@ -90,33 +96,36 @@ module _ {S H : Type 0} (g : Ghosts S) (view : H → View) (size : H → Sizes) 
       leads = λ x left. (
         settled_leads shelf x left,
         rest_claims (whole (size h) away x) w first.sound
-            (whole_rest at.tables ts (size h) away before.seen x w mask at.at_hand first
+            (whole_rest at.tables ts bytes (size h) away before.seen x w mask at.at_hand first
             (shelf x left)),
       );
     }
 
   -- a registry that was only read, and then whatever left images of these
   pub read_only : (r s : Held S) (h k : H) (away : Image) (t : Tables) (ts : List Intent)
+      (bytes : List (List ℕ))
       (u w : World) → CrashLeavesOnly g r t → DiskKept g s → LeavesNothingNew g r s
-      → AllLead t ts (size h) away ((view k).left_since (view h).moment) u w
-      → AllLead t ts (size h) away (view k).may_leave u w
+      → AllLead t ts bytes (size h) away ((view k).left_since (view h).moment) u w
+      → AllLead t ts bytes (size h) away (view k).may_leave u w
       → LeavesOnly g view size r s h k away u w
-  read_only r s h k away t ts u w only clean nothing since now = record {
-    within = leads_in r h away t ts u w only ((view k).left_since (view h).moment) since;
+  read_only r s h k away t ts bytes u w only clean nothing since now = record {
+    within = leads_in r h away t ts bytes u w only ((view k).left_since (view h).moment) since;
     end = λ db left. elim (nothing.crash clean db left) [
-      | inl was ↦ leads_in r h away t ts u w only (view k).may_leave now db was
+      | inl was ↦ leads_in r h away t ts bytes u w only (view k).may_leave now db was
       | inr none ↦ absurd none
     ];
   }
 
   -- nothing was done
-  pub still_only : (r : Held S) (h : H) (away : Image) (t : Tables) (ts : List Intent) (u w : World)
+  pub still_only : (r : Held S) (h : H) (away : Image) (t : Tables) (ts : List Intent)
+      (bytes : List (List ℕ)) (u w : World)
       → CrashLeavesOnly g r t → IsLawful (view h)
-      → AllLead t ts (size h) away (view h).may_leave u w → LeavesOnly g view size r r h h away u w
-  still_only r h away t ts u w only lawful leads = record {
-    within = leads_in r h away t ts u w only ((view h).left_since (view h).moment)
+      → AllLead t ts bytes (size h) away (view h).may_leave u w
+      → LeavesOnly g view size r r h h away u w
+  still_only r h away t ts bytes u w only lawful leads = record {
+    within = leads_in r h away t ts bytes u w only ((view h).left_since (view h).moment)
         (λ x l. leads x (lawful.only_now x l));
-    end = leads_in r h away t ts u w only (view h).may_leave leads;
+    end = leads_in r h away t ts bytes u w only (view h).may_leave leads;
   }
 
   -- a call of one medium after a call of the other

@@ -10,7 +10,6 @@ use Rattle.gm_state.specs.declared.intents.Intent.{Intent}
 use Rattle.gm_state.specs.declared.intents.Reply.{Reply}
 use Rattle.gm_state.specs.declared.intents.Reply.TheVariants.{Plain}
 use Rattle.gm_state.specs.World.{World}
-use Rattle.gm_rows.specs.Tables.{Holds, IsEmpty, no_tables}
 use Rattle.gm_state.specs.Rows.{Tables}
 use Rattle.gm_registry.specs.Registry.{CrashLeaves, HasTables, stored}
 use Rattle.gm_bench.specs.declared.answer.Answer.{Answer}
@@ -22,7 +21,7 @@ use Rattle.gm_bench.specs.Benches.{redone_of, registry_of, shelf_of}
 use Rattle.gm_bench.specs.GivingUp.{AnswersLoss, GivesUp, LacksImage, LeavesUndone}
 use Rattle.gm_bench.specs.Losing.{dropped}
 use Rattle.gm_bench.specs.Owed.{IsLeft, OpenLeaves}
-use Rattle.gm_bench.specs.Recovering.{IsFound}
+use Rattle.gm_bench.specs.Recovering.{IsFound, IsStored}
 use Rattle.gm_bench.specs.Schedule.{IsStepWithout, LeavesCommit, WithoutCarries, WithoutDoes, WithoutLeaves}
 use Rattle.gm_bench.specs.Without.{Carries, Commits, DoesLoss, DoesWithout, KeepsUndone, LacksFirst, LeavesLoss, LeavesOpened, LeavesWithout, loss_call}
 use Rattle.gm_bench.proofs.ReopenedStore.{as_it_was, recovered, reopened}
@@ -30,26 +29,27 @@ use Rattle.gm_bench.proofs.ReopenedStore.{as_it_was, recovered, reopened}
 module _ {S H : Type 0} (g : Ghosts S) (view : H → View) (size : H → Sizes) (store mid : Held S)
     (h : H) (lawful : IsLawful (view h))
     (only : (db : Trees) → CrashLeaves g store db → db ≡ stored g store)
-    (made : IsEmpty (stored g store) → HasTables g mid no_tables)
-    (held : (t : Tables) → Holds (stored g store) t → HasTables g mid t) where
+    (opened : (t : Tables) → IsStored (stored g store) t → HasTables g mid t) where
   -- what was left is found in the registry that is opened
   abbrev pub at_opened : (away : Image) (u w : World) → (left : IsLeft g view size store h away u w)
-      → IsFound g view size mid h away left.recovers.intents u w
+      → IsFound g view size mid h away left.recovers.intents left.recovers.bytes u w
   at_opened away u w left =
-      reopened g view size store h away u w lawful only left.recovers mid left.sizes made held
+      reopened g view size store h away u w lawful only left.recovers mid left.sizes opened
 
   module _ (p : List ℕ) (call : Call) (gone : List Intent)
-      (are : (away : Image) (ts : List Intent) (u w : World)
-      → IsFound g view size mid h away ts u w → gone ≡ dropped p ts) where
+      (are : (away : Image) (ts : List Intent) (bytes : List (List ℕ)) (u w : World)
+      → IsFound g view size mid h away ts bytes u w → gone ≡ dropped p ts) where
     gone_is : (away : Image) (u w : World) → (left : IsLeft g view size store h away u w)
         → gone ≡ dropped p left.recovers.intents
-    gone_is away u w left = are away left.recovers.intents u w (at_opened away u w left)
+    gone_is away u w left = are away left.recovers.intents left.recovers.bytes u w
+        (at_opened away u w left)
 
     committed : (s : Held S) → Commits g view size (IsFound g view size mid h) call p mid s h
         → WithoutLeaves g view size store s h call p gone
     committed s commits away u w left = (
       gone_is away u w left,
-      (let its = commits away left.recovers.intents u w (at_opened away u w left) in
+      (let its = commits away left.recovers.intents left.recovers.bytes u w
+          (at_opened away u w left) in
           subst (λ (is : List Intent). LeavesCommit g view size store s h away u w call p is)
           (sym (gone_is away u w left)) (record {
             within = as_it_was g view size store h away u w lawful only left.recovers
@@ -63,7 +63,8 @@ module _ {S H : Type 0} (g : Ghosts S) (view : H → View) (size : H → Sizes) 
         → Carries g view size (IsFound g view size mid h) call p m s h k
         → WithoutCarries g view size store m s h k call p gone
     carried m s k carries away u w left =
-        let it = carries away left.recovers.intents u w (at_opened away u w left) in (
+        let it = carries away left.recovers.intents left.recovers.bytes u w
+        (at_opened away u w left) in (
           gone_is away u w left,
           it.0,
           subst (λ (is : List Intent). IsStepWithout w call p is it.0)
@@ -76,7 +77,8 @@ module _ {S H : Type 0} (g : Ghosts S) (view : H → View) (size : H → Sizes) 
         → DoesLoss g view size (IsFound g view size mid h) call p s k n reply
         → WithoutDoes g view size store s h k call p gone
     done s k n reply does away u w left =
-        let it = does away left.recovers.intents u w (at_opened away u w left) in (
+        let it = does away left.recovers.intents left.recovers.bytes u w (at_opened away u w left)
+        in (
           gone_is away u w left,
           it.0,
           subst (λ (is : List Intent). IsStepWithout w call p is it.0)
@@ -94,8 +96,9 @@ module _ {S H : Type 0} (g : Ghosts S) (view : H → View) (size : H → Sizes) 
 
   pub opened_behind : (key p : List ℕ) (s : Held S) (k : H)
       → LeavesOpened g view size key p mid s h k → OpenLeaves g view size store s h k
-  opened_behind key p s k opened away u w left =
-      let was = opened away left.recovers.intents u w (at_opened away u w left) in
+  opened_behind key p s k leaves away u w left =
+      let was = leaves away left.recovers.intents left.recovers.bytes u w (at_opened away u w left)
+      in
       recovered g view size store h away u w lawful only left.recovers mid s k was.1 was.0
 
   pub undone : (key p : List ℕ) (b : Bench S H) (answer : Answer) (redone : ℕ)
@@ -116,7 +119,8 @@ module _ {S H : Type 0} (g : Ghosts S) (view : H → View) (size : H → Sizes) 
       → LacksFirst g view size key p mid s h k q → LacksImage g view size store h key p s k q
   lacking key p s k q lacks = (
     opened_behind key p s k lacks.0,
-    λ away u w left. lacks.1 away left.recovers.intents u w (at_opened away u w left),
+    λ away u w left. lacks.1 away left.recovers.intents left.recovers.bytes u w
+        (at_opened away u w left),
   )
 
   pub answered : (key p : List ℕ) (b : Bench S H) (answer : Answer) (redone : ℕ)
@@ -126,15 +130,19 @@ module _ {S H : Type 0} (g : Ghosts S) (view : H → View) (size : H → Sizes) 
   answered key p b (Done n reply) redone same does = (
     does.0,
     does.1,
-    done p (loss_call key does.0 p) does.1 (λ away ts u w at. (does.2 away ts u w at).0)
+    done p (loss_call key does.0 p) does.1 (λ away ts bytes u w at. (does.2 away ts bytes u w at).0)
         (registry_of b) (shelf_of b) n reply does.3,
     λ away u w left. (
         let at = at_opened away u w left in
-        let it = does.3 away left.recovers.intents u w at in
-        let plain : it.1.reply ≡ Plain = it.1.step.reply in
-        (it.3, sym it.2 ∙ plain, same ∙ (does.2 away left.recovers.intents u w at).1)),
+        let it = does.3 away left.recovers.intents left.recovers.bytes u w at in
+        let plain : it.1.reply ≡ Plain = it.1.step.reply in (
+          it.3,
+          sym it.2 ∙ plain,
+          same ∙ (does.2 away left.recovers.intents left.recovers.bytes u w
+              at).1,
+        )),
   )
   answered key p b (Repeated n reply) redone same does = λ away u w left. (
-      let it = does away left.recovers.intents u w (at_opened away u w left) in
+      let it = does away left.recovers.intents left.recovers.bytes u w (at_opened away u w left) in
       (it.0, same ∙ it.1, it.2))
   answered key p b (NotDone why) redone same does = absurd does

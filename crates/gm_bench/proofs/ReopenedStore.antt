@@ -2,23 +2,27 @@
 use Rattle.std.proofs.Common.{◌≡◌, inl, inr, sym, subst}
 use Rattle.sqlite_trees.specs.declared.store.Store.{Ghosts}
 use Rattle.sqlite.specs.Tree.{Trees}
+use Rattle.sqlite.specs.Effect.{Database}
 use Rattle.sqlite.specs.Held.{Held, state}
 use Rattle.gm_metadata.specs.Images.{Image, Sizes}
 use Rattle.gm_shelf.specs.Disk.{View, IsLawful}
 use Rattle.gm_state.specs.Rows.{Tables}
 use Rattle.gm_state.specs.World.{World, present}
-use Rattle.gm_registry.specs.Registry.{DiskKept, CrashLeaves, HasTables, LeavesNothingNew, MayLeave, StoreFailed, stored}
-use Rattle.gm_rows.specs.Tables.{Holds, IsEmpty, no_tables}
-use Rattle.gm_registry.specs.Opening.{IsKnownStore}
+use Rattle.gm_registry.specs.Registry.{DiskKept, CrashLeaves, HasTables, LeavesAlone, LeavesNothingNew, MayCarryOver, MayLeave, StoreFailed, stored}
+use Rattle.gm_rows.specs.Tables.{Holds, HoldsFirst, IsEmpty, no_tables}
+use Rattle.gm_registry.specs.Opening.{IsCarriedOver, IsKnownStore}
+use Rattle.gm_registry.proofs.EitherSchema.{known_first, known_second}
 use Rattle.gm_registry.proofs.Failures.{failed_since}
+use Rattle.sqlite.proofs.StateLemmas.{survives_then, survives_weaker}
 use Rattle.gm_bench.specs.Leading.{AllLead}
-use Rattle.gm_bench.specs.Opened.{HoldsKnown}
+use Rattle.gm_bench.specs.Opened.{HoldsKnown, MayBeCarriedOver}
 use Rattle.gm_bench.specs.Recovering.{IsStored, Recovers, IsFound, LeavesOnly}
 
 pub known_store : (db : Trees) → HoldsKnown db → IsKnownStore db
 known_store db (inl stored) = elim stored.1 [
-  | inl held ↦ inr (inl held.sound)
-  | inr empty ↦ inl empty.0
+  | inl held ↦ known_second db held.sound
+  | inr (inl first) ↦ known_first db first.sound
+  | inr (inr empty) ↦ inl empty.0
 ]
 known_store db (inr foreign) = inr (inr foreign)
 
@@ -27,86 +31,91 @@ module _ {S H : Type 0} (g : Ghosts S) (view : H → View) (size : H → Sizes) 
     (only : (db : Trees) → CrashLeaves g start db → db ≡ stored g start)
     (r : Recovers (stored g start) (size h) away (view h).may_leave u w) where
   -- the store as it was, with any images that lead on
-  pub as_it_was : (X : Image → Type 0) → AllLead r.tables r.intents (size h) away X u w
+  pub as_it_was : (X : Image → Type 0) → AllLead r.tables r.intents r.bytes (size h) away X u w
       → (db : Trees)
       → CrashLeaves g start db → Recovers db (size h) away X u w
   as_it_was X leads db left = record {
     tables = r.tables;
     intents = r.intents;
+    bytes = r.bytes;
     stored = subst (λ (d : Trees). IsStored d r.tables) (sym (only db left)) r.stored;
     leads =
         leads;
   }
 
-  pub opened : (mid : Held S) → (IsEmpty (stored g start) → HasTables g mid no_tables)
-      → ((t : Tables) → Holds (stored g start) t → HasTables g mid t) → HasTables g mid r.tables
-  opened mid made found =
-      elim r.stored [
-        | inl h ↦ found r.tables h
-        | inr e
-            ↦ subst (HasTables g mid) (sym e.1) (made e.0)
-      ]
-
   abbrev pub opened_at : (mid : Held S) → present w ≡ size h → HasTables g mid r.tables
-      → IsFound g view size mid h away r.intents u w
+      → IsFound g view size mid h away r.intents r.bytes u w
   opened_at mid is has = record { tables = r.tables; has = has; sizes = is; leads = r.leads }
 
   -- the opened registry, with the intents that were left
   abbrev pub reopened : (mid : Held S) → present w ≡ size h
-      → (IsEmpty (stored g start) → HasTables g mid no_tables)
-      → ((t : Tables) → Holds (stored g start) t → HasTables g mid t)
-      → IsFound g view size mid h away r.intents u w
-  reopened mid is made found = opened_at mid is (opened mid made found)
+      → ((t : Tables) → IsStored (stored g start) t → HasTables g mid t)
+      → IsFound g view size mid h away r.intents r.bytes u w
+  reopened mid is opened = opened_at mid is (opened r.tables r.stored)
 
   -- an opening that ended before anything was carried out
   pub unopened : (new : Held S) → DiskKept g new
-      → (IsEmpty (stored g start) → MayLeave g start new no_tables)
-      → ((t : Tables) → Holds (stored g start) t → LeavesNothingNew g start new)
+      → ((t : Tables) → IsStored (stored g start) t → MayLeave g start new t)
       → LeavesOnly g view size start new h h away u w
-  unopened new clean made found = record {
+  unopened new clean may = record {
     within = as_it_was ((view h).left_since (view h).moment)
         (λ x l. r.leads x (lawful.only_now x l));
-    end = λ db left. elim r.stored [
-      | inl holds ↦ elim ((found r.tables holds).crash clean db left) [
-        | inl was
-            ↦ as_it_was (view h).may_leave r.leads db was
-        | inr none ↦ absurd none
-      ]
-      | inr e ↦ elim ((made e.0).crash clean db left) [
-        | inl was ↦ as_it_was (view h).may_leave r.leads db was
-        | inr is ↦ record {
-          tables = r.tables;
-          intents = r.intents;
-          stored = inl (subst (λ (t : Tables). Holds db t) (sym e.1) is);
-          leads = r.leads;
-        }
-      ]
+    end = λ db left. elim ((may r.tables r.stored).crash clean db left) [
+      | inl was ↦ as_it_was (view h).may_leave r.leads db was
+      | inr is ↦ record {
+        tables = r.tables;
+        intents = r.intents;
+        bytes = r.bytes;
+        stored = inl is;
+        leads = r.leads;
+      }
     ];
   }
 
   -- what was carried out and settled behind that
   pub recovered : (mid ended : Held S) (k : H)
-      → AllLead r.tables r.intents (size h) away ((view k).left_since (view h).moment) u w
+      → AllLead r.tables r.intents r.bytes (size h) away ((view k).left_since (view h).moment) u w
       → LeavesOnly g view size mid ended h k away u w
       → LeavesOnly g view size start ended h k away u w
   recovered mid ended k leads l =
       record { within = as_it_was ((view k).left_since (view h).moment) leads; end = l.end }
 
--- tables that a store held are those of the opened registry
-pub opened_tables : {S : Type 0} (g : Ghosts S) (start mid : Held S)
-    → (IsEmpty (stored g start) → HasTables g mid no_tables)
-    → ((t : Tables) → Holds (stored g start) t → HasTables g mid t) → (t : Tables)
-    → IsStored (stored g start) t → HasTables g mid t
-opened_tables g start mid made found t (inl holds) = found t holds
-opened_tables g start mid made found t (inr empty) =
-    subst (HasTables g mid) (sym empty.1) (made empty.0)
+module _ {S : Type 0} (g : Ghosts S) (start mid : Held S) where
+  -- tables that a store held are those of the opened registry
+  pub opened_tables : (IsEmpty (stored g start) → HasTables g mid no_tables)
+      → ((t : Tables) → Holds (stored g start) t → HasTables g mid t)
+      → ((t : Tables) → HoldsFirst (stored g start) t → HasTables g mid t)
+      → (t : Tables) → IsStored (stored g start) t → HasTables g mid t
+  opened_tables made found upgraded t (inl holds) = found t holds
+  opened_tables made found upgraded t (inr (inl first)) = upgraded t first
+  opened_tables made found upgraded t (inr (inr empty)) =
+      subst (HasTables g mid) (sym empty.1) (made empty.0)
 
--- a failure of the store behind an opening is one since before it
-pub failed_opened : {S : Type 0} (g : Ghosts S) (start mid new : Held S)
-    → (IsEmpty (stored g start) → MayLeave g start mid no_tables)
-    → ((t : Tables) → Holds (stored g start) t → LeavesNothingNew g start mid) → (t : Tables)
-    → IsStored (stored g start) t → StoreFailed g mid new → StoreFailed g start new
-failed_opened g start mid new made found t (inl holds) failed =
-    failed_since (state g start) (state g mid) (state g new) _ (found t holds) failed
-failed_opened g start mid new made found t (inr empty) failed =
-    failed_since (state g start) (state g mid) (state g new) _ (made empty.0) failed
+  -- a crash behind an opening finds the store as it was, or those tables
+  pub opening_leaves : (IsEmpty (stored g start) → MayLeave g start mid no_tables)
+      → ((t : Tables) → Holds (stored g start) t → LeavesNothingNew g start mid)
+      → ((t : Tables) → HoldsFirst (stored g start) t → MayLeave g start mid t)
+      → (t : Tables) → IsStored (stored g start) t → MayLeave g start mid t
+  opening_leaves made found upgraded t (inl holds) =
+      survives_weaker (state g start) (state g mid) (λ _. ⊥) (λ db. Holds db t)
+      (λ _ db none. absurd none) (found t holds)
+  opening_leaves made found upgraded t (inr (inl first)) = upgraded t first
+  opening_leaves made found upgraded t (inr (inr empty)) =
+      subst (MayLeave g start mid) (sym empty.1) (made empty.0)
+
+  -- a store that was carried over, and then left alone
+  pub carried_then : (new : Held S) → IsCarriedOver (stored g start) (stored g mid)
+      → MayCarryOver g start mid → LeavesAlone g mid new → MayBeCarriedOver g start new
+  carried_then new over crash alone = record {
+    tables = λ clean is_open. inr (subst (λ (d : Database). IsCarriedOver (stored g start) d.trees)
+        (sym (alone.tables clean is_open)) over);
+    crash = survives_then (state g start) (state g mid) (state g new)
+        (IsCarriedOver (stored g start)) (λ _. ⊥) (IsCarriedOver (stored g start))
+        (λ _ db it. it) (λ _ db none. absurd none) crash alone.crash;
+  }
+
+  -- a failure of the store behind an opening is one since before it
+  pub failed_opened : (new : Held S) → (t : Tables) → MayLeave g start mid t
+      → StoreFailed g mid new → StoreFailed g start new
+  failed_opened new t may failed =
+      failed_since (state g start) (state g mid) (state g new) _ may failed

@@ -12,10 +12,12 @@ use Rattle.gm_metadata.proofs.Labels.{label_parts}
 use Rattle.gm_commands.specs.declared.command.BalanceWord.{BalanceWord}
 use Rattle.gm_commands.specs.declared.command.BalanceWord.TheVariants.{Load, Prefer, RoundRobin, Split}
 use Rattle.gm_commands.specs.declared.command.Command.{Command}
-use Rattle.gm_commands.specs.declared.command.Command.TheVariants.{Label, Insert, Remove, Deactivate, Activate, Forget, Rebuild, Configure, Clear, Destroy, Lost, Advance, Adopt}
+use Rattle.gm_commands.specs.declared.command.Command.TheVariants.{Label, Insert, Remove, Deactivate, Activate, Forget, Rebuild, Configure, Clear, Destroy, Lost, Advance, Adopt, Patch}
 use Rattle.gm_commands.specs.declared.command.Preference.{Preference}
 use Rattle.gm_commands.specs.declared.command.Settings.{Settings}
 use Rattle.gm_commands.specs.Commands.{CommandFits, PreferenceFits, SliceFits, balance_of_word, balance_words, given_switch, is_key, on_where, preference_words, setting_words, slice_words, words, words_of}
+use Rattle.gm_commands.specs.Sectors.{joined as joined_sectors}
+use Rattle.hex.specs.Hex.{encode_lower, encode_with}
 use Rattle.gm_lists.specs.Ordered.{Distinct}
 use Rattle.gm_lists.proofs.Finding.{none_any, not_both, some_any}
 use Rattle.gm_lists.proofs.Order.{same_from, same_is}
@@ -26,6 +28,7 @@ use Rattle.gm_refusals.specs.Adoptable.{has_twice}
 use Rattle.gm_refusals.specs.Applies.{IsGood, members_named}
 use Rattle.gm_refusals.specs.Seen.{Seen}
 use Rattle.gm_changes.proofs.FewWritten.{few_members, names_among}
+use Rattle.gm_bench.proofs.FewBytes.{patch_long}
 
 -- ---- how long words are that are joined
 
@@ -79,6 +82,13 @@ labels_short (p ∷ ps) all =
     let first : length p ≤ 15 = label_short p parts.0 in
     let rest : total ps ≤ 16 * length ps = labels_short ps parts.1 in
     omega (arith, first, rest)
+
+-- ---- the digits of bytes
+
+digits_long : (xs : List ℕ) → length (encode_lower xs) ≡ 2 * length xs
+unfolding encode_with
+digits_long [] = omega arith
+digits_long (x ∷ xs) = let rest = digits_long xs in omega (arith, rest)
 
 -- ---- the settings
 
@@ -166,7 +176,7 @@ few_adopted s x n ps good =
 -- ---- all of them
 
 total_short : (s : Records) (x : Seen) (c : Command) → CommandFits c → IsState s → IsGood s x c
-    → total (words c) ≤ 1000
+    → total (words c) ≤ 70000
 unfolding total
 total_short s x (Label new) fits state good =
     omega (
@@ -208,11 +218,19 @@ total_short s x (Lost n ps) fits state good =
     omega (arith, label_short n fits.0, labels_short ps fits.1, few_lost s x n ps state good)
 total_short s x (Advance n p) fits state good =
     omega (arith, label_short n fits.0, label_short p fits.1)
+total_short s x (Patch n first ss) fits state good =
+    omega (
+      arith,
+      label_short n fits.0,
+      number_short first fits.1,
+      digits_long (joined_sectors ss),
+      patch_long n first ss fits,
+    )
 total_short s x (Adopt n ps) fits state good =
     omega (arith, label_short n fits.0, labels_short ps fits.1, few_adopted s x n ps good)
 
 pub words_short : (s : Records) (x : Seen) (c : Command) → CommandFits c → IsState s
-    → IsGood s x c → length (words_of c) ≤ 1000
+    → IsGood s x c → length (words_of c) ≤ 70000
 words_short s x c fits state good =
     let all = total_short s x c fits state good in
     let some = joined (words c) in

@@ -1,5 +1,5 @@
 -- From what was found to what was carried out, behind a load.
-use Rattle.std.proofs.Common.{◌≡◌, ◌∙◌, ℕ, List, Option, sym, ap, subst}
+use Rattle.std.proofs.Common.{◌≡◌, ◌∙◌, ℕ, List, Option, sym, ap, subst, subst₂}
 use Rattle.sqlite_trees.specs.declared.store.Store.{Ghosts}
 use Rattle.sqlite.specs.Held.{Held}
 use Rattle.gm_metadata.specs.Images.{Image, Sizes}
@@ -14,34 +14,35 @@ use Rattle.gm_bench.specs.Presence.{first_absent}
 use Rattle.gm_bench.proofs.RegistryLeaves.{leads_in}
 
 module _ {S H : Type 0} (g : Ghosts S) (view : H → View) (size : H → Sizes) (r mid : Held S)
-    (h k : H) (away : Image) (ts : List Intent) (u w : World)
-    (at : IsFound g view size r h away ts u w) (same : k ≡ h) (is : List Intent)
-    (are : is ≡ ts) where
+    (h k : H) (away : Image) (ts : List Intent) (bytes : List (List ℕ)) (u w : World)
+    (at : IsFound g view size r h away ts bytes u w) (same : k ≡ h) (is : List Intent)
+    (are : is ≡ ts) (laid : List (List ℕ)) (laid_are : laid ≡ bytes) where
   -- the registry was read, and the shelf is the same
-  abbrev pub moved : HasTables g mid at.tables → IsFound g view size mid k away is u w
+  abbrev pub moved : HasTables g mid at.tables → IsFound g view size mid k away is laid u w
   moved has = record {
     tables = at.tables;
     has = has;
     sizes = at.sizes ∙ sym (ap size same);
-    leads = subst (λ (x : H). AllLead at.tables is (size x) away (view x).may_leave u w) (sym same)
-        (subst (λ (l : List Intent). AllLead at.tables l (size h) away (view h).may_leave u w)
-        (sym are) at.leads);
+    leads = subst (λ (x : H). AllLead at.tables is laid (size x) away (view x).may_leave u w)
+        (sym same) (subst₂ (λ (l : List Intent) (b : List (List ℕ)).
+        AllLead at.tables l b (size h) away (view h).may_leave u w) (sym are) (sym laid_are)
+        at.leads);
   }
 
   pub moments_back : (l : H)
-      → AllLead at.tables is (size k) away ((view l).left_since (view k).moment) u w
-      → AllLead at.tables ts (size h) away ((view l).left_since (view h).moment) u w
+      → AllLead at.tables is laid (size k) away ((view l).left_since (view k).moment) u w
+      → AllLead at.tables ts bytes (size h) away ((view l).left_since (view h).moment) u w
   moments_back l m =
-      subst (λ (is : List Intent). AllLead at.tables is (size h) away
-      ((view l).left_since (view h).moment) u w) are
-      (subst (λ (x : H). AllLead at.tables is (size x) away
+      subst₂ (λ (is : List Intent) (b : List (List ℕ)). AllLead at.tables is b (size h) away
+      ((view l).left_since (view h).moment) u w) are laid_are
+      (subst (λ (x : H). AllLead at.tables is laid (size x) away
       ((view l).left_since (view x).moment) u w) same m)
 
   pub leaves_back : (s : Held S) (l : H) → CrashLeavesOnly g r at.tables
-      → AllLead at.tables is (size k) away ((view l).left_since (view k).moment) u w
+      → AllLead at.tables is laid (size k) away ((view l).left_since (view k).moment) u w
       → LeavesOnly g view size mid s k l away u w → LeavesOnly g view size r s h l away u w
   leaves_back s l only m leaves = record {
-    within = leads_in g view size r h away at.tables ts u w only
+    within = leads_in g view size r h away at.tables ts bytes u w only
         ((view l).left_since (view h).moment) (moments_back l m);
     end = λ db left. subst (λ (x : H). Recovers db (size x) away (view l).may_leave u w) same
         (leaves.end db left);

@@ -1,5 +1,5 @@
 -- A world at rest: no intent is pending, and the shelf is the world's.
-use Rattle.std.proofs.Common.{◌≡◌, ◌∙◌, inl, inr, List, [], refl, sym, subst, arith}
+use Rattle.std.proofs.Common.{◌≡◌, ◌∙◌, inl, inr, ℕ, List, [], refl, sym, subst, arith}
 use Rattle.std.specs.List.Sorted.{IsPermutation}
 use Rattle.std.specs.Prelude.{is_some}
 use Rattle.std.proofs.lemmas.List.Sorted.{IsPermutation-refl}
@@ -8,6 +8,7 @@ use Rattle.gm_metadata.specs.Images.{Image, Sizes, SameThere, same_label}
 use Rattle.gm_state.specs.declared.intents.Intent.{Intent}
 use Rattle.gm_state.specs.declared.records.Component.{Component}
 use Rattle.gm_state.specs.Intents.{IsAtHand}
+use Rattle.gm_state.proofs.PatchFound.{without_patch}
 use Rattle.gm_state.specs.Readable.{AreReadable}
 use Rattle.gm_state.specs.Rows.{Tables, HoldRecords}
 use Rattle.gm_lists.specs.Ordered.{Has}
@@ -19,21 +20,29 @@ use Rattle.gm_state.proofs.TestsTellRules.{member}
 use Rattle.gm_bench.specs.Leading.{AreAmong, whole, Leads, KeepsClaims}
 use Rattle.gm_bench.proofs.ShelfProviders.{whole_there, whole_away, away_no_place}
 
-none_readable : (w : World) → AreReadable w.state []
-none_readable w = record { each = λ t h. absurd h; one_copy = omega arith; ordered = tt }
+none_readable : (w : World) → AreReadable w.state [] []
+none_readable w = record {
+  sectors = λ x h. absurd h;
+  each = λ t h. absurd h;
+  one_copy = omega arith;
+  one_patch = without_patch [] [] refl refl;
+  ordered = tt;
+}
 
--- tables with the world's rows and no intents lead to it from its shelf
+-- tables with the world's rows and nothing pending lead to it from its shelf
 pub rest_leads : (s : Tables) (y : Image) (w : World) → Sound w → HoldRecords w s → s.intents ≡ []
-    → SameThere w.size y w.shelf → Leads s [] y w
-rest_leads s y w sound records none same = record {
+    → s.patches ≡ [] → SameThere w.size y w.shelf → Leads s [] [] y w
+rest_leads s y w sound records none no_patch same = record {
   sound = sound;
   records = records;
   intents = subst (λ rows. IsPermutation [] rows) (sym none) (IsPermutation-refl []);
+  patches = no_patch;
   readable = none_readable w;
   at_hand = λ t h. absurd h;
   redo = record {
     says = λ t h. absurd h;
     lends = λ t h. absurd h;
+    clean = tt;
     agrees = λ q there j e. same q there j;
   };
 }
@@ -54,7 +63,7 @@ rest_claims y w sound same = record {
 }
 
 -- an image that leads to the world with no intent is the world's
-pub at_rest : (t : Tables) (x : Image) (w : World) → Leads t [] x w → SameThere w.size x w.shelf
+pub at_rest : (t : Tables) (x : Image) (w : World) → Leads t [] [] x w → SameThere w.size x w.shelf
 at_rest t x w l q there j = l.redo.agrees q there j refl
 
 -- nothing is pending any more, and claims stay as they are
@@ -70,13 +79,15 @@ settled_claims ts x u w k = record {
 }
 
 -- the shelf is the world's, and what is away wasn't named by any intent
-pub whole_rest : (t : Tables) (ts : List Intent) (size : Sizes) (away x y : Image) (w : World)
+pub whole_rest : (t : Tables) (ts : List Intent) (bytes : List (List ℕ)) (size : Sizes)
+    (away x y : Image) (w : World)
     → AreAmong size w.size → ((r : Intent) → Has ts r → IsAtHand size r)
-    → Leads t ts (whole size away x) w → SameThere size y w.shelf
+    → Leads t ts bytes (whole size away x) w → SameThere size y w.shelf
     → SameThere w.size (whole size away y) w.shelf
-whole_rest t ts size away x y w mask hand l same q there j = elim (cases_Bool (is_some (size q))) [
-  | inl here ↦ whole_there size away y q here j ∙ same q here j
-  | inr gone ↦ whole_away size away y q gone j
-      ∙ (sym (whole_away size away x q gone j) ∙ l.redo.agrees q there j
-      (away_no_place size w.size ts hand q gone j))
-]
+whole_rest t ts bytes size away x y w mask hand l same q there j = elim
+    (cases_Bool (is_some (size q))) [
+      | inl here ↦ whole_there size away y q here j ∙ same q here j
+      | inr gone ↦ whole_away size away y q gone j
+          ∙ (sym (whole_away size away x q gone j) ∙ l.redo.agrees q there j
+          (away_no_place size w.size ts hand q gone j))
+    ]

@@ -47,7 +47,7 @@ module _ {S H : Type 0} (g : Ghosts S) (view : H → View) (size : H → Sizes) 
   IsAnswered r h away u key c (Done n reply work) = IsDone r h away u key c n reply work
   IsAnswered r h away u key c (Repeated n reply) =
       run.Calls u (record { key = key; command = c }) u (run.Repeated n reply)
-      × IsAt g view size r h away [] u u
+      × IsAt g view size r h away [] [] u u
   IsAnswered r h away u key c (Refused why) =
       run.Calls u (record { key = key; command = c }) u (run.Refused why)
-      × IsAt g view size r h away [] u u
+      × IsAt g view size r h away [] [] u u

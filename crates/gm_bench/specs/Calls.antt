@@ -37,6 +37,10 @@ abbrev pub TellsStore : {S T : Type 0} → StoreGhosts S → Held S → Held S �
 TellsStore s old new result =
     DiskKept s new → IsErrOf result Store → (t : Tables) → HasTables s old t → StoreFailed s old new
 
+-- no intent is pending, and no bytes are to be laid
+abbrev pub HasNothingPending : Tables → Type 0
+HasNothingPending t = (t.intents ≡ []) × (t.patches ≡ [])
+
 -- so many rows the store is to number for a command at most: those of the components of a mirror,
 -- of the mirror and of the command
 abbrev pub most_rows : ℕ
@@ -96,9 +100,9 @@ module _ {S H T : Type 0} (s : StoreGhosts S) (h : ShelfGhosts H) (old new : Med
       → HasRoom most_rows (seen s old.registry) → IsHonestToAdopt h old.shelf c
       → StoreFailed s old.registry new.registry
 
-  -- the same wherever no intent is pending
+  -- the same wherever nothing is pending
   abbrev pub TellsStoreOf : Command → Type 0
-  TellsStoreOf = TellsStoreWhere (λ t. t.intents ≡ [])
+  TellsStoreOf = TellsStoreWhere HasNothingPending
 
   -- where it succeeds, the registry goes on, wherever the rows say a state
   abbrev pub StaysRegistry : Type 0

@@ -75,7 +75,7 @@ module _ {S H : Type 0} (g : Ghosts S) (view : H → View) (size : H → Sizes) 
   abbrev pub LacksImage : Held S → H → List ℕ → Type 0
   LacksImage s k q = OpenLeaves g view size store s h k
       × ((away : Image) (u w : World) → (left : IsLeft g view size store h away u w)
-      → IsLacking w left.recovers.intents key p (size h) q)
+      → IsLacking w left.recovers.intents left.recovers.bytes key p (size h) q)
 
   -- The loss is done under the next number, or was before, and what was pending is carried out; or
   -- it is refused. The bench counts the intents that were pending.
@@ -90,7 +90,7 @@ module _ {S H : Type 0} (g : Ghosts S) (view : H → View) (size : H → Sizes) 
       (away : Image) (u w : World) → (left : IsLeft g view size store h away u w)
       → ((a : Answered) × IsKeptLoss w key p a × (a.number ≡ n) × (a.reply ≡ reply))
       × (redone_of b ≡ length left.recovers.intents)
-      × IsAt g view size (registry_of b) (shelf_of b) away [] w w
+      × IsAt g view size (registry_of b) (shelf_of b) away [] [] w w
   AnswersLoss (Opened b (NotDone why)) = ⊥
   AnswersLoss (Refused why s k) =
       (away : Image) (u w : World) → (left : IsLeft g view size store h away u w)
@@ -103,7 +103,8 @@ pub record TakesLoss (db : Trees) : Type 0 where
   pub stands : IsStored db tables
   pub records : Records
   pub intents : List Intent
-  pub are : AreTablesOf tables records intents
+  pub bytes : List (List ℕ)
+  pub are : AreTablesOf tables records intents bytes
   pub few : length intents + 17 < 2 ^ 32
   pub room : HasRoom most_rows db
 
@@ -131,7 +132,8 @@ module _ {S H : Type 0} (s : Ghosts S) (h : ShelfGhosts H) (store : Held S) (she
         → (h.view shelf).faults < (h.view e.shelf).faults
     pub unreadable : IsOpen s store → DiskKept s e.store → e.fault ≡ Unreadable
         → IsOpenable (stored s store) → (t : Tables) (r : Records) (ts : List Intent)
-        → IsStored (stored s store) t → AreTablesOf t r ts → AreWrittenUnder key t → ⊥
+        (bytes : List (List ℕ)) → IsStored (stored s store) t → AreTablesOf t r ts bytes
+        → AreWrittenUnder key t → ⊥
     pub failed : IsOpen s store → DiskKept s e.store → e.fault ≡ Store
         → TakesLoss (stored s store) ⊎ IsForeign (stored s store) → StoreFailed s store e.store
     pub closed : e.fault ≡ Closed → ⊥

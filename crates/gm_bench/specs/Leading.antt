@@ -5,7 +5,7 @@ use Rattle.gm_metadata.specs.Images.{Image, Sizes}
 use Rattle.gm_state.specs.declared.intents.Intent.{Intent}
 use Rattle.gm_state.specs.Intents.{IsAtHand, IsRedo}
 use Rattle.gm_state.specs.Readable.{AreReadable}
-use Rattle.gm_state.specs.Rows.{Tables, HoldRecords, intent_rows}
+use Rattle.gm_state.specs.Rows.{Tables, HoldRecords, intent_rows, patch_rows}
 use Rattle.gm_lists.specs.Ordered.{Has}
 use Rattle.gm_metadata.specs.Sector.{Bears, IsMetadata}
 use Rattle.gm_metadata.specs.declared.metadata.Metadata.{Metadata}
@@ -23,15 +23,18 @@ whole size away x p i = if is_some (size p) then x p i else away p i
 abbrev pub AreAmong : Sizes → Sizes → Type 0
 AreAmong size all = (q : List ℕ) → (size q ≡ None) ⊎ (size q ≡ all q)
 
--- Beside these intents the tables hold the rows of the world. The image is the world's but for the
--- sectors that the intents name, and in the world those hold what the intents say.
-pub record Leads (t : Tables) (ts : List Intent) (x : Image) (w : World) : Type 0 where
+-- Beside these intents, and the bytes that they lay, the tables hold the rows of the world. The
+-- image is the world's but for the sectors that the intents name, and in the world those hold what
+-- the intents say.
+pub record Leads (t : Tables) (ts : List Intent) (bytes : List (List ℕ)) (x : Image)
+    (w : World) : Type 0 where
   pub sound : Sound w
   pub records : HoldRecords w t
   pub intents : IsPermutation (intent_rows 1 ts) t.intents
-  pub readable : AreReadable w.state ts
+  pub patches : t.patches ≡ patch_rows bytes
+  pub readable : AreReadable w.state bytes ts
   pub at_hand : (t : Intent) → Has ts t → IsAtHand w.size t
-  pub redo : IsRedo w.state w.size ts x w.shelf
+  pub redo : IsRedo w.state bytes w.size ts x w.shelf
 
 -- the last sector of the component's provider bore nothing
 abbrev pub WasBare : World → Component → Type 0
@@ -62,7 +65,7 @@ pub record KeepsClaims (ts : List Intent) (x : Image) (u w : World) : Type 0 whe
 
 -- with each of the shelf's images the tables and their intents lead to w, and no component claims
 -- on the way a sector that it lacks
-abbrev pub AllLead : Tables → List Intent → Sizes → Image → (Image → Type 0) → World → World
-    → Type 0
-AllLead t ts size away X u w = (x : Image) → X x
-    → Leads t ts (whole size away x) w × KeepsClaims ts (whole size away x) u w
+abbrev pub AllLead : Tables → List Intent → List (List ℕ) → Sizes → Image → (Image → Type 0)
+    → World → World → Type 0
+AllLead t ts bytes size away X u w = (x : Image) → X x
+    → Leads t ts bytes (whole size away x) w × KeepsClaims ts (whole size away x) u w

@@ -1,10 +1,11 @@
 -- An opening without a provider: what becomes of the pending intents, and what the world is then.
 use Rattle.std.specs.Prelude.{◌≢◌, ℕ, Bool, List, [], ◌∷◌, ◌++◌, Option, Some, if◌then◌else◌}
+use Rattle.std.specs.List.{list_any}
 use Rattle.gm_metadata.specs.Images.{Image, same_label}
 use Rattle.gm_state.specs.declared.intents.Intent.{Intent}
-use Rattle.gm_state.specs.declared.intents.Intent.TheVariants.{Meta, Clear, Copy}
+use Rattle.gm_state.specs.declared.intents.Intent.TheVariants.{Meta, Clear, Copy, Dirty, Patch}
 use Rattle.gm_state.specs.declared.records.Component.{Component}
-use Rattle.gm_state.specs.Readable.{IsCopyWithin}
+use Rattle.gm_state.specs.Readable.{IsCopyWithin, is_patch}
 use Rattle.gm_state.specs.Records.{Records}
 use Rattle.gm_state.specs.Sources.{source_of}
 use Rattle.gm_lists.specs.Ordered.{Has}
@@ -16,6 +17,8 @@ abbrev pub writes_to : List ℕ → Intent → Bool
 writes_to p (Meta q) = same_label q p
 writes_to p (Clear q) = same_label q p
 writes_to p (Copy source target first end) = same_label target p
+writes_to p (Dirty q) = same_label q p
+writes_to p (Patch q first end) = same_label q p
 
 -- a copy from the provider is taken from the next source
 abbrev pub redirected : List ℕ → List ℕ → Intent → Intent
@@ -23,6 +26,8 @@ redirected p next (Meta q) = Meta q
 redirected p next (Clear q) = Clear q
 redirected p next (Copy source target first end) =
     if same_label source p then Copy next target first end else Copy source target first end
+redirected p next (Dirty q) = Dirty q
+redirected p next (Patch q first end) = Patch q first end
 
 -- those that are taken out
 abbrev pub dropped : List ℕ → List Intent → List Intent
@@ -43,10 +48,16 @@ next_of s p (Meta q ∷ ts) = next_of s p ts
 next_of s p (Clear q ∷ ts) = next_of s p ts
 next_of s p (Copy source target first end ∷ ts) =
     if same_label source p then source_of s target else next_of s p ts
+next_of s p (Dirty q ∷ ts) = next_of s p ts
+next_of s p (Patch q first end ∷ ts) = next_of s p ts
 
 -- all that is pending then: Meta of the mirror's other components behind what stays
 abbrev pub pending_after : List ℕ → List ℕ → List Intent → List Component → List Intent
 pending_after p next ts others = remaining p next ts ++ metas others
+
+-- the bytes that are still to be laid then: those of before where a Patch remains, else none
+abbrev pub left_to_lay : List Intent → List (List ℕ) → List (List ℕ)
+left_to_lay ts bytes = if list_any is_patch ts then bytes else []
 
 -- the image of the provider is what it was left as, whatever pending intents were to write there
 abbrev pub as_left : World → List ℕ → Image → World

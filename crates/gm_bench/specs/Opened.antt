@@ -11,9 +11,9 @@ use Rattle.gm_state.specs.Records.{Records}
 use Rattle.gm_state.specs.Rows.{Tables}
 use Rattle.gm_state.specs.World.{World}
 use Rattle.gm_rows.specs.ReadableTables.{AreTablesOf}
-use Rattle.gm_rows.specs.Schema.{registry_schema}
-use Rattle.gm_registry.specs.Opening.{IsForeign, IsOpenable}
-use Rattle.gm_registry.specs.Registry.{DiskKept, HasTables, IsOpen, IsRegistry, LeavesAlone, StoreFailed, stored}
+use Rattle.gm_rows.specs.Schema.{first_schema, registry_schema}
+use Rattle.gm_registry.specs.Opening.{IsCarriedOver, IsForeign, IsOpenable}
+use Rattle.gm_registry.specs.Registry.{DiskKept, HasTables, IsOpen, IsRegistry, LeavesAlone, MayCarryOver, StoreFailed, stored}
 use Rattle.gm_bench.specs.declared.bench.Bench.{Bench}
 use Rattle.gm_bench.specs.declared.bench.OpenFault.{OpenFault}
 use Rattle.gm_bench.specs.declared.fault.BenchFault.{BenchFault}
@@ -35,17 +35,17 @@ use Rattle.gm_bench.specs.Recovering.{IsStored}
 pub record TellsOfTables {S H T : Type 0} (s : StoreGhosts S) (h : ShelfGhosts H)
     (old new : Media S H) (result : Result T BenchFault) : Type 0 where
   pub there : DiskKept s new.registry → OnOk result ((t : Tables) (r : Records) (ts : List Intent)
-      → HasTables s old.registry t → AreTablesOf t r ts
+      (bytes : List (List ℕ)) → HasTables s old.registry t → AreTablesOf t r ts bytes
       → first_absent r (h.size old.shelf) ts ≡ None)
   pub absent : DiskKept s new.registry → (p : List ℕ) → IsErrOf result (Absent p)
       → (t : Tables) (r : Records) (ts : List Intent)
-      → HasTables s old.registry t → AreTablesOf t r ts
+      (bytes : List (List ℕ)) → HasTables s old.registry t → AreTablesOf t r ts bytes
       → first_absent r (h.size old.shelf) ts ≡ Some p
   pub disk : DiskKept s new.registry → (t : Tables) → HasTables s old.registry t
       → TellsDisk h old.shelf new.shelf result
   pub unreadable : DiskKept s new.registry → IsErrOf result Unreadable
       → (t : Tables) (r : Records) (ts : List Intent)
-      → HasTables s old.registry t → AreTablesOf t r ts → ⊥
+      (bytes : List (List ℕ)) → HasTables s old.registry t → AreTablesOf t r ts bytes → ⊥
   pub closed : IsErrOf result Closed → ⊥
 
 -- A fault before anything is written leaves the shelf, and a registry whatever its rows hold.
@@ -56,6 +56,13 @@ pub record StaysBefore {S H T : Type 0} (s : StoreGhosts S) (old new : Media S H
       → LeavesAlone s old.registry new.registry)
 
 -- ---- of a store and a shelf
+
+-- what is stored is as it was, or carried over from the first schema, while it is open; and so is
+-- what a crash finds
+pub record MayBeCarriedOver {S : Type 0} (s : StoreGhosts S) (old new : Held S) : Type 0 where
+  pub tables : DiskKept s new → IsOpen s new
+      → (stored s new ≡ stored s old) ⊎ IsCarriedOver (stored s old) (stored s new)
+  pub crash : MayCarryOver s old new
 
 -- it has no tables, or holds those of a registry, or has others
 abbrev pub HoldsKnown : Trees → Type 0
@@ -73,26 +80,28 @@ module _ {S H : Type 0} (s : StoreGhosts S) (h : ShelfGhosts H) (store : Held S)
         → redone_of b ≡ length left.recovers.intents
     pub there : IsOpen s store → DiskKept s (registry_of b)
         → (t : Tables) (r : Records) (ts : List Intent)
-        → IsStored (stored s store) t → AreTablesOf t r ts
+        (bytes : List (List ℕ)) → IsStored (stored s store) t → AreTablesOf t r ts bytes
         → first_absent r (h.size shelf) ts ≡ None
 
   -- Why it failed, by the tables that are stored and the sizes alone. F2 comes only where the store
   -- failed, of an empty store too. A fault before anything is written leaves both media as they
-  -- were, whatever rows the tables hold.
+  -- were, whatever rows the tables hold; but tables of the first schema may be carried over.
   pub record IsUnopened (e : OpenFault S H) : Type 0 where
     pub absent : IsOpen s store → DiskKept s e.store → (p : List ℕ) → e.fault ≡ Absent p
         → (t : Tables) (r : Records) (ts : List Intent)
-        → IsStored (stored s store) t → AreTablesOf t r ts
+        (bytes : List (List ℕ)) → IsStored (stored s store) t → AreTablesOf t r ts bytes
         → first_absent r (h.size shelf) ts ≡ Some p
     pub disk : IsOpen s store → DiskKept s e.store → e.fault ≡ Disk
         → (t : Tables) → IsStored (stored s store) t
         → (h.view shelf).faults < (h.view e.shelf).faults
     pub unreadable : IsOpen s store → DiskKept s e.store → e.fault ≡ Unreadable
         → IsOpenable (stored s store) → (t : Tables) (r : Records) (ts : List Intent)
-        → IsStored (stored s store) t → AreTablesOf t r ts → ⊥
+        (bytes : List (List ℕ)) → IsStored (stored s store) t → AreTablesOf t r ts bytes → ⊥
     pub failed : IsOpen s store → DiskKept s e.store → e.fault ≡ Store
         → HoldsKnown (stored s store) → StoreFailed s store e.store
     pub closed : e.fault ≡ Closed → ⊥
     pub untouched : IsBeforeWrites e.fault → e.shelf ≡ shelf
     pub alone : IsOpen s store → IsSound registry_schema (stored s store)
         → DiskKept s e.store → IsBeforeWrites e.fault → LeavesAlone s store e.store
+    pub first_alone : IsOpen s store → IsSound first_schema (stored s store)
+        → DiskKept s e.store → IsBeforeWrites e.fault → MayBeCarriedOver s store e.store

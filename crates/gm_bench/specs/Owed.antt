@@ -25,12 +25,12 @@ module _ {S H : Type 0} (g : Ghosts S) (view : H → View) (size : H → Sizes) 
   -- a command that is handed in at rest: what a stop leaves, and what it is answered
   abbrev pub AcceptLeaves : Held S → Held S → H → H → List ℕ → Command → Type 0
   AcceptLeaves r s h k key c =
-      (away : Image) (u : World) → IsAt g view size r h away [] u u
+      (away : Image) (u : World) → IsAt g view size r h away [] [] u u
       → LeavesStep g view size r s h k away u key c
 
   abbrev pub AcceptAnswers : Held S → Held S → H → H → List ℕ → Command → Accepted → Type 0
   AcceptAnswers r s h k key c a =
-      (away : Image) (u : World) → IsAt g view size r h away [] u u
+      (away : Image) (u : World) → IsAt g view size r h away [] [] u u
       → IsAnswered g view size s k away u key c a
 
   -- work that is carried out: what a stop leaves, and that the shelf is then the world's
@@ -55,7 +55,7 @@ module _ {S H : Type 0} (g : Ghosts S) (view : H → View) (size : H → Sizes) 
   SettleDoes r s h work =
       (away : Image) (u w : World) → IsAtWork g view size r h away work u w
       → IsShelfOf (view h) w (size h)
-      → IsAt g view size s h away [] w w
+      → IsAt g view size s h away [] [] w w
 
   -- A stop within a command that is run: it is accepted at some point, before which the world stays
   -- or becomes that of the command's step; and what is left behind that point leads to the step.
@@ -73,11 +73,12 @@ module _ {S H : Type 0} (g : Ghosts S) (view : H → View) (size : H → Sizes) 
   -- a command that is handed in at rest, carried out and settled
   abbrev pub RunLeaves : Held S → Held S → H → H → List ℕ → Command → Type 0
   RunLeaves r s h k key c =
-      (away : Image) (u : World) → IsAt g view size r h away [] u u → LeavesRun r s h k away u key c
+      (away : Image) (u : World) → IsAt g view size r h away [] [] u u
+      → LeavesRun r s h k away u key c
 
   abbrev pub RunAnswers : Held S → Held S → H → H → List ℕ → Command → Answer → Type 0
   RunAnswers r s h k key c a =
-      (away : Image) (u : World) → IsAt g view size r h away [] u u
+      (away : Image) (u : World) → IsAt g view size r h away [] [] u u
       → IsRun g view size s k away u key c a
 
   -- The store and the shelf before an opening lead to w.
@@ -92,7 +93,7 @@ module _ {S H : Type 0} (g : Ghosts S) (view : H → View) (size : H → Sizes) 
 
   abbrev pub OpenDoes : Held S → Held S → H → H → Type 0
   OpenDoes store s h k = (away : Image) (u w : World) → IsLeft store h away u w
-      → IsAt g view size s k away [] w w
+      → IsAt g view size s k away [] [] w w
 
   -- A look: the tables stay, a crash leaves no image that it couldn't leave before, and the sizes
   -- stay.
@@ -104,5 +105,6 @@ module _ {S H : Type 0} (g : Ghosts S) (view : H → View) (size : H → Sizes) 
   -- what a look leaves that is stopped leads on as before
   abbrev pub LookLeaves : Held S → Held S → H → H → Type 0
   LookLeaves r s h k =
-      (away : Image) (ts : List Intent) (u w : World) → IsAt g view size r h away ts u w
+      (away : Image) (ts : List Intent) (bytes : List (List ℕ)) (u w : World)
+      → IsAt g view size r h away ts bytes u w
       → LeavesOnly g view size r s h k away u w

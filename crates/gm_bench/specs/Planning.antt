@@ -3,7 +3,7 @@ use Rattle.std.specs.Prelude.{◌≡◌, ◌≤◌, ℕ, List, length, Result, O
 use Rattle.gm_commands.specs.declared.command.Command.{Command}
 use Rattle.gm_commands.specs.Commands.{words_of}
 use Rattle.gm_state.specs.Records.{Records, IsState}
-use Rattle.gm_state.specs.Rows.{Tables}
+use Rattle.gm_state.specs.Rows.{Tables, joined}
 use Rattle.gm_state.specs.World.{World, ReplyFits}
 use Rattle.gm_refusals.specs.declared.refusals.Refusal.{Refusal}
 use Rattle.gm_changes.specs.Decides.{Changed, Makes, changed_by}
@@ -24,11 +24,12 @@ use Rattle.gm_bench.specs.ShelfFacts.{IsHonestToAdopt, TellSizes}
 use Rattle.gm_bench.specs.declared.plan.Planned.{Planned}
 use Rattle.gm_bench.specs.declared.plan.Gathered.{Gathered}
 
--- the change is the command's, the intents are the change's, and the part is what the change leaves
--- of one
+-- the change is the command's, the intents and the bytes are the change's, and the part is what the
+-- change leaves of one
 pub record IsPlanned (u : World) (c : Command) (p : Planned) : Type 0 where
   pub makes : Makes u.state (seen_of u) c p.change
   pub intents : p.work.intents.items ≡ p.change.intents
+  pub bytes : p.work.bytes.items ≡ p.change.bytes
   pub part : Records
   pub leaves : LeavesPart part c u.state p.change
   pub is : p.work.part ≡ changed_by p.change part
@@ -65,14 +66,16 @@ abbrev pub IsPlanAtHand : Sizes → Result Planned Refusal → Type 0
 IsPlanAtHand size (Ok planned) = AreAtHand size planned.work.intents.items
 IsPlanAtHand size (Err r) = Unit {0}
 
--- The records of a change break no rule of these tables, it puts and writes no more than a mirror
--- has, and its reply and the words of its command are in range.
+-- The records of a change break no rule of these tables, it puts no more than a mirror has, writes
+-- at most three times to each and lays at most 64 sectors, and its reply and the words of its
+-- command are in range.
 pub record IsFitting (ch : Changed) (words : List ℕ) (t : Tables) : Type 0 where
   pub records : FitsRecords ch t
   pub few_put : length ch.components ≤ 16
-  pub few_written : length ch.intents ≤ 17
+  pub few_written : length ch.intents ≤ 48
+  pub few_laid : length (joined ch.bytes) ≤ 32768
   pub reply : ReplyFits ch.reply
-  pub short : length words ≤ 1000
+  pub short : length words ≤ 70000
 
 -- the same of what is planned for a command
 abbrev pub IsPlanFitting : Command → Tables → Result Planned Refusal → Type 0

@@ -3,7 +3,7 @@ use Rattle.std.specs.Prelude.{ℕ, Bool, false, not, ◌==◌, nat_lt, List, [],
 use Rattle.std.specs.List.{find, flat_map}
 use Rattle.gm_metadata.specs.Images.{Sizes}
 use Rattle.gm_state.specs.declared.intents.Intent.{Intent}
-use Rattle.gm_state.specs.declared.intents.Intent.TheVariants.{Meta, Clear, Copy}
+use Rattle.gm_state.specs.declared.intents.Intent.TheVariants.{Meta, Clear, Copy, Dirty, Patch}
 use Rattle.gm_state.specs.declared.records.Component.{Component}
 use Rattle.gm_state.specs.Lookups.{component_of}
 use Rattle.gm_state.specs.Records.{Records}
@@ -26,6 +26,8 @@ abbrev pub providers_in : Intent → List (List ℕ)
 providers_in (Meta p) = p ∷ []
 providers_in (Clear p) = p ∷ []
 providers_in (Copy source target first end) = target ∷ source ∷ []
+providers_in (Dirty p) = p ∷ []
+providers_in (Patch p first end) = p ∷ []
 
 -- the providers of these intents are on a shelf of these sizes, with each sector that they name
 abbrev pub AreAtHand : Sizes → List Intent → Type 0

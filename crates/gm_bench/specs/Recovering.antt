@@ -15,13 +15,13 @@ use Rattle.gm_state.specs.Rows.{Tables}
 use Rattle.gm_lists.specs.Ordered.{Has}
 use Rattle.gm_state.specs.World.{World, present}
 use Rattle.gm_registry.specs.Registry.{CrashLeaves, HasTables}
-use Rattle.gm_rows.specs.Tables.{Holds, IsEmpty, no_tables}
+use Rattle.gm_rows.specs.Tables.{Holds, HoldsFirst, IsEmpty, no_tables}
 use Rattle.gm_bench.specs.declared.answer.Work.{Work}
 use Rattle.gm_bench.specs.Leading.{AllLead}
 
--- a store holds these tables; one without any table is read as empty
+-- a store holds these tables, also by the first schema; one without any table is read as empty
 abbrev pub IsStored : Trees → Tables → Type 0
-IsStored db t = Holds db t ⊎ (IsEmpty db × (t ≡ no_tables))
+IsStored db t = Holds db t ⊎ (HoldsFirst db t ⊎ (IsEmpty db × (t ≡ no_tables)))
 
 -- The store leads to w with each of the shelf's images, where the providers that aren't on it hold
 -- what is away.
@@ -29,8 +29,9 @@ pub record Recovers (db : Trees) (size : Sizes) (away : Image) (X : Image → Ty
     (u w : World) : Type 0 where
   pub tables : Tables
   pub intents : List Intent
+  pub bytes : List (List ℕ)
   pub stored : IsStored db tables
-  pub leads : AllLead tables intents size away X u w
+  pub leads : AllLead tables intents bytes size away X u w
 
 -- these records say of each Meta among the intents what all records say
 pub record Cover (part all : Records) (ts : List Intent) : Type 0 where
@@ -43,29 +44,29 @@ abbrev pub IsShelfOf : View → World → Sizes → Type 0
 IsShelfOf v w size = (x : Image) → v.may_leave x → SameThere size x w.shelf
 
 module _ {S H : Type 0} (g : Ghosts S) (view : H → View) (size : H → Sizes) where
-  -- The registry holds tables with these intents, and with each image that a crash may leave of the
-  -- shelf they lead to w.
+  -- The registry holds tables with these intents and bytes, and with each image that a crash may
+  -- leave of the shelf they lead to w.
   pub record IsFound (r : Held S) (h : H) (away : Image) (ts : List Intent)
-      (u w : World) : Type 0 where
+      (bytes : List (List ℕ)) (u w : World) : Type 0 where
     pub tables : Tables
     pub has : HasTables g r tables
     pub sizes : present w ≡ size h
-    pub leads : AllLead tables ts (size h) away (view h).may_leave u w
+    pub leads : AllLead tables ts bytes (size h) away (view h).may_leave u w
 
-  -- The registry holds tables with these intents, whose providers are on the shelf; and with each
-  -- image that a crash may leave of the shelf they lead to w.
+  -- The registry holds tables with these intents, whose providers are on the shelf, and these
+  -- bytes; and with each image that a crash may leave of the shelf they lead to w.
   pub record IsAt (r : Held S) (h : H) (away : Image) (ts : List Intent)
-      (u w : World) : Type 0 where
+      (bytes : List (List ℕ)) (u w : World) : Type 0 where
     pub tables : Tables
     pub has : HasTables g r tables
     pub sizes : present w ≡ size h
     pub at_hand : (t : Intent) → Has ts t → IsAtHand (size h) t
-    pub leads : AllLead tables ts (size h) away (view h).may_leave u w
+    pub leads : AllLead tables ts bytes (size h) away (view h).may_leave u w
 
   -- The bench is at a world to which this work leads, and the work's part of the records says what
   -- its intents need.
   pub record IsAtWork (r : Held S) (h : H) (away : Image) (work : Work) (u w : World) : Type 0 where
-    pub at : IsAt r h away work.intents.items u w
+    pub at : IsAt r h away work.intents.items work.bytes.items u w
     pub cover : Cover work.part w.state work.intents.items
 
   -- A stop within a call finds the registry as it was with an image of any moment, or what both may

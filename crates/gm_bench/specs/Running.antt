@@ -23,4 +23,4 @@ pub record IsRun {S H : Type 0} (g : Ghosts S) (view : H → View) (size : H →
     (h : H) (away : Image) (u : World) (key : List ℕ) (c : Command) (a : Answer) : Type 0 where
   pub world : World
   pub calls : run.Calls u (record { key = key; command = c }) world (answer_of a)
-  pub at : IsAt g view size r h away [] world world
+  pub at : IsAt g view size r h away [] [] world world

@@ -238,7 +238,7 @@ module _ {S H : Type 0} (g : Ghosts S) (view : H → View) (size : H → Sizes) 
   WithoutDoes store s h k call provider gone =
       (away : Image) (u w : World) → (left : IsLeft g view size store h away u w)
       → (gone ≡ dropped provider left.recovers.intents) × (v : World)
-      × IsStepWithout w call provider gone v × IsAt g view size s k away [] v v
+      × IsStepWithout w call provider gone v × IsAt g view size s k away [] [] v v
 
   -- Providers went away or came back unchanged: those on the later shelf have their sizes, and
   -- whatever image is left of it, all providers hold what they hold with one that may be left of
@@ -284,7 +284,7 @@ module _ {S H : Type 0} (g : Ghosts S) (view : H → View) (size : H → Sizes) 
         × (left : List Entry) × (n ≡ record m { phase = Down db l; accepted = left })
         × IsLeftIn db (Handed_in call) m.accepted left
         × (leaves : RunLeaves g view size r s h k call.key call.command)
-        × ((away : Image) (u : World) (at : IsAt g view size r h away [] u u)
+        × ((away : Image) (u : World) (at : IsAt g view size r h away [] [] u u)
         → IsRunStop r s h k away u call (leaves away u at) db l)
     Happens m (Look_returned s k) n =
         (r : Held S) × (h : H) × IsOpenOver m.phase r h
@@ -343,7 +343,7 @@ module _ {S H : Type 0} (g : Ghosts S) (view : H → View) (size : H → Sizes) 
     pub record AtRest (r : Held S) (h : H) (away : Image) (acc ack : List Entry) : Type 0 where
       pub world : World
       pub reached : Reached all acc world
-      pub at : IsAt g view size r h away [] world world
+      pub at : IsAt g view size r h away [] [] world world
       pub told : Within ack acc
 
     -- the work that is pending leads to it, and no component claims on the way a sector that it

@@ -32,7 +32,7 @@ use Rattle.gm_state.specs.Rows.{Tables}
 use Rattle.gm_registry.specs.Changes.{settled}
 use Rattle.gm_registry.specs.Replies.{IsFree, count_of}
 use Rattle.gm_bench.specs.Planning.{IsFitting}
-use Rattle.gm_bench.specs.Losing.{dropped, next_of, pending_after, remaining}
+use Rattle.gm_bench.specs.Losing.{dropped, left_to_lay, next_of, pending_after, remaining}
 use Rattle.gm_bench.specs.Leading.{AllLead}
 use Rattle.gm_bench.specs.Presence.{first_absent}
 use Rattle.gm_bench.specs.Recovering.{IsAt, IsFound, LeavesOnly}
@@ -89,8 +89,10 @@ pub record IsRefusedLoss (w : World) (ts : List Intent) (key p : List ℕ)
   pub applies : IsBadLoss w ts key p r
   pub least : (q : LossRefusal) → IsBadLoss w ts key p q → number_of_loss r ≤ number_of_loss q
 
--- nothing refuses the loss: what it makes, the records and the intents behind it, and its words
-pub record IsNewLoss (w : World) (ts : List Intent) (key p : List ℕ) (loss : Loss) : Type 0 where
+-- nothing refuses the loss: what it makes, the records, the intents and the bytes behind it, and
+-- its words
+pub record IsNewLoss (w : World) (ts : List Intent) (bytes : List (List ℕ)) (key p : List ℕ)
+    (loss : Loss) : Type 0 where
   pub component : Component
   pub on : component_of w.state p ≡ Some component
   pub mirror : loss.mirror ≡ component.mirror
@@ -101,51 +103,55 @@ pub record IsNewLoss (w : World) (ts : List Intent) (key p : List ℕ) (loss : L
   pub next_is : next_of loss.after p ts ≡ Some next
   pub intents : loss.intents.items
       ≡ pending_after p next ts (members loss.after.components component.mirror)
+  pub to_lay : loss.bytes.items ≡ left_to_lay loss.intents.items bytes
   pub words : string_bytes loss.words ≡ words_of (Lost component.mirror (p ∷ []))
   pub away : present w p ≡ None
 
 -- what is found of an opening without the provider, before anything is written
-abbrev pub IsJudged : World → List Intent → List ℕ → List ℕ → Judged → Type 0
-IsJudged w ts key p (Kept n reply) =
+abbrev pub IsJudged : World → List Intent → List (List ℕ) → List ℕ → List ℕ → Judged → Type 0
+IsJudged w ts bytes key p (Kept n reply) =
     (a : Answered) × IsKeptLoss w key p a × (a.number ≡ n) × (a.reply ≡ reply)
-IsJudged w ts key p (Refused r) = IsRefusedLoss w ts key p r
-IsJudged w ts key p (New loss) = IsNewLoss w ts key p loss
+IsJudged w ts bytes key p (Refused r) = IsRefusedLoss w ts key p r
+IsJudged w ts bytes key p (New loss) = IsNewLoss w ts bytes key p loss
 
 -- the mirror, the change, the records behind it, all that is pending then, and the words; and the
 -- provider is away
-pub record IsLossWith (s : Records) (size : Sizes) (ts : List Intent) (n p words : List ℕ)
-    (ch : Changed) (loss : Loss) : Type 0 where
+pub record IsLossWith (s : Records) (size : Sizes) (ts : List Intent) (bytes : List (List ℕ))
+    (n p words : List ℕ) (ch : Changed) (loss : Loss) : Type 0 where
   pub mirror : loss.mirror ≡ n
   pub change : loss.change ≡ ch
   pub after : loss.after ≡ changed_by ch s
   pub next : List ℕ
   pub next_is : next_of loss.after p ts ≡ Some next
   pub intents : loss.intents.items ≡ remaining p next ts ++ ch.intents
+  pub to_lay : loss.bytes.items ≡ left_to_lay loss.intents.items bytes
   pub words_are : string_bytes loss.words ≡ words
   pub away : size p ≡ None
 
 -- what a loss comes to whose change the rules allow, by the records and the sizes
-abbrev pub IsRedirected : Records → Sizes → List Intent → (n p words : List ℕ) → Changed → Judged
-    → Type 0
-IsRedirected s size ts n p words ch (Kept number reply) = ⊥
-IsRedirected s size ts n p words ch (Refused (ByCall r)) = ⊥
-IsRedirected s size ts n p words ch (Refused OnlySource) = next_of (changed_by ch s) p ts ≡ None
-IsRedirected s size ts n p words ch (Refused OnShelf) =
+abbrev pub IsRedirected : Records → Sizes → List Intent → List (List ℕ) → (n p words : List ℕ)
+    → Changed → Judged → Type 0
+IsRedirected s size ts bytes n p words ch (Kept number reply) = ⊥
+IsRedirected s size ts bytes n p words ch (Refused (ByCall r)) = ⊥
+IsRedirected s size ts bytes n p words ch (Refused OnlySource) =
+    next_of (changed_by ch s) p ts ≡ None
+IsRedirected s size ts bytes n p words ch (Refused OnShelf) =
     IsSome (next_of (changed_by ch s) p ts) × IsSome (size p)
-IsRedirected s size ts n p words ch (New loss) = IsLossWith s size ts n p words ch loss
+IsRedirected s size ts bytes n p words ch (New loss) = IsLossWith s size ts bytes n p words ch loss
 
 -- what is pending behind this change of a loss can be read again, where what was pending could be
 abbrev pub StayReadableBehind : Records → List ℕ → Changed → Type 0
-StayReadableBehind s p ch = (ts : List Intent) (next : List ℕ) → AreReadable s ts
-    → next_of (changed_by ch s) p ts ≡ Some next
-    → AreReadable (changed_by ch s) (remaining p next ts ++ ch.intents)
+StayReadableBehind s p ch = (ts : List Intent) (bytes : List (List ℕ)) (next : List ℕ)
+    → AreReadable s bytes ts → next_of (changed_by ch s) p ts ≡ Some next
+    → AreReadable (changed_by ch s) (left_to_lay (remaining p next ts ++ ch.intents) bytes)
+    (remaining p next ts ++ ch.intents)
 
 -- the same of a loss that was judged
-abbrev pub StaysReadable : Records → List Intent → Judged → Type 0
-StaysReadable s ts (Kept n reply) = Unit {0}
-StaysReadable s ts (Refused r) = Unit {0}
-StaysReadable s ts (New loss) =
-    AreReadable s ts → IsState loss.after × AreReadable loss.after loss.intents.items
+abbrev pub StaysReadable : Records → List Intent → List (List ℕ) → Judged → Type 0
+StaysReadable s ts bytes (Kept n reply) = Unit {0}
+StaysReadable s ts bytes (Refused r) = Unit {0}
+StaysReadable s ts bytes (New loss) = AreReadable s bytes ts
+    → IsState loss.after × AreReadable loss.after loss.bytes.items loss.intents.items
 
 -- The loss can be committed under the key, in place of the intents that are pending: its change
 -- fits the tables, and behind it no more than 17 intents more are pending.
@@ -170,10 +176,11 @@ pub record AreOfWorld (s : Records) (size : Sizes) (w : World) : Type 0 where
 
 -- of the intents that are to be carried out it needs this image first: of those that were pending,
 -- where the loss was accepted before; and of those behind the loss
-abbrev pub IsLacking : World → List Intent → List ℕ → List ℕ → Sizes → List ℕ → Type 0
-IsLacking w ts key p size q =
+abbrev pub IsLacking : World → List Intent → List (List ℕ) → List ℕ → List ℕ → Sizes → List ℕ
+    → Type 0
+IsLacking w ts bytes key p size q =
     ((a : Answered) × IsKeptLoss w key p a × (first_absent w.state size ts ≡ Some q))
-    ⊎ ((loss : Loss) × IsNewLoss w ts key p loss
+    ⊎ ((loss : Loss) × IsNewLoss w ts bytes key p loss
     × (first_absent loss.after size loss.intents.items ≡ Some q))
 
 -- ---- what a loss leaves
@@ -184,9 +191,9 @@ loss_call key n p = record { key = key; command = Lost n (p ∷ []) }
 module _ {S H : Type 0} (g : Ghosts S) (view : H → View) (size : H → Sizes) where
   -- the tables that are found, of which the loss was judged
   pub record HasJudged (r : Held S) (h : H) (key p : List ℕ) (loss : Loss) (away : Image)
-      (ts : List Intent) (u w : World) : Type 0 where
-    pub found : IsFound g view size r h away ts u w
-    pub judged : IsNewLoss w ts key p loss
+      (ts : List Intent) (bytes : List (List ℕ)) (u w : World) : Type 0 where
+    pub found : IsFound g view size r h away ts bytes u w
+    pub judged : IsNewLoss w ts bytes key p loss
 
   -- it is committed under this number: the loss's intents lead to its step
   abbrev pub IsLost : Held S → H → Image → Loss → (key p : List ℕ) → List Intent → (u w : World)
@@ -194,56 +201,62 @@ module _ {S H : Type 0} (g : Ghosts S) (view : H → View) (size : H → Sizes) 
   IsLost end h away loss key p ts u w n =
       (v : World) × (step : IsStepWithout w (loss_call key loss.mirror p) p (dropped p ts) v)
       × (step.reply ≡ loss.change.reply) × (n ≡ length w.answered + 1) × (present v ≡ size h)
-      × (loss.after ≡ v.state) × IsFound g view size end h away loss.intents.items u v
+      × (loss.after ≡ v.state) × IsFound g view size end h away loss.intents.items loss.bytes.items
+      u v
 
 module _ {S H : Type 0} (g : Ghosts S) (view : H → View) (size : H → Sizes)
-    (Was : Image → List Intent → World → World → Type 0) (call : Call) (p : List ℕ) where
-  -- until its commit nothing is written to the shelf
-  abbrev pub Commits : (start mid : Held S) → H → Type 0
-  Commits start mid h = (away : Image) (ts : List Intent) (u w : World) → Was away ts u w
-      → LeavesCommit g view size start mid h away u w call p (dropped p ts)
+    (Was : Image → List Intent → List (List ℕ) → World → World → Type 0) (call : Call) (p : List ℕ)
+  where
+    -- until its commit nothing is written to the shelf
+    abbrev pub Commits : (start mid : Held S) → H → Type 0
+    Commits start mid h = (away : Image) (ts : List Intent) (bytes : List (List ℕ)) (u w : World)
+        → Was away ts bytes u w
+        → LeavesCommit g view size start mid h away u w call p (dropped p ts)
 
-  -- behind its commit, what a stop leaves leads to the step
-  abbrev pub Carries : (mid end : Held S) (h k : H) → Type 0
-  Carries mid end h k = (away : Image) (ts : List Intent) (u w : World) → Was away ts u w
-      → (v : World) × IsStepWithout w call p (dropped p ts) v × (present v ≡ size h)
-      × LeavesOnly g view size mid end h k away u v
+    -- behind its commit, what a stop leaves leads to the step
+    abbrev pub Carries : (mid end : Held S) (h k : H) → Type 0
+    Carries mid end h k = (away : Image) (ts : List Intent) (bytes : List (List ℕ)) (u w : World)
+        → Was away ts bytes u w
+        → (v : World) × IsStepWithout w call p (dropped p ts) v × (present v ≡ size h)
+        × LeavesOnly g view size mid end h k away u v
 
-  -- it was stopped at its commit, or behind that
-  abbrev pub LeavesLoss : (start end : Held S) (h k : H) → Type 0
-  LeavesLoss start end h k =
-      (Commits start end h × (k ≡ h))
-      ⊎ ((mid : Held S) × Commits start mid h × Carries mid end h k)
+    -- it was stopped at its commit, or behind that
+    abbrev pub LeavesLoss : (start end : Held S) (h k : H) → Type 0
+    LeavesLoss start end h k =
+        (Commits start end h × (k ≡ h))
+        ⊎ ((mid : Held S) × Commits start mid h × Carries mid end h k)
 
-  -- it is carried out under this number, and the bench is at rest in the world of its step
-  abbrev pub DoesLoss : (end : Held S) → H → ℕ → Reply → Type 0
-  DoesLoss end k n reply = (away : Image) (ts : List Intent) (u w : World) → Was away ts u w
-      → (v : World) × (step : IsStepWithout w call p (dropped p ts) v) × (step.reply ≡ reply)
-      × (n ≡ length w.answered + 1) × IsAt g view size end k away [] v v
+    -- it is carried out under this number, and the bench is at rest in the world of its step
+    abbrev pub DoesLoss : (end : Held S) → H → ℕ → Reply → Type 0
+    DoesLoss end k n reply = (away : Image) (ts : List Intent) (bytes : List (List ℕ)) (u w : World)
+        → Was away ts bytes u w
+        → (v : World) × (step : IsStepWithout w call p (dropped p ts) v) × (step.reply ≡ reply)
+        × (n ≡ length w.answered + 1) × IsAt g view size end k away [] [] v v
 
 -- what was found of the loss, of these tables
 module _ {S H : Type 0} (g : Ghosts S) (view : H → View) (size : H → Sizes) where
   pub record IsLooked (r : Held S) (h : H) (key p : List ℕ) (looked : Looked) (away : Image)
-      (ts : List Intent) (u w : World) : Type 0 where
-    pub found : IsFound g view size r h away ts u w
+      (ts : List Intent) (bytes : List (List ℕ)) (u w : World) : Type 0 where
+    pub found : IsFound g view size r h away ts bytes u w
     pub state : looked.state ≡ w.state
     pub intents : looked.intents.items ≡ ts
-    pub judged : IsJudged w ts key p looked.judged
+    pub to_lay : looked.bytes.items ≡ bytes
+    pub judged : IsJudged w ts bytes key p looked.judged
 
   module _ (key p : List ℕ) (start end : Held S) (h k : H) where
     -- nothing is committed, and what was pending may be carried out
     abbrev pub LeavesOpened : Type 0
-    LeavesOpened = (away : Image) (ts : List Intent) (u w : World)
-        → (at : IsFound g view size start h away ts u w)
+    LeavesOpened = (away : Image) (ts : List Intent) (bytes : List (List ℕ)) (u w : World)
+        → (at : IsFound g view size start h away ts bytes u w)
         → LeavesOnly g view size start end h k away u w
-        × AllLead at.tables ts (size h) away ((view k).left_since (view h).moment) u w
+        × AllLead at.tables ts bytes (size h) away ((view k).left_since (view h).moment) u w
 
     -- that, or the loss is committed
     abbrev pub LeavesWithout : Type 0
     LeavesWithout = LeavesOpened
         ⊎ ((n : List ℕ) × (gone : List Intent)
-        × ((away : Image) (ts : List Intent) (u w : World)
-        → IsFound g view size start h away ts u w → gone ≡ dropped p ts)
+        × ((away : Image) (ts : List Intent) (bytes : List (List ℕ)) (u w : World)
+        → IsFound g view size start h away ts bytes u w → gone ≡ dropped p ts)
         × LeavesLoss g view size (IsFound g view size start h) (loss_call key n p) p start end h k)
 
     -- nothing is committed but where the loss is answered as done
@@ -256,21 +269,24 @@ module _ {S H : Type 0} (g : Ghosts S) (view : H → View) (size : H → Sizes) 
     -- an image is lacking, and nothing is committed
     abbrev pub LacksFirst : List ℕ → Type 0
     LacksFirst q = LeavesOpened
-        × ((away : Image) (ts : List Intent) (u w : World)
-        → IsFound g view size start h away ts u w → IsLacking w ts key p (size h) q)
+        × ((away : Image) (ts : List Intent) (bytes : List (List ℕ)) (u w : World)
+        → IsFound g view size start h away ts bytes u w → IsLacking w ts bytes key p (size h) q)
 
     -- what is answered, and how many intents were pending
     abbrev pub DoesWithout : TakenUp → Type 0
     DoesWithout (Carried (Done n reply) redone) =
         (m : List ℕ) × (gone : List Intent)
-        × ((away : Image) (ts : List Intent) (u w : World)
-        → IsFound g view size start h away ts u w → (gone ≡ dropped p ts) × (redone ≡ length ts))
+        × ((away : Image) (ts : List Intent) (bytes : List (List ℕ)) (u w : World)
+        → IsFound g view size start h away ts bytes u w → (gone ≡ dropped p ts)
+        × (redone ≡ length ts))
         × DoesLoss g view size (IsFound g view size start h) (loss_call key m p) p end k n reply
     DoesWithout (Carried (Repeated n reply) redone) =
-        (away : Image) (ts : List Intent) (u w : World) → IsFound g view size start h away ts u w
+        (away : Image) (ts : List Intent) (bytes : List (List ℕ)) (u w : World)
+        → IsFound g view size start h away ts bytes u w
         → ((a : Answered) × IsKeptLoss w key p a × (a.number ≡ n) × (a.reply ≡ reply))
-        × (redone ≡ length ts) × IsAt g view size end k away [] w w
+        × (redone ≡ length ts) × IsAt g view size end k away [] [] w w
     DoesWithout (Carried (AnswerRefused why) redone) = ⊥
     DoesWithout (NotLost why) =
-        (away : Image) (ts : List Intent) (u w : World) → IsFound g view size start h away ts u w
+        (away : Image) (ts : List Intent) (bytes : List (List ℕ)) (u w : World)
+        → IsFound g view size start h away ts bytes u w
         → IsRefusedLoss w ts key p why

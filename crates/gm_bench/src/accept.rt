@@ -17,7 +17,7 @@ ghost use Rattle.gm_bench.specs.Faults.{IsOfCall};
 ghost use Rattle.gm_bench.specs.Planning.{IsFitting, IsPlanned, IsWith, IsWorkAtHand};
 ghost use Rattle.gm_bench.specs.Recovering.{IsAt};
 ghost use Rattle.gm_bench.specs.Phases.{IsUndone, answer_of};
-ghost use Rattle.gm_bench.specs.Calls.{Accepts, GoesOn, RefusesCall, StaysRegistry, TellsAtHand, TellsStoreOf, TellsStoreWhere, TellsUnreadable, most_rows};
+ghost use Rattle.gm_bench.specs.Calls.{Accepts, GoesOn, HasNothingPending, RefusesCall, StaysRegistry, TellsAtHand, TellsStoreOf, TellsStoreWhere, TellsUnreadable, most_rows};
 
 use crate::answer::Accepted;
 use crate::fault::BenchFault;
@@ -34,13 +34,13 @@ impl<S: Alter, H: Shelf> Media<S, H> {
     fn commit(&mut self, planned: Planned, key: &str, words: &str) -> Result<Accepted, BenchFault>
         ensures leaves { H.honest self.old.shelf → DiskKept S.Store self.new.registry
             → (away : Image) (c : Command) (u : World) → words.now ≡ words_of c
-            → IsAt S.Store H.view H.size self.old.registry self.old.shelf away [] u u
+            → IsAt S.Store H.view H.size self.old.registry self.old.shelf away [] [] u u
             → IsPlanned u c planned → CanAnswer u key.now c
             → LeavesStep S.Store H.view H.size self.old.registry self.new.registry
             self.old.shelf self.old.shelf away u key.now c }
         ensures done { H.honest self.old.shelf → DiskKept S.Store self.new.registry
             → IfOk result (λ a. (away : Image) (c : Command) (u : World) → words.now ≡ words_of c
-            → IsAt S.Store H.view H.size self.old.registry self.old.shelf away [] u u
+            → IsAt S.Store H.view H.size self.old.registry self.old.shelf away [] [] u u
             → IsPlanned u c planned → CanAnswer u key.now c
             → IsAnswered S.Store H.view H.size self.new.registry self.old.shelf away
             u key.now c a) }
@@ -48,7 +48,7 @@ impl<S: Alter, H: Shelf> Media<S, H> {
         // Of a change that fits the tables, `Store` comes only where the store failed.
         ensures store { DiskKept S.Store self.new.registry → IsErrOf result BenchFault.Store
             → (t : Tables) → HasTables S.Store self.old.registry t → count_of t < 100000
-            → is_key key.now ≡ true → IsFree t key.now → t.intents ≡ []
+            → is_key key.now ≡ true → IsFree t key.now → HasNothingPending t
             → IsFitting planned.change words.now t
             → HasRoom most_rows (seen S.Store self.old.registry)
             → StoreFailed S.Store self.old.registry self.new.registry }
@@ -84,13 +84,13 @@ impl<S: Alter, H: Shelf> Media<S, H> {
     ) -> Result<Accepted, BenchFault>
         ensures leaves { H.honest self.old.shelf → DiskKept S.Store self.new.registry
             → (away : Image) (u : World) → words.now ≡ words_of command.now
-            → IsAt S.Store H.view H.size self.old.registry self.old.shelf away [] u u
+            → IsAt S.Store H.view H.size self.old.registry self.old.shelf away [] [] u u
             → CanAnswer u key.now command.now
             → LeavesStep S.Store H.view H.size self.old.registry self.new.registry
             self.old.shelf self.new.shelf away u key.now command.now }
         ensures done { H.honest self.old.shelf → DiskKept S.Store self.new.registry
             → IfOk result (λ a. (away : Image) (u : World) → words.now ≡ words_of command.now
-            → IsAt S.Store H.view H.size self.old.registry self.old.shelf away [] u u
+            → IsAt S.Store H.view H.size self.old.registry self.old.shelf away [] [] u u
             → CanAnswer u key.now command.now
             → IsAnswered S.Store H.view H.size self.new.registry self.new.shelf away
             u key.now command.now a) }
@@ -102,7 +102,7 @@ impl<S: Alter, H: Shelf> Media<S, H> {
         ensures refused { RefusesCall S.Store H.Shelf self.old self.new result }
         ensures store { words.now ≡ words_of command.now → is_key key.now ≡ true
             → CommandFits command.now → TellsStoreWhere S.Store H.Shelf self.old self.new result
-            (λ t. (t.intents ≡ []) × (count_of t < 100000) × IsFree t key.now) command.now }
+            (λ t. HasNothingPending t × (count_of t < 100000) × IsFree t key.now) command.now }
         ensures goes_on { StaysRegistry S.Store H.Shelf self.old self.new result }
         ensures accepts { Accepts S.Store H.Shelf self.old self.new result
             (λ a. IsUndone (answer_of a)) }
@@ -124,14 +124,14 @@ impl<S: Alter, H: Shelf> Media<S, H> {
         ensures leaves { H.honest self.old.shelf → DiskKept S.Store self.new.registry
             → (away : Image) (u : World) → words.now ≡ words_of command.now
             → is_key key.now ≡ true → CommandFits command.now
-            → (at : IsAt S.Store H.view H.size self.old.registry self.old.shelf away [] u u)
+            → (at : IsAt S.Store H.view H.size self.old.registry self.old.shelf away [] [] u u)
             → IsFree at.tables key.now
             → LeavesStep S.Store H.view H.size self.old.registry self.new.registry
             self.old.shelf self.new.shelf away u key.now command.now }
         ensures done { H.honest self.old.shelf → DiskKept S.Store self.new.registry
             → IfOk result (λ a. (away : Image) (u : World) → words.now ≡ words_of command.now
             → is_key key.now ≡ true → CommandFits command.now
-            → (at : IsAt S.Store H.view H.size self.old.registry self.old.shelf away [] u u)
+            → (at : IsAt S.Store H.view H.size self.old.registry self.old.shelf away [] [] u u)
             → IsFree at.tables key.now
             → IsAnswered S.Store H.view H.size self.new.registry self.new.shelf away
             u key.now command.now a) }
@@ -143,7 +143,7 @@ impl<S: Alter, H: Shelf> Media<S, H> {
         ensures refused { RefusesCall S.Store H.Shelf self.old self.new result }
         ensures store { words.now ≡ words_of command.now → is_key key.now ≡ true
             → CommandFits command.now → TellsStoreWhere S.Store H.Shelf self.old self.new result
-            (λ t. (t.intents ≡ []) × IsFree t key.now) command.now }
+            (λ t. HasNothingPending t × IsFree t key.now) command.now }
         ensures goes_on { StaysRegistry S.Store H.Shelf self.old self.new result }
         ensures accepts { Accepts S.Store H.Shelf self.old self.new result
             (λ a. IsUndone (answer_of a)) }
@@ -165,13 +165,13 @@ impl<S: Alter, H: Shelf> Media<S, H> {
         ensures leaves { H.honest self.old.shelf → DiskKept S.Store self.new.registry
             → (away : Image) (u : World) → words.now ≡ words_of command.now
             → is_key key.now ≡ true → CommandFits command.now
-            → IsAt S.Store H.view H.size self.old.registry self.old.shelf away [] u u
+            → IsAt S.Store H.view H.size self.old.registry self.old.shelf away [] [] u u
             → LeavesStep S.Store H.view H.size self.old.registry self.new.registry
             self.old.shelf self.new.shelf away u key.now command.now }
         ensures done { H.honest self.old.shelf → DiskKept S.Store self.new.registry
             → IfOk result (λ a. (away : Image) (u : World) → words.now ≡ words_of command.now
             → is_key key.now ≡ true → CommandFits command.now
-            → IsAt S.Store H.view H.size self.old.registry self.old.shelf away [] u u
+            → IsAt S.Store H.view H.size self.old.registry self.old.shelf away [] [] u u
             → IsAnswered S.Store H.view H.size self.new.registry self.new.shelf away
             u key.now command.now a) }
         ensures fault { IfErr result IsOfCall }
@@ -209,12 +209,12 @@ impl<S: Alter, H: Shelf> Media<S, H> {
     ) -> Result<Accepted, BenchFault>
         ensures leaves { H.honest self.old.shelf → DiskKept S.Store self.new.registry
             → (away : Image) (u : World)
-            → IsAt S.Store H.view H.size self.old.registry self.old.shelf away [] u u
+            → IsAt S.Store H.view H.size self.old.registry self.old.shelf away [] [] u u
             → LeavesStep S.Store H.view H.size self.old.registry self.new.registry
             self.old.shelf self.new.shelf away u key.now command.now }
         ensures done { H.honest self.old.shelf → DiskKept S.Store self.new.registry
             → IfOk result (λ a. (away : Image) (u : World)
-            → IsAt S.Store H.view H.size self.old.registry self.old.shelf away [] u u
+            → IsAt S.Store H.view H.size self.old.registry self.old.shelf away [] [] u u
             → IsAnswered S.Store H.view H.size self.new.registry self.new.shelf away
             u key.now command.now a) }
         ensures fault { IfErr result IsOfCall }

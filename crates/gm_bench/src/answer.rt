@@ -15,11 +15,13 @@ pub enum Answer {
     Refused(CallRefusal),
 }
 
-/// What an accepted command has still to be carried out: its part of the records, and its intents.
+/// What an accepted command has still to be carried out: its part of the records, its intents, and
+/// the sectors that they lay.
 #[derive(Drop)]
 pub(crate) struct Work {
     pub(crate) part: State,
     pub(crate) intents: Vec<Intent>,
+    pub(crate) bytes: Vec<[u8; 512]>,
 }
 
 /// What a command is answered, with what is still to be carried out.

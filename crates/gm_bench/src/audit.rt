@@ -1,6 +1,6 @@
 //! Which components the shelf shows otherwise than they are registered. Nothing is written.
 
-ghost use Rattle.std.specs.Prelude.{◌≡◌, ◌≤◌, ◌<◌, ◌↔◌, List, Some, IsTrue, IfOk, IfErr, IsErrOf, OnOk};
+ghost use Rattle.std.specs.Prelude.{◌≡◌, ◌≤◌, ◌<◌, ◌↔◌, ℕ, List, Some, IsTrue, IfOk, IfErr, IsErrOf, OnOk};
 ghost use Rattle.gm_shelf.specs.Disk.{AreReads};
 ghost use Rattle.gm_state.specs.declared.intents.Intent.{Intent};
 ghost use Rattle.gm_state.specs.declared.records.Mirror.{Mirror};
@@ -86,20 +86,22 @@ impl<S: Alter, H: Shelf> Media<S, H> {
     pub(crate) fn audit(&mut self, alloc: Global) -> Result<Vec<Label>, BenchFault>
         ensures audits { H.honest self.old.shelf → DiskKept S.Store self.new.registry
             → IfOk result (λ names. (t : Tables) (s : Records) (ts : List Intent)
-            → HasTables S.Store self.old.registry t → AreTablesOf t s ts
+            (bytes : List (List ℕ)) → HasTables S.Store self.old.registry t
+            → AreTablesOf t s ts bytes
             → IsAudit s (H.size self.old.shelf) (H.view self.old.shelf).seen names.items) }
         ensures looks { H.honest self.old.shelf → DiskKept S.Store self.new.registry
             → OnOk result (LookDoes S.Store H.view H.size self.old.registry self.new.registry
             self.old.shelf self.new.shelf) }
         ensures unreadable { DiskKept S.Store self.new.registry
             → IsErrOf result BenchFault.Unreadable → (t : Tables) (s : Records) (ts : List Intent)
-            → HasTables S.Store self.old.registry t → AreTablesOf t s ts → ⊥ }
+            (bytes : List (List ℕ)) → HasTables S.Store self.old.registry t
+            → AreTablesOf t s ts bytes → ⊥ }
         ensures store { DiskKept S.Store self.new.registry → IsErrOf result BenchFault.Store
             → IsRegistry S.Store self.old.registry
             → StoreFailed S.Store self.old.registry self.new.registry }
         ensures asks { Asks S.Store H.Shelf self.old self.new result }
     {
-        let (state, _) = self.load(alloc)?;
+        let (state, _, _) = self.load(alloc)?;
         audit_shelf(alloc, &mut self.shelf, &state)
     }
 }

@@ -90,7 +90,7 @@ impl<S: Alter, H: Shelf> Bench<S, H> {
     {
         match mem::replace(&mut self.progress, Progress::Failed) {
             Progress::Pending(work) => {
-                self.media.apply(&work.part, &work.intents)?;
+                self.media.apply(&work.part, &work.intents, &work.bytes)?;
                 self.progress = Progress::Applied(work);
                 Ok(())
             }
@@ -136,7 +136,7 @@ impl<S: Alter, H: Shelf> Bench<S, H> {
             → IsAtWork S.Store H.view H.size (registry_of self.old) (shelf_of self.old) away
             work u w
             → IsAt S.Store H.view H.size (registry_of self.new) (shelf_of self.new) away
-            [] w w) }
+            [] [] w w) }
         ensures leaves { H.honest (shelf_of self.old) → DiskKept S.Store (registry_of self.new)
             → (work : Work) → progress_of self.old ≡ Progress.Pending work
             → (away : Image) (u w : World)

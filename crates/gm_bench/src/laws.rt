@@ -6,11 +6,11 @@ ghost use Rattle.gm_commands.specs.declared.command.Command.TheVariants.{Lost};
 ghost use Rattle.gm_state.specs.declared.intents.Intent.{Intent};
 ghost use Rattle.gm_state.specs.declared.records.Mirror.{Mirror};
 ghost use Rattle.gm_state.specs.Lookups.{mirror_of};
-ghost use Rattle.gm_state.specs.Rows.{Tables, HoldRecords, intent_rows};
+ghost use Rattle.gm_state.specs.Rows.{Tables, HoldRecords, intent_rows, patch_rows};
 ghost use Rattle.gm_state.specs.World.{World, Sound};
 ghost use Rattle.gm_rules.specs.Step.{Plan};
 ghost use Rattle.gm_bench.specs.Leading.{Leads, KeepsClaims};
-ghost use Rattle.gm_bench.specs.Losing.{pending_after, as_left, HasNext};
+ghost use Rattle.gm_bench.specs.Losing.{HasNext, as_left, left_to_lay, pending_after};
 ghost use Rattle.sqlite.specs.Held.{Held};
 ghost use Rattle.gm_metadata.specs.Images.{Image, Sizes};
 ghost use Rattle.gm_state.specs.Records.{IsState, Records, members};
@@ -50,15 +50,15 @@ pub fn clean_audit_law()
 /// What is pending behind the loss of a component leads on, and keeps what was claimed before the
 /// first command.
 pub fn losses_lead_on()
-    ensures { (u w v : World) (key n p next : List ℕ) (ts us : List Intent) (m : Mirror)
-        (y away : Image) (before t : Tables) → Sound w → mirror_of w.state n ≡ Some m
-        → Plan w key (Lost n (p ∷ [])) us v → ((j : ℕ) → y p j ≡ away p j)
-        → Leads before ts y w → HasNext v.state p next ts → HoldRecords v t
-        → IsPermutation (intent_rows 1
-        (pending_after p next ts (members v.state.components m.name))) t.intents
-        → KeepsClaims ts y u w
-        → Leads t (pending_after p next ts (members v.state.components m.name)) y
-        (as_left v p away)
-        × KeepsClaims (pending_after p next ts (members v.state.components m.name)) y u
-        (as_left v p away) }
+    ensures { (u w v : World) (key n p next : List ℕ) (ts us : List Intent)
+        (bytes : List (List ℕ)) (m : Mirror) (y away : Image) (before t : Tables)
+        → Sound w → mirror_of w.state n ≡ Some m
+        → Plan w key (Lost n (p ∷ [])) us [] v → ((j : ℕ) → y p j ≡ away p j)
+        → Leads before ts bytes y w → HasNext v.state p next ts → HoldRecords v t
+        → (after : List Intent)
+        → after ≡ pending_after p next ts (members v.state.components m.name)
+        → IsPermutation (intent_rows 1 after) t.intents
+        → t.patches ≡ patch_rows (left_to_lay after bytes) → KeepsClaims ts y u w
+        → Leads t after (left_to_lay after bytes) y (as_left v p away)
+        × KeepsClaims after y u (as_left v p away) }
 {}

@@ -34,6 +34,7 @@ mod phase;
 mod plan;
 mod presence;
 mod scrub;
+mod sectors;
 mod sizes;
 mod take_up;
 mod take_up_without;

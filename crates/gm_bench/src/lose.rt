@@ -1,6 +1,6 @@
 //! A component whose image is gone for good is given up, and the rest is carried out.
 
-ghost use Rattle.std.specs.Prelude.{◌≡◌, ◌≤◌, ◌<◌, ◌+◌, ◌^◌, ℕ, List, Some, None, length, IfOk, IfErr, OnOk, IsErrOf};
+ghost use Rattle.std.specs.Prelude.{◌≡◌, ◌≤◌, ◌<◌, ◌+◌, ◌^◌, ℕ, List, [], Some, None, length, IfOk, IfErr, OnOk, IsErrOf};
 ghost use Rattle.gm_metadata.specs.Images.{Image};
 ghost use Rattle.gm_state.specs.declared.intents.Intent.{Intent};
 ghost use Rattle.gm_state.specs.Readable.{AreReadable};
@@ -32,15 +32,17 @@ impl<S: Alter, H: Shelf> Media<S, H> {
             (loss_call key.now loss.now.mirror p) p
             self.old.registry self.new.registry self.old.shelf }
         ensures done { H.honest self.old.shelf → DiskKept S.Store self.new.registry
-            → IfOk result (λ n. (p : List ℕ) (away : Image) (ts : List Intent) (u w : World)
+            → IfOk result (λ n. (p : List ℕ) (away : Image) (ts : List Intent)
+            (bytes : List (List ℕ)) (u w : World)
             → HasJudged S.Store H.view H.size self.old.registry self.old.shelf key.now p loss.now
-            away ts u w
+            away ts bytes u w
             → IsLost S.Store H.view H.size self.new.registry self.old.shelf away
             loss.now key.now p ts u w n) }
         // Of a loss that fits the tables, `Store` comes only where the store failed.
         ensures store { DiskKept S.Store self.new.registry → IsErrOf result BenchFault.Store
             → (t : Tables) (ts : List Intent) → HasTables S.Store self.old.registry t
-            → CanCommit key.now ts t loss.now → length ts + 17 < 2 ^ 32
+            → CanCommit key.now ts t loss.now → length ts + 17 < 2 ^ 32 → IsState loss.now.after
+            → AreReadable loss.now.after loss.now.bytes.items loss.now.intents.items
             → HasRoom most_rows (seen S.Store self.old.registry)
             → StoreFailed S.Store self.old.registry self.new.registry }
         ensures goes_on { DiskKept S.Store self.new.registry → OnOk result ((t : Tables)
@@ -57,7 +59,7 @@ impl<S: Alter, H: Shelf> Media<S, H> {
         let words = loss.words.as_str();
         match self
             .registry
-            .accept_instead(&loss.change, &loss.intents, key, words)
+            .accept_instead(&loss.change, &loss.intents, &loss.bytes, key, words)
         {
             Ok(number) => Ok(number),
             Err(fault) => Err(BenchFault::of_store(fault)),
@@ -83,14 +85,15 @@ impl<S: Alter, H: Shelf> Media<S, H> {
             × (self.new ≡ self.old) }
         ensures there { OnOk result
             (first_absent loss.now.after (H.size self.old.shelf) loss.now.intents.items ≡ None) }
-        ensures disk { AreReadable loss.now.after loss.now.intents.items
+        ensures disk { AreReadable loss.now.after loss.now.bytes.items loss.now.intents.items
             → IsState loss.now.after → TellsDisk H.Shelf self.old.shelf self.new.shelf result }
         ensures readable { DiskKept S.Store self.new.registry
             → IsErrOf result BenchFault.Unreadable → (t : Tables)
             → HasTables S.Store self.old.registry t → count_of t ≤ 100000 → ⊥ }
         ensures store { DiskKept S.Store self.new.registry → IsErrOf result BenchFault.Store
             → (t : Tables) (ts : List Intent) → HasTables S.Store self.old.registry t
-            → CanCommit key.now ts t loss.now → length ts + 17 < 2 ^ 32
+            → CanCommit key.now ts t loss.now → length ts + 17 < 2 ^ 32 → IsState loss.now.after
+            → AreReadable loss.now.after loss.now.bytes.items loss.now.intents.items
             → HasRoom most_rows (seen S.Store self.old.registry)
             → StoreFailed S.Store self.old.registry self.new.registry }
         ensures closed { IsErrOf result BenchFault.Closed → ⊥ }
@@ -101,7 +104,7 @@ impl<S: Alter, H: Shelf> Media<S, H> {
             return Err(BenchFault::Absent(absent));
         }
         let number = self.commit_loss(loss, key)?;
-        self.finish(&loss.after, &loss.intents)?;
+        self.finish(&loss.after, &loss.intents, &loss.bytes)?;
         Ok(number)
     }
 }

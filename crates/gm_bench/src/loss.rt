@@ -2,14 +2,17 @@
 //! pending, and why the loss is refused.
 
 ghost use Rattle.std.specs.Prelude.{◌≡◌, ◌≢◌, ◌↔◌, ◌++◌, ◌∷◌, [], ℕ, List, IfNone, IfOk, IfSome, IsTrue, MatchOption, string_bytes};
+ghost use Rattle.std.specs.List.{list_any};
 ghost use Rattle.gm_commands.specs.declared.command.Command.TheVariants.{Lost};
 ghost use Rattle.gm_commands.specs.Commands.{words_of};
+ghost use Rattle.gm_state.specs.Readable.{is_patch};
 ghost use Rattle.gm_metadata.specs.Labels.{is_label};
 ghost use Rattle.gm_bench.specs.declared.loss.LossRefusal.TheVariants.{ByCall};
 ghost use Rattle.gm_bench.specs.declared.loss.Judged.TheVariants.{Refused};
-ghost use Rattle.gm_bench.specs.Losing.{next_of, redirected, remaining, writes_to};
+ghost use Rattle.gm_bench.specs.Losing.{left_to_lay, next_of, redirected, remaining, writes_to};
 ghost use Rattle.gm_bench.specs.Without.{AreOfLoss, number_of_loss};
 
+use crate::sectors::copied;
 use gm_changes::Change;
 use gm_metadata::Label;
 use gm_refusals::CallRefusal;
@@ -40,14 +43,15 @@ impl LossRefusal {
     }
 }
 
-/// A loss that nothing refuses: its mirror, its change, the records and the intents behind it, and
-/// its words.
+/// A loss that nothing refuses: its mirror, its change, the records and the intents behind it, the
+/// sectors that those lay, and its words.
 #[derive(Drop)]
 pub(crate) struct Loss {
     pub(crate) mirror: Label,
     pub(crate) change: Change,
     pub(crate) after: State,
     pub(crate) intents: Vec<Intent>,
+    pub(crate) bytes: Vec<[u8; 512]>,
     pub(crate) words: String,
 }
 
@@ -79,6 +83,12 @@ fn writes_to(provider: Label, intent: &Intent) -> bool
             written == provider
         }
         Intent::Copy { target, .. } => target == provider,
+        Intent::Dirty { provider: written }
+        | Intent::Patch {
+            provider: written,
+            first: _,
+            end: _,
+        } => written == provider,
     }
 }
 
@@ -135,6 +145,33 @@ pub(crate) fn next_source(after: &State, provider: Label, intents: &[Intent]) ->
     Some(provider)
 }
 
+fn is_patch(intent: &Intent) -> bool
+    ensures { result ≡ is_patch intent.now }
+{
+    matches!(intent, Intent::Patch { .. })
+}
+
+fn has_patch(intents: &[Intent]) -> bool
+    ensures { result ≡ list_any is_patch intents.now }
+{
+    intents.iter().any(|intent| is_patch(intent))
+}
+
+// The sectors that are still to be laid: those of before where a Patch remains, else none.
+fn left_to_lay(
+    alloc: Global,
+    intents: &[Intent],
+    bytes: &[[u8; 512]],
+) -> Result<Vec<[u8; 512]>, AllocError>
+    ensures { IfOk result (λ v. v.items ≡ left_to_lay intents.now bytes.now) }
+{
+    if has_patch(intents) {
+        copied(alloc, bytes)
+    } else {
+        Ok(Vec::new(alloc))
+    }
+}
+
 // What stands behind a beginning, where the text has it.
 fn behind<'a>(front: &str, text: &'a str) -> Option<&'a str>
     ensures { MatchOption result ((rest : List ℕ) → text.now ≢ front.now ++ rest)
@@ -169,7 +206,8 @@ pub(crate) fn are_of_loss(words: &str, provider: Label) -> bool
     mirror_in(words, provider).is_some()
 }
 
-/// The loss of the provider with its change, the records behind that and its next source.
+/// The loss of the provider with its change, the records behind that and its next source, where
+/// these intents and sectors were pending.
 pub(crate) fn loss_with(
     alloc: Global,
     mirror: Label,
@@ -179,19 +217,23 @@ pub(crate) fn loss_with(
     provider: Label,
     next: Label,
     intents: &[Intent],
+    bytes: &[[u8; 512]],
 ) -> Result<Loss, AllocError>
     ensures { IfOk result (λ loss. (loss.mirror ≡ mirror) × (loss.change ≡ change)
         × (loss.after ≡ after)
         × (loss.intents.items ≡ remaining provider next intents.now ++ change.intents)
+        × (loss.bytes.items ≡ left_to_lay loss.intents.items bytes.now)
         × (string_bytes loss.words ≡ string_bytes words)) }
 {
     let mut left = remaining(alloc, provider, next, intents)?;
     left.extend_from_slice(change.intents())?;
+    let bytes = left_to_lay(alloc, &left, bytes)?;
     Ok(Loss {
         mirror,
         change,
         after,
         intents: left,
+        bytes,
         words,
     })
 }

@@ -1,6 +1,6 @@
 //! The two media of a bench, and what is written to them.
 
-ghost use Rattle.std.specs.Prelude.{◌≡◌, ◌<◌, List, [], OnOk, IfErr, IsErrOf};
+ghost use Rattle.std.specs.Prelude.{◌≡◌, ◌<◌, ℕ, List, [], OnOk, IfErr, IsErrOf};
 ghost use Rattle.gm_metadata.specs.Images.{Image};
 ghost use Rattle.gm_state.specs.declared.intents.Intent.{Intent};
 ghost use Rattle.gm_state.specs.World.{World};
@@ -28,21 +28,29 @@ pub(crate) struct Media<S: Alter, H> {
 }
 
 impl<S: Alter, H: Shelf> Media<S, H> {
-    /// Carries out intents. It writes the shelf alone.
-    pub(crate) fn apply(&mut self, part: &State, intents: &[Intent]) -> Result<(), BenchFault>
+    /// Carries out intents, with the sectors that they lay. It writes the shelf alone.
+    pub(crate) fn apply(
+        &mut self,
+        part: &State,
+        intents: &[Intent],
+        bytes: &[[u8; 512]],
+    ) -> Result<(), BenchFault>
         ensures moments { H.honest self.old.shelf → (away : Image) (u w : World)
             → (at : IsAt S.Store H.view H.size self.old.registry self.old.shelf away
-            intents.now u w)
+            intents.now bytes.now u w)
             → Cover part.now w.state intents.now
-            → AllLead at.tables intents.now (H.size self.old.shelf) away
+            → AllLead at.tables intents.now bytes.now (H.size self.old.shelf) away
             ((H.view self.new.shelf).left_since (H.view self.old.shelf).moment) u w }
         ensures done { H.honest self.old.shelf → OnOk result ((away : Image) (u w : World)
-            → IsAt S.Store H.view H.size self.old.registry self.old.shelf away intents.now u w
+            → IsAt S.Store H.view H.size self.old.registry self.old.shelf away intents.now bytes.now
+            u w
             → Cover part.now w.state intents.now
-            → IsAt S.Store H.view H.size self.new.registry self.new.shelf away intents.now u w
+            → IsAt S.Store H.view H.size self.new.registry self.new.shelf away intents.now bytes.now
+            u w
             × IsShelfOf (H.view self.new.shelf) w (H.size self.new.shelf)) }
         ensures leaves { H.honest self.old.shelf → (away : Image) (u w : World)
-            → IsAt S.Store H.view H.size self.old.registry self.old.shelf away intents.now u w
+            → IsAt S.Store H.view H.size self.old.registry self.old.shelf away intents.now bytes.now
+            u w
             → Cover part.now w.state intents.now
             → LeavesOnly S.Store H.view H.size self.old.registry self.new.registry
             self.old.shelf self.new.shelf away u w }
@@ -54,7 +62,7 @@ impl<S: Alter, H: Shelf> Media<S, H> {
         ensures registry { self.new.registry ≡ self.old.registry }
         ensures keeps { Keeps H.Shelf self.old.shelf self.new.shelf }
     {
-        match apply(&mut self.shelf, part, intents) {
+        match apply(&mut self.shelf, part, intents, bytes) {
             Ok(()) => Ok(()),
             Err(fault) => Err(BenchFault::of_shelf(fault)),
         }
@@ -63,16 +71,16 @@ impl<S: Alter, H: Shelf> Media<S, H> {
     /// Forgets what was pending, once it is carried out. It writes the registry alone.
     pub(crate) fn settle(&mut self) -> Result<(), BenchFault>
         ensures leaves { H.honest self.old.shelf → DiskKept S.Store self.new.registry
-            → (away : Image) (ts : List Intent) (u w : World)
-            → IsAt S.Store H.view H.size self.old.registry self.old.shelf away ts u w
+            → (away : Image) (ts : List Intent) (bytes : List (List ℕ)) (u w : World)
+            → IsAt S.Store H.view H.size self.old.registry self.old.shelf away ts bytes u w
             → IsShelfOf (H.view self.old.shelf) w (H.size self.old.shelf)
             → LeavesOnly S.Store H.view H.size self.old.registry self.new.registry
             self.old.shelf self.new.shelf away u w }
         ensures done { H.honest self.old.shelf → DiskKept S.Store self.new.registry
-            → OnOk result ((away : Image) (ts : List Intent) (u w : World)
-            → IsAt S.Store H.view H.size self.old.registry self.old.shelf away ts u w
+            → OnOk result ((away : Image) (ts : List Intent) (bytes : List (List ℕ)) (u w : World)
+            → IsAt S.Store H.view H.size self.old.registry self.old.shelf away ts bytes u w
             → IsShelfOf (H.view self.old.shelf) w (H.size self.old.shelf)
-            → IsAt S.Store H.view H.size self.new.registry self.new.shelf away [] w w) }
+            → IsAt S.Store H.view H.size self.new.registry self.new.shelf away [] [] w w) }
         ensures store { TellsStore S.Store self.old.registry self.new.registry result }
         ensures refused { Refuses S.Store self.old.registry self.new.registry result }
         ensures disk { IsErrOf result BenchFault.Disk → ⊥ }

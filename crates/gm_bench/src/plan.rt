@@ -28,6 +28,7 @@ use crate::answer::Work;
 use crate::facts::facts_of;
 use crate::fault::BenchFault;
 use crate::media::Media;
+use crate::sectors::copied;
 use gm_changes::{Change, changed_by, decide_part};
 use gm_commands::{Command, MAX_COMMANDS};
 use gm_metadata::Label;
@@ -57,7 +58,7 @@ pub(crate) struct Gathered {
 fn plan(alloc: Global, part: &State, change: Change) -> Result<Planned, BenchFault>
     ensures planned { IfOk result (λ p. (p.change ≡ change)
         × (p.work.part ≡ changed_by change part.now)
-        × (p.work.intents.items ≡ change.intents)) }
+        × (p.work.intents.items ≡ change.intents) × (p.work.bytes.items ≡ change.bytes)) }
     ensures disk { IsErrOf result BenchFault.Disk → ⊥ }
     ensures not_store { IsErrOf result BenchFault.Store → ⊥ }
     ensures fault { IfErr result IsOfCall }
@@ -69,12 +70,16 @@ fn plan(alloc: Global, part: &State, change: Change) -> Result<Planned, BenchFau
         Ok(None) => return Err(BenchFault::Unreadable),
         Err(_) => return Err(BenchFault::Memory),
     };
-    match change.intents().to_vec(alloc) {
-        Ok(intents) => Ok(Planned {
+    let Ok(intents) = change.intents().to_vec(alloc) else {
+        return Err(BenchFault::Memory);
+    };
+    match copied(alloc, change.bytes()) {
+        Ok(bytes) => Ok(Planned {
             change,
             work: Work {
                 part: left,
                 intents,
+                bytes,
             },
         }),
         Err(_) => Err(BenchFault::Memory),
@@ -227,7 +232,7 @@ impl<S: Alter, H: Shelf> Media<S, H> {
     fn gather(&mut self, alloc: Global, command: &Command) -> Result<Gathered, BenchFault>
         ensures known { H.honest self.old.shelf → DiskKept S.Store self.new.registry
             → IfOk result (λ r. (away : Image) (u : World)
-            → (at : IsAt S.Store H.view H.size self.old.registry self.old.shelf away [] u u)
+            → (at : IsAt S.Store H.view H.size self.old.registry self.old.shelf away [] [] u u)
             → IsKnown u command.now r × HasTables S.Store self.new.registry at.tables) }
         ensures serves { DiskKept S.Store self.new.registry
             → IfOk result (λ r. (t : Tables) (s : Records)
@@ -262,7 +267,7 @@ impl<S: Alter, H: Shelf> Media<S, H> {
     ) -> Result<Result<Planned, Refusal>, BenchFault>
         ensures decides { H.honest self.old.shelf → DiskKept S.Store self.new.registry
             → IfOk result (λ r. (away : Image) (u : World)
-            → (at : IsAt S.Store H.view H.size self.old.registry self.old.shelf away [] u u)
+            → (at : IsAt S.Store H.view H.size self.old.registry self.old.shelf away [] [] u u)
             → IsDecided u command.now r × HasTables S.Store self.new.registry at.tables) }
         ensures at_hand { DiskKept S.Store self.new.registry
             → IfOk result (λ r. (t : Tables) (s : Records)

@@ -30,7 +30,14 @@ fn absent_of<H: Shelf>(shelf: &H, state: &State, intent: &Intent) -> Option<Labe
     ensures { result ≡ absent_among state.now (H.size shelf.now) (providers_in intent.now) }
 {
     let (first, second) = match *intent {
-        Intent::Meta { provider } | Intent::Clear { provider } => (provider, provider),
+        Intent::Meta { provider }
+        | Intent::Clear { provider }
+        | Intent::Dirty { provider }
+        | Intent::Patch {
+            provider,
+            first: _,
+            end: _,
+        } => (provider, provider),
         Intent::Copy { source, target, .. } => (target, source),
     };
     if !is_present(shelf, state, first) {

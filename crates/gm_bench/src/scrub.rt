@@ -1,6 +1,6 @@
 //! Which ACTIVE components hold other data than their mirror's source. Nothing is written.
 
-ghost use Rattle.std.specs.Prelude.{◌≡◌, ◌≤◌, ◌<◌, ◌↔◌, List, IsTrue, IfOk, IfSome, IfNone, IfErr, IsErrOf, OnOk};
+ghost use Rattle.std.specs.Prelude.{◌≡◌, ◌≤◌, ◌<◌, ◌↔◌, ℕ, List, IsTrue, IfOk, IfSome, IfNone, IfErr, IsErrOf, OnOk};
 ghost use Rattle.gm_shelf.specs.Disk.{AreReads};
 ghost use Rattle.gm_lists.specs.Ordered.{Has};
 ghost use Rattle.gm_state.specs.declared.intents.Intent.{Intent};
@@ -164,17 +164,19 @@ impl<S: Alter, H: Shelf> Media<S, H> {
     ) -> Result<Vec<Scrubbed>, BenchFault>
         ensures scrubs { H.honest self.old.shelf → DiskKept S.Store self.new.registry
             → IfOk result (λ list. (t : Tables) (s : Records) (ts : List Intent)
-            → HasTables S.Store self.old.registry t → AreTablesOf t s ts
+            (bytes : List (List ℕ)) → HasTables S.Store self.old.registry t
+            → AreTablesOf t s ts bytes
             → IsScrub s (H.size self.old.shelf) (H.view self.old.shelf).seen asked list.items) }
         ensures looks { H.honest self.old.shelf → DiskKept S.Store self.new.registry
             → OnOk result (LookDoes S.Store H.view H.size self.old.registry self.new.registry
             self.old.shelf self.new.shelf) }
         ensures unreadable { DiskKept S.Store self.new.registry
             → IsErrOf result BenchFault.Unreadable → (t : Tables) (s : Records) (ts : List Intent)
-            → HasTables S.Store self.old.registry t → AreTablesOf t s ts → ⊥ }
+            (bytes : List (List ℕ)) → HasTables S.Store self.old.registry t
+            → AreTablesOf t s ts bytes → ⊥ }
         ensures asks { Asks S.Store H.Shelf self.old self.new result }
     {
-        let (state, _) = self.load(alloc)?;
+        let (state, _, _) = self.load(alloc)?;
         flaws_on(alloc, &mut self.shelf, &state, &asked, watch)
     }
 }

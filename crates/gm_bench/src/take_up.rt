@@ -26,24 +26,31 @@ use std::alloc::Global;
 
 impl<S: Alter, H: Shelf> Media<S, H> {
     /// Carries out what is pending, and settles it.
-    pub(crate) fn finish(&mut self, part: &State, intents: &[Intent]) -> Result<(), BenchFault>
+    pub(crate) fn finish(
+        &mut self,
+        part: &State,
+        intents: &[Intent],
+        bytes: &[[u8; 512]],
+    ) -> Result<(), BenchFault>
         ensures moments { H.honest self.old.shelf → (away : Image) (u w : World)
             → (at : IsAt S.Store H.view H.size self.old.registry self.old.shelf away
-            intents.now u w)
+            intents.now bytes.now u w)
             → Cover part.now w.state intents.now
-            → AllLead at.tables intents.now (H.size self.old.shelf) away
+            → AllLead at.tables intents.now bytes.now (H.size self.old.shelf) away
             ((H.view self.new.shelf).left_since (H.view self.old.shelf).moment) u w }
         ensures leaves { H.honest self.old.shelf → DiskKept S.Store self.new.registry
             → (away : Image) (u w : World)
-            → IsAt S.Store H.view H.size self.old.registry self.old.shelf away intents.now u w
+            → IsAt S.Store H.view H.size self.old.registry self.old.shelf away intents.now bytes.now
+            u w
             → Cover part.now w.state intents.now
             → LeavesOnly S.Store H.view H.size self.old.registry self.new.registry
             self.old.shelf self.new.shelf away u w }
         ensures done { H.honest self.old.shelf → DiskKept S.Store self.new.registry
             → OnOk result ((away : Image) (u w : World)
-            → IsAt S.Store H.view H.size self.old.registry self.old.shelf away intents.now u w
+            → IsAt S.Store H.view H.size self.old.registry self.old.shelf away intents.now bytes.now
+            u w
             → Cover part.now w.state intents.now
-            → IsAt S.Store H.view H.size self.new.registry self.new.shelf away [] w w) }
+            → IsAt S.Store H.view H.size self.new.registry self.new.shelf away [] [] w w) }
         ensures disk { AreAtHand (H.size self.old.shelf) intents.now
             → IsErrOf result BenchFault.Disk
             → (H.view self.old.shelf).faults < (H.view self.new.shelf).faults }
@@ -52,22 +59,29 @@ impl<S: Alter, H: Shelf> Media<S, H> {
         ensures keep { Keep S.Store H.Shelf self.old.registry self.new.registry
             self.old.shelf self.new.shelf }
     {
-        self.apply(part, intents)?;
+        self.apply(part, intents, bytes)?;
         self.settle()
     }
 
-    /// The whole state and the pending intents. It writes nothing.
-    pub(crate) fn load(&mut self, alloc: Global) -> Result<(State, Vec<Intent>), BenchFault>
+    /// The whole state, the pending intents, and the sectors that they lay. It writes nothing.
+    pub(crate) fn load(
+        &mut self,
+        alloc: Global,
+    ) -> Result<(State, Vec<Intent>, Vec<[u8; 512]>), BenchFault>
         ensures says { H.honest self.old.shelf → DiskKept S.Store self.new.registry
-            → IfOk result (λ r. (away : Image) (ts : List Intent) (u w : World)
-            → (at : IsFound S.Store H.view H.size self.old.registry self.old.shelf away ts u w)
-            → (r.0 ≡ w.state) × (r.1.items ≡ ts) × HasTables S.Store self.new.registry at.tables) }
+            → IfOk result (λ r. (away : Image) (ts : List Intent) (bytes : List (List ℕ))
+            (u w : World)
+            → (at : IsFound S.Store H.view H.size self.old.registry self.old.shelf away ts bytes u
+            w)
+            → (r.0 ≡ w.state) × (r.1.items ≡ ts) × (r.2.items ≡ bytes)
+            × HasTables S.Store self.new.registry at.tables) }
         ensures loaded { DiskKept S.Store self.new.registry
             → IfOk result (λ r. (t : Tables) → HasTables S.Store self.old.registry t
-            → AreTablesOf t r.0 r.1.items × HasTables S.Store self.new.registry t) }
+            → AreTablesOf t r.0 r.1.items r.2.items × HasTables S.Store self.new.registry t) }
         ensures unreadable { DiskKept S.Store self.new.registry
             → IsErrOf result BenchFault.Unreadable → (t : Tables) (s : Records) (ts : List Intent)
-            → HasTables S.Store self.old.registry t → AreTablesOf t s ts → ⊥ }
+            (bytes : List (List ℕ)) → HasTables S.Store self.old.registry t
+            → AreTablesOf t s ts bytes → ⊥ }
         ensures store { DiskKept S.Store self.new.registry → IsErrOf result BenchFault.Store
             → IsRegistry S.Store self.old.registry
             → StoreFailed S.Store self.old.registry self.new.registry }
@@ -88,25 +102,28 @@ impl<S: Alter, H: Shelf> Media<S, H> {
         &mut self,
         state: &State,
         intents: &[Intent],
+        bytes: &[[u8; 512]],
     ) -> Result<(), BenchFault>
         ensures moments { H.honest self.old.shelf → (away : Image) (u w : World)
             → (at : IsFound S.Store H.view H.size self.old.registry self.old.shelf away
-            intents.now u w)
+            intents.now bytes.now u w)
             → state.now ≡ w.state
-            → AllLead at.tables intents.now (H.size self.old.shelf) away
+            → AllLead at.tables intents.now bytes.now (H.size self.old.shelf) away
             ((H.view self.new.shelf).left_since (H.view self.old.shelf).moment) u w }
         ensures leaves { H.honest self.old.shelf → DiskKept S.Store self.new.registry
             → (away : Image) (u w : World)
-            → IsFound S.Store H.view H.size self.old.registry self.old.shelf away intents.now u w
+            → IsFound S.Store H.view H.size self.old.registry self.old.shelf away intents.now
+            bytes.now u w
             → state.now ≡ w.state
             → LeavesOnly S.Store H.view H.size self.old.registry self.new.registry
             self.old.shelf self.new.shelf away u w }
         ensures done { H.honest self.old.shelf → DiskKept S.Store self.new.registry
             → OnOk result ((away : Image) (u w : World)
-            → IsFound S.Store H.view H.size self.old.registry self.old.shelf away intents.now u w
+            → IsFound S.Store H.view H.size self.old.registry self.old.shelf away intents.now
+            bytes.now u w
             → state.now ≡ w.state
-            → IsAt S.Store H.view H.size self.new.registry self.new.shelf away [] w w) }
-        ensures disk { (t : Tables) → AreTablesOf t state.now intents.now
+            → IsAt S.Store H.view H.size self.new.registry self.new.shelf away [] [] w w) }
+        ensures disk { (t : Tables) → AreTablesOf t state.now intents.now bytes.now
             → IsErrOf result BenchFault.Disk
             → (H.view self.old.shelf).faults < (H.view self.new.shelf).faults }
         // F5 comes before anything is written, exactly where an image isn't there.
@@ -122,35 +139,37 @@ impl<S: Alter, H: Shelf> Media<S, H> {
     {
         match first_absent(&self.shelf, state, intents) {
             Some(provider) => Err(BenchFault::Absent(provider)),
-            None => self.finish(state, intents),
+            None => self.finish(state, intents, bytes),
         }
     }
 
     /// Carries out what an earlier run left pending, and answers how many intents it found.
     pub(crate) fn take_up(&mut self, alloc: Global) -> Result<u64, BenchFault>
         ensures leaves { H.honest self.old.shelf → DiskKept S.Store self.new.registry
-            → (away : Image) (ts : List Intent) (u w : World)
-            → IsFound S.Store H.view H.size self.old.registry self.old.shelf away ts u w
+            → (away : Image) (ts : List Intent) (bytes : List (List ℕ)) (u w : World)
+            → IsFound S.Store H.view H.size self.old.registry self.old.shelf away ts bytes u w
             → LeavesOnly S.Store H.view H.size self.old.registry self.new.registry
             self.old.shelf self.new.shelf away u w }
         ensures moments { H.honest self.old.shelf → DiskKept S.Store self.new.registry
-            → (away : Image) (ts : List Intent) (u w : World)
-            → (at : IsFound S.Store H.view H.size self.old.registry self.old.shelf away ts u w)
-            → AllLead at.tables ts (H.size self.old.shelf) away
+            → (away : Image) (ts : List Intent) (bytes : List (List ℕ)) (u w : World)
+            → (at : IsFound S.Store H.view H.size self.old.registry self.old.shelf away ts bytes u
+            w)
+            → AllLead at.tables ts bytes (H.size self.old.shelf) away
             ((H.view self.new.shelf).left_since (H.view self.old.shelf).moment) u w }
         ensures done { H.honest self.old.shelf → DiskKept S.Store self.new.registry
-            → IfOk result (λ n. (away : Image) (ts : List Intent) (u w : World)
-            → IsFound S.Store H.view H.size self.old.registry self.old.shelf away ts u w
+            → IfOk result (λ n. (away : Image) (ts : List Intent) (bytes : List (List ℕ))
+            (u w : World)
+            → IsFound S.Store H.view H.size self.old.registry self.old.shelf away ts bytes u w
             → (n ≡ length ts)
-            × IsAt S.Store H.view H.size self.new.registry self.new.shelf away [] w w) }
+            × IsAt S.Store H.view H.size self.new.registry self.new.shelf away [] [] w w) }
         ensures tells { TellsOfTables S.Store H.Shelf self.old self.new result }
         ensures store { TellsStore S.Store self.old.registry self.new.registry result }
         ensures before { StaysBefore S.Store self.old self.new result }
         ensures keep { Keep S.Store H.Shelf self.old.registry self.new.registry
             self.old.shelf self.new.shelf }
     {
-        let (state, intents) = self.load(alloc)?;
-        self.check_and_finish(&state, &intents)?;
+        let (state, intents, bytes) = self.load(alloc)?;
+        self.check_and_finish(&state, &intents, &bytes)?;
         Ok(intents.len() as u64)
     }
 }

@@ -26,11 +26,12 @@ use gm_state::{Intent, State};
 use sqlite::Alter;
 use std::alloc::Global;
 
-/// All records, what is pending, and what is found of the loss.
+/// All records, what is pending, with the sectors that it lays, and what is found of the loss.
 #[derive(Drop)]
 pub(crate) struct Looked {
     pub(crate) state: State,
     pub(crate) intents: Vec<Intent>,
+    pub(crate) bytes: Vec<[u8; 512]>,
     pub(crate) judged: Judged,
 }
 
@@ -53,18 +54,22 @@ impl<S: Alter, H: Shelf> Media<S, H> {
         key: &str,
     ) -> Result<Looked, BenchFault>
         ensures looked { H.honest self.old.shelf → DiskKept S.Store self.new.registry
-            → IfOk result (λ l. (away : Image) (ts : List Intent) (u w : World)
-            → (at : IsFound S.Store H.view H.size self.old.registry self.old.shelf away ts u w)
+            → IfOk result (λ l. (away : Image) (ts : List Intent) (bytes : List (List ℕ))
+            (u w : World)
+            → (at : IsFound S.Store H.view H.size self.old.registry self.old.shelf away ts bytes u
+            w)
             → IsLooked S.Store H.view H.size self.new.registry self.new.shelf key.now provider l
-            away ts u w × HasTables S.Store self.new.registry at.tables) }
+            away ts bytes u w × HasTables S.Store self.new.registry at.tables) }
         ensures unreadable { DiskKept S.Store self.new.registry
             → IsErrOf result BenchFault.Unreadable → (t : Tables) (s : Records) (ts : List Intent)
-            → HasTables S.Store self.old.registry t → AreTablesOf t s ts
+            (bytes : List (List ℕ))
+            → HasTables S.Store self.old.registry t → AreTablesOf t s ts bytes
             → AreWrittenUnder key.now t → ⊥ }
         ensures loaded { DiskKept S.Store self.new.registry → IfOk result (λ l. (t : Tables)
             → HasTables S.Store self.old.registry t → AreTablesOf t l.state l.intents.items
+            l.bytes.items
             × HasTables S.Store self.new.registry t
-            × StaysReadable l.state l.intents.items l.judged) }
+            × StaysReadable l.state l.intents.items l.bytes.items l.judged) }
         ensures fits { DiskKept S.Store self.new.registry → IfOk result (λ l. (t : Tables)
             → HasTables S.Store self.old.registry t
             → CanBeCommitted key.now l.intents.items t l.judged) }
@@ -79,11 +84,12 @@ impl<S: Alter, H: Shelf> Media<S, H> {
         ensures shelf { self.new.shelf ≡ self.old.shelf }
         ensures clean { WasClean S.Store self.old.registry self.new.registry }
     {
-        let (state, intents) = self.load(alloc)?;
-        let judged = self.judge(alloc, &state, &intents, provider, key)?;
+        let (state, intents, bytes) = self.load(alloc)?;
+        let judged = self.judge(alloc, &state, &intents, &bytes, provider, key)?;
         Ok(Looked {
             state,
             intents,
+            bytes,
             judged,
         })
     }
@@ -117,11 +123,13 @@ impl<S: Alter, H: Shelf> Media<S, H> {
             → TellsDisk H.Shelf self.old.shelf self.new.shelf result }
         ensures unreadable { DiskKept S.Store self.new.registry
             → IsErrOf result BenchFault.Unreadable → (t : Tables) (s : Records) (ts : List Intent)
-            → HasTables S.Store self.old.registry t → AreTablesOf t s ts
+            (bytes : List (List ℕ))
+            → HasTables S.Store self.old.registry t → AreTablesOf t s ts bytes
             → AreWrittenUnder key.now t → ⊥ }
         ensures store { DiskKept S.Store self.new.registry → IsErrOf result BenchFault.Store
             → (t : Tables) (s : Records) (ts : List Intent)
-            → HasTables S.Store self.old.registry t → AreTablesOf t s ts
+            (bytes : List (List ℕ))
+            → HasTables S.Store self.old.registry t → AreTablesOf t s ts bytes
             → length ts + 17 < 2 ^ 32 → HasRoom most_rows (seen S.Store self.old.registry)
             → StoreFailed S.Store self.old.registry self.new.registry }
         ensures refused { IfOk result (λ it. (why : LossRefusal) → it ≡ TakenUp.NotLost why
@@ -135,7 +143,7 @@ impl<S: Alter, H: Shelf> Media<S, H> {
         match &looked.judged {
             Judged::Refused(why) => Ok(TakenUp::NotLost(*why)),
             Judged::Kept(number, reply) => {
-                self.check_and_finish(&looked.state, &looked.intents)?;
+                self.check_and_finish(&looked.state, &looked.intents, &looked.bytes)?;
                 Ok(TakenUp::Carried(Answer::Repeated(*number, *reply), redone))
             }
             Judged::New(loss) => {

@@ -34,10 +34,12 @@ impl<S: Alter, H: Shelf> Bench<S, H> {
         // The records that the registry holds, whatever the images hold.
         ensures shows { DiskKept S.Store (registry_of self.new)
             → IfOk result (λ state. (t : Tables) (s : Records) (ts : List Intent)
-            → HasTables S.Store (registry_of self.old) t → AreTablesOf t s ts → state ≡ s) }
+            (bytes : List (List ℕ)) → HasTables S.Store (registry_of self.old) t
+            → AreTablesOf t s ts bytes → state ≡ s) }
         ensures unreadable { DiskKept S.Store (registry_of self.new)
             → IsErrOf result BenchFault.Unreadable → (t : Tables) (s : Records) (ts : List Intent)
-            → HasTables S.Store (registry_of self.old) t → AreTablesOf t s ts → ⊥ }
+            (bytes : List (List ℕ)) → HasTables S.Store (registry_of self.old) t
+            → AreTablesOf t s ts bytes → ⊥ }
         // On a disk that didn't fail, without a limit on steps, it is never `Store`.
         ensures store { DiskKept S.Store (registry_of self.new) → IsErrOf result BenchFault.Store
             → IsRegistry S.Store (registry_of self.old)
@@ -51,7 +53,7 @@ impl<S: Alter, H: Shelf> Bench<S, H> {
             _ => {}
         }
         match self.media.load(alloc) {
-            Ok((state, _)) => Ok(state),
+            Ok((state, _, _)) => Ok(state),
             Err(fault) => {
                 self.progress = Progress::Failed;
                 Err(fault)
@@ -93,12 +95,14 @@ impl<S: Alter, H: Shelf> Bench<S, H> {
         // By the records that the registry holds and by what the shelf shows, whoever wrote it.
         ensures audits { H.honest (shelf_of self.old) → DiskKept S.Store (registry_of self.new)
             → IfOk result (λ names. (t : Tables) (s : Records) (ts : List Intent)
-            → HasTables S.Store (registry_of self.old) t → AreTablesOf t s ts
+            (bytes : List (List ℕ)) → HasTables S.Store (registry_of self.old) t
+            → AreTablesOf t s ts bytes
             → IsAudit s (H.size (shelf_of self.old)) (H.view (shelf_of self.old)).seen
             names.items) }
         ensures unreadable { DiskKept S.Store (registry_of self.new)
             → IsErrOf result BenchFault.Unreadable → (t : Tables) (s : Records) (ts : List Intent)
-            → HasTables S.Store (registry_of self.old) t → AreTablesOf t s ts → ⊥ }
+            (bytes : List (List ℕ)) → HasTables S.Store (registry_of self.old) t
+            → AreTablesOf t s ts bytes → ⊥ }
         // On a disk that didn't fail, without a limit on steps, it is never `Store`.
         ensures store { DiskKept S.Store (registry_of self.new) → IsErrOf result BenchFault.Store
             → IsRegistry S.Store (registry_of self.old)
@@ -133,12 +137,14 @@ impl<S: Alter, H: Shelf> Bench<S, H> {
         // By the records that the registry holds and by what the shelf shows, whoever wrote it.
         ensures scrubs { H.honest (shelf_of self.old) → DiskKept S.Store (registry_of self.new)
             → IfOk result (λ list. (t : Tables) (s : Records) (ts : List Intent)
-            → HasTables S.Store (registry_of self.old) t → AreTablesOf t s ts
+            (bytes : List (List ℕ)) → HasTables S.Store (registry_of self.old) t
+            → AreTablesOf t s ts bytes
             → IsScrub s (H.size (shelf_of self.old)) (H.view (shelf_of self.old)).seen mirror
             list.items) }
         ensures unreadable { DiskKept S.Store (registry_of self.new)
             → IsErrOf result BenchFault.Unreadable → (t : Tables) (s : Records) (ts : List Intent)
-            → HasTables S.Store (registry_of self.old) t → AreTablesOf t s ts → ⊥ }
+            (bytes : List (List ℕ)) → HasTables S.Store (registry_of self.old) t
+            → AreTablesOf t s ts bytes → ⊥ }
         ensures looks { LooksOn S.Store H.Shelf self.old self.new result }
         ensures closes { ClosesOnFault self.old self.new result }
     {

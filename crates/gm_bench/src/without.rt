@@ -83,7 +83,8 @@ impl<S: Alter, H: Shelf> Media<S, H> {
         // The change fits the tables of the records.
         ensures fits { IfOk result (λ r. (t : Tables) (n p : List ℕ) → AreRecordsOf t state.now
             → CommandFits command.now → command.now ≡ Lost n (p ∷ [])
-            → IfOk r (λ ch. IsFitting ch (words_of command.now) t)) }
+            → IfOk r (λ ch. IsFitting ch (words_of command.now) t
+            × (length ch.intents ≤ 17))) }
     {
         let names = needed(alloc, state, command)?;
         let facts = sizes_of(alloc, &self.shelf, &names)?;
@@ -96,11 +97,13 @@ impl<S: Alter, H: Shelf> Media<S, H> {
         alloc: Global,
         state: &State,
         intents: &[Intent],
+        bytes: &[[u8; 512]],
         component: &Component,
         words: String,
         change: Change,
     ) -> Result<Judged, BenchFault>
         ensures comes { IfOk result (IsRedirected state.now (H.size self.now.shelf) intents.now
+            bytes.now
             component.now.mirror component.now.provider (string_bytes words) change) }
         ensures fault { IfErr result IsOfCall }
         ensures disk { IsErrOf result BenchFault.Disk → ⊥ }
@@ -121,7 +124,9 @@ impl<S: Alter, H: Shelf> Media<S, H> {
             return Ok(Judged::Refused(LossRefusal::OnShelf));
         }
         let mirror = component.mirror;
-        match loss_with(alloc, mirror, words, change, after, provider, next, intents) {
+        match loss_with(
+            alloc, mirror, words, change, after, provider, next, intents, bytes,
+        ) {
             Ok(loss) => Ok(Judged::New(loss)),
             Err(_) => Err(BenchFault::Memory),
         }
@@ -133,16 +138,18 @@ impl<S: Alter, H: Shelf> Media<S, H> {
         alloc: Global,
         state: &State,
         intents: &[Intent],
+        bytes: &[[u8; 512]],
         component: &Component,
     ) -> Result<Judged, BenchFault>
         ensures judged { IfOk result (λ j. (w : World) (key p : List ℕ)
             → AreOfWorld state.now (H.size self.now.shelf) w
             → component.now.provider ≡ p → component_of w.state p ≡ Some component.now
             → is_key key ≡ true → ((a : Answered) → Has w.answered a → a.key ≡ key → ⊥)
-            → length w.answered < 100000 → IsJudged w intents.now key p j) }
+            → length w.answered < 100000 → IsJudged w intents.now bytes.now key p j) }
         ensures readable { IsErrOf result BenchFault.Unreadable → IsState state.now → ⊥ }
         ensures again { IfOk result (λ j. component_of state.now component.now.provider
-            ≡ Some component.now → IsState state.now → StaysReadable state.now intents.now j) }
+            ≡ Some component.now → IsState state.now → StaysReadable state.now intents.now bytes.now
+            j) }
         ensures fits { IfOk result (λ j. (key : List ℕ) (t : Tables) → AreRecordsOf t state.now
             → is_key key ≡ true → IsFree t key → count_of t < 100000
             → CanBeCommitted key intents.now t j) }
@@ -157,7 +164,7 @@ impl<S: Alter, H: Shelf> Media<S, H> {
         match self.rule(alloc, state, &command) {
             Err(_) => Err(BenchFault::Memory),
             Ok(Err(refusal)) => Ok(Judged::refused(CallRefusal::ByRules(refusal))),
-            Ok(Ok(change)) => self.redirect(alloc, state, intents, component, words, change),
+            Ok(Ok(change)) => self.redirect(alloc, state, intents, bytes, component, words, change),
         }
     }
 
@@ -167,19 +174,22 @@ impl<S: Alter, H: Shelf> Media<S, H> {
         alloc: Global,
         state: &State,
         intents: &[Intent],
+        bytes: &[[u8; 512]],
         provider: Label,
     ) -> Result<Judged, BenchFault>
         ensures judged { DiskKept S.Store self.new.registry
             → IfOk result (λ j. (w : World) (key : List ℕ) (t : Tables)
             → AreOfWorld state.now (H.size self.old.shelf) w → HoldRecords w t
             → HasTables S.Store self.old.registry t → is_key key ≡ true → IsFree t key
-            → IsJudged w intents.now key provider j × HasTables S.Store self.new.registry t) }
+            → IsJudged w intents.now bytes.now key provider j
+            × HasTables S.Store self.new.registry t) }
         ensures readable { DiskKept S.Store self.new.registry
             → IsErrOf result BenchFault.Unreadable → (t : Tables)
             → HasTables S.Store self.old.registry t → count_of t ≤ 100000 → ⊥ }
         ensures again { DiskKept S.Store self.new.registry
             → IfOk result (λ j. (t : Tables) → HasTables S.Store self.old.registry t
-            → HasTables S.Store self.new.registry t × StaysReadable state.now intents.now j) }
+            → HasTables S.Store self.new.registry t × StaysReadable state.now intents.now bytes.now
+            j) }
         ensures fits { DiskKept S.Store self.new.registry
             → IfOk result (λ j. (key : List ℕ) (t : Tables)
             → HasTables S.Store self.old.registry t → AreRecordsOf t state.now
@@ -195,7 +205,7 @@ impl<S: Alter, H: Shelf> Media<S, H> {
         }
         match state.component(provider) {
             None => Ok(Judged::refused(CallRefusal::ByRules(Refusal::NotMember))),
-            Some(component) => self.judge_component(alloc, state, intents, &component),
+            Some(component) => self.judge_component(alloc, state, intents, bytes, &component),
         }
     }
 
@@ -205,6 +215,7 @@ impl<S: Alter, H: Shelf> Media<S, H> {
         alloc: Global,
         state: &State,
         intents: &[Intent],
+        bytes: &[[u8; 512]],
         provider: Label,
         key: &str,
     ) -> Result<Judged, BenchFault>
@@ -212,14 +223,16 @@ impl<S: Alter, H: Shelf> Media<S, H> {
             → IfOk result (λ j. (w : World) (t : Tables)
             → AreOfWorld state.now (H.size self.old.shelf) w → HoldRecords w t
             → HasTables S.Store self.old.registry t
-            → IsJudged w intents.now key.now provider j × HasTables S.Store self.new.registry t) }
+            → IsJudged w intents.now bytes.now key.now provider j
+            × HasTables S.Store self.new.registry t) }
         ensures readable { DiskKept S.Store self.new.registry
             → IsErrOf result BenchFault.Unreadable → (t : Tables)
             → HasTables S.Store self.old.registry t → count_of t ≤ 100000
             → AreWrittenUnder key.now t → ⊥ }
         ensures again { DiskKept S.Store self.new.registry
             → IfOk result (λ j. (t : Tables) → HasTables S.Store self.old.registry t
-            → HasTables S.Store self.new.registry t × StaysReadable state.now intents.now j) }
+            → HasTables S.Store self.new.registry t × StaysReadable state.now intents.now bytes.now
+            j) }
         ensures fits { DiskKept S.Store self.new.registry → IfOk result (λ j. (t : Tables)
             → HasTables S.Store self.old.registry t → AreRecordsOf t state.now
             → CanBeCommitted key.now intents.now t j) }
@@ -235,7 +248,7 @@ impl<S: Alter, H: Shelf> Media<S, H> {
             return Ok(Judged::refused(CallRefusal::NoKey));
         }
         match self.registry.reply_of(key) {
-            Ok(None) => self.judge_free(alloc, state, intents, provider),
+            Ok(None) => self.judge_free(alloc, state, intents, bytes, provider),
             Ok(Some((number, words, reply))) => {
                 if are_of_loss(words.as_str(), provider) {
                     Ok(Judged::Kept(number, reply))

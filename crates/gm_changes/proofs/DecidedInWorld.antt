@@ -2,7 +2,7 @@
 use Rattle.std.proofs.Common.{◌≡◌, ◌∙◌, inl, ℕ, ◌||◌, ◌+◌, ◌≤◌, Bool, true, false, not, nat_lt, refl, sym, ap, ap₂, subst, List, Option, map, Some, None, Result, Ok, Err, is_none, unwrap_or}
 use Rattle.std.specs.List.{list_any}
 use Rattle.gm_commands.specs.declared.command.Command.{Command}
-use Rattle.gm_commands.specs.declared.command.Command.TheVariants.{Label, Insert, Remove, Deactivate, Activate, Forget, Rebuild, Configure, Clear, Destroy, Lost, Advance, Adopt}
+use Rattle.gm_commands.specs.declared.command.Command.TheVariants.{Label, Insert, Remove, Deactivate, Activate, Forget, Rebuild, Configure, Clear, Destroy, Lost, Advance, Adopt, Patch}
 use Rattle.std.proofs.lemmas.Bool.{not-false}
 use Rattle.gm_taste.specs.declared.tasted.Member.{Member}
 use Rattle.gm_state.specs.declared.records.Mirror.{Mirror}
@@ -13,7 +13,7 @@ use Rattle.gm_state.specs.Lookups.{mirror_of}
 use Rattle.gm_state.specs.World.{World}
 use Rattle.gm_refusals.specs.declared.facts.Fact.{Fact}
 use Rattle.gm_refusals.specs.declared.refusals.Refusal.{Refusal}
-use Rattle.gm_refusals.specs.declared.refusals.Refusal.TheVariants.{NoMirror, NameTaken, MidTaken, Absent, ProviderTaken, CarriesMetadata, TooSmall, NotMember, DidTaken, Full, TooManyMirrors, SomeLost, LastActive, AlreadyInactive, NotInactive, NoneLost, Inactive, NotSynchronizing, LastSyncid, LastGenid, NothingGiven, NotAdoptable, WrongSize, NoMetadata}
+use Rattle.gm_refusals.specs.declared.refusals.Refusal.TheVariants.{NoMirror, NameTaken, MidTaken, Absent, ProviderTaken, CarriesMetadata, TooSmall, NotMember, DidTaken, Full, TooManyMirrors, SomeLost, LastActive, AlreadyInactive, NotInactive, NoneLost, Inactive, NotSynchronizing, LastSyncid, LastGenid, NothingGiven, NotAdoptable, WrongSize, NoMetadata, BeingFilled, BeyondEnd}
 use Rattle.gm_refusals.specs.Facts.{last_carries}
 use Rattle.gm_refusals.specs.Seen.{Seen, seen_in, has_size, is_there_and}
 use Rattle.gm_refusals.specs.Applies.{applies, has_wrong_size, looked_at, takes_mid, has_did, finds_did_twice, is_unfit, members_named, awaited, mirror_named}
@@ -121,6 +121,8 @@ module _ (s : Records) (c : Command) (x y : Seen) where
       same_unfit x y c (record { size = a.size; last = a.last refl })
   same_applies WrongSize a = by_size (λ o. is_there_and o has_wrong_size) a.size
   same_applies NoMetadata a = by_last (λ o. not (last_carries o)) (a.last refl)
+  same_applies BeingFilled a = refl
+  same_applies BeyondEnd a = refl
 
 -- the records depend on the sizes of the providers that are looked at, and on what an adoption sees
 pub same_after : (x y : Seen) (c : Command) (s : Records)
@@ -150,6 +152,7 @@ same_after x y (Clear p) s e q = refl
 same_after x y (Destroy n) s e q = refl
 same_after x y (Lost n ps) s e q = refl
 same_after x y (Advance n p) s e q = refl
+same_after x y (Patch n first sectors) s e q = refl
 same_after x y (Adopt n ps) s e q =
     same_source_after (source_in x ps) (same_source x y ps q.0)
   where
@@ -224,6 +227,7 @@ decides_in facts u c are (Ok ch) d =
       records = d.records ∙ e;
       in_place = d.in_place;
       intents = d.intents ∙ ap (intents_of c u.state) e;
+      bytes = d.bytes;
       reply = d.reply;
     }
 

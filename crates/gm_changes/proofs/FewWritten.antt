@@ -1,10 +1,10 @@
 -- How much a change writes: the components and the intents of one mirror.
-use Rattle.std.proofs.Common.{◌≡◌, ◌∙◌, ℕ, ◌+◌, ◌≤◌, not, refl, inl, inr, sym, ap, arith, List, [], ◌∷◌, Option, Some, None, length, map}
+use Rattle.std.proofs.Common.{◌≡◌, ◌∙◌, ℕ, ◌+◌, ◌*◌, ◌≤◌, not, refl, inl, inr, sym, ap, arith, List, [], ◌∷◌, Option, Some, None, flat_map, length, map}
 use Rattle.std.proofs.lemmas.List.{length-map}
 use Rattle.std.specs.Str.{bytes_eq}
 use Rattle.gm_metadata.specs.Images.{same_label}
 use Rattle.gm_commands.specs.declared.command.Command.{Command}
-use Rattle.gm_commands.specs.declared.command.Command.TheVariants.{Label, Insert, Remove, Deactivate, Activate, Forget, Rebuild, Configure, Clear, Destroy, Lost, Advance, Adopt}
+use Rattle.gm_commands.specs.declared.command.Command.TheVariants.{Label, Insert, Remove, Deactivate, Activate, Forget, Rebuild, Configure, Clear, Destroy, Lost, Advance, Adopt, Patch}
 use Rattle.gm_state.specs.declared.intents.Intent.{Intent}
 use Rattle.gm_state.specs.declared.intents.Intent.TheVariants.{Meta, Clear as Clears}
 use Rattle.gm_state.specs.declared.records.Component.{Component}
@@ -13,13 +13,13 @@ use Rattle.gm_lists.proofs.Finding.{option_cases}
 use Rattle.gm_lists.proofs.Lists.{Has-map, filter-Has}
 use Rattle.gm_lists.proofs.Order.{differ, lt_differ, same_from}
 use Rattle.gm_lists.proofs.PutTogether.{put_all_there}
-use Rattle.gm_lists.proofs.Putting.{length-filter_lt, one}
+use Rattle.gm_lists.proofs.Putting.{length-filter_le, length-filter_lt, one}
 use Rattle.gm_state.specs.Records.{Records, IsState, members, provider}
-use Rattle.gm_state.specs.Lookups.{mirror_of, component_of}
+use Rattle.gm_state.specs.Lookups.{mirror_of, component_of, is_active}
 use Rattle.gm_state.specs.Sources.{source_of}
 use Rattle.gm_state.proofs.FoundRecords.{rules_of}
 use Rattle.gm_state.proofs.NoMembers.{no_members}
-use Rattle.gm_changes.specs.After.{intents_of, metas, on_found}
+use Rattle.gm_changes.specs.After.{active_of, intents_of, metas, on_found, patching}
 use Rattle.gm_changes.specs.Decides.{Changed, PutsInPlace, changed_by}
 use Rattle.gm_changes.proofs.MakesChange.{no_component}
 
@@ -110,14 +110,20 @@ few_metas s state n =
     let few : length (members s.components n) ≤ 16 = few_members s state n in
     omega (arith, as_many, few)
 
-few_found : {X : Type 0} (o : Option X) (f : X → List Intent) → ((x : X) → length (f x) ≤ 17)
-    → length (on_found o [] f) ≤ 17
+-- three for each component that is patched
+length-patching : (first end : ℕ) (ks : List Component)
+    → length (flat_map (patching first end) ks) ≡ 3 * length ks
+length-patching first end [] = refl
+length-patching first end (k ∷ ks) = let rest = length-patching first end ks in omega (arith, rest)
+
+few_found : {X : Type 0} (o : Option X) (f : X → List Intent) → ((x : X) → length (f x) ≤ 48)
+    → length (on_found o [] f) ≤ 48
 few_found None f few = omega arith
 few_found (Some x) f few = few x
 
--- one intent more than a mirror has components, at most
+-- at most three for each component that a mirror has
 pub few_intents : (c : Command) (s t : Records) → IsState s → IsState t
-    → length (intents_of c s t) ≤ 17
+    → length (intents_of c s t) ≤ 48
 few_intents (Label new) s t before after = omega arith
 few_intents (Insert new) s t before after = omega (arith, few_metas t after new.name)
 few_intents (Remove n p) s t before after = omega (arith, few_metas t after n)
@@ -135,3 +141,10 @@ few_intents (Advance n p) s t before after =
     few_found (mirror_of s n) _ (λ m. few_found (component_of s p) _
     (λ k. few_found (source_of s p) _ (λ source. omega arith)))
 few_intents (Adopt n ps) s t before after = omega (arith, few_metas t after n)
+few_intents (Patch n first sectors) s t before after =
+    let own : List Component = members t.components n in
+    let three = length-patching first (first + length sectors) (active_of own) in
+    let fewer : length (active_of own) ≤ length own =
+    length-filter_le (λ (k : Component). is_active k.disk) own in
+    let few : length own ≤ 16 = few_members t after n in
+    omega (arith, three, fewer, few)

@@ -11,7 +11,7 @@ use Rattle.gm_state.specs.Records.{members, provider}
 use Rattle.gm_state.specs.Lookups.{is_inactive}
 use Rattle.gm_lists.proofs.Mapped.{map_id, filter-map, put-map}
 use Rattle.gm_lists.proofs.Putting.{filter-where, put_all-where}
-use Rattle.gm_changes.specs.After.{activated, advanced, configured, deactivated, rebuilt}
+use Rattle.gm_changes.specs.After.{activated, advanced, configured, deactivated, freshened, rebuilt}
 
 -- to put what is there changes nothing
 pub put-again : {X : Type 0} (key : X → List ℕ) (xs : List X) → Ascends key xs → (x : X) → Has xs x
@@ -79,14 +79,17 @@ members_put n f keeps ks a =
 
 -- ---- the changes of commands are such ones
 
+pub keeps_freshened : (syncid : ℕ) → Keeps (freshened syncid)
+keeps_freshened syncid =
+    let counted : Keeps (λ k. record k { syncid = syncid }) =
+    record { provider = λ k. refl; mirror = λ k. refl; did = λ k. refl; sectors = λ k. refl } in
+    keeps_either (λ k. is_inactive k.disk) _ _ keeps_id counted
+
 pub keeps_deactivated : (syncid : ℕ) (p : List ℕ) → Keeps (deactivated syncid p)
 keeps_deactivated syncid p =
     let plain : Keeps (λ k. record k { disk = Inactive }) =
     record { provider = λ k. refl; mirror = λ k. refl; did = λ k. refl; sectors = λ k. refl } in
-    let counted : Keeps (λ k. record k { syncid = syncid }) =
-    record { provider = λ k. refl; mirror = λ k. refl; did = λ k. refl; sectors = λ k. refl } in
-    keeps_either (λ k. same_label k.provider p) _ _ plain
-    (keeps_either (λ k. is_inactive k.disk) _ _ keeps_id counted)
+    keeps_either (λ k. same_label k.provider p) _ _ plain (keeps_freshened syncid)
 
 pub keeps_configured : (settings : Settings) → Keeps (configured settings)
 keeps_configured settings = record {

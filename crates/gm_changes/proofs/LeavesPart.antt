@@ -4,7 +4,7 @@ use Rattle.std.specs.Prelude.{unwrap_or}
 use Rattle.std.proofs.lemmas.Bool.{ne_eqb}
 use Rattle.gm_metadata.specs.Images.{same_label}
 use Rattle.gm_commands.specs.declared.command.Command.{Command}
-use Rattle.gm_commands.specs.declared.command.Command.TheVariants.{Label, Insert, Remove, Deactivate, Activate, Forget, Rebuild, Configure, Destroy, Lost, Advance, Adopt}
+use Rattle.gm_commands.specs.declared.command.Command.TheVariants.{Label, Insert, Remove, Deactivate, Activate, Forget, Rebuild, Configure, Destroy, Lost, Advance, Adopt, Patch}
 use Rattle.gm_commands.specs.declared.command.Command.TheVariants as commands
 use Rattle.gm_state.specs.declared.records.Mirror.{Mirror}
 use Rattle.gm_state.specs.declared.records.Component.{Component}
@@ -16,8 +16,8 @@ use Rattle.gm_lists.proofs.Order.{same_is}
 use Rattle.gm_lists.proofs.Putting.{filter-put, filter_swap, length-filter_le}
 use Rattle.gm_lists.proofs.Lists.{Ascends-filter}
 use Rattle.gm_lists.proofs.Finding.{found}
-use Rattle.gm_refusals.specs.declared.refusals.Refusal.TheVariants.{NoMirror, NameTaken, MidTaken, Absent, ProviderTaken, CarriesMetadata, TooSmall, NotMember, DidTaken, Full, TooManyMirrors, SomeLost, LastActive, AlreadyInactive, NotInactive, NoneLost, Inactive, NotSynchronizing, LastSyncid, LastGenid, NothingGiven, NotAdoptable, WrongSize, NoMetadata}
-use Rattle.gm_changes.specs.After.{advanced, new_mirror, first_component, spare, deactivated, activated, rebuilt, configured_mirror, configured, on_found, after}
+use Rattle.gm_refusals.specs.declared.refusals.Refusal.TheVariants.{NoMirror, NameTaken, MidTaken, Absent, ProviderTaken, CarriesMetadata, TooSmall, NotMember, DidTaken, Full, TooManyMirrors, SomeLost, LastActive, AlreadyInactive, NotInactive, NoneLost, Inactive, NotSynchronizing, LastSyncid, LastGenid, NothingGiven, NotAdoptable, WrongSize, NoMetadata, BeingFilled, BeyondEnd}
+use Rattle.gm_changes.specs.After.{advanced, new_mirror, first_component, spare, deactivated, freshened, activated, rebuilt, configured_mirror, configured, on_found, after}
 use Rattle.gm_refusals.specs.Seen.{Seen}
 use Rattle.gm_refusals.specs.Adoptable.{source_in, adopted_mirror, adopted}
 use Rattle.gm_lists.proofs.PutTogether.{filter-put_all}
@@ -31,7 +31,7 @@ use Rattle.gm_refusals.proofs.PartAgrees.{find_within, by_names, by_names_state,
 use Rattle.gm_changes.proofs.MakesChange.{without_all-swap}
 use Rattle.gm_refusals.proofs.NothingApplies.{not_at}
 use Rattle.gm_state.proofs.FoundRecords.{named}
-use Rattle.gm_changes.proofs.KeptComponents.{Keeps, keeps_configured, keeps_deactivated, keeps_where, put_mapped, where_of}
+use Rattle.gm_changes.proofs.KeptComponents.{Keeps, keeps_configured, keeps_deactivated, keeps_freshened, keeps_where, put_mapped, where_of}
 use Rattle.gm_lists.proofs.Mapped.{filter-map}
 
 -- the test passes the mirror that the command names, and those whose components are on providers
@@ -123,6 +123,23 @@ module _ (t : List ℕ → Bool) (s : Records) (state : IsState s) where
       ∙ sym (ap (filter (λ (k : Component). t k.mirror))
       (put_mapped n f keeps s.components state.components_in_order)))
 
+  -- a mirror counts a sync more, and its components are changed where they stand
+  abbrev synced : Records → List ℕ → (ℕ → Component → Component) → Mirror → Records
+  synced r n f m = record {
+    mirrors = put name (record m { syncid = m.syncid + 1 }) r.mirrors;
+    components = put_all provider (map (f (m.syncid + 1)) (members r.components n)) r.components;
+  }
+
+  one_sync : (n : List ℕ) → t n ≡ true → (f : ℕ → Component → Component)
+      → ((syncid : ℕ) → Keeps (f syncid))
+      → on_found (mirror_of (by_names t s) n) (by_names t s) (synced (by_names t s) n f)
+      ≡ by_names t (on_found (mirror_of s n) s (synced s n f))
+  one_sync n e f keeps =
+      on_named n e (synced (by_names t s) n f) (synced s n f) (λ m is.
+      two _ _ (synced s n f m)
+      (puts_mirror (record m { syncid = m.syncid + 1 }) (found_passes n e m is))
+      (puts_mapped n (f (m.syncid + 1)) (keeps (m.syncid + 1))))
+
   after_names : (x : Seen) (c : Command) → TakesIn t c s
       → after x c (by_names t s) ≡ by_names t (after x c s)
   after_names x (Label new) takes =
@@ -153,16 +170,7 @@ module _ (t : List ℕ → Bool) (s : Records) (state : IsState s) where
       (filter_swap (λ (k : Component). not (same_label k.provider p))
       (λ (k : Component). t k.mirror) s.components))
   after_names x (Deactivate n p) takes =
-      let e : t n ≡ true = takes.name n refl in
-      on_named n e _ _ (λ m is.
-      two _ _ (record {
-        mirrors = put name (record m { syncid = m.syncid + 1 }) s.mirrors;
-        components =
-            put_all provider (map (deactivated (m.syncid + 1) p) (members s.components n))
-            s.components;
-      })
-      (puts_mirror (record m { syncid = m.syncid + 1 }) (found_passes n e m is))
-      (puts_mapped n (deactivated (m.syncid + 1) p) (keeps_deactivated (m.syncid + 1) p)))
+      one_sync n (takes.name n refl) (λ i. deactivated i p) (λ i. keeps_deactivated i p)
   after_names x (Activate n p) takes =
       let c : Command = Activate n p in
       on_named n (takes.name n refl) _ _ (λ m is. on_at c takes p (inl refl) _ _ (λ k at.
@@ -224,6 +232,8 @@ module _ (t : List ℕ → Bool) (s : Records) (state : IsState s) where
         components = put provider (advanced m k) s.components;
       }) refl
       (puts_at c takes p (inl refl) k (advanced m k) at refl refl)))
+  after_names x (Patch n first sectors) takes =
+      one_sync n (takes.name n refl) freshened keeps_freshened
   after_names x (Adopt n ps) takes =
       let e : t n ≡ true = takes.name n refl in
       of_found (source_in x ps) _ _ (λ b from.
@@ -311,6 +321,8 @@ module _ (part s : Records) (c : Command) (of : IsPartOf part c s) where
   good_part x but good NotAdoptable h = but NotAdoptable h refl
   good_part x but good WrongSize h = but WrongSize h refl
   good_part x but good NoMetadata h = but NoMetadata h refl
+  good_part x but good BeingFilled h = but BeingFilled h refl
+  good_part x but good BeyondEnd h = but BeyondEnd h refl
 
 pub made_leaves : (part s : Records) (x : Seen) (c : Command) → IsPartToDecide part x c s
     → (ch : Changed) → IsMade part x c ch → IsGoodButCount part x c → IsGood s x c

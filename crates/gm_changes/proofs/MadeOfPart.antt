@@ -1,12 +1,12 @@
 -- What is made of a part is what the command makes of the whole.
-use Rattle.std.proofs.Common.{◌≡◌, ◌≢◌, ◌≤◌, ◌==◌, arith, ◌∙◌, inl, ℕ, ◌+◌, ◌-◌, Bool, true, false, not, refl, inr, option_map, sym, ap, ap₂, subst, List, [], ◌∷◌, Option, Some, None, Result, Ok, Err, OnErr, map, filter, find, length, if◌then◌else◌}
+use Rattle.std.proofs.Common.{◌≡◌, ◌≢◌, ◌≤◌, ◌==◌, arith, ◌∙◌, inl, ℕ, ◌+◌, ◌-◌, Bool, true, false, not, refl, inr, option_map, sym, ap, ap₂, subst, List, [], ◌∷◌, Option, Some, None, Result, Ok, Err, OnErr, map, filter, find, flat_map, length, if◌then◌else◌}
 use Rattle.gm_commands.specs.declared.command.NewComponent.{NewComponent}
 use Rattle.gm_commands.specs.declared.command.NewMirror.{NewMirror}
 use Rattle.gm_commands.specs.declared.command.Settings.{Settings}
 use Rattle.gm_commands.specs.declared.command.Command.{Command}
-use Rattle.gm_commands.specs.declared.command.Command.TheVariants.{Label, Insert, Remove, Deactivate, Activate, Forget, Rebuild, Configure, Destroy, Lost, Advance, Adopt}
+use Rattle.gm_commands.specs.declared.command.Command.TheVariants.{Label, Insert, Remove, Deactivate, Activate, Forget, Rebuild, Configure, Destroy, Lost, Advance, Adopt, Patch}
 use Rattle.gm_state.specs.declared.intents.Intent.TheVariants.{Meta, Clear}
-use Rattle.gm_state.specs.declared.intents.Reply.TheVariants.{Plain, Copied}
+use Rattle.gm_state.specs.declared.intents.Reply.TheVariants.{Copied}
 use Rattle.gm_taste.specs.declared.tasted.Member.{Member}
 use Rattle.gm_state.specs.declared.records.Mirror.{Mirror}
 use Rattle.gm_state.specs.declared.records.Component.{Component}
@@ -14,10 +14,10 @@ use Rattle.gm_lists.specs.Ordered.{Has, put, without}
 use Rattle.gm_state.specs.Records.{Records, members, provider}
 use Rattle.gm_state.specs.Lookups.{mirror_of, component_of}
 use Rattle.gm_state.specs.Sources.{source_among, source_of}
-use Rattle.gm_changes.specs.After.{metas, clears_of, new_mirror, first_component, advanced, filling, reach, spare, deactivated, activated, rebuilt, configured_mirror, configured}
+use Rattle.gm_changes.specs.After.{metas, clears_of, active_of, patching, new_mirror, first_component, advanced, filling, reach, spare, deactivated, freshened, activated, rebuilt, configured_mirror, configured}
 use Rattle.gm_refusals.specs.Seen.{Seen}
 use Rattle.gm_refusals.specs.Applies.{applies, name_of, providers_of, takes_mid, is_on_any}
-use Rattle.gm_changes.specs.Decides.{Changed, adopting}
+use Rattle.gm_changes.specs.Decides.{Changed, adopting, no_change}
 use Rattle.gm_refusals.specs.Applies.{IsGood}
 use Rattle.gm_refusals.specs.Adoptable.{source_in, is_adoptable}
 use Rattle.gm_refusals.proofs.TakenProviders.{fitting}
@@ -31,7 +31,7 @@ use Rattle.gm_refusals.specs.declared.refusals.Refusal.{Refusal}
 use Rattle.std.proofs.lemmas.Bool.{cases_Bool, ne_eqb}
 use Rattle.gm_state.proofs.FoundRecords.{home_of}
 use Rattle.gm_refusals.specs.declared.refusals.Refusal.TheVariants as refusals
-use Rattle.gm_changes.proofs.MakesChange.{label_makes, insert_makes, remove_makes, deactivate_makes, activate_makes, forget_makes, rebuild_makes, advance_makes, configure_makes, destroy_makes, lost_makes, adopt_makes}
+use Rattle.gm_changes.proofs.MakesChange.{label_makes, insert_makes, remove_makes, deactivate_makes, activate_makes, forget_makes, rebuild_makes, advance_makes, configure_makes, destroy_makes, lost_makes, adopt_makes, patch_makes}
 use Rattle.gm_refusals.proofs.Listed.{listed}
 
 module _ (part s : Records) (c : Command) (of : IsPartOf part c s) where
@@ -55,13 +55,10 @@ pub label_made : (part : Records) (x : Seen) (new : NewMirror) (sectors : ℕ) (
     (k : Component) (ch : Changed)
     → x.size new.provider ≡ Some sectors → m ≡ new_mirror new sectors
     → k ≡ first_component new sectors
-    → ch ≡ record {
+    → ch ≡ record no_change {
       mirror = Some m;
-      gone_mirror = None;
       components = k ∷ [];
-      gone_components = [];
       intents = Meta k.provider ∷ [];
-      reply = Plain;
     }
     → IsMade part x (Label new) ch
 label_made part x new sectors m k ch size mirror first is s to good =
@@ -72,14 +69,10 @@ pub insert_made : (part : Records) (x : Seen) (new : NewComponent) (m : Mirror)
     → mirror_of part new.name ≡ Some m → members part.components new.name ≡ ks
     → x.size new.provider ≡ Some sectors → component_of part new.provider ≡ None
     → k ≡ spare m new sectors
-    → ch ≡ record {
+    → ch ≡ record no_change {
       mirror = Some (record m { all = m.all + 1 });
-      gone_mirror = None;
       components = k ∷ [];
-      gone_components = [];
       intents = metas (put provider k ks);
-      reply =
-          Plain;
     }
     → IsMade part x (Insert new) ch
 insert_made part x new m ks sectors k ch found mine size none made is s to good =
@@ -92,14 +85,10 @@ insert_made part x new m ks sectors k ch found mine size none made is s to good 
 pub remove_made : (part : Records) (x : Seen) (n p : List ℕ) (m : Mirror) (ks : List Component)
     (ch : Changed)
     → mirror_of part n ≡ Some m → members part.components n ≡ ks
-    → ch ≡ record {
+    → ch ≡ record no_change {
       mirror = Some (record m { all = m.all - 1 });
-      gone_mirror = None;
-      components = [];
       gone_components = p ∷ [];
-      intents =
-          Clear p ∷ metas (without provider p ks);
-      reply = Plain;
+      intents = Clear p ∷ metas (without provider p ks);
     }
     → IsMade part x (Remove n p) ch
 remove_made part x n p m ks ch found mine is s to good =
@@ -110,14 +99,10 @@ remove_made part x n p m ks ch found mine is s to good =
 pub deactivate_made : (part : Records) (x : Seen) (n p : List ℕ) (m : Mirror) (ks : List Component)
     (ch : Changed)
     → mirror_of part n ≡ Some m → members part.components n ≡ ks
-    → ch ≡ record {
+    → ch ≡ record no_change {
       mirror = Some (record m { syncid = m.syncid + 1 });
-      gone_mirror = None;
       components = map (deactivated (m.syncid + 1) p) ks;
-      gone_components = [];
-      intents =
-          metas (map (deactivated (m.syncid + 1) p) ks);
-      reply = Plain;
+      intents = metas (map (deactivated (m.syncid + 1) p) ks);
     }
     → IsMade part x (Deactivate n p) ch
 deactivate_made part x n p m ks ch found mine is s to good =
@@ -128,13 +113,9 @@ deactivate_made part x n p m ks ch found mine is s to good =
 pub activate_made : (part : Records) (x : Seen) (n p : List ℕ) (m : Mirror) (k : Component)
     (ch : Changed)
     → mirror_of part n ≡ Some m → component_of part p ≡ Some k
-    → ch ≡ record {
-      mirror = None;
-      gone_mirror = None;
+    → ch ≡ record no_change {
       components = activated m k ∷ [];
-      gone_components = [];
       intents = Meta k.provider ∷ [];
-      reply = Plain;
     }
     → IsMade part x (Activate n p) ch
 activate_made part x n p m k ch found at is s to good =
@@ -145,13 +126,9 @@ activate_made part x n p m k ch found at is s to good =
 pub forget_made : (part : Records) (x : Seen) (n : List ℕ) (m : Mirror) (ks : List Component)
     (ch : Changed)
     → mirror_of part n ≡ Some m → members part.components n ≡ ks
-    → ch ≡ record {
+    → ch ≡ record no_change {
       mirror = Some (record m { all = length ks });
-      gone_mirror = None;
-      components = [];
-      gone_components = [];
       intents = metas ks;
-      reply = Plain;
     }
     → IsMade part x (Forget n) ch
 forget_made part x n m ks ch found mine is s to good =
@@ -161,13 +138,9 @@ forget_made part x n m ks ch found mine is s to good =
 
 pub rebuild_made : (part : Records) (x : Seen) (n p : List ℕ) (k : Component) (ch : Changed)
     → component_of part p ≡ Some k
-    → ch ≡ record {
-      mirror = None;
-      gone_mirror = None;
+    → ch ≡ record no_change {
       components = rebuilt k ∷ [];
-      gone_components = [];
       intents = Meta k.provider ∷ [];
-      reply = Plain;
     }
     → IsMade part x (Rebuild n p) ch
 rebuild_made part x n p k ch at is s to good =
@@ -177,14 +150,10 @@ rebuild_made part x n p k ch at is s to good =
 pub advance_made : (part : Records) (x : Seen) (n p : List ℕ) (m : Mirror) (k : Component)
     (source : List ℕ) (ch : Changed)
     → mirror_of part n ≡ Some m → component_of part p ≡ Some k → source_of part p ≡ Some source
-    → ch ≡ record {
-      mirror = None;
-      gone_mirror = None;
+    → ch ≡ record no_change {
       components = advanced m k ∷ [];
-      gone_components = [];
       intents = filling m k source;
-      reply =
-          Copied (reach m k) m.data_sectors;
+      reply = Copied (reach m k) m.data_sectors;
     }
     → IsMade part x (Advance n p) ch
 advance_made part x n p m k source ch found at lent is s to good =
@@ -203,14 +172,10 @@ advance_made part x n p m k source ch found at lent is s to good =
 pub configure_made : (part : Records) (x : Seen) (n : List ℕ) (settings : Settings) (m : Mirror)
     (ks : List Component) (ch : Changed)
     → mirror_of part n ≡ Some m → members part.components n ≡ ks
-    → ch ≡ record {
+    → ch ≡ record no_change {
       mirror = Some (configured_mirror settings m);
-      gone_mirror = None;
       components = map (configured settings) ks;
-      gone_components = [];
-      intents =
-          metas (map (configured settings) ks);
-      reply = Plain;
+      intents = metas (map (configured settings) ks);
     }
     → IsMade part x (Configure n settings) ch
 configure_made part x n settings m ks ch found mine is s to good =
@@ -218,15 +183,28 @@ configure_made part x n settings m ks ch found mine is s to good =
     configure_makes s x n settings m ks ch good to.of.state
     (mirror_in part s c to.of n m refl found) (members_in part s c to.of n ks refl mine) is
 
+pub patch_made : (part : Records) (x : Seen) (n : List ℕ) (first : ℕ) (sectors : List (List ℕ))
+    (m : Mirror) (ks : List Component) (ch : Changed)
+    → mirror_of part n ≡ Some m → members part.components n ≡ ks
+    → ch ≡ record no_change {
+      mirror = Some (record m { syncid = m.syncid + 1 });
+      components = map (freshened (m.syncid + 1)) ks;
+      intents = flat_map (patching first (first + length sectors))
+          (active_of (map (freshened (m.syncid + 1)) ks));
+      bytes = sectors;
+    }
+    → IsMade part x (Patch n first sectors) ch
+patch_made part x n first sectors m ks ch found mine is s to good =
+    let c : Command = Patch n first sectors in
+    patch_makes s x n first sectors m ks ch good to.of.state
+    (mirror_in part s c to.of n m refl found) (members_in part s c to.of n ks refl mine) is
+
 pub destroy_made : (part : Records) (x : Seen) (n : List ℕ) (ks : List Component) (ch : Changed)
     → members part.components n ≡ ks
-    → ch ≡ record {
-      mirror = None;
+    → ch ≡ record no_change {
       gone_mirror = Some n;
-      components = [];
       gone_components = map provider ks;
       intents = clears_of ks;
-      reply = Plain;
     }
     → IsMade part x (Destroy n) ch
 destroy_made part x n ks ch mine is s to good =
@@ -236,14 +214,10 @@ destroy_made part x n ks ch mine is s to good =
 pub lost_made : (part : Records) (x : Seen) (n : List ℕ) (ps : List (List ℕ)) (m : Mirror)
     (ks : List Component) (ch : Changed)
     → mirror_of part n ≡ Some m → members part.components n ≡ ks
-    → ch ≡ record {
+    → ch ≡ record no_change {
       mirror = Some (record m { genid = m.genid + 1 });
-      gone_mirror = None;
-      components = [];
       gone_components = ps;
-      intents =
-          metas (filter (λ k. not (is_on_any ps k)) ks);
-      reply = Plain;
+      intents = metas (filter (λ k. not (is_on_any ps k)) ks);
     }
     → IsMade part x (Lost n ps) ch
 lost_made part x n ps m ks ch found mine is s to good =

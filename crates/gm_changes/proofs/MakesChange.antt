@@ -1,14 +1,14 @@
 -- The changes of the commands are what the commands make of the records.
-use Rattle.std.proofs.Common.{◌≡◌, ◌∙◌, inl, inr, ℕ, ◌+◌, ◌-◌, Bool, true, false, not, ◌||◌, refl, sym, ap, List, [], ◌∷◌, filter, map, length, option_map, is_some, Some, None}
+use Rattle.std.proofs.Common.{◌≡◌, ◌∙◌, inl, inr, ℕ, ◌+◌, ◌-◌, Bool, true, false, not, ◌||◌, refl, sym, ap, List, [], ◌∷◌, filter, flat_map, map, length, option_map, is_some, Some, None}
 use Rattle.std.specs.List.{list_any}
 use Rattle.std.proofs.lemmas.Bool.{cases_Bool}
 use Rattle.gm_metadata.specs.Images.{same_label}
 use Rattle.gm_commands.specs.declared.command.NewComponent.{NewComponent}
 use Rattle.gm_commands.specs.declared.command.NewMirror.{NewMirror}
 use Rattle.gm_commands.specs.declared.command.Settings.{Settings}
-use Rattle.gm_commands.specs.declared.command.Command.TheVariants.{Label, Insert, Remove, Deactivate, Activate, Forget, Rebuild, Configure, Destroy, Lost, Advance, Adopt}
+use Rattle.gm_commands.specs.declared.command.Command.TheVariants.{Label, Insert, Remove, Deactivate, Activate, Forget, Rebuild, Configure, Destroy, Lost, Advance, Adopt, Patch}
 use Rattle.gm_state.specs.declared.intents.Intent.TheVariants.{Meta, Clear}
-use Rattle.gm_state.specs.declared.intents.Reply.TheVariants.{Plain, Copied}
+use Rattle.gm_state.specs.declared.intents.Reply.TheVariants.{Copied}
 use Rattle.gm_taste.specs.declared.tasted.Member.{Member}
 use Rattle.gm_state.specs.declared.records.Mirror.{Mirror}
 use Rattle.gm_state.specs.declared.records.Component.{Component}
@@ -21,8 +21,8 @@ use Rattle.gm_lists.proofs.Putting.{filter-put, filter_swap, filter_id, one}
 use Rattle.gm_lists.proofs.Lists.{Has-filter, filter-Has}
 use Rattle.gm_refusals.specs.Seen.{Seen}
 use Rattle.gm_refusals.specs.Applies.{is_on_any}
-use Rattle.gm_changes.specs.After.{metas, clears_of, new_mirror, first_component, advanced, filling, reach, spare, deactivated, activated, rebuilt, configured_mirror, configured}
-use Rattle.gm_changes.specs.Decides.{Changed, Makes, adopting}
+use Rattle.gm_changes.specs.After.{metas, clears_of, active_of, patching, new_mirror, first_component, advanced, filling, reach, spare, deactivated, freshened, activated, rebuilt, configured_mirror, configured}
+use Rattle.gm_changes.specs.Decides.{Changed, Makes, adopting, no_change}
 use Rattle.gm_refusals.specs.Applies.{IsGood}
 use Rattle.gm_lists.proofs.Finding.{filter_agree, any-map, any_from, any_one, some_any, none_any, found_none, not_both}
 use Rattle.gm_state.proofs.NoMembers.{no_members}
@@ -32,20 +32,17 @@ use Rattle.gm_refusals.proofs.NothingApplies.{none_from}
 use Rattle.gm_state.proofs.FoundRecords.{named, new_name, provider_at}
 use Rattle.gm_lists.proofs.PutTogether.{filter-put_all, put_ordered}
 use Rattle.gm_refusals.proofs.TakenProviders.{adopted_on, adopted_mirror_is, Ascends-adopted}
-use Rattle.gm_changes.proofs.KeptComponents.{keeps_activated, keeps_advanced, keeps_configured, keeps_deactivated, keeps_rebuilt, members_put}
+use Rattle.gm_changes.proofs.KeptComponents.{keeps_activated, keeps_advanced, keeps_configured, keeps_deactivated, keeps_freshened, keeps_rebuilt, members_put}
 use Rattle.gm_changes.proofs.PuttingInPlace.{puts_none, puts_nothing, members_in_place, puts_new, puts_one_new, puts_one_changed}
 
 pub label_makes : (s : Records) (x : Seen) (new : NewMirror) (sectors : ℕ) (m : Mirror)
     (k : Component) (ch : Changed)
     → IsGood s x (Label new) → x.size new.provider ≡ Some sectors → m ≡ new_mirror new sectors
     → k ≡ first_component new sectors
-    → ch ≡ record {
+    → ch ≡ record no_change {
       mirror = Some m;
-      gone_mirror = None;
       components = k ∷ [];
-      gone_components = [];
       intents = Meta k.provider ∷ [];
-      reply = Plain;
     }
     → Makes s x (Label new) ch
 label_makes s x new sectors m k ch good size mirror first is =
@@ -58,6 +55,7 @@ label_makes s x new sectors m k ch good size mirror first is =
       records = rw (is, mirror, first, size) refl;
       in_place = rw is (puts_one_new s _ refl k refl (rw first free));
       intents = rw (is, first) refl;
+      bytes = rw is refl;
       reply = rw is refl;
     }
 
@@ -66,14 +64,10 @@ pub insert_makes : (s : Records) (x : Seen) (new : NewComponent) (m : Mirror) (k
     → IsGood s x (Insert new) → IsState s → mirror_of s new.name ≡ Some m
     → members s.components new.name ≡ ks → x.size new.provider ≡ Some sectors
     → component_of s new.provider ≡ None → k ≡ spare m new sectors
-    → ch ≡ record {
+    → ch ≡ record no_change {
       mirror = Some (record m { all = m.all + 1 });
-      gone_mirror = None;
       components = k ∷ [];
-      gone_components = [];
       intents = metas (put provider k ks);
-      reply =
-          Plain;
     }
     → Makes s x (Insert new) ch
 insert_makes s x new m ks sectors k ch good state found mine size none made is =
@@ -92,20 +86,17 @@ insert_makes s x new m ks sectors k ch good state found mine size none made is =
       records = rw (is, made, found, size) refl;
       in_place = rw is (puts_one_new s _ refl k refl (rw made none));
       intents = rw (is, made, found, size, placed, mine) refl;
+      bytes = rw is refl;
       reply = rw is refl;
     }
 
 pub remove_makes : (s : Records) (x : Seen) (n p : List ℕ) (m : Mirror) (ks : List Component)
     (ch : Changed)
     → IsGood s x (Remove n p) → mirror_of s n ≡ Some m → members s.components n ≡ ks
-    → ch ≡ record {
+    → ch ≡ record no_change {
       mirror = Some (record m { all = m.all - 1 });
-      gone_mirror = None;
-      components = [];
       gone_components = p ∷ [];
-      intents =
-          Clear p ∷ metas (without provider p ks);
-      reply = Plain;
+      intents = Clear p ∷ metas (without provider p ks);
     }
     → Makes s x (Remove n p) ch
 remove_makes s x n p m ks ch good found mine is =
@@ -118,20 +109,17 @@ remove_makes s x n p m ks ch good found mine is =
       records = rw (is, found) refl;
       in_place = rw is (puts_none s _ refl refl);
       intents = rw (is, found, swapped, mine) refl;
+      bytes = rw is refl;
       reply = rw is refl;
     }
 
 pub deactivate_makes : (s : Records) (x : Seen) (n p : List ℕ) (m : Mirror) (ks : List Component)
     (ch : Changed)
     → IsGood s x (Deactivate n p) → IsState s → mirror_of s n ≡ Some m → members s.components n ≡ ks
-    → ch ≡ record {
+    → ch ≡ record no_change {
       mirror = Some (record m { syncid = m.syncid + 1 });
-      gone_mirror = None;
       components = map (deactivated (m.syncid + 1) p) ks;
-      gone_components = [];
-      intents =
-          metas (map (deactivated (m.syncid + 1) p) ks);
-      reply = Plain;
+      intents = metas (map (deactivated (m.syncid + 1) p) ks);
     }
     → Makes s x (Deactivate n p) ch
 deactivate_makes s x n p m ks ch good state found mine is =
@@ -143,19 +131,16 @@ deactivate_makes s x n p m ks ch good state found mine is =
       in_place = rw is (members_in_place s state n (deactivated (m.syncid + 1) p)
           (keeps_deactivated (m.syncid + 1) p) ks mine _ refl refl);
       intents = rw (is, found, placed, mine) refl;
+      bytes = rw is refl;
       reply = rw is refl;
     }
 
 pub activate_makes : (s : Records) (x : Seen) (n p : List ℕ) (m : Mirror) (k : Component)
     (ch : Changed)
     → IsGood s x (Activate n p) → IsState s → mirror_of s n ≡ Some m → component_of s p ≡ Some k
-    → ch ≡ record {
-      mirror = None;
-      gone_mirror = None;
+    → ch ≡ record no_change {
       components = activated m k ∷ [];
-      gone_components = [];
       intents = Meta k.provider ∷ [];
-      reply = Plain;
     }
     → Makes s x (Activate n p) ch
 activate_makes s x n p m k ch good state found at is =
@@ -165,19 +150,16 @@ activate_makes s x n p m k ch good state found at is =
       in_place = rw is
           (puts_one_changed s _ refl state (activated m) (keeps_activated m) p k at refl);
       intents = rw (is, provider_at s p k at) refl;
+      bytes = rw is refl;
       reply = rw is refl;
     }
 
 pub forget_makes : (s : Records) (x : Seen) (n : List ℕ) (m : Mirror) (ks : List Component)
     (ch : Changed)
     → IsGood s x (Forget n) → mirror_of s n ≡ Some m → members s.components n ≡ ks
-    → ch ≡ record {
+    → ch ≡ record no_change {
       mirror = Some (record m { all = length ks });
-      gone_mirror = None;
-      components = [];
-      gone_components = [];
       intents = metas ks;
-      reply = Plain;
     }
     → Makes s x (Forget n) ch
 forget_makes s x n m ks ch good found mine is =
@@ -186,18 +168,15 @@ forget_makes s x n m ks ch good found mine is =
       records = rw (is, found, mine) refl;
       in_place = rw is (puts_none s _ refl refl);
       intents = rw (is, found, mine) refl;
+      bytes = rw is refl;
       reply = rw is refl;
     }
 
 pub rebuild_makes : (s : Records) (x : Seen) (n p : List ℕ) (k : Component) (ch : Changed)
     → IsGood s x (Rebuild n p) → IsState s → component_of s p ≡ Some k
-    → ch ≡ record {
-      mirror = None;
-      gone_mirror = None;
+    → ch ≡ record no_change {
       components = rebuilt k ∷ [];
-      gone_components = [];
       intents = Meta k.provider ∷ [];
-      reply = Plain;
     }
     → Makes s x (Rebuild n p) ch
 rebuild_makes s x n p k ch good state at is =
@@ -206,6 +185,7 @@ rebuild_makes s x n p k ch good state at is =
       records = rw (is, at) refl;
       in_place = rw is (puts_one_changed s _ refl state rebuilt keeps_rebuilt p k at refl);
       intents = rw (is, provider_at s p k at) refl;
+      bytes = rw is refl;
       reply = rw is refl;
     }
 
@@ -213,14 +193,10 @@ pub advance_makes : (s : Records) (x : Seen) (n p : List ℕ) (m : Mirror) (k : 
     (source : List ℕ) (ch : Changed)
     → IsGood s x (Advance n p) → IsState s → mirror_of s n ≡ Some m → component_of s p ≡ Some k
     → option_map provider (source_among k (members s.components k.mirror)) ≡ Some source
-    → ch ≡ record {
-      mirror = None;
-      gone_mirror = None;
+    → ch ≡ record no_change {
       components = advanced m k ∷ [];
-      gone_components = [];
       intents = filling m k source;
-      reply =
-          Copied (reach m k) m.data_sectors;
+      reply = Copied (reach m k) m.data_sectors;
     }
     → Makes s x (Advance n p) ch
 advance_makes s x n p m k source ch good state found at lent is =
@@ -230,6 +206,7 @@ advance_makes s x n p m k source ch good state found at lent is =
       in_place = rw is
           (puts_one_changed s _ refl state (advanced m) (keeps_advanced m) p k at refl);
       intents = rw (is, found, at, lent) refl;
+      bytes = rw is refl;
       reply = rw (is, found, at) refl;
     }
 
@@ -237,14 +214,10 @@ pub configure_makes : (s : Records) (x : Seen) (n : List ℕ) (settings : Settin
     (ks : List Component) (ch : Changed)
     → IsGood s x (Configure n settings) → IsState s → mirror_of s n ≡ Some m
     → members s.components n ≡ ks
-    → ch ≡ record {
+    → ch ≡ record no_change {
       mirror = Some (configured_mirror settings m);
-      gone_mirror = None;
       components = map (configured settings) ks;
-      gone_components = [];
-      intents =
-          metas (map (configured settings) ks);
-      reply = Plain;
+      intents = metas (map (configured settings) ks);
     }
     → Makes s x (Configure n settings) ch
 configure_makes s x n settings m ks ch good state found mine is =
@@ -256,6 +229,32 @@ configure_makes s x n settings m ks ch good state found mine is =
       in_place = rw is (members_in_place s state n (configured settings)
           (keeps_configured settings) ks mine _ refl refl);
       intents = rw (is, found, placed, mine) refl;
+      bytes = rw is refl;
+      reply = rw is refl;
+    }
+
+pub patch_makes : (s : Records) (x : Seen) (n : List ℕ) (first : ℕ) (sectors : List (List ℕ))
+    (m : Mirror) (ks : List Component) (ch : Changed)
+    → IsGood s x (Patch n first sectors) → IsState s → mirror_of s n ≡ Some m
+    → members s.components n ≡ ks
+    → ch ≡ record no_change {
+      mirror = Some (record m { syncid = m.syncid + 1 });
+      components = map (freshened (m.syncid + 1)) ks;
+      intents = flat_map (patching first (first + length sectors))
+          (active_of (map (freshened (m.syncid + 1)) ks));
+      bytes = sectors;
+    }
+    → Makes s x (Patch n first sectors) ch
+patch_makes s x n first sectors m ks ch good state found mine is =
+    let placed = members_put n (freshened (m.syncid + 1)) (keeps_freshened (m.syncid + 1))
+    s.components state.components_in_order in
+    record {
+      good = good;
+      records = rw (is, found, mine) refl;
+      in_place = rw is (members_in_place s state n (freshened (m.syncid + 1))
+          (keeps_freshened (m.syncid + 1)) ks mine _ refl refl);
+      intents = rw (is, found, placed, mine) refl;
+      bytes = rw is refl;
       reply = rw is refl;
     }
 
@@ -291,14 +290,10 @@ without_all-swap names q ks =
 pub lost_makes : (s : Records) (x : Seen) (n : List ℕ) (ps : List (List ℕ)) (m : Mirror)
     (ks : List Component) (ch : Changed)
     → IsGood s x (Lost n ps) → mirror_of s n ≡ Some m → members s.components n ≡ ks
-    → ch ≡ record {
+    → ch ≡ record no_change {
       mirror = Some (record m { genid = m.genid + 1 });
-      gone_mirror = None;
-      components = [];
       gone_components = ps;
-      intents =
-          metas (filter (λ k. not (is_on_any ps k)) ks);
-      reply = Plain;
+      intents = metas (filter (λ k. not (is_on_any ps k)) ks);
     }
     → Makes s x (Lost n ps) ch
 lost_makes s x n ps m ks ch good found mine is =
@@ -311,6 +306,7 @@ lost_makes s x n ps m ks ch good found mine is =
       records = rw (is, found) refl;
       in_place = rw is (puts_none s _ refl refl);
       intents = rw (is, found, left) refl;
+      bytes = rw is refl;
       reply = rw is refl;
     }
 
@@ -350,13 +346,10 @@ is_member s n state k h =
 
 pub destroy_makes : (s : Records) (x : Seen) (n : List ℕ) (ks : List Component) (ch : Changed)
     → IsGood s x (Destroy n) → IsState s → members s.components n ≡ ks
-    → ch ≡ record {
-      mirror = None;
+    → ch ≡ record no_change {
       gone_mirror = Some n;
-      components = [];
       gone_components = map provider ks;
       intents = clears_of ks;
-      reply = Plain;
     }
     → Makes s x (Destroy n) ch
 destroy_makes s x n ks ch good state mine is =
@@ -369,6 +362,7 @@ destroy_makes s x n ks ch good state mine is =
       records = rw (is, ← mine, left) refl;
       in_place = rw is (puts_nothing s _ refl refl);
       intents = rw (is, mine) refl;
+      bytes = rw is refl;
       reply = rw is refl;
     }
 
@@ -402,5 +396,6 @@ adopt_makes s x n ps b ch good state from is =
           none_from (component_of s k.provider) (none_any (λ p. is_some (component_of s p)) ps
           (good refusals.ProviderTaken refl) k.provider (adopted_on x n ps b k h))));
       intents = rw (is, from, placed) refl;
+      bytes = rw is refl;
       reply = rw is refl;
     }

@@ -1,5 +1,5 @@
 -- What a command makes of the records, and what it has written.
-use Rattle.std.specs.Prelude.{◌+◌, ◌-◌, ◌==◌, ◌&&◌, ℕ, Bool, true, false, not, nat_le, nat_lt, List, [], ◌∷◌, Option, Some, None, map, filter, length, unwrap_or, if◌then◌else◌}
+use Rattle.std.specs.Prelude.{◌+◌, ◌-◌, ◌==◌, ◌&&◌, ℕ, Bool, true, false, not, nat_le, nat_lt, List, [], ◌∷◌, Option, Some, None, map, filter, flat_map, length, slice_index_or, unwrap_or, if◌then◌else◌}
 use Rattle.std.specs.List.{list_any}
 use Rattle.std.specs.Option.{option_map_or}
 use Rattle.gm_metadata.specs.Images.{same_label}
@@ -11,7 +11,7 @@ use Rattle.gm_commands.specs.declared.command.Settings.{Settings}
 use Rattle.gm_commands.specs.declared.command.Command.{Command}
 use Rattle.gm_commands.specs.declared.command.Command.TheVariants as commands
 use Rattle.gm_state.specs.declared.intents.Intent.{Intent}
-use Rattle.gm_state.specs.declared.intents.Intent.TheVariants.{Meta, Clear, Copy}
+use Rattle.gm_state.specs.declared.intents.Intent.TheVariants.{Meta, Clear, Copy, Dirty, Patch}
 use Rattle.gm_state.specs.declared.intents.Reply.{Reply}
 use Rattle.gm_state.specs.declared.intents.Reply.TheVariants.{Plain, Copied}
 use Rattle.gm_state.specs.declared.records.Mirror.{Mirror}
@@ -21,7 +21,7 @@ use Rattle.gm_state.specs.declared.records.Disk.TheVariants.{InSync, Inactive, C
 use Rattle.gm_commands.specs.Commands.{balance_of_word}
 use Rattle.gm_lists.specs.Ordered.{put, put_all, without, without_all}
 use Rattle.gm_state.specs.Records.{Records, name, provider, members}
-use Rattle.gm_state.specs.Lookups.{mirror_of, component_of, held_of, is_inactive}
+use Rattle.gm_state.specs.Lookups.{mirror_of, component_of, held_of, is_active, is_inactive}
 use Rattle.gm_state.specs.Sources.{source_of}
 use Rattle.gm_refusals.specs.Seen.{Seen}
 use Rattle.gm_refusals.specs.Adoptable.{source_in, adopted_mirror, adopted}
@@ -67,12 +67,15 @@ spare m new sectors = record {
   sectors = sectors;
 }
 
+-- a component of a mirror that has a new syncid: it takes it, unless it is INACTIVE
+abbrev pub freshened : ℕ → Component → Component
+freshened syncid k = if is_inactive k.disk then k else record k { syncid = syncid }
+
 -- A component of a mirror of which the one on p is taken out of use: that one becomes INACTIVE and
--- keeps its syncid, and each other that isn't INACTIVE takes the mirror's new one.
+-- keeps its syncid.
 abbrev pub deactivated : ℕ → List ℕ → Component → Component
 deactivated syncid p k =
-    if same_label k.provider p then record k { disk = Inactive }
-    else (if is_inactive k.disk then k else record k { syncid = syncid })
+    if same_label k.provider p then record k { disk = Inactive } else freshened syncid k
 
 -- a component that is taken into use again: it holds nothing yet, and has the mirror's syncid
 abbrev pub activated : Mirror → Component → Component
@@ -185,6 +188,19 @@ after x (commands.Adopt n ps) s = on_found (source_in x ps) s (λ b. record {
   mirrors = put name (adopted_mirror n b.metadata) s.mirrors;
   components = put_all provider (adopted x n ps b) s.components;
 })
+after x (commands.Patch n first sectors) s = on_found (mirror_of s n) s (λ m. record {
+  mirrors = put name (record m { syncid = m.syncid + 1 }) s.mirrors;
+  components =
+      put_all provider (map (freshened (m.syncid + 1)) (members s.components n)) s.components;
+})
+
+-- the data of the mirror of this name after the command, where the list is those before: a patch
+-- lays its sectors over those of its mirror
+abbrev pub laid_over : Command → List ℕ → (ℕ → List ℕ) → ℕ → List ℕ
+laid_over (commands.Patch n first sectors) name list i =
+    if same_label n name && (nat_le first i && nat_lt i (first + length sectors))
+    then slice_index_or sectors (i - first) [] else list i
+laid_over _ name list i = list i
 
 -- what the command is answered beside its number, where the records before are s
 abbrev pub reply_to : Command → Records → Reply
@@ -204,6 +220,15 @@ clears_of ks = map (λ k. Clear k.provider) ks
 abbrev pub filling : Mirror → Component → List ℕ → List Intent
 filling m k source = Copy source k.provider (held_of k.disk) (reach m k) ∷ Meta k.provider ∷ []
 
+-- Sectors are laid over those of a component from first to end - 1: while that goes on it says that
+-- its data change, and then its metadata.
+abbrev pub patching : ℕ → ℕ → Component → List Intent
+patching first end k = Dirty k.provider ∷ Patch k.provider first end ∷ Meta k.provider ∷ []
+
+-- those of the components that hold the mirror's data
+abbrev pub active_of : List Component → List Component
+active_of ks = filter (λ k. is_active k.disk) ks
+
 -- the intents in their order, where the records before are s and those after s'
 abbrev pub intents_of : Command → Records → Records → List Intent
 intents_of (commands.Label new) s s' = Meta new.provider ∷ []
@@ -221,6 +246,13 @@ intents_of (commands.Advance n p) s s' =
     on_found (mirror_of s n) [] (λ m. on_found (component_of s p) []
     (λ k. on_found (source_of s p) [] (λ source. filling m k source)))
 intents_of (commands.Adopt n ps) s s' = metas (members s'.components n)
+intents_of (commands.Patch n first sectors) s s' =
+    flat_map (patching first (first + length sectors)) (active_of (members s'.components n))
+
+-- the sectors that the intents lay over data
+abbrev pub bytes_of : Command → List (List ℕ)
+bytes_of (commands.Patch n first sectors) = sectors
+bytes_of _ = []
 
 -- whether the last sector of q becomes zero, where the records before are s
 abbrev pub clears : Records → Command → List ℕ → Bool
@@ -237,10 +269,14 @@ clears s (commands.Destroy n) q = list_any (λ k. same_label k.provider q) (memb
 clears s (commands.Lost n ps) q = false
 clears s (commands.Advance n p) q = false
 clears s (commands.Adopt n ps) q = false
+clears s (commands.Patch n first sectors) q = false
 
--- whether sector j of q is one that the command copies, where the records before are s
+-- whether sector j of q is one that the command copies or lays over, where the records before are s
 abbrev pub fills : Records → Command → List ℕ → ℕ → Bool
 fills s (commands.Advance n p) q j =
     on_found (mirror_of s n) false (λ m. on_found (component_of s p) false
     (λ k. same_label p q && (nat_le (held_of k.disk) j && nat_lt j (reach m k))))
+fills s (commands.Patch n first sectors) q j =
+    list_any (λ k. same_label k.provider q) (active_of (members s.components n)) &&
+    (nat_le first j && nat_lt j (first + length sectors))
 fills s _ q j = false

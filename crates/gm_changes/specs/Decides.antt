@@ -12,16 +12,17 @@ use Rattle.gm_state.specs.Records.{Records, name, provider}
 use Rattle.gm_refusals.specs.declared.refusals.Refusal.{Refusal}
 use Rattle.gm_refusals.specs.Seen.{Seen}
 use Rattle.gm_refusals.specs.Adoptable.{adopted_mirror, adopted}
-use Rattle.gm_changes.specs.After.{after, intents_of, metas, reply_to}
+use Rattle.gm_changes.specs.After.{after, bytes_of, intents_of, metas, reply_to}
 use Rattle.gm_refusals.specs.Applies.{IsLeast, IsGood}
 
--- records to put, names of records to delete, intents, reply
+-- records to put, names of records to delete, intents, the sectors that they lay over data, reply
 pub record Changed : Type 0 where
   pub mirror : Option Mirror
   pub gone_mirror : Option (List ℕ)
   pub components : List Component
   pub gone_components : List (List ℕ)
   pub intents : List Intent
+  pub bytes : List (List ℕ)
   pub reply : Reply
 
 -- nothing is put, deleted or written, and the answer is plain
@@ -32,6 +33,7 @@ no_change = record {
   components = [];
   gone_components = [];
   intents = [];
+  bytes = [];
   reply = Plain;
 }
 
@@ -69,13 +71,14 @@ pub record PutsInPlace (s : Records) (ch : Changed) : Type 0 where
   pub numbers : (k j : Component) → Has ch.components k → Has s.components j
       → j.provider ≡ k.provider → (j.mirror ≡ k.mirror) × (j.did ≡ k.did)
 
--- no refusal applies, and the change is what the command makes of the records, with its intents and
--- its reply
+-- no refusal applies, and the change is what the command makes of the records, with its intents,
+-- their bytes and its reply
 pub record Makes (s : Records) (x : Seen) (c : Command) (ch : Changed) : Type 0 where
   pub good : IsGood s x c
   pub records : changed_by ch s ≡ after x c s
   pub in_place : PutsInPlace s ch
   pub intents : ch.intents ≡ intents_of c s (after x c s)
+  pub bytes : ch.bytes ≡ bytes_of c
   pub reply : ch.reply ≡ reply_to c s
 
 -- the least refusal, or the change

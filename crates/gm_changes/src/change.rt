@@ -18,6 +18,7 @@ pub struct Change {
     pub(crate) components: Vec<Component>,
     pub(crate) gone_components: Vec<Label>,
     pub(crate) intents: Vec<Intent>,
+    pub(crate) bytes: Vec<[u8; 512]>,
     pub(crate) reply: Reply,
 }
 
@@ -32,6 +33,7 @@ impl Model for Change {
       components = a.components.items;
       gone_components = a.gone_components.items;
       intents = a.intents.items;
+      bytes = a.bytes.items;
       reply = a.reply;
     } };
 }
@@ -48,6 +50,7 @@ impl Change {
             components: Vec::new(alloc),
             gone_components: Vec::new(alloc),
             intents: Vec::new(alloc),
+            bytes: Vec::new(alloc),
             reply: Reply::Plain,
         }
     }
@@ -85,6 +88,13 @@ impl Change {
         ensures { result.now ≡ self.now.intents }
     {
         &self.intents
+    }
+
+    /// The sectors that the intents lay over data, in their order.
+    pub fn bytes(&self) -> &[[u8; 512]]
+        ensures { result.now ≡ self.now.bytes }
+    {
+        &self.bytes
     }
 
     /// What is answered.

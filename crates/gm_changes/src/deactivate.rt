@@ -10,8 +10,9 @@ ghost use Rattle.gm_refusals.specs.Seen.{seen_in};
 ghost use Rattle.gm_state.specs.declared.intents.Reply.TheVariants as replies;
 
 use crate::change::{Change, push_metas};
+use crate::members::freshened;
 use gm_metadata::Label;
-use gm_refusals::{Facts, is_inactive};
+use gm_refusals::Facts;
 use gm_state::{Component, Disk, Mirror, Reply, State};
 use std::alloc::{AllocError, Global};
 
@@ -24,13 +25,8 @@ fn one_deactivated(syncid: u32, provider: Label, component: Component) -> Compon
             disk: Disk::Inactive,
             ..component
         }
-    } else if is_inactive(&component) {
-        component
     } else {
-        Component {
-            syncid,
-            ..component
-        }
+        freshened(syncid, component)
     }
 }
 

@@ -23,6 +23,7 @@ use crate::insert::insert;
 use crate::label::{first_component, labelled, new_mirror};
 use crate::lost::lose;
 use crate::members::sectors_of;
+use crate::patch::patch;
 use crate::rebuild::rebuild;
 use crate::remove::remove;
 use gm_commands::Command;
@@ -123,5 +124,10 @@ fn change_of(
             name,
             ref providers,
         } => adopt(alloc, part, facts, name, providers),
+        Command::Patch {
+            name,
+            first,
+            ref data,
+        } => patch(alloc, part, facts, name, first, data),
     }
 }

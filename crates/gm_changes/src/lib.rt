@@ -22,6 +22,7 @@ mod insert;
 mod label;
 mod lost;
 mod members;
+mod patch;
 mod rebuild;
 mod remove;
 

@@ -3,6 +3,7 @@
 
 ghost use Rattle.std.specs.Option.{ForSome};
 ghost use Rattle.std.specs.Prelude.{◌≡◌, ◌-◌, ◌<◌, [], ◌∷◌, Some, None, IfOk, false, not, filter, ◌^◌, IsSome};
+ghost use Rattle.gm_changes.specs.After.{freshened};
 ghost use Rattle.gm_changes.specs.Decides.{no_change};
 ghost use Rattle.gm_lists.specs.Ordered.{without};
 ghost use Rattle.gm_refusals.specs.Applies.{is_on_any};
@@ -14,7 +15,7 @@ ghost use Rattle.gm_state.specs.declared.records.Component.{Component};
 
 use crate::change::Change;
 use gm_metadata::Label;
-use gm_refusals::{Facts, is_on_any};
+use gm_refusals::{Facts, is_inactive, is_on_any};
 use gm_state::{Component, Disk, Intent, Reply};
 use std::alloc::{AllocError, Global};
 
@@ -69,6 +70,20 @@ pub(crate) fn replaced(alloc: Global, new: Component) -> Result<Change, AllocErr
         ]?,
         ..Change::nothing(alloc)
     })
+}
+
+/// A component of a mirror that has a new syncid.
+pub(crate) fn freshened(syncid: u32, component: Component) -> Component
+    ensures { result ≡ freshened syncid component }
+{
+    if is_inactive(&component) {
+        component
+    } else {
+        Component {
+            syncid,
+            ..component
+        }
+    }
 }
 
 // How many sectors a provider has that is there.

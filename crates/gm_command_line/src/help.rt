@@ -31,6 +31,8 @@ pub(crate) const WRITES: &str =
   copy N sectors of PROV to PROV from K
   metadata of PROV
   clear PROV
+  mark PROV dirty
+  patch N sectors of PROV from K
 and with --shelf, behind a colon, how the last sector of each of these images stands to that:
   as registered  the write is done there already
   zero           the same, of an image that is to be cleared
@@ -75,8 +77,10 @@ pub(crate) const LINES: &str =
   KEY lost NAME PROV..
   KEY advance NAME PROV
   KEY adopt NAME PROV..
+  KEY patch --first N --data HEX NAME
 B is load, prefer, round-robin or split, and S is on or off. Where label and insert aren't given
 them: --balance load, --slice 4096, --autosync on, --failsync on, --hardcode off, --priority 0.
+HEX is 1 to 64 sectors, each as 1,024 digits of 0-9 and a-f.
 
 Each line is answered before the next is read:
   KEY ok SEQ        done, and kept under this number; behind it an advance says

@@ -1,4 +1,5 @@
 pub mod GivenOptions
+pub mod JoinedSectors
 pub mod JoinedWords
 pub mod OneCommand
 pub mod OneParting

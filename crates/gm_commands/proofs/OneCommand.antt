@@ -2,11 +2,13 @@
 use Rattle.std.proofs.Common.{◌≡◌, ◌≢◌, ◌∙◌, ℕ, ◌+◌, ◌<◌, ◌^◌, ◌==◌, not, true, false, refl, sym, ap, arith, List, [], ◌∷◌, ◌++◌, get_or, true≢false, eq-eqb}
 use Rattle.std.specs.List.{join_with_byte}
 use Rattle.gm_commands.specs.declared.command.Command.{Command}
-use Rattle.gm_commands.specs.declared.command.Command.TheVariants.{Label, Insert, Remove, Deactivate, Activate, Forget, Rebuild, Configure, Clear, Destroy, Lost, Advance, Adopt}
+use Rattle.gm_commands.specs.declared.command.Command.TheVariants.{Label, Insert, Remove, Deactivate, Activate, Forget, Rebuild, Configure, Clear, Destroy, Lost, Advance, Adopt, Patch}
 use Rattle.gm_commands.specs.Commands.{CommandFits, setting_words, words, words_of}
+use Rattle.gm_commands.specs.Sectors.{joined}
 use Rattle.gm_commands.proofs.GivenOptions.{same_settings, settings_spaceless, last_word}
 use Rattle.gm_commands.proofs.OneWord.{same_balance, same_switch, same_off, same_flags, same_number, balance_spaceless, switch_spaceless, number_spaceless}
-use Rattle.gm_commands.proofs.OneParting.{all_spaceless, same_words, label_spaceless, labels_spaceless}
+use Rattle.gm_commands.proofs.JoinedSectors.{joined_bytes, same_sectors}
+use Rattle.gm_commands.proofs.OneParting.{all_spaceless, digits_spaceless, same_words, label_spaceless, labels_spaceless}
 
 -- no word of a command has a space in it
 words_spaceless : (c : Command) → CommandFits c → all_spaceless (words c) ≡ true
@@ -43,6 +45,12 @@ words_spaceless (Destroy n) fits = rw (label_spaceless n fits) refl
 words_spaceless (Lost n ps) fits = rw (label_spaceless n fits.0) (labels_spaceless ps fits.1)
 words_spaceless (Advance n p) fits = rw (label_spaceless n fits.0, label_spaceless p fits.1) refl
 words_spaceless (Adopt n ps) fits = rw (label_spaceless n fits.0) (labels_spaceless ps fits.1)
+words_spaceless (Patch n first sectors) fits =
+    rw (
+      number_spaceless first fits.1,
+      digits_spaceless (joined sectors) (joined_bytes sectors fits.2),
+      label_spaceless n fits.0,
+    ) refl
 
 -- the first, the third and the fourth letter of the first word, added up, and a word by its place
 letters : List (List ℕ) → ℕ
@@ -65,6 +73,7 @@ words_some (Destroy n) e = cc
 words_some (Lost n ps) e = cc
 words_some (Advance n p) e = cc
 words_some (Adopt n ps) e = cc
+words_some (Patch n first sectors) e = cc
 
 lists_same : (xs ys : List (List ℕ)) → xs ≢ [] → ys ≢ [] → all_spaceless xs ≡ true
     → all_spaceless ys ≡ true → join_with_byte 32 xs ≡ join_with_byte 32 ys → xs ≡ ys
@@ -137,6 +146,11 @@ same_by_words (Advance n p) (Advance n' p') u v e = let names : n ≡ n' = ap (w
     let providers : p ≡ p' = ap (word 2) e in cc
 same_by_words (Adopt n ps) (Adopt n' ps') u v e = let names : n ≡ n' = ap (word 1) e in
     let providers : ps ≡ ps' = cc in cc
+same_by_words (Patch n first sectors) (Patch n' first' sectors') u v e =
+    let names : n ≡ n' = ap (word 5) e in
+    let firsts : first ≡ first' = same_number first first' u.1 v.1 (ap (word 2) e) in
+    let bytes : sectors ≡ sectors' = same_sectors sectors sectors' u.2 v.2 (ap (word 4) e) in
+    cc
 same_by_words a b u v e = absurd (apart (letters (words a)) (letters (words b)) refl (ap letters e))
 
 pub same_command : (a b : Command) → CommandFits a → CommandFits b → words_of a ≡ words_of b → a ≡ b

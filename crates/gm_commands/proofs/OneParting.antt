@@ -9,6 +9,9 @@ use Rattle.std.proofs.lemmas.Fmt.{digits_decimal}
 use Rattle.std.proofs.lemmas.Str.Parse.{numerals_by_value, tells_all_ascii_digits}
 use Rattle.gm_metadata.specs.Labels.{is_label, is_label_byte}
 use Rattle.std.specs.Prelude.{nat_lt, IsTrue}
+use Rattle.hex.specs.Hex.{encode_lower}
+use Rattle.gm_commands.specs.Sectors.{is_bytes}
+use Rattle.gm_commands.proofs.JoinedSectors.{digits_pass}
 
 -- no space in it
 abbrev pub spaceless : List ℕ → Bool
@@ -100,3 +103,6 @@ decimal_spaceless n l =
     (digits_are (decimal n)
     (digits_decimal (numerals_by_value (λ (ds : List ℕ). all_ascii_digits ds ≡ true)
     tells_all_ascii_digits) n l))
+
+pub digits_spaceless : (xs : List ℕ) → is_bytes xs ≡ true → spaceless (encode_lower xs) ≡ true
+digits_spaceless xs fits = digits_pass (λ b. not (b == 32)) refl xs fits

@@ -1,7 +1,8 @@
 -- Commands: what they can hold, and their canonical words.
-use Rattle.std.specs.Prelude.{◌<◌, ◌^◌, ℕ, Bool, not, IsTrue, IfSome, List, [], ◌∷◌, ◌++◌, length, codes, Option, Some, None, if◌then◌else◌, ◌-◌, ◌&&◌, nat_lt}
+use Rattle.std.specs.Prelude.{◌<◌, ◌≤◌, ◌^◌, ℕ, Bool, not, IsTrue, IfSome, List, [], ◌∷◌, ◌++◌, length, codes, Option, Some, None, if◌then◌else◌, ◌&&◌, nat_lt}
 use Rattle.std.specs.List.{join_with_byte, list_all, flat_map}
 use Rattle.std.specs.Fmt.{decimal}
+use Rattle.hex.specs.Hex.{encode_lower}
 use Rattle.gm_metadata.specs.Balance.{balance_name}
 use Rattle.gm_metadata.specs.Labels.{is_label, is_label_byte}
 use Rattle.gm_metadata.specs.declared.balance.Balance.{Balance}
@@ -10,8 +11,9 @@ use Rattle.gm_commands.specs.declared.command.BalanceWord.{BalanceWord}
 use Rattle.gm_commands.specs.declared.command.BalanceWord.TheVariants.{Load, Prefer, RoundRobin, Split}
 use Rattle.gm_commands.specs.declared.command.Preference.{Preference}
 use Rattle.gm_commands.specs.declared.command.Settings.{Settings}
+use Rattle.gm_commands.specs.Sectors.{is_sector, joined}
 use Rattle.gm_commands.specs.declared.command.Command.{Command}
-use Rattle.gm_commands.specs.declared.command.Command.TheVariants.{Label, Insert, Remove, Deactivate, Activate, Forget, Rebuild, Configure, Clear, Destroy, Lost, Advance, Adopt}
+use Rattle.gm_commands.specs.declared.command.Command.TheVariants.{Label, Insert, Remove, Deactivate, Activate, Forget, Rebuild, Configure, Clear, Destroy, Lost, Advance, Adopt, Patch}
 
 -- the balance that a word asks for
 abbrev pub balance_of_word : BalanceWord → Balance
@@ -29,7 +31,8 @@ abbrev pub PreferenceFits : Option Preference → Type 0
 PreferenceFits preference =
     IfSome preference (λ p. IsTrue (is_label p.provider) × (p.priority < 2 ^ 8))
 
--- names are labels, numbers fit, and a slice isn't 0, as the types of the code have it
+-- names are labels, numbers fit, a slice isn't 0, and a patch has 1 to 64 sectors, as the types of
+-- the code have it
 abbrev pub CommandFits : Command → Type 0
 CommandFits (Label new) = IsTrue (is_label new.name) × IsTrue (is_label new.provider)
     × (new.mid < 2 ^ 32) × (new.did < 2 ^ 32) × (0 < new.slice) × (new.slice < 2 ^ 32)
@@ -47,6 +50,8 @@ CommandFits (Destroy n) = IsTrue (is_label n)
 CommandFits (Lost n ps) = IsTrue (is_label n) × IsTrue (list_all is_label ps) × (0 < length ps)
 CommandFits (Advance n p) = IsTrue (is_label n) × IsTrue (is_label p)
 CommandFits (Adopt n ps) = IsTrue (is_label n) × IsTrue (list_all is_label ps) × (0 < length ps)
+CommandFits (Patch n first sectors) = IsTrue (is_label n) × (first < 2 ^ 32)
+    × IsTrue (list_all is_sector sectors) × (0 < length sectors) × (length sectors ≤ 64)
 
 -- on or off
 abbrev pub on_where : Bool → List ℕ
@@ -87,6 +92,11 @@ setting_words s =
     ++ given_switch (codes "--failsync") s.failsync ++ given_switch (codes "--hardcode") s.hardcode
     ++ preference_words s.preference
 
+-- those of patch: its bytes are in lower-case hexadecimal
+abbrev pub patch_words : List ℕ → ℕ → List (List ℕ) → List (List ℕ)
+patch_words n first sectors = codes "patch" ∷ codes "--first" ∷ decimal first ∷ codes "--data"
+    ∷ encode_lower (joined sectors) ∷ n ∷ []
+
 -- a space before each
 abbrev pub spaced : List (List ℕ) → List ℕ
 spaced ws = flat_map (λ w. 32 ∷ w) ws
@@ -114,6 +124,7 @@ words (Destroy n) = codes "destroy" ∷ n ∷ []
 words (Lost n ps) = codes "lost" ∷ n ∷ ps
 words (Advance n p) = codes "advance" ∷ n ∷ p ∷ []
 words (Adopt n ps) = codes "adopt" ∷ n ∷ ps
+words (Patch n first sectors) = patch_words n first sectors
 
 -- the canonical words: joined by one space
 abbrev pub words_of : Command → List ℕ

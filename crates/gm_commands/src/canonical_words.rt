@@ -5,7 +5,8 @@ ghost use Rattle.std.specs.List.{join_with_byte, list_all};
 ghost use Rattle.std.specs.String.{string_bytes};
 ghost use Rattle.gm_metadata.specs.Labels.{is_label};
 ghost use Rattle.gm_commands.specs.declared.command.Command.TheVariants as commands;
-ghost use Rattle.gm_commands.specs.Commands.{CommandFits, PreferenceFits, SliceFits, balance_words, given_switch, number_words, on_where, preference_words, setting_words, slice_words, spaced, switch_words, words_of};
+ghost use Rattle.gm_commands.specs.Commands.{CommandFits, PreferenceFits, SliceFits, balance_words, given_switch, number_words, on_where, patch_words, preference_words, setting_words, slice_words, spaced, switch_words, words_of};
+ghost use Rattle.gm_commands.specs.Sectors.{is_bytes, is_sector};
 
 use crate::command::{BalanceWord, Command, NewComponent, NewMirror, Preference, Settings, Slice};
 use gm_metadata::Label;
@@ -164,6 +165,19 @@ fn row_words(
     format!(in alloc; "{word} {name} {providers}")
 }
 
+fn patch_words(
+    alloc: Global,
+    name: Label,
+    first: u32,
+    sectors: &[[u8; 512]],
+) -> Result<String, AllocError>
+    ensures { IfOk result (λ text. string_bytes text
+        ≡ join_with_byte 32 (patch_words name first sectors.now)) }
+{
+    let digits = hex::encode(alloc, sectors.as_flattened())?;
+    format!(in alloc; "patch --first {first} --data {digits} {name}")
+}
+
 // What the types of their parts say of a slice and a preference; these do nothing.
 fn slice_fits(slice: Option<Slice>)
     ensures { SliceFits slice }
@@ -193,6 +207,29 @@ fn labels_fit(providers: &[Label])
 {
     for provider in providers {
         let _ = provider.as_bytes();
+    }
+}
+
+// Bytes are bytes, and 512 of them a sector; these do nothing.
+fn bytes_fit(bytes: &[u8])
+    ensures { IsTrue (is_bytes bytes.now) }
+{
+    for byte in bytes {
+        let _byte = *byte;
+    }
+}
+
+fn sector_fits(sector: &[u8; 512])
+    ensures { IsTrue (is_sector sector.now) }
+{
+    bytes_fit(sector);
+}
+
+fn sectors_fit(sectors: &[[u8; 512]])
+    ensures { IsTrue (list_all is_sector sectors.now) }
+{
+    for sector in sectors {
+        sector_fits(sector);
     }
 }
 
@@ -264,6 +301,14 @@ fn command_fits(command: &Command)
         Command::Forget { name } | Command::Destroy { name } => {
             let _ = name.as_bytes();
         }
+        Command::Patch {
+            name,
+            first: _first,
+            ref data,
+        } => {
+            let _ = name.as_bytes();
+            sectors_fit(data.as_slice());
+        }
     }
 }
 
@@ -295,5 +340,10 @@ pub fn words_of(alloc: Global, command: &Command) -> Result<String, AllocError>
             name,
             ref providers,
         } => row_words(alloc, "adopt", name, providers.as_slice()),
+        Command::Patch {
+            name,
+            first,
+            ref data,
+        } => patch_words(alloc, name, first, data.as_slice()),
     }
 }

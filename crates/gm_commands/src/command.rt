@@ -4,6 +4,7 @@ ghost use Rattle.std.specs.Prelude.{◌≡◌, ◌<◌, ◌==◌, if◌then◌el
 ghost use Rattle.gm_commands.specs.Commands.{balance_of_word};
 
 use crate::providers::Providers;
+use crate::sectors::Sectors;
 use gm_metadata::{Balance, Label, MirrorFlags};
 use std::marker::Model;
 
@@ -112,36 +113,72 @@ pub struct NewComponent {
     pub hardcoded: bool,
 }
 
-/// A command of gmirror(8), as its words say it; `Lost`, `Advance` and `Adopt` are this project's
-/// own.
+/// A command of gmirror(8), as its words say it; `Lost`, `Advance`, `Adopt` and `Patch` are this
+/// project's own.
 #[derive(Debug, PartialEq, Eq, Drop)]
 pub enum Command {
     Label(NewMirror),
     Insert(NewComponent),
     /// One component less.
-    Remove { name: Label, provider: Label },
+    Remove {
+        name: Label,
+        provider: Label,
+    },
     /// A component is taken out of use: it keeps the count of syncs that it has, the others count
     /// one more.
-    Deactivate { name: Label, provider: Label },
+    Deactivate {
+        name: Label,
+        provider: Label,
+    },
     /// A component that was taken out of use is to be filled anew.
-    Activate { name: Label, provider: Label },
+    Activate {
+        name: Label,
+        provider: Label,
+    },
     /// Components that were lost are no longer waited for.
-    Forget { name: Label },
+    Forget {
+        name: Label,
+    },
     /// A component is to be filled anew, also where the mirror doesn't fill its components by
     /// itself.
-    Rebuild { name: Label, provider: Label },
+    Rebuild {
+        name: Label,
+        provider: Label,
+    },
     /// The mirror and its components are set otherwise.
-    Configure { name: Label, settings: Settings },
+    Configure {
+        name: Label,
+        settings: Settings,
+    },
     /// The metadata of a provider that is no component are wiped out.
-    Clear { provider: Label },
+    Clear {
+        provider: Label,
+    },
     /// The mirror and its components are dropped.
-    Destroy { name: Label },
+    Destroy {
+        name: Label,
+    },
     /// Components whose images won't come back are dropped; they are waited for until they are
     /// forgotten.
-    Lost { name: Label, providers: Providers },
+    Lost {
+        name: Label,
+        providers: Providers,
+    },
     /// The next sectors of the mirror's data are copied to a component that is to be filled, at
     /// most 256.
-    Advance { name: Label, provider: Label },
+    Advance {
+        name: Label,
+        provider: Label,
+    },
     /// A mirror that is found on these providers is registered, with what their images bear out.
-    Adopt { name: Label, providers: Providers },
+    Adopt {
+        name: Label,
+        providers: Providers,
+    },
+    /// The sectors are laid over the mirror's data from this one on.
+    Patch {
+        name: Label,
+        first: u32,
+        data: Sectors,
+    },
 }

@@ -2,8 +2,9 @@
 //! which they are compared.
 //!
 //! Begin with `command.rt`, what a command can say; `providers.rt` has the lists of providers that
-//! it names. `call_key.rt` says what a key is, `canonical_words.rt` and `specs/Commands.antt` which
-//! words a command has, and `laws.rt` that two commands have equal words only where they are one.
+//! it names, and `sectors.rt` the bytes that it lays over data. `call_key.rt` says what a key is,
+//! `canonical_words.rt` and `specs/Commands.antt` which words a command has, and `laws.rt` that two
+//! commands have equal words only where they are one.
 #![tactic(auto)]
 
 mod call_key;
@@ -11,9 +12,11 @@ mod canonical_words;
 mod command;
 mod laws;
 mod providers;
+mod sectors;
 
 pub use call_key::{MAX_COMMANDS, is_key};
 pub use canonical_words::words_of;
 pub use command::{BalanceWord, Command, NewComponent, NewMirror, Preference, Settings, Slice};
 pub use laws::one_command;
 pub use providers::Providers;
+pub use sectors::Sectors;

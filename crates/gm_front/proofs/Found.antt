@@ -42,7 +42,7 @@ pub last_same : (size : Sizes) (x y : Image) (p : List ℕ) → SameThere size x
 last_same size x y p same = by_size size x y p same (size p) refl
 
 module _ {S H : Type 0} (g : Ghosts S) (view : H → View) (size : H → Sizes) (r : Held S) (h : H)
-    (away : Image) (u : World) (at : IsAt g view size r h away [] u u)
+    (away : Image) (u : World) (at : IsAt g view size r h away [] [] u u)
     (lawful : IsLawful (view h)) where
   -- what is seen of the providers that are there is what they hold
   seen_there : SameThere (size h) (view h).seen u.shelf
@@ -59,8 +59,8 @@ module _ {S H : Type 0} (g : Ghosts S) (view : H → View) (size : H → Sizes) 
       ∙ ap (λ (z : Sizes). last_sector z u.shelf p) (sym at.sizes)
 
   -- and what the tables say are the records
-  pub tables_shown : AreTablesOf at.tables u.state []
-  tables_shown = tables_of at.tables [] (whole (size h) away (view h).seen) u
+  pub tables_shown : AreTablesOf at.tables u.state [] []
+  tables_shown = tables_of at.tables [] [] (whole (size h) away (view h).seen) u
       (at.leads (view h).seen lawful.holds_now).0
 
 -- A look at a bench at rest: the bench stays so, and where it failed what it left leads on.
@@ -68,12 +68,12 @@ module _ {S H T : Type 0} (s : StoreGhosts S) (h : ShelfGhosts H) (old new : Ben
     (result : Result T BenchFault) (looks : LooksOn s h old new result)
     (honest : h.honest (shelf_of old)) (kept : DiskKept s (registry_of new)) (away : Image)
     (u : World)
-    (at : IsAt s h.view h.size (registry_of old) (shelf_of old) away [] u u) where
+    (at : IsAt s h.view h.size (registry_of old) (shelf_of old) away [] [] u u) where
   pub stays_at_rest : (x : T) → result ≡ Ok x
-      → IsAt s h.view h.size (registry_of new) (shelf_of new) away [] u u
+      → IsAt s h.view h.size (registry_of new) (shelf_of new) away [] [] u u
   stays_at_rest x is =
       looked_at s h.view h.size (registry_of old) (registry_of new) (shelf_of old) (shelf_of new)
-      away [] u u
+      away [] [] u u
       (let P : Result T BenchFault → Type 0 = λ r. OnOk r (LookDoes s h.view h.size
       (registry_of old) (registry_of new) (shelf_of old) (shelf_of new)) in
       subst P is (looks.does honest kept)) at
@@ -87,7 +87,7 @@ module _ {S H T : Type 0} (s : StoreGhosts S) (h : ShelfGhosts H) (old new : Ben
       → Fails s h.view h.size (registry_of old) (registry_of new) (shelf_of old) (shelf_of new)
       away u demand fault
   look_fails demand fault look is readable = record {
-    left = look (looks.leaves honest kept away [] u u at);
+    left = look (looks.leaves honest kept away [] [] u u at);
     disk = λ e. looks.disk (rw is (ap Err e));
     readable = λ e found written. readable e;
   }

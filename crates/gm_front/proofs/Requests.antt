@@ -7,12 +7,12 @@ use Rattle.std.specs.Str.{IsUtf8, is_utf8}
 use Rattle.gm_front.specs.Request.{Wrong, asked, asked_by, pieces}
 
 abbrev pub IsShort : List ℕ → Type 0
-IsShort text = length text ≤ 1024
+IsShort text = length text ≤ 131072
 
 pub asked_text : (text : List ℕ) → IsShort text → IsUtf8 text → asked text ≡ asked_by (pieces text)
 unfolding asked
 asked_text text short is =
-    let test : nat_lt 1024 (length text) ≡ false = grind (arith, nat_tests) in
+    let test : nat_lt 131072 (length text) ≡ false = grind (arith, nat_tests) in
     rw (test, is_utf8-from_IsUtf8 text is) refl
 
 no_text : (text : List ℕ) (b : Bool) → is_utf8 text ≡ b → (IsUtf8 text → ⊥) → is_utf8 text ≡ false
@@ -23,9 +23,9 @@ pub asked_bytes : (text : List ℕ) → IsShort text → (IsUtf8 text → ⊥)
     → asked text ≡ Wrong (codes "?")
 unfolding asked
 asked_bytes text short not =
-    let test : nat_lt 1024 (length text) ≡ false = grind (arith, nat_tests) in
+    let test : nat_lt 131072 (length text) ≡ false = grind (arith, nat_tests) in
     rw (test, no_text text _ refl not) refl
 
 -- a beginning of the buffer
-pub short_front : (n : ℕ) (line : List ℕ) → n ≤ 1024 → IsShort (take n line)
+pub short_front : (n : ℕ) (line : List ℕ) → n ≤ 131072 → IsShort (take n line)
 short_front n line h = rw length-take (omega (arith, h))

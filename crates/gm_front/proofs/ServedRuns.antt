@@ -25,7 +25,7 @@ module _ {S H : Type 0} (g : Ghosts S) (view : H → View) (size : H → Sizes) 
     (r s : Held S) (h k : H) (away : Image) (acc ack : List Entry)
     (rest : AtRest g view size all r h away acc ack) where
   -- the bench is at rest in the same world
-  stayed : (w : World) → w ≡ rest.world → IsAt g view size s k away [] w w
+  stayed : (w : World) → w ≡ rest.world → IsAt g view size s k away [] [] w w
       → IsAtRestBehind g view size all [] s k away acc ack
   stayed w same at = record {
     calls = [];
@@ -33,14 +33,14 @@ module _ {S H : Type 0} (g : Ghosts S) (view : H → View) (size : H → Sizes) 
     rest = record {
       world = rest.world;
       reached = rest.reached;
-      at = subst (λ (v : World). IsAt g view size s k away [] v v) same at;
+      at = subst (λ (v : World). IsAt g view size s k away [] [] v v) same at;
       told = rest.told;
     };
   }
 
   -- what was demanded is responded to, and the bench is at rest in the world that this leaves
   rests : (d : Demand) (w : World) (told : Told) → Responds rest.world d w told
-      → IsAt g view size s k away [] w w
+      → IsAt g view size s k away [] [] w w
       → IsAtRestBehind g view size all (calls_in d) s k away acc ack
   rests (TurnedDown status message) w told responds at = stayed w responds.0 at
   rests AllMirrors w told responds at = stayed w responds.0 at

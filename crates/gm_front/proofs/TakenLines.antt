@@ -1,18 +1,56 @@
 -- Lines as they are read.
-use Rattle.std.proofs.Common.{◌≡◌, ◌∙◌, ◌<◌, ◌≤◌, ◌+◌, ◌==◌, ◌&&◌, nat_lt, not, ℕ, Bool, true, false, refl, sym, ap, arith, List, [], ◌∷◌, ◌++◌, length, take, min, set, add-one, Option, Some, None, IfSome, append-nil, true≢false, length-append}
-use Rattle.std.specs.Prelude.{if◌then◌else◌}
-use Rattle.std.proofs.Math.Seq.{take-suc-set}
+use Rattle.std.proofs.Common.{◌≡◌, ◌∙◌, ◌<◌, ◌≤◌, ◌==◌, ◌&&◌, nat_lt, not, ℕ, Bool, true, false, refl, sym, ap, arith, List, [], ◌∷◌, ◌++◌, length, take, min, zero, suc, Option, Some, None, IfSome, append-nil, true≢false, length-append, le_refl, zero-le, subst}
+use Rattle.std.specs.Prelude.{unwrap_or}
+use Rattle.memchr.specs.Find.{IsFirstByte, Passes, is_byte}
+use Rattle.std.specs.Prelude.{if◌then◌else◌, OnSome}
 use Rattle.std.proofs.lemmas.Bool.Decides.{nat_tests}
 use Rattle.std.specs.Io.BufRead.{drop_through}
 use Rattle.std.specs.Io.KnownBytes.{Consumes, IsAtEnd}
 use Rattle.gm_front.specs.Input.{line_at, is_one_line, lines_of, onto}
-use Rattle.gm_front.specs.Input.{Fits, IsLine, IsCopied, Begins}
+use Rattle.gm_front.specs.Input.{Fits, IsLine, IsCopied, IsTaken, WhereEnded, TakesPiece, Begins}
 use Rattle.gm_front.specs.declared.lines.Line.{Line}
 use Rattle.gm_front.specs.declared.lines.Line.TheVariants.{End, Whole, Long}
+use Rattle.gm_front.specs.declared.lines.Piece.{Piece}
+use Rattle.gm_front.specs.declared.lines.Piece.TheVariants.{Nothing, Feed, Bytes}
+use Rattle.std.proofs.KnownBytes.{Consumes-trans}
+use Rattle.std.proofs.lemmas.List.Folds.{list_all-append}
 
-pub set_last : (xs : List ℕ) (n : ℕ) (b : ℕ) → n < length xs
-    → take (n + 1) (set xs n b) ≡ take n xs ++ b ∷ []
-set_last xs n b h = rw add-one (take-suc-set xs n b h)
+not_of : (b : Bool) → ¬ (b ≡ true) → not b ≡ true
+not_of true h = absurd (h refl)
+not_of false h = refl
+
+both_true : (a b : Bool) → a ≡ true → b ≡ true → (a && b) ≡ true
+both_true true b h k = k
+both_true false b h k = absurd (true≢false (sym h))
+
+no_feed_before : (xs : List ℕ) (n : ℕ) → n ≤ length xs
+    → ((k : ℕ) → k < n → ¬ (Passes (is_byte 10) xs k)) → is_one_line (take n xs) ≡ true
+no_feed_before xs zero h none = refl
+no_feed_before [] (suc n) h none = absurd (omega arith)
+no_feed_before (x ∷ xs) (suc n) h none =
+    both_true _ _ (not_of (x == 10) (none zero (omega arith)))
+    (no_feed_before xs n (omega arith) (λ k l. none (suc k) (omega arith)))
+
+-- no line feed stands before the first one
+pub one_line_before : (xs : List ℕ) (r : Option ℕ) → IsFirstByte (is_byte 10) xs r
+    → is_one_line (take (unwrap_or r (length xs)) xs) ≡ true
+one_line_before xs None first =
+    no_feed_before xs (length xs) (le_refl (length xs)) (λ k l. first k zero-le l)
+one_line_before xs (Some n) first =
+    no_feed_before xs n (omega (arith, first.0.high)) (λ k l. first.0.before k zero-le l)
+
+-- what takes nothing had nothing ready
+pub nothing_ready : (xs : List ℕ) (n : ℕ) → (0 < length xs → 0 < n) → take n xs ≡ []
+    → length xs ≡ 0
+nothing_ready [] n some none = refl
+nothing_ready (x ∷ xs) zero some none = absurd (omega (arith, some (omega arith)))
+nothing_ready (x ∷ xs) (suc n) some none = absurd (omega (arith, ap length none))
+
+pub ended_where : (piece : Piece) (bytes line copied : List ℕ) (count : ℕ) (P : Type 0)
+    → IsTaken bytes line copied count piece → (bytes ≡ [] → P) → WhereEnded piece P
+ended_where Nothing bytes line copied count P taken ends = ends taken.0
+ended_where Feed bytes line copied count P taken ends = tt
+ended_where (Bytes n) bytes line copied count P taken ends = tt
 
 both : (a b : Bool) → (a && b) ≡ true → (a ≡ true) × (b ≡ true)
 both true true h = (refl, refl)
@@ -45,9 +83,9 @@ line_last (b ∷ seen) h =
 
 -- the count says which
 abbrev pub found_of : ℕ → Line
-found_of count = if nat_lt count 1025 then Whole count else Long
+found_of count = if nat_lt count 131073 then Whole count else Long
 
-fits_by : (count : ℕ) (whole : Bool) → nat_lt count 1025 ≡ whole
+fits_by : (count : ℕ) (whole : Bool) → nat_lt count 131073 ≡ whole
     → Fits (if whole then Whole count else Long)
 fits_by count true test = grind (arith, nat_tests)
 fits_by count false test = tt
@@ -65,19 +103,20 @@ ended_fits count found e = rw e (ended_by count _)
 
 -- what was counted is the line
 pub is_found : (bytes line seen rest : List ℕ) (count : ℕ) (whole : Bool)
-    → nat_lt count 1025 ≡ whole → IsCopied line count seen → 0 < length bytes → line_at bytes ≡ seen
+    → nat_lt count 131073 ≡ whole → IsCopied line count seen → 0 < length bytes → line_at bytes
+    ≡ seen
     → drop_through 10 bytes ≡ rest
     → IsLine bytes (Some rest) line (if whole then Whole count else Long)
 is_found bytes line seen rest count true test copied some is_line is_rest =
-    let few : count ≤ 1024 = grind (arith, nat_tests) in
+    let few : count ≤ 131072 = grind (arith, nat_tests) in
     (some, few, copied.copied few ∙ sym is_line, ap Some (sym is_rest))
 is_found bytes line seen rest count false test copied some is_line is_rest =
-    let many : 1025 ≤ count = grind (arith, nat_tests) in
-    let counted : count ≡ min (length seen) 1025 = copied.counted in
+    let many : 131073 ≤ count = grind (arith, nat_tests) in
+    let counted : count ≡ min (length seen) 131073 = copied.counted in
     (rw is_line (omega arith), ap Some (sym is_rest))
 
 -- where a line feed comes
-pub fed : (old mid new : Option (List ℕ)) (line : List ℕ) (count : ℕ) (b : ℕ) (found : Line)
+fed : (old mid new : Option (List ℕ)) (line : List ℕ) (count : ℕ) (b : ℕ) (found : Line)
     → Begins old mid line count → Consumes mid new (b ∷ []) → b ≡ 10 → found ≡ found_of count
     → IfSome old (λ bytes. IsLine bytes new line found)
 fed None mid new line count b found begins took is e = tt
@@ -101,17 +140,17 @@ is_ended : (bytes line seen : List ℕ) (count : ℕ) (some : Bool) → nat_lt 0
 is_ended bytes line seen count true test copied all one =
     let parts = line_last seen one in
     let any : 0 < count = grind (arith, nat_tests) in
-    let counted : count ≡ min (length seen) 1025 = copied.counted in
+    let counted : count ≡ min (length seen) 131073 = copied.counted in
     is_found bytes line seen [] count _ refl copied (rw all (omega arith))
     (ap line_at all ∙ parts.0) (ap (drop_through 10) all ∙ parts.1)
 is_ended bytes line seen count false test copied all one =
     let none : count ≡ 0 = grind (arith, nat_tests) in
-    let counted : count ≡ min (length seen) 1025 = copied.counted in
+    let counted : count ≡ min (length seen) 131073 = copied.counted in
     (all ∙ no_bytes seen (omega arith), refl)
 
 -- where the input ends
-pub ended : (old mid new : Option (List ℕ)) (line : List ℕ) (count : ℕ) (found : Line)
-    → Begins old mid line count → Consumes mid new [] → IsAtEnd new
+ended : (old mid new : Option (List ℕ)) (line : List ℕ) (count : ℕ) (found : Line)
+    → Begins old mid line count → Consumes mid new [] → OnSome mid (IsAtEnd new)
     → found ≡ (if nat_lt 0 count then found_of count else End)
     → IfSome old (λ bytes. IsLine bytes new line found)
 ended None mid new line count found begins took at_end e = tt
@@ -121,6 +160,35 @@ ended (Some bytes) (Some ms) (Some ns) line count found begins took at_end e =
     let all : bytes ≡ begins.seen = begins.consumed ∙ ap (λ xs. begins.seen ++ xs) (took ∙ at_end)
     ∙ append-nil begins.seen in
     rw (e, at_end) (is_ended bytes line begins.seen count _ refl begins.copied all begins.is_one)
+
+-- a line that is read on
+pub piece_more : (old mid new : Option (List ℕ)) (line copied : List ℕ) (count n : ℕ)
+    → Begins old mid line count → TakesPiece mid new line copied count (Bytes n)
+    → Begins old new copied n
+piece_more old mid new line copied count n begins took = record {
+  seen = begins.seen ++ took.bytes;
+  consumed = Consumes-trans old mid new begins.seen took.bytes begins.consumed took.consumed;
+  is_one = list_all-append (λ b. not (b == 10)) begins.seen took.bytes
+      ∙ both_true _ _ begins.is_one took.taken.0;
+  copied = took.taken.1 begins.seen begins.copied;
+}
+
+-- a line whose line feed is read
+pub piece_fed : (old mid new : Option (List ℕ)) (line copied : List ℕ) (count : ℕ) (found : Line)
+    → Begins old mid line count → TakesPiece mid new line copied count Feed
+    → found ≡ found_of count → IfSome old (λ bytes. IsLine bytes new copied found)
+piece_fed old mid new line copied count found begins took e =
+    let consumed = subst (Consumes mid new) took.taken.0 took.consumed in
+    rw took.taken.1 (fed old mid new line count 10 found begins consumed refl e)
+
+-- a line behind which the input has ended
+pub piece_ended : (old mid new : Option (List ℕ)) (line copied : List ℕ) (count : ℕ) (found : Line)
+    → Begins old mid line count → TakesPiece mid new line copied count Nothing
+    → found ≡ (if nat_lt 0 count then found_of count else End)
+    → IfSome old (λ bytes. IsLine bytes new copied found)
+piece_ended old mid new line copied count found begins took e =
+    let consumed = subst (Consumes mid new) took.taken.0 took.consumed in
+    rw took.taken.1 (ended old mid new line count found begins consumed took.end e)
 
 first_of_one : (b : ℕ) (t : Bool) → (b == 10) ≡ t
     → lines_of (b ∷ []) ≡ line_at (b ∷ []) ∷ lines_of (drop_through 10 (b ∷ []))

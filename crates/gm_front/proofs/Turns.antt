@@ -1,5 +1,5 @@
 -- One line of a batch after the other.
-use Rattle.std.proofs.Common.{◌≡◌, ◌≢◌, ◌∙◌, ◌⊎◌, inl, inr, ◌<◌, ◌≤◌, ◌||◌, nat_lt, ℕ, Bool, true, false, refl, sym, ap, subst, arith, List, [], ◌∷◌, ◌++◌, codes, length, take, replicate, Option, Some, None, IfSome, append-nil}
+use Rattle.std.proofs.Common.{◌≡◌, ◌≢◌, ◌∙◌, ◌⊎◌, inl, inr, ◌<◌, ◌≤◌, ◌||◌, ◌+◌, nat_lt, ℕ, Bool, true, false, refl, sym, ap, subst, arith, List, [], ◌∷◌, ◌++◌, codes, length, take, replicate, Option, Some, None, IfSome, append-nil}
 use Rattle.std.proofs.lemmas.List.{append_assoc, length-replicate}
 use Rattle.std.proofs.lemmas.Bool.Decides.{nat_tests}
 use Rattle.std.specs.Borrow.{Bor}
@@ -71,13 +71,17 @@ IsLeft input rest lines =
     IfSome input (λ bytes. (left : List ℕ) × (rest ≡ Some left)
     × (lines_of bytes ≡ lines ++ lines_of left))
 
-long_asked : (line : List ℕ) → 1024 < length line → asked line ≡ asking.Wrong (codes "?")
+long_asked : (line : List ℕ) → 131072 < length line → asked line ≡ asking.Wrong (codes "?")
 unfolding asked
 long_asked line h =
-    let test : nat_lt 1024 (length line) ≡ true = grind (arith, nat_tests) in
+    let test : nat_lt 131072 (length line) ≡ true = grind (arith, nat_tests) in
     rw test refl
 
-longer : (bytes : List ℕ) → 1024 < length (line_at bytes) → 0 < length bytes
+-- there are lines of any length
+long_line : (n : ℕ) → (line : List ℕ) × (n < length line)
+long_line n = (replicate (n + 1) 0, rw length-replicate (omega arith))
+
+longer : (bytes : List ℕ) → 131072 < length (line_at bytes) → 0 < length bytes
 longer [] h = absurd (omega arith)
 longer (b ∷ bytes) h = omega arith
 
@@ -104,8 +108,8 @@ taken input rest new lines buffer End left is some = absurd (some refl)
 taken None rest new lines buffer (Whole n) left is some =
     record { line = take n buffer; asks = refl; left = tt }
 taken None rest new lines buffer Long left is some =
-    let bytes = replicate 1025 0 in
-    record { line = bytes; asks = long_asked bytes (rw length-replicate (omega arith)); left = tt }
+    let long = long_line 131072 in
+    record { line = long.0; asks = long_asked long.0 long.1; left = tt }
 taken (Some i) rest new lines buffer (Whole n) left is some =
     let line = rw left.1 at is in
     record {
@@ -193,13 +197,14 @@ tells_front Write before now text not front = front
 module _ {S H : Type 0} (g : Ghosts S) (view : H → View) (size : H → Sizes) where
   -- a line's answer, and where it leaves the bench
   replied : (r s : Held S) (h k : H) (away : Image) (v : World) (asks : Asked) (o : Outcome)
-      → IsAt g view size r h away [] v v → ComesTo g view size r s h k away v asks o → GoesOn o
-      → (w : World) × Replies v asks w (text_of o) (is_refused o) × IsAt g view size s k away [] w w
+      → IsAt g view size r h away [] [] v v → ComesTo g view size r s h k away v asks o → GoesOn o
+      → (w : World) × Replies v asks w (text_of o) (is_refused o)
+      × IsAt g view size s k away [] [] w w
   replied r s h k away v asks Nothing at comes on = (
     v,
     subst (λ (q : Asked). Replies v q v [] false) (sym comes.0) (refl, refl, refl),
-    subst (λ (x : Held S). IsAt g view size x k away [] v v) (sym comes.1)
-        (subst (λ (y : H). IsAt g view size r y away [] v v) (sym comes.2) at),
+    subst (λ (x : Held S). IsAt g view size x k away [] [] v v) (sym comes.1)
+        (subst (λ (y : H). IsAt g view size r y away [] [] v v) (sym comes.2) at),
   )
   replied r s h k away v asks (Wrong key) at comes on = (
     v,
@@ -208,8 +213,8 @@ module _ {S H : Type 0} (g : Ghosts S) (view : H → View) (size : H → Sizes) 
       refl,
       refl,
     ),
-    subst (λ (x : Held S). IsAt g view size x k away [] v v) (sym comes.1)
-        (subst (λ (y : H). IsAt g view size r y away [] v v) (sym comes.2) at),
+    subst (λ (x : Held S). IsAt g view size x k away [] [] v v) (sym comes.1)
+        (subst (λ (y : H). IsAt g view size r y away [] [] v v) (sym comes.2) at),
   )
   replied r s h k away v asks (Answered key answer) at comes on =
       let run = comes.2 in (
@@ -222,7 +227,7 @@ module _ {S H : Type 0} (g : Ghosts S) (view : H → View) (size : H → Sizes) 
 
   -- what a request comes to, whatever the world
   abbrev pub Comes : Held S → Held S → H → H → Image → Asked → Outcome → Type 0
-  Comes r s h k away asks o = (v : World) → IsAt g view size r h away [] v v
+  Comes r s h k away asks o = (v : World) → IsAt g view size r h away [] [] v v
       → ComesTo g view size r s h k away v asks o
 
   pub comes_so : (r s : Held S) (h k : H) (away : Image) (asks q : Asked) (o : Outcome) → asks ≡ q
@@ -247,7 +252,7 @@ module _ {S H : Type 0} (g : Ghosts S) (view : H → View) (size : H → Sizes) 
   none_taken (Some i) = (i, refl, refl)
 
   pub begun : (input before : Option (List ℕ)) (s : Held S) (k : H) (away : Image) (u : World)
-      → IsAt g view size s k away [] u u → Answering input input before before s k away u false
+      → IsAt g view size s k away [] [] u u → Answering input input before before s k away u false
   begun input before s k away u at =
       record {
         lines = [];
@@ -427,4 +432,4 @@ module _ {S H : Type 0} (g : Ghosts S) (view : H → View) (size : H → Sizes) 
     pub sizes : size k ≡ size h
     pub count : (view h).faults ≤ (view k).faults
     pub does : honest h → DiskKept g s → (away : Image) (u : World)
-        → IsAt g view size r h away [] u u → Answering input rest before now s k away u refused
+        → IsAt g view size r h away [] [] u u → Answering input rest before now s k away u refused

@@ -1,16 +1,22 @@
 -- What a batch answers, and where it leaves the bench.
-use Rattle.std.specs.Prelude.{◌≡◌, ◌⊎◌, ◌<◌, ◌||◌, ℕ, Bool, true, false, List, [], ◌∷◌, ◌++◌, Option, Some, None, Result, Ok, Err, IfSome}
+use Rattle.std.specs.Prelude.{◌≡◌, ◌⊎◌, ◌<◌, ◌||◌, ℕ, Bool, true, false, List, [], ◌∷◌, ◌++◌, Option, Some, None, Result, Ok, Err, IfOk, IfSome}
 use Rattle.std.specs.Io.KnownBytes.{Appends}
 use Rattle.sqlite_trees.specs.declared.store.Store.{Ghosts}
 use Rattle.sqlite.specs.Held.{Held}
 use Rattle.gm_metadata.specs.Images.{Image, Sizes}
 use Rattle.gm_shelf.specs.Disk.{View}
+use Rattle.gm_shelf.specs.declared.shelf.Shelf.{Ghosts as ShelfGhosts}
 use Rattle.gm_commands.specs.declared.command.Command.{Command}
 use Rattle.gm_state.specs.World.{World}
 use Rattle.gm_rules.specs.AbstractCalls as run
+use Rattle.gm_registry.specs.Registry.{DiskKept}
 use Rattle.gm_registry.specs.Replies.{AreWrittenUnder}
+use Rattle.gm_bench.specs.Benches.{progress_of, redone_of, registry_of, shelf_of}
+use Rattle.gm_bench.specs.Calls.{Keep}
+use Rattle.gm_bench.specs.Phases.{TakesCommands}
+use Rattle.gm_bench.specs.declared.bench.Bench.{Bench}
 use Rattle.gm_bench.specs.declared.fault.BenchFault.{BenchFault}
-use Rattle.gm_bench.specs.declared.fault.BenchFault.TheVariants.{Disk, Unreadable}
+use Rattle.gm_bench.specs.declared.fault.BenchFault.TheVariants.{Absent, Closed, Disk, Unreadable}
 use Rattle.gm_bench.specs.declared.phase.Progress.{Progress}
 use Rattle.gm_bench.specs.declared.phase.Progress.TheVariants.{Failed}
 use Rattle.gm_bench.specs.Recovering.{IsAt}
@@ -88,7 +94,7 @@ module _ {S H : Type 0} (g : Ghosts S) (view : H → View) (size : H → Sizes) 
       (text : List ℕ) (refused : Bool) : Type 0 where
     pub world : World
     pub answers : Answers u lines world text refused
-    pub at : IsAt g view size s k away [] world world
+    pub at : IsAt g view size s k away [] [] world world
 
   -- All lines were answered, and told what they are answered.
   pub record Ends (input before now : Option (List ℕ)) (s : Held S) (k : H) (away : Image)
@@ -139,3 +145,18 @@ module _ {S H : Type 0} (g : Ghosts S) (view : H → View) (size : H → Sizes) 
   Batches input before now s k away u (Err fault) =
       Breaks input (Tells fault before now) s k away u
       ⊎ ((f : BenchFault) × Stops input (AppendsFront before now) s k away u f)
+
+-- What a batch owes of a bench, where its input was known so, and its output before and now.
+pub record AnswersBatch {S H : Type 0} (s : Ghosts S) (h : ShelfGhosts H)
+    (input before now : Option (List ℕ)) (old new : Bench S H)
+    (result : Result BatchEnd FrontFault) : Type 0 where
+  pub does : h.honest (shelf_of old) → DiskKept s (registry_of new) → (away : Image) (u : World)
+      → IsAt s h.view h.size (registry_of old) (shelf_of old) away [] [] u u
+      → Batches s h.view h.size input before now (registry_of new) (shelf_of new) away u result
+  pub progress : IfOk result (λ end. progress_of new ≡ progress_at (progress_of old) end)
+  pub phase : TakesCommands (progress_of new)
+  pub closed : progress_of old ≡ Failed → new ≡ old
+  pub reopen : result ≡ Ok (Stopped Closed) → progress_of old ≡ Failed
+  pub absent : (p : List ℕ) → result ≡ Ok (Stopped (Absent p)) → ⊥
+  pub redone : redone_of new ≡ redone_of old
+  pub keep : Keep s h (registry_of old) (registry_of new) (shelf_of old) (shelf_of new)

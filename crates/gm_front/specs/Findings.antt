@@ -83,7 +83,7 @@ module _ {S H : Type 0} (g : Ghosts S) (view : H → View) (size : H → Sizes) 
       (fault : BenchFault) : Type 0 where
     pub left : LeavesDemand r s h k away u demand
     pub disk : fault ≡ Disk → (view h).faults < (view k).faults
-    pub readable : fault ≡ Unreadable → (at : IsAt g view size r h away [] u u)
+    pub readable : fault ≡ Unreadable → (at : IsAt g view size r h away [] [] u u)
         → AreWrittenFor demand at.tables → ⊥
 
   -- The demand is responded to so, and the bench is at rest in the world that this leaves.
@@ -91,7 +91,7 @@ module _ {S H : Type 0} (g : Ghosts S) (view : H → View) (size : H → Sizes) 
       (told : Told) : Type 0 where
     pub world : World
     pub responds : Responds u demand world told
-    pub at : IsAt g view size s k away [] world world
+    pub at : IsAt g view size s k away [] [] world world
 
   -- what a demand comes to at rest in u
   abbrev pub ComesToFinding : Held S → Held S → H → H → Image → World → Demand → Finding → Type 0

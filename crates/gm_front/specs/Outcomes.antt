@@ -55,7 +55,7 @@ module _ {S H : Type 0} (g : Ghosts S) (view : H → View) (size : H → Sizes) 
       (command : Command) (fault : BenchFault) : Type 0 where
     pub left : LeavesRun g view size r s h k away u key command
     pub disk : fault ≡ Disk → (view h).faults < (view k).faults
-    pub readable : fault ≡ Unreadable → (at : IsAt g view size r h away [] u u)
+    pub readable : fault ≡ Unreadable → (at : IsAt g view size r h away [] [] u u)
         → AreWrittenUnder key at.tables → ⊥
 
   -- what a request comes to at rest in u, from the registry r and the shelf h to s and k

@@ -37,9 +37,9 @@ abbrev pub asked_by : List (List ℕ) → Asked
 asked_by [] = Nothing
 asked_by (key ∷ words) = called key (spelled words)
 
--- a line of more than 1,024 bytes, or not in UTF-8, is no command
+-- a line of more than 131,072 bytes, or not in UTF-8, is no command
 unfoldable pub asked : List ℕ → Asked
-asked text = if nat_lt 1024 (length text) then Wrong (codes "?")
+asked text = if nat_lt 131072 (length text) then Wrong (codes "?")
     else if is_utf8 text then asked_by (pieces text) else Wrong (codes "?")
 
 -- an answer line: the key, a word and a number

@@ -1,6 +1,6 @@
 //! Batches: the lines of an input, each answered before the next is read.
 
-ghost use Rattle.std.specs.Prelude.{◌≡◌, ◌<◌, ◌≤◌, ℕ, List, [], IfSome, IfNone, IfOk, IfErr, OnOk, OnErr, length, take};
+ghost use Rattle.std.specs.Prelude.{◌≡◌, ◌<◌, ◌≤◌, ℕ, List, [], IfSome, IfNone, IfOk, IfErr, OnOk, OnErr, length, take, vec_len};
 ghost use Rattle.std.specs.Io.KnownBytes.{Appends, Keeps};
 ghost use Rattle.gm_metadata.specs.Images.{Image};
 ghost use Rattle.gm_state.specs.World.{World};
@@ -10,17 +10,17 @@ ghost use Rattle.gm_bench.specs.Calls.{Keep};
 ghost use Rattle.gm_bench.specs.declared.phase.Progress.TheVariants.{Failed};
 ghost use Rattle.gm_bench.specs.Phases.{TakesCommands};
 ghost use Rattle.gm_bench.specs.Recovering.{IsAt};
-ghost use Rattle.gm_front.specs.Batch.{AppendsFront, Batches, front_fault_number, progress_at};
+ghost use Rattle.gm_front.specs.Batch.{AnswersBatch, AppendsFront, Batches, front_fault_number, progress_at};
 ghost use Rattle.gm_front.specs.Outcomes.{text_of};
 
-use crate::lines::{Line, next_line};
+use crate::lines::{Line, MAX_LINE, next_line};
 use crate::outcome::{Outcome, ask};
 use crate::request::request_at;
 use gm_bench::{Bench, BenchFault};
 use gm_shelf::Shelf;
 use sqlite::Alter;
-use std::alloc::Global;
-use std::io::{ErrorKind, Read, Write};
+use std::alloc::{AllocError, Global};
+use std::io::{BufRead, ErrorKind, Write};
 
 /// How a batch ended whose answers were all told.
 #[derive(Clone, Copy, Debug, PartialEq, Eq)]
@@ -110,7 +110,7 @@ fn tell<W: Write>(alloc: Global, writer: &mut W, outcome: &Outcome<'_>) -> Resul
 
 /// Hears of each line of a batch, once its answer is told.
 pub trait Listener {
-    /// A line came to this. One of more than 1,024 bytes isn't handed on.
+    /// A line came to this. One of more than 131,072 bytes isn't handed on.
     fn answered(&mut self, line: Option<&[u8]>, outcome: &Outcome<'_>);
 }
 
@@ -123,7 +123,7 @@ impl Listener for NoListener {
 }
 
 // The bytes of a line that was found; none where they are more than a buffer's.
-fn bytes_of(line: &[u8; 1024], found: Line) -> Option<&[u8]> {
+fn bytes_of(line: &[u8], found: Line) -> Option<&[u8]> {
     match found {
         Line::End | Line::Long => None,
         Line::Whole(count) => line.get(..count),
@@ -135,21 +135,45 @@ fn bytes_of(line: &[u8; 1024], found: Line) -> Option<&[u8]> {
 /// words isn't answered. Asks for a bench in phase Ready or Failed. `Stopped` where the bench
 /// failed at a command, whose line is told. Fails where an answer couldn't be told or the input be
 /// read: what the bench accepted stays accepted.
-pub fn batch<R: Read, W: Write, S: Alter, H: Shelf>(
+pub fn batch<R: BufRead, W: Write, S: Alter, H: Shelf>(
     alloc: Global,
     reader: &mut R,
     writer: &mut W,
     bench: &mut Bench<S, H>,
 ) -> Result<BatchEnd, FrontFault>
     requires { TakesCommands (progress_of bench.old) }
+    ensures { AnswersBatch S.Store H.Shelf (R.remaining reader.old)
+        (W.contents writer.old) (W.contents writer.new) bench.old bench.new result }
+{
+    heard_batch(alloc, reader, writer, bench, &mut NoListener)
+}
+
+// So many zeros, as room for a line.
+fn zeros(alloc: Global, count: usize) -> Result<Vec<u8>, AllocError>
+    ensures { IfOk result (λ room. vec_len room ≡ count) }
+{
+    vec![in alloc; 0u8; count]
+}
+
+// The same with a buffer for a line.
+fn answer_lines<R: BufRead, W: Write, S: Alter, H: Shelf, L: Listener>(
+    alloc: Global,
+    reader: &mut R,
+    writer: &mut W,
+    bench: &mut Bench<S, H>,
+    listener: &mut L,
+    line: &mut [u8],
+) -> Result<BatchEnd, FrontFault>
+    requires phase { TakesCommands (progress_of bench.old) }
+    requires room { length line.old ≡ 131072 }
     ensures does { H.honest (shelf_of bench.old) → DiskKept S.Store (registry_of bench.new)
         → (away : Image) (u : World)
-        → IsAt S.Store H.view H.size (registry_of bench.old) (shelf_of bench.old) away [] u u
+        → IsAt S.Store H.view H.size (registry_of bench.old) (shelf_of bench.old) away [] [] u u
         → Batches S.Store H.view H.size (R.remaining reader.old)
         (W.contents writer.old) (W.contents writer.new)
         (registry_of bench.new) (shelf_of bench.new) away u result }
-    ensures progress { IfOk result (λ end. (progress_of bench.new) ≡ progress_at (progress_of
-        bench.old) end) }
+    ensures progress { IfOk result (λ end. progress_of bench.new
+        ≡ progress_at (progress_of bench.old) end) }
     ensures phase { TakesCommands (progress_of bench.new) }
     ensures closed { progress_of bench.old ≡ Failed → bench.new ≡ bench.old }
     ensures reopen { result ≡ Ok (BatchEnd.Stopped BenchFault.Closed)
@@ -159,12 +183,33 @@ pub fn batch<R: Read, W: Write, S: Alter, H: Shelf>(
     ensures keep { Keep S.Store H.Shelf (registry_of bench.old) (registry_of bench.new)
         (shelf_of bench.old) (shelf_of bench.new) }
 {
-    heard_batch(alloc, reader, writer, bench, &mut NoListener)
+    let mut refused = false;
+    for _ in 0..u64::MAX {
+        let Ok(found) = next_line(reader, line) else {
+            return Err(FrontFault::Read);
+        };
+        if found == Line::End {
+            return Ok(BatchEnd::Ended { refused });
+        }
+        let Ok(request) = request_at(alloc, line, found) else {
+            return Err(FrontFault::Memory);
+        };
+        let outcome = ask(alloc, bench, &request);
+        if let Err(fault) = tell(alloc, writer, &outcome) {
+            return Err(fault);
+        }
+        listener.answered(bytes_of(line, found), &outcome);
+        if let Outcome::Failed(_, fault) = outcome {
+            return Ok(BatchEnd::Stopped(fault));
+        }
+        refused = outcome.is_refused_after(refused);
+    }
+    Err(FrontFault::Read)
 }
 
 /// A batch of which a listener hears, line by line. What is owed of it is
 /// what a batch owes.
-pub fn heard_batch<R: Read, W: Write, S: Alter, H: Shelf, L: Listener>(
+pub fn heard_batch<R: BufRead, W: Write, S: Alter, H: Shelf, L: Listener>(
     alloc: Global,
     reader: &mut R,
     writer: &mut W,
@@ -172,44 +217,11 @@ pub fn heard_batch<R: Read, W: Write, S: Alter, H: Shelf, L: Listener>(
     listener: &mut L,
 ) -> Result<BatchEnd, FrontFault>
     requires { TakesCommands (progress_of bench.old) }
-    ensures does { H.honest (shelf_of bench.old) → DiskKept S.Store (registry_of bench.new)
-        → (away : Image) (u : World)
-        → IsAt S.Store H.view H.size (registry_of bench.old) (shelf_of bench.old) away [] u u
-        → Batches S.Store H.view H.size (R.remaining reader.old)
-        (W.contents writer.old) (W.contents writer.new)
-        (registry_of bench.new) (shelf_of bench.new) away u result }
-    ensures progress { IfOk result (λ end. (progress_of bench.new) ≡ progress_at (progress_of
-        bench.old) end) }
-    ensures phase { TakesCommands (progress_of bench.new) }
-    ensures closed { progress_of bench.old ≡ Failed → bench.new ≡ bench.old }
-    ensures reopen { result ≡ Ok (BatchEnd.Stopped BenchFault.Closed)
-        → progress_of bench.old ≡ Failed }
-    ensures absent { (p : List ℕ) → result ≡ Ok (BatchEnd.Stopped (BenchFault.Absent p)) → ⊥ }
-    ensures redone { redone_of bench.new ≡ redone_of bench.old }
-    ensures keep { Keep S.Store H.Shelf (registry_of bench.old) (registry_of bench.new)
-        (shelf_of bench.old) (shelf_of bench.new) }
+    ensures { AnswersBatch S.Store H.Shelf (R.remaining reader.old)
+        (W.contents writer.old) (W.contents writer.new) bench.old bench.new result }
 {
-    let mut line = [0u8; 1024];
-    let mut refused = false;
-    for _ in 0..u64::MAX {
-        let Ok(found) = next_line(reader, &mut line) else {
-            return Err(FrontFault::Read);
-        };
-        if found == Line::End {
-            return Ok(BatchEnd::Ended { refused });
-        }
-        let Ok(request) = request_at(alloc, &line, found) else {
-            return Err(FrontFault::Memory);
-        };
-        let outcome = ask(alloc, bench, &request);
-        if let Err(fault) = tell(alloc, writer, &outcome) {
-            return Err(fault);
-        }
-        listener.answered(bytes_of(&line, found), &outcome);
-        if let Outcome::Failed(_, fault) = outcome {
-            return Ok(BatchEnd::Stopped(fault));
-        }
-        refused = outcome.is_refused_after(refused);
-    }
-    Err(FrontFault::Read)
+    let Ok(mut line) = zeros(alloc, MAX_LINE) else {
+        return Err(FrontFault::Memory);
+    };
+    answer_lines(alloc, reader, writer, bench, listener, line.as_mut_slice())
 }

@@ -1,10 +1,13 @@
-//! The lines of a batch: at most 1,024 bytes each, whatever the input is.
+//! The lines of a batch: at most 131,072 bytes each, whatever the input is.
 
-ghost use Rattle.std.specs.Prelude.{◌≡◌, ◌++◌, ℕ, List, [], ◌∷◌, IfSome, IfNone, IfOk, nat_lt, if◌then◌else◌};
-ghost use Rattle.std.specs.Io.KnownBytes.{Consumes, IsAtEnd};
-ghost use Rattle.gm_front.specs.Input.{Fits, IsCopied, IsLine};
+ghost use Rattle.std.specs.Prelude.{◌≡◌, ◌<◌, ◌≤◌, ◌++◌, ℕ, true, List, length, take, slice_index, IfSome, IfOk, nat_lt, if◌then◌else◌};
+ghost use Rattle.gm_front.specs.Input.{is_one_line, Fits, IsCopied, IsLine, IsPiece, IsTaken, TakesPiece};
 
-use std::io::{self, ErrorKind, Read};
+use memchr::memchr;
+use std::io::{self, BufRead, ErrorKind};
+
+/// The most bytes of a line, without its line feed.
+pub const MAX_LINE: usize = 131_072;
 
 /// What stood at the front of an input.
 #[derive(Clone, Copy, Debug, PartialEq, Eq)]
@@ -13,47 +16,94 @@ pub enum Line {
     End,
     /// A line of so many bytes, without its line feed.
     Whole(usize),
-    /// A line of more than 1,024 bytes.
+    /// A line of more than 131,072 bytes.
     Long,
 }
 
-// The next byte, or nothing at the end.
-fn next_byte<R: Read>(reader: &mut R) -> io::Result<Option<u8>>
-    ensures byte { IfOk result (λ found. IfSome found (λ b.
-        Consumes (R.remaining reader.old) (R.remaining reader.new) (b ∷ []))) }
-    ensures end { IfOk result (λ found. IfNone found
-        (Consumes (R.remaining reader.old) (R.remaining reader.new) []
-        × IsAtEnd (R.remaining reader.new))) }
-{
-    let mut byte = [0u8; 1];
-    for _ in 0..u64::MAX {
-        match reader.read(&mut byte) {
-            Ok(0) => return Ok(None),
-            Ok(_) => return Ok(Some(byte[0])),
-            Err(e) if e.kind() == ErrorKind::Interrupted => {}
-            Err(e) => return Err(e),
-        }
-    }
-    Err(io::Error::from(ErrorKind::Other))
+/// What a reader had ready of a line.
+#[derive(Clone, Copy, Debug, PartialEq, Eq)]
+enum Piece {
+    /// Nothing: the input has ended.
+    Nothing,
+    /// Its line feed.
+    Feed,
+    /// Bytes of it: so many are counted now.
+    Bytes(usize),
 }
 
-// Puts a byte at the end of a line of which `count` bytes are there, and counts it up to 1,025.
-#[tactic(auto, using(crate::proofs::TakenLines::set_last))]
-fn put(line: &mut [u8; 1024], count: usize, byte: u8) -> usize
+// How many bytes stand before the first line feed.
+fn length_before_feed(bytes: &[u8]) -> usize
+    ensures bound { result ≤ length bytes.now }
+    ensures line { is_one_line (take result bytes.now) ≡ true }
+    ensures feed { result < length bytes.now → slice_index bytes.now result ≡ 10 }
+{
+    memchr(b'\n', bytes).unwrap_or(bytes.len())
+}
+
+// How many of the bytes are a piece: those before the first line feed, or where it comes first,
+// the line feed alone.
+fn piece_length(bytes: &[u8]) -> usize
+    ensures bound { result ≤ length bytes.now }
+    ensures some { 0 < length bytes.now → 0 < result }
+    ensures piece { IsPiece (take result bytes.now) }
+{
+    let length = length_before_feed(bytes);
+    if length == 0 {
+        bytes.len().min(1)
+    } else {
+        length
+    }
+}
+
+// Puts bytes at the end of a line of which `count` bytes are there, and counts them up to 131,073.
+fn put(line: &mut [u8], count: usize, bytes: &[u8]) -> usize
+    requires { length line.old ≡ 131072 }
     ensures { (seen : List ℕ) → IsCopied line.old count seen
-        → IsCopied line.new result (seen ++ byte ∷ []) }
+        → IsCopied line.new result (seen ++ bytes.now) }
 {
-    if count < 1024 {
-        line[count] = byte;
+    let end = count.saturating_add(bytes.len());
+    if end > MAX_LINE {
+        return MAX_LINE + 1;
     }
-    if count < 1025 { count + 1 } else { count }
+    line[count..end].copy_from_slice(bytes);
+    end
 }
 
-// A line of which so many bytes were counted, up to 1,025.
-fn found(count: usize) -> Line
-    ensures { result ≡ (if nat_lt count 1025 then Line.Whole count else Line.Long) }
+// Takes a piece to a line of which `count` bytes are there.
+fn taken(line: &mut [u8], count: usize, piece: &[u8]) -> Piece
+    requires room { length line.old ≡ 131072 }
+    requires piece { IsPiece piece.now }
+    ensures { IsTaken piece.now line.old line.new count result }
 {
-    if count < 1025 {
+    match piece {
+        [] => Piece::Nothing,
+        [b'\n', ..] => Piece::Feed,
+        _ => Piece::Bytes(put(line, count, piece)),
+    }
+}
+
+// Takes the next piece to a line of which `count` bytes are there: what the reader has ready.
+fn next_piece<R: BufRead>(reader: &mut R, line: &mut [u8], count: usize) -> io::Result<Piece>
+    requires { length line.old ≡ 131072 }
+    ensures { IfOk result (TakesPiece (R.remaining reader.old) (R.remaining reader.new)
+        line.old line.new count) }
+{
+    let ready = match reader.fill_buf() {
+        Ok(ready) => ready,
+        Err(e) if e.kind() == ErrorKind::Interrupted => return Ok(Piece::Bytes(count)),
+        Err(e) => return Err(e),
+    };
+    let length = piece_length(ready);
+    let piece = taken(line, count, &ready[..length]);
+    reader.consume(length);
+    Ok(piece)
+}
+
+// A line of which so many bytes were counted, up to 131,073.
+fn found(count: usize) -> Line
+    ensures { result ≡ (if nat_lt count 131073 then Line.Whole count else Line.Long) }
+{
+    if count <= MAX_LINE {
         Line::Whole(count)
     } else {
         Line::Long
@@ -63,28 +113,27 @@ fn found(count: usize) -> Line
 // The same at the end of the input, where no bytes are no line.
 fn ended(count: usize) -> Line
     ensures { result ≡ (if nat_lt 0 count
-        then (if nat_lt count 1025 then Line.Whole count else Line.Long) else Line.End) }
+        then (if nat_lt count 131073 then Line.Whole count else Line.Long) else Line.End) }
 {
     if count > 0 { found(count) } else { Line::End }
 }
 
-/// Takes the next line, with its line feed, into a buffer of its own limit; a longer line is taken
-/// whole too, and tells only that it is longer. The last line may lack its line feed. Fails where
-/// the reader does; what was read of a line is then gone.
-pub fn next_line<R: Read>(reader: &mut R, line: &mut [u8; 1024]) -> io::Result<Line>
+/// Takes the next line, with its line feed, into a buffer of `MAX_LINE` bytes; a longer line is
+/// taken whole too, and tells only that it is longer. The last line may lack its line feed. Fails
+/// where the reader does; what was read of a line is then gone.
+pub fn next_line<R: BufRead>(reader: &mut R, line: &mut [u8]) -> io::Result<Line>
+    requires { length line.old ≡ 131072 }
     ensures line { IfOk result (λ found. IfSome (R.remaining reader.old) (λ bytes.
         IsLine bytes (R.remaining reader.new) line.new found)) }
     ensures fits { IfOk result Fits }
 {
     let mut count = 0usize;
     for _ in 0..u64::MAX {
-        let Some(byte) = next_byte(reader)? else {
-            return Ok(ended(count));
-        };
-        if byte == b'\n' {
-            return Ok(found(count));
+        match next_piece(reader, line, count)? {
+            Piece::Nothing => return Ok(ended(count)),
+            Piece::Feed => return Ok(found(count)),
+            Piece::Bytes(counted) => count = counted,
         }
-        count = put(line, count, byte);
     }
     Err(io::Error::from(ErrorKind::Other))
 }

@@ -126,7 +126,7 @@ pub fn ask<'a, S: Alter, H: Shelf>(
     requires { TakesCommands (progress_of bench.old) }
     ensures comes { H.honest (shelf_of bench.old) → DiskKept S.Store (registry_of bench.new)
         → (away : Image) (u : World)
-        → IsAt S.Store H.view H.size (registry_of bench.old) (shelf_of bench.old) away [] u u
+        → IsAt S.Store H.view H.size (registry_of bench.old) (shelf_of bench.old) away [] [] u u
         → ComesTo S.Store H.view H.size (registry_of bench.old) (registry_of bench.new)
         (shelf_of bench.old) (shelf_of bench.new) away u (asked_of request.now) result }
     ensures progress { progress_of bench.new ≡ progress_after (progress_of bench.old) result }

@@ -1,6 +1,6 @@
 //! What a line of a batch asks.
 
-ghost use Rattle.std.specs.Prelude.{◌≡◌, IfOk};
+ghost use Rattle.std.specs.Prelude.{◌≡◌, IfOk, length};
 ghost use Rattle.gm_front.specs.Request.{asked_by, pieces, shown};
 ghost use Rattle.gm_front.specs.Input.{Fits};
 ghost use Rattle.gm_words.specs.Lines.{texts};
@@ -55,10 +55,11 @@ pub fn request_of<'a>(alloc: Global, pieces: &[&'a str]) -> Result<Request<'a>, 
 /// What the line asks that was found at the front of an input.
 pub(crate) fn request_at<'a>(
     alloc: Global,
-    line: &'a [u8; 1024],
+    line: &'a [u8],
     found: Line,
 ) -> Result<Request<'a>, AllocError>
-    requires { Fits found }
+    requires fits { Fits found }
+    requires room { length line.now ≡ 131072 }
     ensures { IfOk result (λ request. asked_of request ≡ asked_at line.now found) }
 {
     match found {

@@ -90,7 +90,7 @@ pub fn serve_request<R: Read, W: Write, S: Alter, H: Shelf>(
     requires { TakesCommands (progress_of bench.old) }
     ensures serves { H.honest (shelf_of bench.old) → DiskKept S.Store (registry_of bench.new)
         → (away : Image) (u : World)
-        → IsAt S.Store H.view H.size (registry_of bench.old) (shelf_of bench.old) away [] u u
+        → IsAt S.Store H.view H.size (registry_of bench.old) (shelf_of bench.old) away [] [] u u
         → Serves S.Store H.view H.size (R.remaining reader.old)
         (W.contents writer.old) (W.contents writer.new)
         (registry_of bench.old) (registry_of bench.new)
@@ -131,7 +131,7 @@ pub fn serve_one<R: Read, W: Write, S: Alter, H: Shelf>(
     requires { TakesCommands (progress_of bench.old) }
     ensures serves { H.honest (shelf_of bench.old) → DiskKept S.Store (registry_of bench.new)
         → (away : Image) (u : World)
-        → IsAt S.Store H.view H.size (registry_of bench.old) (shelf_of bench.old) away [] u u
+        → IsAt S.Store H.view H.size (registry_of bench.old) (shelf_of bench.old) away [] [] u u
         → Serves S.Store H.view H.size (R.remaining reader.old)
         (W.contents writer.old) (W.contents writer.new)
         (registry_of bench.old) (registry_of bench.new)

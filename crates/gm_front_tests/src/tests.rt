@@ -17,7 +17,7 @@ use gm_shelf::{MemShelf, Shelf};
 use gm_test_media::{memory, shelf};
 use gm_words::status_text;
 use sqlite::{Alter, Connection, MemStore};
-use std::io::{Read, Write};
+use std::io::{BufRead, Write};
 use std::process::Abort;
 use std::test::Fail;
 
@@ -61,6 +61,11 @@ fn images(rt: &(impl Abort + AllocGlobal)) -> MemShelf {
     got(rt, shelf(rt.alloc()))
 }
 
+// So many letters, without a line feed.
+fn of_letters(rt: &(impl Abort + AllocGlobal), count: usize) -> Vec<u8> {
+    vec![in rt.alloc(); b'x'; count].expect(rt, "no memory")
+}
+
 // The tests go over any store and shelf, and these have no clause, so that a proof carries neither
 // what those in memory are made of nor the state of each call.
 fn try_open<S: Alter + Drop, H: Shelf + Drop>(
@@ -83,7 +88,7 @@ fn open<S: Alter + Drop, H: Shelf + Drop>(
     }
 }
 
-fn try_batch<R: Read, W: Write, S: Alter, H: Shelf>(
+fn try_batch<R: BufRead, W: Write, S: Alter, H: Shelf>(
     rt: &(impl Abort + AllocGlobal),
     reader: &mut R,
     writer: &mut W,

@@ -24,15 +24,15 @@ for_each None P all = tt
 for_each (Some x) P all = all x
 
 -- the whole body was read
-sent_whole : (body : List ℕ) (n : ℕ) → n ≤ 65536 → n ≤ length body
+sent_whole : (body : List ℕ) (n : ℕ) → n ≤ 131072 → n ≤ length body
     → sent (Some n) body ≡ called (call_of (take n body))
 sent_whole body n fits whole =
-    let small : nat_lt 65536 n ≡ false = grind (arith, nat_tests) in
+    let small : nat_lt 131072 n ≡ false = grind (arith, nat_tests) in
     let all : nat_lt (length body) n ≡ false = grind (arith, nat_tests) in
     rw (small, all) refl
 
 pub whole_body : (a b : Option (List ℕ)) (was now : List ℕ) (start n : ℕ) (field : Option ℕ)
-    (asked : Asked) → Takes a b was now → start ≤ length was → n ≤ 65536 → start + n ≤ length now
+    (asked : Asked) → Takes a b was now → start ≤ length was → n ≤ 131072 → start + n ≤ length now
     → field ≡ Some n → asked ≡ called (call_of (slice_range now start (start + n)))
     → IfSome a (λ rest. asked ≡ sent field (drop start was ++ rest))
 whole_body None b was now start n field asked t begins fits whole is asks = tt

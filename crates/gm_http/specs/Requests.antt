@@ -30,7 +30,7 @@ called (Some call) = Command call.key call.words
 -- what is sent with this length, and then these bytes
 abbrev pub sent : Option ℕ → List ℕ → Asked
 sent None body = BadRequest
-sent (Some n) body = if nat_lt 65536 n then TooLarge
+sent (Some n) body = if nat_lt 131072 n then TooLarge
     else if nat_lt (length body) n then BadRequest else called (call_of (take n body))
 
 -- what is asked of a target by its own method

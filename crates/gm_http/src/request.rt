@@ -22,7 +22,7 @@ use std::io::Read;
 use std::str;
 
 /// How many bytes a body has at most.
-const MOST_BODY: u64 = 65_536;
+const MOST_BODY: u64 = 131_072;
 
 /// What a request asks.
 #[derive(Drop)]
@@ -33,7 +33,7 @@ pub enum Request {
     NotFound,
     /// The route of its target takes another method, this one.
     NotAllowed(Allowed),
-    /// Its body has more than 65,536 bytes.
+    /// Its body has more than 131,072 bytes.
     TooLarge,
     /// The mirrors.
     Status,
@@ -110,7 +110,7 @@ fn read_call<R: Read>(
     ensures takes { OnOk result
         (Takes (R.remaining reader.old) (R.remaining reader.new) bytes.old.items bytes.new.items) }
     ensures most { OnOk result
-        (length bytes.new.items ≤ max (length bytes.old.items) (start + 65536)) }
+        (length bytes.new.items ≤ max (length bytes.old.items) (start + 131072)) }
 {
     let Some(length) = length_by(alloc, bytes, headers)? else {
         return Ok(Request::BadRequest);
@@ -146,7 +146,7 @@ fn read_rest<R: Read>(
     ensures takes { OnOk result
         (Takes (R.remaining reader.old) (R.remaining reader.new) bytes.old.items bytes.new.items) }
     ensures most { OnOk result
-        (length bytes.new.items ≤ max (length bytes.old.items) (8192 + 65536)) }
+        (length bytes.new.items ≤ max (length bytes.old.items) (8192 + 131072)) }
 {
     let Some(target) = target_at(alloc, bytes, spans)? else {
         return Ok(Request::NotFound);
@@ -172,7 +172,7 @@ pub fn read_request<R: Read>(alloc: Global, reader: &mut R) -> Result<Request, R
     ensures asks { IfOk result (λ request. IfSome (R.remaining reader.old) (λ input.
         Asks input (asked_of request))) }
     ensures front { OnOk result
-        (TakesUpTo (8192 + 65536) (R.remaining reader.old) (R.remaining reader.new)) }
+        (TakesUpTo (8192 + 131072) (R.remaining reader.old) (R.remaining reader.new)) }
 {
     let mut bytes = Vec::new(alloc);
     let mut headers = [EMPTY_HEADER_SPAN; MOST_FIELDS];

@@ -1,4 +1,4 @@
--- The pieces of the text of a copy, as they are written and as they are said.
+-- The pieces of the text of a copy or a patch, as they are written and as they are said.
 use Rattle.std.proofs.Common.{◌≡◌, List, ◌++◌, ℕ, Result, Ok, Err, append_assoc, ◌∙◌}
 use Rattle.std.specs.Prelude.{OnOk}
 
@@ -12,3 +12,7 @@ pub eight_pieces : (old a b c d e f g h : List ℕ)
     → old ++ (a ++ (b ++ (c ++ (d ++ (e ++ (f ++ (g ++ h)))))))
     ≡ old ++ (((((((a ++ b) ++ c) ++ d) ++ e) ++ f) ++ g) ++ h)
 eight_pieces old a b c d e f g h = simp append_assoc
+
+pub six_pieces : (old a b c d e f : List ℕ) → old ++ (a ++ (b ++ (c ++ (d ++ (e ++ f)))))
+    ≡ old ++ (((((a ++ b) ++ c) ++ d) ++ e) ++ f)
+six_pieces old a b c d e f = simp append_assoc

@@ -3,7 +3,7 @@ use Rattle.std.proofs.Common.{◌≡◌, ◌∙◌, ◌-◌, ◌==◌, ℕ, List
 use Rattle.std.specs.Option.{option_and_then}
 use Rattle.gm_metadata.specs.Images.{Image, Same, Sizes}
 use Rattle.gm_state.specs.declared.intents.Intent.{Intent}
-use Rattle.gm_state.specs.declared.intents.Intent.TheVariants.{Meta, Clear, Copy}
+use Rattle.gm_state.specs.declared.intents.Intent.TheVariants.{Meta, Clear, Copy, Dirty, Patch}
 use Rattle.gm_state.specs.declared.records.Mirror.{Mirror}
 use Rattle.gm_state.specs.declared.records.Component.{Component}
 use Rattle.gm_state.specs.Records.{Records}
@@ -73,6 +73,8 @@ module _ (s : Records) (size : Sizes) (x y : Image) (same : Same y x) where
   told_seen (Clear p) told h = (h.0, cleared_seen p h.0 h.1, h.2)
   told_seen (Copy source target first end) told h =
       (h.0, h.1, named_seen source h.0 h.2, named_seen target h.1 h.3, h.4)
+  told_seen (Dirty p) told h = (h.0, named_seen p h.0 h.1, h.2)
+  told_seen (Patch p first end) told h = (h.0, named_seen p h.0 h.1, h.2)
 
 module _ (s : Records) (size size' : Sizes) (x y : Image) (sizes : size' ≡ size)
     (same : Same y x) where

@@ -3,7 +3,7 @@ use Rattle.std.specs.Prelude.{◌≡◌, ◌-◌, ℕ, List, [], ◌∷◌, ◌+
 use Rattle.std.specs.Fmt.{decimal}
 use Rattle.gm_metadata.specs.Images.{Image, Sizes}
 use Rattle.gm_state.specs.declared.intents.Intent.{Intent}
-use Rattle.gm_state.specs.declared.intents.Intent.TheVariants.{Meta, Clear, Copy}
+use Rattle.gm_state.specs.declared.intents.Intent.TheVariants.{Meta, Clear, Copy, Dirty, Patch}
 use Rattle.gm_state.specs.Records.{Records}
 use Rattle.gm_pending.specs.Standings.{IsOfCleared, IsOfNamed}
 use Rattle.gm_pending.specs.Words.{word}
@@ -15,11 +15,19 @@ copy_text source target first sectors =
     codes "copy " ++ decimal sectors ++ codes " sectors of " ++ source ++ codes " to " ++ target
     ++ codes " from " ++ decimal first
 
+-- a patch of so many sectors, from this one on
+abbrev pub patch_text : List ℕ → ℕ → ℕ → List ℕ
+patch_text provider first sectors =
+    codes "patch " ++ decimal sectors ++ codes " sectors of " ++ provider ++ codes " from "
+    ++ decimal first
+
 -- what an intent is
 abbrev pub intent_text : Intent → List ℕ
 intent_text (Meta p) = codes "metadata of " ++ p
 intent_text (Clear p) = codes "clear " ++ p
 intent_text (Copy source target first end) = copy_text source target first (end - first)
+intent_text (Dirty p) = codes "mark " ++ p ++ codes " dirty"
+intent_text (Patch p first end) = patch_text p first (end - first)
 
 -- a line of it
 abbrev pub intent_line : Intent → List ℕ
@@ -46,6 +54,8 @@ module _ (s : Records) (size : Sizes) (seen : Image) where
   IsTold (Copy source target first end) told = (a : Standing) × (b : Standing)
       × IsOfNamed s size seen source a × IsOfNamed s size seen target b
       × (told ≡ two_told source a target b)
+  IsTold (Dirty p) told = (a : Standing) × IsOfNamed s size seen p a × (told ≡ word a)
+  IsTold (Patch p first end) told = (a : Standing) × IsOfNamed s size seen p a × (told ≡ word a)
 
   -- a line an intent, each with how its images stand
   abbrev pub AreTold : List Intent → List ℕ → Type 0

@@ -149,7 +149,8 @@ const TEXT: &str = concat!(
     "copy 256 sectors of a.img to b.img from 512\n",
     "copy 1 sectors of c.img to d.img from 0\n",
     "copy 0 sectors of a.img to b.img from 7\n",
-    "metadata of a.img\nmetadata of c.img\nclear d.img\nclear e.img\n"
+    "metadata of a.img\nmetadata of c.img\nclear d.img\nclear e.img\n",
+    "mark a.img dirty\npatch 2 sectors of b.img from 2\n"
 );
 
 const TEXT_ON: &str = concat!(
@@ -157,7 +158,8 @@ const TEXT_ON: &str = concat!(
     "copy 1 sectors of c.img to d.img from 0: c.img another, d.img no metadata\n",
     "copy 0 sectors of a.img to b.img from 7: a.img as registered, b.img member\n",
     "metadata of a.img: as registered\nmetadata of c.img: another\n",
-    "clear d.img: zero\nclear e.img: absent\n"
+    "clear d.img: zero\nclear e.img: absent\n",
+    "mark a.img dirty: as registered\npatch 2 sectors of b.img from 2: member\n"
 );
 
 fn copy(source: Label, target: Label, first: u32, end: u32) -> Intent {
@@ -169,7 +171,7 @@ fn copy(source: Label, target: Label, first: u32, end: u32) -> Intent {
     }
 }
 
-fn intents(rt: &impl Abort) -> [Intent; 7] {
+fn intents(rt: &impl Abort) -> [Intent; 9] {
     let [a, b, c, d, e] = ["a.img", "b.img", "c.img", "d.img", "e.img"].map(|name| label(rt, name));
     [
         copy(a, b, 512, 768),
@@ -179,6 +181,12 @@ fn intents(rt: &impl Abort) -> [Intent; 7] {
         Intent::Meta { provider: c },
         Intent::Clear { provider: d },
         Intent::Clear { provider: e },
+        Intent::Dirty { provider: a },
+        Intent::Patch {
+            provider: b,
+            first: 2,
+            end: 4,
+        },
     ]
 }
 
@@ -213,11 +221,11 @@ fn each_line_tells_its_images(rt: HostRuntime) {
     );
 }
 
-// The intents take nine reads, of which e.img's isn't one: it isn't there.
+// The intents take eleven reads, of which e.img's isn't one: it isn't there.
 #[test]
 fn an_image_that_cannot_be_read_is_a_disk_fault(rt: HostRuntime) {
     let state = state(&rt);
-    for nth in 1u64..10 {
+    for nth in 1u64..12 {
         let mut shelf = FaultShelf::stop_from(shelf(&rt), nth);
         let told = pending_text_on(rt.alloc(), &state, &intents(&rt), &mut shelf);
         assert!(rt;
@@ -225,7 +233,7 @@ fn an_image_that_cannot_be_read_is_a_disk_fault(rt: HostRuntime) {
             "told at {nth}"
         );
     }
-    let mut shelf = FaultShelf::stop_from(shelf(&rt), 10);
+    let mut shelf = FaultShelf::stop_from(shelf(&rt), 12);
     let told = pending_text_on(rt.alloc(), &state, &intents(&rt), &mut shelf);
     assert!(rt; told.is_ok(), "not told");
 }

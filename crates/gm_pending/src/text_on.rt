@@ -70,6 +70,14 @@ fn told_on<H: Shelf>(
             let told = two_told(alloc, source, lends, target, takes)?;
             Ok(told)
         }
+        Intent::Dirty { provider } => {
+            let standing = standing_of_named(shelf, state, provider)?;
+            one_told(alloc, standing)
+        }
+        Intent::Patch { provider, .. } => {
+            let standing = standing_of_named(shelf, state, provider)?;
+            one_told(alloc, standing)
+        }
     }
 }
 

@@ -1,7 +1,7 @@
 //! The command `audit`, which lists the components that images no longer show as they are
 //! registered; also before commands are carried out.
 
-ghost use Rattle.std.specs.Prelude.{◌≡◌, true, false, List, [], IfOk, IfSome, OnOk, Ok, None};
+ghost use Rattle.std.specs.Prelude.{◌≡◌, ℕ, true, false, List, [], IfOk, IfSome, OnOk, Ok, None};
 ghost use Rattle.std.specs.String.{string_bytes};
 ghost use Rattle.gm_state.specs.declared.intents.Intent.{Intent};
 ghost use Rattle.gm_state.specs.Records.{Records};
@@ -67,8 +67,8 @@ pub fn damage<S: Alter, H: Shelf>(
     // Where an audit is asked for and nothing is told, no image is amiss.
     ensures clean { audits ≡ true → H.honest (shelf_of bench.old)
         → DiskKept S.Store (registry_of bench.new) → result ≡ Ok None
-        → (t : Tables) (s : Records) (ts : List Intent)
-        → HasTables S.Store (registry_of bench.old) t → AreTablesOf t s ts
+        → (t : Tables) (s : Records) (ts : List Intent) (bytes : List (List ℕ))
+        → HasTables S.Store (registry_of bench.old) t → AreTablesOf t s ts bytes
         → IsAudit s (H.size (shelf_of bench.old)) (H.view (shelf_of bench.old)).seen [] }
     ensures phase { OnOk result (TakesCommands (progress_of bench.new)) }
 {

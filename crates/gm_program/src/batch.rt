@@ -13,7 +13,7 @@ use gm_bench::Bench;
 use gm_front::{BatchEnd, FrontFault, heard_batch};
 use gm_shelf::Shelf;
 use sqlite::Alter;
-use std::io::{Read, Write};
+use std::io::{BufRead, Write};
 
 // How the program ends by the end of its batch.
 fn status_of_end(end: Result<BatchEnd, FrontFault>) -> Result<Status, Fault>
@@ -29,7 +29,7 @@ fn status_of_end(end: Result<BatchEnd, FrontFault>) -> Result<Status, Fault>
 }
 
 /// Hands in each line of the input, and prints its answer before the next is read.
-pub fn hand_in<S: Alter, H: Shelf, I: Read, O: Write, E: Write>(
+pub fn hand_in<S: Alter, H: Shelf, I: BufRead, O: Write, E: Write>(
     rt: &HostRuntime,
     bench: &mut Bench<S, H>,
     streams: &mut Streams<'_, I, O, E>,

@@ -20,7 +20,7 @@ use gm_command_line::Work;
 use gm_shelf::Shelf;
 use sqlite::Alter;
 use std::alloc::Global;
-use std::io::{Read, Write};
+use std::io::{BufRead, Write};
 
 /// How the work ended, and the text that is still to be printed.
 #[derive(Drop)]
@@ -42,7 +42,7 @@ fn told(alloc: Global, status: Status) -> Report
 /// Does the work. A batch reads the input, and prints its answers at once; what serves requests
 /// takes them from connections. Neither is begun where an audit is asked for and lists images. A
 /// recovery without a provider is told by who opens its bench; here it tells no more than any.
-pub fn perform<S: Alter, H: Shelf, I: Read, O: Write, E: Write>(
+pub fn perform<S: Alter, H: Shelf, I: BufRead, O: Write, E: Write>(
     work: &Work<'_>,
     rt: &HostRuntime,
     bench: &mut Bench<S, H>,

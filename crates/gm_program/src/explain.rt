@@ -111,14 +111,14 @@ impl<'a, E: Write> Explainer<'a, E> {
         }
     }
 
-    // The same by a line, without its line feed; none where it has more than 1,024 bytes.
+    // The same by a line, without its line feed; none where it has more than 131,072 bytes.
     fn explain_line(
         &mut self,
         line: Option<&[u8]>,
         outcome: &Outcome<'_>,
     ) -> Result<(), AllocError> {
         let Some(line) = line else {
-            self.say("?", 1, "the line has more than 1,024 bytes");
+            self.say("?", 1, "the line has more than 131,072 bytes");
             return Ok(());
         };
         let Ok(text) = str::from_utf8(line) else {

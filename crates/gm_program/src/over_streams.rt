@@ -11,7 +11,7 @@ use crate::taste::taste_folder;
 use clap::Error;
 use clap::error::ErrorKind;
 use gm_command_line::{Job, Work, job_of};
-use std::io::{Read, Write};
+use std::io::{BufRead, Write};
 
 // Prints what clap has to say, on the stream where it belongs.
 fn print_error<O: Write, E: Write>(
@@ -30,7 +30,7 @@ fn print_error<O: Write, E: Write>(
     Ok(Status::Done)
 }
 
-fn perform<I: Read, O: Write, E: Write>(
+fn perform<I: BufRead, O: Write, E: Write>(
     rt: &HostRuntime,
     job: &Job<'_>,
     streams: &mut Streams<'_, I, O, E>,
@@ -72,7 +72,7 @@ fn perform<I: Read, O: Write, E: Write>(
     }
 }
 
-fn run<I: Read, O: Write, E: Write>(
+fn run<I: BufRead, O: Write, E: Write>(
     rt: &HostRuntime,
     words: &[&str],
     streams: &mut Streams<'_, I, O, E>,
@@ -100,7 +100,7 @@ pub fn program<I, O, E>(
     streams: &mut Streams<'_, I, O, E>,
 ) -> Status
 where
-    I: Read,
+    I: BufRead,
     O: Write,
     E: Write,
 {

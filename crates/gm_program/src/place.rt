@@ -18,7 +18,7 @@ use gm_shelf::FileShelf;
 use sqlite::{Alter, Connection, FileStore};
 use sqlite_disk::Disk;
 use std::alloc::Global;
-use std::io::{Read, Write};
+use std::io::{BufRead, Write};
 
 /// The paths of a registry, and of the folder with the images that it keeps record of.
 #[derive(Clone, Copy)]
@@ -57,7 +57,7 @@ fn without<S: Alter + Drop, I, O, E: Write>(
 }
 
 // Opens a bench, has the work done at it, and gives its store back with the report.
-fn worked<S: Alter + Drop, I: Read, O: Write, E: Write>(
+fn worked<S: Alter + Drop, I: BufRead, O: Write, E: Write>(
     rt: &HostRuntime,
     store: Connection<S>,
     shelf: FileShelf<HostRuntime>,
@@ -83,7 +83,7 @@ fn worked<S: Alter + Drop, I: Read, O: Write, E: Write>(
 
 // Opens a bench, which carries out what is pending, has the work done at it, and gives its store
 // back with the report.
-fn at_bench<S: Alter + Drop, I: Read, O: Write, E: Write>(
+fn at_bench<S: Alter + Drop, I: BufRead, O: Write, E: Write>(
     rt: &HostRuntime,
     store: Connection<S>,
     shelf: FileShelf<HostRuntime>,
@@ -104,7 +104,7 @@ fn at_bench<S: Alter + Drop, I: Read, O: Write, E: Write>(
 }
 
 // Has the work done at a store of two files, and closes it. Of two faults the first is told.
-fn at_files<D: Disk + Drop, I: Read, O: Write, E: Write>(
+fn at_files<D: Disk + Drop, I: BufRead, O: Write, E: Write>(
     rt: &HostRuntime,
     store: Connection<FileStore<D>>,
     shelf: FileShelf<HostRuntime>,
@@ -121,7 +121,7 @@ fn at_files<D: Disk + Drop, I: Read, O: Write, E: Write>(
 }
 
 // Alone in naming a registry over files. Whoever mistyped its path made a new one, and is told so.
-fn report_of<I: Read, O: Write, E: Write>(
+fn report_of<I: BufRead, O: Write, E: Write>(
     rt: &HostRuntime,
     registry: &str,
     mut shelf: FileShelf<HostRuntime>,
@@ -143,7 +143,7 @@ fn report_of<I: Read, O: Write, E: Write>(
 /// Opens the bench of a place, which carries out what is pending, has the work done at it, and
 /// closes its store, so that the registry's file alone holds everything; also where an opening
 /// without a provider is refused. Then it prints the text of the report.
-pub fn work_at<I: Read, O: Write, E: Write>(
+pub fn work_at<I: BufRead, O: Write, E: Write>(
     rt: &HostRuntime,
     place: Place<'_>,
     work: &Work<'_>,

@@ -113,7 +113,7 @@ fn records_in(alloc: Global, store: Connection<FileStore<Memory>>) -> Result<Rec
         Err(e) => return Err(registry_fault(e.fault)),
     };
     match registry.load(alloc) {
-        Ok((state, intents)) => Ok(Records { state, intents }),
+        Ok((state, intents, _bytes)) => Ok(Records { state, intents }),
         Err(fault) => Err(registry_fault(fault)),
     }
 }

@@ -5,7 +5,7 @@ use Rattle.gm_commands.specs.declared.command.Command.{Command}
 use Rattle.gm_lists.specs.Ordered.{Has}
 use Rattle.gm_lists.proofs.Finding.{some_any, any_from}
 use Rattle.gm_refusals.specs.declared.refusals.Refusal.{Refusal}
-use Rattle.gm_refusals.specs.declared.refusals.Refusal.TheVariants.{NoMirror, NameTaken, MidTaken, Absent, ProviderTaken, CarriesMetadata, TooSmall, NotMember, DidTaken, Full, TooManyMirrors, SomeLost, LastActive, AlreadyInactive, NotInactive, NoneLost, Inactive, NotSynchronizing, LastSyncid, LastGenid, NothingGiven, NotAdoptable, WrongSize, NoMetadata}
+use Rattle.gm_refusals.specs.declared.refusals.Refusal.TheVariants.{NoMirror, NameTaken, MidTaken, Absent, ProviderTaken, CarriesMetadata, TooSmall, NotMember, DidTaken, Full, TooManyMirrors, SomeLost, LastActive, AlreadyInactive, NotInactive, NoneLost, Inactive, NotSynchronizing, LastSyncid, LastGenid, NothingGiven, NotAdoptable, WrongSize, NoMetadata, BeingFilled, BeyondEnd}
 use Rattle.gm_refusals.specs.Refusals.{number_of, own, is_listed}
 
 abbrev has_number : ℕ → Refusal → Bool
@@ -16,7 +16,7 @@ all =
     NoMirror ∷ NameTaken ∷ MidTaken ∷ Absent ∷ ProviderTaken ∷ CarriesMetadata ∷ TooSmall
     ∷ NotMember ∷ DidTaken ∷ Full ∷ TooManyMirrors ∷ SomeLost ∷ LastActive ∷ AlreadyInactive
     ∷ NotInactive ∷ NoneLost ∷ Inactive ∷ NotSynchronizing ∷ LastSyncid ∷ LastGenid
-    ∷ NothingGiven ∷ NotAdoptable ∷ WrongSize ∷ NoMetadata ∷ []
+    ∷ NothingGiven ∷ NotAdoptable ∷ WrongSize ∷ NoMetadata ∷ BeingFilled ∷ BeyondEnd ∷ []
 
 of_its_number : (r : Refusal) → find (has_number (number_of r)) all ≡ Some r
 of_its_number NoMirror = refl
@@ -43,6 +43,8 @@ of_its_number NothingGiven = refl
 of_its_number NotAdoptable = refl
 of_its_number WrongSize = refl
 of_its_number NoMetadata = refl
+of_its_number BeingFilled = refl
+of_its_number BeyondEnd = refl
 
 -- two refusals of one number are one
 one_number : (q r : Refusal) → number_of q ≡ number_of r → q ≡ r

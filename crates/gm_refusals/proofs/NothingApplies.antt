@@ -1,5 +1,5 @@
 -- What follows where no refusal applies, and which refusal is the least.
-use Rattle.std.proofs.Common.{◌≡◌, ◌≢◌, ◌∙◌, inl, inr, ⊎_elim, ℕ, ◌≤◌, ◌<◌, ◌^◌, Bool, true, false, ◌&&◌, ◌==◌, nat_lt, refl, sym, ap, subst, arith, List, [], ◌∷◌, find, Option, Some, None, IsSome, is_none, is_some, ltb-true, ltb-false}
+use Rattle.std.proofs.Common.{◌≡◌, ◌≢◌, ◌∙◌, inl, inr, ⊎_elim, ℕ, ◌+◌, ◌≤◌, ◌<◌, ◌^◌, Bool, true, false, ◌&&◌, ◌==◌, nat_lt, refl, sym, ap, subst, arith, List, [], ◌∷◌, length, find, Option, Some, None, IsSome, is_none, is_some, ltb-true, ltb-false}
 use Rattle.std.specs.Option.{ForSome}
 use Rattle.std.specs.List.{list_all}
 use Rattle.std.proofs.lemmas.Bool.{cases_Bool, and_parts, or_parts, eqb-false}
@@ -7,7 +7,7 @@ use Rattle.gm_lists.specs.Ordered.{Has}
 use Rattle.gm_state.specs.Records.{Records, IsState}
 use Rattle.gm_state.specs.Lookups.{mirror_of}
 use Rattle.gm_commands.specs.declared.command.Command.{Command}
-use Rattle.gm_commands.specs.declared.command.Command.TheVariants.{Label, Insert, Remove, Deactivate, Activate, Forget, Rebuild, Configure, Clear, Destroy, Lost, Advance, Adopt}
+use Rattle.gm_commands.specs.declared.command.Command.TheVariants.{Label, Insert, Remove, Deactivate, Activate, Forget, Rebuild, Configure, Clear, Destroy, Lost, Advance, Adopt, Patch}
 use Rattle.gm_state.specs.declared.records.Mirror.{Mirror}
 use Rattle.gm_state.specs.declared.records.Component.{Component}
 use Rattle.gm_lists.proofs.Order.{same_from}
@@ -16,7 +16,7 @@ use Rattle.gm_refusals.specs.declared.refusals.Refusal.{Refusal}
 use Rattle.gm_refusals.specs.declared.refusals.Refusal.TheVariants.{Absent, WrongSize}
 use Rattle.gm_refusals.specs.Refusals.{number_of, own}
 use Rattle.gm_refusals.specs.Seen.{Seen, is_there_and}
-use Rattle.gm_refusals.specs.Applies.{applies, has_wrong_size, is_on_any}
+use Rattle.gm_refusals.specs.Applies.{applies, has_wrong_size, is_on_any, reaches_beyond}
 use Rattle.gm_refusals.specs.Applies.{IsLeast, IsGood}
 use Rattle.gm_refusals.specs.PartOf.{IsGoodButCount}
 use Rattle.gm_lists.proofs.Finding.{found, found_none, any_one}
@@ -74,6 +74,7 @@ own_rises (Destroy n) = refl
 own_rises (Lost n ps) = refl
 own_rises (Advance n p) = refl
 own_rises (Adopt n ps) = refl
+own_rises (Patch n first sectors) = refl
 
 all_of : (r : Refusal) (qs : List Refusal)
     → list_all (λ q. nat_lt (number_of r) (number_of q)) qs ≡ true → (q : Refusal) → Has qs q
@@ -137,6 +138,24 @@ one_more_loss s n m state e off =
     not_at m.genid 4294967295 (fails_there (mirror_of s n) m
     (λ a. a.genid == 4294967295) e off) in
     let small : m.genid < 2 ^ 32 = (rules_of s n m state e).fits.genid in omega arith
+
+-- a mirror's data are fewer sectors than an image may have
+pub few_data : (s : Records) (n : List ℕ) (m : Mirror) → IsState s → mirror_of s n ≡ Some m
+    → m.data_sectors < 1048576
+few_data s n m state e =
+    let rules = rules_of s n m state e in
+    let k = rules.active in
+    let room : m.data_sectors + 1 ≤ k.0.sectors = rules.sizes k.0 k.1 in
+    let most : k.0.sectors ≤ 1048576 = rules.limits k.0 k.1 in
+    omega arith
+
+-- what is laid over them ends within them
+pub ends_within : (o : Option Mirror) (n : List ℕ) (first : ℕ) (sectors : List (List ℕ))
+    (m : Mirror) → o ≡ Some m → is_there_and o (reaches_beyond (Patch n first sectors)) ≡ false
+    → first + length sectors ≤ m.data_sectors
+ends_within o n first sectors m e off =
+    not_below m.data_sectors (first + length sectors)
+    (fails_there o m (reaches_beyond (Patch n first sectors)) e off)
 
 -- the provider of a good label is there with a right size
 pub label_size : (s : Records) (x : Seen) (c : Command) (new : NewMirror)

@@ -18,7 +18,7 @@ use Rattle.gm_lists.proofs.Lists.{Has-filter, filter-Has, Ascends-filter}
 use Rattle.gm_lists.proofs.Finding.{any_from, some_any, any_agree, filter_agree, not_both}
 use Rattle.gm_lists.proofs.Lists.{map-Has}
 use Rattle.gm_refusals.specs.declared.refusals.Refusal.{Refusal}
-use Rattle.gm_refusals.specs.declared.refusals.Refusal.TheVariants.{NoMirror, NameTaken, MidTaken, Absent, ProviderTaken, CarriesMetadata, TooSmall, NotMember, DidTaken, Full, TooManyMirrors, SomeLost, LastActive, AlreadyInactive, NotInactive, NoneLost, Inactive, NotSynchronizing, LastSyncid, LastGenid, NothingGiven, NotAdoptable, WrongSize, NoMetadata}
+use Rattle.gm_refusals.specs.declared.refusals.Refusal.TheVariants.{NoMirror, NameTaken, MidTaken, Absent, ProviderTaken, CarriesMetadata, TooSmall, NotMember, DidTaken, Full, TooManyMirrors, SomeLost, LastActive, AlreadyInactive, NotInactive, NoneLost, Inactive, NotSynchronizing, LastSyncid, LastGenid, NothingGiven, NotAdoptable, WrongSize, NoMetadata, BeingFilled, BeyondEnd}
 use Rattle.gm_refusals.specs.Seen.{Seen}
 use Rattle.gm_refusals.specs.Applies.{applies, name_of, providers_of, has_mid, takes_mid, is_member_of, members_named, mirror_named, looked_at, is_awaited}
 use Rattle.gm_refusals.specs.PartOf.{is_named, is_asked, with_components, part_of, IsPartOf, IsPartToDecide, applies_to_part}
@@ -228,6 +228,8 @@ module _ (s : Records) (c : Command) (mids : List ℕ) (state : IsState s) where
   same_applies count is x found NotAdoptable = refl
   same_applies count is x found WrongSize = refl
   same_applies count is x found NoMetadata = refl
+  same_applies count is x found BeingFilled = rw same_named_members refl
+  same_applies count is x found BeyondEnd = rw same_named refl
 
   -- ---- the part has the mirrors of these names, and is a state
 

@@ -1,7 +1,7 @@
 -- What is adopted: facts of the providers that are taken, and of what is registered of them.
-use Rattle.std.proofs.Common.{◌≡◌, ◌∙◌, ◌⊎◌, inl, inr, ⊎_elim, ℕ, ◌<◌, Bool, true, not, ◌&&◌, nat_lt, sym, ap, subst, List, [], ◌∷◌, length, map, Option, Some, None, Result, Ok, Err, ltb-true, zero, suc, lit<, refl, get_or, slice_index, ◌+◌, ◌*◌, ◌^◌, arith, drop}
+use Rattle.std.proofs.Common.{◌≡◌, ◌∙◌, ◌⊎◌, inl, inr, ⊎_elim, ℕ, ◌<◌, Bool, true, not, ◌&&◌, nat_lt, sym, ap, subst, List, [], ◌∷◌, length, map, Option, Some, None, Result, Ok, Err, ltb-true, refl, slice_index, ◌+◌, ◌*◌, ◌^◌, arith, drop}
 use Rattle.std.specs.List.{list_all}
-use Rattle.std.proofs.lemmas.Bool.{cases_Bool, and_parts, and_from, lt-ltb}
+use Rattle.std.proofs.lemmas.Bool.{cases_Bool, and_parts}
 use Rattle.gm_metadata.specs.declared.metadata.Metadata.{Metadata}
 use Rattle.gm_taste.specs.declared.tasted.Reason.{Reason}
 use Rattle.gm_taste.specs.declared.tasted.Member.{Member}
@@ -14,8 +14,10 @@ use Rattle.gm_state.specs.declared.records.Component.{Component}
 use Rattle.gm_lists.specs.Ordered.{Has, Ascends}
 use Rattle.gm_state.specs.Records.{provider}
 use Rattle.gm_lists.proofs.Sorting.{all_has}
+use Rattle.gm_commands.specs.Sectors.{is_bytes}
+use Rattle.gm_commands.proofs.JoinedSectors.{bytes_are}
 use Rattle.gm_refusals.specs.Seen.{Seen, is_there_and}
-use Rattle.gm_refusals.specs.Adoptable.{taken, taken_with, all_taken, genid_of, syncid_of, found, is_beside, first_where, source_in, data_of, is_whole, is_like, has_room, has_twice, is_adoptable, adopted_component, adopted, is_bytes, told}
+use Rattle.gm_refusals.specs.Adoptable.{taken, taken_with, all_taken, genid_of, syncid_of, found, is_beside, first_where, source_in, data_of, is_whole, is_like, has_room, has_twice, is_adoptable, adopted_component, adopted, told}
 use Rattle.gm_lists.proofs.PutTogether.{put_all_or}
 use Rattle.gm_lists.proofs.Lists.{Has-map}
 use Rattle.gm_lists.proofs.PutInPlace.{Ascends-put_all}
@@ -26,17 +28,6 @@ use Rattle.gm_taste.specs.declared.tasted.Reason.TheVariants.{OtherName, OtherSi
 use Rattle.std.proofs.lemmas.List.{get_or-drop}
 use Rattle.gm_metadata.specs.Sector.{number_at}
 use Rattle.gm_metadata.proofs.Read.{said_fields}
-
--- a list of bytes passes the test, and what passes it is bytes
-pub are_bytes : (xs : List ℕ) → ((i : ℕ) → get_or xs i 0 < 256) → is_bytes xs ≡ true
-are_bytes [] h = refl
-are_bytes (x ∷ xs) h =
-    and_from (nat_lt x 256) (is_bytes xs) (lt-ltb x 256 (h zero)) (are_bytes xs (λ i. h (suc i)))
-
-pub bytes_are : (xs : List ℕ) → is_bytes xs ≡ true → (i : ℕ) → slice_index xs i < 256
-bytes_are [] e i = lit< tt
-bytes_are (x ∷ xs) e zero = ltb-true x 256 (and_parts (nat_lt x 256) (is_bytes xs) e).0
-bytes_are (x ∷ xs) e (suc i) = bytes_are xs (and_parts (nat_lt x 256) (is_bytes xs) e).1 i
 
 -- a provider that is taken: it is there, its last sector is bytes that decode, and it is taken
 -- under its own name

@@ -17,6 +17,7 @@ use Rattle.gm_state.specs.declared.records.Disk.{Disk}
 use Rattle.gm_state.specs.declared.records.Disk.TheVariants.{InSync, Inactive, Copying}
 use Rattle.gm_state.specs.Records.{provider}
 use Rattle.gm_lists.specs.Ordered.{put_all}
+use Rattle.gm_commands.specs.Sectors.{is_bytes}
 use Rattle.gm_refusals.specs.Seen.{Seen, is_there_and}
 
 -- ---- what the last sectors say
@@ -54,11 +55,7 @@ tells_did_twice x (p ∷ ps) =
 
 -- ---- the mirror that the providers would be, by tasting
 
--- the sector is bytes, as every one is that was read
-abbrev pub is_bytes : List ℕ → Bool
-is_bytes sector = list_all (λ b. nat_lt b 256) sector
-
--- the provider where tasting takes it
+-- the provider where tasting takes it; its last sector is bytes, as every one is that was read
 abbrev pub taken_with : List ℕ → Option ℕ → Option (List ℕ) → Option Taken
 taken_with p None last = None
 taken_with p (Some n) None = None

@@ -4,10 +4,12 @@ use Rattle.std.specs.List.{list_all, list_any}
 use Rattle.gm_metadata.specs.Images.{same_label}
 use Rattle.gm_state.specs.declared.records.Mirror.{Mirror}
 use Rattle.gm_state.specs.declared.records.Component.{Component}
+use Rattle.gm_state.specs.declared.records.Disk.{Disk}
+use Rattle.gm_state.specs.declared.records.Disk.TheVariants as disks
 use Rattle.gm_commands.specs.declared.command.Preference.{Preference}
 use Rattle.gm_commands.specs.declared.command.Settings.{Settings}
 use Rattle.gm_commands.specs.declared.command.Command.{Command}
-use Rattle.gm_commands.specs.declared.command.Command.TheVariants.{Label, Insert, Remove, Deactivate, Activate, Forget, Rebuild, Configure, Clear, Destroy, Lost, Advance, Adopt}
+use Rattle.gm_commands.specs.declared.command.Command.TheVariants.{Label, Insert, Remove, Deactivate, Activate, Forget, Rebuild, Configure, Clear, Destroy, Lost, Advance, Adopt, Patch}
 use Rattle.gm_state.specs.Records.{Records}
 use Rattle.gm_state.specs.Lookups.{mirror_of, component_of, is_active, is_inactive}
 use Rattle.gm_state.specs.declared.states.ComponentState.{ComponentState}
@@ -16,7 +18,7 @@ use Rattle.gm_state.specs.States.{state_by}
 use Rattle.gm_refusals.specs.Seen.{Seen, is_bearing, has_size, is_there_and}
 use Rattle.gm_refusals.specs.Adoptable.{has_twice, tells_mid, tells_did_twice, is_adoptable}
 use Rattle.gm_refusals.specs.declared.refusals.Refusal.{Refusal}
-use Rattle.gm_refusals.specs.declared.refusals.Refusal.TheVariants.{NoMirror, NameTaken, MidTaken, Absent, ProviderTaken, CarriesMetadata, TooSmall, NotMember, DidTaken, Full, TooManyMirrors, SomeLost, LastActive, AlreadyInactive, NotInactive, NoneLost, Inactive, NotSynchronizing, LastSyncid, LastGenid, NothingGiven, NotAdoptable, WrongSize, NoMetadata}
+use Rattle.gm_refusals.specs.declared.refusals.Refusal.TheVariants.{NoMirror, NameTaken, MidTaken, Absent, ProviderTaken, CarriesMetadata, TooSmall, NotMember, DidTaken, Full, TooManyMirrors, SomeLost, LastActive, AlreadyInactive, NotInactive, NoneLost, Inactive, NotSynchronizing, LastSyncid, LastGenid, NothingGiven, NotAdoptable, WrongSize, NoMetadata, BeingFilled, BeyondEnd}
 use Rattle.gm_refusals.specs.Refusals.{number_of, is_listed}
 
 -- the mirror that a command names
@@ -34,6 +36,7 @@ name_of (Destroy n) = Some n
 name_of (Lost n ps) = Some n
 name_of (Advance n p) = Some n
 name_of (Adopt n ps) = Some n
+name_of (Patch n first sectors) = Some n
 
 -- the provider of a preference
 abbrev pub preferred : Option Preference → List (List ℕ)
@@ -55,6 +58,7 @@ providers_of (Destroy n) = []
 providers_of (Lost n ps) = ps
 providers_of (Advance n p) = p ∷ []
 providers_of (Adopt n ps) = ps
+providers_of (Patch n first sectors) = []
 
 -- those whose images it looks at: lost images may be gone or broken
 abbrev pub looked_at : Command → List (List ℕ)
@@ -92,6 +96,11 @@ abbrev pub is_unfit : Seen → Command → Bool
 is_unfit x (Adopt n ps) = not (is_adoptable x n ps)
 is_unfit x _ = false
 
+-- sectors are to be laid beyond the end of the mirror's data
+abbrev pub reaches_beyond : Command → Mirror → Bool
+reaches_beyond (Patch n first sectors) m = nat_lt m.data_sectors (first + length sectors)
+reaches_beyond _ m = false
+
 -- the mirror that the command names, where it is registered
 abbrev pub mirror_named : Records → Command → Option Mirror
 mirror_named s c = option_and_then (λ n. mirror_of s n) (name_of c)
@@ -128,6 +137,11 @@ is_empty s =
 abbrev pub is_synchronizing : ComponentState → Bool
 is_synchronizing states.Synchronizing = true
 is_synchronizing _ = false
+
+-- a component is SYNCHRONIZING or STALE
+abbrev pub is_being_filled : Disk → Bool
+is_being_filled (disks.Copying forced held) = true
+is_being_filled _ = false
 
 -- a configure without any option
 abbrev pub gives_nothing : Command → Bool
@@ -179,6 +193,8 @@ applies s x c NothingGiven = gives_nothing c
 applies s x c NotAdoptable = is_unfit x c
 applies s x c WrongSize = list_any (λ p. is_there_and (x.size p) has_wrong_size) (looked_at c)
 applies s x c NoMetadata = list_any (λ p. not (is_bearing x p)) (looked_at c)
+applies s x c BeingFilled = list_any (λ k. is_being_filled k.disk) (members_named s c)
+applies s x c BeyondEnd = is_there_and (mirror_named s c) (reaches_beyond c)
 
 -- r is the refusal with the least number that applies
 pub record IsLeast (s : Records) (x : Seen) (c : Command) (r : Refusal) : Type 0 where

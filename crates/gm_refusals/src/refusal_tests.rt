@@ -10,7 +10,7 @@ ghost use Rattle.gm_refusals.specs.Facts.{size_in, last_in, last_carries};
 ghost use Rattle.gm_refusals.specs.Refusals.{own};
 ghost use Rattle.gm_refusals.specs.Seen.{has_size, is_there_and, seen_in};
 ghost use Rattle.gm_refusals.specs.Adoptable.{has_twice};
-ghost use Rattle.gm_refusals.specs.Applies.{name_of, providers_of, preferred, looked_at, has_mid, takes_mid, has_did, finds_did_twice, names_too_many, is_unfit, is_member_of, is_on_any, is_awaited, is_synchronizing, is_empty, gives_nothing, has_wrong_size, mirror_named};
+ghost use Rattle.gm_refusals.specs.Applies.{name_of, providers_of, preferred, looked_at, has_mid, takes_mid, reaches_beyond, is_being_filled, has_did, finds_did_twice, names_too_many, is_unfit, is_member_of, is_on_any, is_awaited, is_synchronizing, is_empty, gives_nothing, has_wrong_size, mirror_named};
 ghost use Rattle.gm_refusals.specs.PartOf.{applies_to_part};
 
 use crate::facts::Facts;
@@ -41,7 +41,8 @@ pub(crate) fn name_of(command: &Command) -> Option<Label>
         | Command::Destroy { name }
         | Command::Lost { name, .. }
         | Command::Advance { name, .. }
-        | Command::Adopt { name, .. } => Some(*name),
+        | Command::Adopt { name, .. }
+        | Command::Patch { name, .. } => Some(*name),
         Command::Clear { .. } => None,
     }
 }
@@ -69,7 +70,7 @@ pub fn providers_of(command: &Command) -> &[Label]
         | Command::Rebuild { provider, .. }
         | Command::Clear { provider }
         | Command::Advance { provider, .. } => slice::from_ref(provider),
-        Command::Forget { .. } | Command::Destroy { .. } => &[],
+        Command::Forget { .. } | Command::Destroy { .. } | Command::Patch { .. } => &[],
         Command::Configure { settings, .. } => preferred(&settings.preference),
         Command::Lost { providers, .. } | Command::Adopt { providers, .. } => providers.as_slice(),
     }
@@ -358,6 +359,36 @@ fn finds_did_twice(facts: &Facts, command: &Command) -> bool
     }
 }
 
+// Whether the component is being filled, or is to be.
+fn is_being_filled(component: &Component) -> bool
+    ensures { result ≡ is_being_filled component.now.disk }
+{
+    matches!(component.disk, Disk::Copying { .. })
+}
+
+// Whether a component of the mirror is.
+fn any_being_filled(components: &[Component], name: Option<Label>) -> bool
+    ensures { result ≡ list_any (λ k. is_being_filled k.disk)
+        (filter (λ k. is_member_of name k) components.now) }
+{
+    components
+        .iter()
+        .filter(|k| is_member_of(name, k))
+        .any(|k| is_being_filled(k))
+}
+
+// Whether sectors are to be laid beyond the end of the mirror's data.
+fn reaches_beyond(command: &Command, mirror: &Mirror) -> bool
+    ensures { result ≡ reaches_beyond command.now mirror.now }
+{
+    match command {
+        Command::Patch { first, data, .. } => {
+            u64::from(*first) + data.as_slice().len() as u64 > u64::from(mirror.data_sectors)
+        }
+        _ => false,
+    }
+}
+
 fn is_full(mirror: &Option<Mirror>) -> bool
     ensures { result ≡ is_there_and mirror.now (λ m. m.all == 16) }
 {
@@ -449,6 +480,11 @@ fn applies(state: &State, count: u64, facts: &Facts, command: &Command, refusal:
         Refusal::NotAdoptable => is_unfit(facts, command),
         Refusal::WrongSize => any_of_wrong_size(seen, facts),
         Refusal::NoMetadata => any_bare(seen, facts),
+        Refusal::BeingFilled => any_being_filled(components, name),
+        Refusal::BeyondEnd => match mirror {
+            None => false,
+            Some(m) => reaches_beyond(command, &m),
+        },
     }
 }
 

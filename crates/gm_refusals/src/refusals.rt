@@ -58,6 +58,10 @@ pub enum Refusal {
     WrongSize,
     /// The provider carries no metadata.
     NoMetadata,
+    /// A component of the mirror is SYNCHRONIZING or STALE.
+    BeingFilled,
+    /// The sectors that are to be laid over the mirror's data go beyond their end.
+    BeyondEnd,
 }
 
 impl Refusal {
@@ -90,6 +94,8 @@ impl Refusal {
             Refusal::NotAdoptable => 26,
             Refusal::WrongSize => 28,
             Refusal::NoMetadata => 29,
+            Refusal::BeingFilled => 30,
+            Refusal::BeyondEnd => 31,
         }
     }
 }
@@ -213,6 +219,13 @@ pub(crate) fn own(command: &Command) -> &'static [Refusal]
             Refusal::TooManyMirrors,
             Refusal::NotAdoptable,
             Refusal::WrongSize,
+        ],
+        Command::Patch { .. } => &[
+            Refusal::NoMirror,
+            Refusal::Absent,
+            Refusal::LastSyncid,
+            Refusal::BeingFilled,
+            Refusal::BeyondEnd,
         ],
     }
 }

@@ -4,7 +4,7 @@ use Rattle.std.specs.List.{AllByRecursion}
 use Rattle.sqlite.specs.Order.{Row, column}
 use Rattle.sqlite.specs.Collation.TheVariants.{Binary}
 use Rattle.sqlite_value.specs.Keys.{first_key}
-use Rattle.sqlite.specs.declared.types.Value.TheVariants.{Null, Int, Text}
+use Rattle.sqlite.specs.declared.types.Value.TheVariants.{Null, Int, Text, Blob}
 use Rattle.sqlite_schema.specs.declared.schema.Keys.TheVariants.{Enforced}
 use Rattle.sqlite_schema.specs.Rules.{equal, parent_key}
 use Rattle.sqlite_rules.specs.Keys.{conflicts}
@@ -27,11 +27,11 @@ use Rattle.sqlite_rows.proofs.Bags.{keeps_none, keeps_put, keeps_without}
 use Rattle.sqlite_rows.proofs.Statements.{Makes}
 use Rattle.gm_lists.specs.Ordered.{without}
 use Rattle.gm_state.specs.Rows.{Tables, MirrorRow, ComponentRow, IntentRow, CommandRow}
-use Rattle.gm_rows.specs.Schema.{mirrors, components, intents, commands, mirrors_by_name, components_by_prov, registry_schema}
-use Rattle.gm_rows.specs.Rows.{mirror_values, component_values, intent_values, command_values}
+use Rattle.gm_rows.specs.Schema.{mirrors, components, intents, commands, patches, mirrors_by_name, components_by_prov, registry_schema}
+use Rattle.gm_rows.specs.Rows.{mirror_values, component_values, intent_values, command_values, patch_values}
 use Rattle.gm_rows.specs.Tables.{HasRows}
-use Rattle.gm_registry.specs.Changes.{mirror_key, component_key, without_mirror, with_mirror, without_component, with_component, with_intents, with_command, settled}
-use Rattle.gm_registry.proofs.TextMeanings.{nine_terms, updated, upsert, by_key, drop, intent_terms, command_terms, settle}
+use Rattle.gm_registry.specs.Changes.{mirror_key, component_key, without_mirror, with_mirror, without_component, with_component, with_intents, with_command, with_patch, without_intents, without_bytes}
+use Rattle.gm_registry.proofs.TextMeanings.{nine_terms, updated, upsert, by_key, drop, intent_terms, command_terms, patch_terms, clear}
 
 -- every other table is as it was
 abbrev AreOther : ℕ → Trees → Trees → Type 0
@@ -54,6 +54,8 @@ mirrors_changed db after t all h other k = record {
       (other.1.1.1.0 (λ e. let f : 7 ≡ 1 = e in cc)) h.intents;
   commands = stays columns command_values t.commands (db 8) (after 8)
       (other.1.1.1.1.0 (λ e. let f : 8 ≡ 1 = e in cc)) h.commands;
+  patches = stays whole patch_values t.patches (db 11) (after 11)
+      (other.1.1.1.1.1.0 (λ e. let f : 11 ≡ 1 = e in cc)) h.patches;
 }
 
 components_changed : (db after : Trees) (t : Tables) (all : List ComponentRow) → HasRows db t
@@ -68,6 +70,8 @@ components_changed db after t all h other k = record {
       (other.1.1.1.0 (λ e. let f : 7 ≡ 4 = e in cc)) h.intents;
   commands = stays columns command_values t.commands (db 8) (after 8)
       (other.1.1.1.1.0 (λ e. let f : 8 ≡ 4 = e in cc)) h.commands;
+  patches = stays whole patch_values t.patches (db 11) (after 11)
+      (other.1.1.1.1.1.0 (λ e. let f : 11 ≡ 4 = e in cc)) h.patches;
 }
 
 intents_changed : (db after : Trees) (t : Tables) (all : List IntentRow) → HasRows db t
@@ -82,6 +86,8 @@ intents_changed db after t all h other k = record {
   intents = k;
   commands = stays columns command_values t.commands (db 8) (after 8)
       (other.1.1.1.1.0 (λ e. let f : 8 ≡ 7 = e in cc)) h.commands;
+  patches = stays whole patch_values t.patches (db 11) (after 11)
+      (other.1.1.1.1.1.0 (λ e. let f : 11 ≡ 7 = e in cc)) h.patches;
 }
 
 commands_changed : (db after : Trees) (t : Tables) (all : List CommandRow) → HasRows db t
@@ -96,6 +102,24 @@ commands_changed db after t all h other k = record {
   intents = stays whole intent_values t.intents (db 7) (after 7)
       (other.1.1.1.0 (λ e. let f : 7 ≡ 8 = e in cc)) h.intents;
   commands = k;
+  patches = stays whole patch_values t.patches (db 11) (after 11)
+      (other.1.1.1.1.1.0 (λ e. let f : 11 ≡ 8 = e in cc)) h.patches;
+}
+
+patches_changed : (db after : Trees) (t : Tables) (all : List (List ℕ)) → HasRows db t
+    → AreOther 11 db after → Keeps whole patch_values all (after 11)
+    → HasRows after (record t { patches = all })
+patches_changed db after t all h other k = record {
+  about = other.0 (λ e. let f : 0 ≡ 11 = e in cc) ∙ h.about;
+  mirrors = stays columns mirror_values t.mirrors (db 1) (after 1)
+      (other.1.0 (λ e. let f : 1 ≡ 11 = e in cc)) h.mirrors;
+  components = stays columns component_values t.components (db 4) (after 4)
+      (other.1.1.0 (λ e. let f : 4 ≡ 11 = e in cc)) h.components;
+  intents = stays whole intent_values t.intents (db 7) (after 7)
+      (other.1.1.1.0 (λ e. let f : 7 ≡ 11 = e in cc)) h.intents;
+  commands = stays columns command_values t.commands (db 8) (after 8)
+      (other.1.1.1.1.0 (λ e. let f : 8 ≡ 11 = e in cc)) h.commands;
+  patches = k;
 }
 
 -- no foreign key acts, since each has NO ACTION
@@ -293,13 +317,44 @@ puts_command c s t after text tally has holds h =
     )
 
 -- all intents are deleted
-pub settles_all : Makes registry_schema HasRows settle [] settled
-settles_all s t after text tally has holds h =
+pub drops_intents : Makes registry_schema HasRows (clear 3 7) [] without_intents
+drops_intents s t after text tally has holds h =
     let made = clears registry_schema 3 intents s.step_limit (mode_of s) []
     (λ olds. idle 7 olds []) s.now.trees after tally holds.intents.keyed
-    (over_schema s [] text settle tally after has h) in (
+    (over_schema s [] text (clear 3 7) tally after has h) in (
       made.schema_is,
       intents_changed s.now.trees after.trees t [] holds made.tables
           (subst (Keeps whole intent_values []) (sym (made.rows ∙ none_left (s.now.trees 7)))
           (keeps_none whole intent_values)),
+    )
+
+pub patch_typed : (bytes : List ℕ) → cast_row patches (patch_values bytes) ≡ patch_values bytes
+patch_typed bytes = rw (cast_int (pos 1), cast_null)
+
+-- the record of bytes
+pub puts_patch : (bytes : List ℕ)
+    → Makes registry_schema HasRows (Insert 5 (Values patch_terms 3)) (Blob bytes ∷ [])
+    (with_patch bytes)
+puts_patch bytes s t after text tally has holds h =
+    let made = gains registry_schema 5 patches refl patch_terms 3 (Blob bytes ∷ [])
+    (patch_values bytes) refl (patch_typed bytes) s.step_limit
+    (mode_of s) s.now.trees after text tally
+    (over_schema s (Blob bytes ∷ []) text (Insert 5 (Values patch_terms 3)) tally after has h) in (
+      made.schema_is,
+      patches_changed s.now.trees after.trees t (bytes ∷ t.patches) holds made.tables
+          (subst (Keeps whole patch_values (bytes ∷ t.patches)) (sym made.rows)
+          (keeps_put whole patch_values t.patches (s.now.trees 11) bytes made.new holds.patches
+          (made.given refl) made.fresh made.keyed)),
+    )
+
+-- all bytes are deleted
+pub drops_bytes : Makes registry_schema HasRows (clear 5 11) [] without_bytes
+drops_bytes s t after text tally has holds h =
+    let made = clears registry_schema 5 patches s.step_limit (mode_of s) []
+    (λ olds. idle 11 olds []) s.now.trees after tally holds.patches.keyed
+    (over_schema s [] text (clear 5 11) tally after has h) in (
+      made.schema_is,
+      patches_changed s.now.trees after.trees t [] holds made.tables
+          (subst (Keeps whole patch_values []) (sym (made.rows ∙ none_left (s.now.trees 11)))
+          (keeps_none whole patch_values)),
     )

@@ -1,12 +1,12 @@
 -- The numbers of the commands through a change.
-use Rattle.std.proofs.Common.{◌≡◌, ℕ, suc, ◌+◌, true, List, [], ◌∷◌, map, length, refl, sym, ap, subst, ◌∙◌, arith, IsPermutation}
+use Rattle.std.proofs.Common.{◌≡◌, ℕ, suc, ◌+◌, true, List, ◌∷◌, map, length, refl, sym, ap, subst, ◌∙◌, arith, IsPermutation}
 use Rattle.std.proofs.lemmas.List.Sorted.{IsPermutation-cons}
 use Rattle.sqlite.specs.Effect.{Database}
 use Rattle.sqlite.specs.State.{State}
 use Rattle.sqlite.specs.Held.{Held, state}
 use Rattle.sqlite_trees.specs.declared.store.Store as store
 use Rattle.sqlite_rows.specs.Calls.{IsInside as IsInsideBy}
-use Rattle.sqlite_rows.proofs.Statements.{Makes, inside_as, begun}
+use Rattle.sqlite_rows.proofs.Statements.{inside_as, begun}
 use Rattle.gm_state.specs.Rows.{Tables, CommandRow}
 use Rattle.gm_changes.specs.Decides.{Changed}
 use Rattle.gm_rows.specs.Schema.{registry_schema}
@@ -15,8 +15,6 @@ use Rattle.gm_registry.specs.declared.intents.Pending.{Pending}
 use Rattle.gm_registry.specs.declared.intents.Pending.TheVariants.{Stays, Goes}
 use Rattle.gm_registry.specs.Changes.{left_of, with_records, with_change, settled, command_row}
 use Rattle.gm_registry.specs.Replies.{count_of}
-use Rattle.gm_registry.proofs.TextMeanings.{settle}
-use Rattle.gm_registry.proofs.ChangedTables.{settles_all}
 use Rattle.gm_registry.proofs.Written.{with_records_is}
 
 -- one command more, under the next number
@@ -71,9 +69,3 @@ pub counted_inside : (first : Database) (s : State) (t : Tables) → AreNumbered
 counted_inside first s t numbered =
     inside_as registry_schema HasRows HasCounted t t first s
     (λ rows. record { rows = rows; numbered = numbered })
-
--- deleting the intents leaves the numbers
-pub settles_counted : Makes registry_schema HasCounted settle [] settled
-settles_counted s t after text tally has counted h =
-    let made = settles_all s t after text tally has counted.rows h in
-    (made.0, record { rows = made.1; numbered = counted.numbered })

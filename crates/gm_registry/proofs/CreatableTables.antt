@@ -10,9 +10,9 @@ use Rattle.sqlite_tied.specs.Compute.{everything}
 use Rattle.sqlite_trees.specs.Sound.{begins, fits_kind, is_free_name, same_name as same_word}
 use Rattle.sqlite_value.specs.Order.{value_cmp}
 use Rattle.sqlite_rows.proofs.StoppingCreates.{IsCreatable}
-use Rattle.gm_rows.specs.Texts.{about_text, mirrors_text, components_text, intents_text, commands_text}
-use Rattle.gm_rows.specs.Schema.{about, mirrors, components, intents, commands, no_schema, with_about, with_mirrors, with_components, with_intents, registry_schema}
-use Rattle.gm_registry.proofs.TextMeanings.{Defines, about_is, mirrors_is, components_is, intents_is, commands_is}
+use Rattle.gm_rows.specs.Texts.{about_text, mirrors_text, components_text, intents_text, commands_text, patches_text}
+use Rattle.gm_rows.specs.Schema.{about, mirrors, components, intents, commands, patches, no_schema, with_about, with_mirrors, with_components, with_intents, first_schema, registry_schema}
+use Rattle.gm_registry.proofs.TextMeanings.{Defines, about_is, mirrors_is, components_is, intents_is, commands_is, patches_is}
 
 about_creatable : IsCreatable no_schema about_text (record about { tree = 0 })
 unfolding encode_utf8 same_name same_word fits_kind is_free_name begins value_cmp Ieee.lt
@@ -94,6 +94,22 @@ commands_creatable = record {
   short = omega arith;
 }
 
+patches_creatable : IsCreatable first_schema patches_text (record patches { tree = 0 })
+unfolding encode_utf8 same_name same_word fits_kind is_free_name begins value_cmp Ieee.lt
+    Ieee.is_nan everything
+patches_creatable = record {
+  utf8 = (patches_text, (refl, refl));
+  named = (patches.name, (refl, refl));
+  unreserved = refl;
+  free = refl;
+  indexes_free = refl;
+  low = omega arith;
+  no_reals = refl;
+  formed = refl;
+  fit = refl;
+  short = omega arith;
+}
+
 -- the text makes the table, and nothing refuses it
 pub record Makes (before after : Schema) (text : List ℕ) (table : Table) : Type 0 where
   pub defines : Defines before after text table
@@ -112,5 +128,8 @@ makes_components = record { defines = components_is; uncounted = refl; can = com
 pub makes_intents : Makes with_components with_intents intents_text intents
 makes_intents = record { defines = intents_is; uncounted = refl; can = intents_creatable }
 
-pub makes_commands : Makes with_intents registry_schema commands_text commands
+pub makes_commands : Makes with_intents first_schema commands_text commands
 makes_commands = record { defines = commands_is; uncounted = refl; can = commands_creatable }
+
+pub makes_patches : Makes first_schema registry_schema patches_text patches
+makes_patches = record { defines = patches_is; uncounted = refl; can = patches_creatable }

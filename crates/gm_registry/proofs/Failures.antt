@@ -20,10 +20,14 @@ use Rattle.gm_rows.specs.Schema.{registry_schema}
 use Rattle.gm_rows.specs.Statements.{find_command_text, last_command_text}
 use Rattle.gm_rows.specs.declared.fault.StoreFault.TheVariants.{Memory, Store}
 use Rattle.gm_rows.specs.declared.fetched.Table.{Table}
-use Rattle.gm_rows.specs.declared.fetched.Table.TheVariants.{About, Mirrors, Components, Intents, Commands}
-use Rattle.gm_registry.specs.Reads.{IsOurs, HasRead}
-use Rattle.gm_registry.proofs.WholeQueries.{query_of, asked}
-use Rattle.gm_registry.proofs.ReadsInTurn.{ours_still}
+use Rattle.gm_rows.specs.declared.fetched.Table.TheVariants.{About, Mirrors, Components, Intents, Commands, Patches}
+use Rattle.sqlite.specs.Schema.{Schema}
+use Rattle.sqlite_rows.specs.Reads.{HasReadOver}
+use Rattle.sqlite_rows.proofs.Reading.{known_still}
+use Rattle.gm_registry.specs.Opening.{schema_of}
+use Rattle.gm_registry.specs.declared.edition.Edition.{Edition}
+use Rattle.gm_registry.specs.declared.edition.Edition.TheVariants.{First, Second}
+use Rattle.gm_registry.proofs.WholeQueries.{HasTable, query_of, asked}
 use Rattle.gm_registry.proofs.TextMeanings.{find_query, find_is, last_query, last_is}
 
 find_whole : is_all_of find_command_text 1 (understood registry_schema find_command_text) ≡ true
@@ -34,14 +38,21 @@ last_whole : is_all_of last_command_text 0 (understood registry_schema last_comm
 unfolding understood everything
 last_whole = refl
 
-tables_whole : (t : Table) → is_all_of (query_text t) 0 (understood registry_schema (query_text t))
+about_whole : (edition : Edition)
+    → is_all_of (query_text About) 0 (understood (schema_of edition) (query_text About)) ≡ true
+unfolding understood everything
+about_whole First = refl
+about_whole Second = refl
+
+ours_whole : (t : Table) → is_all_of (query_text t) 0 (understood registry_schema (query_text t))
     ≡ true
 unfolding understood everything
-tables_whole About = refl
-tables_whole Mirrors = refl
-tables_whole Components = refl
-tables_whole Intents = refl
-tables_whole Commands = refl
+ours_whole About = refl
+ours_whole Mirrors = refl
+ours_whole Components = refl
+ours_whole Intents = refl
+ours_whole Commands = refl
+ours_whole Patches = refl
 
 find_typed : (key : List ℕ) → accepts_program registry_schema [] find_query (Text key ∷ []) ≡ true
 unfolding everything
@@ -51,13 +62,43 @@ last_typed : accepts_program registry_schema [] last_query [] ≡ true
 unfolding everything
 last_typed = refl
 
-tables_typed : (t : Table) → accepts_program registry_schema [] (query_of t) [] ≡ true
+about_typed : (edition : Edition)
+    → accepts_program (schema_of edition) [] (query_of About) [] ≡ true
 unfolding everything
-tables_typed About = refl
-tables_typed Mirrors = refl
-tables_typed Components = refl
-tables_typed Intents = refl
-tables_typed Commands = refl
+about_typed First = refl
+about_typed Second = refl
+
+ours_typed : (t : Table) → accepts_program registry_schema [] (query_of t) [] ≡ true
+unfolding everything
+ours_typed About = refl
+ours_typed Mirrors = refl
+ours_typed Components = refl
+ours_typed Intents = refl
+ours_typed Commands = refl
+ours_typed Patches = refl
+
+-- over a schema that has its table a query is whole, and well typed
+module _ (schema : Schema) where
+  abbrev IsWhole : Table → Schema → Type 0
+  IsWhole t s = is_all_of (query_text t) 0 (understood s (query_text t)) ≡ true
+
+  abbrev IsTyped : Table → Schema → Type 0
+  IsTyped t s = accepts_program s [] (query_of t) [] ≡ true
+
+  ours : (t : Table) → schema ≡ registry_schema → IsWhole t schema × IsTyped t schema
+  ours t is =
+      (subst (IsWhole t) (sym is) (ours_whole t), subst (IsTyped t) (sym is) (ours_typed t))
+
+  tables_fit : (t : Table) → HasTable t schema → IsWhole t schema × IsTyped t schema
+  tables_fit About has = (
+    subst (IsWhole About) (sym has.1) (about_whole has.0),
+    subst (IsTyped About) (sym has.1) (about_typed has.0),
+  )
+  tables_fit Mirrors has = ours Mirrors has
+  tables_fit Components has = ours Components has
+  tables_fit Intents has = ours Intents has
+  tables_fit Commands has = ours Commands has
+  tables_fit Patches has = ours Patches has
 
 pub never : (rows : List Row) → Any (λ _. ⊥) rows → ⊥
 never rows h = h.4
@@ -97,13 +138,15 @@ module _ (old new : State) (e : Error) (has : old.now.schema ≡ registry_schema
       last_is.command_is last_is.plain last_is.of_tables last_whole last_typed last_safe is_open
       fails)
 
-  pub table_failed : (t : Table) → FailsToQuery (query_text t) [] old new e → fault_of e ≡ Store
-      → MoreFaults old.faults new.faults ⊎ IsSome old.step_limit
-  table_failed t fails =
-      let asks = (asked t).1 in
-      told old new e (read_fault old new (query_text t) [] e registry_schema
-      (query_of t) _ has asks.command_is asks.plain asks.of_tables (tables_whole t)
-      (tables_typed t) (tables_safe t) is_open fails)
+pub table_failed : (t : Table) (old new : State) (e : Error) → HasTable t old.now.schema
+    → IsTrue old.is_open → FailsToQuery (query_text t) [] old new e → fault_of e ≡ Store
+    → MoreFaults old.faults new.faults ⊎ IsSome old.step_limit
+table_failed t old new e has is_open fails =
+    let asks = (asked old.now.schema t has).1 in
+    let fit = tables_fit old.now.schema t has in
+    told old new e (read_fault old new (query_text t) [] e old.now.schema
+    (query_of t) _ refl asks.command_is asks.plain asks.of_tables fit.0 fit.1 (tables_safe t)
+    is_open fails)
 
 later : (x y z : ℕ) → x ≤ y → MoreFaults y z → MoreFaults x z
 later x y z le more = omega (arith, le, more)
@@ -117,12 +160,13 @@ failed_since a b c Commits left (inl more) =
 failed_since a b c Commits left (inr limit) = inr (subst IsSome left.limit limit)
 
 -- so is one after a read
-pub failed_later : (a b c : State) → HasRead a b → HasCleanDisk b → IsOurs a → IsTrue a.is_open
-    → (IsOurs b → IsTrue b.is_open → MoreFaults b.faults c.faults ⊎ IsSome b.step_limit)
+pub failed_later : (Known : Schema → Type 0) (a b c : State) → HasReadOver Known a b
+    → HasCleanDisk b → Known a.now.schema → IsTrue a.is_open
+    → (Known b.now.schema → IsTrue b.is_open → MoreFaults b.faults c.faults ⊎ IsSome b.step_limit)
     → MoreFaults a.faults c.faults ⊎ IsSome a.step_limit
-failed_later a b c read clean ours is_open failed =
+failed_later Known a b c read clean known is_open failed =
     failed_since a b c _ read.left
-    (failed (ours_still a b read clean ours) (read.unchanged clean ours).0.is_open)
+    (failed (known_still Known a b read clean known) (read.unchanged clean known).0.is_open)
 
 -- a failure before a call is one at its end
 pub failed_until : (a b c : State) (Commits : Trees → Type 0) → Survives b c Commits

@@ -42,9 +42,8 @@ use Rattle.gm_rows.specs.Tables.{HasRows}
 use Rattle.gm_registry.specs.Fitting.{TakesCommand}
 use Rattle.gm_registry.specs.Replies.{is_under}
 use Rattle.gm_registry.proofs.ChangedTables.{command_typed}
-use Rattle.gm_registry.proofs.FittingTables.{apart, record_of, same_number, only, second_place}
+use Rattle.gm_registry.proofs.FittingTables.{apart, record_of, same_number, only, second_place, refers}
 use Rattle.gm_registry.proofs.InsideFails.{StopsOnly}
-use Rattle.gm_registry.proofs.SettlingFails.{refers}
 use Rattle.gm_registry.proofs.TextMeanings.{command_terms}
 
 module _ (c : CommandRow) (db : Trees) (t : Tables) (holds : HasRows db t)

@@ -12,7 +12,7 @@ use Rattle.sqlite.specs.declared.types.Value.TheVariants.{Text}
 use Rattle.sqlite_value.specs.Keys.{joined}
 use Rattle.sqlite_schema.specs.Names.{same_name}
 use Rattle.sqlite_schema.specs.Rules.{references_fit, equal}
-use Rattle.sqlite_schema.specs.declared.schema.Constraint.TheVariants.{Unique, ForeignKey}
+use Rattle.sqlite_schema.specs.declared.schema.Constraint.TheVariants.{Unique}
 use Rattle.sqlite_sql.specs.Program.{ProgramOverflows}
 use Rattle.sqlite_tied.specs.Compute.{everything}
 use Rattle.sqlite_typing.specs.Types.{accepts_program}
@@ -30,8 +30,7 @@ use Rattle.gm_registry.proofs.ChangedTables.{idle}
 use Rattle.gm_registry.proofs.Failures.{never}
 use Rattle.gm_registry.proofs.FittingTables.{apart, parent_of, refers_by}
 use Rattle.gm_registry.proofs.InsideFails.{StopsOnly}
-use Rattle.gm_registry.proofs.TextMeanings.{by_key, drop, settle}
-use Rattle.gm_registry.proofs.SettlingFails.{settle_stops}
+use Rattle.gm_registry.proofs.TextMeanings.{by_key, drop}
 
 pub drop_mirror_whole : is_all_of drop_mirror_text 1 (understood registry_schema drop_mirror_text)
     ≡ true
@@ -107,7 +106,3 @@ drop_mirror_stops name db t limit text stop holds sound none =
     cc)) in
     let stays = has_kept (λ r. not (has_key name r)) (db 1) it.3 it.4 (ap not other) in
     (it.3, subst (λ l. Stands l it.3) (sym lost.rows) stays, it.5))) stop
-
-pub settle_stops_only : StopsOnly settle [] (λ _ _. ⊤)
-settle_stops_only db t limit text stop holds sound fits =
-    settle_stops limit text db stop (sound.obeys.rules Unique) (sound.obeys.rules ForeignKey)

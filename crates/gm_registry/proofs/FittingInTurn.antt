@@ -1,5 +1,5 @@
 -- From what a change needs of the tables to what each of its steps needs.
-use Rattle.std.proofs.Common.{◌≡◌, ◌≢◌, ℕ, zero, suc, ◌+◌, ◌<◌, ◌≤◌, List, [], ◌∷◌, filter, length, take, get_or, Option, Some, None, IfSome, sym, ap, subst, arith}
+use Rattle.std.proofs.Common.{◌≡◌, ◌≢◌, ◌∙◌, inl, inr, ⊎_elim, ℕ, zero, suc, ◌+◌, ◌<◌, ◌≤◌, List, [], ◌∷◌, filter, length, take, get_or, Option, Some, None, IfSome, sym, ap, subst, arith}
 use Rattle.std.specs.List.{AllByRecursion}
 use Rattle.std.proofs.lemmas.List.{length-take-le}
 use Rattle.sqlite.specs.Tree.{Trees}
@@ -11,8 +11,8 @@ use Rattle.gm_state.specs.Rows.{Tables, IntentRow, CommandRow, mirror_row, compo
 use Rattle.gm_changes.specs.Decides.{Changed}
 use Rattle.gm_rows.specs.Tables.{AreNumbered}
 use Rattle.gm_registry.specs.declared.intents.Pending.{Pending}
-use Rattle.gm_registry.specs.Changes.{left_of, with_component, with_components, with_intents, with_pending, with_records}
-use Rattle.gm_registry.specs.Fitting.{HasFreeNumber, HasRoom, IsPlaced, IsUncounted, TakesCommand, TakesIntents, TakesMirror}
+use Rattle.gm_registry.specs.Changes.{left_of, with_component, with_bytes, with_components, with_intents, with_pending, with_records}
+use Rattle.gm_registry.specs.Fitting.{HasFreeNumber, HasRoom, IsPlaced, IsUncounted, TakesBytes, TakesCommand, TakesIntents, TakesMirror}
 use Rattle.gm_registry.specs.FittingChanges.{ArePlacedInTurn, FitsRecords, FitsTables}
 use Rattle.gm_registry.specs.Replies.{count_of, is_under}
 use Rattle.gm_registry.proofs.CountedThrough.{left_commands, records_keep}
@@ -77,11 +77,23 @@ left_uncounted n p t free =
     subst (λ (l : List CommandRow). AllByRecursion (λ (c : CommandRow). c.seq ≢ n) l)
     (sym (left_commands p t)) free
 
--- a command is taken behind the records and the intents
-pub takes_last : (ch : Changed) (ts : List Intent) (key words : List ℕ) (n : ℕ) (db : Trees)
-    (t : Tables) → FitsTables (with_pending ch ts) key words t → IsUncounted n t → HasRoom 1 db
-    → TakesCommand key words n db (with_intents (intent_rows 1 ts) (with_records ch t))
-takes_last ch ts key words n db t fits free room =
+-- and the bytes
+pub takes_bytes : (ch : Changed) (more : List IntentRow) (bytes : List (List ℕ)) (t : Tables)
+    → TakesBytes bytes t → TakesBytes bytes (with_intents more (with_records ch t))
+takes_bytes ch more bytes t takes = record {
+  free = ⊎_elim (λ (none : bytes ≡ []). inl none)
+      (λ (free : t.patches ≡ []). inr (ap (λ (a : Tables). a.patches) (with_records_is ch t)
+      ∙ free)) takes.free;
+  short = takes.short;
+}
+
+-- a command is taken behind the records, the intents and the bytes
+pub takes_last : (ch : Changed) (ts : List Intent) (bytes : List (List ℕ)) (key words : List ℕ)
+    (n : ℕ) (db : Trees) (t : Tables) → FitsTables (with_pending ch ts bytes) key words t
+    → IsUncounted n t → HasRoom 1 db
+    → TakesCommand key words n db
+    (with_bytes bytes (with_intents (intent_rows 1 ts) (with_records ch t)))
+takes_last ch ts bytes key words n db t fits free room =
     let same = sym (records_keep ch t) in
     record {
       key_free = subst (λ (l : List CommandRow). filter (is_under key) l ≡ []) same fits.key_free;
@@ -91,7 +103,7 @@ takes_last ch ts key words n db t fits free room =
       room = room.commands;
     }
 
--- the records fit whatever the intents are
-pub records_fit : (ch : Changed) (ts : List Intent) (t : Tables)
-    → FitsRecords (with_pending ch ts) t → FitsRecords ch t
-records_fit ch ts t fits = record { gone = fits.gone; put = fits.put; placed = fits.placed }
+-- the records fit whatever the intents and the bytes are
+pub records_fit : (ch : Changed) (ts : List Intent) (bytes : List (List ℕ)) (t : Tables)
+    → FitsRecords (with_pending ch ts bytes) t → FitsRecords ch t
+records_fit ch ts bytes t fits = record { gone = fits.gone; put = fits.put; placed = fits.placed }

@@ -29,7 +29,7 @@ use Rattle.sqlite_rows.proofs.Stopping.{IsAllowed, insert_stops}
 use Rattle.gm_metadata.specs.Labels.{is_label}
 use Rattle.gm_metadata.proofs.Labels.{label_parts}
 use Rattle.gm_state.specs.declared.intents.Intent.{Intent}
-use Rattle.gm_state.specs.declared.intents.Intent.TheVariants.{Meta, Clear, Copy}
+use Rattle.gm_state.specs.declared.intents.Intent.TheVariants.{Meta, Clear, Copy, Dirty, Patch}
 use Rattle.gm_state.specs.Rows.{Tables, IntentRow, intent_row, intent_rows}
 use Rattle.gm_rows.specs.Rows.{intent_values}
 use Rattle.gm_rows.specs.Schema.{intents, registry_schema}
@@ -38,9 +38,8 @@ use Rattle.gm_rows.specs.Tables.{HasRows}
 use Rattle.gm_registry.specs.Changes.{with_intents}
 use Rattle.gm_registry.specs.Fitting.{IsUnnumbered, AreShort, TakesIntents}
 use Rattle.gm_registry.proofs.ChangedTables.{intent_params, intent_typed}
-use Rattle.gm_registry.proofs.FittingTables.{apart, record_of, only, same_number}
+use Rattle.gm_registry.proofs.FittingTables.{apart, record_of, only, same_number, refers}
 use Rattle.gm_registry.proofs.InsideFails.{StopsOnly}
-use Rattle.gm_registry.proofs.SettlingFails.{refers}
 use Rattle.gm_registry.proofs.TextMeanings.{intent_terms}
 
 -- so is the text of a label
@@ -117,6 +116,8 @@ number_of : (n : ℕ) (x : Intent) → (intent_row n x).ord ≡ n
 number_of n (Meta p) = refl
 number_of n (Clear p) = refl
 number_of n (Copy from to first end) = refl
+number_of n (Dirty p) = refl
+number_of n (Patch p first end) = refl
 
 others_unnumbered : (ts : List Intent) (from n : ℕ) (rows : List IntentRow) → from + length ts ≤ n
     → AllByRecursion (λ (i : IntentRow). i.ord ≢ n) rows

@@ -1,7 +1,8 @@
 -- What edits of the registry's tables have in common.
 use Rattle.std.specs.Ordering.{is_eq, int_cmp}
 use Rattle.std.proofs.lemmas.Bool.Decides.{nat_tests}
-use Rattle.std.proofs.Common.{inl, inr, ℕ, pos, true, arith, ◌≡◌, List, [], ◌∷◌, ◌||◌, false, refl, sym, ap, ◌∙◌}
+use Rattle.std.specs.List.{AllByRecursion}
+use Rattle.std.proofs.Common.{inl, inr, ℕ, pos, true, arith, ◌≡◌, ◌==◌, if◌then◌else◌, List, [], ◌∷◌, ◌||◌, false, refl, sym, ap, subst₂, ◌∙◌}
 use Rattle.std.proofs.lemmas.List.Sorted.{IsPermutation-sym}
 use Rattle.std.proofs.lemmas.Bool.{and_from, and_parts, or_right, or_cases, true≢false}
 use Rattle.sqlite.specs.Order.{Row, column}
@@ -10,7 +11,7 @@ use Rattle.sqlite.specs.Collation.TheVariants.{Binary}
 use Rattle.sqlite.specs.declared.types.Value.TheVariants.{Text}
 use Rattle.sqlite_catalog.specs.Listing.{IsSound}
 use Rattle.sqlite_schema.specs.Names.{same_name}
-use Rattle.sqlite_schema.specs.Rules.{Refers, passes, equal}
+use Rattle.sqlite_schema.specs.Rules.{Keeps as RulesKept, Refers, passes, equal}
 use Rattle.sqlite_schema.specs.declared.schema.Among.TheVariants.{All}
 use Rattle.sqlite_schema.specs.declared.schema.Constraint.TheVariants.{ForeignKey}
 use Rattle.sqlite_sql.specs.Ops.{is_null}
@@ -59,17 +60,29 @@ apart = (
     (λ e. let f : 0 ≡ 1 = e in cc),
     (
       (λ e. let f : 0 ≡ 4 = e in cc),
-      ((λ e. let f : 0 ≡ 7 = e in cc), ((λ e. let f : 0 ≡ 8 = e in cc), tt)),
+      (
+        (λ e. let f : 0 ≡ 7 = e in cc),
+        ((λ e. let f : 0 ≡ 8 = e in cc), ((λ e. let f : 0 ≡ 11 = e in cc), tt)),
+      ),
     ),
   ),
   (
     (
       (λ e. let f : 1 ≡ 4 = e in cc),
-      ((λ e. let f : 1 ≡ 7 = e in cc), ((λ e. let f : 1 ≡ 8 = e in cc), tt)),
+      (
+        (λ e. let f : 1 ≡ 7 = e in cc),
+        ((λ e. let f : 1 ≡ 8 = e in cc), ((λ e. let f : 1 ≡ 11 = e in cc), tt)),
+      ),
     ),
     (
-      ((λ e. let f : 4 ≡ 7 = e in cc), ((λ e. let f : 4 ≡ 8 = e in cc), tt)),
-      (((λ e. let f : 7 ≡ 8 = e in cc), tt), (tt, tt)),
+      (
+        (λ e. let f : 4 ≡ 7 = e in cc),
+        ((λ e. let f : 4 ≡ 8 = e in cc), ((λ e. let f : 4 ≡ 11 = e in cc), tt)),
+      ),
+      (
+        ((λ e. let f : 7 ≡ 8 = e in cc), ((λ e. let f : 7 ≡ 11 = e in cc), tt)),
+        (((λ e. let f : 8 ≡ 11 = e in cc), tt), (tt, tt)),
+      ),
     ),
   ),
 )
@@ -85,8 +98,26 @@ refers_by next each =
     let held =
     all_from (λ row. passes ForeignKey registry_schema next components row ≡ true) (next 4)
     (λ k has. let it = each k has in
-    and_from _ _ (or_right _ _ (some_from _ (next 1) it.0 it.1 (and_from _ _ it.2 refl))) refl) in
-    (none (next 0), (none (next 1), (held, (none (next 7), (none (next 8), tt)))))
+    and_from _ _ (or_right _ _ (some_from _ (next 1) it.0 it.1 (and_from _ _ it.2 refl))) refl) in (
+      none (next 0),
+      (none (next 1), (held, (none (next 7), (none (next 8), (none (next 11), tt))))),
+    )
+
+-- the trees of mirrors and of components, which alone a reference looks at
+abbrev two : List Row → List Row → Trees
+two mirrors components = λ t. if t == 1 then mirrors else (if t == 4 then components else [])
+
+pub refers : (db next : Trees) → next 1 ≡ db 1 → next 4 ≡ db 4
+    → RulesKept ForeignKey registry_schema db → Refers All registry_schema next
+unfolding same_name joined
+refers db next same_mirrors same_components kept =
+    let none = all_of (λ (_ : Row). true ≡ true) (λ _. refl) in
+    let held = subst₂ (λ (m k : List Row). AllByRecursion
+    (λ row. passes ForeignKey registry_schema (two m k) components row ≡ true) k)
+    (sym same_mirrors) (sym same_components) kept.1.1.0 in (
+      none (next 0),
+      (none (next 1), (held, (none (next 7), (none (next 8), (none (next 11), tt))))),
+    )
 
 pub second_place : (row : Row) → column (columns row) 1 ≡ column row 2
 second_place [] = refl

@@ -18,23 +18,23 @@ use Rattle.sqlite_trees.proofs.ListLemmas.{map-map}
 use Rattle.sqlite_trees.specs.declared.store.Store.{Ghosts}
 use Rattle.sqlite_value.specs.declared.value.Value.{Value}
 use Rattle.gm_state.specs.Records.{Records}
-use Rattle.gm_state.specs.Rows.{Tables, CommandRow, mirror_row, component_row, intent_rows}
+use Rattle.gm_state.specs.Rows.{Tables, CommandRow, mirror_row, component_row, intent_rows, patch_rows}
 use Rattle.gm_lists.specs.Ordered.{Has}
 use Rattle.gm_state.specs.declared.intents.Intent.{Intent}
 use Rattle.gm_rows.specs.Queries.{shown_places}
 use Rattle.gm_rows.specs.ReadableTables.{AreTablesOf, IsInRange}
 use Rattle.gm_registry.specs.Registry as of
-use Rattle.gm_rows.specs.Rows.{about_values, mirror_values, component_values, intent_values, command_values}
+use Rattle.gm_rows.specs.Rows.{about_values, mirror_values, component_values, intent_values, command_values, patch_values}
 use Rattle.gm_rows.specs.Says.{mirror_shown, component_shown, number_value, TablesSay}
-use Rattle.gm_rows.specs.Schema.{registry_schema, mirrors, components, intents, commands}
+use Rattle.gm_rows.specs.Schema.{registry_schema, mirrors, components, intents, commands, patches}
 use Rattle.gm_rows.specs.Tables.{HasRows, AreNumbered, HasRisingRowids, numbers_of}
-use Rattle.gm_rows.specs.Values.{columns_at, shown_intent}
-use Rattle.gm_rows.specs.declared.fetched.Table.TheVariants.{Mirrors, Components, Intents}
+use Rattle.gm_rows.specs.Values.{columns_at, shown_intent, shown_patch}
+use Rattle.gm_rows.specs.declared.fetched.Table.TheVariants.{Mirrors, Components, Intents, Patches}
 use Rattle.gm_rows.proofs.CountedCommands.{count_from}
 use Rattle.gm_rows.proofs.ListMembers.{has_from, stands_from, stands_permuted}
 use Rattle.gm_rows.proofs.RowsSayTables.{text_in, number_in, rows_numbered}
 use Rattle.gm_rows.proofs.WholeRows.{its_columns}
-use Rattle.gm_registry.proofs.Stored.{with_null, intent_whole, command_in, text_is, number_is, at_most, five_picked, typed, present, whole_row, nine_whole}
+use Rattle.gm_registry.proofs.Stored.{with_null, with_one_null, intent_whole, patch_whole, command_in, text_is, number_is, at_most, five_picked, typed, present, whole_row, nine_whole}
 
 map_agree : {A B : Type 0} (f g : A → B) (xs : List A) → ((x : A) → Stands xs x → f x ≡ g x)
     → map f xs ≡ map g xs
@@ -58,8 +58,8 @@ kept_as part stored back values shown same records rows told are =
 
 -- what a registry says that was read as a state
 module _ (db : Trees) (sound : IsSound registry_schema db) (s : Records) (ts : List Intent)
-    (about : db 0 ≡ about_values ∷ []) (rising : HasRisingRowids db)
-    (says : TablesSay db s ts) where
+    (bytes : List (List ℕ)) (about : db 0 ≡ about_values ∷ []) (rising : HasRisingRowids db)
+    (says : TablesSay db s ts bytes) where
   mirrors_kept : Keeps columns mirror_values (map mirror_row s.mirrors) (db 1)
   mirrors_kept = record {
     same = subst (λ l. IsPermutation l (map columns (db 1)))
@@ -91,6 +91,26 @@ module _ (db : Trees) (sound : IsSound registry_schema db) (s : Records) (ts : L
         (subst (λ l. IsPermutation l (map (columns_at (shown_places Intents)) (db 7)))
         (sym (rows_numbered 1 ts)) says.intents);
     keyed = rising.intents;
+  }
+
+  -- what is said of them tells the rows of bytes
+  patches_told : map whole (db 11) ≡ map patch_values (patch_rows bytes)
+  patches_told =
+      let listed : Stands registry_schema.tables patches =
+      inr (inr (inr (inr (inr (inl refl))))) in
+      let back : map with_one_null (map (columns_at (shown_places Patches)) (db 11))
+      ≡ map whole (db 11) = map-map with_one_null (columns_at (shown_places Patches)) (db 11)
+      ∙ map_agree (λ row. with_one_null (columns_at (shown_places Patches) row)) whole (db 11)
+      (λ row there. patch_whole row (typed db sound patches listed row there)
+      (present db sound patches listed row there)) in
+      sym back ∙ (ap (map with_one_null) says.patches
+      ∙ map-map with_one_null shown_patch (patch_rows bytes))
+
+  patches_kept : Keeps whole patch_values (patch_rows bytes) (db 11)
+  patches_kept = record {
+    same = subst (IsPermutation (map patch_values (patch_rows bytes))) (sym patches_told)
+        (IsPermutation-refl _);
+    keyed = rising.patches;
   }
 
   -- the command's number is one
@@ -163,6 +183,7 @@ module _ (db : Trees) (sound : IsSound registry_schema db) (s : Records) (ts : L
     components = map component_row s.components;
     intents = intent_rows 1 ts;
     commands = map command_in (db 8);
+    patches = patch_rows bytes;
   }
 
   rows : HasRows db tables
@@ -172,29 +193,31 @@ module _ (db : Trees) (sound : IsSound registry_schema db) (s : Records) (ts : L
     components = components_kept;
     intents = intents_kept;
     commands = commands_kept;
+    patches = patches_kept;
   }
 
-  are_of : AreTablesOf tables s ts
+  are_of : AreTablesOf tables s ts bytes
   are_of = record {
     state = says.state;
     mirrors = IsPermutation-refl _;
     components = IsPermutation-refl _;
     intents = IsPermutation-refl _;
+    patches = refl;
     readable = says.readable;
     commands = in_range;
     count = subst (λ n. n ≤ 100000) (sym (length-map (db 8) command_in)) says.count;
   }
 
 pub read_held : {S : Type 0} (g : Ghosts S) (r : Held S) (s : Records) (ts : List Intent)
-    → of.IsRegistry g r → HasRisingRowids (of.seen g r) → TablesSay (of.seen g r) s ts
-    → of.HasTablesOf g r s ts
-read_held g r s ts is rising says =
+    (bytes : List (List ℕ)) → of.IsRegistry g r → HasRisingRowids (of.seen g r)
+    → TablesSay (of.seen g r) s ts bytes → of.HasTablesOf g r s ts bytes
+read_held g r s ts bytes is rising says =
     let db = of.stored g r in
     let same : of.seen g r ≡ db = ap (λ (d : Database). d.trees) is.settled in
     let up : HasRisingRowids db = subst HasRisingRowids same rising in
-    let told : TablesSay db s ts = subst (λ d. TablesSay d s ts) same says in
+    let told : TablesSay db s ts bytes = subst (λ d. TablesSay d s ts bytes) same says in
     record {
-      tables = tables db is.sound s ts is.about up told;
+      tables = tables db is.sound s ts bytes is.about up told;
       has = record {
         is_open = is.is_open;
         autocommit = is.autocommit;
@@ -202,11 +225,11 @@ read_held g r s ts is rising says =
         settled = is.settled;
         tables = record {
           rows = record {
-            rows = rows db is.sound s ts is.about up told;
-            numbered = numbered db is.sound s ts is.about up told;
+            rows = rows db is.sound s ts bytes is.about up told;
+            numbered = numbered db is.sound s ts bytes is.about up told;
           };
           sound = is.sound;
         };
       };
-      are = are_of db is.sound s ts is.about up told;
+      are = are_of db is.sound s ts bytes is.about up told;
     }

@@ -1,10 +1,9 @@
 -- Why a registry isn't made in a store without tables: no rule refuses its tables, nor the record
 -- of `about`.
 use Rattle.std.proofs.Common.{◌≡◌, inl, ℕ, pos, true, not, ◌&&◌, ◌==◌, List, [], ◌∷◌, Option, None, Result, Ok, Err, IsTrue, IsSome, refl, sym, ap, subst, ◌∙◌, arith, eq-eqb}
-use Rattle.std.specs.List.{AllByRecursion, list_all}
+use Rattle.std.specs.List.{list_all}
 use Rattle.std.specs.Float.Ieee
 use Rattle.std.proofs.lemmas.Bool.{true≢false, not-true}
-use Rattle.sqlite.specs.Order.{Row}
 use Rattle.sqlite.specs.Table.{Table}
 use Rattle.sqlite.specs.Tree.{Trees}
 use Rattle.sqlite.specs.Schema.{Schema}
@@ -19,8 +18,7 @@ use Rattle.sqlite.specs.declared.types.Value.TheVariants.{Null, Int}
 use Rattle.sqlite.proofs.Callers.{statement_of}
 use Rattle.sqlite_rules.proofs.ListLemmas.{test_has}
 use Rattle.sqlite_rules.specs.Edit.{is_taken, IsOversized}
-use Rattle.sqlite_schema.specs.Rules.{Keeps, guards, passes}
-use Rattle.sqlite_schema.specs.declared.schema.Constraint.{Constraint}
+use Rattle.sqlite_schema.specs.Rules.{guards, passes}
 use Rattle.sqlite_schema.specs.declared.schema.Constraint.TheVariants.{Check, Unique, ForeignKey}
 use Rattle.sqlite_schema.specs.declared.schema.Keys.TheVariants.{Enforced}
 use Rattle.sqlite_sql.specs.Ops.{binary}
@@ -35,15 +33,14 @@ use Rattle.sqlite_rows.proofs.StoppingCreates.{create_stops}
 use Rattle.sqlite_rows.proofs.ValueLemmas.{cast_null, cast_int}
 use Rattle.gm_rows.specs.Faults.{OnOther, fault_of}
 use Rattle.gm_rows.specs.Rows.{about_values}
-use Rattle.gm_rows.specs.Schema.{about, mirrors, components, intents, commands, registry_schema}
+use Rattle.gm_rows.specs.Schema.{about, registry_schema}
 use Rattle.gm_rows.specs.Statements.{put_about_text}
 use Rattle.gm_rows.specs.declared.fault.StoreFault.TheVariants.{Store}
-use Rattle.gm_registry.specs.Opening.{IsBareInside, IsInsideOver}
+use Rattle.gm_registry.specs.Opening.{IsBeingMade, IsInsideOver}
 use Rattle.gm_registry.proofs.CreatableTables.{Makes}
 use Rattle.gm_registry.proofs.Failures.{failed_since, told}
-use Rattle.gm_registry.proofs.FittingTables.{apart, only}
+use Rattle.gm_registry.proofs.FittingTables.{apart, only, refers}
 use Rattle.gm_registry.proofs.MadeTables.{one_more}
-use Rattle.gm_registry.proofs.SettlingFails.{refers}
 use Rattle.gm_registry.proofs.StepsInTurn.{Failed}
 use Rattle.gm_registry.proofs.TextMeanings.{put_about, put_about_is}
 
@@ -87,26 +84,8 @@ module _ {before after : Schema} {text : List ℕ} {table : Table} {first : Data
 
 -- ---- the record of `about`
 
--- the tables are there, and empty
-none_kept : (first : Database) (s : State) (rule : Constraint) → IsBareInside first s
-    → Keeps rule registry_schema s.now.trees
-none_kept first s rule was =
-    let db = s.now.trees in
-    let none = λ (table : Table) (rows : List Row) (is : rows ≡ []).
-    subst (λ l. AllByRecursion (λ row. passes rule registry_schema db table row ≡ true) l) (sym is)
-    tt in (
-      none about (db 0) was.about,
-      (
-        none mirrors (db 1) was.mirrors,
-        (
-          none components (db 4) was.components,
-          (none intents (db 7) was.intents, (none commands (db 8) was.commands, tt)),
-        ),
-      ),
-    )
-
 abbrev about_terms : List Term
-about_terms = lit (Int (pos 1)) ∷ lit Null ∷ lit (Int (pos 1)) ∷ []
+about_terms = lit (Int (pos 1)) ∷ lit Null ∷ lit (Int (pos 2)) ∷ []
 
 -- its check holds
 about_checked : (db : Trees)
@@ -115,13 +94,13 @@ unfolding binary value_cmp Ieee.lt Ieee.is_nan
 about_checked db = refl
 
 -- the row is taken
-about_allowed : (first : Database) (s : State) → IsBareInside first s
+about_allowed : (rows : Trees) (first : Database) (s : State) → IsBeingMade [] rows first s
     → IsAllowed registry_schema Enforced s.now.trees
     (record { table = about; gone = []; news = about_values ∷ [] })
-about_allowed first s was =
+about_allowed rows first s was =
     let db = s.now.trees in
     let fresh : not (is_taken (db 0) about_values) && true ≡ true =
-    ap (λ rows. not (is_taken rows about_values) && true) was.about in
+    ap (λ rows. not (is_taken rows about_values) && true) was.about_is in
     record {
       typed = refl;
       present = refl;
@@ -131,10 +110,10 @@ about_allowed first s was =
       fresh = fresh;
       unique = unique_added registry_schema db
           (record { table = about; gone = []; news = about_values ∷ [] }) apart (inl refl)
-          (subst (λ rows. IsTable rows) (sym was.about) tt) fresh about_values refl
+          (subst (λ rows. IsTable rows) (sym was.about_is) tt) fresh about_values refl
           (λ index known guarded. absurd (true≢false (sym guarded ∙ not-true _ (test_has
           (λ i. not (guards i about)) registry_schema.indexes index refl known))))
-          (none_kept first s Unique was);
+          (was.sound.obeys.rules Unique);
       referred = refl;
       small = λ row has. subst (λ r. IsOversized registry_schema about r → ⊥)
           (sym (only about_values row has)) (small registry_schema about about_values refl refl
@@ -143,16 +122,18 @@ about_allowed first s was =
           registry_schema.indexes index refl known)))));
     }
 
-about_stops : (first : Database) (s : State) (text : List ℕ) (stop : Option Error)
-    → IsBareInside first s → Does s.step_limit (mode_of s) [] s.now text None put_about (Err stop)
+about_stops : (rows : Trees) (first : Database) (s : State) (text : List ℕ) (stop : Option Error)
+    → IsBeingMade [] rows first s → Does s.step_limit (mode_of s) [] s.now text None put_about
+    (Err stop)
     → IsSome s.step_limit
-about_stops first s text stop was does =
+about_stops rows first s text stop was does =
     let db = s.now.trees in
     insert_stops registry_schema 0 about refl about_terms 3 [] about_values about_values
     s.step_limit
-    db refl refl (rw (cast_int (pos 1), cast_null) refl) (about_allowed first s was)
+    db refl refl (rw (cast_int (pos 1), cast_null, cast_int (pos 2)) refl)
+    (about_allowed rows first s was)
     (λ next made. refers db next (made.tables.1.0 (λ e. let f : 1 ≡ 0 = e in cc))
-    (made.tables.1.1.0 (λ e. let f : 4 ≡ 0 = e in cc)) (none_kept first s ForeignKey was)) stop
+    (made.tables.1.1.0 (λ e. let f : 4 ≡ 0 = e in cc)) (was.sound.obeys.rules ForeignKey)) stop
     (subst (λ (schema : Schema). Does s.step_limit (mode_of s) []
     (record { schema = schema; trees = db }) text None put_about (Err stop)) was.schema_is does)
 
@@ -162,10 +143,11 @@ about_whole = refl
 
 pub about_fails : (old new : State) (x : Result ℕ Error)
     → (IsTrue old.in_transaction → ExecutesInside 0 put_about_text [] old new x)
-    → OnOther x ((first : Database) → IsBareInside first old → Failed old new)
+    → OnOther x ((rows : Trees) (first : Database) → IsBeingMade [] rows first old
+    → Failed old new)
 about_fails old new (Ok count) h = tt
-about_fails old new (Err e) h = λ is first was.
+about_fails old new (Err e) h = λ is rows first was.
     told old new e (inside_fault registry_schema put_about_text [] put_about put_about_is.command_is
     put_about_is.plain about_whole refl refl old new e was.schema_is
-    (λ stop. about_stops first old (statement_of put_about_text
+    (λ stop. about_stops rows first old (statement_of put_about_text
     (understood registry_schema put_about_text)) stop was) was.is_open (h was.inside)) is

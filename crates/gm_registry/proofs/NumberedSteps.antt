@@ -11,7 +11,7 @@ use Rattle.sqlite.specs.Effect.{Database}
 use Rattle.sqlite.specs.Listing.{understood}
 use Rattle.sqlite.specs.State.{State, Runs, Writes, ExecutesInside}
 use Rattle.sqlite.specs.declared.error.Error.{Error}
-use Rattle.sqlite.specs.declared.types.Value.TheVariants.{Null, Int, Text}
+use Rattle.sqlite.specs.declared.types.Value.TheVariants.{Null, Int, Text, Blob}
 use Rattle.sqlite.proofs.Callers.{statement_of, runs_as}
 use Rattle.sqlite_trees.specs.Tree.{put_row, rowid}
 use Rattle.sqlite_rules.specs.Edit.{next_rowid}
@@ -25,12 +25,12 @@ use Rattle.sqlite_rows.proofs.Dropping.{drops, clears}
 use Rattle.sqlite_rows.proofs.Replacing.{upserts}
 use Rattle.sqlite_rows.proofs.Stopping.{at_once}
 use Rattle.gm_state.specs.Rows.{Tables, MirrorRow, ComponentRow, IntentRow, CommandRow}
-use Rattle.gm_rows.specs.Rows.{mirror_values, component_values, intent_values, command_values}
-use Rattle.gm_rows.specs.Schema.{mirrors, mirrors_by_name, components, components_by_prov, intents, commands, registry_schema}
+use Rattle.gm_rows.specs.Rows.{mirror_values, component_values, intent_values, command_values, patch_values}
+use Rattle.gm_rows.specs.Schema.{mirrors, mirrors_by_name, components, components_by_prov, intents, commands, patches, registry_schema}
 use Rattle.gm_rows.specs.Tables.{HasRows, IsInside}
 use Rattle.gm_registry.specs.Fitting.{HasRoom}
-use Rattle.gm_registry.proofs.ChangedTables.{idle, mirror_typed, component_typed, intent_typed, intent_params, command_typed, only_mirrors, only_components}
-use Rattle.gm_registry.proofs.TextMeanings.{Means, nine_terms, updated, upsert, by_key, drop, settle, intent_terms, command_terms}
+use Rattle.gm_registry.proofs.ChangedTables.{idle, mirror_typed, component_typed, intent_typed, intent_params, command_typed, patch_typed, only_mirrors, only_components}
+use Rattle.gm_registry.proofs.TextMeanings.{Means, nine_terms, updated, upsert, by_key, drop, clear, intent_terms, command_terms, patch_terms}
 
 abbrev pub StepNumbers : Command → Row → ℕ → Type 0
 StepNumbers command params count =
@@ -179,9 +179,37 @@ put_intent_numbers i db t limit text tally after holds h more room =
           (made.tables.1.1.1.1.0 (λ e. let f : 8 ≡ 7 = e in cc)) room.commands;
     }
 
+-- the record of bytes has its own number
+pub put_patch_numbers : (bytes : List ℕ)
+    → StepNumbers (Insert 5 (Values patch_terms 3)) (Blob bytes ∷ []) 0
+put_patch_numbers bytes db t limit text tally after holds h more room =
+    let made = gains registry_schema 5 patches refl patch_terms 3 (Blob bytes ∷ [])
+    (patch_values bytes) refl (patch_typed bytes) limit at_once db after text tally h in
+    record {
+      mirrors = stay_numbered more 0 (db 1) (after.trees 1)
+          (made.tables.1.0 (λ e. let f : 1 ≡ 11 = e in cc)) room.mirrors;
+      components = stay_numbered more 0 (db 4) (after.trees 4)
+          (made.tables.1.1.0 (λ e. let f : 4 ≡ 11 = e in cc)) room.components;
+      commands = stay_numbered more 0 (db 8) (after.trees 8)
+          (made.tables.1.1.1.1.0 (λ e. let f : 8 ≡ 11 = e in cc)) room.commands;
+    }
+
 -- what is deleted numbers none
-pub settle_numbers : StepNumbers settle [] 0
-settle_numbers db t limit text tally after holds h more room =
+pub drop_bytes_numbers : StepNumbers (clear 5 11) [] 0
+drop_bytes_numbers db t limit text tally after holds h more room =
+    let made = clears registry_schema 5 patches limit at_once []
+    (λ olds. idle 11 olds []) db after tally holds.patches.keyed h in
+    record {
+      mirrors = stay_numbered more 0 (db 1) (after.trees 1)
+          (made.tables.1.0 (λ e. let f : 1 ≡ 11 = e in cc)) room.mirrors;
+      components = stay_numbered more 0 (db 4) (after.trees 4)
+          (made.tables.1.1.0 (λ e. let f : 4 ≡ 11 = e in cc)) room.components;
+      commands = stay_numbered more 0 (db 8) (after.trees 8)
+          (made.tables.1.1.1.1.0 (λ e. let f : 8 ≡ 11 = e in cc)) room.commands;
+    }
+
+pub drop_intents_numbers : StepNumbers (clear 3 7) [] 0
+drop_intents_numbers db t limit text tally after holds h more room =
     let made = clears registry_schema 3 intents limit at_once []
     (λ olds. idle 7 olds []) db after tally holds.intents.keyed h in
     record {

@@ -1,10 +1,10 @@
--- Tables are of one state with one list of intents.
+-- Tables are of one state with one list of intents, and the same bytes.
 use Rattle.std.proofs.Common.{◌≡◌, ◌∙◌, inl, inr, ℕ, ◌+◌, ◌<◌, true, ltb, List, [], ◌∷◌, map, refl, sym, ap, subst, arith}
 use Rattle.std.specs.List.Sorted.{IsPermutation}
 use Rattle.std.proofs.lemmas.Bool.{cases_Bool, ltb-false}
 use Rattle.std.proofs.lemmas.List.Sorted.{IsPermutation-trans, IsPermutation-sym}
 use Rattle.gm_state.specs.declared.intents.Intent.{Intent}
-use Rattle.gm_state.specs.declared.intents.Intent.TheVariants.{Meta, Clear, Copy}
+use Rattle.gm_state.specs.declared.intents.Intent.TheVariants.{Meta, Clear, Copy, Dirty, Patch}
 use Rattle.gm_state.specs.declared.records.Mirror.{Mirror}
 use Rattle.gm_state.specs.declared.records.Component.{Component}
 use Rattle.gm_lists.specs.Ordered.{Has, Ascends, label_lt}
@@ -12,9 +12,9 @@ use Rattle.gm_state.specs.Records.{Records, IsState, name, provider}
 use Rattle.gm_state.specs.Rows.{Tables, IntentRow, intent_row, intent_rows, mirror_row, component_row}
 use Rattle.gm_lists.proofs.Sorting.{permuted_is}
 use Rattle.gm_rows.specs.ReadableTables.{AreTablesOf}
-use Rattle.gm_rows.specs.Values.{shown_intent}
+use Rattle.gm_rows.specs.Values.{shown_intent, shown_patch}
 use Rattle.gm_rows.proofs.ReorderedValues.{same_records}
-use Rattle.gm_rows.proofs.RowsSayRecords.{one_list as one_said}
+use Rattle.gm_rows.proofs.RowsSayRecords.{one_blob, one_list as one_said}
 use Rattle.gm_rows.proofs.RowsSayTables.{rows_numbered}
 
 -- ---- intents
@@ -32,6 +32,8 @@ ord_is : (n : ℕ) (t : Intent) → (intent_row n t).ord ≡ n
 ord_is n (Meta p) = refl
 ord_is n (Clear p) = refl
 ord_is n (Copy source target first end) = refl
+ord_is n (Dirty p) = refl
+ord_is n (Patch p first end) = refl
 
 above : (m n : ℕ) (ts : List Intent) (r : IntentRow) → m < n → Has (intent_rows n ts) r
     → label_lt (m ∷ []) (place r) ≡ true
@@ -88,10 +90,13 @@ module _ (same_mirror : (a b : Mirror) → mirror_row a ≡ mirror_row b → a �
       is.components_in_order ir.components_in_order in
       λ i. record { mirrors = mirrors i; components = components i }
 
-  pub one_reading : (t : Tables) (s r : Records) (ts is : List Intent) → AreTablesOf t s ts
-      → AreTablesOf t r is → (s ≡ r) × (ts ≡ is)
-  one_reading t s r ts is first second = (
+  pub one_reading : (t : Tables) (s r : Records) (ts is : List Intent)
+      (bytes others : List (List ℕ)) → AreTablesOf t s ts bytes → AreTablesOf t r is others
+      → (s ≡ r) × (ts ≡ is) × (bytes ≡ others)
+  one_reading t s r ts is bytes others first second = (
     one_state t s r first.state second.state first.mirrors second.mirrors first.components
         second.components,
     one_order t.intents ts is first.intents second.intents,
+    one_blob bytes others first.readable.sectors second.readable.sectors
+        (ap (map shown_patch) (sym first.patches ∙ second.patches)),
   )

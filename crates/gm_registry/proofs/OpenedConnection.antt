@@ -1,87 +1,127 @@
 -- What a connection that was just opened stands on.
-use Rattle.std.proofs.Common.{◌≡◌, ◌↔◌, Bool, true, false, IsTrue, sym, ap, subst, ◌∙◌}
-use Rattle.std.proofs.lemmas.Bool.{true≢false}
+use Rattle.std.proofs.Common.{◌≡◌, ◌≢◌, false, IsTrue, sym, ap, subst, ◌∙◌}
 use Rattle.sqlite.specs.Schema.{Schema}
 use Rattle.sqlite.specs.Effect.{Database}
 use Rattle.sqlite.specs.State.{State, IsLive, IsUnchanged}
 use Rattle.sqlite_catalog.specs.Listing.{IsSound}
-use Rattle.sqlite_rows.proofs.Statements.{settled_schema}
-use Rattle.sqlite_rows.proofs.Showing.{one_schema, opened}
+use Rattle.sqlite_rows.proofs.Showing.{one_schema, opened as at_open}
 use Rattle.gm_state.specs.Rows.{Tables}
-use Rattle.gm_rows.specs.Schema.{registry_schema, no_schema}
-use Rattle.gm_rows.specs.Tables.{HasCounted, SeesTables, Holds, IsEmpty, SeesRegistry}
+use Rattle.gm_rows.specs.Schema.{first_schema, registry_schema, no_schema}
+use Rattle.gm_rows.specs.Tables.{HasCounted, HasFirstCounted, SeesTables, SeesFirst, Holds, HoldsFirst, IsEmpty, SeesRegistry}
 use Rattle.gm_registry.specs.Listing.{ShowsList}
-use Rattle.gm_registry.specs.Opening.{IsBlank, IsForeign, IsOfSchema1}
+use Rattle.gm_registry.specs.Opening.{schema_of, HasOurTables, IsBlank, IsForeign, IsNumbered, IsOfRegistry, SeesFirstStore}
+use Rattle.gm_registry.specs.declared.edition.Edition.{Edition}
+use Rattle.gm_registry.specs.declared.edition.Edition.TheVariants.{First, Second}
 use Rattle.gm_registry.proofs.Abouts.{about_row}
 
-pub blank : (s : State) → IsTrue s.is_open → s.in_transaction ≡ false → s.now ≡ s.committed
-    → IsLive s → IsEmpty s.committed.trees → IsBlank s
-blank s is_open autocommit settled live empty = record {
-  is_open = is_open;
-  autocommit = autocommit;
-  settled = settled;
-  schema_is = ap (λ (d : Database). d.schema) settled ∙ one_schema s no_schema is_open live empty;
-}
+-- a connection outside a transaction sees what is committed
+pub record IsJustOpened (s : State) : Type 0 where
+  pub autocommit : s.in_transaction ≡ false
+  pub settled : IsTrue s.is_open → s.now ≡ s.committed
+  pub live : IsLive s
 
-pub has_tables : (s : State) (t : Tables) → IsTrue s.is_open → s.in_transaction ≡ false
-    → s.now ≡ s.committed → IsLive s → Holds s.committed.trees t → SeesTables s t
-has_tables = opened registry_schema HasCounted
+some_tables : (edition : Edition) → schema_of edition ≡ no_schema → ⊥
+some_tables First e = let f = ap (λ (s : Schema). s.tables) e in cc
+some_tables Second e = let f = ap (λ (s : Schema). s.tables) e in cc
 
-some_tables : registry_schema ≡ no_schema → ⊥
-some_tables e = let f = ap (λ (s : Schema). s.tables) e in cc
+module _ (s : State) (opened : IsJustOpened s) (is_open : IsTrue s.is_open) where
+  -- what the trees list is seen
+  seen_as : (schema : Schema) → IsSound schema s.committed.trees → s.now.schema ≡ schema
+  seen_as schema sound =
+      ap (λ (d : Database). d.schema) (opened.settled is_open)
+      ∙ one_schema s schema is_open opened.live sound
 
--- a registry has tables
-pub not_empty : (s : State) (t : Tables) (shown : Schema) (b : Bool) → SeesTables s t
-    → shown ≡ s.now.schema → IsTrue b ↔ (shown ≡ no_schema) → b ≡ true → ⊥
-not_empty s t shown b has is tells e =
-    some_tables (sym (is ∙ settled_schema registry_schema HasCounted s t has) ∙ tells.0 e)
+  pub edition_seen : (edition : Edition) → IsSound (schema_of edition) s.committed.trees
+      → s.now.schema ≡ schema_of edition
+  edition_seen edition = seen_as (schema_of edition)
 
-pub shows_some : (s : State) (shown : Schema) (b : Bool) → s.now.schema ≡ registry_schema
-    → shown ≡ s.now.schema → IsTrue b ↔ (shown ≡ no_schema) → b ≡ true → ⊥
-shows_some s shown b has is tells e = some_tables (sym (is ∙ has) ∙ tells.0 e)
+  pub of_registry : HasOurTables s.committed.trees → IsOfRegistry s.now.schema
+  of_registry has = (has.0, edition_seen has.0 has.1)
 
--- trees that list the registry's tables are seen with them
-pub registry_seen : (s : State) → IsTrue s.is_open → s.now ≡ s.committed → IsLive s
-    → IsSound registry_schema s.committed.trees → s.now.schema ≡ registry_schema
-registry_seen s is_open settled live sound =
-    ap (λ (d : Database). d.schema) settled ∙ one_schema s registry_schema is_open live sound
+  pub blank : IsEmpty s.committed.trees → IsBlank s
+  blank empty = record {
+    is_open = is_open;
+    autocommit = opened.autocommit;
+    settled = opened.settled is_open;
+    schema_is = seen_as no_schema empty;
+  }
 
--- what is unchanged since the opening, with the one record of `about`, is a registry
-pub registry_there : (old new : State) → IsTrue old.is_open → old.in_transaction ≡ false
-    → old.now ≡ old.committed → IsLive old → IsSound registry_schema old.committed.trees
-    → IsUnchanged old new → IsOfSchema1 old.now.trees → SeesRegistry new
-registry_there old new is_open autocommit settled live sound unchanged one =
-    let same = unchanged.0 in
-    let still : IsSound registry_schema new.committed.trees =
-    subst (λ (d : Database). IsSound registry_schema d.trees) (sym same.committed_is) sound in
-    let now : new.now ≡ new.committed = same.now_is ∙ settled ∙ sym same.committed_is in
-    record {
-      is_open = same.is_open;
-      autocommit = same.mode ∙ autocommit;
-      schema_is = ap (λ (d : Database). d.schema) same.committed_is
-          ∙ one_schema old registry_schema is_open live sound;
-      settled = now;
-      sound = still;
-      about = about_row new.committed.trees still
-          (subst (λ (d : Database). IsOfSchema1 d.trees) (sym same.now_is ∙ now) one);
-    }
+  pub has_tables : (t : Tables) → Holds s.committed.trees t → SeesTables s t
+  has_tables t = at_open registry_schema HasCounted s t is_open opened.autocommit
+      (opened.settled is_open) opened.live
 
--- an empty store has none
-pub not_full : (s : State) (shown : Schema) (b : Bool) → IsBlank s → shown ≡ s.now.schema → IsTrue b
-    ↔ (shown ≡ no_schema) → b ≡ false → ⊥
-not_full s shown b blank is tells e = true≢false (sym (tells.1 (is ∙ blank.schema_is)) ∙ e)
+  pub has_first : (t : Tables) → HoldsFirst s.committed.trees t → SeesFirst s t
+  has_first t = at_open first_schema HasFirstCounted s t is_open opened.autocommit
+      (opened.settled is_open) opened.live
 
--- the list of a foreign store is shown
-pub foreign_shown : (s : State) → IsTrue s.is_open → s.now ≡ s.committed → IsLive s
-    → (f : IsForeign s.committed.trees) → ShowsList s.now.schema
-foreign_shown s is_open settled live f =
-    subst ShowsList (sym (ap (λ (d : Database). d.schema) settled
-    ∙ one_schema s f.schema is_open live f.sound)) f.shows
+  pub first_store : IsSound first_schema s.committed.trees → SeesFirstStore s
+  first_store sound = record {
+    is_open = is_open;
+    autocommit = opened.autocommit;
+    schema_is = one_schema s first_schema is_open opened.live sound;
+    settled = opened.settled is_open;
+    sound = sound;
+  }
 
--- and it isn't empty
-pub not_foreign_empty : (s : State) (shown : Schema) (b : Bool) → IsTrue s.is_open
-    → s.now ≡ s.committed → IsLive s → IsForeign s.committed.trees → shown ≡ s.now.schema → IsTrue b
-    ↔ (shown ≡ no_schema) → b ≡ true → ⊥
-not_foreign_empty s shown b is_open settled live f is tells e =
-    f.some (sym (is ∙ (ap (λ (d : Database). d.schema) settled
-    ∙ one_schema s f.schema is_open live f.sound)) ∙ tells.0 e)
+  -- the list of a foreign store is shown
+  pub foreign_shown : (f : IsForeign s.committed.trees) → ShowsList s.now.schema
+  foreign_shown f = subst ShowsList (sym (seen_as f.schema f.sound)) f.shows
+
+  -- ---- what can't be
+
+  -- where no table is seen, there is no registry, nor something else
+  pub no_registry : s.now.schema ≡ no_schema → (edition : Edition)
+      → IsSound (schema_of edition) s.committed.trees → ⊥
+  no_registry none edition sound = some_tables edition (sym (edition_seen edition sound) ∙ none)
+
+  pub nothing_foreign : s.now.schema ≡ no_schema → IsForeign s.committed.trees → ⊥
+  nothing_foreign none f = f.some (sym (seen_as f.schema f.sound) ∙ none)
+
+  -- where some table is seen, the store isn't empty
+  pub not_empty : s.now.schema ≢ no_schema → IsEmpty s.committed.trees → ⊥
+  not_empty some empty = some (seen_as no_schema empty)
+
+  -- where the tables can be those of one schema alone, they aren't those of the other
+  pub not_second : ((edition : Edition) → s.now.schema ≡ schema_of edition → First ≡ edition)
+      → IsSound registry_schema s.committed.trees → ⊥
+  not_second only sound = let e : First ≡ Second = only Second (edition_seen Second sound) in cc
+
+  pub not_first : ((edition : Edition) → s.now.schema ≡ schema_of edition → Second ≡ edition)
+      → IsSound first_schema s.committed.trees → ⊥
+  not_first only sound = let e : Second ≡ First = only First (edition_seen First sound) in cc
+
+  -- so a store of either is of that one
+  pub only_first : ((edition : Edition) → s.now.schema ≡ schema_of edition → First ≡ edition)
+      → (P : Edition → Type 0) → ((edition : Edition) → P edition
+      → IsSound (schema_of edition) s.committed.trees) → (edition : Edition) × P edition → P First
+  only_first only P sound (First, p) = p
+  only_first only P sound (Second, p) = absurd (not_second only (sound Second p))
+
+  pub only_second : ((edition : Edition) → s.now.schema ≡ schema_of edition → Second ≡ edition)
+      → (P : Edition → Type 0) → ((edition : Edition) → P edition
+      → IsSound (schema_of edition) s.committed.trees) → (edition : Edition) × P edition
+      → P Second
+  only_second only P sound (First, p) = absurd (not_first only (sound First p))
+  only_second only P sound (Second, p) = p
+
+  -- ---- a registry
+
+  -- what is unchanged since the opening, with the one record of `about`, is one
+  pub registry_there : (new : State) → IsSound registry_schema s.committed.trees
+      → IsUnchanged s new → IsNumbered Second s.now.trees → SeesRegistry new
+  registry_there new sound unchanged one =
+      let same = unchanged.0 in
+      let still : IsSound registry_schema new.committed.trees =
+      subst (λ (d : Database). IsSound registry_schema d.trees) (sym same.committed_is) sound in
+      let now : new.now ≡ new.committed =
+      same.now_is ∙ opened.settled is_open ∙ sym same.committed_is in
+      record {
+        is_open = same.is_open;
+        autocommit = same.mode ∙ opened.autocommit;
+        schema_is = ap (λ (d : Database). d.schema) same.committed_is
+            ∙ one_schema s registry_schema is_open opened.live sound;
+        settled = now;
+        sound = still;
+        about = about_row Second new.committed.trees still
+            (subst (λ (d : Database). IsNumbered Second d.trees) (sym same.now_is ∙ now) one);
+      }

@@ -44,6 +44,7 @@ reordered db t xs ys same h = record {
   components = h.components;
   intents = keeps_same whole intent_values xs ys (db 7) same h.intents;
   commands = h.commands;
+  patches = h.patches;
 }
 
 -- the row that came last stands behind the others

@@ -32,4 +32,5 @@ rising g ordered listed r is unbroken =
       components = subst (λ s. IsShaped s (v.trees 4)) laid.tables.1.1.0 (up 4);
       intents = subst (λ s. IsShaped s (v.trees 7)) laid.tables.1.1.1.0 (up 7);
       commands = subst (λ s. IsShaped s (v.trees 8)) laid.tables.1.1.1.1.0 (up 8);
+      patches = subst (λ s. IsShaped s (v.trees 11)) laid.tables.1.1.1.1.1.0 (up 11);
     }

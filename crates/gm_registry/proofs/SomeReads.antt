@@ -6,6 +6,7 @@ use Rattle.sqlite.specs.State.{State, HasCleanDisk}
 use Rattle.gm_state.specs.Rows.{Tables}
 use Rattle.gm_registry.specs.Reads as reads
 use Rattle.gm_registry.specs.Registry.{DiskKept, IsOpen, HasTables, IsOurs, HasRead, HaveRead, HasFailed, StoreFailed}
+use Rattle.gm_registry.specs.Reads.{IsOurSchema}
 use Rattle.gm_registry.proofs.Failures.{failed_later}
 use Rattle.gm_registry.proofs.ReadsInTurn.{read_then, failed_then, clean_before, tables_stay}
 
@@ -41,4 +42,4 @@ module _ {S : Type 0} (g : Ghosts S) where
       subst (λ r. (IsOurs g r → IsOpen g r → StoreFailed g r c)
       → StoreFailed g a c) (sym same) (λ f. f ours is_open) failed
   some_later a b c (inr first) clean ours is_open failed =
-      failed_later (state g a) (state g b) (state g c) first clean ours is_open failed
+      failed_later IsOurSchema (state g a) (state g b) (state g c) first clean ours is_open failed

@@ -18,9 +18,9 @@ use Rattle.sqlite_value.specs.declared.value.Value.{Value}
 use Rattle.gm_state.specs.Rows.{CommandRow}
 use Rattle.gm_rows.specs.Queries.{shown_places}
 use Rattle.gm_rows.specs.Says.{IsBetween}
-use Rattle.gm_rows.specs.Schema.{registry_schema, intents}
+use Rattle.gm_rows.specs.Schema.{registry_schema, intents, patches}
 use Rattle.gm_rows.specs.Values.{columns_at}
-use Rattle.gm_rows.specs.declared.fetched.Table.TheVariants.{Mirrors, Intents}
+use Rattle.gm_rows.specs.declared.fetched.Table.TheVariants.{Mirrors, Intents, Patches}
 use Rattle.gm_rows.proofs.CountedCommands.{count_from}
 use Rattle.gm_rows.proofs.RowsSayTables.{text_in, number_in, nine_picked}
 use Rattle.gm_rows.proofs.WholeRows.{are_required, as_many, its_columns}
@@ -55,6 +55,33 @@ intent_whole (id ∷ v ∷ vs) typed present =
     let parts = and_parts (is_null v) (are_typed (Some 0) 1 (drop 1 intents.columns) vs) typed in
     let many = five_behind (id ∷ v ∷ vs) vs (λ k. refl) parts.1 present in
     ap (λ more. id ∷ Null ∷ more) (its_columns 5 vs many)
+    ∙ ap (λ n. id ∷ n ∷ vs) (sym (only_null v parts.0))
+
+-- ---- rows of bytes
+
+-- one value stands behind it
+one_behind : (row vs : Row) → ((k : ℕ) → column row (suc (suc k)) ≡ column vs k)
+    → are_typed (Some 0) 1 (drop 1 patches.columns) vs ≡ true
+    → are_present (Some 0) 1 (drop 1 patches.columns) row ≡ true
+    → length vs ≡ 1
+one_behind row vs same =
+    as_many (Some 0) row 1 (drop 1 patches.columns) vs behind_key refl
+    (λ k. let two : 1 + 1 + k ≡ suc (suc k) = omega arith in ap (column row) two ∙ same k)
+
+-- with the NULL in the column for which the rowid stands
+abbrev pub with_one_null : Row → Row
+with_one_null vs = column vs 0 ∷ Null ∷ column vs 1 ∷ []
+
+pub patch_whole : (row : Row) → are_typed (Some 0) 0 patches.columns (drop 1 row) ≡ true
+    → are_present (Some 0) 0 patches.columns row ≡ true
+    → with_one_null (columns_at (shown_places Patches) row) ≡ row
+patch_whole [] typed present = absurd (omega (arith, one_behind [] [] (λ k. refl) typed present))
+patch_whole (id ∷ []) typed present =
+    absurd (omega (arith, one_behind (id ∷ []) [] (λ k. refl) typed present))
+patch_whole (id ∷ v ∷ vs) typed present =
+    let parts = and_parts (is_null v) (are_typed (Some 0) 1 (drop 1 patches.columns) vs) typed in
+    let many = one_behind (id ∷ v ∷ vs) vs (λ k. refl) parts.1 present in
+    ap (λ more. id ∷ Null ∷ more) (its_columns 1 vs many)
     ∙ ap (λ n. id ∷ n ∷ vs) (sym (only_null v parts.0))
 
 -- ---- rows of commands

@@ -19,9 +19,9 @@ use Rattle.sqlite.proofs.Callers.{IsPlain, command_of, statement_of}
 use Rattle.sqlite_tied.specs.Compute.{everything}
 use Rattle.sqlite_rows.proofs.Failing.{is_all_of}
 use Rattle.sqlite_rows.proofs.Finding.{scan}
-use Rattle.gm_rows.specs.Texts.{about_text, mirrors_text, components_text, intents_text, commands_text}
-use Rattle.gm_rows.specs.Statements.{put_about_text, upsert_mirror_text, drop_mirror_text, upsert_component_text, drop_component_text, put_intent_text, put_command_text, settle_text, find_command_text, last_command_text}
-use Rattle.gm_rows.specs.Schema.{about, mirrors, components, intents, commands, no_schema, with_about, with_mirrors, with_components, with_intents, registry_schema}
+use Rattle.gm_rows.specs.Texts.{about_text, mirrors_text, components_text, intents_text, commands_text, patches_text}
+use Rattle.gm_rows.specs.Statements.{put_about_text, upsert_mirror_text, drop_mirror_text, upsert_component_text, drop_component_text, put_intent_text, put_command_text, put_patch_text, settle_text, drop_patches_text, drop_about_text, find_command_text, last_command_text}
+use Rattle.gm_rows.specs.Schema.{about, mirrors, components, intents, commands, patches, no_schema, with_about, with_mirrors, with_components, with_intents, first_schema, registry_schema}
 
 -- the text makes this table over a schema that was there before
 pub record Defines (before after : Schema) (text : List ℕ) (table : Table) : Type 0 where
@@ -76,9 +76,20 @@ intents_is = record {
   schema_is = refl;
 }
 
-pub commands_is : Defines with_intents registry_schema commands_text commands
+pub commands_is : Defines with_intents first_schema commands_text commands
 unfolding understood everything
 commands_is = record {
+  command = refl;
+  alone = refl;
+  plain = (refl, refl);
+  whole = refl;
+  table_is = refl;
+  schema_is = refl;
+}
+
+pub patches_is : Defines first_schema registry_schema patches_text patches
+unfolding understood everything
+patches_is = record {
   command = refl;
   alone = refl;
   plain = (refl, refl);
@@ -93,7 +104,7 @@ pub record Means (text : List ℕ) (command : Command) : Type 0 where
   pub plain : IsPlain (understood registry_schema text)
 
 abbrev pub put_about : Command
-put_about = Insert 0 (Values (lit (Int (pos 1)) ∷ lit Null ∷ lit (Int (pos 1)) ∷ []) 3)
+put_about = Insert 0 (Values (lit (Int (pos 1)) ∷ lit Null ∷ lit (Int (pos 2)) ∷ []) 3)
 
 pub put_about_is : Means put_about_text put_about
 unfolding understood everything
@@ -160,19 +171,41 @@ pub put_command_is : Means put_command_text (Insert 4 (Values command_terms 6))
 unfolding understood everything
 put_command_is = record { command_is = refl; plain = (refl, refl) }
 
-abbrev pub settle : Command
-settle = Delete 3 (record { lets = []; body = scan 7 [] (col 1 0 ∷ []) [] })
+-- the bytes are the parameter
+abbrev pub patch_terms : List Term
+patch_terms = lit (Int (pos 1)) ∷ lit Null ∷ col 0 0 ∷ []
 
-pub settle_is : Means settle_text settle
+pub put_patch_is : Means put_patch_text (Insert 5 (Values patch_terms 3))
+unfolding understood everything
+put_patch_is = record { command_is = refl; plain = (refl, refl) }
+
+-- deletes all rows of a table
+abbrev pub clear : ℕ → ℕ → Command
+clear at tree = Delete at (record { lets = []; body = scan tree [] (col 1 0 ∷ []) [] })
+
+pub settle_is : Means settle_text (clear 3 7)
 unfolding understood everything
 settle_is = record { command_is = refl; plain = (refl, refl) }
 
--- the text is this query over the tables
-pub record Asks (text : List ℕ) (query : Query) (names : List (List ℕ)) : Type 0 where
-  pub command_is : command_of (understood registry_schema text)
+pub drop_patches_is : Means drop_patches_text (clear 5 11)
+unfolding understood everything
+drop_patches_is = record { command_is = refl; plain = (refl, refl) }
+
+pub drop_about_is : Means drop_about_text (clear 0 0)
+unfolding understood everything
+drop_about_is = record { command_is = refl; plain = (refl, refl) }
+
+-- the text is this query over the tables of the schema
+pub record AsksOver (schema : Schema) (text : List ℕ) (query : Query) (names : List (List ℕ)) :
+    Type 0 where
+  pub command_is : command_of (understood schema text)
       ≡ Select (record { lets = []; body = query }) names
-  pub plain : IsPlain (understood registry_schema text)
-  pub of_tables : reads_listing registry_schema text ≡ false
+  pub plain : IsPlain (understood schema text)
+  pub of_tables : reads_listing schema text ≡ false
+
+-- over those of the registry
+abbrev pub Asks : List ℕ → Query → List (List ℕ) → Type 0
+Asks = AsksOver registry_schema
 
 abbrev pub shown_terms : List Term
 shown_terms = col 1 2 ∷ col 1 3 ∷ col 1 4 ∷ col 1 5 ∷ []

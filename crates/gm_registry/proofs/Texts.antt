@@ -1,5 +1,5 @@
 -- The texts that a store lists, as the query of them finds them.
-use Rattle.std.proofs.Common.{◌≡◌, ◌∙◌, ◌⊎◌, inl, inr, ⊎_elim, IsSome, IsTrue, ℕ, ◌<◌, ◌≤◌, pos, Bool, true, false, not, List, [], ◌∷◌, filter, map, length, if◌then◌else◌, codes, Result, IsPermutation, refl, sym, ap, subst, arith}
+use Rattle.std.proofs.Common.{◌≡◌, ◌∙◌, ◌⊎◌, inl, inr, ⊎_elim, IsSome, IsTrue, ℕ, ◌<◌, ◌≤◌, pos, Bool, true, false, not, List, [], ◌∷◌, ◌++◌, filter, map, length, if◌then◌else◌, codes, Result, IsPermutation, refl, sym, ap, subst, arith}
 use Rattle.std.proofs.lemmas.List.Elements.{filter_agree}
 use Rattle.std.proofs.lemmas.List.Sorted.{IsPermutation-refl, IsPermutation-sym, IsPermutation-trans, IsPermutation-map, IsPermutation-cons, IsPermutation-swap, length_permutation}
 use Rattle.sqlite_trees.proofs.ListLemmas.{map-map}
@@ -23,7 +23,7 @@ use Rattle.sqlite_resolve.specs.declared.error.CompileError.{CompileError}
 use Rattle.sqlite_resolve.specs.Compile.{compiled}
 use Rattle.sqlite.specs.Listing.{understood, listing_schema, if_select, IsSourceOf}
 use Rattle.sqlite.specs.Given.{IsPlain}
-use Rattle.sqlite.specs.State.{State, HasCleanDisk, Shown, FailsToQuery}
+use Rattle.sqlite.specs.State.{State, HasCleanDisk, Shown, FailsToQuery, Survives}
 use Rattle.sqlite.specs.declared.error.Error.{Error}
 use Rattle.sqlite_disk.specs.Disk.{MoreFaults}
 use Rattle.sqlite_sql.specs.Program.{QueryOverflows}
@@ -32,19 +32,20 @@ use Rattle.sqlite_rows.proofs.Failing.{is_all_of, listing_fault}
 use Rattle.gm_rows.specs.Faults.{fault_of}
 use Rattle.gm_rows.specs.declared.fault.StoreFault.TheVariants.{Store}
 use Rattle.gm_registry.proofs.Failures.{never, told}
-use Rattle.sqlite.proofs.StateLemmas.{survives_weaker}
+use Rattle.sqlite.proofs.StateLemmas.{survives_then, survives_weaker}
 use Rattle.sqlite.proofs.Callers.{command_of}
 use Rattle.sqlite_tied.specs.Compute.{everything}
 use Rattle.sqlite_rows.proofs.Finding.{scan, found, overlaid}
 use Rattle.gm_lists.specs.Ordered.{Has}
 use Rattle.gm_lists.proofs.Sorting.{Has-permutation}
 use Rattle.gm_rows.specs.Statements.{load_texts_text}
-use Rattle.gm_rows.specs.Texts.{about_text, mirrors_text, components_text, intents_text, commands_text}
-use Rattle.gm_rows.specs.Schema.{registry_schema}
+use Rattle.gm_rows.specs.Texts.{about_text, mirrors_text, components_text, intents_text, commands_text, patches_text}
 use Rattle.gm_rows.specs.Values.{columns_at, two}
-use Rattle.sqlite_rows.specs.Reads.{HasFailedOver}
-use Rattle.gm_registry.specs.Reads.{IsOurSchema, HasFailed}
-use Rattle.gm_registry.specs.Listing.{listed, under_number, our_tables, AllStand, ListsOurs, ShowsList}
+use Rattle.sqlite_rows.specs.Reads.{HasReadOver, HasFailedOver}
+use Rattle.gm_registry.specs.Opening.{schema_of, IsOfRegistry}
+use Rattle.gm_registry.specs.Listing.{listed, under_number, tables_of, AllStand, Lists, ShowsList}
+use Rattle.gm_registry.specs.declared.edition.Edition.{Edition}
+use Rattle.gm_registry.specs.declared.edition.Edition.TheVariants.{First, Second}
 
 -- ---- the query
 
@@ -80,9 +81,10 @@ texts_safe db (inl none) = none
 texts_safe db (inr over) = never (db 0) over
 
 -- no table of a registry has the name of the list
-pub ours_shows : ShowsList registry_schema
+pub ours_shows : (edition : Edition) → ShowsList (schema_of edition)
 unfolding everything
-ours_shows = refl
+ours_shows First = refl
+ours_shows Second = refl
 
 understood_there : (schema : Schema) → ShowsList schema
     → understood schema load_texts_text ≡ over_list
@@ -136,7 +138,7 @@ lists old new rows shows h =
     subst (λ l. IsPermutation (map (λ (row : Row). column row 0 ∷ column row 5 ∷ []) l) rows)
     (kept ∙ ap (filter (λ (row : Row). not (is_null (column row 5)))) source.1) got
 
--- ---- five rows that are among others
+-- ---- rows that are among others
 
 abbrev AllDiffer : {A : Type 0} → List A → Type 0
 AllDiffer [] = Unit {0}
@@ -202,70 +204,130 @@ abbrev five : List (ℕ × List ℕ)
 five = (1, about_text) ∷ (2, mirrors_text) ∷ (5, components_text) ∷ (8, intents_text)
     ∷ (9, commands_text) ∷ []
 
-all_differ : AllDiffer our_tables
-all_differ = differ_by_number 0 five (
+five_differ : AllDiffer (tables_of First)
+five_differ = differ_by_number 0 five (
   omega arith,
   (omega arith, (omega arith, (omega arith, (omega arith, tt)))),
 )
 
-pub all_five : (rows : List Row) → length rows ≡ 5 → AllStand rows our_tables
-    → IsPermutation our_tables rows
-all_five rows many all = covers our_tables rows all_differ there many
-  where
-    there : (x : Row) → Has our_tables x → Has rows x
-    there x (inl same) = subst (Has rows) same all.0
-    there x (inr (inl same)) = subst (Has rows) same all.1.0
-    there x (inr (inr (inl same))) = subst (Has rows) same all.1.1.0
-    there x (inr (inr (inr (inl same)))) = subst (Has rows) same all.1.1.1.0
-    there x (inr (inr (inr (inr (inl same))))) = subst (Has rows) same all.1.1.1.1
-    there x (inr (inr (inr (inr (inr none))))) = absurd none
+six_differ : AllDiffer (tables_of Second)
+six_differ = differ_by_number 0 (five ++ (12, patches_text) ∷ []) (
+  omega arith,
+  (omega arith, (omega arith, (omega arith, (omega arith, (omega arith, tt))))),
+)
 
-pub five_stand : (rows : List Row) → IsPermutation our_tables rows
-    → (length rows ≡ 5) × AllStand rows our_tables
-five_stand rows same =
-    let stands : (x : Row) → Has our_tables x → Has rows x =
-    λ x. Has-permutation our_tables rows x same in (
-      length_permutation our_tables rows same,
+-- the tables of the first schema stand there, each and all
+each_stands : (rows : List Row) → AllStand rows (tables_of First) → (x : Row)
+    → Has (tables_of First) x → Has rows x
+each_stands rows all x (inl same) = subst (Has rows) same all.0
+each_stands rows all x (inr (inl same)) = subst (Has rows) same all.1.0
+each_stands rows all x (inr (inr (inl same))) = subst (Has rows) same all.1.1.0
+each_stands rows all x (inr (inr (inr (inl same)))) = subst (Has rows) same all.1.1.1.0
+each_stands rows all x (inr (inr (inr (inr (inl same))))) = subst (Has rows) same all.1.1.1.1
+each_stands rows all x (inr (inr (inr (inr (inr none))))) = absurd none
+
+all_stand : (rows : List Row) → ((x : Row) → Has (tables_of First) x → Has rows x)
+    → AllStand rows (tables_of First)
+all_stand rows stands = (
+  stands _ (inl refl),
+  (
+    stands _ (inr (inl refl)),
+    (
+      stands _ (inr (inr (inl refl))),
       (
-        stands _ (inl refl),
-        (
-          stands _ (inr (inl refl)),
-          (
-            stands _ (inr (inr (inl refl))),
-            (
-              stands _ (inr (inr (inr (inl refl)))),
-              stands _ (inr (inr (inr (inr (inl refl))))),
-            ),
-          ),
-        ),
+        stands _ (inr (inr (inr (inl refl)))),
+        stands _ (inr (inr (inr (inr (inl refl))))),
       ),
+    ),
+  ),
+)
+
+pub all_five : (rows : List Row) → length rows ≡ 5 → AllStand rows (tables_of First)
+    → IsPermutation (tables_of First) rows
+all_five rows many all = covers (tables_of First) rows five_differ (each_stands rows all) many
+
+pub five_stand : (rows : List Row) → IsPermutation (tables_of First) rows
+    → (length rows ≡ 5) × AllStand rows (tables_of First)
+five_stand rows same = (
+  length_permutation (tables_of First) rows same,
+  all_stand rows (λ x. Has-permutation (tables_of First) rows x same),
+)
+
+-- those of the second are one more
+abbrev last_text : Row
+last_text = under_number 12 patches_text
+
+among_first : (x : Row) → Has (tables_of Second) x → Has (tables_of First) x ⊎ (last_text ≡ x)
+among_first x (inl same) = inl (inl same)
+among_first x (inr (inl same)) = inl (inr (inl same))
+among_first x (inr (inr (inl same))) = inl (inr (inr (inl same)))
+among_first x (inr (inr (inr (inl same)))) = inl (inr (inr (inr (inl same))))
+among_first x (inr (inr (inr (inr (inl same))))) = inl (inr (inr (inr (inr (inl same)))))
+among_first x (inr (inr (inr (inr (inr (inl same)))))) = inr same
+among_first x (inr (inr (inr (inr (inr (inr none)))))) = absurd none
+
+among_second : (x : Row) → Has (tables_of First) x → Has (tables_of Second) x
+among_second x (inl same) = inl same
+among_second x (inr (inl same)) = inr (inl same)
+among_second x (inr (inr (inl same))) = inr (inr (inl same))
+among_second x (inr (inr (inr (inl same)))) = inr (inr (inr (inl same)))
+among_second x (inr (inr (inr (inr (inl same))))) = inr (inr (inr (inr (inl same))))
+among_second x (inr (inr (inr (inr (inr none))))) = absurd none
+
+pub all_six : (rows : List Row) → length rows ≡ 6 → AllStand rows (tables_of First)
+    → Has rows last_text → IsPermutation (tables_of Second) rows
+all_six rows many all last =
+    covers (tables_of Second) rows six_differ (λ x h. ⊎_elim (each_stands rows all x)
+    (λ (same : last_text ≡ x). subst (Has rows) same last) (among_first x h)) many
+
+pub six_stand : (rows : List Row) → IsPermutation (tables_of Second) rows
+    → (length rows ≡ 6) × AllStand rows (tables_of First) × Has rows last_text
+six_stand rows same =
+    let stands : (x : Row) → Has (tables_of Second) x → Has rows x =
+    λ x. Has-permutation (tables_of Second) rows x same in (
+      length_permutation (tables_of Second) rows same,
+      all_stand rows (λ x h. stands x (among_second x h)),
+      stands _ (inr (inr (inr (inr (inr (inl refl)))))),
     )
 
--- rows that were shown show our texts exactly where the store lists them
-pub ours_listed : (db : Trees) (rows : List Row) → IsPermutation (listed db) rows
-    → IsPermutation our_tables (map (columns_at two) rows) → ListsOurs db
-ours_listed db rows shown ours =
-    IsPermutation-trans our_tables (map (columns_at two) rows) (listed db) ours
+-- rows that were shown show these texts exactly where the store lists them
+pub ours_listed : (edition : Edition) (db : Trees) (rows : List Row)
+    → IsPermutation (listed db) rows
+    → IsPermutation (tables_of edition) (map (columns_at two) rows) → Lists edition db
+ours_listed edition db rows shown ours =
+    IsPermutation-trans (tables_of edition) (map (columns_at two) rows) (listed db) ours
     (IsPermutation-sym _ _ (subst (λ l. IsPermutation l (map (columns_at two) rows))
     (two_again db) (IsPermutation-map (columns_at two) _ _ shown)))
 
-pub ours_shown : (db : Trees) (rows : List Row) → IsPermutation (listed db) rows → ListsOurs db
-    → IsPermutation our_tables (map (columns_at two) rows)
-ours_shown db rows shown lists =
-    IsPermutation-trans our_tables (listed db) (map (columns_at two) rows) lists
+pub ours_shown : (edition : Edition) (db : Trees) (rows : List Row)
+    → IsPermutation (listed db) rows → Lists edition db
+    → IsPermutation (tables_of edition) (map (columns_at two) rows)
+ours_shown edition db rows shown lists =
+    IsPermutation-trans (tables_of edition) (listed db) (map (columns_at two) rows) lists
     (subst (λ l. IsPermutation l (map (columns_at two) rows)) (two_again db)
     (IsPermutation-map (columns_at two) _ _ shown))
 
 -- ---- reads of the list
 
-pub ours_known : (schema : Schema) → IsOurSchema schema → ShowsList schema
-ours_known schema ours = subst ShowsList (sym ours) ours_shows
+pub ours_known : (schema : Schema) → IsOfRegistry schema → ShowsList schema
+ours_known schema ours = subst ShowsList (sym ours.1) (ours_shows ours.0)
 
--- what is known to list our texts is no store of somebody else's
-pub not_foreign : (old new : State)
-    → (HasCleanDisk new → ShowsList old.now.schema → ListsOurs old.now.trees) → HasFailed old new
-    → ¬ (ListsOurs old.now.trees) → HasFailedOver ShowsList old new
-not_foreign old new tells failed other = record {
+-- what is known to list these texts is no store of somebody else's
+pub not_foreign : (edition : Edition) (old new : State)
+    → (HasCleanDisk new → ShowsList old.now.schema → Lists edition old.now.trees)
+    → {Commits : Trees → Type 0} → Survives old new Commits → ¬ (Lists edition old.now.trees)
+    → HasFailedOver ShowsList old new
+not_foreign edition old new tells left other = record {
   refused = λ clean shows is. absurd (other (tells clean shows));
-  left = survives_weaker old new _ _ (λ clean db _ shows. other (tells clean shows)) failed.left;
+  left = survives_weaker old new _ _ (λ clean db _ shows. other (tells clean shows)) left;
 }
+
+-- so is it through a further call
+pub still_foreign : (edition : Edition) (a b c : State)
+    → (HasCleanDisk b → ShowsList a.now.schema → Lists edition a.now.trees)
+    → HasReadOver IsOfRegistry a b → Survives b c (λ _. Unit {0}) → ¬ (Lists edition a.now.trees)
+    → HasFailedOver ShowsList a c
+still_foreign edition a b c tells read survives =
+    not_foreign edition a c (λ clean shows. tells (omega (arith, survives.clean, clean)) shows)
+    (survives_then a b c _ (λ _. Unit {0}) (λ _. Unit {0}) (λ _ db none. tt)
+    (λ clean db is. tt) read.left survives)

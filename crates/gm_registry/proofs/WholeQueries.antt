@@ -18,10 +18,14 @@ use Rattle.sqlite_rows.proofs.Reading.{read_by, failed_by}
 use Rattle.gm_rows.specs.Schema.{registry_schema}
 use Rattle.gm_rows.specs.Values.{columns_at}
 use Rattle.gm_rows.specs.Queries.{query_text, tree_of, shown_places}
-use Rattle.gm_registry.specs.Reads.{IsOurSchema, IsOurs, HasRead, HasFailed}
+use Rattle.sqlite_rows.specs.Reads.{HasReadOver, HasFailedOver}
+use Rattle.gm_registry.specs.Opening.{schema_of, IsOfRegistry}
+use Rattle.gm_registry.specs.Reads.{IsOurSchema}
+use Rattle.gm_registry.specs.declared.edition.Edition.{Edition}
+use Rattle.gm_registry.specs.declared.edition.Edition.TheVariants.{First, Second}
 use Rattle.gm_rows.specs.declared.fetched.Table.{Table}
-use Rattle.gm_rows.specs.declared.fetched.Table.TheVariants.{About, Mirrors, Components, Intents, Commands}
-use Rattle.gm_registry.proofs.TextMeanings.{Asks}
+use Rattle.gm_rows.specs.declared.fetched.Table.TheVariants.{About, Mirrors, Components, Intents, Commands, Patches}
+use Rattle.gm_registry.proofs.TextMeanings.{Asks, AsksOver}
 
 -- by its number
 abbrev pub order_of : Table → List (Term × Key)
@@ -30,13 +34,33 @@ order_of Mirrors = []
 order_of Components = []
 order_of Intents = (col 1 0, record { collation = Binary; descending = false }) ∷ []
 order_of Commands = (col 1 2, record { collation = Binary; descending = false }) ∷ []
+order_of Patches = []
 
 abbrev pub query_of : Table → Query
 query_of t = scan (tree_of t) [] (map (col 1) (shown_places t)) (order_of t)
 
-about_asked : Asks (query_text About) (query_of About) (codes "one" ∷ codes "schema_no" ∷ [])
+-- the schema has the table, as the registry has it
+abbrev pub HasTable : Table → Schema → Type 0
+HasTable About schema = IsOfRegistry schema
+HasTable Mirrors schema = IsOurSchema schema
+HasTable Components schema = IsOurSchema schema
+HasTable Intents schema = IsOurSchema schema
+HasTable Commands schema = IsOurSchema schema
+HasTable Patches schema = IsOurSchema schema
+
+pub ours_have : (t : Table) (schema : Schema) → IsOurSchema schema → HasTable t schema
+ours_have About schema is = (Second, is)
+ours_have Mirrors schema is = is
+ours_have Components schema is = is
+ours_have Intents schema is = is
+ours_have Commands schema is = is
+ours_have Patches schema is = is
+
+about_asked : (edition : Edition) → AsksOver (schema_of edition) (query_text About) (query_of About)
+    (codes "one" ∷ codes "schema_no" ∷ [])
 unfolding understood everything
-about_asked = record { command_is = refl; plain = (refl, refl); of_tables = refl }
+about_asked First = record { command_is = refl; plain = (refl, refl); of_tables = refl }
+about_asked Second = record { command_is = refl; plain = (refl, refl); of_tables = refl }
 
 mirrors_asked : Asks (query_text Mirrors) (query_of Mirrors)
     (codes "name" ∷ codes "mid" ∷ codes "total" ∷ codes "genid" ∷ codes "syncid" ∷ codes "slice"
@@ -61,12 +85,27 @@ commands_asked : Asks (query_text Commands) (query_of Commands)
 unfolding understood everything
 commands_asked = record { command_is = refl; plain = (refl, refl); of_tables = refl }
 
-pub asked : (t : Table) → (names : List (List ℕ)) × Asks (query_text t) (query_of t) names
-asked About = (_, about_asked)
-asked Mirrors = (_, mirrors_asked)
-asked Components = (_, components_asked)
-asked Intents = (_, intents_asked)
-asked Commands = (_, commands_asked)
+patches_asked : Asks (query_text Patches) (query_of Patches) (codes "one" ∷ codes "bytes" ∷ [])
+unfolding understood everything
+patches_asked = record { command_is = refl; plain = (refl, refl); of_tables = refl }
+
+-- what a query is over a schema that has its table
+module _ (schema : Schema) where
+  abbrev IsAsked : Table → Type 0
+  IsAsked t = (names : List (List ℕ)) × AsksOver schema (query_text t) (query_of t) names
+
+  over : (t : Table) (names : List (List ℕ)) (known : Schema)
+      → AsksOver known (query_text t) (query_of t) names → schema ≡ known → IsAsked t
+  over t names known asks is =
+      (names, subst (λ s. AsksOver s (query_text t) (query_of t) names) (sym is) asks)
+
+  pub asked : (t : Table) → HasTable t schema → IsAsked t
+  asked About has = over About _ (schema_of has.0) (about_asked has.0) has.1
+  asked Mirrors has = over Mirrors _ registry_schema mirrors_asked has
+  asked Components has = over Components _ registry_schema components_asked has
+  asked Intents has = over Intents _ registry_schema intents_asked has
+  asked Commands has = over Commands _ registry_schema commands_asked has
+  asked Patches has = over Patches _ registry_schema patches_asked has
 
 -- the terms of a query are its places
 terms_are : (t : Table) (row : Row)
@@ -76,34 +115,36 @@ terms_are Mirrors row = refl
 terms_are Components row = refl
 terms_are Intents row = refl
 terms_are Commands row = refl
+terms_are Patches row = refl
 
-pub answers : (t : Table) (old new : State) (rows : List Row) → IsOurs old
+pub answers : (t : Table) (old new : State) (rows : List Row) → HasTable t old.now.schema
     → Shown (query_text t) [] old new rows → IsAnswer (query_of t) old.now.trees [] rows
-answers t old new rows ours h =
-    let asks = (asked t).1 in
-    let all = reads_as (query_text t) [] old new registry_schema ours _ asks.command_is asks.plain
+answers t old new rows has h =
+    let asks = (asked old.now.schema t has).1 in
+    let all = reads_as (query_text t) [] old new old.now.schema refl _ asks.command_is asks.plain
     asks.of_tables rows h in
     subst (λ db. IsAnswer (query_of t) db [] rows) (overlaid old.now.trees) (all.answer Null)
 
-pub shows : (t : Table) (old new : State) (rows : List Row) → IsOurs old
+pub shows : (t : Table) (old new : State) (rows : List Row) → HasTable t old.now.schema
     → Shown (query_text t) [] old new rows
     → IsPermutation (map (columns_at (shown_places t)) (old.now.trees (tree_of t))) rows
-shows t old new rows ours h =
+shows t old new rows has h =
     let got = found_all (tree_of t) (map (col 1) (shown_places t))
-    (order_of t) old.now.trees [] rows (answers t old new rows ours h) in
+    (order_of t) old.now.trees [] rows (answers t old new rows has h) in
     subst (λ (f : Row → Row). IsPermutation (map f (old.now.trees (tree_of t))) rows)
     (λ i row. terms_are t row i) got
 
-plain_query : (t : Table) (s : Schema) → IsOurSchema s → IsPlain (understood s (query_text t))
-plain_query t s ours =
-    subst (λ sc. IsPlain (understood sc (query_text t))) (sym ours) (asked t).1.plain
+-- where it is known that the schema has the table
+module _ (t : Table) (Known : Schema → Type 0) (has : (s : Schema) → Known s → HasTable t s) where
+  plain_query : (s : Schema) → Known s → IsPlain (understood s (query_text t))
+  plain_query s known = (asked s t (has s known)).1.plain
 
-pub read : (t : Table) (old new : State) (rows : List Row)
-    → (HasCleanDisk new → Shown (query_text t) [] old new rows)
-    → Survives old new (CommitsShowing (query_text t) [] old) → HasRead old new
-read t = read_by IsOurSchema (query_text t) [] (plain_query t)
+  pub read : (old new : State) (rows : List Row)
+      → (HasCleanDisk new → Shown (query_text t) [] old new rows)
+      → Survives old new (CommitsShowing (query_text t) [] old) → HasReadOver Known old new
+  read = read_by Known (query_text t) [] plain_query
 
-pub failed : (t : Table) (old new : State) (e : Error)
-    → (HasCleanDisk new → FailsToQuery (query_text t) [] old new e)
-    → Survives old new (CommitsShowing (query_text t) [] old) → HasFailed old new
-failed t = failed_by IsOurSchema (query_text t) [] (plain_query t)
+  pub failed : (old new : State) (e : Error)
+      → (HasCleanDisk new → FailsToQuery (query_text t) [] old new e)
+      → Survives old new (CommitsShowing (query_text t) [] old) → HasFailedOver Known old new
+  failed = failed_by Known (query_text t) [] plain_query

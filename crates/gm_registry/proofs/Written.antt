@@ -9,14 +9,14 @@ use Rattle.gm_state.specs.declared.records.Mirror.{Mirror}
 use Rattle.gm_state.specs.declared.records.Component.{Component}
 use Rattle.gm_lists.specs.Ordered.{Has, Ascends, label_lt, put, put_all, without, without_all}
 use Rattle.gm_state.specs.Records.{Records, IsState, name, provider}
-use Rattle.gm_state.specs.Rows.{Tables, MirrorRow, ComponentRow, mirror_row, component_row, intent_rows}
+use Rattle.gm_state.specs.Rows.{Tables, MirrorRow, ComponentRow, mirror_row, component_row, intent_rows, patch_rows}
 use Rattle.gm_lists.proofs.Order.{same_is, same_from, differ, lt_differ, lt_trans}
 use Rattle.gm_lists.proofs.Putting.{Ascends-put, filter_id}
 use Rattle.gm_lists.proofs.Lists.{Ascends-filter}
 use Rattle.gm_changes.specs.Decides.{Changed, put_some, without_some, changed_by}
 use Rattle.gm_rows.specs.ReadableTables.{HoldState}
 use Rattle.gm_registry.specs.FittingChanges.{without_gone}
-use Rattle.gm_registry.specs.Changes.{mirror_key, component_key, without_component, with_component, without_some_mirror, with_some_mirror, without_components, with_components, with_intents, with_records, with_command, command_row, with_change, with_accepted}
+use Rattle.gm_registry.specs.Changes.{mirror_key, component_key, without_component, with_component, without_some_mirror, with_some_mirror, without_components, with_components, with_intents, with_bytes, with_records, with_command, command_row, with_change, with_accepted}
 
 -- ---- lists of records and of their rows
 
@@ -128,6 +128,7 @@ written ch t = record {
       put_all_rows ch.components (without_all component_key ch.gone_components t.components);
   intents = t.intents;
   commands = t.commands;
+  patches = t.patches;
 }
 
 pub with_records_is : (ch : Changed) (t : Tables) → with_records ch t ≡ written ch t
@@ -251,13 +252,14 @@ committed ch key n words t = record {
   components = (written ch t).components;
   intents = intent_rows 1 ch.intents ++ t.intents;
   commands = command_row key n words ch.reply ∷ t.commands;
+  patches = patch_rows ch.bytes ++ t.patches;
 }
 
 with_change_is : (ch : Changed) (key : List ℕ) (n : ℕ) (words : List ℕ) (t : Tables)
     → with_change ch key n words t ≡ committed ch key n words t
 with_change_is ch key n words t =
     ap (λ (s : Tables). with_command (command_row key n words ch.reply)
-    (with_intents (intent_rows 1 ch.intents) s)) (with_records_is ch t)
+    (with_bytes ch.bytes (with_intents (intent_rows 1 ch.intents) s))) (with_records_is ch t)
 
 pub commands_with : (ch : Changed) (key : List ℕ) (n : ℕ) (words : List ℕ) (t : Tables)
     → (with_change ch key n words t).commands ≡ command_row key n words ch.reply ∷ t.commands
@@ -277,6 +279,11 @@ pub change_intents : (ch : Changed) (key words : List ℕ) (t : Tables)
     → (with_accepted ch key words t).intents ≡ intent_rows 1 ch.intents ++ t.intents
 change_intents ch key words t =
     ap (λ (a : Tables). a.intents) (with_change_is ch key (length t.commands + 1) words t)
+
+pub change_patches : (ch : Changed) (key words : List ℕ) (t : Tables)
+    → (with_accepted ch key words t).patches ≡ patch_rows ch.bytes ++ t.patches
+change_patches ch key words t =
+    ap (λ (a : Tables). a.patches) (with_change_is ch key (length t.commands + 1) words t)
 
 pub change_commands : (ch : Changed) (key words : List ℕ) (t : Tables)
     → (with_accepted ch key words t).commands ≡ command_row key

@@ -5,7 +5,7 @@ use Rattle.gm_state.specs.declared.records.Component.{Component}
 use Rattle.gm_state.specs.declared.intents.Intent.{Intent}
 use Rattle.gm_state.specs.declared.intents.Reply.{Reply}
 use Rattle.gm_lists.specs.Ordered.{without}
-use Rattle.gm_state.specs.Rows.{Tables, MirrorRow, ComponentRow, CommandRow, IntentRow, mirror_row, component_row, intent_rows, copied_of, total_of}
+use Rattle.gm_state.specs.Rows.{Tables, MirrorRow, ComponentRow, CommandRow, IntentRow, mirror_row, component_row, intent_rows, patch_rows, copied_of, total_of}
 use Rattle.gm_changes.specs.Decides.{Changed}
 use Rattle.gm_registry.specs.declared.intents.Pending.{Pending}
 use Rattle.gm_registry.specs.declared.intents.Pending.TheVariants.{Stays, Goes}
@@ -57,6 +57,14 @@ with_components (k ∷ more) t = with_components more (with_component (component
 abbrev pub with_intents : List IntentRow → Tables → Tables
 with_intents more t = record t { intents = more ++ t.intents }
 
+-- with a record of these bytes
+abbrev pub with_patch : List ℕ → Tables → Tables
+with_patch bytes t = record t { patches = bytes ∷ t.patches }
+
+-- with the record of these bytes, where there are some
+abbrev pub with_bytes : List (List ℕ) → Tables → Tables
+with_bytes bytes t = record t { patches = patch_rows bytes ++ t.patches }
+
 -- the tables with the records of a change: what is gone goes first
 abbrev pub with_records : Changed → Tables → Tables
 with_records ch t =
@@ -74,26 +82,32 @@ command_row key number words reply =
       of_total = total_of reply;
     }
 
--- the tables with the change: its records, its intents, numbered from 1, and the command under its
--- key
+-- the tables with the change: its records, its intents, numbered from 1, the bytes that they lay,
+-- and the command under its key
 abbrev pub with_change : Changed → List ℕ → ℕ → List ℕ → Tables → Tables
 with_change ch key number words t =
     with_command (command_row key number words ch.reply)
-    (with_intents (intent_rows 1 ch.intents) (with_records ch t))
+    (with_bytes ch.bytes (with_intents (intent_rows 1 ch.intents) (with_records ch t)))
 
 -- the same under the next number
 abbrev pub with_accepted : Changed → List ℕ → List ℕ → Tables → Tables
 with_accepted ch key words t = with_change ch key (length t.commands + 1) words t
 
--- no intent is pending
-abbrev pub settled : Tables → Tables
-settled t = record t { intents = [] }
+abbrev pub without_intents : Tables → Tables
+without_intents t = record t { intents = [] }
 
--- the tables with the intents that stay pending where a command is accepted: all, or none
+abbrev pub without_bytes : Tables → Tables
+without_bytes t = record t { patches = [] }
+
+-- no intent is pending, and no bytes are to be laid
+abbrev pub settled : Tables → Tables
+settled t = record t { intents = []; patches = [] }
+
+-- the tables with what stays pending where a command is accepted: all, or nothing
 abbrev pub left_of : Pending → Tables → Tables
 left_of Stays t = t
 left_of Goes t = settled t
 
--- the change with these intents in place of its own
-abbrev pub with_pending : Changed → List Intent → Changed
-with_pending ch ts = record ch { intents = ts }
+-- the change with these intents and bytes in place of its own
+abbrev pub with_pending : Changed → List Intent → List (List ℕ) → Changed
+with_pending ch ts bytes = record ch { intents = ts; bytes = bytes }

@@ -1,10 +1,10 @@
 -- What each step of a change needs of the tables, so that no rule of theirs refuses it.
-use Rattle.std.specs.Prelude.{◌≡◌, ◌≢◌, ℕ, ◌+◌, ◌^◌, ◌<◌, ◌≤◌, List, length}
+use Rattle.std.specs.Prelude.{◌≡◌, ◌≢◌, ◌⊎◌, ℕ, ◌+◌, ◌^◌, ◌<◌, ◌≤◌, List, [], length}
 use Rattle.std.specs.List.{AllByRecursion}
 use Rattle.sqlite.specs.Tree.{Trees}
 use Rattle.sqlite_rows.specs.Numbers.{TakesMore}
 use Rattle.gm_lists.specs.Ordered.{Has}
-use Rattle.gm_state.specs.Rows.{Tables, MirrorRow, ComponentRow, IntentRow, CommandRow}
+use Rattle.gm_state.specs.Rows.{Tables, MirrorRow, ComponentRow, IntentRow, CommandRow, joined}
 use Rattle.gm_registry.specs.Replies.{IsFree}
 
 -- the store can number so many rows more of each table whose rows it numbers itself
@@ -13,7 +13,7 @@ pub record HasRoom (more : ℕ) (db : Trees) : Type 0 where
   pub components : TakesMore more (db 4)
   pub commands : TakesMore more (db 8)
 
--- texts that a row can hold, which has at most a billion bytes
+-- texts or bytes that a row can hold, which has at most a billion of them
 abbrev pub AreShort : List ℕ → List ℕ → Type 0
 AreShort a b = length a + length b + 1000 ≤ 10 ^ 9
 
@@ -50,6 +50,16 @@ IsUnnumbered n t = AllByRecursion (λ (i : IntentRow). i.ord ≢ n) t.intents
 pub record TakesIntents (n : ℕ) (t : Tables) : Type 0 where
   pub few : n < 2 ^ 32
   pub free : (k : ℕ) → 1 ≤ k → k ≤ n → IsUnnumbered k t
+
+-- the record of these bytes can be put: no other is there
+pub record TakesPatch (bytes : List ℕ) (t : Tables) : Type 0 where
+  pub free : t.patches ≡ []
+  pub short : AreShort bytes []
+
+-- these bytes can be put: there are none, or no others are there
+pub record TakesBytes (bytes : List (List ℕ)) (t : Tables) : Type 0 where
+  pub free : (bytes ≡ []) ⊎ (t.patches ≡ [])
+  pub short : AreShort (joined bytes) []
 
 -- no command has this number
 abbrev pub IsUncounted : ℕ → Tables → Type 0

@@ -4,7 +4,7 @@ use Rattle.gm_state.specs.declared.records.Component.{Component}
 use Rattle.gm_state.specs.Rows.{Tables, mirror_row, component_row}
 use Rattle.gm_changes.specs.Decides.{Changed}
 use Rattle.gm_registry.specs.Changes.{with_component, with_some_mirror, without_components, without_some_mirror}
-use Rattle.gm_registry.specs.Fitting.{AreShort, HasFreeNumber, HasNoComponents, IsPlaced, TakesIntents}
+use Rattle.gm_registry.specs.Fitting.{AreShort, HasFreeNumber, HasNoComponents, IsPlaced, TakesBytes, TakesIntents}
 use Rattle.gm_registry.specs.Replies.{IsFree}
 
 -- each of them is placed once those before it were put
@@ -24,9 +24,10 @@ pub record FitsRecords (ch : Changed) (t : Tables) : Type 0 where
   pub put : IfSome ch.mirror (λ m. HasFreeNumber (mirror_row m) (without_gone ch t))
   pub placed : ArePlacedInTurn ch.components (with_some_mirror ch.mirror (without_gone ch t))
 
--- nor do its intents, its key and its words, behind these tables
+-- nor do its intents, its bytes, its key and its words, behind these tables
 pub record FitsTables (ch : Changed) (key words : List ℕ) (t : Tables) : Type 0 where
   pub records : FitsRecords ch t
   pub intents : TakesIntents (length ch.intents) t
+  pub bytes : TakesBytes ch.bytes t
   pub key_free : IsFree t key
   pub short : AreShort key words

@@ -1,15 +1,19 @@
--- A store without tables, and a registry that is being made in it.
-use Rattle.std.specs.Prelude.{◌≡◌, ◌≢◌, ◌⊎◌, true, false, IsTrue, pos, [], ◌∷◌, map}
+-- A store without tables, a registry that is being made in it, and one that is carried over from
+-- the first schema.
+use Rattle.std.specs.Prelude.{◌≡◌, ◌≢◌, ◌⊎◌, ℕ, true, false, IsTrue, List, [], ◌∷◌, map}
 use Rattle.sqlite.specs.Order.{Row, column}
 use Rattle.sqlite.specs.Tree.{Trees}
-use Rattle.sqlite.specs.declared.types.Value.TheVariants.{Int}
 use Rattle.sqlite.specs.Effect.{Database}
 use Rattle.sqlite.specs.State.{State}
 use Rattle.sqlite.specs.Schema.{Schema}
 use Rattle.sqlite_catalog.specs.Listing.{IsSound}
-use Rattle.gm_rows.specs.Schema.{no_schema, registry_schema}
+use Rattle.gm_rows.specs.Rows.{about_numbered, about_values}
+use Rattle.gm_rows.specs.Says.{shown_about}
+use Rattle.gm_rows.specs.Schema.{first_schema, no_schema, registry_schema}
 use Rattle.gm_rows.specs.Tables.{IsEmpty}
-use Rattle.gm_registry.specs.Listing.{ListsOurs, ShowsList}
+use Rattle.gm_registry.specs.Listing.{Lists, ShowsList}
+use Rattle.gm_registry.specs.declared.edition.Edition.{Edition}
+use Rattle.gm_registry.specs.declared.edition.Edition.TheVariants.{First, Second}
 
 -- an open connection outside a transaction, over a store without tables
 pub record IsBlank (s : State) : Type 0 where
@@ -29,33 +33,58 @@ pub record IsInsideOver (schema : Schema) (first : Database) (s : State) : Type 
 abbrev pub IsBlankInside : Database → State → Type 0
 IsBlankInside = IsInsideOver no_schema
 
--- within a transaction over this commit, where the five tables are there, and empty
-pub record IsBareInside (first : Database) (s : State) : Type 0 where
-  pub is_open : IsTrue s.is_open
-  pub inside : s.in_transaction ≡ true
-  pub first_is : s.committed ≡ first
-  pub schema_is : s.now.schema ≡ registry_schema
-  pub about : s.now.trees 0 ≡ []
-  pub mirrors : s.now.trees 1 ≡ []
-  pub components : s.now.trees 4 ≡ []
-  pub intents : s.now.trees 7 ≡ []
-  pub commands : s.now.trees 8 ≡ []
+-- within a transaction over this commit, where the six tables are there: `about` has these rows,
+-- `patches` none, and the others those of these trees
+pub record IsBeingMade (about : List Row) (rows : Trees) (first : Database) (s : State) : Type 0
+  where
+    pub is_open : IsTrue s.is_open
+    pub inside : s.in_transaction ≡ true
+    pub first_is : s.committed ≡ first
+    pub schema_is : s.now.schema ≡ registry_schema
+    pub sound : IsSound registry_schema s.now.trees
+    pub about_is : s.now.trees 0 ≡ about
+    pub mirrors : s.now.trees 1 ≡ rows 1
+    pub components : s.now.trees 4 ≡ rows 4
+    pub intents : s.now.trees 7 ≡ rows 7
+    pub commands : s.now.trees 8 ≡ rows 8
+    pub patches : s.now.trees 11 ≡ []
+
+-- trees without a row
+abbrev pub no_rows : Trees
+no_rows tree = []
+
+-- ---- the two schemas of a registry
+
+abbrev pub schema_of : Edition → Schema
+schema_of First = first_schema
+schema_of Second = registry_schema
+
+-- its number in `about`
+abbrev pub number_of : Edition → ℕ
+number_of First = 1
+number_of Second = 2
 
 -- the two numbers of a record of `about`
 abbrev pub about_numbers : Row → Row
 about_numbers row = column row 0 ∷ column row 2 ∷ []
 
-abbrev pub one_one : Row
-one_one = Int (pos 1) ∷ Int (pos 1) ∷ []
+-- `about` has the one record (1, its number)
+abbrev pub IsNumbered : Edition → Trees → Type 0
+IsNumbered edition db = map about_numbers (db 0) ≡ shown_about (number_of edition) ∷ []
 
--- `about` has the one record (1, 1)
-abbrev pub IsOfSchema1 : Trees → Type 0
-IsOfSchema1 db = map about_numbers (db 0) ≡ one_one ∷ []
+-- the schema is one of them
+abbrev pub IsOfRegistry : Schema → Type 0
+IsOfRegistry schema = (edition : Edition) × (schema ≡ schema_of edition)
 
--- an opening takes such a store: one without tables, or one that lists those of a registry, with
--- the one record of `about`
+-- a store that lists the tables of this schema, with the one record of `about`
+pub record IsOfEdition (edition : Edition) (db : Trees) : Type 0 where
+  pub sound : IsSound (schema_of edition) db
+  pub listed : Lists edition db
+  pub numbered : IsNumbered edition db
+
+-- an opening takes such a store: one without tables, or one of either schema
 abbrev pub IsOpenable : Trees → Type 0
-IsOpenable db = IsEmpty db ⊎ (IsSound registry_schema db × ListsOurs db × IsOfSchema1 db)
+IsOpenable db = IsEmpty db ⊎ ((edition : Edition) × IsOfEdition edition db)
 
 -- tables that aren't listed as those of a registry are
 pub record IsForeign (db : Trees) : Type 0 where
@@ -63,12 +92,54 @@ pub record IsForeign (db : Trees) : Type 0 where
   pub sound : IsSound schema db
   pub some : schema ≢ no_schema
   pub shows : ShowsList schema
-  pub other : ¬ (ListsOurs db)
+  pub other : (edition : Edition) → ¬ (Lists edition db)
+
+-- a store that has the tables of a registry, of either schema
+abbrev pub HasOurTables : Trees → Type 0
+HasOurTables db = (edition : Edition) × IsSound (schema_of edition) db
 
 -- a store that has tables, those of a registry or others
 abbrev pub HasSomeTables : Trees → Type 0
-HasSomeTables db = IsSound registry_schema db ⊎ IsForeign db
+HasSomeTables db = HasOurTables db ⊎ IsForeign db
 
 -- what can be told of a store: that it has no tables, or those of a registry, or others
 abbrev pub IsKnownStore : Trees → Type 0
 IsKnownStore db = IsEmpty db ⊎ HasSomeTables db
+
+-- ---- a store of the first schema that is carried over
+
+-- an open connection outside a transaction, over the tables of the first schema, whatever they hold
+pub record SeesFirstStore (s : State) : Type 0 where
+  pub is_open : IsTrue s.is_open
+  pub autocommit : s.in_transaction ≡ false
+  pub schema_is : s.committed.schema ≡ first_schema
+  pub settled : s.now ≡ s.committed
+  pub sound : IsSound first_schema s.committed.trees
+
+-- the same with the one record of `about`
+pub record SeesFirstRegistry (s : State) : Type 0 where
+  pub store : SeesFirstStore s
+  pub about : s.committed.trees 0 ≡ about_numbered 1 ∷ []
+
+-- within a transaction over such a commit, where nothing is written yet
+pub record IsFirstInside (first : Database) (s : State) : Type 0 where
+  pub over : IsInsideOver first_schema first s
+  pub seen : s.now ≡ first
+  pub about : first.trees 0 ≡ about_numbered 1 ∷ []
+
+-- it is open, outside a transaction, and nothing was committed
+pub record IsAsBefore (old new : State) : Type 0 where
+  pub is_open : IsTrue new.is_open
+  pub autocommit : new.in_transaction ≡ false
+  pub settled : new.now ≡ new.committed
+  pub committed_is : new.committed ≡ old.committed
+
+-- the store of the second schema with these rows, and no bytes
+pub record IsCarriedOver (old new : Trees) : Type 0 where
+  pub sound : IsSound registry_schema new
+  pub about : new 0 ≡ about_values ∷ []
+  pub mirrors : new 1 ≡ old 1
+  pub components : new 4 ≡ old 4
+  pub intents : new 7 ≡ old 7
+  pub commands : new 8 ≡ old 8
+  pub patches : new 11 ≡ []

@@ -14,9 +14,10 @@ use Rattle.gm_state.specs.declared.intents.Intent.{Intent}
 use Rattle.gm_state.specs.Records.{Records}
 use Rattle.gm_state.specs.Rows.{Tables}
 use Rattle.gm_rows.specs.Faults.{OnOther}
-use Rattle.gm_rows.specs.Tables.{Holds, SeesTables, SeesRegistry, IsInside}
+use Rattle.gm_rows.specs.Tables.{Holds, SeesTables, SeesFirst, SeesRegistry, IsInside}
 use Rattle.gm_rows.specs.ReadableTables.{AreTablesOf}
 use Rattle.gm_registry.specs.Fitting.{HasRoom}
+use Rattle.gm_registry.specs.Opening.{IsCarriedOver}
 use Rattle.gm_registry.specs.Reads as reads
 
 module _ {S : Type 0} (g : Ghosts S) where
@@ -47,11 +48,16 @@ module _ {S : Type 0} (g : Ghosts S) where
   abbrev pub HasTables : Held S → Tables → Type 0
   HasTables r t = SeesTables (state g r) t
 
-  -- it has tables, and they are those of the state with these intents pending
-  pub record HasTablesOf (r : Held S) (s : Records) (ts : List Intent) : Type 0 where
+  -- the same over a registry of the first schema
+  abbrev pub HasFirstTables : Held S → Tables → Type 0
+  HasFirstTables r t = SeesFirst (state g r) t
+
+  -- it has tables, and they are those of the state with these intents and these bytes pending
+  pub record HasTablesOf (r : Held S) (s : Records) (ts : List Intent) (bytes : List (List ℕ)) :
+      Type 0 where
     pub tables : Tables
     pub has : HasTables r tables
-    pub are : AreTablesOf tables s ts
+    pub are : AreTablesOf tables s ts bytes
 
   -- it is open, outside a transaction, over the tables of a registry, whatever they hold
   abbrev pub IsRegistry : Held S → Type 0
@@ -70,6 +76,10 @@ module _ {S : Type 0} (g : Ghosts S) where
   -- a crash finds what it could find before the call, or a registry with these tables
   abbrev pub MayLeave : Held S → Held S → Tables → Type 0
   MayLeave old new t = Survives (state g old) (state g new) (λ db. Holds db t)
+
+  -- a crash finds what it could find before the call, or that store carried over
+  abbrev pub MayCarryOver : Held S → Held S → Type 0
+  MayCarryOver old new = Survives (state g old) (state g new) (IsCarriedOver (stored old))
 
   -- a crash finds only what it could find before the call
   abbrev pub LeavesNothingNew : Held S → Held S → Type 0

@@ -1,5 +1,5 @@
-//! A command's change, with its intents and its key, in one transaction; also in place of what is
-//! pending.
+//! A command's change, with its intents, its bytes and its key, in one transaction; also in place
+//! of what is pending.
 
 ghost use Rattle.std.specs.Prelude.{◌≡◌, ◌≤◌, ◌+◌, ◌↔◌, length, IfOk, OnOk, OnErr, IfSome, IsTrue};
 ghost use Rattle.sqlite.specs.State.{Survives};
@@ -18,6 +18,7 @@ use crate::commands::put_command;
 use crate::components::{drop_components, put_components};
 use crate::intents::{Pending, drop_pending, put_intents};
 use crate::mirrors::{drop_mirror, put_mirror};
+use crate::patches::put_bytes;
 use crate::replies::accepted_on;
 use gm_changes::Change;
 use gm_commands::MAX_COMMANDS;
@@ -82,35 +83,38 @@ fn put_records<S: Alter>(tx: &mut Transaction<'_, S>, change: &Change) -> Result
     put_components(tx, change.components())
 }
 
-/// Writes a change, with these intents, and its key.
+/// Writes a change, with these intents and bytes, and its key.
 fn put_change<S: Alter>(
     tx: &mut Transaction<'_, S>,
     change: &Change,
     intents: &[Intent],
+    bytes: &[[u8; 512]],
     key: &str,
     number: u32,
     words: &str,
 ) -> Result<(), Error>
     ensures same_reference { tx.new.conn.ghost_name ≡ tx.old.conn.ghost_name }
-    ensures put { MakesInside S.Store tx.old.conn.now tx.new.conn.now result
-        (with_change (with_pending change.now intents.now) key.now number words.now) }
+    ensures put { MakesInside S.Store tx.old.conn.now tx.new.conn.now result (with_change
+        (with_pending change.now intents.now bytes.now) key.now number words.now) }
     ensures fails { FailsInside S.Store tx.old.conn.now tx.new.conn.now result
-        (λ db t. FitsTables (with_pending change.now intents.now) key.now words.now t
+        (λ db t. FitsTables (with_pending change.now intents.now bytes.now) key.now words.now t
         × IsUncounted number t × HasRoom (length change.now.components + 2) db) }
     ensures kept { KeepsCommit S.Store tx.old.conn.now tx.new.conn.now }
     ensures survives { LeavesNothingNew S.Store tx.old.conn.now tx.new.conn.now }
 {
     put_records(tx, change)?;
     put_intents(tx, intents)?;
+    put_bytes(tx, bytes)?;
     put_command(tx, key, number, words, change.reply())?;
     Ok(())
 }
 
-/// The same behind what becomes of the intents that are pending.
+/// The same behind what becomes of what is pending.
 fn put_over<S: Alter>(
     tx: &mut Transaction<'_, S>,
     change: &Change,
     intents: &[Intent],
+    bytes: &[[u8; 512]],
     pending: Pending,
     key: &str,
     number: u32,
@@ -118,16 +122,17 @@ fn put_over<S: Alter>(
 ) -> Result<(), Error>
     ensures same_reference { tx.new.conn.ghost_name ≡ tx.old.conn.ghost_name }
     ensures put { MakesInside S.Store tx.old.conn.now tx.new.conn.now result (λ t.
-        with_change (with_pending change.now intents.now) key.now number words.now
+        with_change (with_pending change.now intents.now bytes.now) key.now number words.now
         (left_of pending t)) }
     ensures fails { FailsInside S.Store tx.old.conn.now tx.new.conn.now result (λ db t.
-        FitsTables (with_pending change.now intents.now) key.now words.now (left_of pending t)
+        FitsTables (with_pending change.now intents.now bytes.now) key.now words.now
+        (left_of pending t)
         × IsUncounted number t × HasRoom (length change.now.components + 2) db) }
     ensures kept { KeepsCommit S.Store tx.old.conn.now tx.new.conn.now }
     ensures survives { LeavesNothingNew S.Store tx.old.conn.now tx.new.conn.now }
 {
     drop_pending(tx, pending)?;
-    put_change(tx, change, intents, key, number, words)
+    put_change(tx, change, intents, bytes, key, number, words)
 }
 
 /// Writes all of that in one transaction.
@@ -135,6 +140,7 @@ fn write_change<S: Alter>(
     conn: &mut Connection<S>,
     change: &Change,
     intents: &[Intent],
+    bytes: &[[u8; 512]],
     pending: Pending,
     key: &str,
     number: u32,
@@ -142,26 +148,28 @@ fn write_change<S: Alter>(
 ) -> Result<(), Error>
     ensures done { DiskKept S.Store conn.new → OnOk result ((t : Tables)
         → HasTables S.Store conn.old t → number ≡ count_of t + 1
-        → HasTables S.Store conn.new (with_change (with_pending change.now intents.now)
+        → HasTables S.Store conn.new (with_change (with_pending change.now intents.now bytes.now)
         key.now number words.now (left_of pending t))) }
     ensures refused { DiskKept S.Store conn.new
         → OnErr result ((t : Tables) → HasTables S.Store conn.old t → number ≡ count_of t + 1
         → IsOpen S.Store conn.new → HasTables S.Store conn.new t) }
     ensures store { DiskKept S.Store conn.new
         → OnOther result ((t : Tables) → HasTables S.Store conn.old t → number ≡ count_of t + 1
-        → FitsTables (with_pending change.now intents.now) key.now words.now (left_of pending t)
+        → FitsTables (with_pending change.now intents.now bytes.now) key.now words.now
+        (left_of pending t)
         → HasRoom (length change.now.components + 2) (seen S.Store conn.old)
         → StoreFailed S.Store conn.old conn.new) }
     ensures left { (t : Tables) → HasTables S.Store conn.old t → number ≡ count_of t + 1
-        → MayLeave S.Store conn.old conn.new (with_change (with_pending change.now intents.now)
-        key.now number words.now (left_of pending t)) }
+        → MayLeave S.Store conn.old conn.new (with_change
+        (with_pending change.now intents.now bytes.now) key.now number words.now
+        (left_of pending t)) }
     ensures survives { Survives (state S.Store conn.old) (state S.Store conn.new) (λ _. Unit {0}) }
 {
     if !conn.is_autocommit() {
         return Err(Error::SqliteFailure(ErrorCode::TransactionState));
     }
     let mut tx = conn.transaction();
-    put_over(&mut tx, change, intents, pending, key, number, words)?;
+    put_over(&mut tx, change, intents, bytes, pending, key, number, words)?;
     tx.commit()
 }
 
@@ -175,27 +183,29 @@ fn is_in_range(reply: Reply) -> bool
     }
 }
 
-/// Accepts a change, with these intents, under the next number. `Store` where as many commands as
-/// may be were accepted already, or where the numbers of the reply are out of range: nothing is
-/// written then.
+/// Accepts a change, with these intents and bytes, under the next number. `Store` where as many
+/// commands as may be were accepted already, or where the numbers of the reply are out of range:
+/// nothing is written then.
 pub(crate) fn accept_on<S: Alter>(
     conn: &mut Connection<S>,
     change: &Change,
     intents: &[Intent],
+    bytes: &[[u8; 512]],
     pending: Pending,
     key: &str,
     words: &str,
 ) -> Result<u64, StoreFault>
     ensures accepts { Accepts S.Store conn.old conn.new result
-        (with_pending change.now intents.now) (left_of pending) key.now words.now }
+        (with_pending change.now intents.now bytes.now) (left_of pending) key.now words.now }
     ensures writes { Writes S.Store conn.old conn.new result (λ t.
-        with_accepted (with_pending change.now intents.now) key.now words.now (left_of pending t)) }
+        with_accepted (with_pending change.now intents.now bytes.now) key.now words.now
+        (left_of pending t)) }
 {
     let count = accepted_on(conn)?;
     if count >= MAX_COMMANDS || !is_in_range(change.reply()) {
         return Err(StoreFault::Store);
     }
     let number = count + 1;
-    write_change(conn, change, intents, pending, key, number, words)?;
+    write_change(conn, change, intents, bytes, pending, key, number, words)?;
     Ok(u64::from(number))
 }

@@ -1,14 +1,16 @@
-//! The five tables and the one record of `about`, made in one transaction.
+//! The six tables and the one record of `about`, made in one transaction.
 
-ghost use Rattle.std.specs.Prelude.{◌≡◌, false, OnOk};
+ghost use Rattle.std.specs.Prelude.{◌≡◌, [], ◌∷◌, false, OnOk};
 ghost use Rattle.sqlite.specs.Held.{state};
 ghost use Rattle.sqlite.specs.Effect.{Database};
 ghost use Rattle.gm_rows.specs.Faults.{OnOther};
-ghost use Rattle.gm_rows.specs.Tables.{IsInside, no_tables};
-ghost use Rattle.gm_registry.specs.Opening.{IsBlank, IsBlankInside, IsBareInside};
-ghost use Rattle.gm_registry.specs.Registry.{DiskKept, HasTables, WasClean, MayLeave, LeavesNothingNew, StoreFailed};
+ghost use Rattle.sqlite.specs.Tree.{Trees};
+ghost use Rattle.gm_rows.specs.Rows.{about_values};
+ghost use Rattle.gm_rows.specs.Tables.{no_tables};
+ghost use Rattle.gm_registry.specs.Opening.{no_rows, IsBeingMade, IsBlank, IsBlankInside};
+ghost use Rattle.gm_registry.specs.Registry.{DiskKept, HasTables, WasClean, MayLeave, LeavesNothingNew, KeepsCommit, StoreFailed};
 
-use gm_rows::{ABOUT, COMMANDS, COMPONENTS, INTENTS, MIRRORS};
+use gm_rows::{ABOUT, COMMANDS, COMPONENTS, INTENTS, MIRRORS, PATCHES};
 use sqlite::{Alter, Connection, Error, Transaction};
 
 /// Makes the tables, over a store without any.
@@ -16,7 +18,7 @@ fn create_tables<S: Alter>(tx: &mut Transaction<'_, S>) -> Result<(), Error>
     ensures same_reference { tx.new.conn.ghost_name ≡ tx.old.conn.ghost_name }
     ensures made { DiskKept S.Store tx.new.conn.now
         → OnOk result ((first : Database) → IsBlankInside first (state S.Store tx.old.conn.now)
-        → IsBareInside first (state S.Store tx.new.conn.now)) }
+        → IsBeingMade [] no_rows first (state S.Store tx.new.conn.now)) }
     ensures fails { DiskKept S.Store tx.new.conn.now
         → OnOther result ((first : Database) → IsBlankInside first (state S.Store tx.old.conn.now)
         → StoreFailed S.Store tx.old.conn.now tx.new.conn.now) }
@@ -27,21 +29,25 @@ fn create_tables<S: Alter>(tx: &mut Transaction<'_, S>) -> Result<(), Error>
     tx.execute(COMPONENTS, &[])?;
     tx.execute(INTENTS, &[])?;
     tx.execute(COMMANDS, &[])?;
+    tx.execute(PATCHES, &[])?;
     Ok(())
 }
 
-/// Adds the record of `about`, over empty tables.
-fn put_about<S: Alter>(tx: &mut Transaction<'_, S>) -> Result<usize, Error>
+/// Adds the record of `about`, where it has none.
+pub(crate) fn put_about<S: Alter>(tx: &mut Transaction<'_, S>) -> Result<usize, Error>
     ensures same_reference { tx.new.conn.ghost_name ≡ tx.old.conn.ghost_name }
     ensures made { DiskKept S.Store tx.new.conn.now
-        → OnOk result ((first : Database) → IsBareInside first (state S.Store tx.old.conn.now)
-        → IsInside first (state S.Store tx.new.conn.now) no_tables) }
+        → OnOk result ((rows : Trees) (first : Database)
+        → IsBeingMade [] rows first (state S.Store tx.old.conn.now)
+        → IsBeingMade (about_values ∷ []) rows first (state S.Store tx.new.conn.now)) }
     ensures fails { DiskKept S.Store tx.new.conn.now
-        → OnOther result ((first : Database) → IsBareInside first (state S.Store tx.old.conn.now)
+        → OnOther result ((rows : Trees) (first : Database)
+        → IsBeingMade [] rows first (state S.Store tx.old.conn.now)
         → StoreFailed S.Store tx.old.conn.now tx.new.conn.now) }
+    ensures kept { KeepsCommit S.Store tx.old.conn.now tx.new.conn.now }
     ensures survives { LeavesNothingNew S.Store tx.old.conn.now tx.new.conn.now }
 {
-    tx.execute("INSERT INTO about (one, schema_no) VALUES (1, 1)", &[])
+    tx.execute("INSERT INTO about (one, schema_no) VALUES (1, 2)", &[])
 }
 
 /// Makes a registry in a store without tables, in one transaction.

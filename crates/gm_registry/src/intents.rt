@@ -1,13 +1,16 @@
-//! The table of intents: written inside a transaction, numbered from 1 in their order, and emptied
-//! in one of its own.
+//! The table of intents, numbered from 1 in their order, written inside a transaction; and what
+//! becomes of all that is pending.
 
-ghost use Rattle.std.specs.Prelude.{◌≡◌, [], ◌∷◌, length, ⊤};
+ghost use Rattle.std.specs.Prelude.{◌≡◌, [], ◌∷◌, length, OnOk, OnErr, ⊤};
 ghost use Rattle.gm_state.specs.Rows.{Tables, intent_row, intent_rows};
-ghost use Rattle.gm_registry.specs.Changes.{with_intents, settled, left_of};
+ghost use Rattle.sqlite.specs.Held.{state};
+ghost use Rattle.sqlite.specs.State.{Survives};
+ghost use Rattle.gm_registry.specs.Changes.{with_intents, without_intents, settled, left_of};
 ghost use Rattle.gm_registry.specs.Fitting.{IsUnnumbered, AreShort, TakesIntents};
-ghost use Rattle.gm_registry.specs.Registry.{DiskKept, HasTables, LeavesNothingNew, KeepsCommit, MakesInside, FailsInside, NumbersInside, StoreFailed, Writes};
+ghost use Rattle.gm_registry.specs.Registry.{DiskKept, IsOpen, HasTables, MayLeave, LeavesNothingNew, KeepsCommit, MakesInside, FailsInside, NumbersInside, StoreFailed, Writes};
 ghost use Rattle.gm_rows.specs.Faults.{OnOther};
 
+use crate::patches::drop_bytes;
 use gm_state::Intent;
 use sqlite::{Alter, Connection, Error, ErrorCode, Transaction, params};
 
@@ -17,6 +20,10 @@ const META: u32 = 1;
 const CLEAR: u32 = 2;
 
 const COPY: u32 = 3;
+
+const DIRTY: u32 = 4;
+
+const PATCH: u32 = 5;
 
 /// Adds the row of an intent under its number.
 fn put_row<S: Alter>(
@@ -75,6 +82,12 @@ fn put_intent<S: Alter>(
             first,
             end,
         } => put_row(tx, ord, COPY, target.as_str(), source.as_str(), first, end),
+        Intent::Dirty { provider } => put_row(tx, ord, DIRTY, provider.as_str(), "", 0, 0),
+        Intent::Patch {
+            provider,
+            first,
+            end,
+        } => put_row(tx, ord, PATCH, provider.as_str(), "", first, end),
     }
 }
 
@@ -103,19 +116,19 @@ pub(crate) fn put_intents<S: Alter>(
     Ok(())
 }
 
-/// What becomes of the intents that are pending where a command is accepted.
+/// What becomes of what is pending where a command is accepted.
 #[derive(Clone, Copy)]
 pub(crate) enum Pending {
-    /// They stay, beside those of the command.
+    /// It stays, beside that of the command.
     Stays,
-    /// They go, and those of the command are all that is pending.
+    /// It goes, and that of the command is all that is pending.
     Goes,
 }
 
 /// Deletes all intents.
 fn drop_intents<S: Alter>(tx: &mut Transaction<'_, S>) -> Result<usize, Error>
     ensures same_reference { tx.new.conn.ghost_name ≡ tx.old.conn.ghost_name }
-    ensures put { MakesInside S.Store tx.old.conn.now tx.new.conn.now result settled }
+    ensures put { MakesInside S.Store tx.old.conn.now tx.new.conn.now result without_intents }
     ensures fails { FailsInside S.Store tx.old.conn.now tx.new.conn.now result (λ _ _. ⊤) }
     ensures numbers { NumbersInside S.Store tx.old.conn.now tx.new.conn.now result 0 }
     ensures kept { KeepsCommit S.Store tx.old.conn.now tx.new.conn.now }
@@ -124,7 +137,21 @@ fn drop_intents<S: Alter>(tx: &mut Transaction<'_, S>) -> Result<usize, Error>
     tx.execute("DELETE FROM intents", &[])
 }
 
-/// Deletes the intents that are pending, where they are to go.
+/// Deletes all intents, and the bytes that they lay.
+fn drop_all<S: Alter>(tx: &mut Transaction<'_, S>) -> Result<(), Error>
+    ensures same_reference { tx.new.conn.ghost_name ≡ tx.old.conn.ghost_name }
+    ensures put { MakesInside S.Store tx.old.conn.now tx.new.conn.now result settled }
+    ensures fails { FailsInside S.Store tx.old.conn.now tx.new.conn.now result (λ _ _. ⊤) }
+    ensures numbers { NumbersInside S.Store tx.old.conn.now tx.new.conn.now result 0 }
+    ensures kept { KeepsCommit S.Store tx.old.conn.now tx.new.conn.now }
+    ensures survives { LeavesNothingNew S.Store tx.old.conn.now tx.new.conn.now }
+{
+    drop_intents(tx)?;
+    drop_bytes(tx)?;
+    Ok(())
+}
+
+/// Deletes what is pending, where it is to go.
 pub(crate) fn drop_pending<S: Alter>(
     tx: &mut Transaction<'_, S>,
     pending: Pending,
@@ -138,19 +165,37 @@ pub(crate) fn drop_pending<S: Alter>(
 {
     match pending {
         Pending::Stays => Ok(()),
-        Pending::Goes => {
-            drop_intents(tx)?;
-            Ok(())
-        }
+        Pending::Goes => drop_all(tx),
     }
 }
 
-/// Deletes all intents, in one transaction.
-pub(crate) fn settle_on<S: Alter>(conn: &mut Connection<S>) -> Result<usize, Error>
+/// Deletes all that is pending, in one transaction.
+fn write_settled<S: Alter>(conn: &mut Connection<S>) -> Result<(), Error>
+    ensures done { DiskKept S.Store conn.new → OnOk result ((t : Tables)
+        → HasTables S.Store conn.old t → HasTables S.Store conn.new (settled t)) }
+    ensures refused { DiskKept S.Store conn.new → OnErr result ((t : Tables)
+        → HasTables S.Store conn.old t → IsOpen S.Store conn.new → HasTables S.Store conn.new t) }
+    ensures store { DiskKept S.Store conn.new
+        → OnOther result ((t : Tables) → HasTables S.Store conn.old t
+        → StoreFailed S.Store conn.old conn.new) }
+    ensures left { (t : Tables) → HasTables S.Store conn.old t
+        → MayLeave S.Store conn.old conn.new (settled t) }
+    ensures survives { Survives (state S.Store conn.old) (state S.Store conn.new) (λ _. Unit {0}) }
+{
+    if !conn.is_autocommit() {
+        return Err(Error::SqliteFailure(ErrorCode::TransactionState));
+    }
+    let mut tx = conn.transaction();
+    drop_all(&mut tx)?;
+    tx.commit()
+}
+
+/// The same, as a call of the registry.
+pub(crate) fn settle_on<S: Alter>(conn: &mut Connection<S>) -> Result<(), Error>
     ensures store { DiskKept S.Store conn.new
         → OnOther result ((t : Tables) → HasTables S.Store conn.old t
         → StoreFailed S.Store conn.old conn.new) }
     ensures writes { Writes S.Store conn.old conn.new result settled }
 {
-    conn.execute("DELETE FROM intents", &[])
+    write_settled(conn)
 }

@@ -4,7 +4,7 @@ ghost use Rattle.std.specs.Prelude.{◌≡◌, ◌∷◌, ◌++◌, ◌+◌, ℕ
 ghost use Rattle.sqlite.specs.Held.{Held};
 ghost use Rattle.gm_state.specs.declared.intents.Intent.{Intent};
 ghost use Rattle.gm_state.specs.Records.{Records, IsState};
-ghost use Rattle.gm_state.specs.Rows.{Tables, intent_rows};
+ghost use Rattle.gm_state.specs.Rows.{Tables, intent_rows, patch_rows};
 ghost use Rattle.gm_changes.specs.Decides.{Changed, changed_by};
 ghost use Rattle.gm_registry.specs.Changes.{command_row, with_accepted};
 ghost use Rattle.gm_rows.specs.ReadableTables.{AreTablesOf, HoldState};
@@ -15,21 +15,24 @@ ghost use Rattle.gm_rows.specs.Tables.{HasRisingRowids};
 use gm_state::one_row;
 use sqlite::Alter;
 
-/// Tables are of one state with one list of intents.
+/// Tables are of one state with one list of intents, and the same bytes.
 pub fn one_reading()
-    ensures { (t : Tables) (s r : Records) (ts us : List Intent)
-        → AreTablesOf t s ts → AreTablesOf t r us → (s ≡ r) × (ts ≡ us) }
+    ensures { (t : Tables) (s r : Records) (ts us : List Intent) (bytes others : List (List ℕ))
+        → AreTablesOf t s ts bytes → AreTablesOf t r us others
+        → (s ≡ r) × (ts ≡ us) × (bytes ≡ others) }
 {
     one_row();
 }
 
-/// With a change the tables hold the rows of the records with the change, its intents before those
-/// that were pending, and the command under its key.
+/// With a change the tables hold the rows of the records with the change, its intents and its bytes
+/// before those that were pending, and the command under its key.
 pub fn change_holds()
     ensures records { (ch : Changed) (key words : List ℕ) (s : Records) (t : Tables) → IsState s
         → HoldState s t → HoldState (changed_by ch s) (with_accepted ch key words t) }
     ensures intents { (ch : Changed) (key words : List ℕ) (t : Tables)
         → (with_accepted ch key words t).intents ≡ intent_rows 1 ch.intents ++ t.intents }
+    ensures patches { (ch : Changed) (key words : List ℕ) (t : Tables)
+        → (with_accepted ch key words t).patches ≡ patch_rows ch.bytes ++ t.patches }
     ensures commands { (ch : Changed) (key words : List ℕ) (t : Tables)
         → (with_accepted ch key words t).commands
         ≡ command_row key (length t.commands + 1) words ch.reply ∷ t.commands }
@@ -41,14 +44,15 @@ pub fn tables_are_saved<S: Alter>()
     ensures { (r : Held S) (t : Tables) → HasTables S.Store r t → HasSaved S.Store r t }
 {}
 
-/// A registry that was only read, as `load` reads it, has tables: those of the state and the
-/// intents that `load` tells. That the rowids rise in each table is asked for: a read tells none
-/// but those of `intents`, and `sqlite` keeps its tables so, but no clause of a connection says it.
+/// A registry that was only read, as `load` reads it, has tables: those of the state, the intents
+/// and the bytes that `load` tells. That the rowids rise in each table is asked for: a read tells
+/// none but those of `intents`, and `sqlite` keeps its tables so, but no clause of a connection
+/// says it.
 /// A registry that has tables has rowids that rise.
 pub fn what_is_read_is_held<S: Alter>()
-    ensures { (r : Held S) (s : Records) (ts : List Intent) → IsRegistry S.Store r
-        → HasRisingRowids (seen S.Store r) → TablesSay (seen S.Store r) s ts
-        → HasTablesOf S.Store r s ts }
+    ensures { (r : Held S) (s : Records) (ts : List Intent) (bytes : List (List ℕ))
+        → IsRegistry S.Store r → HasRisingRowids (seen S.Store r)
+        → TablesSay (seen S.Store r) s ts bytes → HasTablesOf S.Store r s ts bytes }
 {}
 
 /// The rowids rise in each table of a registry whose store isn't broken, as `sqlite` has it: no

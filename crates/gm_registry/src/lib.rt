@@ -1,5 +1,5 @@
-//! The registry: five tables of SQLite that hold the records of a state, the intents that are
-//! pending and the commands that were accepted.
+//! The registry: six tables of SQLite that hold the records of a state, the intents that are
+//! pending, the bytes that they lay, and the commands that were accepted.
 //!
 //! Begin with `registry.rt`, the calls, and `specs/Registry.antt`, the words that their contracts
 //! say; then `specs/Changes.antt`, what a command makes of the tables. What the rows of a table say
@@ -7,16 +7,19 @@
 #![tactic(auto)]
 
 mod accept;
+mod carry_over;
 mod commands;
 mod components;
 mod components_by_key;
 mod create;
+mod edition;
 mod intents;
 mod laws;
 mod load;
 mod mirrors;
 mod open_store;
 mod part;
+mod patches;
 mod registry;
 mod replies;
 mod whole_tables;

@@ -1,6 +1,6 @@
-//! The state and the pending intents that a registry holds.
+//! The state, the pending intents and the bytes that they lay, as a registry holds them.
 
-ghost use Rattle.std.specs.Prelude.{List, IfOk};
+ghost use Rattle.std.specs.Prelude.{ℕ, List, IfOk};
 ghost use Rattle.sqlite.specs.Held.{state};
 ghost use Rattle.gm_state.specs.declared.intents.Intent.{Intent};
 ghost use Rattle.gm_state.specs.Records.{Records};
@@ -17,22 +17,24 @@ use gm_state::{Intent, State};
 use sqlite::{Alter, Connection};
 use std::alloc::Global;
 
-/// Reads all tables, and tells the state and the pending intents that they hold.
+/// Reads all tables, and tells the state, the pending intents and their bytes that they hold.
 pub(crate) fn load_on<S: Alter>(
     alloc: Global,
     conn: &mut Connection<S>,
-) -> Result<(State, Vec<Intent>), StoreFault>
+) -> Result<(State, Vec<Intent>, Vec<[u8; 512]>), StoreFault>
     ensures says { DiskKept S.Store conn.new → IfOk result (λ r. IsRegistry S.Store conn.old
-        → TablesSay (seen S.Store conn.old) r.0 r.1.items) }
+        → TablesSay (seen S.Store conn.old) r.0 r.1.items r.2.items) }
     ensures silent { DiskKept S.Store conn.new
-        → OnUnreadable result ((s : Records) (ts : List Intent) → IsRegistry S.Store conn.old
-        → TablesSay (seen S.Store conn.old) s ts → ⊥) }
+        → OnUnreadable result ((s : Records) (ts : List Intent)
+        (bytes : List (List ℕ)) → IsRegistry S.Store conn.old
+        → TablesSay (seen S.Store conn.old) s ts bytes → ⊥) }
     ensures loaded { DiskKept S.Store conn.new
         → IfOk result (λ r. (t : Tables) → HasTables S.Store conn.old t
-        → AreTablesOf t r.0 r.1.items × HasSaved S.Store conn.new t) }
+        → AreTablesOf t r.0 r.1.items r.2.items × HasSaved S.Store conn.new t) }
     ensures unreadable { DiskKept S.Store conn.new
         → OnUnreadable result ((t : Tables) (s : Records) (ts : List Intent)
-        → HasTables S.Store conn.old t → AreTablesOf t s ts → ⊥) }
+        (bytes : List (List ℕ))
+        → HasTables S.Store conn.old t → AreTablesOf t s ts bytes → ⊥) }
     ensures store { DiskKept S.Store conn.new
         → OnStore result (IsRegistry S.Store conn.old → StoreFailed S.Store conn.old conn.new) }
     ensures reads { Reads S.Store conn.old conn.new }
@@ -43,22 +45,27 @@ pub(crate) fn load_on<S: Alter>(
 }
 
 impl<S: Alter> Registry<S> {
-    /// The state and the pending intents, in their order. `Unreadable` exactly where the tables
-    /// aren't those of a state with intents that are readable for it; `Memory`, `Store` as of any
-    /// call.
-    pub fn load(&mut self, alloc: Global) -> Result<(State, Vec<Intent>), StoreFault>
+    /// The state, the pending intents in their order, and the sectors of the bytes that they lay,
+    /// none where nothing is patched. `Unreadable` exactly where the tables aren't those of a state
+    /// with intents and bytes that are readable for it; `Memory`, `Store` as of any call.
+    pub fn load(
+        &mut self,
+        alloc: Global,
+    ) -> Result<(State, Vec<Intent>, Vec<[u8; 512]>), StoreFault>
         ensures says { DiskKept S.Store self.new
             → IfOk result (λ r. IsRegistry S.Store self.old
-            → TablesSay (seen S.Store self.old) r.0 r.1.items) }
+            → TablesSay (seen S.Store self.old) r.0 r.1.items r.2.items) }
         ensures silent { DiskKept S.Store self.new
-            → OnUnreadable result ((s : Records) (ts : List Intent) → IsRegistry S.Store self.old
-            → TablesSay (seen S.Store self.old) s ts → ⊥) }
+            → OnUnreadable result ((s : Records) (ts : List Intent)
+            (bytes : List (List ℕ)) → IsRegistry S.Store self.old
+            → TablesSay (seen S.Store self.old) s ts bytes → ⊥) }
         ensures loaded { DiskKept S.Store self.new
             → IfOk result (λ r. (t : Tables) → HasTables S.Store self.old t
-            → AreTablesOf t r.0 r.1.items × HasSaved S.Store self.new t) }
+            → AreTablesOf t r.0 r.1.items r.2.items × HasSaved S.Store self.new t) }
         ensures unreadable { DiskKept S.Store self.new
             → OnUnreadable result ((t : Tables) (s : Records) (ts : List Intent)
-            → HasTables S.Store self.old t → AreTablesOf t s ts → ⊥) }
+            (bytes : List (List ℕ))
+            → HasTables S.Store self.old t → AreTablesOf t s ts bytes → ⊥) }
         // On a disk that didn't fail, without a limit on steps, it is never `Store`.
         ensures store { DiskKept S.Store self.new
             → OnStore result (IsRegistry S.Store self.old

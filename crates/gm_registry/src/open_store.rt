@@ -5,20 +5,25 @@ ghost use Rattle.sqlite.specs.Held.{state};
 ghost use Rattle.sqlite_catalog.specs.Listing.{IsSound};
 ghost use Rattle.gm_lists.specs.Ordered.{Has};
 ghost use Rattle.gm_state.specs.Rows.{Tables};
-ghost use Rattle.gm_rows.specs.Schema.{no_schema, registry_schema};
-ghost use Rattle.gm_rows.specs.Tables.{Holds, IsEmpty, no_tables};
-ghost use Rattle.gm_registry.specs.Opening.{IsOfSchema1, IsOpenable, IsForeign, IsKnownStore};
-ghost use Rattle.gm_registry.specs.Listing.{listed, under_number, our_tables, AllStand, ListsOurs, ShowsList};
+ghost use Rattle.gm_rows.specs.Schema.{first_schema, no_schema, registry_schema};
+ghost use Rattle.gm_rows.specs.Tables.{Holds, HoldsFirst, IsEmpty, no_tables};
+ghost use Rattle.gm_rows.specs.Queries.{IsShown};
+ghost use Rattle.gm_rows.specs.declared.fetched.Table.TheVariants.{About};
+ghost use Rattle.gm_registry.specs.Opening.{schema_of, HasOurTables, IsAsBefore, IsCarriedOver, IsNumbered, IsOfRegistry, IsOpenable, IsForeign, IsKnownStore, SeesFirstStore};
+ghost use Rattle.gm_registry.specs.Listing.{listed, under_number, tables_of, AllStand, Lists, ShowsList};
+ghost use Rattle.gm_registry.specs.declared.edition.Edition.{Edition};
+ghost use Rattle.gm_registry.specs.declared.edition.Edition.TheVariants.{First};
 ghost use Rattle.gm_rows.specs.Values.{columns_at, two};
 ghost use Rattle.sqlite_rows.specs.Reads.{HasReadOver, HasFailedOver};
-ghost use Rattle.gm_registry.specs.Registry.{DiskKept, IsOpen, stored, seen, HasTables, IsRegistry, WasClean, MayLeave, LeavesNothingNew, LeavesAlone, HasRead, HasFailed, IsOurs, StoreFailed};
+ghost use Rattle.gm_registry.specs.Registry.{DiskKept, IsOpen, stored, seen, HasTables, HasFirstTables, IsRegistry, WasClean, MayLeave, MayCarryOver, LeavesNothingNew, LeavesAlone, StoreFailed};
 ghost use Rattle.gm_rows.specs.Faults.{OnUnreadable, OnStore};
 
+use crate::carry_over::carry_over;
 use crate::create::create_all;
-use crate::whole_tables::rows_of;
+use crate::edition::Edition;
 use gm_rows::{
-    ABOUT, COMMANDS, COMPONENTS, INTENTS, MIRRORS, StoreFault, Table, is_about, is_number_at,
-    is_text_at,
+    ABOUT, COMMANDS, COMPONENTS, INTENTS, MIRRORS, PATCHES, StoreFault, Table, is_about,
+    is_number_at, is_text_at,
 };
 use sqlite::{Alter, Connection, Row};
 use sqlite_schema::schema::Schema;
@@ -30,6 +35,17 @@ fn is_empty(schema: &Schema) -> bool
     schema.tables.as_slice().is_empty()
         && schema.indexes.as_slice().is_empty()
         && schema.views.as_slice().is_empty()
+}
+
+/// The schema of a registry with so many tables.
+fn edition_of(schema: &Schema) -> Edition
+    ensures { (edition : Edition) → schema.now ≡ schema_of edition → result ≡ edition }
+{
+    if schema.tables.as_slice().len() == 5 {
+        Edition::First
+    } else {
+        Edition::Second
+    }
 }
 
 /// The number and the text of each object that has a text.
@@ -73,10 +89,10 @@ fn shows_text(rows: &[Row], number: u64, text: &str) -> bool
     false
 }
 
-/// Whether the rows show the texts of the five tables. The numbers between them are those of the
-/// indexes that their keys make.
-fn show_all_texts(rows: &[Row]) -> bool
-    ensures { IsTrue result ↔ AllStand (map (columns_at two) rows.now) our_tables }
+/// Whether the rows show the texts of the five tables of the first schema. The numbers between them
+/// are those of the indexes that their keys make.
+fn show_first_texts(rows: &[Row]) -> bool
+    ensures { IsTrue result ↔ AllStand (map (columns_at two) rows.now) (tables_of First) }
 {
     shows_text(rows, 1, ABOUT)
         && shows_text(rows, 2, MIRRORS)
@@ -85,43 +101,103 @@ fn show_all_texts(rows: &[Row]) -> bool
         && shows_text(rows, 9, COMMANDS)
 }
 
-/// Whether the rows show the texts of the five tables, and no other.
-fn are_texts(rows: &[Row]) -> bool
-    ensures { IsTrue result ↔ IsPermutation our_tables (map (columns_at two) rows.now) }
+/// Whether the rows show the texts of the tables of this schema, and no other.
+fn are_texts(rows: &[Row], edition: Edition) -> bool
+    ensures { IsTrue result ↔ IsPermutation (tables_of edition) (map (columns_at two) rows.now) }
 {
-    rows.len() == 5 && show_all_texts(rows)
+    match edition {
+        Edition::First => rows.len() == 5 && show_first_texts(rows),
+        Edition::Second => {
+            rows.len() == 6 && show_first_texts(rows) && shows_text(rows, 12, PATCHES)
+        }
+    }
 }
 
-/// Whether a store with tables is a registry, by the texts of its tables and the record of `about`.
-fn check_registry<S: Alter>(conn: &mut Connection<S>) -> Result<(), StoreFault>
+/// All rows of `about`.
+fn about_rows<S: Alter>(conn: &mut Connection<S>) -> Result<Vec<Row>, StoreFault>
+    ensures rows { DiskKept S.Store conn.new
+        → IfOk result (λ rows. IsOfRegistry (state S.Store conn.old).now.schema
+        → IsShown (seen S.Store conn.old) About rows.items) }
+    ensures read { OnOk result (HasReadOver IsOfRegistry (state S.Store conn.old)
+        (state S.Store conn.new)) }
+    ensures failed { OnErr result (HasFailedOver IsOfRegistry (state S.Store conn.old)
+        (state S.Store conn.new)) }
+    ensures store { DiskKept S.Store conn.new
+        → OnStore result (IsOfRegistry (state S.Store conn.old).now.schema
+        → IsOpen S.Store conn.old → StoreFailed S.Store conn.old conn.new) }
+    ensures fault { IfErr result (λ e. e ≢ StoreFault.Unreadable) }
+{
+    match conn.query_all(Table::About.query(), &[]) {
+        Ok(rows) => Ok(rows),
+        Err(error) => Err(StoreFault::from(error)),
+    }
+}
+
+/// Whether a store with tables is a registry of this schema, by the texts of its tables and the
+/// record of `about`.
+fn check_registry<S: Alter>(conn: &mut Connection<S>, edition: Edition) -> Result<(), StoreFault>
     ensures texts { DiskKept S.Store conn.new
         → OnOk result (ShowsList (state S.Store conn.old).now.schema
-        → ListsOurs (seen S.Store conn.old)) }
+        → Lists edition (seen S.Store conn.old)) }
     ensures about { DiskKept S.Store conn.new
-        → OnOk result (IsOurs S.Store conn.old → IsOfSchema1 (seen S.Store conn.old)) }
-    ensures unreadable { DiskKept S.Store conn.new → OnUnreadable result (IsOurs S.Store conn.old
-        → ListsOurs (seen S.Store conn.old) → IsOfSchema1 (seen S.Store conn.old) → ⊥) }
-    ensures read { OnOk result (HasRead S.Store conn.old conn.new) }
-    ensures failed { HasFailed S.Store conn.old conn.new }
+        → OnOk result (IsOfRegistry (state S.Store conn.old).now.schema
+        → IsNumbered edition (seen S.Store conn.old)) }
+    ensures unreadable { DiskKept S.Store conn.new
+        → OnUnreadable result (IsOfRegistry (state S.Store conn.old).now.schema
+        → Lists edition (seen S.Store conn.old) → IsNumbered edition (seen S.Store conn.old) → ⊥) }
+    ensures read { OnOk result (HasReadOver IsOfRegistry (state S.Store conn.old)
+        (state S.Store conn.new)) }
+    ensures failed { HasFailedOver IsOfRegistry (state S.Store conn.old) (state S.Store conn.new) }
     ensures store { DiskKept S.Store conn.new
         → OnStore result (ShowsList (state S.Store conn.old).now.schema
-        → (ListsOurs (seen S.Store conn.old) → IsOurs S.Store conn.old) → IsOpen S.Store conn.old
+        → (Lists edition (seen S.Store conn.old)
+        → IsOfRegistry (state S.Store conn.old).now.schema) → IsOpen S.Store conn.old
         → StoreFailed S.Store conn.old conn.new) }
-    ensures foreign { ¬ (ListsOurs (seen S.Store conn.old))
+    ensures foreign { ¬ (Lists edition (seen S.Store conn.old))
         → HasFailedOver ShowsList (state S.Store conn.old) (state S.Store conn.new) }
 {
     let texts = load_texts(conn)?;
-    if !are_texts(&texts) {
+    if !are_texts(&texts, edition) {
         return Err(StoreFault::Unreadable);
     }
-    let about = rows_of(conn, Table::About)?;
-    if !is_about(&about) {
+    let about = about_rows(conn)?;
+    if !is_about(&about, edition.number()) {
         return Err(StoreFault::Unreadable);
     }
     Ok(())
 }
 
-/// Makes the tables in a store without any; `Unreadable` where there are others than a registry's.
+/// Takes a registry of the first schema, which is carried over to the second.
+fn take_first<S: Alter>(conn: &mut Connection<S>) -> Result<(), StoreFault>
+    ensures carried { DiskKept S.Store conn.new
+        → OnOk result (SeesFirstStore (state S.Store conn.old) → IsRegistry S.Store conn.new
+        × IsCarriedOver (stored S.Store conn.old) (stored S.Store conn.new)) }
+    ensures stays { DiskKept S.Store conn.new
+        → OnErr result (SeesFirstStore (state S.Store conn.old) → IsOpen S.Store conn.new
+        → IsAsBefore (state S.Store conn.old) (state S.Store conn.new)) }
+    ensures left { SeesFirstStore (state S.Store conn.old)
+        → MayCarryOver S.Store conn.old conn.new }
+    ensures texts { DiskKept S.Store conn.new
+        → OnOk result (ShowsList (state S.Store conn.old).now.schema
+        → Lists First (seen S.Store conn.old)) }
+    ensures unreadable { DiskKept S.Store conn.new
+        → OnUnreadable result (IsOfRegistry (state S.Store conn.old).now.schema
+        → Lists First (seen S.Store conn.old) → IsNumbered First (seen S.Store conn.old) → ⊥) }
+    ensures store { DiskKept S.Store conn.new
+        → OnStore result (ShowsList (state S.Store conn.old).now.schema
+        → (Lists First (seen S.Store conn.old) → SeesFirstStore (state S.Store conn.old))
+        → IsOpen S.Store conn.old → StoreFailed S.Store conn.old conn.new) }
+    ensures foreign { ¬ (Lists First (seen S.Store conn.old))
+        → HasFailedOver ShowsList (state S.Store conn.old) (state S.Store conn.new) }
+    ensures clean { WasClean S.Store conn.old conn.new }
+{
+    check_registry(conn, Edition::First)?;
+    carry_over(conn)?;
+    Ok(())
+}
+
+/// Makes the tables in a store without any, and carries those of the first schema over;
+/// `Unreadable` where there are others than a registry's.
 pub(crate) fn prepare<S: Alter>(conn: &mut Connection<S>) -> Result<(), StoreFault>
     requires { conn.old.in_transaction ≡ false }
     ensures made { DiskKept S.Store conn.new → OnOk result (IsOpen S.Store conn.old
@@ -130,15 +206,33 @@ pub(crate) fn prepare<S: Alter>(conn: &mut Connection<S>) -> Result<(), StoreFau
         → OnOk result ((t : Tables) → IsOpen S.Store conn.old → Holds (stored S.Store conn.old) t
         → HasTables S.Store conn.new t) }
     ensures registry { DiskKept S.Store conn.new
-        → OnOk result (IsOpen S.Store conn.old → IsSound registry_schema (stored S.Store conn.old)
+        → OnOk result (IsOpen S.Store conn.old → HasOurTables (stored S.Store conn.old)
         → IsRegistry S.Store conn.new) }
+    ensures carried { DiskKept S.Store conn.new
+        → OnOk result (IsOpen S.Store conn.old → IsSound first_schema (stored S.Store conn.old)
+        → IsCarriedOver (stored S.Store conn.old) (stored S.Store conn.new)) }
+    ensures upgraded { DiskKept S.Store conn.new
+        → OnOk result ((t : Tables) → IsOpen S.Store conn.old
+        → HoldsFirst (stored S.Store conn.old) t → HasTables S.Store conn.new t) }
     ensures refused { DiskKept S.Store conn.new
         → OnErr result ((t : Tables) → IsOpen S.Store conn.old → Holds (stored S.Store conn.old) t
         → IsOpen S.Store conn.new → HasTables S.Store conn.new t) }
+    ensures refused_first { DiskKept S.Store conn.new
+        → OnErr result ((t : Tables) → IsOpen S.Store conn.old
+        → HoldsFirst (stored S.Store conn.old) t → IsOpen S.Store conn.new
+        → HasFirstTables S.Store conn.new t) }
+    ensures stays { DiskKept S.Store conn.new
+        → OnErr result (IsOpen S.Store conn.old → IsSound first_schema (stored S.Store conn.old)
+        → IsOpen S.Store conn.new → stored S.Store conn.new ≡ stored S.Store conn.old) }
     ensures left_made { IsOpen S.Store conn.old → IsEmpty (stored S.Store conn.old)
         → MayLeave S.Store conn.old conn.new no_tables }
     ensures left_found { (t : Tables) → IsOpen S.Store conn.old → Holds (stored S.Store conn.old) t
         → LeavesNothingNew S.Store conn.old conn.new }
+    ensures left_upgraded { (t : Tables) → IsOpen S.Store conn.old
+        → HoldsFirst (stored S.Store conn.old) t → MayLeave S.Store conn.old conn.new t }
+    ensures left_carried { IsOpen S.Store conn.old
+        → IsSound first_schema (stored S.Store conn.old)
+        → MayCarryOver S.Store conn.old conn.new }
     ensures unreadable { DiskKept S.Store conn.new
         → OnUnreadable result (IsOpen S.Store conn.old → ¬ (IsOpenable (stored S.Store conn.old))) }
     ensures store { DiskKept S.Store conn.new
@@ -158,5 +252,8 @@ pub(crate) fn prepare<S: Alter>(conn: &mut Connection<S>) -> Result<(), StoreFau
         create_all(conn)?;
         return Ok(());
     }
-    check_registry(conn)
+    match edition_of(conn.schema()) {
+        Edition::First => take_first(conn),
+        Edition::Second => check_registry(conn, Edition::Second),
+    }
 }

@@ -2,14 +2,14 @@
 
 ghost use Rattle.std.specs.Prelude.{OnOk, ◌≡◌, ◌≢◌, ◌≤◌, ◌+◌, false, IfOk, IfErr, MatchOption, MatchResult, string_bytes};
 ghost use Rattle.gm_state.specs.Rows.{Tables};
-ghost use Rattle.gm_rows.specs.Tables.{Holds, IsEmpty, no_tables};
+ghost use Rattle.gm_rows.specs.Tables.{Holds, HoldsFirst, IsEmpty, no_tables};
 ghost use Rattle.sqlite_catalog.specs.Listing.{IsSound};
-ghost use Rattle.gm_rows.specs.Schema.{registry_schema};
-ghost use Rattle.gm_registry.specs.Opening.{IsOpenable, IsForeign, IsKnownStore};
+ghost use Rattle.gm_rows.specs.Schema.{first_schema, registry_schema};
+ghost use Rattle.gm_registry.specs.Opening.{HasOurTables, IsCarriedOver, IsOpenable, IsForeign, IsKnownStore};
 ghost use Rattle.gm_registry.specs.Accepting.{Accepts};
 ghost use Rattle.gm_registry.specs.Changes.{with_accepted, with_pending, settled};
 ghost use Rattle.gm_registry.specs.Replies.{IsKept, IsFree, AreWrittenUnder, count_of};
-ghost use Rattle.gm_registry.specs.Registry.{DiskKept, IsOpen, stored, HasTables, IsRegistry, WasClean, MayLeave, LeavesNothingNew, LeavesAlone, StoreFailed, HasSaved, Reads, Writes};
+ghost use Rattle.gm_registry.specs.Registry.{DiskKept, IsOpen, stored, HasTables, HasFirstTables, IsRegistry, WasClean, MayLeave, MayCarryOver, LeavesNothingNew, LeavesAlone, StoreFailed, HasSaved, Reads, Writes};
 ghost use Rattle.gm_rows.specs.Faults.{OnUnreadable, OnStore};
 
 use crate::accept::accept_on;
@@ -46,27 +46,49 @@ pub struct OpenFault<S: Alter> {
 }
 
 impl<S: Alter> Registry<S> {
-    /// Takes the registry of a store, or makes one where the store has no table. `Unreadable` where
-    /// the texts of its tables aren't those of a registry, or where `about` isn't the one record
-    /// (1, 1).
+    /// Takes the registry of a store, or makes one where the store has no table. One of the first
+    /// schema is carried over, in one transaction, before anything else: it gets the table of bytes
+    /// and the number 2. `Unreadable` where the texts of its tables aren't those of a registry, or
+    /// where `about` isn't the one record (1, the number of their schema).
     pub fn open(mut store: Connection<S>) -> Result<Registry<S>, OpenFault<S>>
         requires { store.in_transaction ≡ false }
         ensures made { IsOpen S.Store store → IsEmpty (stored S.Store store)
             → IfOk result (λ c. DiskKept S.Store c → HasTables S.Store c no_tables) }
         ensures found { (t : Tables) → IsOpen S.Store store → Holds (stored S.Store store) t
             → IfOk result (λ c. DiskKept S.Store c → HasTables S.Store c t) }
+        // Of a store of the first schema.
+        ensures upgraded { (t : Tables) → IsOpen S.Store store
+            → HoldsFirst (stored S.Store store) t
+            → IfOk result (λ c. DiskKept S.Store c → HasTables S.Store c t) }
         // Whatever rows the tables of a registry hold.
-        ensures registry { IsOpen S.Store store → IsSound registry_schema (stored S.Store store)
+        ensures registry { IsOpen S.Store store → HasOurTables (stored S.Store store)
             → IfOk result (λ c. DiskKept S.Store c → IsRegistry S.Store c) }
+        ensures carried { IsOpen S.Store store → IsSound first_schema (stored S.Store store)
+            → IfOk result (λ c. DiskKept S.Store c
+            → IsCarriedOver (stored S.Store store) (stored S.Store c)) }
         ensures refused { (t : Tables) → IsOpen S.Store store → Holds (stored S.Store store) t
             → IfErr result (λ e. DiskKept S.Store e.store → IsOpen S.Store e.store
             → HasTables S.Store e.store t) }
+        ensures refused_first { (t : Tables) → IsOpen S.Store store
+            → HoldsFirst (stored S.Store store) t
+            → IfErr result (λ e. DiskKept S.Store e.store → IsOpen S.Store e.store
+            → HasFirstTables S.Store e.store t) }
+        ensures stays { IsOpen S.Store store → IsSound first_schema (stored S.Store store)
+            → IfErr result (λ e. DiskKept S.Store e.store → IsOpen S.Store e.store
+            → stored S.Store e.store ≡ stored S.Store store) }
         ensures left_made { IsOpen S.Store store → IsEmpty (stored S.Store store)
             → MatchResult result (λ c. MayLeave S.Store store c no_tables)
             (λ e. MayLeave S.Store store e.store no_tables) }
         ensures left_found { (t : Tables) → IsOpen S.Store store → Holds (stored S.Store store) t
             → MatchResult result (λ c. LeavesNothingNew S.Store store c)
             (λ e. LeavesNothingNew S.Store store e.store) }
+        ensures left_upgraded { (t : Tables) → IsOpen S.Store store
+            → HoldsFirst (stored S.Store store) t
+            → MatchResult result (λ c. MayLeave S.Store store c t)
+            (λ e. MayLeave S.Store store e.store t) }
+        ensures left_carried { IsOpen S.Store store → IsSound first_schema (stored S.Store store)
+            → MatchResult result (λ c. MayCarryOver S.Store store c)
+            (λ e. MayCarryOver S.Store store e.store) }
         // Of any other store, `Unreadable` comes only where it can't be opened.
         ensures unreadable { IsOpen S.Store store
             → IfErr result (λ e. DiskKept S.Store e.store → e.fault ≡ StoreFault.Unreadable
@@ -135,9 +157,9 @@ impl<S: Alter> Registry<S> {
         Ok(u64::from(accepted_on(&mut self.conn)?))
     }
 
-    /// Writes a change, its intents and its key in one transaction, and answers the command's
-    /// number. `Store` before anything is written where 100,000 commands were accepted already, or
-    /// the numbers of the reply are out of range.
+    /// Writes a change, its intents, its bytes and its key in one transaction, and answers the
+    /// command's number. `Store` before anything is written where 100,000 commands were accepted
+    /// already, or the numbers of the reply are out of range.
     pub fn accept(&mut self, change: &Change, key: &str, words: &str) -> Result<u64, StoreFault>
         ensures accepts { Accepts S.Store self.old self.new result change.now (λ t. t)
             key.now words.now }
@@ -149,31 +171,33 @@ impl<S: Alter> Registry<S> {
             &mut self.conn,
             change,
             change.intents(),
+            change.bytes(),
             pending,
             key,
             words,
         )
     }
 
-    /// The same with these intents in place of the change's own and of all that are pending: they
-    /// are what is pending then, numbered from 1.
+    /// The same with these intents and bytes in place of the change's own and of all that are
+    /// pending: they are what is pending then, the intents numbered from 1.
     pub fn accept_instead(
         &mut self,
         change: &Change,
         intents: &[Intent],
+        bytes: &[[u8; 512]],
         key: &str,
         words: &str,
     ) -> Result<u64, StoreFault>
         ensures accepts { Accepts S.Store self.old self.new result
-            (with_pending change.now intents.now) settled key.now words.now }
+            (with_pending change.now intents.now bytes.now) settled key.now words.now }
         ensures writes { Writes S.Store self.old self.new result (λ t. with_accepted
-            (with_pending change.now intents.now) key.now words.now (settled t)) }
+            (with_pending change.now intents.now bytes.now) key.now words.now (settled t)) }
     {
         let pending = Pending::Goes;
-        accept_on(&mut self.conn, change, intents, pending, key, words)
+        accept_on(&mut self.conn, change, intents, bytes, pending, key, words)
     }
 
-    /// Deletes the pending intents, in one transaction.
+    /// Deletes the pending intents and the bytes that they lay, in one transaction.
     pub fn settle(&mut self) -> Result<(), StoreFault>
         ensures fault { IfErr result (λ e. e ≢ StoreFault.Unreadable) }
         // On a disk that didn't fail, without a limit on steps, it is never `Store`.

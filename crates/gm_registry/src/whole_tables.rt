@@ -46,11 +46,13 @@ pub(crate) fn fetch<S: Alter>(conn: &mut Connection<S>) -> Result<Fetched, Store
     let components = rows_of(conn, Table::Components)?;
     let intents = rows_of(conn, Table::Intents)?;
     let commands = rows_of(conn, Table::Commands)?;
+    let patches = rows_of(conn, Table::Patches)?;
     Ok(Fetched {
         about,
         mirrors,
         components,
         intents,
         commands,
+        patches,
     })
 }

@@ -2,8 +2,10 @@
 //! else.
 
 mod counting;
+mod first;
 mod loading;
 mod parts;
+mod patched;
 mod stops;
 mod stored;
 mod untouched;
@@ -26,7 +28,7 @@ const NO_FLAGS: MirrorFlags = MirrorFlags {
     no_failsync: false,
 };
 
-// One of the five texts alone.
+// One of the six texts alone.
 const MIRRORS: &str =
     "CREATE TABLE mirrors(name TEXT PRIMARY KEY NOT NULL, mid INTEGER NOT NULL UNIQUE,
   total INTEGER NOT NULL, genid INTEGER NOT NULL, syncid INTEGER NOT NULL, slice INTEGER NOT NULL,
@@ -244,9 +246,10 @@ fn is_empty_at_first<S: Alter + Drop>(rt: &impl Abort, store: Connection<S>) {
     for (rows, sql) in [
         (
             1,
-            "SELECT count(*) FROM about WHERE one = 1 AND schema_no = 1",
+            "SELECT count(*) FROM about WHERE one = 1 AND schema_no = 2",
         ),
         (0, "SELECT count(*) FROM mirrors"),
+        (0, "SELECT count(*) FROM patches"),
     ] {
         must_count(rt, &mut store, rows, sql);
     }
@@ -316,8 +319,10 @@ fn is_unread_over<S: Alter + Drop>(rt: &impl Abort, mut store: Connection<S>, sq
 fn other_stores_are_unreadable(rt: HostRuntime) {
     for sql in [
         "UPDATE about SET schema_no = 3",
+        "UPDATE about SET schema_no = 1",
         "DELETE FROM about",
         "DROP TABLE intents",
+        "DROP TABLE patches",
         "CREATE TABLE other(a INTEGER) STRICT",
         "CREATE INDEX by_total ON mirrors(total)",
     ] {

@@ -1,3 +1,4 @@
+pub mod BlobSectors
 pub mod CountedCommands
 pub mod FlagNumbers
 pub mod FoundLabels

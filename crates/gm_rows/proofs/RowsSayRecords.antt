@@ -2,14 +2,18 @@
 use Rattle.std.proofs.Common.{◌≡◌, ◌∙◌, ℕ, ◌+◌, List, [], ◌∷◌, map, refl, sym, ap, subst, All, Result, Ok, Err, IfErr, IsErrAnd}
 use Rattle.std.specs.List.Sorted.{IsPermutation}
 use Rattle.std.proofs.lemmas.List.Sorted.{IsPermutation-map, IsPermutation-sym}
-use Rattle.sqlite.specs.Order.{Row}
+use Rattle.sqlite.specs.Order.{Row, column}
+use Rattle.sqlite_value.specs.declared.value.Value.{Value}
+use Rattle.sqlite.specs.declared.types.Value.TheVariants.{Blob}
 use Rattle.gm_state.specs.declared.intents.Intent.{Intent}
-use Rattle.gm_state.specs.declared.intents.Intent.TheVariants.{Meta, Clear, Copy}
+use Rattle.gm_state.specs.declared.intents.Intent.TheVariants.{Meta, Clear, Copy, Dirty, Patch}
 use Rattle.gm_state.specs.declared.records.Mirror.{Mirror}
 use Rattle.gm_state.specs.declared.records.Component.{Component}
 use Rattle.gm_lists.specs.Ordered.{Has}
-use Rattle.gm_state.specs.Rows.{mirror_row, component_row}
-use Rattle.gm_rows.specs.Values.{columns_at, numbered, nine}
+use Rattle.gm_state.proofs.SameRows.{same_joined}
+use Rattle.gm_state.specs.Readable.{AreSectors}
+use Rattle.gm_state.specs.Rows.{mirror_row, component_row, joined, patch_rows}
+use Rattle.gm_rows.specs.Values.{columns_at, numbered, nine, shown_patch}
 use Rattle.gm_rows.specs.Says.{mirror_shown, component_shown, intent_shown}
 use Rattle.gm_rows.proofs.ReorderedValues.{unmapped, same_records, all_moved, numbered_map}
 
@@ -57,19 +61,39 @@ passed_on (Err e) P Q f h = f e h
 -- an intent has one row
 one_intent : (n : ℕ) (a b : Intent) → intent_shown n a ≡ intent_shown n b → a ≡ b
 one_intent n (Meta p) (Meta q) e = let h : p ≡ q = cc in ap Meta h
-one_intent n (Meta p) (Clear q) e = cc
-one_intent n (Meta p) (Copy from to first end) e = cc
-one_intent n (Clear p) (Meta q) e = cc
 one_intent n (Clear p) (Clear q) e = let h : p ≡ q = cc in ap Clear h
-one_intent n (Clear p) (Copy from to first end) e = cc
-one_intent n (Copy from to first end) (Meta q) e = cc
-one_intent n (Copy from to first end) (Clear q) e = cc
 one_intent n (Copy from to first end) (Copy from' to' first' end') e =
     let f : from ≡ from' = cc in
     let t : to ≡ to' = cc in
     let l : first ≡ first' = cc in
     let h : end ≡ end' = cc in
     cc
+one_intent n (Dirty p) (Dirty q) e = let h : p ≡ q = cc in ap Dirty h
+one_intent n (Patch p first end) (Patch q first' end') e =
+    let f : p ≡ q = cc in
+    let l : first ≡ first' = cc in
+    let h : end ≡ end' = cc in
+    cc
+one_intent n (Meta p) (Clear q) e = cc
+one_intent n (Meta p) (Copy from to first end) e = cc
+one_intent n (Meta p) (Dirty q) e = cc
+one_intent n (Meta p) (Patch q first end) e = cc
+one_intent n (Clear p) (Meta q) e = cc
+one_intent n (Clear p) (Copy from to first end) e = cc
+one_intent n (Clear p) (Dirty q) e = cc
+one_intent n (Clear p) (Patch q first end) e = cc
+one_intent n (Copy from to first end) (Meta q) e = cc
+one_intent n (Copy from to first end) (Clear q) e = cc
+one_intent n (Copy from to first end) (Dirty q) e = cc
+one_intent n (Copy from to first end) (Patch q first' end') e = cc
+one_intent n (Dirty p) (Meta q) e = cc
+one_intent n (Dirty p) (Clear q) e = cc
+one_intent n (Dirty p) (Copy from to first end) e = cc
+one_intent n (Dirty p) (Patch q first end) e = cc
+one_intent n (Patch p first end) (Meta q) e = cc
+one_intent n (Patch p first end) (Clear q) e = cc
+one_intent n (Patch p first end) (Copy from to first' end') e = cc
+one_intent n (Patch p first end) (Dirty q) e = cc
 
 pub one_list : (n : ℕ) (xs ys : List Intent)
     → numbered intent_shown n xs ≡ numbered intent_shown n ys → xs ≡ ys
@@ -82,3 +106,18 @@ one_list n (x ∷ xs) (y ∷ ys) e =
     let h = one_intent n x y heads in
     let t = one_list (n + 1) xs ys tails in
     cc
+
+-- the bytes of a value
+abbrev pub blob_in : Value → List ℕ
+blob_in (Blob b) = b
+blob_in _ = []
+
+-- and bytes have one record
+pub one_blob : (xs ys : List (List ℕ)) → AreSectors xs → AreSectors ys
+    → map shown_patch (patch_rows xs) ≡ map shown_patch (patch_rows ys) → xs ≡ ys
+one_blob [] [] first second e = refl
+one_blob [] (y ∷ ys) first second e = cc
+one_blob (x ∷ xs) [] first second e = cc
+one_blob (x ∷ xs) (y ∷ ys) first second e =
+    let rows : shown_patch (joined (x ∷ xs)) ≡ shown_patch (joined (y ∷ ys)) = cc in
+    same_joined (x ∷ xs) (y ∷ ys) first second (ap (λ (row : Row). blob_in (column row 1)) rows)

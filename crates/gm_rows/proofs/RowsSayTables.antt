@@ -11,20 +11,21 @@ use Rattle.sqlite.proofs.Callers.{one_permutation}
 use Rattle.sqlite_trees.proofs.ListLemmas.{map-map}
 use Rattle.sqlite_rows.specs.Keeps.{Keeps, columns, whole}
 use Rattle.gm_state.specs.declared.intents.Intent.{Intent}
-use Rattle.gm_state.specs.declared.intents.Intent.TheVariants.{Meta, Clear, Copy}
+use Rattle.gm_state.specs.declared.intents.Intent.TheVariants.{Meta, Clear, Copy, Dirty, Patch}
 use Rattle.gm_lists.specs.Ordered.{Has}
 use Rattle.gm_state.specs.Records.{Records}
-use Rattle.gm_state.specs.Rows.{Tables, MirrorRow, ComponentRow, IntentRow, CommandRow, mirror_row, component_row, intent_rows}
+use Rattle.gm_state.specs.Rows.{Tables, MirrorRow, ComponentRow, IntentRow, CommandRow, mirror_row, component_row, intent_rows, joined, patch_rows}
 use Rattle.gm_lists.proofs.Sorting.{Has-permutation}
-use Rattle.gm_rows.specs.Rows.{mirror_values, component_values, intent_values, command_values}
+use Rattle.gm_rows.specs.Rows.{mirror_values, component_values, intent_values, command_values, patch_values}
 use Rattle.gm_rows.specs.Tables.{HasRows, HasCounted, AreNumbered, numbers_of}
 use Rattle.gm_rows.specs.ReadableTables.{AreTablesOf, IsInRange}
-use Rattle.gm_rows.specs.Values.{columns_at, numbered, two, six, nine, shown_intent}
+use Rattle.gm_rows.specs.Values.{columns_at, numbered, two, six, nine, shown_intent, shown_patch}
 use Rattle.gm_rows.specs.Queries.{AreShown, IsShown, IsInOrder, shown_places}
-use Rattle.gm_rows.specs.Says.{number_value, intent_shown, IsBetween, IsAbout, AreCommandsFrom, AreCommands, Say, TablesSay}
+use Rattle.gm_rows.specs.Says.{number_value, intent_shown, shown_about, IsBetween, IsAbout, AreCommandsFrom, AreCommands, ArePatches, Say, TablesSay}
 use Rattle.gm_rows.specs.declared.fetched.Fetched.{Fetched}
-use Rattle.gm_rows.specs.declared.fetched.Table.TheVariants.{About, Mirrors, Components, Intents, Commands}
+use Rattle.gm_rows.specs.declared.fetched.Table.TheVariants.{About, Mirrors, Components, Intents, Commands, Patches}
 use Rattle.gm_rows.proofs.ReorderedValues.{same_records}
+use Rattle.gm_rows.proofs.RowsSayRecords.{blob_in}
 use Rattle.gm_rows.proofs.ShownInOrder.{one_order}
 use Rattle.gm_rows.proofs.CountedCommands.{count_from, counted_up, in_their_order, commands_from, numbers_shown, any_command}
 
@@ -164,6 +165,8 @@ first_is_number : (n : ℕ) (t : Intent) → column (intent_shown n t) 0 ≡ Int
 first_is_number n (Meta p) = refl
 first_is_number n (Clear p) = refl
 first_is_number n (Copy source target first end) = refl
+first_is_number n (Dirty p) = refl
+first_is_number n (Patch p first end) = refl
 
 one_intent_row : (a b : IntentRow) → shown_intent a ≡ shown_intent b → a ≡ b
 one_intent_row a b e =
@@ -269,20 +272,74 @@ commands_kept t f are says c has =
     (has_mapped shown_command t.commands c has)) in
     (at_most 1048576 c.copied it.1.copied, at_most 1048576 c.of_total it.1.total)
 
+-- ---- bytes to be laid
+
+-- records like that of the bytes, or none, are these
+few_records : (bytes xs : List (List ℕ)) → IsPermutation (patch_rows bytes) xs
+    → xs ≡ patch_rows bytes
+few_records [] [] same = refl
+few_records [] (x ∷ xs) same =
+    absurd (let many = length_permutation [] (x ∷ xs) same in omega (arith, many))
+few_records (sector ∷ more) xs same = one_permutation (joined (sector ∷ more)) xs same
+
+-- so are rows
+pub few_permuted : {A : Type 0} (f : List ℕ → A) (bytes : List (List ℕ)) (xs : List A)
+    → IsPermutation (map f (patch_rows bytes)) xs → xs ≡ map f (patch_rows bytes)
+few_permuted f [] [] same = refl
+few_permuted f [] (x ∷ xs) same =
+    absurd (let many = length_permutation [] (x ∷ xs) same in omega (arith, many))
+few_permuted f (sector ∷ more) xs same = one_permutation (f (joined (sector ∷ more))) xs same
+
+patch_picked : (row : Row) → columns_at (shown_places Patches) (whole row)
+    ≡ columns_at (shown_places Patches) row
+patch_picked row = refl
+
+patches_shown : (db : Trees) (t : Tables) (f : Fetched) → HasRows db t → AreShown db f
+    → IsPermutation (map shown_patch t.patches) f.patches.items
+patches_shown db t f has are =
+    shows_records whole (columns_at (shown_places Patches))
+    (columns_at (shown_places Patches)) patch_values shown_patch patch_picked
+    (λ b. refl) t.patches f.patches.items (db 11) has.patches are.patches
+
+patches_again : (bytes : List (List ℕ)) → map (columns_at two) (map shown_patch (patch_rows bytes))
+    ≡ map shown_patch (patch_rows bytes)
+patches_again [] = refl
+patches_again (sector ∷ more) = refl
+
+patches_said : (db : Trees) (t : Tables) (f : Fetched) (bytes : List (List ℕ)) → HasRows db t
+    → AreShown db f → t.patches ≡ patch_rows bytes → ArePatches bytes f.patches.items
+patches_said db t f bytes has are is =
+    let shown = subst (λ (l : List (List ℕ)). IsPermutation (map shown_patch l) f.patches.items) is
+    (patches_shown db t f has are) in
+    ap (map (columns_at two)) (few_permuted shown_patch bytes f.patches.items shown)
+    ∙ patches_again bytes
+
+one_patch_row : (a b : List ℕ) → shown_patch a ≡ shown_patch b → a ≡ b
+one_patch_row a b e = ap (λ (row : Row). blob_in (column row 1)) e
+
+patches_kept : (db : Trees) (t : Tables) (f : Fetched) (bytes : List (List ℕ)) → HasRows db t
+    → AreShown db f → ArePatches bytes f.patches.items → t.patches ≡ patch_rows bytes
+patches_kept db t f bytes has are is =
+    let shown = again_shown (columns_at two) shown_patch (λ b. refl) t.patches f.patches.items
+    (patches_shown db t f has are) in
+    few_records bytes t.patches (IsPermutation-sym _ _ (same_records shown_patch one_patch_row
+    t.patches (patch_rows bytes) (subst (IsPermutation (map shown_patch t.patches)) is shown)))
+
 -- ---- all tables
 
 about_said : (db : Trees) (t : Tables) (f : Fetched) → HasRows db t → AreShown db f
-    → IsAbout f.about.items
+    → IsAbout 2 f.about.items
 about_said db t f has are =
-    let shown : IsPermutation ((Int (pos 1) ∷ Int (pos 1) ∷ []) ∷ []) f.about.items =
+    let shown : IsPermutation (shown_about 2 ∷ []) f.about.items =
     subst (λ l. IsPermutation (map (columns_at (shown_places About)) l) f.about.items) has.about
     are.about in
-    ap (map (columns_at two)) (one_permutation (Int (pos 1) ∷ Int (pos 1) ∷ []) f.about.items shown)
+    ap (map (columns_at two)) (one_permutation (shown_about 2) f.about.items shown)
 
 -- tables that are those of a state say it
 pub says_tables : (db : Trees) (t : Tables) (f : Fetched) (s : Records) (ts : List Intent)
-    → HasCounted db t → AreShown db f → AreTablesOf t s ts → Say f s ts
-says_tables db t f s ts has are of = record {
+    (bytes : List (List ℕ)) → HasCounted db t → AreShown db f → AreTablesOf t s ts bytes
+    → Say f s ts bytes
+says_tables db t f s ts bytes has are of = record {
   about = about_said db t f has.rows are;
   records = record {
     state = of.state;
@@ -293,6 +350,7 @@ says_tables db t f s ts has are of = record {
         of.components;
   };
   intents = intents_said db t f ts has.rows are of.intents;
+  patches = patches_said db t f bytes has.rows are of.patches;
   readable = of.readable;
   commands = commands_said t f (commands_shown db t f has.rows are) are.commands_in_order
       has.numbered of.commands of.count;
@@ -300,8 +358,9 @@ says_tables db t f s ts has are of = record {
 
 -- and tables that say a state are its
 pub tables_said : (db : Trees) (t : Tables) (f : Fetched) (s : Records) (ts : List Intent)
-    → HasCounted db t → AreShown db f → Say f s ts → AreTablesOf t s ts
-tables_said db t f s ts has are says =
+    (bytes : List (List ℕ)) → HasCounted db t → AreShown db f → Say f s ts bytes
+    → AreTablesOf t s ts bytes
+tables_said db t f s ts bytes has are says =
     let commands = commands_shown db t f has.rows are in
     let many = as_many t f commands in
     let count = says.commands.count in
@@ -314,6 +373,7 @@ tables_said db t f s ts has are says =
           (components_shown t.components (db 4) f.components.items has.rows.components
           are.components) says.records.components_are;
       intents = intents_kept db t f ts has.rows are says.intents;
+      patches = patches_kept db t f bytes has.rows are says.patches;
       readable = says.readable;
       commands = commands_kept t f commands says.commands;
       count = omega (arith, many, count);
@@ -353,10 +413,10 @@ numbers_told db f many are each =
     shown kept))
 
 -- rows that say something say tables that do
-pub any_tables : (db : Trees) (f : Fetched) (s : Records) (ts : List Intent) → AreShown db f
-    → Say f s ts → TablesSay db s ts
-any_tables db f s ts are says =
-    let one : List Row = (Int (pos 1) ∷ Int (pos 1) ∷ []) ∷ [] in
+pub any_tables : (db : Trees) (f : Fetched) (s : Records) (ts : List Intent)
+    (bytes : List (List ℕ)) → AreShown db f → Say f s ts bytes → TablesSay db s ts bytes
+any_tables db f s ts bytes are says =
+    let one : List Row = shown_about 2 ∷ [] in
     let about : IsPermutation (map (columns_at (shown_places About)) (db 0)) one =
     subst (IsPermutation (map (columns_at (shown_places About)) (db 0))) says.about
     (again_shown (columns_at two) (columns_at (shown_places About)) two_again
@@ -372,13 +432,17 @@ any_tables db f s ts are says =
     length_permutation _ _ are.commands ∙ length-map (db 8) stored in
     record {
       state = says.records.state;
-      about = one_permutation (Int (pos 1) ∷ Int (pos 1) ∷ []) _ (IsPermutation-sym _ _ about);
+      about = one_permutation (shown_about 2) _ (IsPermutation-sym _ _ about);
       mirrors = IsPermutation-trans _ _ _ says.records.mirrors_are (IsPermutation-sym _ _ mirrors);
       components = IsPermutation-trans _ _ _ says.records.components_are
           (IsPermutation-sym _ _ components);
       intents = IsPermutation-sym _ _
           (subst (IsPermutation (map (columns_at (shown_places Intents)) (db 7))) says.intents
           intents);
+      patches = few_permuted shown_patch bytes _ (subst
+          (λ l. IsPermutation l (map (columns_at (shown_places Patches)) (db 11))) says.patches
+          (IsPermutation-sym _ _ (again_shown (columns_at two)
+          (columns_at (shown_places Patches)) two_again (db 11) f.patches.items are.patches)));
       readable = says.readable;
       count = subst (λ n. n ≤ 100000) many says.commands.count;
       numbers = numbers_told db f many are says.commands.each;
@@ -390,12 +454,12 @@ any_tables db f s ts are says =
     }
 
 -- and tables that say something are shown by rows that do
-pub any_rows : (db : Trees) (f : Fetched) (s : Records) (ts : List Intent) → AreShown db f
-    → TablesSay db s ts → Say f s ts
-any_rows db f s ts are of =
-    let one : List Row = (Int (pos 1) ∷ Int (pos 1) ∷ []) ∷ [] in
+pub any_rows : (db : Trees) (f : Fetched) (s : Records) (ts : List Intent)
+    (bytes : List (List ℕ)) → AreShown db f → TablesSay db s ts bytes → Say f s ts bytes
+any_rows db f s ts bytes are of =
+    let one : List Row = shown_about 2 ∷ [] in
     let about : f.about.items ≡ one =
-    one_permutation (Int (pos 1) ∷ Int (pos 1) ∷ []) f.about.items
+    one_permutation (shown_about 2) f.about.items
     (subst (λ l. IsPermutation l f.about.items) of.about are.about) in
     let mirrors = again_shown (columns_at nine) (columns_at (shown_places Mirrors)) nine_again
     (db 1) f.mirrors.items are.mirrors in
@@ -419,6 +483,9 @@ any_rows db f s ts are of =
         components_are = IsPermutation-trans _ _ _ of.components components;
       };
       intents = ap (map (columns_at six)) intents ∙ read_again 1 ts;
+      patches = ap (map (columns_at two)) (few_permuted shown_patch bytes f.patches.items
+          (subst (λ l. IsPermutation l f.patches.items) of.patches are.patches))
+          ∙ patches_again bytes;
       readable = of.readable;
       commands = record {
         count = subst (λ n. n ≤ 100000) (sym many) of.count;

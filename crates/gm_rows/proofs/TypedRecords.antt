@@ -1,11 +1,13 @@
 -- The records of a state, and the intents that are readable for it, are values of the code.
 use Rattle.std.proofs.Common.{◌≡◌, ◌≢◌, ℕ, ◌<◌, ◌^◌, IsTrue, List, Option, Some, None, refl, sym, subst, arith}
+use Rattle.std.specs.Prelude.{IsSomeAnd}
 use Rattle.gm_metadata.specs.Images.{same_label}
 use Rattle.gm_metadata.specs.Labels.{is_label}
 use Rattle.gm_state.specs.declared.intents.Intent.{Intent}
-use Rattle.gm_state.specs.declared.intents.Intent.TheVariants.{Meta, Clear, Copy}
+use Rattle.gm_state.specs.declared.intents.Intent.TheVariants.{Meta, Clear, Copy, Dirty, Patch}
 use Rattle.gm_state.specs.declared.records.Mirror.{Mirror}
 use Rattle.gm_state.specs.declared.records.Component.{Component}
+use Rattle.gm_state.specs.declared.records.Disk.TheVariants.{InSync}
 use Rattle.gm_lists.specs.Ordered.{Has}
 use Rattle.gm_state.specs.Records.{Records, IsState, members}
 use Rattle.gm_state.specs.Lookups.{component_of}
@@ -75,6 +77,18 @@ module _ (s : Records) (state : IsState s) where
       let within = w.within in (
         of_label w.mirror w.from source w.from_is w.source_is,
         of_label w.mirror w.to target w.to_is w.target_is,
+        omega (arith, ordered, within, few),
+        omega (arith, within, few),
+      )
+  intent_value (Dirty p) active = named_label p (component_of s p) refl (λ none.
+      let f : IsSomeAnd None (λ (k : Component). k.disk ≡ InSync) =
+      subst (λ (o : Option Component). IsSomeAnd o (λ (k : Component). k.disk ≡ InSync)) none
+      active in f)
+  intent_value (Patch p first end) w =
+      let few = few_sectors w.mirror w.on_is.mirror in
+      let ordered = w.ordered in
+      let within = w.within in (
+        of_label w.mirror w.on p w.on_is w.provider_is,
         omega (arith, ordered, within, few),
         omega (arith, within, few),
       )

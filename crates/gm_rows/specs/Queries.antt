@@ -7,7 +7,7 @@ use Rattle.sqlite.specs.Tree.{Trees}
 use Rattle.gm_rows.specs.Values.{columns_at}
 use Rattle.gm_rows.specs.declared.fetched.Fetched.{Fetched}
 use Rattle.gm_rows.specs.declared.fetched.Table.{Table}
-use Rattle.gm_rows.specs.declared.fetched.Table.TheVariants.{About, Mirrors, Components, Intents, Commands}
+use Rattle.gm_rows.specs.declared.fetched.Table.TheVariants.{About, Mirrors, Components, Intents, Commands, Patches}
 
 -- what each table is asked by; intents and commands come in order of their numbers
 abbrev pub query_text : Table → List ℕ
@@ -19,6 +19,7 @@ query_text Components =
 query_text Intents =
     codes "SELECT ord, kind, prov, source, first_sector, end_sector FROM intents ORDER BY ord"
 query_text Commands = codes "SELECT seq, copied, of_total FROM commands ORDER BY seq"
+query_text Patches = codes "SELECT one, bytes FROM patches"
 
 -- where each table is kept
 abbrev pub tree_of : Table → ℕ
@@ -27,6 +28,7 @@ tree_of Mirrors = 1
 tree_of Components = 4
 tree_of Intents = 7
 tree_of Commands = 8
+tree_of Patches = 11
 
 -- the stored columns that its query shows
 abbrev pub shown_places : Table → List ℕ
@@ -35,6 +37,7 @@ shown_places Mirrors = 1 ∷ 2 ∷ 3 ∷ 4 ∷ 5 ∷ 6 ∷ 7 ∷ 8 ∷ 9 ∷ []
 shown_places Components = 1 ∷ 2 ∷ 3 ∷ 4 ∷ 5 ∷ 6 ∷ 7 ∷ 8 ∷ 9 ∷ []
 shown_places Intents = 0 ∷ 2 ∷ 3 ∷ 4 ∷ 5 ∷ 6 ∷ []
 shown_places Commands = 2 ∷ 4 ∷ 5 ∷ []
+shown_places Patches = 0 ∷ 2 ∷ []
 
 -- the rows that the query of a table may show
 abbrev pub IsShown : Trees → Table → List Row → Type 0
@@ -58,3 +61,4 @@ pub record AreShown (db : Trees) (f : Fetched) : Type 0 where
   pub in_order : IsInOrder f.intents.items
   pub commands : IsShown db Commands f.commands.items
   pub commands_in_order : IsInOrder f.commands.items
+  pub patches : IsShown db Patches f.patches.items

@@ -1,12 +1,12 @@
 -- When the tables are readable, and as what.
-use Rattle.std.specs.Prelude.{◌≤◌, List, length, map}
+use Rattle.std.specs.Prelude.{◌≡◌, ◌≤◌, ℕ, List, length, map}
 use Rattle.std.specs.List.Sorted.{IsPermutation}
 use Rattle.sqlite.specs.Tree.{Trees}
 use Rattle.gm_state.specs.declared.intents.Intent.{Intent}
 use Rattle.gm_lists.specs.Ordered.{Has}
 use Rattle.gm_state.specs.Records.{Records, IsState}
 use Rattle.gm_state.specs.Readable.{AreReadable}
-use Rattle.gm_state.specs.Rows.{Tables, CommandRow, mirror_row, component_row, intent_rows}
+use Rattle.gm_state.specs.Rows.{Tables, CommandRow, mirror_row, component_row, intent_rows, patch_rows}
 use Rattle.gm_rows.specs.Tables.{Holds}
 
 -- the numbers of a command's reply are in range
@@ -24,18 +24,21 @@ pub record AreRecordsOf (t : Tables) (s : Records) : Type 0 where
   pub rows : HoldState s t
 
 -- The tables are those of a state with these intents pending, which are numbered from 1 in their
--- order.
-pub record AreTablesOf (t : Tables) (s : Records) (ts : List Intent) : Type 0 where
+-- order, and these bytes to be laid.
+pub record AreTablesOf (t : Tables) (s : Records) (ts : List Intent)
+    (bytes : List (List ℕ)) : Type 0 where
   pub state : IsState s
   pub mirrors : IsPermutation (map mirror_row s.mirrors) t.mirrors
   pub components : IsPermutation (map component_row s.components) t.components
   pub intents : IsPermutation (intent_rows 1 ts) t.intents
-  pub readable : AreReadable s ts
+  pub patches : t.patches ≡ patch_rows bytes
+  pub readable : AreReadable s bytes ts
   pub commands : (c : CommandRow) → Has t.commands c → IsInRange c
   pub count : length t.commands ≤ 100000
 
--- the store holds a registry of the state, with these intents pending
-pub record IsStateIn (db : Trees) (s : Records) (ts : List Intent) : Type 0 where
-  pub tables : Tables
-  pub holds : Holds db tables
-  pub are : AreTablesOf tables s ts
+-- the store holds a registry of the state, with these intents and these bytes pending
+pub record IsStateIn (db : Trees) (s : Records) (ts : List Intent) (bytes : List (List ℕ)) : Type 0
+  where
+    pub tables : Tables
+    pub holds : Holds db tables
+    pub are : AreTablesOf tables s ts bytes

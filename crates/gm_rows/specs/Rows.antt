@@ -1,12 +1,16 @@
 -- The rows of the tables.
-use Rattle.std.specs.Prelude.{pos, [], ◌∷◌}
-use Rattle.sqlite.specs.declared.types.Value.TheVariants.{Null, Int, Text}
+use Rattle.std.specs.Prelude.{ℕ, pos, List, [], ◌∷◌}
+use Rattle.sqlite.specs.declared.types.Value.TheVariants.{Null, Int, Text, Blob}
 use Rattle.sqlite.specs.Order.{Row}
 use Rattle.gm_state.specs.Rows.{MirrorRow, ComponentRow, IntentRow, CommandRow}
 
--- the one record of `about`, (1, 1), whose first column is its rowid
+-- the one record of `about`, (1, 2), whose first column is its rowid; in a store of the first
+-- schema it is (1, 1)
+abbrev pub about_numbered : ℕ → Row
+about_numbered schema_no = Int (pos 1) ∷ Null ∷ Int (pos schema_no) ∷ []
+
 abbrev pub about_values : Row
-about_values = Int (pos 1) ∷ Null ∷ Int (pos 1) ∷ []
+about_values = about_numbered 2
 
 abbrev pub mirror_values : MirrorRow → Row
 mirror_values m =
@@ -29,3 +33,7 @@ intent_values i =
 abbrev pub command_values : CommandRow → Row
 command_values c = Text c.call_key ∷ Int (pos c.seq) ∷ Text c.words ∷ Int (pos c.copied)
     ∷ Int (pos c.of_total) ∷ []
+
+-- the one record of `patches`, (1, bytes), whose first column is its rowid
+abbrev pub patch_values : List ℕ → Row
+patch_values bytes = Int (pos 1) ∷ Null ∷ Blob bytes ∷ []

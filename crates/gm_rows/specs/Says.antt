@@ -10,14 +10,14 @@ use Rattle.gm_state.specs.declared.records.Mirror.{Mirror}
 use Rattle.gm_state.specs.declared.records.Component.{Component}
 use Rattle.gm_lists.specs.Ordered.{Has}
 use Rattle.gm_state.specs.Records.{Records, IsState}
-use Rattle.gm_state.specs.Rows.{mirror_row, component_row, intent_row}
+use Rattle.gm_state.specs.Rows.{mirror_row, component_row, intent_row, patch_rows}
 use Rattle.gm_rows.specs.Rows.{mirror_values, component_values}
 use Rattle.gm_state.specs.Readable.{AreReadable}
 use Rattle.gm_rows.specs.Tables.{numbers_of}
-use Rattle.gm_rows.specs.Values.{columns_at, numbered, two, six, nine, shown_intent}
+use Rattle.gm_rows.specs.Values.{columns_at, numbered, two, six, nine, shown_intent, shown_patch}
 use Rattle.sqlite.specs.Tree.{Trees}
 use Rattle.gm_rows.specs.Queries.{shown_places}
-use Rattle.gm_rows.specs.declared.fetched.Table.TheVariants.{About, Mirrors, Components, Intents}
+use Rattle.gm_rows.specs.declared.fetched.Table.TheVariants.{About, Mirrors, Components, Intents, Patches}
 use Rattle.gm_rows.specs.declared.fetched.Fetched.{Fetched}
 
 abbrev pub mirror_shown : Mirror → Row
@@ -47,9 +47,17 @@ abbrev pub AreCommandsFrom : ℕ → List Row → Type 0
 AreCommandsFrom n [] = Unit {0}
 AreCommandsFrom n (row ∷ more) = IsCommand n row × AreCommandsFrom (n + 1) more
 
--- the rows of `about` are the one record (1, 1)
-abbrev pub IsAbout : List Row → Type 0
-IsAbout rows = map (columns_at two) rows ≡ (Int (pos 1) ∷ Int (pos 1) ∷ []) ∷ []
+-- what is shown of the one record of `about` in a store of this schema
+abbrev pub shown_about : ℕ → Row
+shown_about schema_no = Int (pos 1) ∷ Int (pos schema_no) ∷ []
+
+-- the rows of `about` are that record
+abbrev pub IsAbout : ℕ → List Row → Type 0
+IsAbout schema_no rows = map (columns_at two) rows ≡ shown_about schema_no ∷ []
+
+-- the rows of `patches` are the record of these bytes, or none where there are none
+abbrev pub ArePatches : List (List ℕ) → List Row → Type 0
+ArePatches bytes rows = map (columns_at two) rows ≡ map shown_patch (patch_rows bytes)
 
 -- the rows are those of commands, numbered from 1, of which there may be so many
 pub record AreCommands (rows : List Row) : Type 0 where
@@ -63,29 +71,33 @@ pub record SayState (mirrors components : List Row) (s : Records) : Type 0 where
   pub components_are : IsPermutation (map component_shown s.components)
       (map (columns_at nine) components)
 
--- all rows say a state, and intents that are readable for it, in their order
-pub record Say (f : Fetched) (s : Records) (ts : List Intent) : Type 0 where
-  pub about : IsAbout f.about.items
+-- all rows say a state, and intents and bytes that are readable for it, in their order
+pub record Say (f : Fetched) (s : Records) (ts : List Intent) (bytes : List (List ℕ)) : Type 0 where
+  pub about : IsAbout 2 f.about.items
   pub records : SayState f.mirrors.items f.components.items s
   pub intents : map (columns_at six) f.intents.items ≡ numbered intent_shown 1 ts
-  pub readable : AreReadable s ts
+  pub patches : ArePatches bytes f.patches.items
+  pub readable : AreReadable s bytes ts
   pub commands : AreCommands f.commands.items
 
--- The tables, whatever they were to hold, are those of a state and of intents that are readable for
--- it: their columns say just these records, the commands count from 1 without gaps, and the numbers
--- of replies are in range.
-pub record TablesSay (db : Trees) (s : Records) (ts : List Intent) : Type 0 where
-  pub state : IsState s
-  pub about : map (columns_at (shown_places About)) (db 0) ≡ (Int (pos 1) ∷ Int (pos 1) ∷ []) ∷ []
-  pub mirrors : IsPermutation (map mirror_shown s.mirrors)
-      (map (columns_at (shown_places Mirrors)) (db 1))
-  pub components : IsPermutation (map component_shown s.components)
-      (map (columns_at (shown_places Components)) (db 4))
-  pub intents : IsPermutation (numbered intent_shown 1 ts)
-      (map (columns_at (shown_places Intents)) (db 7))
-  pub readable : AreReadable s ts
-  pub count : length (db 8) ≤ 100000
-  pub numbers : IsPermutation (map number_value (numbers_of (length (db 8))))
-      (map (λ row. column row 2) (db 8))
-  pub replies : (row : Row) → Has (db 8) row
-      → IsBetween 0 1048576 (column row 4) × IsBetween 0 1048576 (column row 5)
+-- The tables, whatever they were to hold, are those of a state and of intents and bytes that are
+-- readable for it: their columns say just these records, the commands count from 1 without gaps,
+-- and the numbers of replies are in range.
+pub record TablesSay (db : Trees) (s : Records) (ts : List Intent) (bytes : List (List ℕ)) : Type 0
+  where
+    pub state : IsState s
+    pub about : map (columns_at (shown_places About)) (db 0) ≡ shown_about 2 ∷ []
+    pub mirrors : IsPermutation (map mirror_shown s.mirrors)
+        (map (columns_at (shown_places Mirrors)) (db 1))
+    pub components : IsPermutation (map component_shown s.components)
+        (map (columns_at (shown_places Components)) (db 4))
+    pub intents : IsPermutation (numbered intent_shown 1 ts)
+        (map (columns_at (shown_places Intents)) (db 7))
+    pub patches : map (columns_at (shown_places Patches)) (db 11)
+        ≡ map shown_patch (patch_rows bytes)
+    pub readable : AreReadable s bytes ts
+    pub count : length (db 8) ≤ 100000
+    pub numbers : IsPermutation (map number_value (numbers_of (length (db 8))))
+        (map (λ row. column row 2) (db 8))
+    pub replies : (row : Row) → Has (db 8) row
+        → IsBetween 0 1048576 (column row 4) × IsBetween 0 1048576 (column row 5)

@@ -1,8 +1,8 @@
--- The schema of the registry, as its texts define it.
+-- The schemas of the registry, as its texts define them.
 use Rattle.std.specs.Prelude.{codes, List, ℕ, [], ◌∷◌, Bool, true, false, Some, None, pos}
 use Rattle.sqlite.specs.Collation.TheVariants.{Binary}
 use Rattle.sqlite.specs.declared.types.Value.TheVariants.{Null, Int}
-use Rattle.sqlite.specs.Kind.TheVariants.{Integer, Text}
+use Rattle.sqlite.specs.Kind.TheVariants.{Integer, Text, Blob}
 use Rattle.sqlite_schema.specs.declared.schema.Kind.{Kind}
 use Rattle.sqlite_schema.specs.declared.schema.Column.{Column}
 use Rattle.sqlite.specs.Term.{lit, col, op2}
@@ -32,6 +32,10 @@ number name = column name Integer true
 -- a text that is always there
 abbrev text : List ℕ → Column
 text name = column name Text true
+
+-- bytes that are always there
+abbrev bytes : List ℕ → Column
+bytes name = column name Blob true
 
 -- the column that is the rowid
 abbrev row_number : List ℕ → Column
@@ -131,6 +135,22 @@ commands = record {
   is_counted = false;
 }
 
+abbrev pub patches : Table
+patches = record {
+  name = codes "patches";
+  tree = 11;
+  columns = row_number (codes "one") ∷ bytes (codes "bytes") ∷ [];
+  key = Some 0;
+  primary = 0 ∷ [];
+  uniques = [];
+  orders = [];
+  checks = op2 (Compare Eq Binary) (col 1 0) (lit (Int (pos 1))) ∷ [];
+  references = [];
+  computed = [];
+  stamps = record { places = []; terms = []; formats = [] };
+  is_counted = false;
+}
+
 abbrev pub mirrors_by_name : Index
 mirrors_by_name = record {
   name = codes "sqlite_autoindex_mirrors_1";
@@ -218,9 +238,19 @@ with_intents = record {
   views = [];
 }
 
+-- the first schema of a registry, without a table of bytes
+abbrev pub first_schema : Schema
+first_schema = record {
+  tables = about ∷ mirrors ∷ components ∷ intents ∷ commands ∷ [];
+  indexes = mirrors_by_name ∷ mirrors_by_mid ∷ components_by_prov ∷ components_by_did
+      ∷ commands_by_key ∷ commands_by_seq ∷ [];
+  views = [];
+}
+
+-- the second, which is this one
 abbrev pub registry_schema : Schema
 registry_schema = record {
-  tables = about ∷ mirrors ∷ components ∷ intents ∷ commands ∷ [];
+  tables = about ∷ mirrors ∷ components ∷ intents ∷ commands ∷ patches ∷ [];
   indexes = mirrors_by_name ∷ mirrors_by_mid ∷ components_by_prov ∷ components_by_did
       ∷ commands_by_key ∷ commands_by_seq ∷ [];
   views = [];

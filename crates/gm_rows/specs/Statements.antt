@@ -2,7 +2,10 @@
 use Rattle.std.specs.Prelude.{codes, List, ℕ}
 
 abbrev pub put_about_text : List ℕ
-put_about_text = codes "INSERT INTO about (one, schema_no) VALUES (1, 1)"
+put_about_text = codes "INSERT INTO about (one, schema_no) VALUES (1, 2)"
+
+abbrev pub drop_about_text : List ℕ
+drop_about_text = codes "DELETE FROM about"
 
 abbrev pub upsert_mirror_text : List ℕ
 upsert_mirror_text =
@@ -28,6 +31,12 @@ put_command_text =
 
 abbrev pub settle_text : List ℕ
 settle_text = codes "DELETE FROM intents"
+
+abbrev pub put_patch_text : List ℕ
+put_patch_text = codes "INSERT INTO patches (one, bytes) VALUES (1, ?1)"
+
+abbrev pub drop_patches_text : List ℕ
+drop_patches_text = codes "DELETE FROM patches"
 
 abbrev pub find_command_text : List ℕ
 find_command_text = codes "SELECT seq, words, copied, of_total FROM commands WHERE call_key = ?1"

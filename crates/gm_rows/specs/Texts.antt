@@ -1,4 +1,4 @@
--- The texts that make the five tables.
+-- The texts that make the six tables.
 use Rattle.std.specs.Prelude.{codes, List, ℕ}
 
 abbrev pub about_text : List ℕ
@@ -20,3 +20,7 @@ intents_text =
 abbrev pub commands_text : List ℕ
 commands_text =
     codes "CREATE TABLE commands(call_key TEXT PRIMARY KEY NOT NULL, seq INTEGER NOT NULL UNIQUE,\n  words TEXT NOT NULL, copied INTEGER NOT NULL, of_total INTEGER NOT NULL) STRICT"
+
+abbrev pub patches_text : List ℕ
+patches_text =
+    codes "CREATE TABLE patches(one INTEGER PRIMARY KEY CHECK (one = 1), bytes BLOB NOT NULL) STRICT"

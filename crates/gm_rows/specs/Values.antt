@@ -1,13 +1,11 @@
 -- The form that code goes by: what a query shows of rows, and the records that values of the code
 -- can say.
-use Rattle.std.specs.Prelude.{true, false, ◌≡◌, ◌+◌, ◌<◌, ◌^◌, ℕ, IsTrue, List, [], ◌∷◌, map, pos}
-use Rattle.std.specs.List.{list_any}
-use Rattle.gm_state.specs.Readable.{is_copy_to, is_meta_of}
-use Rattle.sqlite.specs.declared.types.Value.TheVariants.{Int, Text}
+use Rattle.std.specs.Prelude.{◌≡◌, ◌+◌, ◌<◌, ◌^◌, ℕ, IsTrue, List, [], ◌∷◌, map, pos}
+use Rattle.sqlite.specs.declared.types.Value.TheVariants.{Int, Text, Blob}
 use Rattle.sqlite.specs.Order.{Row, column}
 use Rattle.gm_metadata.specs.Labels.{is_label}
 use Rattle.gm_state.specs.declared.intents.Intent.{Intent}
-use Rattle.gm_state.specs.declared.intents.Intent.TheVariants.{Meta, Clear, Copy}
+use Rattle.gm_state.specs.declared.intents.Intent.TheVariants.{Meta, Clear, Copy, Dirty, Patch}
 use Rattle.gm_state.specs.declared.records.Mirror.{Mirror}
 use Rattle.gm_state.specs.declared.records.Component.{Component}
 use Rattle.gm_state.specs.Disks.{held_of}
@@ -32,6 +30,10 @@ nine = 0 ∷ 1 ∷ 2 ∷ 3 ∷ 4 ∷ 5 ∷ 6 ∷ 7 ∷ 8 ∷ []
 abbrev pub shown_intent : IntentRow → Row
 shown_intent i = Int (pos i.ord) ∷ Int (pos i.kind) ∷ Text i.prov ∷ Text i.source
     ∷ Int (pos i.first_sector) ∷ Int (pos i.end_sector) ∷ []
+
+-- what is shown of the record of `patches`
+abbrev pub shown_patch : List ℕ → Row
+shown_patch bytes = Int (pos 1) ∷ Blob bytes ∷ []
 
 -- the row begins with this number, kind and provider
 pub record AreFirst (row : Row) (number kind : ℕ) (provider : List ℕ) : Type 0 where
@@ -59,6 +61,8 @@ IsIntentValue (Meta p) = IsTrue (is_label p)
 IsIntentValue (Clear p) = IsTrue (is_label p)
 IsIntentValue (Copy source target first end) =
     IsTrue (is_label source) × IsTrue (is_label target) × (first < 2 ^ 32) × (end < 2 ^ 32)
+IsIntentValue (Dirty p) = IsTrue (is_label p)
+IsIntentValue (Patch p first end) = IsTrue (is_label p) × (first < 2 ^ 32) × (end < 2 ^ 32)
 
 -- the rows of records that are numbered from n, each by its number
 abbrev pub numbered : {A : Type 0} → (ℕ → A → Row) → ℕ → List A → List Row

@@ -13,6 +13,7 @@ pub enum Table {
     Components,
     Intents,
     Commands,
+    Patches,
 }
 
 impl Table {
@@ -33,6 +34,7 @@ impl Table {
                 "SELECT ord, kind, prov, source, first_sector, end_sector FROM intents ORDER BY ord"
             }
             Table::Commands => "SELECT seq, copied, of_total FROM commands ORDER BY seq",
+            Table::Patches => "SELECT one, bytes FROM patches",
         }
     }
 }
@@ -45,4 +47,5 @@ pub struct Fetched {
     pub components: Vec<Row>,
     pub intents: Vec<Row>,
     pub commands: Vec<Row>,
+    pub patches: Vec<Row>,
 }

@@ -8,7 +8,9 @@ ghost use Rattle.gm_metadata.specs.declared.balance.Balance.{Balance};
 ghost use Rattle.gm_metadata.specs.declared.flags.DiskFlags.{DiskFlags};
 ghost use Rattle.gm_metadata.specs.declared.flags.MirrorFlags.{MirrorFlags};
 ghost use Rattle.sqlite.specs.Order.{column};
-ghost use Rattle.sqlite.specs.declared.types.Value.TheVariants.{Int, Text};
+ghost use Rattle.sqlite.specs.declared.types.Value.TheVariants.{Int, Text, Blob};
+ghost use Rattle.gm_state.specs.Readable.{AreSectors};
+ghost use Rattle.gm_state.specs.Rows.{joined};
 ghost use Rattle.gm_rows.specs.Faults.{OnUnreadable};
 
 use crate::fault::{StoreFault, readable};
@@ -16,6 +18,7 @@ use gm_metadata::{Balance, DiskFlags, Label, MirrorFlags};
 use gm_state::sectors_of;
 use sqlite::Row;
 use sqlite::types::ValueRef;
+use std::alloc::Global;
 
 /// The number in a column.
 pub fn u64_at(row: &Row, at: usize) -> Option<u64>
@@ -116,6 +119,27 @@ pub fn text_at(row: &Row, at: usize) -> Result<String, StoreFault>
         → column row.now at ≡ Text text → ⊥) }
 {
     readable(row.get(at))
+}
+
+/// The sectors that a column holds as bytes, of their own memory; `Unreadable` where it holds none,
+/// or a part of a sector behind them.
+pub fn bytes_at(alloc: Global, row: &Row, at: usize) -> Result<Vec<[u8; 512]>, StoreFault>
+    ensures bytes { IfOk result (λ v. column row.now at ≡ Blob (joined v.items)) }
+    ensures whole { IfOk result (λ v. AreSectors v.items) }
+    ensures fault { IfErr result (λ e. e ≢ StoreFault.Store) }
+    ensures unreadable { OnUnreadable result ((sectors : List (List ℕ)) → AreSectors sectors
+        → column row.now at ≡ Blob (joined sectors) → ⊥) }
+{
+    match row.get_ref(at) {
+        Ok(ValueRef::Blob(blob)) => {
+            let (sectors, rest) = blob.as_chunks::<512>();
+            if !rest.is_empty() {
+                return Err(StoreFault::Unreadable);
+            }
+            Ok(Vec::from_slice(alloc, sectors)?)
+        }
+        _ => Err(StoreFault::Unreadable),
+    }
 }
 
 /// Whether a column holds this text.

@@ -74,7 +74,8 @@ pub fn read_component(row: &Row) -> Option<Component>
     })
 }
 
-/// Whether the row of an intent names no source and no sectors, as each does but that of a copy.
+/// Whether the row of an intent names no source and no sectors, as each does but those of a copy
+/// and of a patch.
 fn is_without_source(row: &Row) -> bool
     ensures { IsTrue result ↔ ((column row.now 3 ≡ Text []) × (column row.now 4 ≡ Int (pos 0))
         × (column row.now 5 ≡ Int (pos 0))) }
@@ -95,6 +96,12 @@ fn read_kind(row: &Row, kind: u32, provider: Label) -> Option<Intent>
         3 => Some(Intent::Copy {
             source: label_at(row, 3)?,
             target: provider,
+            first: u32_at(row, 4)?,
+            end: u32_at(row, 5)?,
+        }),
+        4 if is_without_source(row) => Some(Intent::Dirty { provider }),
+        5 if is_empty_at(row, 3) => Some(Intent::Patch {
+            provider,
             first: u32_at(row, 4)?,
             end: u32_at(row, 5)?,
         }),

@@ -1,15 +1,16 @@
 //! What the rows of all tables say, where they say a state.
 
-ghost use Rattle.std.specs.Prelude.{IfErr, ◌≡◌, ◌≢◌, ◌↔◌, IsTrue, List, IfOk};
+ghost use Rattle.std.specs.Prelude.{IfErr, ◌≡◌, ◌≢◌, ◌↔◌, ℕ, IsTrue, List, IfOk};
 ghost use Rattle.sqlite.specs.Order.{column};
 ghost use Rattle.gm_state.specs.declared.intents.Intent.{Intent};
 ghost use Rattle.gm_state.specs.Records.{Records};
-ghost use Rattle.gm_rows.specs.Says.{IsBetween, IsCommand, IsAbout, AreCommands, SayState, Say};
+ghost use Rattle.gm_state.specs.Readable.{AreSectors};
+ghost use Rattle.gm_rows.specs.Says.{IsBetween, IsCommand, IsAbout, AreCommands, ArePatches, SayState, Say};
 ghost use Rattle.gm_rows.specs.Faults.{OnUnreadable};
 
 use crate::fault::StoreFault;
 use crate::fetched::Fetched;
-use crate::read_column::{is_number_at, u64_at};
+use crate::read_column::{bytes_at, is_number_at, u64_at};
 use crate::shown::read_all;
 use gm_commands::MAX_COMMANDS;
 use gm_state::{Component, Intent, MAX_SECTORS, Mirror, State, are_readable, one_row};
@@ -49,11 +50,11 @@ fn are_commands(rows: &[Row]) -> bool
     true
 }
 
-/// Whether the rows of `about` are the one record of this schema, (1, 1).
-pub fn is_about(rows: &[Row]) -> bool
-    ensures { IsTrue result ↔ IsAbout rows.now }
+/// Whether the rows of `about` are the one record of a schema, (1, its number).
+pub fn is_about(rows: &[Row], schema_no: u64) -> bool
+    ensures { IsTrue result ↔ IsAbout schema_no rows.now }
 {
-    rows.len() == 1 && is_number_at(&rows[0], 0, 1) && is_number_at(&rows[0], 1, 1)
+    rows.len() == 1 && is_number_at(&rows[0], 0, 1) && is_number_at(&rows[0], 1, schema_no)
 }
 
 /// The state that the rows of mirrors and components say; `Unreadable` where they say none.
@@ -74,20 +75,47 @@ fn read_state(alloc: Global, mirrors: &[Row], components: &[Row]) -> Result<Stat
     }
 }
 
-/// The state and the intents that all rows say; `Unreadable` where they say none.
-pub fn judge(alloc: Global, fetched: &Fetched) -> Result<(State, Vec<Intent>), StoreFault>
-    ensures says { IfOk result (λ r. Say fetched.now r.0 r.1.items) }
+/// The sectors of the record of `patches`, none where there is no record; `Unreadable` where the
+/// rows are of no such record.
+fn read_patches(alloc: Global, rows: &[Row]) -> Result<Vec<[u8; 512]>, StoreFault>
+    ensures says { IfOk result (λ v. ArePatches v.items rows.now) }
+    ensures whole { IfOk result (λ v. AreSectors v.items) }
+    ensures fault { IfErr result (λ e. e ≢ StoreFault.Store) }
+    ensures unreadable { OnUnreadable result ((bytes : List (List ℕ)) → AreSectors bytes
+        → ArePatches bytes rows.now → ⊥) }
+{
+    if rows.is_empty() {
+        return Ok(Vec::new(alloc));
+    }
+    if rows.len() > 1 || !is_number_at(&rows[0], 0, 1) {
+        return Err(StoreFault::Unreadable);
+    }
+    let bytes = bytes_at(alloc, &rows[0], 1)?;
+    if bytes.is_empty() {
+        return Err(StoreFault::Unreadable);
+    }
+    Ok(bytes)
+}
+
+/// The state, the intents and the bytes to be laid that all rows say; `Unreadable` where they say
+/// none.
+pub fn judge(
+    alloc: Global,
+    fetched: &Fetched,
+) -> Result<(State, Vec<Intent>, Vec<[u8; 512]>), StoreFault>
+    ensures says { IfOk result (λ r. Say fetched.now r.0 r.1.items r.2.items) }
     ensures fault { IfErr result (λ e. e ≢ StoreFault.Store) }
     ensures unreadable { OnUnreadable result ((s : Records) (ts : List Intent)
-        → Say fetched.now s ts → ⊥) }
+        (bytes : List (List ℕ)) → Say fetched.now s ts bytes → ⊥) }
 {
-    if !is_about(&fetched.about) || !are_commands(&fetched.commands) {
+    if !is_about(&fetched.about, 2) || !are_commands(&fetched.commands) {
         return Err(StoreFault::Unreadable);
     }
     let state = read_state(alloc, &fetched.mirrors, &fetched.components)?;
     let intents: Vec<Intent> = read_all(alloc, &fetched.intents)?;
-    if !are_readable(&state, &intents) {
+    let bytes = read_patches(alloc, &fetched.patches)?;
+    if !are_readable(&state, &bytes, &intents) {
         return Err(StoreFault::Unreadable);
     }
-    Ok((state, intents))
+    Ok((state, intents, bytes))
 }

@@ -1,4 +1,4 @@
-//! The texts that make the five tables, as the store keeps them and the sqlite3 command line shows
+//! The texts that make the six tables, as the store keeps them and the sqlite3 command line shows
 //! them.
 
 pub const ABOUT: &str =
@@ -21,3 +21,6 @@ pub const INTENTS: &str =
 pub const COMMANDS: &str =
     "CREATE TABLE commands(call_key TEXT PRIMARY KEY NOT NULL, seq INTEGER NOT NULL UNIQUE,
   words TEXT NOT NULL, copied INTEGER NOT NULL, of_total INTEGER NOT NULL) STRICT";
+
+pub const PATCHES: &str =
+    "CREATE TABLE patches(one INTEGER PRIMARY KEY CHECK (one = 1), bytes BLOB NOT NULL) STRICT";

@@ -15,11 +15,11 @@ use Rattle.gm_lists.proofs.Finding.{not_both}
 use Rattle.gm_lists.proofs.PutInPlace.{Ascends-put_all}
 use Rattle.gm_lists.proofs.PutTogether.{filter-put_all, filter-put_all_out, put_ordered}
 use Rattle.gm_state.proofs.NoMembers.{no_members}
-use Rattle.gm_changes.specs.After.{after, clears, fills, intents_of, metas, reply_to}
+use Rattle.gm_changes.specs.After.{after, bytes_of, clears, fills, intents_of, metas, reply_to}
 use Rattle.gm_refusals.specs.Applies.{name_of}
 use Rattle.gm_refusals.specs.WorldFacts.{seen_of}
 use Rattle.gm_rules.specs.Step.{NewData, WereBare}
-use Rattle.gm_rules.proofs.PlanOf.{PlanOf}
+use Rattle.gm_rules.proofs.PlanOf.{PlanOf, Nothing}
 use Rattle.gm_rules.proofs.TurnedMirror.{Puts, put_turns, with_put}
 
 -- the records of u with the mirror and its components
@@ -44,6 +44,7 @@ pub record Enrolls (u : World) (c : Command) (m : Mirror) (ks : List Component)
   pub after_is : enrolled u m ks ≡ after (seen_of u) c u.state
   pub intents : members (enrolled u m ks).components m.name ≡ ks
       → metas ks ≡ intents_of c u.state (enrolled u m ks)
+  pub bytes : [] ≡ bytes_of c
   pub named : name_of c ≡ Some m.name
   pub reply : ReplyFits (reply_to c u.state)
   pub new : (w : World) → ((i : ℕ) → w.holds m.name i ≡ list i) → NewData u c w
@@ -87,12 +88,13 @@ module _ (u : World) (c : Command) (m : Mirror) (ks : List Component) (list : �
     components = ks;
     list = list;
     records = enrolled u m ks;
-    stretch = None;
+    fill = Nothing;
     gone = [];
     told = ks;
     turns = put_turns u.state m (enrolled u m ks).components ks sound.state puts;
     after_is = e.after_is;
     intents = e.intents puts.mine;
+    bytes = e.bytes;
     named = λ k h. e.named;
     reply = e.reply;
     there = e.there;
@@ -100,7 +102,7 @@ module _ (u : World) (c : Command) (m : Mirror) (ks : List Component) (list : �
     same_data = λ a h is. absurd (e.names a h is);
     new = e.new;
     bare = e.bare;
-    lent = tt;
+    can_fill = tt;
     filled = e.filled;
     cleared = λ q h. absurd h;
     all_gone = e.all_gone;

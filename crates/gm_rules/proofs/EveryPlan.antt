@@ -1,7 +1,7 @@
 -- Each command that nothing refuses has a plan.
 use Rattle.std.proofs.Common.{ℕ, List}
 use Rattle.gm_commands.specs.declared.command.Command.{Command}
-use Rattle.gm_commands.specs.declared.command.Command.TheVariants.{Label, Insert, Remove, Deactivate, Activate, Forget, Rebuild, Configure, Clear, Destroy, Lost, Advance, Adopt}
+use Rattle.gm_commands.specs.declared.command.Command.TheVariants.{Label, Insert, Remove, Deactivate, Activate, Forget, Rebuild, Configure, Clear, Destroy, Lost, Advance, Adopt, Patch}
 use Rattle.gm_state.specs.World.{World, Sound}
 use Rattle.gm_refusals.specs.Applies.{IsGood}
 use Rattle.gm_rules.specs.Step.{CanAnswer, HasPlan}
@@ -16,6 +16,7 @@ use Rattle.gm_rules.proofs.PlanAdvance.{advance_plan}
 use Rattle.gm_rules.proofs.PlanClear.{clear_plan}
 use Rattle.gm_rules.proofs.PlanDestroy.{destroy_plan}
 use Rattle.gm_rules.proofs.PlanAdopt.{adopt_plan}
+use Rattle.gm_rules.proofs.PlanPatch.{patch_plan}
 
 plan_of : (u : World) (c : Command) → Allowed u c → PlanOf u c
 plan_of u (Label new) may = label_plan u new may
@@ -31,6 +32,7 @@ plan_of u (Destroy n) may = destroy_plan u n may
 plan_of u (Lost n ps) may = lost_plan u n ps may
 plan_of u (Advance n p) may = advance_plan u n p may
 plan_of u (Adopt n ps) may = adopt_plan u n ps may
+plan_of u (Patch n first sectors) may = patch_plan u n first sectors may
 
 pub every_plan : (u : World) (key : List ℕ) (c : Command) → Sound u → CanAnswer u key c
     → IsGood u.state (seen_of u) c → HasPlan u key c

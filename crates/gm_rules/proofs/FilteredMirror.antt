@@ -1,6 +1,6 @@
 -- A command that drops components of a mirror: the mirror has another record, and the components
 -- that stay are as they were.
-use Rattle.std.proofs.Common.{◌≡◌, ◌≢◌, ◌∙◌, inl, ℕ, ◌<◌, ◌≤◌, ◌+◌, Bool, true, false, sym, ap, subst, arith, List, Some, None, filter, length}
+use Rattle.std.proofs.Common.{◌≡◌, ◌≢◌, ◌∙◌, inl, ℕ, ◌<◌, ◌≤◌, ◌+◌, Bool, true, false, sym, ap, subst, arith, List, Some, filter, length}
 use Rattle.std.specs.List.{list_any}
 use Rattle.gm_metadata.specs.Images.{same_label}
 use Rattle.gm_commands.specs.declared.command.Command.{Command}
@@ -15,10 +15,11 @@ use Rattle.gm_lists.proofs.Putting.{filter_swap, filter_id, one}
 use Rattle.gm_lists.proofs.Lists.{Has-filter, filter-Has, Ascends-filter}
 use Rattle.gm_lists.proofs.Finding.{not_both}
 use Rattle.gm_state.proofs.Presence.{some_and}
-use Rattle.gm_changes.specs.After.{after, clears, intents_of}
+use Rattle.gm_changes.specs.After.{after, clears, intents_of, laid_over}
 use Rattle.gm_refusals.specs.Applies.{is_awaited}
 use Rattle.gm_refusals.specs.WorldFacts.{seen_of}
-use Rattle.gm_rules.proofs.PlanOf.{IsCleared, PlanOf, TakesNothing, written}
+use Rattle.gm_rules.proofs.LaidOver.{nothing_laid}
+use Rattle.gm_rules.proofs.PlanOf.{IsCleared, Nothing, PlanOf, TakesNothing, written}
 use Rattle.gm_rules.proofs.RuledOut.{Names}
 use Rattle.gm_rules.proofs.TurnedMirror.{Adjusts, Renews, adjusts_data, adjusts_turns, renewed_fits, with_put}
 
@@ -79,7 +80,7 @@ pub record Filters (u : World) (c : Command) (m m' : Mirror) (stays : Component 
       × (stays k ≡ true)
   pub after_is : with_put u.state m' (filter stays u.state.components)
       ≡ after (seen_of u) c u.state
-  pub intents : (s : Records) → written None gone (members s.components m.name)
+  pub intents : (s : Records) → written Nothing gone (members s.components m.name)
       ≡ intents_of c u.state s
   pub dropped : (q : List ℕ) → Has gone q → IsDropped u m stays q
   pub all_gone : (q : List ℕ) → list_any (λ p. same_label p q) gone ≡ clears u.state c q
@@ -136,24 +137,26 @@ module _ (u : World) (c : Command) (m m' : Mirror) (stays : Component → Bool)
   filters_plan = record {
     mirror = m';
     components = ks;
-    list = u.holds m.name;
+    list = laid_over c m.name (u.holds m.name);
     records = s;
-    stretch = None;
+    fill = Nothing;
     gone = gone;
     told = ks;
     turns = adjusts_turns u.state m m' s.components ks sound.state adjusts;
     after_is = a.after_is;
-    intents = subst (λ (l : List Component). written None gone l ≡ intents_of c u.state s)
+    intents = subst (λ (l : List Component). written Nothing gone l ≡ intents_of c u.state s)
         adjusts.mine (a.intents s);
+    bytes = a.takes_nothing.4;
     named = λ j i. rw a.same.name of.named;
     reply = a.takes_nothing.1;
     there = λ j i. let r = Has-filter stays old j i in of.there j r.0 (a.waits j r.1);
-    below = λ j i. rw a.same.sectors
-        (sound.whole m j (record { mirror = of.here; component = is_old j i }));
-    same_data = adjusts_data u m m' s.components ks sound adjusts;
+    below = λ j i. rw a.same.sectors (λ x l.
+        sound.whole m j (record { mirror = of.here; component = is_old j i }) x l
+        ∙ sym (nothing_laid c (sym a.takes_nothing.4) m.name (u.holds m.name) x));
+    same_data = adjusts_data u c m m' s.components ks sound adjusts;
     new = λ w e. a.takes_nothing.2 w;
     bare = λ w e. a.takes_nothing.3 w;
-    lent = tt;
+    can_fill = tt;
     filled = a.takes_nothing.0;
     cleared = λ q h. drops u m stays sound of.here s.mirrors q (a.dropped q h);
     all_gone = a.all_gone;

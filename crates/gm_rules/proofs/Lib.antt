@@ -4,6 +4,8 @@ pub mod EnrolledMirror
 pub mod EveryPlan
 pub mod FilteredMirror
 pub mod FoundMembers
+pub mod LaidIntents
+pub mod LaidOver
 pub mod MappedMirror
 pub mod OneMoreAnswer
 pub mod PlanAdopt
@@ -14,6 +16,7 @@ pub mod PlanInsert
 pub mod PlanLabel
 pub mod PlanOf
 pub mod PlanOfStep
+pub mod PlanPatch
 pub mod PlansDropping
 pub mod PlansKeeping
 pub mod RuledOut

@@ -1,6 +1,6 @@
 -- A command that keeps the components of its mirror: the mirror has another record, and each
 -- component is changed where it stands.
-use Rattle.std.proofs.Common.{◌≡◌, ◌≢◌, ◌∙◌, ◌⊎◌, inl, inr, ⊎_elim, ℕ, ◌<◌, ◌≤◌, ◌-◌, ◌+◌, ◌^◌, Bool, true, false, refl, sym, ap, subst, arith, List, [], ◌∷◌, Option, Some, None, IfSome, length, map, cond}
+use Rattle.std.proofs.Common.{◌≡◌, ◌≢◌, ◌∙◌, ◌⊎◌, inl, inr, ⊎_elim, ℕ, ◌<◌, ◌≤◌, ◌-◌, ◌+◌, ◌^◌, Bool, true, false, refl, sym, ap, ap₂, subst, arith, List, [], ◌∷◌, Some, length, map, cond}
 use Rattle.std.proofs.lemmas.Bool.{cases_Bool}
 use Rattle.std.proofs.lemmas.List.{length-map}
 use Rattle.gm_metadata.specs.Images.{same_label}
@@ -9,22 +9,24 @@ use Rattle.gm_commands.specs.declared.command.Command.{Command}
 use Rattle.gm_state.specs.declared.intents.Intent.TheVariants.{Meta}
 use Rattle.gm_state.specs.declared.records.Mirror.{Mirror}
 use Rattle.gm_state.specs.declared.records.Component.{Component}
-use Rattle.gm_state.specs.declared.records.Disk.TheVariants.{InSync, Inactive}
+use Rattle.gm_state.specs.declared.records.Disk.{Disk}
+use Rattle.gm_state.specs.declared.records.Disk.TheVariants.{InSync, Inactive, Copying}
 use Rattle.gm_lists.specs.Ordered.{Has, Ascends, put, put_all}
 use Rattle.gm_state.specs.Records.{Records, IsMirror, ComponentFits, held_by, held_of, members, name, provider}
-use Rattle.gm_state.specs.Lookups.{metadata}
+use Rattle.gm_state.specs.Lookups.{is_inactive, metadata}
 use Rattle.gm_state.specs.World.{World, Sound, Below, ReplyFits, present}
 use Rattle.gm_lists.proofs.Order.{same_is, same_from, same_tells, differ}
 use Rattle.gm_lists.proofs.Lists.{Has-filter, Has-map, map-Has}
 use Rattle.gm_lists.proofs.Putting.{one}
 use Rattle.gm_lists.proofs.Mapped.{map_id, put-map}
 use Rattle.gm_lists.proofs.PutInPlace.{Ascends-put_all}
-use Rattle.gm_changes.specs.After.{after, clears, fills, intents_of, metas, reply_to}
+use Rattle.gm_changes.specs.After.{after, bytes_of, clears, fills, freshened, intents_of, laid_over, metas, reply_to}
 use Rattle.gm_changes.proofs.KeptComponents.{Keeps, keeps_either, keeps_id, keeps_where, mapped_members, members_put, put-again, put_mapped, where_of}
 use Rattle.gm_refusals.specs.Applies.{is_awaited}
 use Rattle.gm_refusals.specs.WorldFacts.{seen_of}
 use Rattle.gm_rules.specs.Step.{NewData, WereBare}
-use Rattle.gm_rules.proofs.PlanOf.{PlanOf, Stretch, IsLent, TakesNothing, is_copied, with_copied, written}
+use Rattle.gm_rules.proofs.LaidOver.{nothing_laid}
+use Rattle.gm_rules.proofs.PlanOf.{CanFill, Fill, Nothing, PlanOf, TakesNothing, bytes_in, is_filled, with_filled, written}
 use Rattle.gm_rules.proofs.RuledOut.{CanTouch, Names}
 use Rattle.gm_rules.proofs.TurnedMirror.{Adjusts, Renews, adjusts_data, adjusts_turns, renewed_fits, with_put}
 
@@ -44,6 +46,36 @@ obeys_still m m' ks k rules h e = record {
   syncid = rw e (rules.syncids k h);
   current = rw e (rules.current k h);
 }
+
+-- and where the mirror counts a sync more: INACTIVE ones lag behind, and the others keep up
+pub fresh_disk : (syncid : ℕ) (k : Component) → (freshened syncid k).disk ≡ k.disk
+fresh_disk syncid k =
+    elim (cases_Bool (is_inactive k.disk)) [ inl e ↦ rw e refl | inr e ↦ rw e refl ]
+
+inactive_is : (d : Disk) → is_inactive d ≡ true → d ≡ Inactive
+inactive_is InSync e = cc
+inactive_is Inactive e = refl
+inactive_is (Copying f h) e = cc
+
+pub obeys_freshened : (m m' : Mirror) (ks : List Component) (k : Component) → IsMirror m ks
+    → Has ks k → m'.syncid ≡ m.syncid + 1 → Obeys m m' (freshened (m.syncid + 1) k)
+obeys_freshened m m' ks k rules h e =
+    let priority : k.priority < 2 ^ 8 = (rules.members_fit k h).priority in
+    let behind : k.syncid ≤ m.syncid = rules.syncids k h in
+    elim (cases_Bool (is_inactive k.disk)) [
+      | inl off ↦ rw off (record {
+        priority = priority;
+        held = rules.held k h;
+        syncid = omega (arith, e);
+        current = λ d. absurd (d (inactive_is k.disk off));
+      })
+      | inr off ↦ rw off (record {
+        priority = priority;
+        held = rules.held k h;
+        syncid = omega (arith, e);
+        current = λ d. sym e;
+      })
+    ]
 
 -- the components of other mirrors are as they were
 members_others : (n : List ℕ) (g : Component → Component) → Keeps g → (ks : List Component)
@@ -71,30 +103,32 @@ abbrev pub reshaped : World → Mirror → Mirror → (Component → Component) 
 reshaped u m m' g = with_put u.state m'
     (put_all provider (map g (members u.state.components m.name)) u.state.components)
 
--- It may copy data to them, and those told are the ones whose metadata it writes.
+-- It may bring data to them, and those told are the ones whose metadata it writes; the others say
+-- what they said.
 pub record Maps (u : World) (c : Command) (m m' : Mirror) (g : Component → Component)
-    (stretch : Option Stretch) (told : List Component) : Type 0 where
+    (fill : Fill) (told : List Component) : Type 0 where
   pub shape : Reshapes u m m' g
   pub waits : (k : Component) → is_awaited c k ≡ true
   pub below : (k : Component) → Has (members u.state.components m.name) k
-      → Below (with_copied stretch u.shelf) (u.holds m.name) k.provider
+      → Below (with_filled fill told u.shelf) (laid_over c m.name (u.holds m.name)) k.provider
       (held_by (g k).disk m.data_sectors)
   pub after_is : reshaped u m m' g ≡ after (seen_of u) c u.state
-  pub intents : written stretch [] told ≡ intents_of c u.state (reshaped u m m' g)
+  pub intents : written fill [] told ≡ intents_of c u.state (reshaped u m m' g)
+  pub bytes : bytes_in fill ≡ bytes_of c
   pub reply : ReplyFits (reply_to c u.state)
   pub new : (w : World) → NewData u c w
   pub bare : (w : World) → WereBare c u w
-  pub lent : IfSome stretch (IsLent m' (map g (members u.state.components m.name)) told)
-  pub filled : (q : List ℕ) (j : ℕ) → is_copied stretch q j ≡ fills u.state c q j
+  pub can_fill : CanFill u m' (map g (members u.state.components m.name)) told [] fill
+  pub filled : (q : List ℕ) (j : ℕ) → is_filled fill told q j ≡ fills u.state c q j
   pub none : (q : List ℕ) → false ≡ clears u.state c q
   pub told_are : (k : Component) → Has told k
       → Has (map g (members u.state.components m.name)) k
   pub all_told : (k : Component) → Has (members u.state.components m.name) k → Has told (g k)
-      ⊎ ((m' ≡ m) × (g k ≡ k))
+      ⊎ (metadata m' (g k) ≡ metadata m k)
 
 module _ (u : World) (c : Command) (m m' : Mirror) (g : Component → Component)
-    (stretch : Option Stretch) (told : List Component) (of : Names u c m)
-    (a : Maps u c m m' g stretch told) where
+    (fill : Fill) (told : List Component) (of : Names u c m)
+    (a : Maps u c m m' g fill told) where
   abbrev shape : Reshapes u m m' g
   shape = a.shape
 
@@ -159,38 +193,38 @@ module _ (u : World) (c : Command) (m m' : Mirror) (g : Component → Component)
   }
 
   -- a last sector that isn't written says the same as before
-  as_it_was : (k : Component) → Has old k → m' ≡ m → g k ≡ k
+  as_it_was : (k : Component) → Has old k → metadata m' (g k) ≡ metadata m k
       → u.shelf (g k).provider ((g k).sectors - 1) ≡ encoded (metadata m' (g k))
-  as_it_was k h e same =
-      subst (λ (j : Component). u.shelf j.provider (j.sectors - 1) ≡ encoded (metadata m' j))
-      (sym same)
-      (subst (λ (x : Mirror). u.shelf k.provider (k.sectors - 1) ≡ encoded (metadata x k)) (sym e)
-      (sound.full m k (record { mirror = of.here; component = h })))
+  as_it_was k h e =
+      ap₂ (λ (p : List ℕ) (n : ℕ). u.shelf p (n - 1)) (shape.keeps.provider k)
+      (shape.keeps.sectors k)
+      ∙ (sound.full m k (record { mirror = of.here; component = h }) ∙ ap encoded (sym e))
 
   pub maps_plan : PlanOf u c
   maps_plan = record {
     mirror = m';
     components = ks;
-    list = u.holds m.name;
+    list = laid_over c m.name (u.holds m.name);
     records = reshaped u m m' g;
-    stretch = stretch;
+    fill = fill;
     gone = [];
     told = told;
     turns = adjusts_turns u.state m m' comps ks sound.state adjusts;
     after_is = a.after_is;
     intents = a.intents;
+    bytes = a.bytes;
     named = λ j i. rw shape.same.name of.named;
     reply = a.reply;
     there = each_of (λ j. present u j.provider ≡ Some j.sectors)
         (λ k i. rw (shape.keeps.provider k, shape.keeps.sectors k)
         (of.there k i (a.waits k)));
-    below = each_of (λ j. Below (with_copied stretch u.shelf) (u.holds m.name) j.provider
-        (held_by j.disk m'.data_sectors))
+    below = each_of (λ j. Below (with_filled fill told u.shelf)
+        (laid_over c m.name (u.holds m.name)) j.provider (held_by j.disk m'.data_sectors))
         (λ k i. rw (shape.keeps.provider k, shape.same.sectors) (a.below k i));
-    same_data = adjusts_data u m m' comps ks sound adjusts;
+    same_data = adjusts_data u c m m' comps ks sound adjusts;
     new = λ w e. a.new w;
     bare = λ w e. a.bare w;
-    lent = a.lent;
+    can_fill = a.can_fill;
     filled = a.filled;
     cleared = λ q h. absurd h;
     all_gone = a.none;
@@ -198,15 +232,17 @@ module _ (u : World) (c : Command) (m m' : Mirror) (g : Component → Component)
     all_told = each_of (λ j. Has told j
         ⊎ (u.shelf j.provider (j.sectors - 1) ≡ encoded (metadata m' j)))
         (λ k i. ⊎_elim (λ (h : Has told (g k)). inl h)
-        (λ (e : (m' ≡ m) × (g k ≡ k)). inr (as_it_was k i e.0 e.1)) (a.all_told k i));
+        (λ (e : metadata m' (g k) ≡ metadata m k). inr (as_it_was k i e)) (a.all_told k i));
   }
 
--- a component that holds no more than it did has its data
-less_below : (u : World) (m : Mirror) (k : Component) (n : ℕ) → Sound u → Has u.state.mirrors m
-    → Has (members u.state.components m.name) k → n ≤ held_by k.disk m.data_sectors
-    → Below u.shelf (u.holds m.name) k.provider n
-less_below u m k n sound here h less i l =
+-- a component that holds no more than it did has its data, where nothing is laid over them
+less_below : (u : World) (c : Command) (m : Mirror) (k : Component) (n : ℕ) → Sound u
+    → Has u.state.mirrors m → Has (members u.state.components m.name) k
+    → n ≤ held_by k.disk m.data_sectors → [] ≡ bytes_of c
+    → Below u.shelf (laid_over c m.name (u.holds m.name)) k.provider n
+less_below u c m k n sound here h less none i l =
     sound.whole m k (record { mirror = here; component = h }) i (omega arith)
+    ∙ sym (nothing_laid c (sym none) m.name (u.holds m.name) i)
 
 -- ---- all of the components are written
 
@@ -226,18 +262,19 @@ pub rewrites_plan : (u : World) (c : Command) (m m' : Mirror) (g : Component →
     → Names u c m → Rewrites u c m m' g → PlanOf u c
 rewrites_plan u c m m' g of a =
     let ks : List Component = map g (members u.state.components m.name) in
-    maps_plan u c m m' g None ks of (record {
+    maps_plan u c m m' g Nothing ks of (record {
       shape = a.shape;
       waits = a.waits;
-      below = λ k h. less_below u m k _ of.may.sound of.here h (a.holds k h);
+      below = λ k h. less_below u c m k _ of.may.sound of.here h (a.holds k h) a.takes_nothing.4;
       after_is = a.after_is;
       intents = subst (λ (l : List Component). metas l ≡ intents_of c u.state (reshaped u m m' g))
           (members_put m.name g a.shape.keeps u.state.components
           of.may.sound.state.components_in_order) (a.intents (reshaped u m m' g));
+      bytes = a.takes_nothing.4;
       reply = a.takes_nothing.1;
       new = a.takes_nothing.2;
       bare = a.takes_nothing.3;
-      lent = tt;
+      can_fill = tt;
       filled = a.takes_nothing.0;
       none = a.none;
       told_are = λ k h. h;
@@ -334,9 +371,9 @@ module _ (u : World) (c : Command) (m : Mirror) (p : List ℕ) (g : Component �
       (map-Has (at_p p g) mine can.member.0 can.member.1)) (λ (o : ⊥). absurd o) h
 
   pub all_but_one : (k : Component) → Has mine k
-      → Has (g can.member.0 ∷ []) (at_p p g k) ⊎ ((m ≡ m) × (at_p p g k ≡ k))
-  all_but_one = either (λ o j. Has (g can.member.0 ∷ []) j ⊎ ((m ≡ m) × (j ≡ o)))
-      (inl (inl refl)) (λ j h d. inr (refl, refl))
+      → Has (g can.member.0 ∷ []) (at_p p g k) ⊎ (metadata m (at_p p g k) ≡ metadata m k)
+  all_but_one = either (λ o j. Has (g can.member.0 ∷ []) j ⊎ (metadata m j ≡ metadata m o))
+      (inl (inl refl)) (λ j h d. inr refl)
 
 -- It holds nothing any more.
 pub record Restarts (u : World) (c : Command) (m : Mirror) (p : List ℕ) (g : Component → Component)
@@ -356,19 +393,20 @@ pub restarts_plan : (u : World) (c : Command) (m : Mirror) (p : List ℕ) (g : C
 restarts_plan u c m p g of can a =
     let k : Component = can.member.0 in
     let holds : held_by (g k).disk m.data_sectors ≡ 0 = a.holds in
-    maps_plan u c m m (at_p p g) None (g k ∷ []) of (record {
+    maps_plan u c m m (at_p p g) Nothing (g k ∷ []) of (record {
       shape = one_reshapes u c m p g of can a.keeps a.obeys;
       waits = a.waits;
-      below = λ j h. less_below u m j _ of.may.sound of.here h (either u c m p g of can a.keeps
+      below = λ j h. less_below u c m j _ of.may.sound of.here h (either u c m p g of can a.keeps
           (λ o k. held_by k.disk m.data_sectors ≤ held_by o.disk m.data_sectors)
-          (omega (arith, holds)) (λ j h d. omega arith) j h);
+          (omega (arith, holds)) (λ j h d. omega arith) j h) a.takes_nothing.4;
       after_is = one_put u c m p g of can a.keeps ∙ a.after_is;
       intents = ap (λ (q : List ℕ). Meta q ∷ []) (a.keeps.provider k ∙ can.member.2)
           ∙ a.intents (reshaped u m m (at_p p g));
+      bytes = a.takes_nothing.4;
       reply = a.takes_nothing.1;
       new = a.takes_nothing.2;
       bare = a.takes_nothing.3;
-      lent = tt;
+      can_fill = tt;
       filled = a.takes_nothing.0;
       none = a.none;
       told_are = one_told u c m p g of can a.keeps;

@@ -94,6 +94,7 @@ module _ (u : World) (n : List ℕ) (ps : List (List ℕ)) (may : Allowed u (Ado
     after_is = rw source_is refl;
     intents = λ mine. ap metas (sym mine);
     named = refl;
+    bytes = refl;
     reply = tt;
     new = λ w e b' is i l. e i ∙ ap (λ (z : Member). u.shelf z.provider i) (one_source b' is);
     bare = λ w e. tt;

@@ -23,7 +23,7 @@ use Rattle.gm_changes.specs.After.{advanced, holding, reach, reply_to}
 use Rattle.gm_changes.proofs.KeptComponents.{Keeps}
 use Rattle.gm_changes.proofs.LendingComponent.{is_copying, lender}
 use Rattle.gm_rules.proofs.MappedMirror.{Obeys, Reshapes, all_but_one, at_p, either, maps_plan, off, one_put, one_reshapes, one_told}
-use Rattle.gm_rules.proofs.PlanOf.{Allowed, IsLent, PlanOf, Stretch, with_copied}
+use Rattle.gm_rules.proofs.PlanOf.{Allowed, Copied, IsLent, PlanOf, Stretch, with_filled}
 use Rattle.gm_rules.proofs.RuledOut.{CanTouch, Names, by_name, component_at}
 use Rattle.gm_state.proofs.FoundRecords.{is_member}
 
@@ -106,7 +106,10 @@ module _ (u : World) (m : Mirror) (k j : Component) (of : Names u (Advance m.nam
   shape : Reshapes u m m f
   shape = one_reshapes u c m k.provider (advanced m) of can keeps obeys
 
-  lent : IsLent m (map f old) (advanced m k ∷ []) stretch
+  abbrev told : List Component
+  told = advanced m k ∷ []
+
+  lent : IsLent m (map f old) told stretch
   lent = record {
     from = f j;
     to = advanced m k;
@@ -122,7 +125,7 @@ module _ (u : World) (m : Mirror) (k j : Component) (of : Names u (Advance m.nam
   }
 
   -- what it holds by then was copied from the one that is ACTIVE, or was there
-  new_below : Below (with_copied (Some stretch) u.shelf) (u.holds m.name) k.provider
+  new_below : Below (with_filled (Copied stretch) told u.shelf) (u.holds m.name) k.provider
       (held_by (advanced m k).disk m.data_sectors)
   new_below i l =
       let most : end ≤ m.data_sectors = within.1 in
@@ -140,10 +143,10 @@ module _ (u : World) (m : Mirror) (k j : Component) (of : Names u (Advance m.nam
             }) i (rw filled (rw filled at less))))
       ]
 
-  below : (i : Component) → Has old i → Below (with_copied (Some stretch) u.shelf)
+  below : (i : Component) → Has old i → Below (with_filled (Copied stretch) told u.shelf)
       (u.holds m.name) i.provider (held_by (f i).disk m.data_sectors)
   below = either u c m k.provider (advanced m) of can keeps
-      (λ o i. Below (with_copied (Some stretch) u.shelf) (u.holds m.name) o.provider
+      (λ o i. Below (with_filled (Copied stretch) told u.shelf) (u.holds m.name) o.provider
       (held_by i.disk m.data_sectors))
       new_below
       (λ i h d x l. rw (differ k.provider i.provider (λ e. d (sym e)))
@@ -161,16 +164,17 @@ module _ (u : World) (m : Mirror) (k j : Component) (of : Names u (Advance m.nam
       rw (of.found, at) (omega arith, most, omega arith)
 
   filling_plan : PlanOf u c
-  filling_plan = maps_plan u c m m f (Some stretch) (advanced m k ∷ []) of (record {
+  filling_plan = maps_plan u c m m f (Copied stretch) told of (record {
     shape = shape;
     waits = λ i. refl;
     below = below;
     after_is = one_put u c m k.provider (advanced m) of can keeps ∙ rw (of.found, at) refl;
     intents = rw (source, of.found, at) refl;
+    bytes = refl;
     reply = replies;
     new = λ w. tt;
     bare = λ w. tt;
-    lent = lent;
+    can_fill = lent;
     filled = λ q i. rw (of.found, at) refl;
     none = λ q. refl;
     told_are = one_told u c m k.provider (advanced m) of can keeps;

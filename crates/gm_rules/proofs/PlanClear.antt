@@ -1,5 +1,5 @@
 -- The plan of clear: no mirror turns.
-use Rattle.std.proofs.Common.{◌≡◌, ◌≢◌, ◌∙◌, inl, inr, ⊎_elim, ℕ, ◌<◌, ◌≤◌, true, false, refl, sym, ap, subst, arith, List, [], ◌∷◌, true≢false, None}
+use Rattle.std.proofs.Common.{◌≡◌, ◌≢◌, ◌∙◌, inl, inr, ⊎_elim, ℕ, ◌<◌, ◌≤◌, true, false, refl, sym, ap, subst, arith, List, [], ◌∷◌, true≢false}
 use Rattle.std.proofs.Math.Bool.{or-false}
 use Rattle.gm_metadata.specs.Images.{same_label}
 use Rattle.gm_metadata.specs.Labels.{is_label}
@@ -14,7 +14,7 @@ use Rattle.gm_refusals.specs.WorldFacts.{seen_of}
 use Rattle.gm_state.proofs.FoundRecords.{new_name}
 use Rattle.gm_state.proofs.NoMembers.{no_members}
 use Rattle.gm_state.proofs.Presence.{some_and}
-use Rattle.gm_rules.proofs.PlanOf.{Allowed, IsCleared, PlanOf}
+use Rattle.gm_rules.proofs.PlanOf.{Allowed, IsCleared, PlanOf, Nothing}
 use Rattle.gm_rules.proofs.RuledOut.{IsFree, is_free}
 
 -- a record whose name no mirror has
@@ -60,7 +60,7 @@ module _ (u : World) (p : List ℕ) (may : Allowed u (Clear p)) where
     components = [];
     list = u.holds nobody.name;
     records = u.state;
-    stretch = None;
+    fill = Nothing;
     gone = p ∷ [];
     told = [];
     turns = record {
@@ -73,6 +73,7 @@ module _ (u : World) (p : List ℕ) (may : Allowed u (Clear p)) where
     };
     after_is = refl;
     intents = refl;
+    bytes = refl;
     named = λ k h. absurd h;
     reply = tt;
     there = λ k h. absurd h;
@@ -80,7 +81,7 @@ module _ (u : World) (p : List ℕ) (may : Allowed u (Clear p)) where
     same_data = λ a h e. absurd (has_name a h e);
     new = λ w e. tt;
     bare = λ w e. tt;
-    lent = tt;
+    can_fill = tt;
     filled = λ q j. refl;
     cleared = λ q h. ⊎_elim (λ (e : p ≡ q). subst (IsCleared u u.state) e is_cleared)
         (λ (o : ⊥). absurd o) h;

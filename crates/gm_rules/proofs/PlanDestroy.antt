@@ -1,5 +1,5 @@
 -- The plan of destroy: the mirror goes with its components.
-use Rattle.std.proofs.Common.{◌≡◌, ◌≢◌, ◌∙◌, inr, ℕ, ◌≤◌, Bool, not, refl, sym, ap, subst, arith, List, [], ◌∷◌, append-nil, length, filter, map, None}
+use Rattle.std.proofs.Common.{◌≡◌, ◌≢◌, ◌∙◌, inr, ℕ, ◌≤◌, Bool, not, refl, sym, ap, subst, arith, List, [], ◌∷◌, append-nil, length, filter, map}
 use Rattle.std.proofs.lemmas.Bool.{not-true}
 use Rattle.gm_metadata.specs.Images.{same_label}
 use Rattle.gm_commands.specs.declared.command.Command.TheVariants.{Destroy}
@@ -17,7 +17,7 @@ use Rattle.gm_lists.proofs.Finding.{any-map, not_both}
 use Rattle.gm_changes.specs.After.{clears_of}
 use Rattle.gm_state.proofs.NoMembers.{no_members}
 use Rattle.gm_rules.proofs.FilteredMirror.{IsDropped, drops, in_order, others_stay}
-use Rattle.gm_rules.proofs.PlanOf.{Allowed, PlanOf}
+use Rattle.gm_rules.proofs.PlanOf.{Allowed, PlanOf, Nothing}
 use Rattle.gm_rules.proofs.RuledOut.{Names, by_name}
 use Rattle.gm_rules.proofs.TurnedMirror.{Turns}
 
@@ -107,12 +107,13 @@ module _ (u : World) (m : Mirror) (of : Names u (Destroy m.name) m) where
     components = [];
     list = u.holds m.name;
     records = s;
-    stretch = None;
+    fill = Nothing;
     gone = gone;
     told = [];
     turns = turns;
     after_is = refl;
     intents = rw append-nil (clears_written old);
+    bytes = refl;
     named = λ k h. absurd h;
     reply = tt;
     there = λ k h. absurd h;
@@ -125,7 +126,7 @@ module _ (u : World) (m : Mirror) (of : Names u (Destroy m.name) m) where
         );
     new = λ w e. tt;
     bare = λ w e. tt;
-    lent = tt;
+    can_fill = tt;
     filled = λ q j. refl;
     cleared = λ q h. drops u m stays sound of.here s.mirrors q (dropped q h);
     all_gone = λ q. any-map (λ (p : List ℕ). same_label p q) provider old;

@@ -1,5 +1,5 @@
 -- The plan of insert.
-use Rattle.std.proofs.Common.{◌≡◌, ◌≢◌, inl, ⊎_elim, ℕ, ◌<◌, ◌≤◌, ◌+◌, ◌==◌, nat_lt, refl, sym, ap, subst, arith, List, [], ◌∷◌, Some, None, length}
+use Rattle.std.proofs.Common.{◌≡◌, ◌≢◌, inl, ⊎_elim, ℕ, ◌<◌, ◌≤◌, ◌+◌, ◌==◌, nat_lt, refl, sym, ap, subst, arith, List, [], ◌∷◌, Some, length}
 use Rattle.std.specs.List.{list_any}
 use Rattle.std.proofs.lemmas.Bool.{or_parts}
 use Rattle.gm_metadata.specs.Images.{same_label}
@@ -23,7 +23,7 @@ use Rattle.gm_refusals.specs.Seen.{is_there_and}
 use Rattle.gm_refusals.specs.WorldFacts.{seen_of}
 use Rattle.gm_refusals.proofs.NothingApplies.{fails_there, not_below, not_at}
 use Rattle.gm_state.proofs.FoundRecords.{new_name}
-use Rattle.gm_rules.proofs.PlanOf.{Allowed, PlanOf}
+use Rattle.gm_rules.proofs.PlanOf.{Allowed, PlanOf, Nothing}
 use Rattle.gm_rules.proofs.RuledOut.{IsFree, Names, by_name, is_free, put_bare}
 use Rattle.gm_rules.proofs.TurnedMirror.{Adjusts, adjusts_data, Renews, adjusts_turns, renewed_fits, with_put}
 
@@ -143,12 +143,13 @@ module _ (u : World) (new : NewComponent) (m : Mirror)
     components = ks;
     list = u.holds m.name;
     records = s;
-    stretch = None;
+    fill = Nothing;
     gone = [];
     told = ks;
     turns = adjusts_turns u.state m m' s.components ks may.sound.state adjusts;
     after_is = rw (of.found, free.size) refl;
     intents = ap metas (sym adjusts.mine);
+    bytes = refl;
     named = λ j h. refl;
     reply = tt;
     there = each (λ j. present u j.provider ≡ Some j.sectors) free.size
@@ -156,11 +157,11 @@ module _ (u : World) (new : NewComponent) (m : Mirror)
     below = each (λ j. Below u.shelf (u.holds m.name) j.provider (held_by j.disk m.data_sectors))
         (λ i l. absurd (omega arith))
         (λ j o. may.sound.whole m j (record { mirror = of.here; component = o }));
-    same_data = adjusts_data u m m' s.components ks may.sound adjusts;
+    same_data = adjusts_data u c m m' s.components ks may.sound adjusts;
     new = λ w e. tt;
     bare = λ w e. put_bare u k free.size (let b : 2 ≤ sectors = free.some in omega arith)
         (may.good refusals.CarriesMetadata refl) w (ap (λ (r : Records). r.components) e);
-    lent = tt;
+    can_fill = tt;
     filled = λ q j. refl;
     cleared = λ q h. absurd h;
     all_gone = λ q. refl;

@@ -75,6 +75,7 @@ module _ (u : World) (new : NewMirror) (may : Allowed u (Label new)) where
     after_is = rw free.size refl;
     intents = λ mine. refl;
     named = refl;
+    bytes = refl;
     reply = tt;
     new = λ w e i l. e i;
     bare = λ w e. put_bare u k free.size (omega (arith, some))

@@ -5,14 +5,15 @@
 -- go; MappedMirror: they are changed where they stand. PlanInsert, PlanClear and PlanDestroy show
 -- it themselves. What a command may take from its refusals stands in RuledOut: of a mirror that it
 -- names by_name, of providers that it takes is_free.
-use Rattle.std.proofs.Common.{◌≡◌, ◌≢◌, ◌⊎◌, ℕ, ◌-◌, ◌<◌, ◌≤◌, Bool, false, List, [], ◌∷◌, ◌++◌, map, cond, Option, Some, None, IfSome, IsTrue}
-use Rattle.std.specs.Prelude.{IsSomeAnd}
+use Rattle.std.proofs.Common.{◌≡◌, ◌≢◌, ◌⊎◌, ℕ, ◌+◌, ◌-◌, ◌<◌, ◌≤◌, ◌&&◌, nat_le, nat_lt, Bool, false, List, [], ◌∷◌, ◌++◌, find, flat_map, length, map, cond, Some, None, IsTrue}
+use Rattle.std.specs.Prelude.{IsSomeAnd, slice_index_or}
 use Rattle.std.specs.List.{list_any}
 use Rattle.gm_metadata.specs.Images.{Image, same_label}
 use Rattle.gm_metadata.specs.Labels.{is_label}
 use Rattle.gm_metadata.specs.Reading.{encoded}
 use Rattle.gm_commands.specs.declared.command.Command.{Command}
 use Rattle.gm_commands.specs.Commands.{CommandFits}
+use Rattle.gm_commands.specs.Sectors.{AreSectors}
 use Rattle.gm_state.specs.declared.intents.Intent.{Intent}
 use Rattle.gm_state.specs.declared.intents.Intent.TheVariants.{Clear, Copy}
 use Rattle.gm_state.specs.declared.records.Mirror.{Mirror}
@@ -21,11 +22,11 @@ use Rattle.gm_state.specs.declared.records.Disk.TheVariants.{InSync}
 use Rattle.gm_lists.specs.Ordered.{Has}
 use Rattle.gm_state.specs.Records.{Records, held_by}
 use Rattle.gm_state.specs.Lookups.{metadata}
-use Rattle.gm_state.specs.Intents.{copies}
+use Rattle.gm_state.specs.Intents.{IsOf, copies}
 use Rattle.gm_state.specs.World.{World, Sound, Below, ReplyFits, present}
 use Rattle.gm_refusals.specs.Applies.{IsGood, name_of}
 use Rattle.gm_refusals.specs.WorldFacts.{seen_of}
-use Rattle.gm_changes.specs.After.{after, clears, fills, intents_of, metas, reply_to}
+use Rattle.gm_changes.specs.After.{active_of, after, bytes_of, clears, fills, intents_of, laid_over, metas, patching, reply_to}
 use Rattle.gm_rules.specs.Step.{NewData, WereBare}
 use Rattle.gm_rules.proofs.TurnedMirror.{Turns}
 
@@ -45,25 +46,43 @@ pub record Stretch : Type 0 where
 abbrev pub copying : Stretch → Intent
 copying x = Copy x.source x.target x.first x.end
 
-abbrev pub copy_of : Option Stretch → List Intent
-copy_of None = []
-copy_of (Some x) = copying x ∷ []
+-- the data that a command brings to components: none, a stretch that is copied to one, or sectors
+-- that are laid over those of each component told, from this one on
+pub data Fill : Type 0 where
+  Nothing : Fill
+  Copied : Stretch → Fill
+  Laid : ℕ → List (List ℕ) → Fill
 
--- the sector is copied to
-abbrev pub is_copied : Option Stretch → List ℕ → ℕ → Bool
-is_copied None q j = false
-is_copied (Some x) q j = copies (copying x) q j
+-- the sectors that are laid
+abbrev pub bytes_in : Fill → List (List ℕ)
+bytes_in (Laid first sectors) = sectors
+bytes_in _ = []
 
--- the image with the stretch copied, before any last sector is written
-abbrev pub with_copied : Option Stretch → Image → Image
-with_copied None shelf = shelf
-with_copied (Some x) shelf = λ q j.
-    cond (copies (copying x) q j) (shelf x.source j) (shelf q j)
+-- sector j of q is brought
+abbrev pub is_filled : Fill → List Component → List ℕ → ℕ → Bool
+is_filled Nothing told q j = false
+is_filled (Copied x) told q j = copies (copying x) q j
+is_filled (Laid first sectors) told q j = list_any (λ k. same_label k.provider q) told &&
+    (nat_le first j && nat_lt j (first + length sectors))
+
+-- the image with the data brought, before any last sector is written
+abbrev pub with_filled : Fill → List Component → Image → Image
+with_filled Nothing told shelf = shelf
+with_filled (Copied x) told shelf = λ q j.
+    cond (is_filled (Copied x) told q j) (shelf x.source j) (shelf q j)
+with_filled (Laid first sectors) told shelf = λ q j.
+    cond (is_filled (Laid first sectors) told q j) (slice_index_or sectors (j - first) [])
+    (shelf q j)
 
 -- the intents: the copy, if there is one, then Clear of the providers gone, then Meta of the
--- components told
-abbrev pub written : Option Stretch → List (List ℕ) → List Component → List Intent
-written stretch gone told = copy_of stretch ++ (map (λ q. Clear q) gone ++ metas told)
+-- components told; or what lays sectors over those of each, and ends with its Meta
+abbrev pub clears_then : List (List ℕ) → List Component → List Intent
+clears_then gone told = map (λ q. Clear q) gone ++ metas told
+
+abbrev pub written : Fill → List (List ℕ) → List Component → List Intent
+written Nothing gone told = clears_then gone told
+written (Copied x) gone told = copying x ∷ clears_then gone told
+written (Laid first sectors) gone told = flat_map (patching first (first + length sectors)) told
 
 -- the stretch lies within the data of m, whose components are ks; an ACTIVE one lends it, and the
 -- one that it is copied to is told
@@ -79,12 +98,32 @@ pub record IsLent (m : Mirror) (ks told : List Component) (x : Stretch) : Type 0
   pub ordered : x.first ≤ x.end
   pub within : x.end ≤ m.data_sectors
 
--- the command copies nothing, is answered plainly, and makes no component of a provider that was
+-- Sectors lie within the data of m, and are laid over those of each of its components ks that is
+-- ACTIVE, one at least; it had no others before, and no provider is cleared.
+pub record IsLaid (u : World) (m : Mirror) (ks told : List Component) (gone : List (List ℕ))
+    (first : ℕ) (sectors : List (List ℕ)) : Type 0 where
+  pub told_is : told ≡ active_of ks
+  pub active : (k : Component) × Has ks k × (k.disk ≡ InSync)
+  pub stays : (a : Mirror) (k : Component) → IsOf u.state a k → a.name ≡ m.name
+      → find (λ j. same_label j.provider k.provider) ks ≢ None
+  pub none_gone : gone ≡ []
+  pub some : 0 < length sectors
+  pub within : first + length sectors ≤ m.data_sectors
+  pub whole : AreSectors sectors
+
+-- it can be brought to the components told of the mirror m, whose components are ks
+abbrev pub CanFill : World → Mirror → List Component → List Component → List (List ℕ) → Fill
+    → Type 0
+CanFill u m ks told gone Nothing = Unit {0}
+CanFill u m ks told gone (Copied x) = IsLent m ks told x
+CanFill u m ks told gone (Laid first sectors) = IsLaid u m ks told gone first sectors
+
+-- the command brings no data, is answered plainly, and makes no component of a provider that was
 -- none
 abbrev pub TakesNothing : World → Command → Type 0
 TakesNothing u c = ((q : List ℕ) (j : ℕ) → false ≡ fills u.state c q j)
     × ReplyFits (reply_to c u.state) × ((w : World) → NewData u c w)
-    × ((w : World) → WereBare c u w)
+    × ((w : World) → WereBare c u w) × ([] ≡ bytes_of c)
 
 -- the provider is there, and no component of s is on it
 pub record IsCleared (u : World) (s : Records) (q : List ℕ) : Type 0 where
@@ -101,29 +140,32 @@ pub record PlanOf (u : World) (c : Command) : Type 0 where
   pub list : ℕ → List ℕ
   -- all records after it
   pub records : Records
-  -- the data that it copies, the providers that it clears, and the components whose metadata it
+  -- the data that it brings, the providers that it clears, and the components whose metadata it
   -- writes
-  pub stretch : Option Stretch
+  pub fill : Fill
   pub gone : List (List ℕ)
   pub told : List Component
   -- the records are those of the rules, and so are the intents
   pub turns : Turns u.state mirror components records
   pub after_is : records ≡ after (seen_of u) c u.state
-  pub intents : written stretch gone told ≡ intents_of c u.state records
+  pub intents : written fill gone told ≡ intents_of c u.state records
+  pub bytes : bytes_in fill ≡ bytes_of c
   pub named : (k : Component) → Has components k → name_of c ≡ Some mirror.name
   pub reply : ReplyFits (reply_to c u.state)
   -- the components are there, and have their data by then
   pub there : (k : Component) → Has components k → present u k.provider ≡ Some k.sectors
   pub below : (k : Component) → Has components k
-      → Below (with_copied stretch u.shelf) list k.provider (held_by k.disk mirror.data_sectors)
-  -- a mirror of before keeps its data; those of a new one are what its provider has
+      → Below (with_filled fill told u.shelf) list k.provider (held_by k.disk mirror.data_sectors)
+  -- a mirror of before keeps its data, but for what is laid over them; those of a new one are what
+  -- its provider has
   pub same_data : (a : Mirror) → Has u.state.mirrors a → a.name ≡ mirror.name
-      → (a.data_sectors ≡ mirror.data_sectors) × ((i : ℕ) → list i ≡ u.holds a.name i)
+      → (a.data_sectors ≡ mirror.data_sectors)
+      × ((i : ℕ) → list i ≡ laid_over c a.name (u.holds a.name) i)
   pub new : (w : World) → ((i : ℕ) → w.holds mirror.name i ≡ list i) → NewData u c w
   pub bare : (w : World) → w.state ≡ records → WereBare c u w
-  -- what is copied
-  pub lent : IfSome stretch (IsLent mirror components told)
-  pub filled : (q : List ℕ) (j : ℕ) → is_copied stretch q j ≡ fills u.state c q j
+  -- what is brought
+  pub can_fill : CanFill u mirror components told gone fill
+  pub filled : (q : List ℕ) (j : ℕ) → is_filled fill told q j ≡ fills u.state c q j
   -- what is cleared
   pub cleared : (q : List ℕ) → Has gone q → IsCleared u records q
   pub all_gone : (q : List ℕ) → list_any (λ p. same_label p q) gone ≡ clears u.state c q

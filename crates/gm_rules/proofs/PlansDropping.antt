@@ -69,7 +69,7 @@ remove_plan u n p may =
         there = of.there k can.member.1 refl;
       }) (λ (o : ⊥). absurd o) h;
       all_gone = λ q. or-false (same_label p q);
-      takes_nothing = (λ q j. refl, tt, λ w. tt, λ w. tt);
+      takes_nothing = (λ q j. refl, tt, λ w. tt, λ w. tt, refl);
     }))
 
 -- ---- lost
@@ -133,5 +133,5 @@ lost_plan u n ps may =
       intents = λ s. refl;
       dropped = λ q h. absurd h;
       all_gone = λ q. refl;
-      takes_nothing = (λ q j. refl, tt, λ w. tt, λ w. tt);
+      takes_nothing = (λ q j. refl, tt, λ w. tt, λ w. tt, refl);
     }))

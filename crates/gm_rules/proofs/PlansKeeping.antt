@@ -1,6 +1,6 @@
 -- The plans of deactivate, activate, forget, rebuild and configure, which keep the components of
 -- their mirror.
-use Rattle.std.proofs.Common.{◌≡◌, ◌∙◌, inl, inr, ℕ, ◌<◌, ◌≤◌, ◌+◌, ◌^◌, true, refl, sym, arith, List, Option, Some, None, length, map, unwrap_or}
+use Rattle.std.proofs.Common.{◌≡◌, ◌∙◌, inl, inr, ℕ, ◌<◌, ◌≤◌, ◌+◌, ◌^◌, refl, sym, subst, arith, List, Option, Some, None, length, map, unwrap_or}
 use Rattle.std.proofs.lemmas.Bool.{cases_Bool}
 use Rattle.gm_metadata.specs.Images.{same_label}
 use Rattle.gm_commands.specs.declared.command.Preference.{Preference}
@@ -9,11 +9,9 @@ use Rattle.gm_commands.specs.declared.command.Command.TheVariants.{Deactivate, A
 use Rattle.gm_state.specs.declared.records.Mirror.{Mirror}
 use Rattle.gm_state.specs.declared.records.Component.{Component}
 use Rattle.gm_state.specs.declared.records.Disk.{Disk}
-use Rattle.gm_state.specs.declared.records.Disk.TheVariants.{InSync, Inactive, Copying}
 use Rattle.gm_commands.specs.Commands.{PreferenceFits, SliceFits}
 use Rattle.gm_lists.specs.Ordered.{Has, put_all}
 use Rattle.gm_state.specs.Records.{IsMirror, held_by, members, provider}
-use Rattle.gm_state.specs.Lookups.{is_inactive}
 use Rattle.gm_state.specs.World.{World}
 use Rattle.gm_lists.proofs.Order.{differ}
 use Rattle.gm_lists.proofs.Mapped.{map_id}
@@ -21,7 +19,7 @@ use Rattle.gm_refusals.specs.declared.refusals.Refusal.TheVariants as refusals
 use Rattle.gm_changes.specs.After.{activated, configured, configured_mirror, deactivated, priority_by, rebuilt}
 use Rattle.gm_refusals.proofs.NothingApplies.{one_more_sync}
 use Rattle.gm_changes.proofs.KeptComponents.{keeps_configured, keeps_deactivated, keeps_id, put_mapped, where_of}
-use Rattle.gm_rules.proofs.MappedMirror.{Obeys, obeys_still, restarts_plan, rewrites_plan}
+use Rattle.gm_rules.proofs.MappedMirror.{Obeys, fresh_disk, obeys_freshened, obeys_still, restarts_plan, rewrites_plan}
 use Rattle.gm_rules.proofs.PlanOf.{Allowed, PlanOf}
 use Rattle.gm_rules.proofs.RuledOut.{CanTouch, by_name, component_at, in_use, other_active, other_in_use}
 use Rattle.gm_state.proofs.FoundRecords.{is_member}
@@ -51,7 +49,7 @@ activate_plan u n p may =
       after_is = rw (of.found, component_at u m p of.may.sound.state can) refl;
       intents = λ s. refl;
       none = λ q. refl;
-      takes_nothing = (λ q j. refl, tt, λ w. tt, λ w. tt);
+      takes_nothing = (λ q j. refl, tt, λ w. tt, λ w. tt, refl);
     }))
 
 -- ---- rebuild
@@ -81,7 +79,7 @@ rebuild_plan u n p may =
       after_is = rw (component_at u m p of.may.sound.state can) refl;
       intents = λ s. refl;
       none = λ q. refl;
-      takes_nothing = (λ q j. refl, tt, λ w. tt, λ w. tt);
+      takes_nothing = (λ q j. refl, tt, λ w. tt, λ w. tt, refl);
     }))
 
 -- ---- forget
@@ -120,22 +118,17 @@ forget_plan u n may =
       after_is = rw (of.found, still) refl;
       intents = λ s. refl;
       none = λ q. refl;
-      takes_nothing = (λ q j. refl, tt, λ w. tt, λ w. tt);
+      takes_nothing = (λ q j. refl, tt, λ w. tt, λ w. tt, refl);
     }))
 
 -- ---- deactivate
-
-inactive_is : (d : Disk) → is_inactive d ≡ true → d ≡ Inactive
-inactive_is InSync e = cc
-inactive_is Inactive e = refl
-inactive_is (Copying f h) e = cc
 
 module _ (m m' : Mirror) (ks : List Component) (p : List ℕ) (rules : IsMirror m ks)
     (e : m'.syncid ≡ m.syncid + 1) where
   abbrev g : Component → Component
   g = deactivated (m.syncid + 1) p
 
-  -- the one on p keeps what it has, INACTIVE ones lag behind, and the others keep up
+  -- the one on p keeps what it has
   obeys_deactivated : (k : Component) → Has ks k → Obeys m m' (g k)
   obeys_deactivated k h =
       let priority : k.priority < 2 ^ 8 = (rules.members_fit k h).priority in
@@ -147,20 +140,7 @@ module _ (m m' : Mirror) (ks : List Component) (p : List ℕ) (rules : IsMirror 
           syncid = omega (arith, e);
           current = λ d. absurd (d refl);
         })
-        | inr on ↦ elim (cases_Bool (is_inactive k.disk)) [
-          | inl off ↦ rw (on, off) (record {
-            priority = priority;
-            held = rules.held k h;
-            syncid = omega (arith, e);
-            current = λ d. absurd (d (inactive_is k.disk off));
-          })
-          | inr off ↦ rw (on, off) (record {
-            priority = priority;
-            held = rules.held k h;
-            syncid = omega (arith, e);
-            current = λ d. sym e;
-          })
-        ]
+        | inr on ↦ rw on (obeys_freshened m m' ks k rules h e)
       ]
 
   holds_deactivated : (k : Component) → held_by (g k).disk m.data_sectors
@@ -168,10 +148,8 @@ module _ (m m' : Mirror) (ks : List Component) (p : List ℕ) (rules : IsMirror 
   holds_deactivated k =
       elim (cases_Bool (same_label k.provider p)) [
         | inl on ↦ rw on (omega arith)
-        | inr on ↦ elim (cases_Bool (is_inactive k.disk)) [
-          | inl off ↦ rw (on, off) (omega arith)
-          | inr off ↦ rw (on, off) (omega arith)
-        ]
+        | inr on ↦ rw on (subst (λ (d : Disk). held_by d m.data_sectors
+            ≤ held_by k.disk m.data_sectors) (sym (fresh_disk (m.syncid + 1) k)) (omega arith))
       ]
 
 pub deactivate_plan : (u : World) (n p : List ℕ) → Allowed u (Deactivate n p)
@@ -207,7 +185,7 @@ deactivate_plan u n p may =
       after_is = rw of.found refl;
       intents = λ s. refl;
       none = λ q. refl;
-      takes_nothing = (λ q j. refl, tt, λ w. tt, λ w. tt);
+      takes_nothing = (λ q j. refl, tt, λ w. tt, λ w. tt, refl);
     }))
 
 -- ---- configure
@@ -258,5 +236,5 @@ configure_plan u n settings may =
       after_is = rw of.found refl;
       intents = λ s. refl;
       none = λ q. refl;
-      takes_nothing = (λ q j. refl, tt, λ w. tt, λ w. tt);
+      takes_nothing = (λ q j. refl, tt, λ w. tt, λ w. tt, refl);
     }))

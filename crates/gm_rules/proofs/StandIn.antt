@@ -12,9 +12,10 @@ use Rattle.gm_metadata.specs.declared.metadata.Metadata.{Metadata}
 use Rattle.gm_taste.specs.declared.tasted.Member.{Member}
 use Rattle.gm_commands.specs.declared.command.Command.{Command}
 use Rattle.gm_commands.specs.declared.command.Command.TheVariants.{Label, Insert, Remove, Deactivate, Activate, Forget, Rebuild, Configure, Clear, Destroy, Lost, Advance, Adopt}
+use Rattle.gm_commands.specs.declared.command.Command.TheVariants as commands
 use Rattle.gm_commands.specs.Commands.{CommandFits}
 use Rattle.gm_state.specs.declared.intents.Intent.{Intent}
-use Rattle.gm_state.specs.declared.intents.Intent.TheVariants.{Meta, Clear, Copy}
+use Rattle.gm_state.specs.declared.intents.Intent.TheVariants.{Meta, Clear, Copy, Dirty, Patch}
 use Rattle.gm_state.specs.declared.records.Mirror.{Mirror}
 use Rattle.gm_state.specs.declared.records.Component.{Component}
 use Rattle.gm_lists.specs.Ordered.{Has, put, put_all}
@@ -71,6 +72,8 @@ hand_moves size size' more (Copy a b first end) h = (
   moved size size' more a (λ n. end ≤ n) h.0,
   moved size size' more b (λ n. end ≤ n) h.1,
 )
+hand_moves size size' more (Dirty p) h = moved size size' more p (λ n. 0 < n) h
+hand_moves size size' more (Patch p first end) h = moved size size' more p (λ n. end ≤ n) h
 
 -- ---- the world
 
@@ -107,6 +110,7 @@ listed_absent (Destroy n) = refl
 listed_absent (Lost n ps) = refl
 listed_absent (Advance n p) = refl
 listed_absent (Adopt n ps) = refl
+listed_absent (commands.Patch n first sectors) = refl
 
 and_false : (b : Bool) → (b && false) ≡ false
 and_false true = refl
@@ -294,6 +298,7 @@ module _ (s : Records) (facts : List Fact) where
     looks (Advance n p) good = on_members (Advance n p) good refl refl (λ k. refl) refl
     looks (Adopt n ps) good =
         inl (is_free s (seen_in facts) (Adopt n ps) good refl refl refl refl)
+    looks (commands.Patch n first sectors) good = inr (λ p h. absurd h, refl)
 
     alike : (c : Command) → IsGood s (seen_in facts) c → Looks c → (r : Refusal) → Has (own c) r
         → AskAlike s c (seen_in facts) (seen_of stand_in) r

@@ -1,6 +1,6 @@
--- The world that a command leads to, from what it shows: it is sound, and what was claimed on the
--- way stays true.
-use Rattle.std.proofs.Common.{◌≡◌, ◌≢◌, ◌∙◌, inl, inr, ⊎_elim, ℕ, ◌<◌, ◌≤◌, ◌+◌, ◌-◌, Bool, true, false, refl, sym, ap, subst, arith, List, ◌∷◌, cond, find, Option, Some, None}
+-- The world that a command leads to, from what it shows: it is sound, and what images claim on the
+-- way is true.
+use Rattle.std.proofs.Common.{◌≡◌, ◌≢◌, ◌∙◌, inl, inr, ⊎_elim, ℕ, ◌<◌, ◌≤◌, ◌+◌, ◌-◌, Bool, true, false, refl, sym, ap, subst, arith, eq-eqb, List, [], ◌∷◌, cond, find, Option, Some, None}
 use Rattle.std.proofs.lemmas.Bool.{cases_Bool}
 use Rattle.gm_metadata.specs.Images.{Image, Sizes, same_label, zeros}
 use Rattle.gm_metadata.specs.Reading.{encoded}
@@ -13,9 +13,9 @@ use Rattle.gm_state.specs.declared.records.Disk.{Disk}
 use Rattle.gm_state.specs.declared.records.Disk.TheVariants.{InSync, Inactive, Copying}
 use Rattle.gm_lists.specs.Ordered.{Has}
 use Rattle.gm_state.specs.Records.{IsMirror, held_by, members, name, provider}
-use Rattle.gm_state.specs.Lookups.{metadata, held_of}
+use Rattle.gm_state.specs.Lookups.{disk_flags, held_of, metadata, mirror_of}
 use Rattle.gm_state.specs.Intents.{IsOf, is_last}
-use Rattle.gm_state.specs.World.{World, Sound, Claims, claimed, Below}
+use Rattle.gm_state.specs.World.{World, Sound, Claims, claimed, data_at, has_syncid, Below}
 use Rattle.gm_lists.proofs.Order.{same_tells, same_from, same_is, differ}
 use Rattle.gm_lists.proofs.Putting.{one}
 use Rattle.gm_lists.proofs.Lists.{Has-filter}
@@ -23,10 +23,11 @@ use Rattle.gm_lists.proofs.Finding.{found, find_none, find_one, option_cases, so
 use Rattle.gm_state.proofs.Presence.{present_size}
 use Rattle.gm_state.proofs.SoundClaims.{claims_of, same_data}
 use Rattle.gm_state.proofs.EncodedSectors.{bears_one, bears_not_zeros}
-use Rattle.gm_changes.specs.After.{clears, reply_to}
+use Rattle.gm_changes.specs.After.{bytes_of, clears, laid_over, reply_to}
 use Rattle.gm_rules.specs.Step.{CanAnswer, answer}
 use Rattle.gm_rules.proofs.OneMoreAnswer.{answers_after}
-use Rattle.gm_rules.proofs.PlanOf.{PlanOf, with_copied, written}
+use Rattle.gm_rules.proofs.LaidOver.{laid_elsewhere, nothing_laid}
+use Rattle.gm_rules.proofs.PlanOf.{CanFill, Fill, Nothing, Copied, Laid, PlanOf, bytes_in, with_filled, written}
 use Rattle.gm_rules.proofs.TurnedMirror.{in_order, in_s, here, rules_of}
 use Rattle.gm_rules.proofs.WrittenIntents.{Brings, brings, last_at, not_last}
 
@@ -59,9 +60,9 @@ module _ (u : World) (key : List ℕ) (c : Command) (sound : Sound u) (can : Can
   abbrev m : Mirror
   m = p.mirror
 
-  -- the image with the data copied
+  -- the image with the data brought
   abbrev mid : Image
-  mid = with_copied p.stretch u.shelf
+  mid = with_filled p.fill p.told u.shelf
 
   abbrev image : Image
   image = shelf_after u.size m p.components (clears u.state c) mid
@@ -77,24 +78,43 @@ module _ (u : World) (key : List ℕ) (c : Command) (sound : Sound u) (can : Can
     there = u.there;
   }
 
-  pub brought : Brings u p.components p.records p.stretch mid (written p.stretch p.gone p.told)
-  brought = brings u m p.components p.list p.records p.gone p.told p.turns p.there p.same_data
-      p.told_are p.stretch p.lent p.below
-
   holds_here : (a : Mirror) → a.name ≡ m.name → (i : ℕ) → next.holds a.name i ≡ p.list i
   holds_here a e i = rw (same_from a.name m.name e) refl
 
   holds_there : (a : Mirror) → a.name ≢ m.name → (i : ℕ) → next.holds a.name i ≡ u.holds a.name i
   holds_there a n i = rw (differ a.name m.name n) refl
 
-  -- the data of the mirrors that stay
-  pub data_stay : (a : Mirror) → Has u.state.mirrors a → (i : ℕ)
-      → next.holds a.name i ≡ u.holds a.name i
-  data_stay a h i =
+  -- nothing is laid over the data of other mirrors
+  elsewhere : (n : List ℕ) → n ≢ m.name → (list : ℕ → List ℕ) (i : ℕ)
+      → laid_over c n list i ≡ list i
+  elsewhere n d list i = by p.fill p.can_fill p.bytes
+    where
+      by : (f : Fill) → CanFill u m p.components p.told p.gone f → bytes_in f ≡ bytes_of c
+          → laid_over c n list i ≡ list i
+      by Nothing can e = nothing_laid c (sym e) n list i
+      by (Copied x) can e = nothing_laid c (sym e) n list i
+      by (Laid first sectors) can e =
+          laid_elsewhere c m.name n (p.named can.active.0 can.active.1) d list i
+
+  -- the data of the mirrors that stay, with what is laid over them
+  pub data_after : (a : Mirror) → Has u.state.mirrors a → (i : ℕ)
+      → next.holds a.name i ≡ laid_over c a.name (u.holds a.name) i
+  data_after a h i =
       elim (same_tells a.name m.name) [
         | inl y ↦ holds_here a y.1 i ∙ (p.same_data a h y.1).1 i
-        | inr n ↦ holds_there a n.1 i
+        | inr n ↦ holds_there a n.1 i ∙ sym (elsewhere a.name n.1 (u.holds a.name) i)
       ]
+
+  -- without bytes they stay as they are
+  pub data_stay : bytes_in p.fill ≡ [] → (a : Mirror) → Has u.state.mirrors a → (i : ℕ)
+      → next.holds a.name i ≡ u.holds a.name i
+  data_stay none a h i = data_after a h i
+      ∙ nothing_laid c (sym p.bytes ∙ none) a.name (u.holds a.name) i
+
+  pub brought : Brings u p.components p.records p.fill p.told mid (written p.fill p.gone p.told)
+  brought = brings u m p.components p.list p.records p.gone p.told p.turns p.there p.told_are
+      p.fill p.can_fill
+      (λ none a h y i. sym (holds_here a y i) ∙ data_stay none a h i) p.below
 
   pub mine : (k : Component) → Has p.components k → IsOf p.records m k
   mine k h = record {
@@ -206,14 +226,27 @@ module _ (u : World) (key : List ℕ) (c : Command) (sound : Sound u) (can : Can
         (λ n i'. other a k n o.component i ∙ sound.whole a k i' i l ∙ sym (holds_there a n i));
   }
 
-  -- ---- what was claimed stays true
+  -- ---- what is claimed is true
+
+  -- a mirror that lost a component has the data of before
+  lost_data : (a : Mirror) (k : Component) → IsOf u.state a k → a.name ≡ m.name
+      → find (λ (j : Component). same_label j.provider k.provider) p.components ≡ None → (i : ℕ)
+      → next.holds a.name i ≡ u.holds a.name i
+  lost_data a k o y none i = by p.fill p.can_fill refl
+    where
+      by : (f : Fill) → CanFill u m p.components p.told p.gone f → bytes_in p.fill ≡ bytes_in f
+          → next.holds a.name i ≡ u.holds a.name i
+      by Nothing can e = data_stay e a o.mirror i
+      by (Copied x) can e = data_stay e a o.mirror i
+      by (Laid first sectors) can e = absurd (can.stays a k o y none)
 
   -- a component whose last sector is the one of u claims what it did
   as_before : (a : Mirror) (k : Component) (d : Metadata) → IsOf u.state a k → IsMetadata d
       → ((j : ℕ) → image k.provider j ≡ u.shelf k.provider j)
+      → ((i : ℕ) → next.holds a.name i ≡ u.holds a.name i)
       → Bears (image k.provider (k.sectors - 1)) d → d.dflags.inactive ≡ false
-      → Below image (u.holds a.name) k.provider (claimed a d)
-  as_before a k d o ok there bears inactive i l =
+      → Below image (data_at u next a.name d.syncid) k.provider (claimed a d)
+  as_before a k d o ok there stays bears inactive i l =
       let same : d ≡ metadata a k =
       bears_one u.state a k sound.state o _ (sound.full a k o) d ok
       (subst (λ (x : List ℕ). Bears x d) (there (k.sectors - 1)) bears) in
@@ -221,35 +254,50 @@ module _ (u : World) (key : List ℕ) (c : Command) (sound : Sound u) (can : Can
       ap (claimed a) same ∙ claims_of a a k (sym (ap (λ (x : Metadata). x.dflags.inactive) same)
       ∙ inactive) in
       there i ∙ sound.whole a k o i (subst (λ (n : ℕ). i < n) n l)
+      ∙ sym (same_data u next a.name d.syncid i (stays i))
+
+  -- one that isn't INACTIVE has the mirror's syncid, and so claims the data after
+  claims_list : (a : Mirror) (j : Component) → a.name ≡ m.name → Has p.components j
+      → (metadata m j).dflags.inactive ≡ false → (i : ℕ)
+      → data_at u next a.name j.syncid i ≡ p.list i
+  claims_list a j y h used i =
+      let current : j.syncid ≡ m.syncid = (rules j h).current j h
+      (λ off. let on : true ≡ false = sym (ap (λ d. (disk_flags d).inactive) off) ∙ used in
+      let f : ⊥ = cc in f) in
+      let found_m : mirror_of p.records a.name ≡ Some m =
+      subst (λ (n : List ℕ). mirror_of p.records n ≡ Some m) (sym y)
+      (find_one name p.records.mirrors p.turns.state.mirrors_in_order m (mine j h).mirror) in
+      let has : has_syncid (mirror_of p.records a.name) j.syncid ≡ true =
+      rw found_m (eq-eqb m.syncid j.syncid (sym current)) in
+      rw has (holds_here a y i)
 
   -- one on the provider of a component of the mirror claims what that one has
   as_mine : (a : Mirror) (k j : Component) (d : Metadata) → IsOf u.state a k → a.name ≡ m.name
       → Has p.components j → j.provider ≡ k.provider → IsMetadata d
       → is_last (u.size k.provider) (k.sectors - 1) ≡ true
       → Bears (image k.provider (k.sectors - 1)) d → d.dflags.inactive ≡ false
-      → Below image (u.holds a.name) k.provider (claimed a d)
+      → Below image (data_at u next a.name d.syncid) k.provider (claimed a d)
   as_mine a k j d o y h at ok last bears inactive i l =
-      let stays = p.same_data a o.mirror y in
       let new : image k.provider (k.sectors - 1) ≡ encoded (metadata m j) =
       subst (λ (q : List ℕ). is_last (u.size q) (k.sectors - 1) ≡ true
       → image q (k.sectors - 1) ≡ encoded (metadata m j)) at (last_new j h (k.sectors - 1)) last in
       let same : d ≡ metadata m j =
       bears_one p.records m j p.turns.state (mine j h) _ new d ok bears in
+      let used : (metadata m j).dflags.inactive ≡ false =
+      sym (ap (λ (x : Metadata). x.dflags.inactive) same) ∙ inactive in
       let n : claimed a d ≡ held_by j.disk m.data_sectors =
-      ap (claimed a) same ∙ claims_of a m j
-      (sym (ap (λ (x : Metadata). x.dflags.inactive) same) ∙ inactive)
-      ∙ ap (held_by j.disk) stays.0 in
+      ap (claimed a) same ∙ claims_of a m j used
+      ∙ ap (held_by j.disk) (p.same_data a o.mirror y).0 in
       subst (λ (q : List ℕ). image q i ≡ p.list i) at
-      (data_held j h i (subst (λ (n : ℕ). i < n) n l)) ∙ stays.1 i
+      (data_held j h i (subst (λ (n : ℕ). i < n) n l))
+      ∙ sym (ap (λ (x : Metadata). data_at u next a.name x.syncid i) same
+      ∙ claims_list a j y h used i)
 
-  -- what is claimed of the data before
-  claims_before : (a : Mirror) (k : Component) (d : Metadata) → IsOf u.state a k → IsMetadata d
-      → Bears (image k.provider (k.sectors - 1)) d → d.dflags.inactive ≡ false
-      → Below image (u.holds a.name) k.provider (claimed a d)
-  claims_before a k d o ok bears inactive =
+  pub claims_after : Claims u next image
+  claims_after a k d o ok bears na same_mid inactive clean =
       elim (same_tells a.name m.name) [
         | inr n ↦ as_before a k d o ok (other a k n.1 (subst (λ (x : List Component). Has x k)
-            (sym (p.turns.others a.name n.1)) o.component)) bears inactive
+            (sym (p.turns.others a.name n.1)) o.component)) (holds_there a n.1) bears inactive
         | inl y ↦
             let fits : a.data_sectors + 1 ≤ k.sectors =
             (sound.state.each a o.mirror).sizes k o.component in
@@ -266,12 +314,8 @@ module _ (u : World) (key : List ℕ) (c : Command) (sound : Sound u) (can : Can
                 | inl g ↦ (let zero : image k.provider (k.sectors - 1) ≡ zeros =
                     rw (last, none, g) refl in absurd
                     (bears_not_zeros d (subst (λ (x : List ℕ). Bears x d) zero bears)))
-                | inr g ↦ as_before a k d o ok (λ j. as_copied k.provider j none g) bears inactive
+                | inr g ↦ as_before a k d o ok (λ j. as_copied k.provider j none g)
+                    (lost_data a k o y.1 none) bears inactive
               ]
             ]
       ]
-
-  pub claims_after : Claims u next image
-  claims_after a k d o ok bears na same_mid inactive clean i l =
-      claims_before a k d o ok bears inactive i l
-      ∙ sym (same_data u next a.name d.syncid i (data_stay a o.mirror i))

@@ -1,11 +1,13 @@
 -- A mirror that a command turns: what the records after it are, and the rules that they keep.
 use Rattle.std.proofs.Common.{◌≡◌, ◌≢◌, ◌∙◌, ◌⊎◌, inl, inr, ⊎_elim, ℕ, ◌<◌, ◌≤◌, ◌^◌, refl, sym, ap, subst, List, length}
 use Rattle.gm_metadata.specs.Images.{same_label}
+use Rattle.gm_commands.specs.declared.command.Command.{Command}
 use Rattle.gm_state.specs.declared.records.Mirror.{Mirror}
 use Rattle.gm_state.specs.declared.records.Component.{Component}
 use Rattle.gm_lists.specs.Ordered.{Has, Ascends, put}
 use Rattle.gm_state.specs.Records.{Records, IsState, IsMirror, MirrorFits, members, name, provider}
 use Rattle.gm_state.specs.World.{World, Sound}
+use Rattle.gm_changes.specs.After.{laid_over}
 use Rattle.gm_lists.proofs.Order.{same_is, same_refl, same_tells}
 use Rattle.gm_lists.proofs.Putting.{one, put_there, put_stays, put_cases, Ascends-put, length-put_same}
 use Rattle.gm_lists.proofs.Lists.{Has-filter, filter-Has, Ascends-filter}
@@ -152,13 +154,14 @@ adjusts_turns r m m' comps ks state a = put_turns r m' comps ks state (record {
   rules = a.rules;
 })
 
--- the mirror kept its data
-pub adjusts_data : (u : World) (m m' : Mirror) (comps ks : List Component) → Sound u
+-- the mirror kept its data, but for what the command lays over them
+pub adjusts_data : (u : World) (c : Command) (m m' : Mirror) (comps ks : List Component) → Sound u
     → Adjusts u.state m m' comps ks → (a : Mirror) → Has u.state.mirrors a → a.name ≡ m'.name
-    → (a.data_sectors ≡ m'.data_sectors) × ((i : ℕ) → u.holds m.name i ≡ u.holds a.name i)
-adjusts_data u m m' comps ks sound adjusts a h e =
+    → (a.data_sectors ≡ m'.data_sectors)
+    × ((i : ℕ) → laid_over c m.name (u.holds m.name) i ≡ laid_over c a.name (u.holds a.name) i)
+adjusts_data u c m m' comps ks sound adjusts a h e =
     let same : a ≡ m = one name u.state.mirrors sound.state.mirrors_in_order a m h adjusts.here
     (e ∙ adjusts.same.name) in (
       ap (λ (x : Mirror). x.data_sectors) same ∙ sym adjusts.same.sectors,
-      λ i. ap (λ (x : Mirror). u.holds x.name i) (sym same),
+      λ i. ap (λ (x : Mirror). laid_over c x.name (u.holds x.name) i) (sym same),
     )

@@ -1,29 +1,36 @@
--- The intents that a command writes: what they are, and what their copy brings.
-use Rattle.std.proofs.Common.{◌≡◌, ◌≢◌, ◌∙◌, ◌⊎◌, inl, inr, ⊎_elim, ℕ, ◌+◌, ◌-◌, ◌<◌, ◌≤◌, ◌&&◌, true, false, refl, sym, ap, subst, arith, List, [], ◌∷◌, ◌++◌, length, filter, find, map, Option, Some, None, IfSome, nat_le, nat_lt, ltb-true, eqb-true, eq-eqb}
-use Rattle.std.specs.Prelude.{IsSome, IsSomeAnd}
+-- The intents that a command writes: what they are, and what they bring.
+use Rattle.std.proofs.Common.{◌≡◌, ◌≢◌, ◌∙◌, ◌⊎◌, inl, inr, ⊎_elim, ℕ, ◌+◌, ◌-◌, ◌<◌, ◌≤◌, ◌&&◌, true, false, refl, sym, ap, subst, arith, List, [], ◌∷◌, ◌++◌, length, filter, find, map, Option, Some, None, nat_le, nat_lt, eqb-true, eq-eqb}
+use Rattle.std.specs.Prelude.{IsSomeAnd, slice_get}
 use Rattle.std.specs.List.{list_any}
-use Rattle.std.proofs.lemmas.Bool.{and_parts, leb-true, le-leb, lt-ltb, ne_eqb, or_parts}
-use Rattle.std.proofs.Math.Bool.{and-false, or-false}
-use Rattle.gm_metadata.specs.Images.{Image, Sizes, same_label}
+use Rattle.std.proofs.lemmas.Bool.{cases_Bool, and_parts, le-leb, lt-ltb, ne_eqb, or_parts}
+use Rattle.std.proofs.lemmas.Option.{slice_get-get_or}
+use Rattle.std.proofs.Math.Bool.{or-false}
+use Rattle.gm_metadata.specs.Images.{Image, same_label}
+use Rattle.gm_commands.specs.Sectors.{AreSectors}
 use Rattle.gm_state.specs.declared.intents.Intent.{Intent}
-use Rattle.gm_state.specs.declared.intents.Intent.TheVariants.{Meta, Clear}
+use Rattle.gm_state.specs.declared.intents.Intent.TheVariants.{Meta, Clear, Dirty, Patch}
 use Rattle.gm_state.specs.declared.records.Mirror.{Mirror}
 use Rattle.gm_state.specs.declared.records.Component.{Component}
-use Rattle.gm_lists.specs.Ordered.{Has}
-use Rattle.gm_state.specs.Records.{Records, IsMirror, held_by, members, provider}
-use Rattle.gm_state.specs.Lookups.{mirror_of}
-use Rattle.gm_state.specs.Intents.{IsOf, is_last, any_copies, copies, is_place, InOrder, Lends, IsAtHand}
-use Rattle.gm_state.specs.Readable.{is_copy, is_copy_to, is_meta_of, IsCopyWithin, AreOrdered}
+use Rattle.gm_state.specs.declared.records.Disk.TheVariants.{InSync}
+use Rattle.gm_lists.specs.Ordered.{Has, Ascends}
+use Rattle.gm_state.specs.Records.{Records, held_by, members, provider}
+use Rattle.gm_state.specs.Lookups.{mirror_of, is_active}
+use Rattle.gm_state.specs.Intents.{IsOf, is_last, is_meta_of, any_copies, copies, is_place, IsAtHand}
+use Rattle.gm_state.specs.Readable.{is_copy, is_patch, is_fill_of, IsCopyWithin, IsPatchWithin, IsOfRange, AreOrdered, AreOrderedFrom, AreOfOnePatch}
 use Rattle.gm_state.specs.World.{World, Below, present}
+use Rattle.gm_state.proofs.FoundRecords.{active_is}
+use Rattle.gm_state.proofs.PatchFound.{without_patch}
+use Rattle.gm_state.proofs.Places.{copied_at, place_from}
 use Rattle.gm_state.proofs.Presence.{present_size, some_and}
-use Rattle.gm_state.proofs.SoundClaims.{mirror_found, some_there}
+use Rattle.gm_state.proofs.SoundClaims.{mirror_found}
 use Rattle.gm_changes.specs.After.{metas}
 use Rattle.gm_lists.proofs.Order.{same_is, same_from, same_refl, same_tells, differ}
 use Rattle.gm_lists.proofs.Putting.{one}
-use Rattle.gm_lists.proofs.Lists.{Has-filter, Has-map, map-Has}
-use Rattle.gm_lists.proofs.Finding.{any_from, found_none, not_both, Has-append_left, Has-append_right}
-use Rattle.gm_rules.proofs.TurnedMirror.{Turns, in_s, here, rules_of}
-use Rattle.gm_rules.proofs.PlanOf.{Stretch, IsLent, copying, copy_of, is_copied, with_copied, written}
+use Rattle.gm_lists.proofs.Lists.{Has-filter, Has-map, map-Has, filter-Has, Ascends-filter}
+use Rattle.gm_lists.proofs.Finding.{any_from, any_none, some_any, found_none, not_both, Has-append_left, Has-append_right}
+use Rattle.gm_rules.proofs.LaidIntents.{patchings, each_laid, laid_there, no_copy, copies_none, laid_ordered}
+use Rattle.gm_rules.proofs.PlanOf.{Fill, Nothing, Copied, Laid, Stretch, IsLent, IsLaid, CanFill, bytes_in, clears_then, copying, is_filled, with_filled, written}
+use Rattle.gm_rules.proofs.TurnedMirror.{Turns, in_order, in_s, here, rules_of}
 
 -- ---- last sectors
 
@@ -48,53 +55,38 @@ append_or (y ∷ xs) ys x (inr h) =
 
 -- ---- the intents behind the copy
 
-abbrev clears_then : List (List ℕ) → List Component → List Intent
-clears_then gone told = map (λ q. Clear q) gone ++ metas told
-
--- intents that copy nothing, and name last sectors alone
-record AreStill (size : Sizes) (ts : List Intent) : Type 0 where
+-- intents that bring no data
+record AreStill (ts : List Intent) : Type 0 where
   copies_none : (q : List ℕ) (i : ℕ) → any_copies ts q i ≡ false
-  none_to : (p : List ℕ) → list_any (is_copy_to p) ts ≡ false
+  none_to : (p : List ℕ) → list_any (is_fill_of p) ts ≡ false
   no_copy : filter is_copy ts ≡ []
-  order : InOrder size ts
-  ordered : AreOrdered ts
-  inner : (q : List ℕ) (j : ℕ) → is_last (size q) j ≡ false → is_place size ts q j ≡ false
+  no_patch : list_any is_patch ts ≡ false
+  ordered : (earlier : List Intent) → AreOrderedFrom earlier ts
 
-still : (size : Sizes) (gone : List (List ℕ)) (told : List Component)
-    → AreStill size (clears_then gone told)
-still size [] [] = record {
+still : (gone : List (List ℕ)) (told : List Component) → AreStill (clears_then gone told)
+still [] [] = record {
   copies_none = λ q i. refl;
   none_to = λ p. refl;
   no_copy = refl;
-  order = tt;
-  ordered = tt;
-  inner = λ q j l. refl;
+  no_patch = refl;
+  ordered = λ earlier. tt;
 }
-still size [] (k ∷ told) = let rest = still size [] told in
+still [] (k ∷ told) = let rest = still [] told in
     record {
       copies_none = rest.copies_none;
       none_to = rest.none_to;
       no_copy = rest.no_copy;
-      order = (
-        λ q j l n i. rest.copies_none q i,
-        λ q j e. absurd (let f : ⊥ = cc in f),
-        rest.order,
-      );
-      ordered = (rest.none_to k.provider, rest.ordered);
-      inner = λ q j l. rw (l, and-false (same_label k.provider q)) (rest.inner q j l);
+      no_patch = rest.no_patch;
+      ordered = λ earlier.
+          (rest.none_to k.provider, rest.ordered (earlier ++ Meta k.provider ∷ []));
     }
-still size (p ∷ gone) told = let rest = still size gone told in
+still (p ∷ gone) told = let rest = still gone told in
     record {
       copies_none = rest.copies_none;
       none_to = rest.none_to;
       no_copy = rest.no_copy;
-      order = (
-        λ q j l n i. rest.copies_none q i,
-        λ q j e. absurd (let f : ⊥ = cc in f),
-        rest.order,
-      );
-      ordered = rest.ordered;
-      inner = λ q j l. rw (l, and-false (same_label p q)) (rest.inner q j l);
+      no_patch = rest.no_patch;
+      ordered = λ earlier. (tt, rest.ordered (earlier ++ Clear p ∷ []));
     }
 
 module _ (gone : List (List ℕ)) (told : List Component) where
@@ -118,66 +110,87 @@ module _ (gone : List (List ℕ)) (told : List Component) where
   clear_in q h = Has-append_left (map (λ q. Clear q) gone) (metas told) (Clear q)
       (map-Has (λ (q : List ℕ). Clear q) gone q h)
 
-  module _ (stretch : Option Stretch) where
-    pub each : (P : Intent → Type 0) → ((x : Stretch) → stretch ≡ Some x → P (copying x))
-        → ((q : List ℕ) → Has gone q → P (Clear q))
-        → ((k : Component) → Has told k → P (Meta k.provider)) → (t : Intent)
-        → Has (written stretch gone told) t → P t
-    each P copied clear tell t h =
-        ⊎_elim (λ (i : Has (copy_of stretch) t). first stretch copied i)
-        (λ (i : Has (clears_then gone told) t). still_each P clear tell t i)
-        (append_or (copy_of stretch) (clears_then gone told) t h)
-      where
-        first : (o : Option Stretch) → ((x : Stretch) → o ≡ Some x → P (copying x))
-            → Has (copy_of o) t → P t
-        first None copied h = absurd h
-        first (Some x) copied (inl e) = subst P e (copied x refl)
-        first (Some x) copied (inr h) = absurd h
+  -- so of all that is written, where it holds of the copy, and of what lays sectors
+  pub each : (fill : Fill) (P : Intent → Type 0)
+      → ((x : Stretch) → fill ≡ Copied x → P (copying x))
+      → ((first : ℕ) (sectors : List (List ℕ)) → fill ≡ Laid first sectors → (k : Component)
+      → Has told k → P (Dirty k.provider) × P (Patch k.provider first (first + length sectors)))
+      → ((q : List ℕ) → Has gone q → P (Clear q))
+      → ((k : Component) → Has told k → P (Meta k.provider)) → (t : Intent)
+      → Has (written fill gone told) t → P t
+  each Nothing P copied laid clear tell t h = still_each P clear tell t h
+  each (Copied x) P copied laid clear tell t (inl e) = subst P e (copied x refl)
+  each (Copied x) P copied laid clear tell t (inr h) = still_each P clear tell t h
+  each (Laid first sectors) P copied laid clear tell t h =
+      each_laid first (first + length sectors) P told
+      (λ k i. let r = laid first sectors refl k i in (r.0, r.1, tell k i)) t h
 
-    pub meta_there : (k : Component) → Has told k
-        → Has (written stretch gone told) (Meta k.provider)
-    meta_there k h = Has-append_right (copy_of stretch) (clears_then gone told) _ (meta_in k h)
+  pub meta_there : (fill : Fill) (k : Component) → Has told k
+      → Has (written fill gone told) (Meta k.provider)
+  meta_there Nothing k h = meta_in k h
+  meta_there (Copied x) k h = inr (meta_in k h)
+  meta_there (Laid first sectors) k h = (laid_there first (first + length sectors) told k h).1
 
-    pub clear_there : (q : List ℕ) → Has gone q → Has (written stretch gone told) (Clear q)
-    clear_there q h = Has-append_right (copy_of stretch) (clears_then gone told) _ (clear_in q h)
+  pub clear_there : (u : World) (m : Mirror) (ks : List Component) (fill : Fill)
+      → CanFill u m ks told gone fill → (q : List ℕ) → Has gone q
+      → Has (written fill gone told) (Clear q)
+  clear_there u m ks Nothing can q h = clear_in q h
+  clear_there u m ks (Copied x) can q h = inr (clear_in q h)
+  clear_there u m ks (Laid first sectors) can q h =
+      absurd (subst (λ (l : List (List ℕ)). Has l q) can.none_gone h)
 
--- ---- what the copy brings
+-- ---- what is brought
 
 -- the sectors of a stretch: they are the data of the mirror, and no last ones
-pub record IsBrought (u : World) (mid : Image) (s : Records) (ts : List Intent)
-    (x : Stretch) : Type 0 where
+pub record IsBrought (u : World) (mid : Image) (s : Records) (x : Stretch) : Type 0 where
   pub same : (j : ℕ) → x.first ≤ j → j < x.end → mid x.target j ≡ mid x.source j
   pub target : (j : ℕ) → x.first ≤ j → j < x.end → is_last (u.size x.target) j ≡ false
   pub source : (j : ℕ) → x.first ≤ j → j < x.end → is_last (u.size x.source) j ≡ false
-  pub lends : Lends u.size ts (copying x)
   pub within : IsCopyWithin s x.source x.target x.first x.end
   pub at_hand : IsAtHand (present u) (copying x)
 
--- mid is the image with the stretch copied, ts are the intents
-pub record Brings (u : World) (ks : List Component) (s : Records) (stretch : Option Stretch)
-    (mid : Image) (ts : List Intent) : Type 0 where
-  pub each : (x : Stretch) → stretch ≡ Some x → IsBrought u mid s ts x
-  pub order : InOrder u.size ts
+-- sectors that are laid over those of component k: they are data of an ACTIVE one, and no last ones
+pub record IsLaidOn (u : World) (mid : Image) (s : Records) (k : Component) (first : ℕ)
+    (sectors : List (List ℕ)) : Type 0 where
+  pub active : k.disk ≡ InSync
+  pub laid : (j : ℕ) → first ≤ j → j < first + length sectors
+      → slice_get sectors (j - first) ≡ Some (mid k.provider j)
+  pub inner : (j : ℕ) → j < first + length sectors → is_last (u.size k.provider) j ≡ false
+  pub within : IsPatchWithin s k.provider first (first + length sectors)
+  pub at_hand : IsAtHand (present u) (Patch k.provider first (first + length sectors))
+
+-- mid is the image with the data brought, ts are the intents
+pub record Brings (u : World) (ks : List Component) (s : Records) (fill : Fill)
+    (told : List Component) (mid : Image) (ts : List Intent) : Type 0 where
+  pub each : (x : Stretch) → fill ≡ Copied x → IsBrought u mid s x
+  pub laid : (first : ℕ) (sectors : List (List ℕ)) → fill ≡ Laid first sectors → (k : Component)
+      → Has told k → IsLaidOn u mid s k first sectors
+  pub sectors : AreSectors (bytes_in fill)
   pub one_copy : length (filter is_copy ts) ≤ 1
+  pub one_patch : AreOfOnePatch (bytes_in fill) ts
   pub ordered : AreOrdered ts
   pub untouched : (q : List ℕ) → find (λ k. same_label k.provider q) ks ≡ None → (j : ℕ)
       → mid q j ≡ u.shelf q j
-  pub kept : (q : List ℕ) (j : ℕ) → is_copied stretch q j ≡ false → mid q j ≡ u.shelf q j
-  pub named : (q : List ℕ) (j : ℕ) → is_place u.size ts q j ≡ false → is_copied stretch q j ≡ false
+  pub kept : (q : List ℕ) (j : ℕ) → is_filled fill told q j ≡ false → mid q j ≡ u.shelf q j
+  pub named : (q : List ℕ) (j : ℕ) → is_place u.size ts q j ≡ false
+      → is_filled fill told q j ≡ false
+  -- where data are copied to a component of before, none are laid
   pub mirrored : (a : Mirror) (k : Component) → IsOf u.state a k → (i : ℕ)
-      → any_copies ts k.provider i ≡ true
-      → (is_last (u.size k.provider) i ≡ false) × (mid k.provider i ≡ u.holds a.name i)
+      → any_copies ts k.provider i ≡ true → (bytes_in fill ≡ [])
+      × (is_last (u.size k.provider) i ≡ false) × (mid k.provider i ≡ u.holds a.name i)
       × (mirror_of s a.name ≢ None)
 
 nothing : (u : World) (ks : List Component) (s : Records) (gone : List (List ℕ))
-    (told : List Component) → Brings u ks s None u.shelf (written None gone told)
-nothing u ks s gone told = let rest = still u.size gone told in
+    (told : List Component) → Brings u ks s Nothing told u.shelf (written Nothing gone told)
+nothing u ks s gone told = let rest = still gone told in
     record {
       each = λ x e. absurd (let f : ⊥ = cc in f);
-      order = rest.order;
+      laid = λ first sectors e. absurd (let f : ⊥ = cc in f);
+      sectors = λ x h. absurd h;
       one_copy = (let e : length (filter is_copy (clears_then gone told)) ≡ 0 =
           ap length rest.no_copy in omega (arith, e));
-      ordered = rest.ordered;
+      one_patch = without_patch [] (clears_then gone told) rest.no_patch refl;
+      ordered = rest.ordered [];
       untouched = λ q e j. refl;
       kept = λ q j e. refl;
       named = λ q j e. refl;
@@ -188,51 +201,63 @@ nothing u ks s gone told = let rest = still u.size gone told in
 module _ (u : World) (m : Mirror) (ks : List Component) (list : ℕ → List ℕ) (s : Records)
     (gone : List (List ℕ)) (told : List Component) (t : Turns u.state m ks s)
     (there : (k : Component) → Has ks k → present u k.provider ≡ Some k.sectors)
-    (same_data : (a : Mirror) → Has u.state.mirrors a → a.name ≡ m.name
-    → (a.data_sectors ≡ m.data_sectors) × ((i : ℕ) → list i ≡ u.holds a.name i))
     (told_are : (k : Component) → Has told k → Has ks k) where
+  of_s : (k : Component) → Has ks k → IsOf s m k
+  of_s k h = record {
+    mirror = here u.state m ks s t k h;
+    component = subst (λ (l : List Component). Has l k) (sym t.mine) h;
+  }
+
+  -- no sector of the data is a last one of a component, and each is there
+  module _ (k : Component) (h : Has ks k) (end : ℕ) (most : end ≤ m.data_sectors) where
+    room : m.data_sectors + 1 ≤ k.sectors
+    room = (rules_of u.state m ks s t k h).sizes k h
+
+    inner : (j : ℕ) → j < end → is_last (u.size k.provider) j ≡ false
+    inner j l = let size : m.data_sectors + 1 ≤ k.sectors = room in
+        not_last (u.size k.provider) k.sectors j
+        (present_size u k.provider k.sectors (there k h)) (omega (arith, size, most, l))
+
+    reached : IsSomeAnd (present u k.provider) (λ n. end ≤ n)
+    reached = let size : m.data_sectors + 1 ≤ k.sectors = room in
+        some_and (present u k.provider) k.sectors (λ n. end ≤ n) (there k h)
+        (omega (arith, size, most))
+
   module _ (x : Stretch) (lent : IsLent m ks told x)
+      (same_data : (a : Mirror) → Has u.state.mirrors a → a.name ≡ m.name → (i : ℕ)
+      → list i ≡ u.holds a.name i)
       (below : (k : Component) → Has ks k
-      → Below (with_copied (Some x) u.shelf) list k.provider (held_by k.disk m.data_sectors)) where
+      → Below (with_filled (Copied x) told u.shelf) list k.provider
+      (held_by k.disk m.data_sectors)) where
     abbrev mid : Image
-    mid = with_copied (Some x) u.shelf
+    mid = with_filled (Copied x) told u.shelf
 
     abbrev rest : List Intent
     rest = clears_then gone told
 
-    behind : AreStill u.size rest
-    behind = still u.size gone told
+    behind : AreStill rest
+    behind = still gone told
 
     to_is : Has ks lent.to
     to_is = told_are lent.to lent.to_is
 
-    rules : IsMirror m ks
-    rules = rules_of u.state m ks s t lent.to to_is
+    target_inner : (j : ℕ) → j < x.end → is_last (u.size x.target) j ≡ false
+    target_inner = subst (λ (p : List ℕ). (j : ℕ) → j < x.end → is_last (u.size p) j ≡ false)
+        lent.target_is (inner lent.to to_is x.end lent.within)
 
-    -- no sector of the stretch is a last one of a component
-    inner : (k : Component) → Has ks k → (q : List ℕ) → k.provider ≡ q → (j : ℕ) → j < x.end
-        → is_last (u.size q) j ≡ false
-    inner k h q at j l =
-        let size : m.data_sectors + 1 ≤ k.sectors = rules.sizes k h in
-        let most : x.end ≤ m.data_sectors = lent.within in
-        subst (λ (p : List ℕ). is_last (u.size p) j ≡ false) at
-        (not_last (u.size k.provider) k.sectors j
-        (present_size u k.provider k.sectors (there k h)) (omega arith))
+    source_inner : (j : ℕ) → j < x.end → is_last (u.size x.source) j ≡ false
+    source_inner = subst (λ (p : List ℕ). (j : ℕ) → j < x.end → is_last (u.size p) j ≡ false)
+        lent.source_is (inner lent.from lent.from_is x.end lent.within)
 
     -- a sector that is copied to
     at_target : (q : List ℕ) (j : ℕ) → copies (copying x) q j ≡ true
-        → (lent.to.provider ≡ q) × (x.first ≤ j) × (j < x.end)
-    at_target q j e =
-        let parts = and_parts (same_label x.target q) (nat_le x.first j && nat_lt j x.end) e in
-        let range = and_parts (nat_le x.first j) (nat_lt j x.end) parts.1 in (
-          lent.target_is ∙ same_is x.target q parts.0,
-          leb-true x.first j range.0,
-          ltb-true j x.end range.1,
-        )
+        → (x.target ≡ q) × (x.first ≤ j) × (j < x.end)
+    at_target = copied_at x.source x.target x.first x.end
 
     not_last_one : (q : List ℕ) (j : ℕ) → copies (copying x) q j ≡ true
         → is_last (u.size q) j ≡ false
-    not_last_one q j e = let a = at_target q j e in inner lent.to to_is q a.0 j a.2
+    not_last_one q j e = let a = at_target q j e in
+        subst (λ (p : List ℕ). is_last (u.size p) j ≡ false) a.0 (target_inner j a.2)
 
     -- the source isn't copied to
     from_source : (j : ℕ) → mid x.source j ≡ u.shelf x.source j
@@ -252,33 +277,14 @@ module _ (u : World) (m : Mirror) (ks : List Component) (list : ℕ → List ℕ
     one_kept : (q : List ℕ) (j : ℕ) → copies (copying x) q j ≡ false → mid q j ≡ u.shelf q j
     one_kept q j e = rw e refl
 
-    of_s : (k : Component) → Has ks k → IsOf s m k
-    of_s k h = record {
-      mirror = here u.state m ks s t k h;
-      component = subst (λ (l : List Component). Has l k) (sym t.mine) h;
-    }
-
-    reached : (k : Component) → Has ks k → (q : List ℕ) → k.provider ≡ q
-        → IsSomeAnd (present u q) (λ n. x.end ≤ n)
-    reached k h q at = subst (λ (p : List ℕ). IsSomeAnd (present u p) (λ n. x.end ≤ n)) at
-        (some_and (present u k.provider) k.sectors (λ n. x.end ≤ n) (there k h)
-        (let size : m.data_sectors + 1 ≤ k.sectors = rules.sizes k h in
-        let most : x.end ≤ m.data_sectors = lent.within in omega arith))
-
-    is_brought : IsBrought u mid s (copying x ∷ rest) x
+    is_brought : IsBrought u mid s x
     is_brought = record {
       same = λ j l g.
           let to : mid x.target j ≡ u.shelf x.source j =
           rw (same_refl x.target, le-leb x.first j l, lt-ltb j x.end g) refl in
           to ∙ sym (from_source j);
-      target = λ j l g. inner lent.to to_is x.target lent.target_is j g;
-      source = λ j l g. inner lent.from lent.from_is x.source lent.source_is j g;
-      lends = (
-        subst (λ (p : List ℕ). IsSome (u.size p)) lent.source_is (some_there _ lent.from.sectors
-            (present_size u lent.from.provider lent.from.sectors (there lent.from lent.from_is))),
-        λ j l g. rw (differ x.target x.source (λ e. lent.other (sym e)))
-            (behind.inner x.source j (inner lent.from lent.from_is x.source lent.source_is j g)),
-      );
+      target = λ j l g. target_inner j g;
+      source = λ j l g. source_inner j g;
       within = record {
         mirror = m;
         to = lent.to;
@@ -293,8 +299,10 @@ module _ (u : World) (m : Mirror) (ks : List Component) (list : ℕ → List ℕ
         within = lent.within;
       };
       at_hand = (
-        reached lent.from lent.from_is x.source lent.source_is,
-        reached lent.to to_is x.target lent.target_is,
+        subst (λ (p : List ℕ). IsSomeAnd (present u p) (λ n. x.end ≤ n)) lent.source_is
+            (reached lent.from lent.from_is x.end lent.within),
+        subst (λ (p : List ℕ). IsSomeAnd (present u p) (λ n. x.end ≤ n)) lent.target_is
+            (reached lent.to to_is x.end lent.within),
       );
     }
 
@@ -317,35 +325,35 @@ module _ (u : World) (m : Mirror) (ks : List Component) (list : ℕ → List ℕ
         ]
 
     one_mirrored : (a : Mirror) (k : Component) → IsOf u.state a k → (i : ℕ)
-        → any_copies (copying x ∷ rest) k.provider i ≡ true
-        → (is_last (u.size k.provider) i ≡ false) × (mid k.provider i ≡ u.holds a.name i)
+        → any_copies (copying x ∷ rest) k.provider i ≡ true → (bytes_in (Copied x) ≡ [])
+        × (is_last (u.size k.provider) i ≡ false) × (mid k.provider i ≡ u.holds a.name i)
         × (mirror_of s a.name ≢ None)
     one_mirrored a k o i e =
         let none = behind.copies_none k.provider i in
         let is : copies (copying x) k.provider i ≡ true =
         sym (or-false (copies (copying x) k.provider i)) ∙ rw none at e in
-        let name : a.name ≡ m.name = own a k o (sym (at_target k.provider i is).0) in (
+        let name : a.name ≡ m.name =
+        own a k o (sym (at_target k.provider i is).0 ∙ sym lent.target_is) in (
+          refl,
           not_last_one k.provider i is,
-          brought k.provider i is ∙ (same_data a o.mirror name).1 i,
+          brought k.provider i is ∙ same_data a o.mirror name i,
           subst (λ (n : List ℕ). mirror_of s n ≢ None) (sym name)
               (mirror_found s m (here u.state m ks s t lent.to to_is)),
         )
 
-    one_brings : Brings u ks s (Some x) mid (copying x ∷ rest)
+    one_brings : Brings u ks s (Copied x) told mid (copying x ∷ rest)
     one_brings = record {
       each = λ y e. let same : x ≡ y = cc in
-          subst (λ (z : Stretch). IsBrought u mid s (copying x ∷ rest) z) same is_brought;
-      order = (
-        λ q j l n i. not_both (is_last (u.size q) j) l (not_last_one q j n),
-        not_last_one,
-        behind.order,
-      );
+          subst (λ (z : Stretch). IsBrought u mid s z) same is_brought;
+      laid = λ first sectors e. absurd (let f : ⊥ = cc in f);
+      sectors = λ y h. absurd h;
       one_copy = (let e : length (filter is_copy rest) ≡ 0 =
           ap length behind.no_copy in omega (arith, e));
+      one_patch = without_patch [] (copying x ∷ rest) behind.no_patch refl;
       ordered = (
         any_from (is_meta_of x.target) rest (Meta lent.to.provider) (meta_in gone told lent.to
             lent.to_is) (same_from lent.to.provider x.target lent.target_is),
-        behind.ordered,
+        behind.ordered (copying x ∷ []),
       );
       untouched = λ q none j. one_kept q j (rw (differ x.target q (λ e.
           not_both (same_label lent.to.provider q)
@@ -356,9 +364,117 @@ module _ (u : World) (m : Mirror) (ks : List Component) (list : ℕ → List ℕ
       mirrored = one_mirrored;
     }
 
-  pub brings : (stretch : Option Stretch) → IfSome stretch (IsLent m ks told)
+  module _ (first : ℕ) (sectors : List (List ℕ)) (can : IsLaid u m ks told gone first sectors) where
+    abbrev end : ℕ
+    end = first + length sectors
+
+    abbrev laid_image : Image
+    laid_image = with_filled (Laid first sectors) told u.shelf
+
+    abbrev laid_ts : List Intent
+    laid_ts = patchings first end told
+
+    told_active : (k : Component) → Has told k → Has ks k × (k.disk ≡ InSync)
+    told_active k h =
+        let r = Has-filter (λ (c : Component). is_active c.disk) ks k
+        (subst (λ (l : List Component). Has l k) can.told_is h) in (r.0, active_is k.disk r.1)
+
+    in_told : Has told can.active.0
+    in_told = subst (λ (l : List Component). Has l can.active.0) (sym can.told_is)
+        (filter-Has (λ (c : Component). is_active c.disk) ks can.active.0 can.active.1
+        (ap is_active can.active.2))
+
+    up : Ascends provider told
+    up = subst (Ascends provider) (sym can.told_is)
+        (Ascends-filter (λ (c : Component). is_active c.disk) provider ks
+        (in_order u.state m ks s t))
+
+    any_told : (q : List ℕ) → (k : Component) → Has told k → k.provider ≡ q
+        → list_any (λ c. same_label c.provider q) told ≡ true
+    any_told q k h e = any_from (λ (c : Component). same_label c.provider q) told k h
+        (same_from k.provider q e)
+
+    -- what is laid on a component
+    laid_on : (k : Component) → Has told k → IsLaidOn u laid_image s k first sectors
+    laid_on k h =
+        let a = told_active k h in
+        record {
+          active = a.1;
+          laid = λ j l g.
+              let on : is_filled (Laid first sectors) told k.provider j ≡ true =
+              rw (any_told k.provider k h refl, le-leb first j l, lt-ltb j end g) refl in
+              slice_get-get_or sectors (j - first) [] (omega (arith, l, g)) ∙ ap Some (rw on refl);
+          inner = inner k a.0 end can.within;
+          within = record {
+            mirror = m;
+            on = k;
+            on_is = of_s k a.0;
+            provider_is = refl;
+            active = a.1;
+            ordered = (let some : 0 < length sectors = can.some in omega (arith, some));
+            within = can.within;
+          };
+          at_hand = reached k a.0 end can.within;
+        }
+
+    one_range : AreOfOnePatch sectors laid_ts
+    one_range = record {
+      start = first;
+      ranges = each_laid first end (IsOfRange first (length sectors)) told
+          (λ k h. (tt, (refl, refl), tt));
+      apart = inr (any_none is_copy laid_ts (each_laid first end (λ t. is_copy t ≡ false) told
+          (λ k h. (refl, refl, refl))));
+      needed = λ off. not_both (list_any is_patch laid_ts)
+          (any_from is_patch laid_ts (Patch can.active.0.provider first end)
+          (laid_there first end told can.active.0 in_told).0 refl) off;
+    }
+
+    laid_named : (q : List ℕ) (j : ℕ) → is_place u.size laid_ts q j ≡ false
+        → is_filled (Laid first sectors) told q j ≡ false
+    laid_named q j off =
+        elim (cases_Bool (is_filled (Laid first sectors) told q j)) [
+          | inr e ↦ e
+          | inl e ↦
+              let parts = and_parts (list_any (λ (c : Component). same_label c.provider q) told)
+              (nat_le first j && nat_lt j end) e in
+              let k = some_any (λ (c : Component). same_label c.provider q) told parts.0 in
+              not_both (is_place u.size laid_ts q j)
+              (place_from u.size laid_ts (Patch k.0.provider first end) q j
+              (laid_there first end told k.0 k.1).0 (rw (k.2, parts.1) refl)) off
+        ]
+
+    laid_brings : Brings u ks s (Laid first sectors) told laid_image laid_ts
+    laid_brings = record {
+      each = λ x e. absurd (let f : ⊥ = cc in f);
+      laid = λ a b e k h.
+          let first_is : first ≡ a = cc in
+          let bytes_are : sectors ≡ b = cc in
+          subst (λ (x : ℕ). IsLaidOn u laid_image s k x b) first_is
+          (subst (λ (x : List (List ℕ)). IsLaidOn u laid_image s k first x) bytes_are
+          (laid_on k h));
+      sectors = can.whole;
+      one_copy = (let e : length (filter is_copy laid_ts) ≡ 0 =
+          ap length (no_copy first end told) in omega (arith, e));
+      one_patch = one_range;
+      ordered = laid_ordered first end [] told up;
+      untouched = λ q none j.
+          let off : list_any (λ (c : Component). same_label c.provider q) told ≡ false =
+          any_none (λ (c : Component). same_label c.provider q) told
+          (λ k h. found_none (λ (c : Component). same_label c.provider q) ks none k
+          (told_active k h).0) in
+          rw off refl;
+      kept = λ q j off. rw off refl;
+      named = laid_named;
+      mirrored = λ a k o i e. not_both (any_copies laid_ts k.provider i) e
+          (copies_none first end told k.provider i);
+    }
+
+  pub brings : (fill : Fill) → CanFill u m ks told gone fill
+      → (bytes_in fill ≡ [] → (a : Mirror) → Has u.state.mirrors a → a.name ≡ m.name → (i : ℕ)
+      → list i ≡ u.holds a.name i)
       → ((k : Component) → Has ks k
-      → Below (with_copied stretch u.shelf) list k.provider (held_by k.disk m.data_sectors))
-      → Brings u ks s stretch (with_copied stretch u.shelf) (written stretch gone told)
-  brings None lent below = nothing u ks s gone told
-  brings (Some x) lent below = one_brings x lent below
+      → Below (with_filled fill told u.shelf) list k.provider (held_by k.disk m.data_sectors))
+      → Brings u ks s fill told (with_filled fill told u.shelf) (written fill gone told)
+  brings Nothing can same_data below = nothing u ks s gone told
+  brings (Copied x) can same_data below = one_brings x can (same_data refl) below
+  brings (Laid first sectors) can same_data below = laid_brings first sectors can

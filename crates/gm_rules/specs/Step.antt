@@ -26,7 +26,7 @@ use Rattle.gm_state.specs.Records.{Records, held_by}
 use Rattle.gm_refusals.specs.Applies.{applies, members_named}
 use Rattle.gm_refusals.specs.WorldFacts.{seen_of}
 use Rattle.gm_refusals.specs.Adoptable.{source_in, data_of}
-use Rattle.gm_changes.specs.After.{after, intents_of, reply_to, clears, fills}
+use Rattle.gm_changes.specs.After.{after, bytes_of, intents_of, laid_over, reply_to, clears, fills}
 
 -- the refusal applies to the command in the world
 pub record Bad (u : World) (c : Command) (r : Refusal) : Type 0 where
@@ -34,7 +34,7 @@ pub record Bad (u : World) (c : Command) (r : Refusal) : Type 0 where
   pub met : applies u.state (seen_of u) c r ≡ true
 
 -- sector j of q is the last one of a component after the command, or of a provider that is cleared,
--- or the command copies it
+-- or the command copies it or lays over it
 abbrev pub is_changed : World → Command → World → List ℕ → ℕ → Bool
 is_changed u c w q j =
     list_any (λ k. same_label k.provider q && k.sectors == j + 1) w.state.components ||
@@ -56,6 +56,7 @@ NewData u (commands.Clear p) w = Unit {0}
 NewData u (commands.Destroy n) w = Unit {0}
 NewData u (commands.Lost n ps) w = Unit {0}
 NewData u (commands.Advance n p) w = Unit {0}
+NewData u (commands.Patch n first sectors) w = Unit {0}
 NewData u (commands.Adopt n ps) w = (b : Member) → source_in (seen_of u) ps ≡ Some b → (i : ℕ)
     → i < data_of b.metadata → w.holds n i ≡ u.shelf b.provider i
 
@@ -71,7 +72,8 @@ pub record Step (u : World) (key : List ℕ) (c : Command) (w : World) (r : Repl
   pub answered : w.answered ≡ answer u key c r ∷ u.answered
   pub sizes : (q : List ℕ) → w.size q ≡ u.size q
   pub there : (q : List ℕ) → w.there q ≡ u.there q
-  pub holds : (m : Mirror) → Has u.state.mirrors m → (i : ℕ) → w.holds m.name i ≡ u.holds m.name i
+  pub holds : (m : Mirror) → Has u.state.mirrors m → (i : ℕ)
+      → w.holds m.name i ≡ laid_over c m.name (u.holds m.name) i
   pub new : NewData u c w
   pub held : (m : Mirror) (k : Component) → IsOf w.state m k
       → Below w.shelf (w.holds m.name) k.provider (held_by k.disk m.data_sectors)
@@ -103,19 +105,19 @@ WereBare _ u w = Unit {0}
 abbrev pub IsOwn : Records → Command → List ℕ → Type 0
 IsOwn s c p = (k : Component) × Has (members_named s c) k × (k.provider ≡ p)
 
--- The intents ts carry out the command's step from u to w: they name every sector that it changes
--- and say what w holds there, no source of a copy is a place, data come before claims, and what was
--- claimed on the way stays true. A registry that keeps them can be read again, what they read and
--- write is there, they write metadata of the command's mirror alone, and what they copy is the data
--- of the mirror.
+-- The intents ts, with these sectors to lay over data, carry out the command's step from u to w:
+-- they name every sector that it changes and say what w holds there, no source of a copy is a
+-- place, data come before claims, and what was claimed on the way stays true. A registry that keeps
+-- them can be read again, what they read and write is there, they write metadata of the command's
+-- mirror alone, and what they copy is the data of the mirror.
 pub record Plan (u : World) (key : List ℕ) (c : Command) (ts : List Intent)
-    (w : World) : Type 0 where
+    (bytes : List (List ℕ)) (w : World) : Type 0 where
   pub step : Step u key c w (reply_to c u.state)
   pub sound : Sound w
-  pub redo : IsRedo w.state u.size ts u.shelf w.shelf
+  pub redo : IsRedo w.state bytes u.size ts u.shelf w.shelf
   pub order : InOrder u.size ts
   pub claims : Claims u w w.shelf
-  pub readable : AreReadable w.state ts
+  pub readable : AreReadable w.state bytes ts
   pub at_hand : (t : Intent) → Has ts t → IsAtHand (present u) t
   pub own : (p : List ℕ) → Has ts (Meta p) → IsOwn w.state c p
   pub copies : CopiesData u w ts
@@ -123,4 +125,4 @@ pub record Plan (u : World) (key : List ℕ) (c : Command) (ts : List Intent)
 
 -- there is a world that the command steps to, and its intents carry that out
 abbrev pub HasPlan : World → List ℕ → Command → Type 0
-HasPlan u key c = (w : World) × Plan u key c (intents_of c u.state w.state) w
+HasPlan u key c = (w : World) × Plan u key c (intents_of c u.state w.state) (bytes_of c) w

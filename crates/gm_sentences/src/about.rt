@@ -69,7 +69,9 @@ impl About {
             | Command::Activate { name, provider }
             | Command::Rebuild { name, provider }
             | Command::Advance { name, provider } => both(*name, Image::Named(*provider)),
-            Command::Forget { name } | Command::Destroy { name } => both(*name, Image::Unnamed),
+            Command::Forget { name } | Command::Destroy { name } | Command::Patch { name, .. } => {
+                both(*name, Image::Unnamed)
+            }
             Command::Configure { name, settings } => match settings.preference {
                 Some(preference) => both(*name, Image::Named(preference.provider)),
                 None => both(*name, Image::Unnamed),

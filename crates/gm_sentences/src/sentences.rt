@@ -32,6 +32,8 @@ fn refusal_sentence(why: Refusal) -> &'static str {
             "these images don't tell of one mirror MIRROR; taste says what they tell",
         Refusal::WrongSize => "IMAGE has fewer than 2 or more than 1,048,576 sectors",
         Refusal::NoMetadata => "IMAGE carries no metadata",
+        Refusal::BeingFilled => "a component of MIRROR is SYNCHRONIZING or STALE; sync fills it",
+        Refusal::BeyondEnd => "the data of MIRROR end before the last of these sectors",
     }
 }
 

@@ -22,7 +22,7 @@ module _ (s : Records) where
       of.component in
       (it.0, same_is k.mirror m.name it.1)
 
-  member_from : (m : Mirror) (k : Component) → Has s.mirrors m → Has s.components k
+  pub member_from : (m : Mirror) (k : Component) → Has s.mirrors m → Has s.components k
       → k.mirror ≡ m.name → IsOf s m k
   member_from m k has_m has_k is =
       record {
@@ -37,23 +37,27 @@ module _ (s : Records) where
       let it = found (λ (j : Component). same_label j.provider p) s.components k is in
       (it.0, same_is k.provider p it.1)
 
+  -- a component and its mirror are found by their names
+  module _ (state : IsState s) (m : Mirror) (k : Component) (of : IsOf s m k) where
+    pub component_found : (p : List ℕ) → k.provider ≡ p → component_of s p ≡ Some k
+    component_found p on = subst (λ q. component_of s q ≡ Some k) on
+        (find_one provider s.components state.components_in_order k (member_is m k of).0)
+
+    pub home_found : mirror_of s k.mirror ≡ Some m
+    home_found = subst (λ n. mirror_of s n ≡ Some m) (sym (member_is m k of).1)
+        (find_one name s.mirrors state.mirrors_in_order m of.mirror)
+
   -- what a copy needs is found
   module _ (state : IsState s) (source target : List ℕ) (first end : ℕ)
       (w : IsCopyWithin s source target first end) where
     pub source_found : component_of s source ≡ Some w.from
-    source_found = subst (λ p. component_of s p ≡ Some w.from) w.source_is
-        (find_one provider s.components state.components_in_order w.from
-        (member_is w.mirror w.from w.from_is).0)
+    source_found = component_found state w.mirror w.from w.from_is source w.source_is
 
     pub target_found : component_of s target ≡ Some w.to
-    target_found = subst (λ p. component_of s p ≡ Some w.to) w.target_is
-        (find_one provider s.components state.components_in_order w.to
-        (member_is w.mirror w.to w.to_is).0)
+    target_found = component_found state w.mirror w.to w.to_is target w.target_is
 
     pub mirror_found : mirror_of s w.to.mirror ≡ Some w.mirror
-    mirror_found =
-        subst (λ n. mirror_of s n ≡ Some w.mirror) (sym (member_is w.mirror w.to w.to_is).1)
-        (find_one name s.mirrors state.mirrors_in_order w.mirror w.to_is.mirror)
+    mirror_found = home_found state w.mirror w.to w.to_is
 
     pub no_source : component_of s source ≡ None → ⊥
     no_source none = let e : Some w.from ≡ None = sym source_found ∙ none in cc

@@ -13,8 +13,8 @@ use Rattle.gm_metadata.proofs.Numbers.{front_of_front}
 use Rattle.gm_metadata.proofs.Read.{before_hash, read_once}
 use Rattle.gm_state.specs.declared.records.Mirror.{Mirror}
 use Rattle.gm_state.specs.declared.records.Component.{Component}
-use Rattle.gm_state.specs.Intents.{IsOf}
-use Rattle.gm_state.specs.Lookups.{metadata, held_of}
+use Rattle.gm_state.specs.Intents.{IsOf, IsDirt}
+use Rattle.gm_state.specs.Lookups.{metadata, with_dirty, held_of}
 use Rattle.gm_state.specs.Records.{Records, IsState, IsMirror, members}
 
 provider_fits : (h : Bool) (p : List ℕ) → IsTrue (is_label p)
@@ -49,16 +49,45 @@ metadata_fits s m k state of =
       provsize_ok = omega arith;
     }
 
+-- metadata fit a sector with DIRTY as well
+dirty_fits : (d : Metadata) → IsMetadata d → IsMetadata (with_dirty d)
+dirty_fits d fits = record {
+  name_ok = fits.name_ok;
+  mid_ok = fits.mid_ok;
+  did_ok = fits.did_ok;
+  all_ok = fits.all_ok;
+  genid_ok = fits.genid_ok;
+  syncid_ok = fits.syncid_ok;
+  priority_ok = fits.priority_ok;
+  slice_ok = fits.slice_ok;
+  mediasize_ok = fits.mediasize_ok;
+  sync_offset_ok = fits.sync_offset_ok;
+  provider_ok = fits.provider_ok;
+  provsize_ok = fits.provsize_ok;
+}
+
+-- an encoded sector bears its metadata alone
+bears_own : (e : Metadata) → IsMetadata e → (x : List ℕ) → x ≡ encoded e → (d : Metadata)
+    → IsMetadata d → Bears x d → d ≡ e
+bears_own e fits x is d ok bears =
+    let n = length-encoded e (named e fits) in
+    let own : BearsIn Four x e =
+    subst (λ (y : List ℕ). BearsIn Four y e) (sym is) (encoded_is_full e (named e fits)).bears in
+    (read_once x d e bears.0 Four (ap length is ∙ n) ok fits bears.1 own).0
+
 -- the last sector of a component bears its metadata alone
 pub bears_one : (s : Records) (m : Mirror) (k : Component) → IsState s → IsOf s m k → (x : List ℕ)
     → x ≡ encoded (metadata m k) → (d : Metadata) → IsMetadata d → Bears x d → d ≡ metadata m k
-bears_one s m k state of x is d ok bears =
-    let fits : IsMetadata (metadata m k) = metadata_fits s m k state of in
-    let n = length-encoded (metadata m k) (named (metadata m k) fits) in
-    let own : BearsIn Four x (metadata m k) =
-    subst (λ (y : List ℕ). BearsIn Four y (metadata m k)) (sym is)
-    (encoded_is_full (metadata m k) (named (metadata m k) fits)).bears in
-    (read_once x d (metadata m k) bears.0 Four (ap length is ∙ n) ok fits bears.1 own).0
+bears_one s m k state of = bears_own (metadata m k) (metadata_fits s m k state of)
+
+-- and with DIRTY those that say DIRTY
+pub dirt_bears_dirty : (s : Records) (p : List ℕ) (x : List ℕ) → IsState s → IsDirt s p x
+    → (d : Metadata) → IsMetadata d → Bears x d → d.dflags.dirty ≡ true
+dirt_bears_dirty s p x state dirt d ok bears =
+    let own : Metadata = metadata dirt.0 dirt.1 in
+    let is : d ≡ with_dirty own = bears_own (with_dirty own)
+    (dirty_fits own (metadata_fits s dirt.0 dirt.1 state dirt.2)) x dirt.4 d ok bears in
+    ap (λ (e : Metadata). e.dflags.dirty) is
 
 -- what bears metadata carries them
 pub bears_carries : (x : List ℕ) (d : Metadata) → Bears x d → carries x ≡ true

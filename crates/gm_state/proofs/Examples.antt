@@ -94,6 +94,7 @@ example_rows = record {
     commands = IsPermutation-refl example_tables.commands;
   };
   intents = refl;
+  patches = refl;
 }
 
 pub short_not : AreRows example short_tables → ⊥

@@ -3,8 +3,10 @@ pub mod EncodedSectors
 pub mod Examples
 pub mod FoundSource
 pub mod MadeState
+pub mod PatchFound
 pub mod Places
 pub mod Presence
+pub mod ReadableIntents
 pub mod SameRows
 pub mod SoundClaims
 pub mod Suffixes

@@ -1,33 +1,11 @@
 -- What holds of a list, told from what is left of it.
 use Rattle.std.proofs.Common.{◌≡◌, ◌∙◌, inl, inr, ⊎_elim, ℕ, zero, suc, ◌+◌, ◌<◌, ◌≤◌, List, [], ◌∷◌, drop, length, get_or, refl, sym, ap, subst, add-one, drop-cons, arith}
-use Rattle.gm_state.specs.declared.intents.Intent.{Intent}
-use Rattle.gm_state.specs.declared.intents.Intent.TheVariants.{Meta, Clear, Copy}
 use Rattle.gm_lists.specs.Ordered.{Has}
-use Rattle.gm_state.specs.Readable.{AreOrdered}
-use Rattle.gm_state.specs.Readable.{IsBefore}
 
 -- the first of what is left
 pub next_is : {A : Type 0} (xs : List A) (i : ℕ) (x : A) → i < length xs → x ≡ get_or xs i x
     → drop i xs ≡ x ∷ drop (i + 1) xs
 next_is xs i x low is = rw add-one (drop-cons xs i x low ∙ ap (λ y. y ∷ drop (suc i) xs) (sym is))
-
--- ---- the order of intents
-
-pub ordered_from : (t : Intent) (ts : List Intent) → IsBefore t ts → AreOrdered ts
-    → AreOrdered (t ∷ ts)
-ordered_from (Meta p) ts b rest = (b, rest)
-ordered_from (Clear p) ts b rest = rest
-ordered_from (Copy source target first end) ts b rest = (b, rest)
-
-pub ordered_first : (t : Intent) (ts : List Intent) → AreOrdered (t ∷ ts) → IsBefore t ts
-ordered_first (Meta p) ts all = all.0
-ordered_first (Clear p) ts all = tt
-ordered_first (Copy source target first end) ts all = all.0
-
-pub ordered_rest : (t : Intent) (ts : List Intent) → AreOrdered (t ∷ ts) → AreOrdered ts
-ordered_rest (Meta p) ts all = all.1
-ordered_rest (Clear p) ts all = all
-ordered_rest (Copy source target first end) ts all = all.1
 
 -- ---- each of a list
 

@@ -183,6 +183,7 @@ example_tables = record {
     copied = 0;
     of_total = 0;
   } ∷ [];
+  patches = [];
 }
 
 -- the same without the row of b.img, and the same with a row of an intent

@@ -1,5 +1,5 @@
 -- What is found in the records.
-use Rattle.std.specs.Prelude.{◌*◌, List, ℕ, Option, Some, None, find, option_map, option_and_then, if◌then◌else◌}
+use Rattle.std.specs.Prelude.{◌*◌, List, ℕ, true, Option, Some, None, find, option_map, option_and_then, if◌then◌else◌}
 use Rattle.gm_metadata.specs.Images.{same_label}
 use Rattle.gm_metadata.specs.declared.metadata.Metadata.{Metadata}
 use Rattle.gm_state.specs.declared.records.Mirror.{Mirror}
@@ -35,6 +35,14 @@ metadata m k = record {
   provsize = 512 * k.sectors;
 }
 
+-- metadata with DIRTY set beside their other flags
+abbrev pub with_dirty : Metadata → Metadata
+with_dirty d = record d { dflags = record d.dflags { dirty = true } }
+
+-- what the last sector of a component says while its data change
+abbrev pub dirty_metadata : Mirror → Component → Metadata
+dirty_metadata m k = with_dirty (metadata m k)
+
 -- what is said of a component and its mirror, where the provider is a component
 abbrev pub at_component : {X : Type 0} → Records → List ℕ → (Mirror → Component → X) → Option X
 at_component s provider f =
@@ -43,3 +51,7 @@ at_component s provider f =
 -- the metadata of the component on this provider
 abbrev pub metadata_of : Records → List ℕ → Option Metadata
 metadata_of s provider = at_component s provider metadata
+
+-- the same with DIRTY
+abbrev pub dirty_metadata_of : Records → List ℕ → Option Metadata
+dirty_metadata_of s provider = at_component s provider dirty_metadata

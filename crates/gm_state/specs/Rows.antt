@@ -4,13 +4,14 @@ use Rattle.std.specs.List.Sorted.{IsPermutation}
 use Rattle.gm_metadata.specs.Balance.{balance_code}
 use Rattle.gm_metadata.specs.Flags.{mirror_bits, disk_bits}
 use Rattle.gm_state.specs.declared.intents.Intent.{Intent}
-use Rattle.gm_state.specs.declared.intents.Intent.TheVariants.{Meta, Clear, Copy}
+use Rattle.gm_state.specs.declared.intents.Intent.TheVariants.{Meta, Clear, Copy, Dirty, Patch}
 use Rattle.gm_state.specs.declared.intents.Reply.{Reply}
 use Rattle.gm_state.specs.declared.intents.Reply.TheVariants.{Plain, Copied}
 use Rattle.gm_state.specs.declared.records.Mirror.{Mirror}
 use Rattle.gm_state.specs.declared.records.Component.{Component}
 use Rattle.gm_state.specs.Lookups.{disk_flags, held_of}
 use Rattle.gm_commands.specs.Commands.{words_of}
+pub use Rattle.gm_commands.specs.Sectors.{joined}
 use Rattle.gm_state.specs.World.{World, Answered}
 
 pub record MirrorRow : Type 0 where
@@ -50,12 +51,13 @@ pub record CommandRow : Type 0 where
   pub copied : ℕ
   pub of_total : ℕ
 
--- what the four tables hold
+-- what the five tables hold; of `patches` the bytes of each record
 pub record Tables : Type 0 where
   pub mirrors : List MirrorRow
   pub components : List ComponentRow
   pub intents : List IntentRow
   pub commands : List CommandRow
+  pub patches : List (List ℕ)
 
 -- sizes are bytes, balance and flags are numbers
 abbrev pub mirror_row : Mirror → MirrorRow
@@ -84,7 +86,8 @@ component_row k = record {
   provsize = 512 * k.sectors;
 }
 
--- kind 1 is Meta, 2 Clear, 3 Copy; only a copy has a source and sectors
+-- kind 1 is Meta, 2 Clear, 3 Copy, 4 Dirty, 5 Patch; only a Copy has a source, and a Copy and a
+-- Patch sectors
 abbrev pub intent_row : ℕ → Intent → IntentRow
 intent_row n (Meta p) = record {
   ord = n;
@@ -104,11 +107,26 @@ intent_row n (Clear p) = record {
 }
 intent_row n (Copy from to first end) =
     record { ord = n; kind = 3; prov = to; source = from; first_sector = first; end_sector = end }
+intent_row n (Dirty p) = record {
+  ord = n;
+  kind = 4;
+  prov = p;
+  source = [];
+  first_sector = 0;
+  end_sector = 0;
+}
+intent_row n (Patch p first end) =
+    record { ord = n; kind = 5; prov = p; source = []; first_sector = first; end_sector = end }
 
 -- the rows of intents, which count from n
 abbrev pub intent_rows : ℕ → List Intent → List IntentRow
 intent_rows n [] = []
 intent_rows n (t ∷ ts) = intent_row n t ∷ intent_rows (n + 1) ts
+
+-- the bytes that are to be laid, in one record; none where there are none
+abbrev pub patch_rows : List (List ℕ) → List (List ℕ)
+patch_rows [] = []
+patch_rows (sector ∷ more) = joined (sector ∷ more) ∷ []
 
 abbrev pub copied_of : Reply → ℕ
 copied_of Plain = 0
@@ -128,14 +146,15 @@ answer_row a = record {
   of_total = total_of a.reply;
 }
 
--- Beside intents, the tables hold one row for each mirror, component and answered key of the world,
--- in some order.
+-- Beside intents and bytes, the tables hold one row for each mirror, component and answered key of
+-- the world, in some order.
 pub record HoldRecords (w : World) (t : Tables) : Type 0 where
   pub mirrors : IsPermutation (map mirror_row w.state.mirrors) t.mirrors
   pub components : IsPermutation (map component_row w.state.components) t.components
   pub commands : IsPermutation (map answer_row w.answered) t.commands
 
--- The tables hold the rows of the world, and no intent.
+-- The tables hold the rows of the world, no intent and no bytes to be laid.
 pub record AreRows (w : World) (t : Tables) : Type 0 where
   pub records : HoldRecords w t
   pub intents : t.intents ≡ []
+  pub patches : t.patches ≡ []

@@ -2,12 +2,12 @@
 
 ghost use Rattle.std.specs.Prelude.{◌≡◌};
 ghost use Rattle.gm_state.specs.Records.{IsState};
-ghost use Rattle.gm_state.specs.Lookups.{metadata, metadata_of};
+ghost use Rattle.gm_state.specs.Lookups.{metadata, metadata_of, with_dirty, dirty_metadata_of};
 
 use crate::records::{Component, Mirror};
 use crate::sizes::bytes_of;
 use crate::state::State;
-use gm_metadata::{Label, Metadata};
+use gm_metadata::{DiskFlags, Label, Metadata};
 
 /// What the last sector of a component of the mirror says.
 pub fn metadata(mirror: &Mirror, component: &Component) -> Metadata
@@ -40,4 +40,28 @@ pub fn metadata_of(state: &State, provider: Label) -> Option<Metadata>
     let component = state.component(provider)?;
     let mirror = state.mirror(component.mirror)?;
     Some(metadata(&mirror, &component))
+}
+
+/// The metadata with DIRTY set beside their other flags.
+fn with_dirty(metadata: &Metadata) -> Metadata
+    ensures { result ≡ with_dirty metadata.now }
+{
+    Metadata {
+        dflags: DiskFlags {
+            dirty: true,
+            ..metadata.dflags
+        },
+        ..*metadata
+    }
+}
+
+/// The metadata of a component with DIRTY, which its last sector says while its data change; `None`
+/// where the provider is no component.
+pub fn dirty_metadata_of(state: &State, provider: Label) -> Option<Metadata>
+    ensures value { result ≡ dirty_metadata_of state.now provider }
+    ensures state { IsState state.now }
+{
+    let component = state.component(provider)?;
+    let mirror = state.mirror(component.mirror)?;
+    Some(with_dirty(&metadata(&mirror, &component)))
 }

@@ -20,6 +20,16 @@ pub enum Intent {
         first: u32,
         end: u32,
     },
+    /// The provider's metadata with DIRTY set into its last sector.
+    Dirty {
+        provider: Label,
+    },
+    /// The pending bytes over the provider's sectors first to end - 1.
+    Patch {
+        provider: Label,
+        first: u32,
+        end: u32,
+    },
 }
 
 /// What a command answers beside its number.

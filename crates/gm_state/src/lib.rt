@@ -19,11 +19,11 @@ mod sizes;
 mod state;
 mod states;
 
-pub use component_metadata::{metadata, metadata_of};
+pub use component_metadata::{dirty_metadata_of, metadata, metadata_of};
 pub use copy_source::source;
 pub use gm_commands::{
-    BalanceWord, Command, NewComponent, NewMirror, Preference, Providers, Settings, Slice, is_key,
-    words_of,
+    BalanceWord, Command, NewComponent, NewMirror, Preference, Providers, Sectors, Settings, Slice,
+    is_key, words_of,
 };
 pub use intents::{Intent, Reply};
 pub use laws::{metadata_fits, one_reply, one_row, one_state, sound_claims, sound_data};

@@ -13,7 +13,8 @@ pub struct Mirror {
     pub all: u8,
     /// Counts the times that components were lost.
     pub genid: u32,
-    /// Counts the times that components were left behind.
+    /// Counts the times that a component was taken out of use, or the data were changed: one that
+    /// was left behind has a smaller one.
     pub syncid: u32,
     /// Requests from this size on are split (bytes).
     pub slice: u32,

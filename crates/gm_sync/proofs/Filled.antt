@@ -72,10 +72,10 @@ module _ {S H : Type 0} (g : StoreGhosts S) (h : ShelfGhosts H) where
 
   -- at rest the tables are those of the world's records
   pub tables_at_rest : (b : Bench S H) (away : Image) (w : World)
-      (at : IsAt g h.view h.size (registry_of b) (shelf_of b) away [] w w)
-      → IsLawful (h.view (shelf_of b)) → AreTablesOf at.tables w.state []
+      (at : IsAt g h.view h.size (registry_of b) (shelf_of b) away [] [] w w)
+      → IsLawful (h.view (shelf_of b)) → AreTablesOf at.tables w.state [] []
   tables_at_rest b away w at lawful =
-      tables_of at.tables [] _ w (at.leads (h.view (shelf_of b)).seen lawful.holds_now).0
+      tables_of at.tables [] [] _ w (at.leads (h.view (shelf_of b)).seen lawful.holds_now).0
 
   -- looks in turn
   pub look_then : (a b c : Bench S H)
@@ -144,7 +144,7 @@ module _ {S H : Type 0} (g : StoreGhosts S) (h : ShelfGhosts H) (Fit : Command �
       run = refl;
       fill = λ call has. absurd has;
       at = looked_at g h.view h.size (registry_of a) (registry_of b) (shelf_of a) (shelf_of b)
-          away [] u u (does honest kept) at;
+          away [] [] u u (does honest kept) at;
     };
   }
 
@@ -165,7 +165,7 @@ module _ {S H : Type 0} (g : StoreGhosts S) (h : ShelfGhosts H) (Fit : Command �
     run = filled.run;
     fill = filled.fill;
     at = looked_at g h.view h.size (registry_of b) (registry_of c) (shelf_of b) (shelf_of c) away []
-        filled.world filled.world does filled.at;
+        [] filled.world filled.world does filled.at;
   }
 
   one_fills : (c : Call) → Fit c.command → (call : Call) → Has (c ∷ []) call
@@ -233,9 +233,9 @@ module _ {S H : Type 0} (g : StoreGhosts S) (h : ShelfGhosts H) (a b c : Bench S
         whole.world (first.shelf.honest honest) kept away u (behind honest kept away u at);
   } where
     behind : h.honest (shelf_of a) → DiskKept g (registry_of c) → (away : Image) (u : World)
-        → IsAt g h.view h.size (registry_of a) (shelf_of a) away [] u u
-        → IsAt g h.view h.size (registry_of b) (shelf_of b) away [] u u
+        → IsAt g h.view h.size (registry_of a) (shelf_of a) away [] [] u u
+        → IsAt g h.view h.size (registry_of b) (shelf_of b) away [] [] u u
     behind honest kept away u at =
         let mid : DiskKept g (registry_of b) = omega (arith, then.clean, kept) in
-        looked_at g h.view h.size (registry_of a) (registry_of b) (shelf_of a) (shelf_of b) away []
-        u u (does honest mid) at
+        looked_at g h.view h.size (registry_of a) (registry_of b) (shelf_of a) (shelf_of b) away
+        [] [] u u (does honest mid) at

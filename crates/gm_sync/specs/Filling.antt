@@ -44,14 +44,14 @@ module _ {S H : Type 0} (g : StoreGhosts S) (h : ShelfGhosts H) (Fit : Command �
     pub world : World
     pub run : Run u calls world answers
     pub fill : (call : Call) → Has calls call → Fit call.command
-    pub at : IsAt g h.view h.size (registry_of b) (shelf_of b) away [] world world
+    pub at : IsAt g h.view h.size (registry_of b) (shelf_of b) away [] [] world world
 
   -- A call that fills: both media are kept, and of an honest shelf and a disk that keeps what is
   -- written it does nothing but run commands that fit, from rest to rest.
   pub record Fills (old new : Bench S H) : Type 0 where
     pub keep : Keep g h (registry_of old) (registry_of new) (shelf_of old) (shelf_of new)
     pub does : h.honest (shelf_of old) → DiskKept g (registry_of new) → (away : Image) (u : World)
-        → IsAt g h.view h.size (registry_of old) (shelf_of old) away [] u u
+        → IsAt g h.view h.size (registry_of old) (shelf_of old) away [] [] u u
         → IsFilledFrom new away u
 
 -- The records are those that the registry held when it was looked at last; where the bench was at
@@ -61,17 +61,17 @@ pub record AreLastSeen {S H : Type 0} (g : StoreGhosts S) (h : ShelfGhosts H) (o
   pub seen : Held S
   pub looked : Reads g seen (registry_of new)
   pub has : h.honest (shelf_of old) → DiskKept g (registry_of new) → (away : Image) (u : World)
-      → IsAt g h.view h.size (registry_of old) (shelf_of old) away [] u u
+      → IsAt g h.view h.size (registry_of old) (shelf_of old) away [] [] u u
       → (t : Tables) × HasTables g seen t
   pub are : DiskKept g (registry_of new) → (t : Tables) (r : Records) (ts : List Intent)
-      → HasTables g seen t → AreTablesOf t r ts → state ≡ r
+      → (bytes : List (List ℕ)) → HasTables g seen t → AreTablesOf t r ts bytes → state ≡ r
 
 -- from rest the bench was filled, as far as is meant, to rest in a world of these records
 abbrev pub IsFilledTo : {S H : Type 0} → StoreGhosts S → ShelfGhosts H → Bench S H → Bench S H
     → Scope → Records → Type 0
 IsFilledTo g h old new scope state =
     h.honest (shelf_of old) → DiskKept g (registry_of new) → (away : Image) (u : World)
-    → IsAt g h.view h.size (registry_of old) (shelf_of old) away [] u u
+    → IsAt g h.view h.size (registry_of old) (shelf_of old) away [] [] u u
     → (filled : IsFilledFrom g h (IsAdvanceIn scope) new away u) × (state ≡ filled.world.state)
 
 -- Nothing that is meant is left to be filled, by the records that the registry held at last. From
@@ -98,8 +98,8 @@ pub record IsAmiss (scope : Scope) (s : Records) (size : Sizes) (seen : Image)
 -- these are amiss by what the registry and the shelf of a bench hold, and nothing is changed
 pub record IsAmissOver {S H : Type 0} (g : StoreGhosts S) (h : ShelfGhosts H) (old new : Bench S H)
     (scope : Scope) (names : List (List ℕ)) : Type 0 where
-  pub are : (t : Tables) (s : Records) (ts : List Intent) → HasTables g (registry_of old) t
-      → AreTablesOf t s ts
+  pub are : (t : Tables) (s : Records) (ts : List Intent) (bytes : List (List ℕ))
+      → HasTables g (registry_of old) t → AreTablesOf t s ts bytes
       → IsAmiss scope s (h.size (shelf_of old)) (h.view (shelf_of old)).seen names
   pub looked : LookDoes g h.view h.size (registry_of old) (registry_of new) (shelf_of old)
       (shelf_of new)

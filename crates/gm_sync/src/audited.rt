@@ -1,6 +1,6 @@
 //! An audit of the mirrors that are meant, and then the filling of what is SYNCHRONIZING.
 
-ghost use Rattle.std.specs.Prelude.{◌≡◌, true, List, IfOk, OnOk};
+ghost use Rattle.std.specs.Prelude.{◌≡◌, ℕ, true, List, IfOk, OnOk};
 ghost use Rattle.gm_state.specs.declared.intents.Intent.{Intent};
 ghost use Rattle.gm_state.specs.Records.{Records};
 ghost use Rattle.gm_state.specs.Rows.{Tables};
@@ -42,8 +42,8 @@ pub fn sync<S: Alter, H: Shelf, P: Progress>(
     // Nothing is filled but where the images are as they are registered.
     ensures audited { audits ≡ true → H.honest (shelf_of bench.old)
         → DiskKept S.Store (registry_of bench.new) → IfOk result (UnlessAmiss
-        ((t : Tables) (s : Records) (ts : List Intent)
-        → HasTables S.Store (registry_of bench.old) t → AreTablesOf t s ts
+        ((t : Tables) (s : Records) (ts : List Intent) (bytes : List (List ℕ))
+        → HasTables S.Store (registry_of bench.old) t → AreTablesOf t s ts bytes
         → AreAsRegistered scope.now s (H.size (shelf_of bench.old))
         (H.view (shelf_of bench.old)).seen)) }
     ensures amiss { H.honest (shelf_of bench.old) → DiskKept S.Store (registry_of bench.new)

@@ -1,7 +1,7 @@
 //! The calls of a bench as tests make them, and what a last sector is expected to say.
 
 use gm_bench::{Answer, Bench, BenchFault, OpenFault, Phase, Scrubbed, Watch};
-use gm_commands::Command;
+use gm_commands::{Command, Sectors};
 use gm_metadata::{Balance, DiskFlags, Label, Metadata, MirrorFlags, encode};
 use gm_shelf::Shelf;
 use gm_state::{Reply, State};
@@ -54,8 +54,37 @@ pub struct Asked {
     pub was_done: bool,
 }
 
-// The command that these words spell.
+/// The number that a text of a few digits says.
+pub fn number(text: &str) -> u32 {
+    let mut number: u32 = 0;
+    for digit in text.as_bytes() {
+        let value = u32::from(digit.wrapping_sub(b'0'));
+        number = number.wrapping_mul(10).wrapping_add(value);
+    }
+    number
+}
+
+// A patch: from which sector on, the byte that each of its sectors has throughout, with commas
+// between them, and the mirror.
+fn patch(alloc: Global, said: &str) -> Result<Command, Fail> {
+    let mut pieces = said.split(' ');
+    let first = number(pieces.next().ok_or("no first sector")?);
+    let mut sectors = Vec::new(alloc);
+    for byte in pieces.next().ok_or("no bytes")?.split(',') {
+        sectors.push([(number(byte) % 256) as u8; 512])?;
+    }
+    Ok(Command::Patch {
+        name: label(pieces.next().ok_or("no mirror")?)?,
+        first,
+        data: Sectors::new(sectors).ok_or("no sectors")?,
+    })
+}
+
+// The command that these words spell. A patch is said shorter, as `patch FIRST BYTES MIRROR`.
 fn command(alloc: Global, words: &str) -> Result<Command, Fail> {
+    if let Some(said) = words.strip_prefix("patch ") {
+        return patch(alloc, said);
+    }
     let mut pieces = Vec::new(alloc);
     for piece in words.split(' ') {
         pieces.push(piece)?;

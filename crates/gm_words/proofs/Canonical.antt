@@ -1,5 +1,5 @@
 -- The canonical words of a command spell it, and so do they with `--` before the names.
-use Rattle.std.proofs.Common.{◌≡◌, ◌∙◌, ◌<◌, ◌^◌, Bool, true, false, not, refl, ap, arith, List, [], ◌∷◌, ◌++◌, map, Some}
+use Rattle.std.proofs.Common.{◌≡◌, ◌∙◌, ◌<◌, ◌^◌, ℕ, Bool, true, false, not, refl, ap, arith, List, [], ◌∷◌, ◌++◌, map, Some}
 use Rattle.std.specs.Prelude.{⊤, codes, option_map}
 use Rattle.std.specs.Fmt.{decimal}
 use Rattle.clap.proofs.OnLiterals.{clap_on_literals}
@@ -10,13 +10,16 @@ use Rattle.gm_metadata.specs.Labels.{is_label}
 use Rattle.gm_commands.specs.declared.command.NewComponent.{NewComponent}
 use Rattle.gm_commands.specs.declared.command.NewMirror.{NewMirror}
 use Rattle.gm_commands.specs.declared.command.Command.{Command}
-use Rattle.gm_commands.specs.declared.command.Command.TheVariants.{Label, Insert, Remove, Deactivate, Activate, Forget, Rebuild, Configure, Clear, Destroy, Lost, Advance, Adopt}
+use Rattle.gm_commands.specs.declared.command.Command.TheVariants.{Label, Insert, Remove, Deactivate, Activate, Forget, Rebuild, Configure, Clear, Destroy, Lost, Advance, Adopt, Patch}
+use Rattle.gm_commands.specs.Sectors.{joined}
+use Rattle.hex.specs.Hex.{encode_lower}
 use Rattle.gm_commands.specs.Commands.{CommandFits, balance_of_word, on_where, words}
-use Rattle.gm_words.specs.Spelling.{HasNoFlags, IsNoFlag, command_of, guarded_words, insert_of, label_at, label_of, named_of, of_component, of_mirror, of_provider, spelled}
-use Rattle.gm_words.specs.Table.{insert, label, name, names, on_component, on_mirror, on_provider, optional, possible, wanted}
+use Rattle.gm_words.specs.Spelling.{HasNoFlags, IsNoFlag, command_of, guarded_words, insert_of, label_at, label_of, named_of, of_component, of_mirror, of_provider, patch_of, spelled}
+use Rattle.gm_words.specs.Table.{insert, label, name, names, on_component, on_mirror, on_provider, optional, patch, possible, wanted}
 use Rattle.gm_words.proofs.ConfigureWords.{configure_canonical, configure_guarded}
 use Rattle.gm_words.proofs.FoundCommand.{AreFound, Finds, component, found, leaf, named}
 use Rattle.gm_words.proofs.Several.{adopt_canonical, adopt_guarded, lost_canonical, lost_guarded}
+use Rattle.gm_words.proofs.ReadSectors.{digits_no_flag, sectors_read}
 use Rattle.gm_words.proofs.ReadValues.{balance_no_flag, balance_read, component_read, decimal_no_flag, flags_read, label_read, number_read, priority_read, slice_read, switch_no_flag, switch_read}
 use Rattle.gm_words.proofs.ClapWalk.{ArePlain, Has, Said, exact, plain, spelled_as, text_of}
 
@@ -35,6 +38,16 @@ has_label = record {
 pub has_insert : Has (codes "insert") (leaf insert) insert_of
 unfolding clap_on_literals name names optional possible wanted command_of named_of
 has_insert = record {
+  meets = refl;
+  passes = refl;
+  rows = λ behind. refl;
+  faults = λ behind. refl;
+  reads = λ found. refl;
+}
+
+pub has_patch : Has (codes "patch") (leaf patch) patch_of
+unfolding clap_on_literals name names optional possible wanted command_of named_of
+has_patch = record {
   meets = refl;
   passes = refl;
   rows = λ behind. refl;
@@ -340,6 +353,46 @@ module _ (new : NewComponent) (fits : CommandFits (Insert new)) where
       (options_plain insert_own names insert_values free) finds.passes
       ∙ insert_from (found insert (with_options insert_own names)) finds.are
 
+-- the options of patch, with these values
+abbrev patch_options : Text → Text → List (Text × Text)
+patch_options first digits = (codes "first", first) ∷ (codes "data", digits) ∷ []
+
+patch_finds : (first digits n : Text) (guarded : Bool) →
+    let options = patch_options first digits in
+    Finds patch (with_options options (named guarded (n ∷ []))) ((codes "name", n) ∷ options)
+unfolding clap_on_literals name wanted
+patch_finds first digits n true = record { passes = refl; are = (refl, (refl, (refl, tt))) }
+patch_finds first digits n false = record { passes = refl; are = (refl, (refl, (refl, tt))) }
+
+module _ (n : List ℕ) (first : ℕ) (sectors : List (List ℕ))
+    (fits : CommandFits (Patch n first sectors)) where
+  -- the command's own options
+  abbrev patch_own : List (Text × Text)
+  patch_own = patch_options (decimal first) (encode_lower (joined sectors))
+
+  patch_from : (rows : List Row) → AreFound rows ((codes "name", n) ∷ patch_own)
+      → patch_of rows ≡ Some (Patch n first sectors)
+  unfolding patch_of
+  patch_from rows (name_is, (first_is, (data_is, _))) =
+      rw (
+        label_read (codes "name") rows n name_is fits.0,
+        number_read (codes "first") rows first first_is fits.1,
+        sectors_read sectors fits.2 fits.3 fits.4 (codes "data") rows data_is,
+      ) refl
+
+  patch_spelled : (guarded : Bool) → let names = named guarded (n ∷ []) in
+      ArePlain names → spelled (codes "patch" ∷ map text_of (with_options patch_own names))
+      ≡ Some (Patch n first sectors)
+  patch_spelled guarded free =
+      let names = named guarded (n ∷ []) in
+      let finds = patch_finds (decimal first) (encode_lower (joined sectors)) n guarded in
+      spelled_as (codes "patch") (leaf patch) patch_of has_patch (with_options patch_own names)
+      (options_plain patch_own names (
+        decimal_no_flag first fits.1,
+        (digits_no_flag sectors fits.2, tt),
+      ) free) finds.passes
+      ∙ patch_from (found patch (with_options patch_own names)) finds.are
+
 -- ---- the law
 
 pub canonical : (c : Command) → CommandFits c → HasNoFlags c → spelled (words c) ≡ Some c
@@ -361,6 +414,8 @@ canonical (Lost n ps) fits free = lost_canonical n ps fits free
 canonical (Advance n p) fits free =
     component_spelled Advance has_advance n p fits false (free.0, (free.1, tt))
 canonical (Adopt n ps) fits free = adopt_canonical n ps fits free
+canonical (Patch n first sectors) fits free =
+    patch_spelled n first sectors fits false (free, tt)
 
 pub guarded : (c : Command) → CommandFits c → spelled (guarded_words c) ≡ Some c
 guarded (Label new) fits = label_spelled new fits true (tt, (tt, (tt, tt)))
@@ -380,3 +435,4 @@ guarded (Lost n ps) fits = lost_guarded n ps fits
 guarded (Advance n p) fits =
     component_spelled Advance has_advance n p fits true (tt, (tt, (tt, tt)))
 guarded (Adopt n ps) fits = adopt_guarded n ps fits
+guarded (Patch n first sectors) fits = patch_spelled n first sectors fits true (tt, (tt, tt))

@@ -9,5 +9,6 @@ pub mod FoundCommand
 pub mod GrownText
 pub mod JoinedNames
 pub mod ParsedTable
+pub mod ReadSectors
 pub mod ReadValues
 pub mod Folding

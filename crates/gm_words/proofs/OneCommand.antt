@@ -15,8 +15,8 @@ use Rattle.gm_words.specs.Alike.{ReadsAlike}
 use Rattle.gm_words.specs.Kinds.{command_of_kind}
 use Rattle.gm_words.specs.Table.{commands, name, names, optional, possible, table, wanted}
 use Rattle.gm_words.specs.declared.clap_table.Kind.{Kind}
-use Rattle.gm_words.specs.declared.clap_table.Kind.TheVariants.{Label, Insert, Configure, Mirror, Provider, Component, Several}
-use Rattle.gm_words.proofs.Canonical.{has_label, has_insert, has_remove, has_deactivate, has_activate, has_forget, has_rebuild, has_advance, has_clear, has_destroy}
+use Rattle.gm_words.specs.declared.clap_table.Kind.TheVariants.{Label, Insert, Configure, Patch, Mirror, Provider, Component, Several}
+use Rattle.gm_words.proofs.Canonical.{has_label, has_insert, has_remove, has_deactivate, has_activate, has_forget, has_rebuild, has_advance, has_clear, has_destroy, has_patch}
 use Rattle.gm_words.proofs.ConfigureWords.{has_configure}
 use Rattle.gm_words.proofs.ParsedTable.{table_is_free}
 use Rattle.gm_words.proofs.Several.{has_lost, has_adopt}
@@ -129,6 +129,13 @@ alike_adopt =
     alike _ Several _ refl
     (record { meets = refl; passes = refl; rows = λ behind. refl; faults = λ behind. refl })
     (in_table _ _ _ has_adopt)
+
+pub alike_patch : IsAlike (codes "patch") Patch
+unfolding clap_on_literals name names optional possible wanted
+alike_patch =
+    alike _ Patch _ refl
+    (record { meets = refl; passes = refl; rows = λ behind. refl; faults = λ behind. refl })
+    (in_table _ _ _ has_patch)
 
 -- ---- the command that is found in rows
 

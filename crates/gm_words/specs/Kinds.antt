@@ -3,9 +3,9 @@ use Rattle.std.specs.Prelude.{List, fold}
 use Rattle.std.specs.Borrow.{Bor}
 use Rattle.clap.specs.Walk.{Rule, Text}
 use Rattle.clap.specs.Simple.{App, on_top, with_rule, with_subcommand}
-use Rattle.gm_words.specs.Table.{configure, insert, label, name, names, on_component, on_mirror, on_provider, on_several, optional, possible, wanted}
+use Rattle.gm_words.specs.Table.{configure, insert, label, name, names, on_component, on_mirror, on_provider, on_several, optional, patch, possible, wanted}
 use Rattle.gm_words.specs.declared.clap_table.Kind.{Kind}
-use Rattle.gm_words.specs.declared.clap_table.Kind.TheVariants.{Label, Insert, Configure, Mirror, Provider, Component, Several}
+use Rattle.gm_words.specs.declared.clap_table.Kind.TheVariants.{Label, Insert, Configure, Patch, Mirror, Provider, Component, Several}
 use Rattle.gm_words.specs.declared.clap_table.Word.{Word}
 use Rattle.gm_words.specs.declared.clap_table.Word.TheVariants.{Name, Names, Wanted, Optional, Possible}
 
@@ -32,6 +32,7 @@ abbrev pub command_of_kind : Text → Kind → App
 command_of_kind word Label = called word label
 command_of_kind word Insert = called word insert
 command_of_kind word Configure = called word configure
+command_of_kind word Patch = called word patch
 command_of_kind word Mirror = on_mirror word
 command_of_kind word Provider = on_provider word
 command_of_kind word Component = on_component word

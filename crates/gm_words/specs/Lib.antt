@@ -1,4 +1,5 @@
 pub mod Alike
+pub mod Digits
 pub mod Dump
 pub mod Kinds
 pub mod Lines

@@ -17,8 +17,11 @@ use Rattle.gm_commands.specs.declared.command.BalanceWord.TheVariants.{Load, Pre
 use Rattle.gm_commands.specs.declared.command.Preference.{Preference}
 use Rattle.gm_commands.specs.declared.command.Settings.{Settings}
 use Rattle.gm_commands.specs.declared.command.Command.{Command}
-use Rattle.gm_commands.specs.declared.command.Command.TheVariants.{Label, Insert, Remove, Deactivate, Activate, Forget, Rebuild, Configure, Clear, Destroy, Lost, Advance, Adopt}
+use Rattle.gm_commands.specs.declared.command.Command.TheVariants.{Label, Insert, Remove, Deactivate, Activate, Forget, Rebuild, Configure, Clear, Destroy, Lost, Advance, Adopt, Patch}
 use Rattle.gm_commands.specs.Commands.{balance_of_word, number_words, on_where, setting_words, switch_words}
+use Rattle.gm_commands.specs.Sectors.{joined}
+use Rattle.hex.specs.Hex.{encode_lower}
+use Rattle.gm_words.specs.Digits.{sectors_in}
 use Rattle.gm_words.specs.Table.{table}
 use Rattle.gm_words.specs.declared.command_words.ComponentNames.{ComponentNames}
 use Rattle.gm_words.specs.declared.command_words.SeveralNames.{SeveralNames}
@@ -97,6 +100,9 @@ label_at id rows = first_of id rows >>= label_in
 unfoldable pub providers_at : Text → List Row → Option (List Text)
 providers_at id rows = all_of id rows >>= providers_in
 
+unfoldable pub sectors_at : Text → List Row → Option (List (List ℕ))
+sectors_at id rows = first_of id rows >>= sectors_in
+
 unfoldable pub flags_at : List Row → Option MirrorFlags
 flags_at rows = do
   autosync ← switch_at (codes "autosync") rows
@@ -167,6 +173,13 @@ configure_of rows = do
   settings ← settings_at rows
   Some (Configure name settings)
 
+unfoldable pub patch_of : List Row → Option Command
+patch_of rows = do
+  name ← label_at (codes "name") rows
+  first ← number_at (codes "first") rows
+  sectors ← sectors_at (codes "data") rows
+  Some (Patch name first sectors)
+
 -- the names of a mirror and of one or more providers
 unfoldable pub several_at : List Row → Option SeveralNames
 several_at rows = do
@@ -212,6 +225,7 @@ command_of word rows =
     else if bytes_eq word (codes "configure") then configure_of rows
     else if bytes_eq word (codes "lost") then several_of Lost rows
     else if bytes_eq word (codes "adopt") then several_of Adopt rows
+    else if bytes_eq word (codes "patch") then patch_of rows
     else named_of word rows
 
 -- ---- the words
@@ -247,6 +261,7 @@ HasNoFlags (Destroy name) = IsNoFlag name
 HasNoFlags (Lost name providers) = IsNoFlag name × All IsNoFlag providers
 HasNoFlags (Advance name provider) = IsNoFlag name × IsNoFlag provider
 HasNoFlags (Adopt name providers) = IsNoFlag name × All IsNoFlag providers
+HasNoFlags (Patch name first sectors) = IsNoFlag name
 
 -- the options of configure with the provider behind `=`
 abbrev pub guarded_preference : Option Preference → List Text
@@ -281,3 +296,6 @@ guarded_words (Destroy name) = codes "destroy" ∷ codes "--" ∷ name ∷ []
 guarded_words (Lost name providers) = codes "lost" ∷ codes "--" ∷ name ∷ providers
 guarded_words (Advance name provider) = codes "advance" ∷ codes "--" ∷ name ∷ provider ∷ []
 guarded_words (Adopt name providers) = codes "adopt" ∷ codes "--" ∷ name ∷ providers
+guarded_words (Patch name first sectors) =
+    codes "patch" ∷ codes "--first" ∷ decimal first ∷ codes "--data" ∷ encode_lower (joined sectors)
+    ∷ codes "--" ∷ name ∷ []

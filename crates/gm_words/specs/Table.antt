@@ -80,6 +80,11 @@ configure = with_mirror
     (possible (codes "prov")))
     (possible (codes "priority")))
 
+abbrev pub patch : App
+patch = with_mirror (with_rule (with_rule (new_app (codes "patch"))
+    (wanted (codes "first")))
+    (wanted (codes "data")))
+
 -- a command on a mirror and one or more providers
 abbrev pub on_several : Text → App
 on_several word = with_rule (on_mirror word) (names (codes "prov"))
@@ -100,7 +105,7 @@ subcommands = label ∷ insert ∷ on_component (codes "remove") ∷ on_componen
     ∷ on_mirror (codes "forget") ∷ on_component (codes "rebuild") ∷ configure
     ∷ on_provider (codes "clear")
     ∷ on_mirror (codes "destroy") ∷ on_several (codes "lost") ∷ on_component (codes "advance")
-    ∷ on_several (codes "adopt") ∷ []
+    ∷ on_several (codes "adopt") ∷ patch ∷ []
 
 abbrev pub table : App
 table = fold (λ above more. with_subcommand above more.top) commands subcommands

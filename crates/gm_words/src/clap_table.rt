@@ -28,13 +28,14 @@ enum Word {
     Possible(&'static str),
 }
 
-// What commands are alike in: three have words of their own, the others the names of a mirror, of a
+// What commands are alike in: four have words of their own, the others the names of a mirror, of a
 // provider, of a component, or of a mirror and one or more providers.
 #[derive(Clone, Copy)]
 enum Kind {
     Label,
     Insert,
     Configure,
+    Patch,
     Mirror,
     Provider,
     Component,
@@ -72,6 +73,12 @@ const CONFIGURE: [Word; 8] = [
     Word::Name("name"),
 ];
 
+const PATCH: [Word; 3] = [
+    Word::Wanted("first"),
+    Word::Wanted("data"),
+    Word::Name("name"),
+];
+
 const MIRROR: [Word; 1] = [Word::Name("name")];
 
 const PROVIDER: [Word; 1] = [Word::Name("prov")];
@@ -80,7 +87,7 @@ const COMPONENT: [Word; 2] = [Word::Name("name"), Word::Name("prov")];
 
 const SEVERAL: [Word; 2] = [Word::Name("name"), Word::Names("prov")];
 
-const COMMANDS: [(&str, Kind); 13] = [
+const COMMANDS: [(&str, Kind); 14] = [
     ("label", Kind::Label),
     ("insert", Kind::Insert),
     ("remove", Kind::Component),
@@ -94,6 +101,7 @@ const COMMANDS: [(&str, Kind); 13] = [
     ("lost", Kind::Several),
     ("advance", Kind::Component),
     ("adopt", Kind::Several),
+    ("patch", Kind::Patch),
 ];
 
 // A name, by its place.
@@ -204,6 +212,7 @@ fn command_of_kind<'a>(
         Kind::Label => command_with(alloc, word, &LABEL),
         Kind::Insert => command_with(alloc, word, &INSERT),
         Kind::Configure => command_with(alloc, word, &CONFIGURE),
+        Kind::Patch => command_with(alloc, word, &PATCH),
         Kind::Mirror => command_with(alloc, word, &MIRROR),
         Kind::Provider => command_with(alloc, word, &PROVIDER),
         Kind::Component => command_with(alloc, word, &COMPONENT),

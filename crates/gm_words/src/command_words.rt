@@ -3,14 +3,15 @@
 ghost use Rattle.std.specs.Prelude.{◌≡◌, ◌≢◌, ◌^◌, [], Some, None, IfErr, IfOk, MatchOption, MatchResult, option_and_then, option_map};
 ghost use Rattle.clap.specs.Words.{fault_of, found_of, kind_of, rows_of, subcommand_of, subcommand_rows_of};
 ghost use Rattle.clap.specs.Walk.{all_of, first_of, texts};
-ghost use Rattle.gm_words.specs.Spelling.{balance_at, balance_in, command_of, component_at, configure_of, flags_at, if_given, insert_of, label_at, label_of, named_of, number_at, number_below, preference_in, priority_at, providers_at, providers_in, settings_at, several_at, slice_at, slice_in, spelled, switch_at, switch_in};
+ghost use Rattle.gm_words.specs.Spelling.{balance_at, balance_in, command_of, component_at, configure_of, flags_at, if_given, insert_of, label_at, label_of, named_of, number_at, number_below, patch_of, preference_in, priority_at, providers_at, providers_in, sectors_at, settings_at, several_at, slice_at, slice_in, spelled, switch_at, switch_in};
 ghost use Rattle.gm_words.specs.Table.{table};
 
 use crate::clap_table::table_for;
+use crate::sector_digits::sectors_in;
 use clap::error::ErrorKind;
 use clap::{ArgMatches, Error};
 use gm_commands::{
-    BalanceWord, Command, NewComponent, NewMirror, Preference, Providers, Settings, Slice,
+    BalanceWord, Command, NewComponent, NewMirror, Preference, Providers, Sectors, Settings, Slice,
 };
 use gm_metadata::{Label, MirrorFlags};
 use std::alloc::{AllocError, Global};
@@ -142,6 +143,21 @@ fn providers_at(
 {
     match matches.get_strs(id) {
         Some(found) => providers(alloc, found),
+        None => Ok(None),
+    }
+}
+
+// What clap found for an option whose value is sectors.
+#[tactic(auto, unfolding(crate::specs::Spelling::sectors_at))]
+fn sectors_at(
+    alloc: Global,
+    matches: &ArgMatches<'_>,
+    id: &str,
+) -> Result<Option<Sectors>, AllocError>
+    ensures { IfOk result (λ r. r ≡ sectors_at id.now (rows_of (found_of matches.now))) }
+{
+    match text_at(matches, id) {
+        Some(text) => sectors_in(alloc, text),
         None => Ok(None),
     }
 }
@@ -278,6 +294,22 @@ fn configure_of(matches: &ArgMatches<'_>) -> Option<Command>
     Some(Command::Configure { name, settings })
 }
 
+#[tactic(auto, unfolding(crate::specs::Spelling::patch_of))]
+fn patch_of(alloc: Global, matches: &ArgMatches<'_>) -> Result<Option<Command>, AllocError>
+    ensures { IfOk result (λ r. r ≡ patch_of (rows_of (found_of matches.now))) }
+{
+    let Some(name) = label_at(matches, "name") else {
+        return Ok(None);
+    };
+    let Some(first) = number_at(matches, "first") else {
+        return Ok(None);
+    };
+    match sectors_at(alloc, matches, "data")? {
+        Some(data) => Ok(Some(Command::Patch { name, first, data })),
+        None => Ok(None),
+    }
+}
+
 // The names of a mirror and of one or more providers.
 #[derive(Drop)]
 struct SeveralNames {
@@ -360,6 +392,7 @@ fn command_of(
             Some(SeveralNames { name, providers }) => Ok(Some(Command::Adopt { name, providers })),
             None => Ok(None),
         },
+        "patch" => Ok(patch_of(alloc, matches)?),
         _ => Ok(named_of(word, matches)),
     }
 }

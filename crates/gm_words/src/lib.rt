@@ -4,10 +4,10 @@
 //! `status.rt` tells in a few lines how the mirrors stand, `listing.rt` all that is known of them,
 //! `tasted.rt` what images tell by themselves, and `dump.rt` what a sector says. `lines.rt` has
 //! what the lines are made of. What each text says stands in `specs/` as it is read, line by line.
-//! `clap_table.rt` says which words there are, `command_words.rt` reads a command from them, and
-//! `specs/Spelling.antt` says which words spell which; `complaint.rt` what is wrong with words that
-//! spell none; `laws.rt` says that the words of every command spell it. Nothing here knows of a
-//! registry, a shelf or a bench.
+//! `clap_table.rt` says which words there are, `command_words.rt` reads a command from them, with
+//! `sector_digits.rt` for the bytes of a patch, and `specs/Spelling.antt` says which words spell
+//! which; `complaint.rt` what is wrong with words that spell none; `laws.rt` says that the words of
+//! every command spell it. Nothing here knows of a registry, a shelf or a bench.
 #![tactic(auto)]
 
 mod clap_table;
@@ -17,6 +17,7 @@ mod dump;
 mod laws;
 mod lines;
 mod listing;
+mod sector_digits;
 mod status;
 mod tasted;
 

@@ -33,6 +33,15 @@ pub record Loses (schema : Schema) (table : Table) (test : Row → Bool)
   pub tables : AllByRecursion (λ t. t.tree ≢ table.tree
       → after.trees t.tree ≡ db.trees t.tree) schema.tables
 
+-- a scan without tests finds all rows
+pub all_found : (tree : ℕ) (db : Trees) (params : Row) (rows : List Row)
+    → IsAnswer (scan tree [] (col 1 0 ∷ []) []) db params rows
+    → IsPermutation (map (λ (r : Row). column r 0 ∷ []) (filter (λ r. true) (db tree))) rows
+all_found tree db params rows a =
+    subst (λ all. IsPermutation (map (λ (r : Row). column r 0 ∷ []) all) rows)
+    (sym (filter_all (λ r. true) (db tree) (all_of (λ r. true ≡ true) (λ r. refl) (db tree))))
+    (found_all tree (col 1 0 ∷ []) [] db params rows a)
+
 module _ (schema : Schema) (at : ℕ) (table : Table) (limit : Option ℕ) (mode : Mode) (params : Row)
     (idle : (olds : List Row) → works schema mode.keys 0 table.tree olds [] ≡ []) where
   abbrev task : Task
@@ -98,10 +107,7 @@ module _ (schema : Schema) (at : ℕ) (table : Table) (limit : Option ℕ) (mode
       → Loses schema table (λ r. true) (record { schema = schema; trees = db }) after
   clears db after tally keyed h =
       drops_as (λ r. true) [] db after tally keyed
-      (λ rows a. subst (λ all. IsPermutation (map (λ r. column r 0 ∷ []) all) rows)
-      (sym (filter_all (λ r. true) (db table.tree)
-      (all_of (λ r. true ≡ true) (λ r. refl) (db table.tree))))
-      (found_all table.tree (col 1 0 ∷ []) [] db params rows a)) h
+      (λ rows a. all_found table.tree db params rows a) h
 
 pub none_left : (rows : List Row) → filter (λ r. not true) rows ≡ []
 none_left rows =

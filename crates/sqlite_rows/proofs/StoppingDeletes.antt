@@ -1,7 +1,8 @@
--- Why a DELETE of the rows that pass a test stops.
-use Rattle.std.proofs.Common.{◌≡◌, inl, inr, ℕ, true, List, [], ◌∷◌, Option, Some, None, Err, IsSome, sym, ◌∙◌, refl}
+-- Why a DELETE stops, of the rows that pass a test or of all.
+use Rattle.std.proofs.Common.{◌≡◌, inl, inr, ℕ, Bool, true, List, [], ◌∷◌, map, filter, Option, Some, None, Err, IsSome, IsPermutation, sym, ◌∙◌, refl}
 use Rattle.std.proofs.lemmas.Bool.{true≢false}
-use Rattle.sqlite.specs.Order.{Row}
+use Rattle.sqlite.specs.Order.{Row, column}
+use Rattle.sqlite.specs.Query.{IsAnswer}
 use Rattle.sqlite.specs.Term.{Term, col, holds}
 use Rattle.sqlite.specs.Table.{Table}
 use Rattle.sqlite.specs.Schema.{Schema}
@@ -26,27 +27,33 @@ use Rattle.sqlite_rules.specs.Action.{works}
 use Rattle.sqlite_rules.specs.Calls.{ids_of}
 use Rattle.sqlite_rules.specs.Edit.{is_referred}
 use Rattle.sqlite_rules.specs.Lists.{Has}
-use Rattle.sqlite_rows.proofs.Dropping.{Loses, takes_out}
+use Rattle.sqlite_rows.proofs.Dropping.{Loses, all_found, takes_out}
 use Rattle.sqlite_rows.proofs.Finding.{scan, found}
 use Rattle.sqlite_rows.proofs.KeptUnique.{unique_less}
 use Rattle.sqlite_rows.proofs.Stopping.{IsAllowed, never_stops, concluded, at_once}
 
+-- what is to be done to a table, where foreign keys are enforced
+abbrev pub enforced : Schema → Table → Option ℕ → Row → Task
+enforced schema table limit params = record {
+  limit = limit;
+  keys = Enforced;
+  schema = schema;
+  table = table;
+  params = params;
+}
+
 module _ (schema : Schema) (at : ℕ) (table : Table) (listed : Has schema.tables table)
     (apart : IsAscending (λ a b. a.tree ≡ b.tree → ⊥) schema.tables)
     (idle : (olds : List Row) → works schema Enforced 0 table.tree olds [] ≡ [])
-    (limit : Option ℕ) (params : Row) (db : Trees) (test : Term)
+    (limit : Option ℕ) (params : Row) (db : Trees) (test : Row → Bool) (tests : List Term)
+    (finds : (rows : List Row) → IsAnswer (scan table.tree tests (col 1 0 ∷ []) []) db params rows
+    → IsPermutation (map (λ r. column r 0 ∷ []) (filter test (db table.tree))) rows)
     (keyed : IsShaped shape.Table (db table.tree)) (unique : Keeps Unique schema db) where
   abbrev program : Program
-  program = record { lets = []; body = scan table.tree (test ∷ []) (col 1 0 ∷ []) [] }
+  program = record { lets = []; body = scan table.tree tests (col 1 0 ∷ []) [] }
 
   abbrev task : Task
-  task = record {
-    limit = limit;
-    keys = Enforced;
-    schema = schema;
-    table = table;
-    params = params;
-  }
+  task = enforced schema table limit params
 
   allowed : (rows : List Row)
       → is_referred schema Enforced (edit_of db table (ids_of rows) Given 0 []) ≡ true
@@ -68,7 +75,7 @@ module _ (schema : Schema) (at : ℕ) (table : Table) (listed : Has schema.table
       (safe : ProgramOverflows db params [] [] program.body → ⊥)
       (referred : (rows : List Row)
       → is_referred schema Enforced (edit_of db table (ids_of rows) Given 0 []) ≡ true)
-      (refers : (next : Trees) → Loses schema table (λ r. holds (params ∷ r ∷ []) test)
+      (refers : (next : Trees) → Loses schema table test
       (record { schema = schema; trees = db }) (record { schema = schema; trees = next })
       → Refers All schema next) where
     deleted : (stop : Option Error) → Deletes task program db (Err stop) → IsSome limit
@@ -81,11 +88,49 @@ module _ (schema : Schema) (at : ℕ) (table : Table) (listed : Has schema.table
         (allowed rows (referred rows)) (idle _) what stops)
     deleted stop (inr (rows, answered, inr (next, made, gives))) = absurd (let e = gives in cc)
 
-    pub delete_stops : (stop : Option Error)
+    deletes_stop : (stop : Option Error)
         → OnRows task at_once None (Delete at program) db (Err stop) → IsSome limit
-    delete_stops stop (inl (why, deletes, is)) = deleted why deletes
-    delete_stops stop (inr (w, deletes, ends)) =
+    deletes_stop stop (inl (why, deletes, is)) = deleted why deletes
+    deletes_stop stop (inr (w, deletes, ends)) =
         absurd (concluded task at_once refl w stop (refers w.trees
-        (takes_out schema at table limit at_once params idle (λ r. holds (params ∷ r ∷ []) test)
-        (test ∷ []) db w keyed
-        (λ rows a. found table.tree (col 1 0 ∷ []) [] db params rows test a) deletes)) ends)
+        (takes_out schema at table limit at_once params idle test tests db w keyed finds
+        deletes)) ends)
+
+module _ (schema : Schema) (at : ℕ) (table : Table) (listed : Has schema.tables table)
+    (apart : IsAscending (λ a b. a.tree ≡ b.tree → ⊥) schema.tables)
+    (idle : (olds : List Row) → works schema Enforced 0 table.tree olds [] ≡ [])
+    (limit : Option ℕ) (params : Row) (db : Trees) where
+  -- of the rows that a term finds
+  pub delete_stops : (test : Term) (keyed : IsShaped shape.Table (db table.tree))
+      (unique : Keeps Unique schema db)
+      → accepts_program schema [] (scan table.tree (test ∷ []) (col 1 0 ∷ []) []) params ≡ true
+      → (ProgramOverflows db params [] [] (scan table.tree (test ∷ []) (col 1 0 ∷ []) []) → ⊥)
+      → ((rows : List Row)
+      → is_referred schema Enforced (edit_of db table (ids_of rows) Given 0 []) ≡ true)
+      → ((next : Trees) → Loses schema table (λ r. holds (params ∷ r ∷ []) test)
+      (record { schema = schema; trees = db }) (record { schema = schema; trees = next })
+      → Refers All schema next) → (stop : Option Error)
+      → OnRows (enforced schema table limit params) at_once None
+      (Delete at (record { lets = []; body = scan table.tree (test ∷ []) (col 1 0 ∷ []) [] })) db
+      (Err stop) → IsSome limit
+  delete_stops test keyed unique typed safe referred refers =
+      deletes_stop schema at table listed apart idle limit params db
+      (λ r. holds (params ∷ r ∷ []) test) (test ∷ [])
+      (λ rows a. found table.tree (col 1 0 ∷ []) [] db params rows test a) keyed unique typed safe
+      referred refers
+
+  -- of all rows
+  pub clear_stops : (keyed : IsShaped shape.Table (db table.tree)) (unique : Keeps Unique schema db)
+      → accepts_program schema [] (scan table.tree [] (col 1 0 ∷ []) []) params ≡ true
+      → (ProgramOverflows db params [] [] (scan table.tree [] (col 1 0 ∷ []) []) → ⊥)
+      → ((rows : List Row)
+      → is_referred schema Enforced (edit_of db table (ids_of rows) Given 0 []) ≡ true)
+      → ((next : Trees) → Loses schema table (λ r. true)
+      (record { schema = schema; trees = db }) (record { schema = schema; trees = next })
+      → Refers All schema next) → (stop : Option Error)
+      → OnRows (enforced schema table limit params) at_once None
+      (Delete at (record { lets = []; body = scan table.tree [] (col 1 0 ∷ []) [] })) db (Err stop)
+      → IsSome limit
+  clear_stops keyed unique typed safe referred refers =
+      deletes_stop schema at table listed apart idle limit params db (λ r. true) []
+      (λ rows a. all_found table.tree db params rows a) keyed unique typed safe referred refers

@@ -3,7 +3,7 @@
 
 # ---- images that are lost for good while something is pending
 
-# Into the program a library is preloaded whose writes and syncs fail from one on. Each of the thirteen commands is stopped
+# Into the program a library is preloaded whose writes and syncs fail from one on. Each of the fourteen commands is stopped
 # before each of its writes; then each image is lost, and given up; and that is stopped in its turn. The counts are printed.
 if has_python 'images that are lost'; then
     if ! python3 -c 'import sqlite3' 2>/dev/null; then

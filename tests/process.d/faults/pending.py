@@ -14,7 +14,7 @@ import sys
 from bench_folder import Bench
 from each_command import COMMANDS, FILLED, NAMES
 from formats import decode
-from plain_bench import COPY, META, Records
+from plain_bench import CLEAR, COPY, DIRTY, META, PATCH, Records
 
 program, preloaded, work = sys.argv[1:4]
 place = Bench(program, work)
@@ -67,12 +67,14 @@ def lines_of(records, shelf):
     for intent in records.intents:
         name, source = intent["prov"], intent["source"]
         first, end = intent["first_sector"], intent["end_sector"]
-        stands = standing(records, name, intent["kind"] not in (COPY, META))
+        stands = standing(records, name, intent["kind"] == CLEAR)
         if intent["kind"] == COPY:
             text += f"copy {end - first} sectors of {source} to {name} from {first}"
             stands = f"{source} {standing(records, source, False)}, {name} {stands}"
+        elif intent["kind"] == PATCH:
+            text += f"patch {end - first} sectors of {name} from {first}"
         else:
-            text += f"metadata of {name}" if intent["kind"] == META else f"clear {name}"
+            text += {META: f"metadata of {name}", CLEAR: f"clear {name}", DIRTY: f"mark {name} dirty"}[intent["kind"]]
         text += f": {stands}\n" if shelf else "\n"
     return text
 

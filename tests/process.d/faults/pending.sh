@@ -155,7 +155,7 @@ else
     skip 'a medium that is read-only' 'there are no mounts of its own here'
 fi
 
-# ---- each of the thirteen commands, killed before each of its writes
+# ---- each of the fourteen commands, killed before each of its writes
 
 if has_python 'what is pending behind each command'; then
     if ! python3 -c 'import sqlite3' 2>/dev/null; then

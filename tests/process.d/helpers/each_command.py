@@ -1,4 +1,4 @@
-"""Benches for each of the thirteen commands, behind which it writes to images."""
+"""Benches for each of the fourteen commands, behind which it writes to images."""
 
 NAMES = ["a.img", "b.img", "c.img", "d.img", "e.img", "f.img"]
 
@@ -8,6 +8,8 @@ FILLED = [
     "insert --did 3 --priority 4 gm0 c.img", "label --mid 8 --did 1 --hardcode on gm1 e.img",
     "insert --did 2 gm1 f.img", "advance gm1 f.img",
 ]
+# The bytes of two sectors, as digits.
+DIGITS = (bytes(range(256)) * 4).hex()
 # For each command the lines before it, and the images that it names or that its mirror has.
 COMMANDS = [
     ("label --mid 9 --did 1 gm9 d.img", FILLED, "abd"),
@@ -23,4 +25,5 @@ COMMANDS = [
     ("lost gm0 b.img", FILLED, "abc"),
     ("advance gm0 c.img", FILLED, "abc"),
     ("adopt gm0 a.img b.img c.img", None, "abc"),
+    (f"patch --first 1 --data {DIGITS} gm1", FILLED, "ef"),
 ]

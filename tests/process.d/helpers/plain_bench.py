@@ -9,14 +9,15 @@ import sqlite3
 
 from formats import MAGIC, encode, padded
 
-META, CLEAR, COPY = 1, 2, 3
-SYNCHRONIZING, INACTIVE = 2, 8
+META, CLEAR, COPY, DIRTY, PATCH = 1, 2, 3, 4, 5
+DIRTY_FLAG, SYNCHRONIZING, INACTIVE = 1, 2, 8
 GREATEST = 2**32 - 1
 SECTOR = 512
 
 
 class Records:
-    """The rows of a registry: mirrors by name, components by provider, commands by key, and the intents in their order."""
+    """The rows of a registry: mirrors by name, components by provider, commands by key, the intents in their order, and the
+    bytes that are to be laid."""
 
     def __init__(self, registry, scratch):
         for end in ("", "-wal"):
@@ -27,6 +28,7 @@ class Records:
         rows = {}
         for table, order in [("mirrors", "name"), ("components", "prov"), ("intents", "ord"), ("commands", "seq")]:
             rows[table] = [dict(row) for row in connection.execute(f"SELECT * FROM {table} ORDER BY {order}")]
+        self.patches = [row["bytes"] for row in connection.execute("SELECT bytes FROM patches")]
         connection.close()
         for end in ("", "-wal", "-shm"):
             if os.path.exists(scratch + end):
@@ -38,7 +40,7 @@ class Records:
 
     def rows(self):
         """All of it, to be compared."""
-        return self.mirrors, self.components, self.commands, self.intents
+        return self.mirrors, self.components, self.commands, self.intents, self.patches
 
     def components_of(self, mirror):
         return [row for _, row in sorted(self.components.items()) if row["mirror"] == mirror]
@@ -52,14 +54,15 @@ class Records:
         ]
         return min(active)[1] if active else None
 
-    def last_sector(self, provider):
-        """The metadata of a component, as its last sector is to hold them."""
+    def last_sector(self, provider, more_flags=0):
+        """The metadata of a component, as its last sector is to hold them, with these flags besides."""
         component = self.components[provider]
         mirror = self.mirrors[component["mirror"]]
         name = provider.encode()
         return encode({
             **{field: mirror[field] for field in ["mid", "genid", "slice", "balance", "mediasize", "mflags"]},
-            **{field: component[field] for field in ["did", "syncid", "priority", "sync_offset", "dflags", "provsize"]},
+            **{field: component[field] for field in ["did", "syncid", "priority", "sync_offset", "provsize"]},
+            "dflags": component["dflags"] | more_flags,
             "magic": MAGIC,
             "version": 4,
             "sectorsize": SECTOR,
@@ -72,12 +75,16 @@ class Records:
         """Writes to images, by their names, what is pending."""
         for intent in self.intents:
             image = images[intent["prov"]]
+            part = slice(intent["first_sector"] * SECTOR, intent["end_sector"] * SECTOR)
             if intent["kind"] == COPY:
-                part = slice(intent["first_sector"] * SECTOR, intent["end_sector"] * SECTOR)
                 image[part] = images[intent["source"]][part]
+            elif intent["kind"] == PATCH:
+                image[part] = self.patches[0]
+            elif intent["kind"] == CLEAR:
+                image[-SECTOR:] = bytes(SECTOR)
             else:
-                image[-SECTOR:] = self.last_sector(intent["prov"]) if intent["kind"] == META else bytes(SECTOR)
-        self.intents = []
+                image[-SECTOR:] = self.last_sector(intent["prov"], DIRTY_FLAG if intent["kind"] == DIRTY else 0)
+        self.intents, self.patches = [], []
 
 
 def meta(provider):
@@ -117,6 +124,8 @@ def lose(records, provider, key):
     for intent in remaining:
         if intent["source"] == provider:
             intent["source"] = records.source_of(intent["prov"], name)
+    if all(it["kind"] != PATCH for it in remaining):
+        records.patches = []
     records.intents = remaining + [meta(row["prov"]) for row in records.components_of(name)]
     words, number = f"lost {name} {provider}", len(records.commands) + 1
     records.commands[key] = {"call_key": key, "seq": number, "words": words, "copied": 0, "of_total": 0}

@@ -100,7 +100,7 @@ def refusal(command):
 
 def answer(line):
     """What the model answers to a line; None where it says nothing of it, and nothing where it has no answer."""
-    if len(line) > 1024:
+    if len(line) > 131_072:
         return b"? refused 1"
     try:
         line.decode("utf-8")
@@ -186,8 +186,8 @@ def changed(line):
 
 
 def long_line():
-    """A line of about 1,024 bytes."""
-    length = 1024 + rng.choice([-1, 0, 0, 1, 1, 2, 500, 5000])
+    """A line of about 131,072 bytes."""
+    length = 131_072 + rng.choice([-1, 0, 0, 1, 1, 2, 500, 5000])
     kind = rng.randrange(4)
     if kind == 0:
         return b"k9 " + b"x" * (length - 3)
@@ -195,7 +195,7 @@ def long_line():
         return b"k9 forget gm1".ljust(length)
     if kind == 2:
         return b"k9 forget gm1".rjust(length)
-    return (b"k9 lost gm1" + b" b.img" * 2000)[:length]
+    return (b"k9 lost gm1" + b" b.img" * 25_000)[:length]
 
 
 def same_again():
@@ -213,7 +213,7 @@ def line():
     kind = rng.random()
     if kind < 0.1:
         made = rng.randbytes(rng.randrange(60))
-    elif kind < 0.15:
+    elif kind < 0.103:
         made = long_line()
     elif kind < 0.25:
         made = same_again()

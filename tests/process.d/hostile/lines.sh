@@ -3,7 +3,7 @@
 
 # ---- lines of a batch that a generator makes, held against a plain model of their words
 
-# Commands with something that is wrong, numbers at their limits, options twice, any bytes, lengths about 1,024, and other
+# Commands with something that is wrong, numbers at their limits, options twice, any bytes, lengths about 131,072, and other
 # spellings of the first line.
 if has_python 'lines that are made at random'; then
     fresh_bench lines

@@ -100,7 +100,7 @@ def body_and_length():
     if kind < 0.16:
         return [b"Content-Length: " + rng.choice(NO_LENGTHS)], body, response(400)
     if kind < 0.2:
-        return [b"Content-Length: %d" % rng.choice([65_537, 99_999, 4_294_967_296, 9_999_999_999])], body, response(413)
+        return [b"Content-Length: %d" % rng.choice([131_073, 199_999, 4_294_967_296, 9_999_999_999])], body, response(413)
     if kind < 0.24:
         return [b"Content-Length: %d" % (len(body) + rng.randint(1, 9))], body, response(400)
     if kind < 0.3:

@@ -93,7 +93,7 @@ batch 'k2 destroy gm0\n'
 expect 'its key is free' 0 'k2 ok 2' ''
 fresh_bench no-text
 {
-    head -c 1025 /dev/zero | tr '\0' x
+    head -c 131073 /dev/zero | tr '\0' x
     printf '\nk1 destroy \377\n'
     printf "${label%??}"
 } >"$work/lines"

@@ -64,8 +64,8 @@ quick.close()
 
 # ---- clients that go on sending
 for name, first, wanted in [
-    ("a length that is too large", post("", length=70_000), response(413)),
-    ("a target that there isn't", post("", length=70_000).replace(b"/commands", b"/elsewhere"), response(404)),
+    ("a length that is too large", post("", length=140_000), response(413)),
+    ("a target that there isn't", post("", length=140_000).replace(b"/commands", b"/elsewhere"), response(404)),
     ("a request that is none", b"GET\r\n\r\n", response(400)),
 ]:
     check(f"{name}, and 10 MB more", ask(port, [first, b"x" * 10_000_000]), wanted)

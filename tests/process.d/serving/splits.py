@@ -14,5 +14,5 @@ wrong = [at for at, answer in enumerate(answers, 1) if answer != wanted]
 print(f"failed a request in two pieces: cut behind {wrong}" if wrong else "ok a request in two pieces")
 check("a request whose sender waits for the answer", ask(port, [request], ends=False), wanted)
 check("bytes one by one", ask(port, [bytes([byte]) for byte in request], pause=0.001), wanted)
-long = post("x" * 65_536, length=65_536)
+long = post("x" * 131_072, length=131_072)
 check("a long body whose sender waits", ask(port, [long[:100], long[100:]], ends=False), response(400))

@@ -49,7 +49,11 @@ destroy gm1
 destroy gm1
 adopt -- gm2 g.img f.img
 adopt gm2 g.img f.img
+patch gm2 --data DIGITS --first +01
+patch --first 1 --data DIGITS gm2
 END
+    digits=$(head -c 1024 /dev/zero | tr '\0' a)
+    sed -i "s/DIGITS/$digits/" "$work/said-and-kept"
     awk 'NR % 2 == 1 { print "k" (NR + 1) / 2, $0 }' "$work/said-and-kept" >"$work/lines"
     awk 'NR % 2 == 0' "$work/said-and-kept" >"$work/wanted-words"
     at_bench batch <"$work/lines"

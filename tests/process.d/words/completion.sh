@@ -14,7 +14,7 @@ mkdir -p "$place/images/folder" "$place/other/two words"
 : >"$place/images/\$(touch made)"
 ln -s a.img "$place/images/link.img"
 
-# What the help says: the thirteen commands, and their words.
+# What the help says: the fourteen commands, and their words.
 command_lines >"$work/commands"
 commands=$(sed 's/ .*//' "$work/commands" | in_a_line)
 expect_offered() {

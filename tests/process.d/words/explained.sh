@@ -29,11 +29,11 @@ expect_complaint 'a registry that is new' "a new registry was made at $registry"
 grep -q '^k2: refused 1: .*<' "$work/complained" &&
     pass "words that are missing, as clap says it" || fail 'words that are missing' "$(cat "$work/complained")"
 {
-    head -c 1100 /dev/zero | tr '\0' k
+    head -c 131100 /dev/zero | tr '\0' k
     echo
 } >"$work/lines"
 at_bench batch --explain <"$work/lines"
-expect 'a line that is too long' 1 '? refused 1' '?: refused 1: the line has more than 1,024 bytes'
+expect 'a line that is too long' 1 '? refused 1' '?: refused 1: the line has more than 131,072 bytes'
 printf 'k2 destroy gm9\n' >"$work/lines"
 at_bench batch <"$work/lines"
 expect 'without the option nothing is said' 1 'k2 refused 5' ''

@@ -87,8 +87,8 @@ take_filled() {
 }
 
 fresh_bench lengths
-for length in 1023 1024 1025 1026 2049 70000; do
-    if [ $length -le 1024 ]; then
+for length in 131071 131072 131073 131074 262145 700000; do
+    if [ $length -le 131072 ]; then
         first='k1 refused 5'
     else
         first='? refused 1'
@@ -98,22 +98,22 @@ for length in 1023 1024 1025 1026 2049 70000; do
     take_filled '' k $length
     expect "a line of one piece of $length bytes" 1 "$(lines '? refused 1\nk2 refused 5')" ''
 done
-take_filled '' ' ' 1024
-expect 'a line of 1024 spaces has no answer' 1 'k2 refused 5' ''
-take_filled '' ' ' 1025
-expect 'a line of 1025 spaces is too long' 1 "$(lines '? refused 1\nk2 refused 5')" ''
-filled '' ' ' 1025 >"$work/lines"
+take_filled '' ' ' 131072
+expect 'a line of 131072 spaces has no answer' 1 'k2 refused 5' ''
+take_filled '' ' ' 131073
+expect 'a line of 131073 spaces is too long' 1 "$(lines '? refused 1\nk2 refused 5')" ''
+filled '' ' ' 131073 >"$work/lines"
 take_lines
-expect 'a last line of 1025 spaces, without its line feed' 1 '? refused 1' ''
-filled '' ' ' 1024 >"$work/lines"
+expect 'a last line of 131073 spaces, without its line feed' 1 '? refused 1' ''
+filled '' ' ' 131072 >"$work/lines"
 take_lines
-expect 'a last line of 1024 spaces, without its line feed' 0 '' ''
+expect 'a last line of 131072 spaces, without its line feed' 0 '' ''
 {
-    filled '' x 1024
+    filled '' x 131072
     echo
-    filled '' y 1025
+    filled '' y 131073
     echo
-    filled '' z 5000
+    filled '' z 500000
     printf '\nnext'
 } >"$work/lines"
 take_lines

@@ -60,8 +60,8 @@ while read -r word behind; do
     expect_options "the options of the command $word" "$(words_of "$word" | options_in_page)" \
         "$(echo "$behind" | long_options)"
 done <"$work/commands"
-[ "$(wc -l <"$work/commands")" = 13 ] && pass 'there are thirteen commands' ||
-    fail 'there are thirteen commands' "$(wc -l <"$work/commands")"
+[ "$(wc -l <"$work/commands")" = 14 ] && pass 'there are fourteen commands' ||
+    fail 'there are fourteen commands' "$(wc -l <"$work/commands")"
 {
     "$gmbench" --help
     for word in $(subcommands); do

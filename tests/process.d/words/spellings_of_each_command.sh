@@ -6,7 +6,8 @@
 fresh_bench every-command
 put_image "$bench/images/c.img" c bare
 put_image "$bench/images/d.img" d bare
-expect_list 'the canonical words of each command' 0 <<'END'
+digits=$(head -c 1024 /dev/zero | tr '\0' 7)
+expect_list 'the canonical words of each command' 0 <<END
 k1 label --mid 7 --did 1 --balance load --slice 4096 --autosync on --failsync on --hardcode off gm0 a.img|k1 ok 1
 k2 insert --did 2 --priority 0 --hardcode off gm0 b.img|k2 ok 2
 k3 advance gm0 b.img|k3 ok 3 copied 3 of 3
@@ -23,9 +24,11 @@ k13 forget gm0|k13 ok 13
 k14 clear d.img|k14 ok 14
 k15 destroy gm0|k15 ok 15
 k16 adopt gm0 c.img b.img|k16 ok 16
+k17 advance gm0 c.img|k17 ok 17 copied 3 of 3
+k18 patch --first 2 --data $digits gm0|k18 ok 18
 END
 keep_bench
-expect_list 'other words of each command' 0 <<'END'
+expect_list 'other words of each command' 0 <<END
 k1 label --mid 7 --did 1 gm0 a.img --|k1 repeated 1
 k1 label gm0 --did 1 a.img --mid 7 --slice 4096|k1 repeated 1
 k1 label --mid=7 --did=1 --balance=load gm0 a.img|k1 repeated 1
@@ -64,8 +67,10 @@ k16 adopt -- gm0 c.img b.img|k16 repeated 16
 k16 adopt gm0 -- c.img b.img|k16 repeated 16
 k16 adopt gm0 c.img -- b.img|k16 repeated 16
 k16 adopt gm0 c.img b.img --|k16 repeated 16
+k18 patch gm0 --data $digits --first +02|k18 repeated 18
+k18 patch --data=$digits --first=2 -- gm0|k18 repeated 18
 END
-expect_list 'words of other commands' 1 <<'END'
+expect_list 'words of other commands' 1 <<END
 k2 insert --did 2 --priority 1 gm0 b.img|k2 refused 3
 k2 insert --did 2 --hardcode on gm0 b.img|k2 refused 3
 k2 insert --did 2 b.img gm0|k2 refused 3
@@ -90,6 +95,9 @@ k16 adopt gm0 b.img c.img|k16 refused 3
 k16 adopt gm0 c.img|k16 refused 3
 k16 adopt gm0 c.img b.img b.img|k16 refused 3
 k16 lost gm0 c.img b.img|k16 refused 3
+k18 patch --first 1 --data $digits gm0|k18 refused 3
+k18 patch --first 2 --data ${digits%7}8 gm0|k18 refused 3
+k18 patch --first 2 --data $digits gm1|k18 refused 3
 END
 expect_kept 'words of commands that were answered change no byte'
 

@@ -87,6 +87,40 @@ gm/0
 END
 expect_words_of_key 'a configure has options of its own' 1 'refused 1' 'other options' <"$work/of-each"
 
+# Digits of one sector, and of more sectors than there may be.
+digits=$(head -c 1024 /dev/zero | tr '\0' f)
+many=$(head -c 66560 /dev/zero | tr '\0' 0)
+behind_each patch <<END
+
+gm0
+--first 0 gm0
+--data $digits gm0
+--first 0 --data gm0
+--first 0 --data= gm0
+--first 0 --data $digits
+--first 0 --data $digits gm0 a.img
+--first 0 --data $digits gm/0
+--first 0 --data $digits -gm0
+--first --data $digits gm0
+--first -1 --data $digits gm0
+--first 4294967296 --data $digits gm0
+--first 0x0 --data $digits gm0
+--first 0 --data ${digits%f} gm0
+--first 0 --data ${digits%ff} gm0
+--first 0 --data ${digits}f gm0
+--first 0 --data ${digits}ff gm0
+--first 0 --data ${digits%f}F gm0
+--first 0 --data ${digits%f}g gm0
+--first 0 --data 0x${digits%ff} gm0
+--first 0 --data ${digits%f}ä gm0
+--first 0 --data $many gm0
+--first 0 --first 0 --data $digits gm0
+--first 0 --data $digits --data $digits gm0
+--first 0 --data $digits --mid 7 gm0
+--first 0 --data $digits --help gm0
+END
+expect_words_of_key 'a patch has a first sector, and sectors as digits' 1 'refused 1' 'other words of a patch' <"$work/of-each"
+
 expect_words_of_key 'values of no kind' 1 'refused 1' 'other values' <<'END'
 label --mid 7 --did 1 --hardcode true gm0 a.img
 label --mid 7 --did 1 --slice 1 --slice 2 gm0 a.img

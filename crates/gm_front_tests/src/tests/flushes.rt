@@ -1,11 +1,12 @@
 //! Each answer is flushed before the next line is read.
 
-use super::{LABEL, REFUSED, images, in_memory, must, open, try_batch};
+use super::{LABEL, REFUSED, images, in_memory, must, of_letters, open, try_batch};
 use gm_bench::Bench;
+use gm_front::MAX_LINE;
 use gm_shelf::Shelf;
 use sqlite::{Alter, Connection};
 use std::cell::Cell;
-use std::io::{self, ErrorKind, Read, Write};
+use std::io::{self, BufReader, ErrorKind, Read, Write};
 use std::process::Abort;
 
 // Counts what is written, and keeps for the input how much of it is flushed.
@@ -67,19 +68,17 @@ fn is_flushed<S: Alter, H: Shelf>(
         written: 0,
         flushed: &flushed,
     };
-    let mut input = Watching {
+    let input = Watching {
         rest: lines,
         begins: true,
         flushed: &flushed,
         seen: Vec::new(rt.alloc()),
     };
-    let end = try_batch(rt, &mut input, &mut output, bench);
+    let mut reader = BufReader::new(rt.alloc(), input).expect(rt, "no memory");
+    let end = try_batch(rt, &mut reader, &mut output, bench);
     must(rt, end == Ok(REFUSED), "another end");
-    must(
-        rt,
-        input.seen.as_slice() == FLUSHED.as_slice(),
-        "not flushed",
-    );
+    let seen = &reader.get_ref().seen;
+    must(rt, seen.as_slice() == FLUSHED.as_slice(), "not flushed");
     must(rt, flushed.get() == 54, "another length");
 }
 
@@ -94,6 +93,7 @@ fn opens_and_is_flushed<S: Alter + Drop, H: Shelf + Drop>(
 }
 
 fn seven_lines(rt: &(impl Abort + AllocGlobal)) -> Vec<u8> {
+    let too_long = of_letters(rt, MAX_LINE + 1);
     let mut lines = Vec::new(rt.alloc());
     for piece in [
         b"\n".as_slice(),
@@ -101,7 +101,7 @@ fn seven_lines(rt: &(impl Abort + AllocGlobal)) -> Vec<u8> {
         b"   \n",
         LABEL.as_bytes(),
         b"k/1\n",
-        &[b'x'; 1025],
+        &too_long,
         b"\nk2 insert --did 2 gm0 b.img",
     ] {
         lines.extend_from_slice(piece).expect(rt, "no memory");

@@ -1,11 +1,13 @@
 //! Inputs that come slowly, and inputs that fail.
 
-use super::{DONE, INSERT, LABEL, REMOVE, answers, images, in_memory, must, open, try_batch};
+use super::{
+    DONE, INSERT, LABEL, REMOVE, answers, images, in_memory, must, of_letters, open, try_batch,
+};
 use gm_bench::Bench;
-use gm_front::{BatchEnd, FrontFault};
+use gm_front::{BatchEnd, FrontFault, MAX_LINE};
 use gm_shelf::Shelf;
 use sqlite::{Alter, Connection};
-use std::io::{self, ErrorKind, Read};
+use std::io::{self, BufReader, ErrorKind, Read};
 use std::process::Abort;
 
 // Gives a byte at a time, so many of them, and then fails. It may be interrupted before each.
@@ -67,11 +69,12 @@ fn three_lines(rt: &(impl Abort + AllocGlobal)) -> String {
 fn takes<S: Alter, H: Shelf>(
     rt: &(impl Abort + AllocGlobal),
     bench: &mut Bench<S, H>,
-    input: &mut Slow<'_>,
+    input: Slow<'_>,
     expected: Expected,
 ) {
+    let mut reader = BufReader::new(rt.alloc(), input).expect(rt, "no memory");
     let mut text = Vec::new(rt.alloc());
-    let ended = try_batch(rt, input, &mut text, bench);
+    let ended = try_batch(rt, &mut reader, &mut text, bench);
     let told = TOLD.as_bytes().get(..expected.answered.saturating_mul(8));
     must(rt, Some(text.as_slice()) == told, "another text");
     must(rt, ended == expected.end, "another end");
@@ -83,7 +86,7 @@ fn opens_and_takes<S: Alter + Drop, H: Shelf + Drop>(
     rt: &(impl Abort + AllocGlobal),
     store: Connection<S>,
     shelf: H,
-    input: &mut Slow<'_>,
+    input: Slow<'_>,
     expected: Expected,
 ) {
     let mut bench = open(rt, store, shelf);
@@ -91,8 +94,8 @@ fn opens_and_takes<S: Alter + Drop, H: Shelf + Drop>(
 }
 
 // The same over memory.
-fn are_taken(rt: &(impl Abort + AllocGlobal), mut input: Slow<'_>, expected: Expected) {
-    opens_and_takes(rt, in_memory(rt), images(rt), &mut input, expected);
+fn are_taken(rt: &(impl Abort + AllocGlobal), input: Slow<'_>, expected: Expected) {
+    opens_and_takes(rt, in_memory(rt), images(rt), input, expected);
 }
 
 const TOLD: &str = "k1 ok 1\nk2 ok 2\nk3 ok 3\n";
@@ -140,12 +143,13 @@ fn an_input_may_be_slow_and_interrupted(rt: HostRuntime) {
 // No line is answered before its end is found.
 #[test]
 fn a_line_of_an_input_that_failed_within_it_has_no_answer(rt: HostRuntime) {
-    for passing in [0usize, 1, 1024, 1025, 1026] {
+    let letters = of_letters(&rt, MAX_LINE + 6);
+    for passing in [0usize, 1, MAX_LINE, MAX_LINE + 1, MAX_LINE + 2] {
         let expected = Expected {
             answered: 0,
             end: Err(FrontFault::Read),
             repeated: 0,
         };
-        are_taken(&rt, failing(&[b'x'; 1030], passing), expected);
+        are_taken(&rt, failing(letters.as_slice(), passing), expected);
     }
 }

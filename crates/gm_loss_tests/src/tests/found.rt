@@ -79,19 +79,19 @@ pub(super) fn long(rt: &(impl Abort + AllocGlobal)) -> MemShelf {
     shelf
 }
 
-/// Whether an image says this, or carries nothing, and has the data of this number.
+/// Whether an image says this, or carries nothing, and each sector of its data has this byte
+/// throughout.
 pub(super) fn must_hold(
     rt: &impl Abort,
     shelf: &mut MemShelf,
     name: &str,
     expected: Option<Metadata>,
-    first: u8,
+    data: [u8; 3],
 ) {
     let last = got(rt, sector(shelf, name, 3));
     got(rt, must_be(&last, expected));
-    for place in 0u8..3 {
-        let held = got(rt, sector(shelf, name, u64::from(place)));
-        let byte = first.wrapping_add(place);
-        assert!(rt; held == [byte; 512], "other data of {name}");
+    for (place, byte) in data.iter().enumerate() {
+        let held = got(rt, sector(shelf, name, place as u64));
+        assert!(rt; held == [*byte; 512], "other data of {name}");
     }
 }

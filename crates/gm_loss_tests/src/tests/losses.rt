@@ -22,6 +22,19 @@ advance gm0 c.img
 insert --did 3 gm0 b.img
 advance gm0 b.img";
 
+/// a.img, b.img and c.img, all ACTIVE, whose second sector is being patched.
+pub(super) const PATCHING: &str = "label --mid 7 --did 1 gm0 a.img
+insert --did 2 gm0 c.img
+advance gm0 c.img
+insert --did 3 gm0 b.img
+advance gm0 b.img
+patch 1 60 gm0";
+
+/// The data that a.img begins with, and the same behind that patch.
+pub(super) const FIRST: [u8; 3] = [10, 11, 12];
+
+pub(super) const PATCHED: [u8; 3] = [10, 60, 12];
+
 // a.img, and b.img that is added to it.
 const INSERTING: &str = "label --mid 7 --did 1 gm0 a.img
 insert --did 2 gm0 b.img";
@@ -107,7 +120,7 @@ fn an_image_that_was_to_be_inactive_is_given_up(rt: HostRuntime) {
         &mut left.shelf,
         "a.img",
         Some(said(&rt, 1, 2, 1, 2)),
-        10,
+        FIRST,
     );
 }
 
@@ -116,20 +129,35 @@ fn the_next_source_fills_an_image_whose_source_is_given_up(rt: HostRuntime) {
     let start = behind(&rt, bare(&rt), FILLING, "a.img");
     is_absent(&rt, &start, Job::Open(""), "a.img");
     let left = gives_up(&rt, &start, ("a.img", "k6"), (6, 2), B_AND_C_OF_THREE);
-    must_be_filled(&rt, left);
+    must_be_in_sync(&rt, left, 1, FIRST);
 }
 
-/// b.img is filled from c.img, and both are in sync in a mirror that lost a.img.
-pub(super) fn must_be_filled(rt: &impl Abort, mut left: Media) {
-    must_hold(rt, &mut left.shelf, "b.img", Some(said(rt, 3, 3, 1, 1)), 10);
-    must_hold(rt, &mut left.shelf, "c.img", Some(said(rt, 2, 3, 1, 1)), 10);
+#[test]
+fn a_patch_goes_on_without_an_image(rt: HostRuntime) {
+    let start = behind(&rt, bare(&rt), PATCHING, "a.img");
+    is_absent(&rt, &start, Job::Open(""), "a.img");
+    let left = gives_up(&rt, &start, ("a.img", "k7"), (7, 9), B_AND_C_OF_THREE);
+    must_be_in_sync(&rt, left, 2, PATCHED);
 }
 
-/// Nothing is pending behind the loss of the source, and both media say so.
-pub(super) fn must_be_over(rt: &(impl Abort + AllocGlobal), media: &Media) {
+/// b.img and c.img are in sync in a mirror that lost a.img, with this syncid and these data.
+pub(super) fn must_be_in_sync(rt: &impl Abort, mut left: Media, syncid: u32, data: [u8; 3]) {
+    for (name, did) in [("b.img", 3), ("c.img", 2)] {
+        let expected = said(rt, did, 3, 1, syncid);
+        must_hold(rt, &mut left.shelf, name, Some(expected), data);
+    }
+}
+
+/// Nothing is pending behind the loss of a.img, and both media say so.
+pub(super) fn must_be_over(
+    rt: &(impl Abort + AllocGlobal),
+    media: &Media,
+    syncid: u32,
+    data: [u8; 3],
+) {
     let (came, left) = perform_on(rt, media, Job::Open(B_AND_C_OF_THREE));
     must(rt, came == Came::Opened(0), "something is pending");
-    must_be_filled(rt, left);
+    must_be_in_sync(rt, left, syncid, data);
 }
 
 #[test]
@@ -141,7 +169,7 @@ fn an_image_that_was_to_be_filled_is_given_up(rt: HostRuntime) {
         &mut left.shelf,
         "a.img",
         Some(said(&rt, 1, 2, 1, 1)),
-        10,
+        FIRST,
     );
 }
 
@@ -154,7 +182,7 @@ fn an_image_that_was_to_be_added_is_given_up(rt: HostRuntime) {
         &mut left.shelf,
         "a.img",
         Some(said(&rt, 1, 2, 1, 1)),
-        10,
+        FIRST,
     );
 }
 
@@ -176,7 +204,7 @@ fn an_image_is_given_up_where_nothing_is_pending(rt: HostRuntime) {
         &mut left.shelf,
         "a.img",
         Some(said(&rt, 1, 2, 1, 1)),
-        10,
+        FIRST,
     );
 }
 
@@ -192,9 +220,9 @@ fn the_others_that_are_pending_are_carried_out(rt: HostRuntime) {
         &mut left.shelf,
         "a.img",
         Some(said(&rt, 1, 2, 1, 1)),
-        10,
+        FIRST,
     );
-    must_hold(&rt, &mut left.shelf, "c.img", None, 30);
+    must_hold(&rt, &mut left.shelf, "c.img", None, [30, 31, 32]);
 }
 
 // It was lost by a command, which is repeated whether its image is there or not, and carried out.
@@ -210,7 +238,7 @@ fn a_loss_that_was_a_command_is_repeated(rt: HostRuntime) {
             &mut left.shelf,
             "a.img",
             Some(said(&rt, 1, 2, 1, 1)),
-            10,
+            FIRST,
         );
     }
 }

@@ -1,9 +1,9 @@
-//! A loss whose shelf or store stops at each of its calls in turn. The same loss is asked again of
-//! what that leaves and of what a crash leaves of it: it is done, or repeated where it was
+//! Losses whose shelf or store stops at each of their calls in turn. The same loss is asked again
+//! of what that leaves and of what a crash leaves of it: it is done, or repeated where it was
 //! accepted, and what is found behind it is what a loss leaves that wasn't stopped.
 
 use super::found::bare;
-use super::losses::{FILLING, done, must_be_over, repeated};
+use super::losses::{FILLING, FIRST, PATCHED, PATCHING, done, must_be_over, repeated};
 use super::media::{
     Came, Job, Left, Media, behind, copy_of, crash_image, perform_on_files, perform_over,
 };
@@ -17,8 +17,62 @@ use std::process::Abort;
 // A loss is over long before it makes so many calls of the shelf or of a file.
 const MANY: u64 = 400;
 
-// The loss of the source of a copy that is pending.
-const LOSS: Job = Job::Lose("a.img", "k6");
+// A loss of a.img under a key and a number, behind commands of which the last is pending: how many
+// intents are pending before it, and how many then; and which syncid and data the others have in
+// the end.
+#[derive(Clone, Copy)]
+struct Loss {
+    commands: &'static str,
+    key: &'static str,
+    number: u64,
+    before: u64,
+    behind: u64,
+    syncid: u32,
+    data: [u8; 3],
+}
+
+// Of the source of a copy, and of a component that is patched.
+const LOSSES: [Loss; 2] = [
+    Loss {
+        commands: FILLING,
+        key: "k6",
+        number: 6,
+        before: 2,
+        behind: 4,
+        syncid: 1,
+        data: FIRST,
+    },
+    Loss {
+        commands: PATCHING,
+        key: "k7",
+        number: 7,
+        before: 9,
+        behind: 8,
+        syncid: 2,
+        data: PATCHED,
+    },
+];
+
+impl Loss {
+    fn job(self) -> Job {
+        Job::Lose("a.img", self.key)
+    }
+
+    // What it comes to that isn't stopped.
+    fn done(self) -> Came {
+        done(self.number, self.before)
+    }
+
+    // What it comes to again while so many intents are pending.
+    fn repeated(self, pending: u64) -> Came {
+        repeated(self.number, pending)
+    }
+
+    // The media before it: the image is gone.
+    fn start(self, rt: &(impl Abort + AllocGlobal)) -> Media {
+        behind(rt, bare(rt), self.commands, "a.img")
+    }
+}
 
 // How a shelf stops at its nth call.
 #[derive(Clone, Copy)]
@@ -36,11 +90,6 @@ enum StopsAt {
     Database,
 }
 
-// The source of a pending copy is gone.
-fn start(rt: &(impl Abort + AllocGlobal)) -> Media {
-    behind(rt, bare(rt), FILLING, "a.img")
-}
-
 fn stopping(stop: Stop, shelf: MemShelf, nth: u64) -> FaultShelf<MemShelf> {
     match stop {
         Stop::Before => FaultShelf::stop_from(shelf, nth),
@@ -50,15 +99,21 @@ fn stopping(stop: Stop, shelf: MemShelf, nth: u64) -> FaultShelf<MemShelf> {
 
 // The loss asked again of what a stop left, and not stopped: all is as it is to be behind it; what
 // it came to.
-fn loses_again(rt: &(impl Abort + AllocGlobal), store: &StoreBytes, shelf: &MemShelf) -> Came {
-    let (came, over) = perform_over(rt, store, shelf, LOSS);
-    must_be_over(rt, &over);
+fn loses_again(
+    rt: &(impl Abort + AllocGlobal),
+    loss: Loss,
+    store: &StoreBytes,
+    shelf: &MemShelf,
+) -> Came {
+    let (came, over) = perform_over(rt, store, shelf, loss.job());
+    must_be_over(rt, &over, loss.syncid, loss.data);
     came
 }
 
 // A loss whose shelf stops so at its nth call.
 fn stop_shelf(
     rt: &(impl Abort + AllocGlobal),
+    loss: Loss,
     from: &Media,
     stop: Stop,
     nth: u64,
@@ -70,7 +125,7 @@ fn stop_shelf(
         stopped,
         files,
         shelf,
-    } = perform_on_files(rt, files, shelf, LOSS);
+    } = perform_on_files(rt, files, shelf, loss.job());
     must(rt, !stopped, "the store stopped");
     let media = Media {
         store: got(rt, StoreBytes::of(rt.alloc(), &files)),
@@ -81,12 +136,12 @@ fn stop_shelf(
 
 // Asks the loss again of each image that a crash may leave of a shelf. No more than three sectors
 // are unsynced at a time, each of them written once. It was accepted before the shelf was called.
-fn visit_each(rt: &(impl Abort + AllocGlobal), left: &Media, pending: u64) {
+fn visit_each(rt: &(impl Abort + AllocGlobal), loss: Loss, left: &Media, pending: u64) {
     for number in 0u32..8 {
         let picks = [number % 2, number / 2 % 2, number / 4];
         let image = crash_image(rt, &left.shelf, &picks);
-        let came = loses_again(rt, &left.store, &image);
-        must(rt, came == repeated(6, pending), "not repeated");
+        let came = loses_again(rt, loss, &left.store, &image);
+        must(rt, came == loss.repeated(pending), "not repeated");
     }
 }
 
@@ -94,29 +149,36 @@ fn visit_each(rt: &(impl Abort + AllocGlobal), left: &Media, pending: u64) {
 // whether it wasn't stopped. All that the loss left pending is still so where it was.
 fn shelf_stops_at(
     rt: &(impl Abort + AllocGlobal),
+    loss: Loss,
     from: &Media,
     stop: Stop,
     nth: u64,
     expected: &Came,
 ) -> bool {
-    let (came, left) = stop_shelf(rt, from, stop, nth);
+    let (came, left) = stop_shelf(rt, loss, from, stop, nth);
     let ended = came == *expected;
     must(
         rt,
         ended || came == Came::Failed(BenchFault::Disk),
         "another fault",
     );
-    visit_each(rt, &left, if ended { 0 } else { 4 });
+    visit_each(rt, loss, &left, if ended { 0 } else { loss.behind });
     ended
 }
 
 // Stops at each call of the shelf in turn, until a loss ends; behind how many calls.
-fn stop_at_each(rt: &(impl Abort + AllocGlobal), from: &Media, stop: Stop, expected: &Came) -> u64 {
+fn stop_at_each(
+    rt: &(impl Abort + AllocGlobal),
+    loss: Loss,
+    from: &Media,
+    stop: Stop,
+    expected: &Came,
+) -> u64 {
     let mut calls: u64 = 0;
     let mut ended = false;
     for nth in 1..MANY {
         if !ended {
-            ended = shelf_stops_at(rt, from, stop, nth, expected);
+            ended = shelf_stops_at(rt, loss, from, stop, nth, expected);
             calls = nth;
         }
     }
@@ -126,27 +188,35 @@ fn stop_at_each(rt: &(impl Abort + AllocGlobal), from: &Media, stop: Stop, expec
 
 #[test]
 fn a_loss_whose_shelf_stops_is_repeated(rt: HostRuntime) {
-    let from = start(&rt);
-    for stop in [Stop::Before, Stop::Behind] {
-        let calls = stop_at_each(&rt, &from, stop, &done(6, 2));
-        println!(rt; "{calls} calls of the shelf").expect(&rt, "no output");
-        must(&rt, calls > 10, "a stop didn't come");
+    for loss in LOSSES {
+        let from = loss.start(&rt);
+        for stop in [Stop::Before, Stop::Behind] {
+            let calls = stop_at_each(&rt, loss, &from, stop, &loss.done());
+            println!(rt; "{calls} calls of the shelf").expect(&rt, "no output");
+            must(&rt, calls > 10, "a stop didn't come");
+        }
     }
 }
 
 // A loss that was stopped behind its commit, and is stopped again where it is repeated.
+fn stop_twice(rt: &(impl Abort + AllocGlobal), loss: Loss, from: &Media, stop: Stop, first: u64) {
+    let (came, left) = stop_shelf(rt, loss, from, stop, first);
+    must(rt, came == Came::Failed(BenchFault::Disk), "no stop");
+    let again = Media {
+        shelf: copy_of(rt, &left.shelf),
+        ..left
+    };
+    stop_at_each(rt, loss, &again, stop, &loss.repeated(loss.behind));
+}
+
 #[test]
 fn a_repeated_loss_whose_shelf_stops_is_repeated(rt: HostRuntime) {
-    let from = start(&rt);
-    for stop in [Stop::Before, Stop::Behind] {
-        for first in 1..8 {
-            let (came, left) = stop_shelf(&rt, &from, stop, first);
-            must(&rt, came == Came::Failed(BenchFault::Disk), "no stop");
-            let again = Media {
-                shelf: copy_of(&rt, &left.shelf),
-                ..left
-            };
-            stop_at_each(&rt, &again, stop, &repeated(6, 4));
+    for loss in LOSSES {
+        let from = loss.start(&rt);
+        for stop in [Stop::Before, Stop::Behind] {
+            for first in 1..8 {
+                stop_twice(&rt, loss, &from, stop, first);
+            }
         }
     }
 }
@@ -188,36 +258,36 @@ fn outcome_of(rt: &(impl Abort + AllocGlobal), left: Left<Fuse<Memory>, MemShelf
 }
 
 // A loss over files that serve so many calls.
-fn lose_for(rt: &(impl Abort + AllocGlobal), from: &Media, calls: Calls) -> Outcome {
+fn lose_for(rt: &(impl Abort + AllocGlobal), loss: Loss, from: &Media, calls: Calls) -> Outcome {
     let files = got(rt, from.store.files(rt.alloc(), calls));
     outcome_of(
         rt,
-        perform_on_files(rt, files, copy_of(rt, &from.shelf), LOSS),
+        perform_on_files(rt, files, copy_of(rt, &from.shelf), loss.job()),
     )
 }
 
 // The loss is done where its commit didn't come, and else repeated, with all or nothing of it
 // pending; nothing is where it was answered.
-fn visit(rt: &(impl Abort + AllocGlobal), left: &Media, was_done: bool) {
-    let came = loses_again(rt, &left.store, &left.shelf);
-    let is_over = came == repeated(6, 0);
-    let stays = came == done(6, 2) || came == repeated(6, 4);
+fn visit(rt: &(impl Abort + AllocGlobal), loss: Loss, left: &Media, was_done: bool) {
+    let came = loses_again(rt, loss, &left.store, &left.shelf);
+    let is_over = came == loss.repeated(0);
+    let stays = came == loss.done() || came == loss.repeated(loss.behind);
     must(rt, is_over || stays && !was_done, "another answer");
 }
 
 // One loss with a stop; whether the stop didn't come.
-fn store_stops_at(rt: &(impl Abort + AllocGlobal), from: &Media, calls: Calls) -> bool {
-    let outcome = lose_for(rt, from, calls);
-    let was_done = outcome.came == done(6, 2);
+fn store_stops_at(rt: &(impl Abort + AllocGlobal), loss: Loss, from: &Media, calls: Calls) -> bool {
+    let outcome = lose_for(rt, loss, from, calls);
+    let was_done = outcome.came == loss.done();
     let well = was_done || outcome.came == Came::Failed(BenchFault::Store);
     must(rt, well, "another fault");
-    visit(rt, &outcome.standing, was_done);
-    visit(rt, &outcome.crashed, was_done);
+    visit(rt, loss, &outcome.standing, was_done);
+    visit(rt, loss, &outcome.crashed, was_done);
     was_done && !outcome.stopped
 }
 
 // Stops at each call of a file in turn, until a loss ends without a stop; behind how many calls.
-fn stop_file(rt: &(impl Abort + AllocGlobal), from: &Media, stops_at: StopsAt) -> u64 {
+fn stop_file(rt: &(impl Abort + AllocGlobal), loss: Loss, from: &Media, stops_at: StopsAt) -> u64 {
     let mut count: u64 = 0;
     let mut ended = false;
     for served in 0..MANY {
@@ -226,7 +296,7 @@ fn stop_file(rt: &(impl Abort + AllocGlobal), from: &Media, stops_at: StopsAt) -
                 StopsAt::Log => Calls { log: served, ..ALL },
                 StopsAt::Database => Calls { db: served, ..ALL },
             };
-            ended = store_stops_at(rt, from, calls);
+            ended = store_stops_at(rt, loss, from, calls);
             count = served;
         }
     }
@@ -236,10 +306,12 @@ fn stop_file(rt: &(impl Abort + AllocGlobal), from: &Media, stops_at: StopsAt) -
 
 #[test]
 fn a_loss_whose_store_stops_is_done_or_repeated(rt: HostRuntime) {
-    let from = start(&rt);
-    for stops_at in [StopsAt::Log, StopsAt::Database] {
-        let calls = stop_file(&rt, &from, stops_at);
-        println!(rt; "{calls} calls of a file").expect(&rt, "no output");
-        must(&rt, calls > 2, "a stop didn't come");
+    for loss in LOSSES {
+        let from = loss.start(&rt);
+        for stops_at in [StopsAt::Log, StopsAt::Database] {
+            let calls = stop_file(&rt, loss, &from, stops_at);
+            println!(rt; "{calls} calls of a file").expect(&rt, "no output");
+            must(&rt, calls > 2, "a stop didn't come");
+        }
     }
 }

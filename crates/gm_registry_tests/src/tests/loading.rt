@@ -30,7 +30,7 @@ INSERT INTO intents VALUES (1, 3, 'b.img', 'a.img', 1, 3);
 INSERT INTO intents VALUES (3, 2, 'x.img', '', 0, 0)";
 
 // Edits of those rows, each of which makes them unreadable.
-pub(super) const EDITS: [&str; 39] = [
+pub(super) const EDITS: [&str; 42] = [
     "UPDATE components SET dflags = 4 WHERE prov = 'a.img'",
     "UPDATE components SET dflags = 1 WHERE prov = 'a.img'",
     "UPDATE components SET dflags = -1 WHERE prov = 'a.img'",
@@ -67,6 +67,9 @@ pub(super) const EDITS: [&str; 39] = [
     "UPDATE intents SET ord = 5 WHERE ord = 1",
     "UPDATE intents SET ord = 4 WHERE ord = 3",
     "INSERT INTO intents VALUES (4, 3, 'c.img', 'a.img', 0, 3); INSERT INTO intents VALUES (5, 1, 'c.img', '', 0, 0)",
+    "INSERT INTO intents VALUES (4, 4, 'a.img', '', 0, 0)",
+    "INSERT INTO intents VALUES (4, 4, 'b.img', '', 0, 0); INSERT INTO intents VALUES (5, 1, 'b.img', '', 0, 0)",
+    "DELETE FROM intents; INSERT INTO intents VALUES (1, 4, 'a.img', '', 0, 0); INSERT INTO intents VALUES (2, 5, 'a.img', '', 1, 2); INSERT INTO intents VALUES (3, 1, 'a.img', '', 0, 0)",
     "UPDATE commands SET seq = 4 WHERE seq = 3",
     "UPDATE commands SET copied = 1048577 WHERE seq = 3",
     "UPDATE commands SET of_total = -1 WHERE seq = 3",
@@ -76,7 +79,7 @@ pub(super) const EDITS: [&str; 39] = [
 pub(super) fn load<S: Alter>(
     alloc: Global,
     registry: &mut Registry<S>,
-) -> Result<(State, Vec<Intent>), StoreFault> {
+) -> Result<(State, Vec<Intent>, Vec<[u8; 512]>), StoreFault> {
     registry.load(alloc)
 }
 
@@ -86,7 +89,11 @@ pub(super) fn edits<S: Alter>(rt: &impl Abort, store: &mut Connection<S>, sql: &
 }
 
 // A registry with the rows, of which these were edited.
-fn edited<S: Alter + Drop>(rt: &impl Abort, store: Connection<S>, sql: &str) -> Registry<S> {
+pub(super) fn edited<S: Alter + Drop>(
+    rt: &impl Abort,
+    store: Connection<S>,
+    sql: &str,
+) -> Registry<S> {
     let mut store = opened(rt, store).close();
     edits(rt, &mut store, ROWS);
     edits(rt, &mut store, sql);
@@ -155,10 +162,16 @@ fn must_be_the_rows(rt: &impl Abort, state: &State, pending: &[Intent]) {
     must(rt, pending == intents(rt).as_slice(), "intents");
 }
 
+// The registry says the rows, and no bytes to be laid.
+pub(super) fn says_the_rows<S: Alter>(rt: &(impl Abort + AllocGlobal), registry: &mut Registry<S>) {
+    let (state, pending, bytes) = load(rt.alloc(), registry).expect(rt, "not loaded");
+    must_be_the_rows(rt, &state, &pending);
+    must(rt, bytes.is_empty(), "bytes");
+}
+
 fn say_a_state<S: Alter + Drop>(rt: &(impl Abort + AllocGlobal), store: Connection<S>) {
     let mut registry = edited(rt, store, "");
-    let (state, pending) = load(rt.alloc(), &mut registry).expect(rt, "not loaded");
-    must_be_the_rows(rt, &state, &pending);
+    says_the_rows(rt, &mut registry);
 }
 
 #[test]

@@ -39,7 +39,7 @@ enum Job<'a> {
 }
 
 // How many rows are found.
-#[derive(Clone, Copy)]
+#[derive(Clone, Copy, PartialEq, Eq)]
 struct Found {
     commands: u64,
     components: i64,
@@ -281,6 +281,61 @@ fn stop_at_each(rt: &(impl Abort + AllocGlobal), from: &StoreBytes, before: u64)
         db_ended = db_ended || !stop_at(rt, from, before, Calls { db: calls, ..ALL });
     }
     must(rt, log_ended && db_ended, "no run ended");
+}
+
+// What is found of the rows of `loading` in files that may have been carried over.
+const ROWS_FOUND: Found = Found {
+    commands: 3,
+    components: 7,
+    intents: 3,
+};
+
+// Whether an opening that stops finds the rows, if any.
+fn look_at(
+    rt: &(impl Abort + AllocGlobal),
+    from: &StoreBytes,
+    calls: Calls,
+) -> (bool, Files<Fuse<Memory>>) {
+    let files = files_of(rt, from, calls);
+    let (told, stopped, left) = perform_on_files(rt.alloc(), files, &Job::Look);
+    if let Some(found) = told.found {
+        must(rt, found == ROWS_FOUND, "other rows");
+    }
+    (stopped, left)
+}
+
+// The rows are there, once nothing stops.
+fn must_have_rows(rt: &(impl Abort + AllocGlobal), from: &StoreBytes) {
+    let files = files_of(rt, from, ALL);
+    let (told, stopped, _) = perform_on_files(rt.alloc(), files, &Job::Look);
+    must(rt, told.found == Some(ROWS_FOUND) && !stopped, "other rows");
+}
+
+// Two openings that stop in turn, and whether the first did; the rows are there after each, as the
+// files read and as a crash leaves them.
+fn is_carried_through(rt: &(impl Abort + AllocGlobal), from: &StoreBytes, calls: Calls) -> bool {
+    let (stopped, mut left) = look_at(rt, from, calls);
+    let read = bytes_of(rt, &left);
+    must_have_rows(rt, &read);
+    left.log.crash();
+    left.db.crash();
+    let crashed = bytes_of(rt, &left);
+    must_have_rows(rt, &crashed);
+    let (_, again) = look_at(rt, &crashed, calls);
+    must_have_rows(rt, &bytes_of(rt, &again));
+    stopped
+}
+
+// Stops at this call of either file, and whether they came.
+pub(super) fn is_carried_at(
+    rt: &(impl Abort + AllocGlobal),
+    from: &StoreBytes,
+    calls: u64,
+) -> (bool, bool) {
+    (
+        is_carried_through(rt, from, Calls { log: calls, ..ALL }),
+        is_carried_through(rt, from, Calls { db: calls, ..ALL }),
+    )
 }
 
 // A registry with one component, settled.

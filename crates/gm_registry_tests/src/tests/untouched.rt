@@ -7,9 +7,11 @@ use gm_test_media::StoreBytes;
 use std::process::Abort;
 
 // Each makes another store of a registry; the last gives `intents` a column more.
-const OTHERS: [&str; 3] = [
+const OTHERS: [&str; 5] = [
     "UPDATE about SET schema_no = 3",
+    "UPDATE about SET schema_no = 1",
     "DROP TABLE intents",
+    "DROP TABLE patches",
     "DROP TABLE intents; CREATE TABLE intents(ord INTEGER PRIMARY KEY, kind INTEGER NOT NULL, prov TEXT NOT NULL,
   source TEXT NOT NULL, first_sector INTEGER NOT NULL, end_sector INTEGER NOT NULL, more INTEGER) STRICT",
 ];

@@ -2,7 +2,7 @@
 //! does nothing, and both media stay. And one that was closed between two calls.
 
 use super::media::{Job, Media, Told, fresh, look};
-use super::scripts::{ADOPTED, FILLED, LOST, Script};
+use super::scripts::{ADOPTED, FILLED, LOST, PATCHED, Script};
 use super::shelf_stops::{MANY, Stop, fault_of, stop_shelf, stopping};
 use super::{got, must};
 use gm_bench::{Bench, BenchFault, Phase};
@@ -135,16 +135,20 @@ fn closes_after(rt: &(impl Abort + AllocGlobal), script: Script, calls: u64) {
     let (told, left) = stop_shelf(rt, &start.store, &start.shelf, job, Stop::Before, MANY);
     let well = told.fault.is_none() && told.done == calls.div_ceil(3);
     must(rt, well, "another count of commands");
-    let redone = look(rt, &left.store, &left.shelf, script, told.done);
+    let found = look(rt, &left.store, &left.shelf, script, told.done);
     let is_settled = calls % 3 == 0;
     let asked = script.station(rt, told.done).writes;
     let pending = if is_settled { 0 } else { asked };
-    must(rt, redone == pending, "another count of what was pending");
+    must(
+        rt,
+        found.pending == pending,
+        "another count of what was pending",
+    );
 }
 
 #[test]
 fn a_bench_that_is_closed_goes_on(rt: HostRuntime) {
-    for script in [FILLED, LOST, ADOPTED] {
+    for script in [FILLED, LOST, ADOPTED, PATCHED] {
         for calls in 0..=script.length().saturating_mul(3) {
             closes_after(&rt, script, calls);
         }

@@ -1,12 +1,13 @@
 //! What is found on images and at a bench, as a text, and whether images claim what they lack. Last
 //! sectors are read here byte by byte, apart from the program.
 
+use super::media::Found;
 use super::scripts::{Script, key_at, reply_to};
 use super::{got, must};
 use gm_bench::{Answer, Bench};
 use gm_refusals::{CallRefusal, Refusal};
 use gm_shelf::Shelf;
-use gm_test_bench::{try_run, try_view};
+use gm_test_bench::{number, try_run, try_view};
 use gm_test_media::sector;
 use gm_words::status_text;
 use sqlite::Alter;
@@ -45,36 +46,28 @@ fn sector_of<H: Shelf>(rt: &impl Abort, shelf: &mut H, name: &str, place: u64) -
     got(rt, sector(shelf, name, place))
 }
 
-// Whether so many first sectors of an image are those of the image whose data begin with this byte.
-fn has_data<H: Shelf>(rt: &impl Abort, shelf: &mut H, name: &str, first: u8, sectors: u8) -> bool {
-    let mut has = true;
-    for place in 0..sectors {
-        let held = sector_of(rt, shelf, name, u64::from(place));
-        has = has && held == [first.wrapping_add(place); 512];
-    }
-    has
+// The byte that a sector of an image has throughout; 0 where it has several.
+fn byte_at<H: Shelf>(rt: &impl Abort, shelf: &mut H, name: &str, place: u64) -> u8 {
+    let held = sector_of(rt, shelf, name, place);
+    if held == [held[0]; 512] { held[0] } else { 0 }
 }
 
-// Whose data an image has: all of one image, or a mixture.
-fn owner<H: Shelf>(rt: &impl Abort, shelf: &mut H, name: &str) -> &'static str {
-    if has_data(rt, shelf, name, 10, 3) {
-        return "a.img";
-    }
-    if has_data(rt, shelf, name, 20, 3) {
-        return "b.img";
-    }
-    if has_data(rt, shelf, name, 30, 3) {
-        return "c.img";
-    }
-    "several"
+// The same of each sector of its data.
+fn data_of<H: Shelf>(rt: &impl Abort, shelf: &mut H, name: &str) -> [u8; 3] {
+    [
+        byte_at(rt, shelf, name, 0),
+        byte_at(rt, shelf, name, 1),
+        byte_at(rt, shelf, name, 2),
+    ]
 }
 
-// What an image says and whose data it has.
+// What an image says, and what data it has.
 fn said<H: Shelf>(rt: &(impl Abort + AllocGlobal), shelf: &mut H, name: &str) -> String {
     let last = sector_of(rt, shelf, name, 3);
-    let owner = owner(rt, shelf, name);
+    let [first, second, third] = data_of(rt, shelf, name);
+    let data = format!(in rt.alloc(); "data {first} {second} {third}").expect(rt, "no memory");
     let text = if last == [0; 512] {
-        format!(in rt.alloc(); "\n{name}: nothing, data of {owner}")
+        format!(in rt.alloc(); "\n{name}: nothing, {data}")
     } else {
         let (version, did, all) = (last[VERSION], last[DID], last[ALL]);
         let (genid, syncid) = (last[GENID], last[SYNCID]);
@@ -82,9 +75,7 @@ fn said<H: Shelf>(rt: &(impl Abort + AllocGlobal), shelf: &mut H, name: &str) ->
         let numbers = format!(in rt.alloc();
             "version {version}, did {did} of {all}, genid {genid}, syncid {syncid}"
         ).expect(rt, "no memory");
-        format!(in rt.alloc();
-            "\n{name}: {numbers}, balance {balance}, flags {flags}, data of {owner}"
-        )
+        format!(in rt.alloc(); "\n{name}: {numbers}, balance {balance}, flags {flags}, {data}")
     };
     text.expect(rt, "no memory")
 }
@@ -174,38 +165,83 @@ fn claimed(last: &[u8; 512]) -> u8 {
     last[OFFSET] / 2
 }
 
-// The image that the next command adds to a mirror, where it is a label or an insert.
-fn added_next(script: Script, done: u64) -> &'static str {
-    match script.find(done.saturating_add(1)) {
-        Some(next) if next.words.starts_with("label") => "a.img",
-        Some(next) if next.words.starts_with("insert") => "b.img",
-        _ => "none",
-    }
+// The syncid and the data of the mirror: those of a.img, which is ACTIVE wherever there is one.
+#[derive(Clone, Copy)]
+struct Mirrored {
+    syncid: u32,
+    data: [u8; 3],
 }
 
-/// Whether each component that counts claims no sector that it lacks. Of a script of which so many
-/// commands were answered those count that were registered then, and the one that a label or an
-/// insert adds next. Until an adoption is carried out, its images say what they said before it, and
-/// don't count. The mirror's data are those of a.img.
+// The three bytes that a text says, with spaces between them.
+fn three_bytes(text: &str) -> [u8; 3] {
+    let mut bytes = [0; 3];
+    for (place, said) in text.split(' ').enumerate() {
+        if place < 3 {
+            bytes[place] = (number(said) % 256) as u8;
+        }
+    }
+    bytes
+}
+
+// What is said of a.img, with commas between its parts.
+fn mirrored_in(said: &str) -> Mirrored {
+    let mut mirrored = Mirrored {
+        syncid: 0,
+        data: [0; 3],
+    };
+    for part in said.split(',') {
+        if let Some(syncid) = part.strip_prefix(" syncid ") {
+            mirrored.syncid = number(syncid);
+        }
+        if let Some(data) = part.strip_prefix(" data ") {
+            mirrored.data = three_bytes(data);
+        }
+    }
+    mirrored
+}
+
+// The mirror behind so many commands of a script.
+fn mirror_behind(rt: &impl Abort, script: Script, commands: u64) -> Mirrored {
+    for line in script.station(rt, commands).found.split('\n') {
+        if let Some(said) = line.strip_prefix("a.img:") {
+            return mirrored_in(said);
+        }
+    }
+    panic!(rt; "no a.img")
+}
+
+// Whether so many first sectors of an image are these data.
+fn has_data(held: [u8; 3], data: [u8; 3], sectors: u8) -> bool {
+    let mut has = true;
+    for (place, byte) in held.iter().enumerate() {
+        has = has && (usize::from(sectors) <= place || *byte == data[place]);
+    }
+    has
+}
+
+/// Whether each component that counts claims no sector that it lacks. Those count that are
+/// registered behind so many commands of a script, all that were accepted. Until an adoption is
+/// carried out, its images say what they said before it, and don't count. An image with the
+/// mirror's syncid behind the last command claims the data behind it, any other those before it.
 pub(super) fn must_claim_truly<H: Shelf>(
     rt: &impl Abort,
     shelf: &mut H,
     script: Script,
-    done: u64,
-    pending: u64,
+    found: Found,
 ) {
-    let station = script.station(rt, done);
+    let Found { commands, pending } = found;
+    let station = script.station(rt, commands);
     let is_adopting = pending > 0 && station.words.starts_with("adopt");
-    let added = added_next(script, done);
+    let before = mirror_behind(rt, script, commands.saturating_sub(1));
+    let after = mirror_behind(rt, script, commands);
     for (name, listed) in [("a.img", "  a.img "), ("b.img", "  b.img ")] {
-        let is_registered = station.found.contains(listed) && !is_adopting;
-        if is_registered || name == added {
-            let claims = claimed(&sector_of(rt, shelf, name, 3));
-            must(
-                rt,
-                has_data(rt, shelf, name, 10, claims),
-                "a claim of what isn't there",
-            );
+        if station.found.contains(listed) && !is_adopting {
+            let last = sector_of(rt, shelf, name, 3);
+            let is_behind = u32::from(last[SYNCID]) == after.syncid;
+            let list = if is_behind { after } else { before };
+            let held = data_of(rt, shelf, name);
+            let has = has_data(held, list.data, claimed(&last));
+            must(rt, has, "a claim of what isn't there");
         }
     }
 }

@@ -179,22 +179,29 @@ pub(super) fn perform_on_files<D: Disk + Drop, H: Shelf + Drop>(
     }
 }
 
+/// What an opening found: how many commands of a script were accepted, and how much it carried out.
+#[derive(Clone, Copy)]
+pub(super) struct Found {
+    pub(super) commands: u64,
+    pub(super) pending: u64,
+}
+
 // What an opening finds where so many commands of a script were answered: the station of these, or
-// of one more; how much it carried out.
+// of one more.
 fn find<S: Alter + Drop, H: Shelf + Drop>(
     rt: &(impl Abort + AllocGlobal),
     mut bench: Bench<S, H>,
     script: Script,
     done: u64,
-) -> u64 {
-    let redone = bench.redone();
+) -> Found {
+    let pending = bench.redone();
     let commands = accepted(rt, &mut bench, script, done);
     let text = mirrors(rt, &mut bench);
     let (_, mut shelf) = bench.close();
     let found = with_images(rt, text, &mut shelf);
     let expected = script.station(rt, commands).found;
     must(rt, found.as_str() == expected, "another pair");
-    redone
+    Found { commands, pending }
 }
 
 fn look_at<S: Alter + Drop, H: Shelf + Drop>(
@@ -203,7 +210,7 @@ fn look_at<S: Alter + Drop, H: Shelf + Drop>(
     shelf: H,
     script: Script,
     done: u64,
-) -> u64 {
+) -> Found {
     match got(rt, try_open(rt.alloc(), store, shelf)) {
         Ok(bench) => find(rt, bench, script, done),
         Err(_) => panic!(rt; "a fault at the opening"),
@@ -211,14 +218,14 @@ fn look_at<S: Alter + Drop, H: Shelf + Drop>(
 }
 
 /// Opens media again, and holds them to the stations of a script of which so many commands were
-/// answered; how much the opening carried out.
+/// answered.
 pub(super) fn look(
     rt: &(impl Abort + AllocGlobal),
     store: &StoreBytes,
     shelf: &MemShelf,
     script: Script,
     done: u64,
-) -> u64 {
+) -> Found {
     let files = got(rt, store.files(rt.alloc(), ALL));
     assert!(rt; files.may_be_used());
     match Connection::open_files(rt.alloc(), files, Options::new(1)) {

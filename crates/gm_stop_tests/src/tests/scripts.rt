@@ -4,7 +4,7 @@
 //! A station stands behind an equals sign, and has three parts with bars between them: the command
 //! that leads there, which the first station lacks; for how many writes it asks; and what is found
 //! there. Those are the mirrors, as a status shows them, and of each image what its last sector
-//! says and whose data it has.
+//! says and the byte that each sector of its data has throughout.
 
 use super::got;
 use gm_shelf::MemShelf;
@@ -42,43 +42,43 @@ pub(super) const FILLED: Script = Script {
     start: Start::Bare,
     stations: "= | 0 |
 no mirrors
-a.img: nothing, data of a.img
-b.img: nothing, data of b.img
-c.img: nothing, data of c.img
+a.img: nothing, data 10 11 12
+b.img: nothing, data 20 21 22
+c.img: nothing, data 30 31 32
 = label --mid 7 --did 1 gm0 a.img | 1 |
 gm0             COMPLETE 1/1
   a.img           ACTIVE
-a.img: version 4, did 1 of 1, genid 0, syncid 1, balance 2, flags 0, data of a.img
-b.img: nothing, data of b.img
-c.img: nothing, data of c.img
+a.img: version 4, did 1 of 1, genid 0, syncid 1, balance 2, flags 0, data 10 11 12
+b.img: nothing, data 20 21 22
+c.img: nothing, data 30 31 32
 = insert --did 2 gm0 b.img | 2 |
 gm0             DEGRADED 1/2
   a.img           ACTIVE
   b.img           SYNCHRONIZING 0 of 3
-a.img: version 4, did 1 of 2, genid 0, syncid 1, balance 2, flags 0, data of a.img
-b.img: version 4, did 2 of 2, genid 0, syncid 1, balance 2, flags 2, data of b.img
-c.img: nothing, data of c.img
+a.img: version 4, did 1 of 2, genid 0, syncid 1, balance 2, flags 0, data 10 11 12
+b.img: version 4, did 2 of 2, genid 0, syncid 1, balance 2, flags 2, data 20 21 22
+c.img: nothing, data 30 31 32
 = advance gm0 b.img | 2 |
 gm0             COMPLETE 2/2
   a.img           ACTIVE
   b.img           ACTIVE
-a.img: version 4, did 1 of 2, genid 0, syncid 1, balance 2, flags 0, data of a.img
-b.img: version 4, did 2 of 2, genid 0, syncid 1, balance 2, flags 0, data of a.img
-c.img: nothing, data of c.img
+a.img: version 4, did 1 of 2, genid 0, syncid 1, balance 2, flags 0, data 10 11 12
+b.img: version 4, did 2 of 2, genid 0, syncid 1, balance 2, flags 0, data 10 11 12
+c.img: nothing, data 30 31 32
 = deactivate gm0 b.img | 2 |
 gm0             DEGRADED 1/2
   a.img           ACTIVE
   b.img           INACTIVE
-a.img: version 4, did 1 of 2, genid 0, syncid 2, balance 2, flags 0, data of a.img
-b.img: version 4, did 2 of 2, genid 0, syncid 1, balance 2, flags 8, data of a.img
-c.img: nothing, data of c.img
+a.img: version 4, did 1 of 2, genid 0, syncid 2, balance 2, flags 0, data 10 11 12
+b.img: version 4, did 2 of 2, genid 0, syncid 1, balance 2, flags 8, data 10 11 12
+c.img: nothing, data 30 31 32
 = activate gm0 b.img | 1 |
 gm0             DEGRADED 1/2
   a.img           ACTIVE
   b.img           SYNCHRONIZING 0 of 3
-a.img: version 4, did 1 of 2, genid 0, syncid 2, balance 2, flags 0, data of a.img
-b.img: version 4, did 2 of 2, genid 0, syncid 2, balance 2, flags 2, data of a.img
-c.img: nothing, data of c.img
+a.img: version 4, did 1 of 2, genid 0, syncid 2, balance 2, flags 0, data 10 11 12
+b.img: version 4, did 2 of 2, genid 0, syncid 2, balance 2, flags 2, data 10 11 12
+c.img: nothing, data 30 31 32
 ",
 };
 
@@ -87,41 +87,41 @@ pub(super) const LOST: Script = Script {
     start: Start::Bare,
     stations: "= | 0 |
 no mirrors
-a.img: nothing, data of a.img
-b.img: nothing, data of b.img
-c.img: nothing, data of c.img
+a.img: nothing, data 10 11 12
+b.img: nothing, data 20 21 22
+c.img: nothing, data 30 31 32
 = label --mid 7 --did 1 gm0 a.img | 1 |
 gm0             COMPLETE 1/1
   a.img           ACTIVE
-a.img: version 4, did 1 of 1, genid 0, syncid 1, balance 2, flags 0, data of a.img
-b.img: nothing, data of b.img
-c.img: nothing, data of c.img
+a.img: version 4, did 1 of 1, genid 0, syncid 1, balance 2, flags 0, data 10 11 12
+b.img: nothing, data 20 21 22
+c.img: nothing, data 30 31 32
 = insert --did 2 gm0 b.img | 2 |
 gm0             DEGRADED 1/2
   a.img           ACTIVE
   b.img           SYNCHRONIZING 0 of 3
-a.img: version 4, did 1 of 2, genid 0, syncid 1, balance 2, flags 0, data of a.img
-b.img: version 4, did 2 of 2, genid 0, syncid 1, balance 2, flags 2, data of b.img
-c.img: nothing, data of c.img
+a.img: version 4, did 1 of 2, genid 0, syncid 1, balance 2, flags 0, data 10 11 12
+b.img: version 4, did 2 of 2, genid 0, syncid 1, balance 2, flags 2, data 20 21 22
+c.img: nothing, data 30 31 32
 = advance gm0 b.img | 2 |
 gm0             COMPLETE 2/2
   a.img           ACTIVE
   b.img           ACTIVE
-a.img: version 4, did 1 of 2, genid 0, syncid 1, balance 2, flags 0, data of a.img
-b.img: version 4, did 2 of 2, genid 0, syncid 1, balance 2, flags 0, data of a.img
-c.img: nothing, data of c.img
+a.img: version 4, did 1 of 2, genid 0, syncid 1, balance 2, flags 0, data 10 11 12
+b.img: version 4, did 2 of 2, genid 0, syncid 1, balance 2, flags 0, data 10 11 12
+c.img: nothing, data 30 31 32
 = lost gm0 b.img | 1 |
 gm0             DEGRADED 1/2
   a.img           ACTIVE
-a.img: version 4, did 1 of 2, genid 1, syncid 1, balance 2, flags 0, data of a.img
-b.img: version 4, did 2 of 2, genid 0, syncid 1, balance 2, flags 0, data of a.img
-c.img: nothing, data of c.img
+a.img: version 4, did 1 of 2, genid 1, syncid 1, balance 2, flags 0, data 10 11 12
+b.img: version 4, did 2 of 2, genid 0, syncid 1, balance 2, flags 0, data 10 11 12
+c.img: nothing, data 30 31 32
 = forget gm0 | 1 |
 gm0             COMPLETE 1/1
   a.img           ACTIVE
-a.img: version 4, did 1 of 1, genid 1, syncid 1, balance 2, flags 0, data of a.img
-b.img: version 4, did 2 of 2, genid 0, syncid 1, balance 2, flags 0, data of a.img
-c.img: nothing, data of c.img
+a.img: version 4, did 1 of 1, genid 1, syncid 1, balance 2, flags 0, data 10 11 12
+b.img: version 4, did 2 of 2, genid 0, syncid 1, balance 2, flags 0, data 10 11 12
+c.img: nothing, data 30 31 32
 ",
 };
 
@@ -130,54 +130,106 @@ pub(super) const ADOPTED: Script = Script {
     start: Start::OfAMirror,
     stations: "= | 0 |
 no mirrors
-a.img: version 2, did 1 of 2, genid 0, syncid 1, balance 2, flags 0, data of a.img
-b.img: version 3, did 2 of 2, genid 0, syncid 1, balance 2, flags 0, data of b.img
-c.img: version 2, did 3 of 2, genid 0, syncid 1, balance 2, flags 0, data of c.img
+a.img: version 2, did 1 of 2, genid 0, syncid 1, balance 2, flags 0, data 10 11 12
+b.img: version 3, did 2 of 2, genid 0, syncid 1, balance 2, flags 0, data 20 21 22
+c.img: version 2, did 3 of 2, genid 0, syncid 1, balance 2, flags 0, data 30 31 32
 = adopt gm0 a.img b.img | 2 |
 gm0             DEGRADED 1/2
   a.img           ACTIVE
   b.img           SYNCHRONIZING 0 of 3
-a.img: version 4, did 1 of 2, genid 0, syncid 1, balance 2, flags 0, data of a.img
-b.img: version 4, did 2 of 2, genid 0, syncid 1, balance 2, flags 2, data of b.img
-c.img: version 2, did 3 of 2, genid 0, syncid 1, balance 2, flags 0, data of c.img
+a.img: version 4, did 1 of 2, genid 0, syncid 1, balance 2, flags 0, data 10 11 12
+b.img: version 4, did 2 of 2, genid 0, syncid 1, balance 2, flags 2, data 20 21 22
+c.img: version 2, did 3 of 2, genid 0, syncid 1, balance 2, flags 0, data 30 31 32
 = configure --balance split gm0 | 2 |
 gm0             DEGRADED 1/2
   a.img           ACTIVE
   b.img           SYNCHRONIZING 0 of 3
-a.img: version 4, did 1 of 2, genid 0, syncid 1, balance 3, flags 0, data of a.img
-b.img: version 4, did 2 of 2, genid 0, syncid 1, balance 3, flags 2, data of b.img
-c.img: version 2, did 3 of 2, genid 0, syncid 1, balance 2, flags 0, data of c.img
+a.img: version 4, did 1 of 2, genid 0, syncid 1, balance 3, flags 0, data 10 11 12
+b.img: version 4, did 2 of 2, genid 0, syncid 1, balance 3, flags 2, data 20 21 22
+c.img: version 2, did 3 of 2, genid 0, syncid 1, balance 2, flags 0, data 30 31 32
 = rebuild gm0 b.img | 1 |
 gm0             DEGRADED 1/2
   a.img           ACTIVE
   b.img           SYNCHRONIZING 0 of 3
-a.img: version 4, did 1 of 2, genid 0, syncid 1, balance 3, flags 0, data of a.img
-b.img: version 4, did 2 of 2, genid 0, syncid 1, balance 3, flags 6, data of b.img
-c.img: version 2, did 3 of 2, genid 0, syncid 1, balance 2, flags 0, data of c.img
+a.img: version 4, did 1 of 2, genid 0, syncid 1, balance 3, flags 0, data 10 11 12
+b.img: version 4, did 2 of 2, genid 0, syncid 1, balance 3, flags 6, data 20 21 22
+c.img: version 2, did 3 of 2, genid 0, syncid 1, balance 2, flags 0, data 30 31 32
 = advance gm0 b.img | 2 |
 gm0             COMPLETE 2/2
   a.img           ACTIVE
   b.img           ACTIVE
-a.img: version 4, did 1 of 2, genid 0, syncid 1, balance 3, flags 0, data of a.img
-b.img: version 4, did 2 of 2, genid 0, syncid 1, balance 3, flags 0, data of a.img
-c.img: version 2, did 3 of 2, genid 0, syncid 1, balance 2, flags 0, data of c.img
+a.img: version 4, did 1 of 2, genid 0, syncid 1, balance 3, flags 0, data 10 11 12
+b.img: version 4, did 2 of 2, genid 0, syncid 1, balance 3, flags 0, data 10 11 12
+c.img: version 2, did 3 of 2, genid 0, syncid 1, balance 2, flags 0, data 30 31 32
 = remove gm0 b.img | 2 |
 gm0             COMPLETE 1/1
   a.img           ACTIVE
-a.img: version 4, did 1 of 1, genid 0, syncid 1, balance 3, flags 0, data of a.img
-b.img: nothing, data of a.img
-c.img: version 2, did 3 of 2, genid 0, syncid 1, balance 2, flags 0, data of c.img
+a.img: version 4, did 1 of 1, genid 0, syncid 1, balance 3, flags 0, data 10 11 12
+b.img: nothing, data 10 11 12
+c.img: version 2, did 3 of 2, genid 0, syncid 1, balance 2, flags 0, data 30 31 32
 = clear c.img | 1 |
 gm0             COMPLETE 1/1
   a.img           ACTIVE
-a.img: version 4, did 1 of 1, genid 0, syncid 1, balance 3, flags 0, data of a.img
-b.img: nothing, data of a.img
-c.img: nothing, data of c.img
+a.img: version 4, did 1 of 1, genid 0, syncid 1, balance 3, flags 0, data 10 11 12
+b.img: nothing, data 10 11 12
+c.img: nothing, data 30 31 32
 = destroy gm0 | 1 |
 no mirrors
-a.img: nothing, data of a.img
-b.img: nothing, data of a.img
-c.img: nothing, data of c.img
+a.img: nothing, data 10 11 12
+b.img: nothing, data 10 11 12
+c.img: nothing, data 30 31 32
+",
+};
+
+/// A mirror of two that is patched, and patched again while a component is out of use.
+pub(super) const PATCHED: Script = Script {
+    start: Start::Bare,
+    stations: "= | 0 |
+no mirrors
+a.img: nothing, data 10 11 12
+b.img: nothing, data 20 21 22
+c.img: nothing, data 30 31 32
+= label --mid 7 --did 1 gm0 a.img | 1 |
+gm0             COMPLETE 1/1
+  a.img           ACTIVE
+a.img: version 4, did 1 of 1, genid 0, syncid 1, balance 2, flags 0, data 10 11 12
+b.img: nothing, data 20 21 22
+c.img: nothing, data 30 31 32
+= insert --did 2 gm0 b.img | 2 |
+gm0             DEGRADED 1/2
+  a.img           ACTIVE
+  b.img           SYNCHRONIZING 0 of 3
+a.img: version 4, did 1 of 2, genid 0, syncid 1, balance 2, flags 0, data 10 11 12
+b.img: version 4, did 2 of 2, genid 0, syncid 1, balance 2, flags 2, data 20 21 22
+c.img: nothing, data 30 31 32
+= advance gm0 b.img | 2 |
+gm0             COMPLETE 2/2
+  a.img           ACTIVE
+  b.img           ACTIVE
+a.img: version 4, did 1 of 2, genid 0, syncid 1, balance 2, flags 0, data 10 11 12
+b.img: version 4, did 2 of 2, genid 0, syncid 1, balance 2, flags 0, data 10 11 12
+c.img: nothing, data 30 31 32
+= patch 0 40 gm0 | 6 |
+gm0             COMPLETE 2/2
+  a.img           ACTIVE
+  b.img           ACTIVE
+a.img: version 4, did 1 of 2, genid 0, syncid 2, balance 2, flags 0, data 40 11 12
+b.img: version 4, did 2 of 2, genid 0, syncid 2, balance 2, flags 0, data 40 11 12
+c.img: nothing, data 30 31 32
+= deactivate gm0 b.img | 2 |
+gm0             DEGRADED 1/2
+  a.img           ACTIVE
+  b.img           INACTIVE
+a.img: version 4, did 1 of 2, genid 0, syncid 3, balance 2, flags 0, data 40 11 12
+b.img: version 4, did 2 of 2, genid 0, syncid 2, balance 2, flags 8, data 40 11 12
+c.img: nothing, data 30 31 32
+= patch 1 41,42 gm0 | 3 |
+gm0             DEGRADED 1/2
+  a.img           ACTIVE
+  b.img           INACTIVE
+a.img: version 4, did 1 of 2, genid 0, syncid 4, balance 2, flags 0, data 40 41 42
+b.img: version 4, did 2 of 2, genid 0, syncid 2, balance 2, flags 8, data 40 11 12
+c.img: nothing, data 30 31 32
 ",
 };
 
@@ -196,8 +248,8 @@ fn digit(text: &str) -> Option<u64> {
 }
 
 impl Script {
-    /// The station behind so many commands, where there is one.
-    pub(super) fn find(self, commands: u64) -> Option<Station> {
+    // The station behind so many commands, where there is one.
+    fn find(self, commands: u64) -> Option<Station> {
         // Nothing stands before the first equals sign.
         let text = self.stations.split('=').skip(1).nth(commands as usize)?;
         let mut parts = text.split('|');

@@ -3,7 +3,7 @@
 
 use super::found::must_claim_truly;
 use super::media::{Job, Left, Media, Told, copy_of, crash_image, fresh, look, perform_on_files};
-use super::scripts::{ADOPTED, FILLED, LOST, Script};
+use super::scripts::{ADOPTED, FILLED, LOST, PATCHED, Script};
 use super::{got, must};
 use gm_bench::BenchFault;
 use gm_shelf::{FaultShelf, MemShelf, Shelf};
@@ -122,7 +122,7 @@ fn crash_images(rt: &(impl Abort + AllocGlobal), shelf: &MemShelf) -> Vec<MemShe
 
 // Opens media that a stop left of a script of which so many commands were answered; how much the
 // opening carried out. No image claimed a sector that it lacks before that: the opening goes over a
-// copy.
+// copy. A store that stopped may have accepted one more.
 fn visit(
     rt: &(impl Abort + AllocGlobal),
     store: &StoreBytes,
@@ -130,9 +130,9 @@ fn visit(
     script: Script,
     done: u64,
 ) -> u64 {
-    let pending = look(rt, store, image, script, done);
-    must_claim_truly(rt, image, script, done, pending);
-    pending
+    let found = look(rt, store, image, script, done);
+    must_claim_truly(rt, image, script, found);
+    found.pending
 }
 
 // Visits each image that a crash may leave of media; how many.
@@ -278,4 +278,15 @@ fn a_shelf_that_stops_while_a_mirror_is_taken_apart(rt: HostRuntime) {
 #[test]
 fn a_shelf_that_acts_and_stops_while_a_mirror_is_taken_apart(rt: HostRuntime) {
     stop_twice(&rt, ADOPTED, Stop::Behind, Stop::OnceBehind, 500);
+}
+
+// A label, an insert, an advance, a patch, a deactivate and a patch.
+#[test]
+fn a_shelf_that_stops_while_a_mirror_is_patched(rt: HostRuntime) {
+    stop_twice(&rt, PATCHED, Stop::Before, Stop::OnceBefore, 1500);
+}
+
+#[test]
+fn a_shelf_that_acts_and_stops_while_a_mirror_is_patched(rt: HostRuntime) {
+    stop_twice(&rt, PATCHED, Stop::Behind, Stop::OnceBehind, 1500);
 }

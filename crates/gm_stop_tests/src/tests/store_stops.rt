@@ -2,7 +2,7 @@
 //! found when both media are opened again, also by an opening whose shelf stops.
 
 use super::media::{Job, Left, Media, copy_of, crash_image, fresh, look, perform_on_files};
-use super::scripts::{ADOPTED, FILLED, LOST, Script};
+use super::scripts::{ADOPTED, FILLED, LOST, PATCHED, Script};
 use super::shelf_stops::{Stop, stop_opening};
 use super::{got, must};
 use gm_bench::BenchFault;
@@ -78,7 +78,7 @@ fn run(rt: &(impl Abort + AllocGlobal), from: &Media, job: Job) -> Media {
 // Looks at media that a stop of the store left, and where its opening has something to carry out,
 // stops the shelf of that too; how many states those are.
 fn visit(rt: &(impl Abort + AllocGlobal), left: &Media, job: Job, done: u64) -> u64 {
-    let pending = look(rt, &left.store, &left.shelf, job.script, done);
+    let pending = look(rt, &left.store, &left.shelf, job.script, done).pending;
     let is_command = job.calls > 0;
     if pending == 0 || !is_command {
         return 1;
@@ -96,7 +96,7 @@ fn visit(rt: &(impl Abort + AllocGlobal), left: &Media, job: Job, done: u64) -> 
 fn stop_at(rt: &(impl Abort + AllocGlobal), from: &Media, calls: Calls, job: Job) -> u64 {
     let run = run_for(rt, from, calls, job);
     let Media { store, shelf } = &run.crashed;
-    let pending = look(rt, store, shelf, job.script, run.done);
+    let pending = look(rt, store, shelf, job.script, run.done).pending;
     if run.fault.is_none() {
         must(rt, pending == 0, "what was settled is pending again");
         if !run.stopped {
@@ -179,4 +179,9 @@ fn a_stop_of_the_store_while_a_component_is_lost(rt: HostRuntime) {
 #[test]
 fn a_stop_of_the_store_while_a_mirror_is_taken_apart(rt: HostRuntime) {
     stop_commands(&rt, ADOPTED, 1000);
+}
+
+#[test]
+fn a_stop_of_the_store_while_a_mirror_is_patched(rt: HostRuntime) {
+    stop_commands(&rt, PATCHED, 1000);
 }

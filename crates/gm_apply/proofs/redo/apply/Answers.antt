@@ -3,10 +3,10 @@ use Rattle.std.proofs.lemmas.List.{take_all}
 use Rattle.gm_metadata.specs.Images.{Sizes}
 use Rattle.gm_shelf.proofs.Keeping.{keeps_then}
 use Rattle.gm_state.specs.declared.intents.Intent.{Intent}
-use Rattle.gm_state.specs.Intents.{is_place}
-use Rattle.gm_apply.specs.Redo.{PlacesAreNew, KeepsOthers, LacksProvider, LacksSector, writes, is_written}
+use Rattle.gm_apply.specs.Redo.{KeepsOthers, LacksProvider, LacksSector, writes, is_written}
 use Rattle.gm_apply.proofs.Others.{keeps_trans, keeps_within, written_by}
-use Rattle.gm_apply.proofs.Lists.{has_index, index_says, index_redone, index_moments}
+use Rattle.gm_apply.proofs.Lists.{has_index, index_aim, index_laid, index_done, index_moments, places_new}
+use Rattle.gm_apply.proofs.Steps.{Reaches}
 use Rattle.gm_apply.proofs.redo.apply.Goals as goal
 
 pub loop-intent-preserved : goal.loop-intent-preserved
@@ -16,26 +16,34 @@ loop-intent-preserved g c =
     let size = g.H.Shelf.size in
     record {
       keeps = keeps_then g.H.Shelf _ _ _ inv.keeps c.apply_one.ensures.keeps;
-      redone = λ h w redo.
-          let so_far = inv.redone h w redo in
-          index_redone c.args.state.now (size c.loop-intent.shelf)
+      reaches = λ h w redo.
+          let so_far = inv.reaches h w redo in
+          index_done c.args.state.now c.args.bytes.now (size c.loop-intent.shelf)
           (size c.args.shelf.now) inv.keeps.size c.args.intents.now c.loop-intent.intent-index
           c.intent-item.result c.intent-item.is w (view c.args.shelf.now)
-          (view c.loop-intent.shelf) (view c.apply_one.new.shelf) (omega arith) so_far
-          (c.in_ok-apply_one.ensures.done (inv.keeps.honest h) w
-          (index_says c.args.state.now (size c.loop-intent.shelf)
+          (view c.loop-intent.shelf) (view c.apply_one.new.shelf) (omega arith) so_far redo
+          (c.in_ok-apply_one.ensures.done (inv.keeps.honest h)
+          (index_aim c.args.state.now c.args.bytes.now (size c.loop-intent.shelf)
+          (size c.args.shelf.now) inv.keeps.size c.args.intents.now c.loop-intent.intent-index
+          c.intent-item.result c.intent-item.is w (view c.args.shelf.now)
+          (view c.loop-intent.shelf) (view c.apply_one.new.shelf) (omega arith) so_far redo)
+          (index_laid c.args.state.now c.args.bytes.now (size c.loop-intent.shelf)
           (size c.args.shelf.now) inv.keeps.size c.args.intents.now c.loop-intent.intent-index
           c.intent-item.result c.intent-item.is w (view c.args.shelf.now)
           (view c.loop-intent.shelf) (view c.apply_one.new.shelf) (omega arith) so_far redo));
       moments = λ h w redo.
-          let so_far = inv.redone h w redo in
-          index_moments c.args.state.now (size c.loop-intent.shelf)
+          let so_far = inv.reaches h w redo in
+          index_moments c.args.state.now c.args.bytes.now (size c.loop-intent.shelf)
           (size c.args.shelf.now) inv.keeps.size c.args.intents.now c.loop-intent.intent-index
           c.intent-item.result c.intent-item.is w (view c.args.shelf.now)
-          (view c.loop-intent.shelf) (view c.apply_one.new.shelf) (omega arith) so_far
+          (view c.loop-intent.shelf) (view c.apply_one.new.shelf) (omega arith) so_far redo
           (inv.moments h w redo)
-          (c.apply_one.ensures.moments (inv.keeps.honest h) w
-          (index_says c.args.state.now (size c.loop-intent.shelf)
+          (c.apply_one.ensures.moments (inv.keeps.honest h)
+          (index_aim c.args.state.now c.args.bytes.now (size c.loop-intent.shelf)
+          (size c.args.shelf.now) inv.keeps.size c.args.intents.now c.loop-intent.intent-index
+          c.intent-item.result c.intent-item.is w (view c.args.shelf.now)
+          (view c.loop-intent.shelf) (view c.apply_one.new.shelf) (omega arith) so_far redo)
+          (index_laid c.args.state.now c.args.bytes.now (size c.loop-intent.shelf)
           (size c.args.shelf.now) inv.keeps.size c.args.intents.now c.loop-intent.intent-index
           c.intent-item.result c.intent-item.is w (view c.args.shelf.now)
           (view c.loop-intent.shelf) (view c.apply_one.new.shelf) (omega arith) so_far redo));
@@ -58,13 +66,17 @@ returns-in_err-apply_one-clause-moments g c h w redo =
     let inv = c.loop-intent.invariant in
     let view = g.H.Shelf.view in
     let size = g.H.Shelf.size in
-    let so_far = inv.redone h w redo in
-    index_moments c.args.state.now (size c.loop-intent.shelf)
+    let so_far = inv.reaches h w redo in
+    index_moments c.args.state.now c.args.bytes.now (size c.loop-intent.shelf)
     (size c.args.shelf.now) inv.keeps.size c.args.intents.now c.loop-intent.intent-index
     c.intent-item.result c.intent-item.is w (view c.args.shelf.now) (view c.loop-intent.shelf)
-    (view c.apply_one.new.shelf) (omega arith) so_far (inv.moments h w redo)
-    (c.apply_one.ensures.moments (inv.keeps.honest h) w
-    (index_says c.args.state.now (size c.loop-intent.shelf)
+    (view c.apply_one.new.shelf) (omega arith) so_far redo (inv.moments h w redo)
+    (c.apply_one.ensures.moments (inv.keeps.honest h)
+    (index_aim c.args.state.now c.args.bytes.now (size c.loop-intent.shelf)
+    (size c.args.shelf.now) inv.keeps.size c.args.intents.now c.loop-intent.intent-index
+    c.intent-item.result c.intent-item.is w (view c.args.shelf.now) (view c.loop-intent.shelf)
+    (view c.apply_one.new.shelf) (omega arith) so_far redo)
+    (index_laid c.args.state.now c.args.bytes.now (size c.loop-intent.shelf)
     (size c.args.shelf.now) inv.keeps.size c.args.intents.now c.loop-intent.intent-index
     c.intent-item.result c.intent-item.is w (view c.args.shelf.now) (view c.loop-intent.shelf)
     (view c.apply_one.new.shelf) (omega arith) so_far redo))
@@ -73,9 +85,11 @@ pub returns-clause-done : goal.returns-clause-done
 returns-clause-done g c h w redo =
     let inv = c.loop-intent.invariant in
     let view = g.H.Shelf.view in
-    subst (λ (l : List Intent). PlacesAreNew (is_place (g.H.Shelf.size c.args.shelf.now) l) w
+    places_new c.args.state.now (g.H.Shelf.size c.args.shelf.now) c.args.intents.now w
+    (view c.args.shelf.now) (view c.loop-intent.shelf) redo.clean
+    (subst (λ (l : List Intent). Reaches c.args.state.now (g.H.Shelf.size c.args.shelf.now) l w
     (view c.args.shelf.now) (view c.loop-intent.shelf))
-    (take_all c.loop-intent.intent-index c.args.intents.now (omega arith)) (inv.redone h w redo)
+    (take_all c.loop-intent.intent-index c.args.intents.now (omega arith)) (inv.reaches h w redo))
 
 pub returns-in_err-apply_one-clause-absent : goal.returns-in_err-apply_one-clause-absent
 returns-in_err-apply_one-clause-absent g c e =

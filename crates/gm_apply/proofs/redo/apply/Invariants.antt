@@ -2,8 +2,9 @@ use Rattle.std.proofs.Common.{take}
 use Rattle.gm_metadata.specs.Images.{Image}
 use Rattle.gm_shelf.specs.Disk.{From}
 use Rattle.gm_shelf.specs.Keeping.{Keeps}
-use Rattle.gm_state.specs.Intents.{is_place, IsRedo}
-use Rattle.gm_apply.specs.Redo.{IsPartlyDone, CrashLeaves, PlacesAreNew, KeepsOthers, is_written}
+use Rattle.gm_state.specs.Intents.{IsRedo}
+use Rattle.gm_apply.specs.Redo.{IsPartlyDone, CrashLeaves, KeepsOthers, is_written}
+use Rattle.gm_apply.proofs.Steps.{Reaches}
 use Rattle.gm_apply.proofs.redo.apply.Given as goal
 
 abbrev pub invariant-loop-intent : goal.invariant-loop-intent
@@ -13,11 +14,13 @@ invariant-loop-intent g l =
     let size = H.size l.fn.shelf in
     record {
       keeps : Keeps H l.fn.shelf l.shelf;
-      redone : H.honest l.fn.shelf → (w : Image) → IsRedo l.fn.state size l.intents old.seen w
-          → PlacesAreNew (is_place size (take l.intent-index l.intents)) w old (H.view l.shelf);
-      moments : H.honest l.fn.shelf → (w : Image) → IsRedo l.fn.state size l.intents old.seen w
+      reaches : H.honest l.fn.shelf → (w : Image)
+          → IsRedo l.fn.state l.bytes size l.intents old.seen w
+          → Reaches l.fn.state size (take l.intent-index l.intents) w old (H.view l.shelf);
+      moments : H.honest l.fn.shelf → (w : Image)
+          → IsRedo l.fn.state l.bytes size l.intents old.seen w
           → CrashLeaves old (H.view l.shelf)
-          (λ x. From old.may_leave (λ d. IsPartlyDone size l.intents w d x));
+          (λ x. From old.may_leave (λ d. IsPartlyDone l.fn.state size l.intents w d x));
       others : H.honest l.fn.shelf
           → KeepsOthers (is_written l.fn.state size l.intents) old (H.view l.shelf);
     }

@@ -14,7 +14,7 @@ returns-in-Ok-clause-comes g c = λ honest kept away u at.
     let tables = tables_shown g.S.Store g.H.Shelf.view g.H.Shelf.size _ shelf away u at
     (g.met.H.Shelf.lawful shelf honest) in
     let is : c.in-Ok.state ≡ u.state =
-    c.in-Ok.ensures.shows kept at.tables u.state [] at.has tables in
+    c.in-Ok.ensures.shows kept at.tables u.state [] [] at.has tables in
     rw c.in-AllMirrors.is (record {
       world = u;
       responds = (refl, ap (λ s. told_as status.Ok (status_json s)) is);
@@ -28,7 +28,7 @@ returns-in-Ok-view-clause-comes g c = λ honest kept away u at.
     let tables = tables_shown g.S.Store g.H.Shelf.view g.H.Shelf.size _ shelf away u at
     (g.met.H.Shelf.lawful shelf honest) in
     let is : c.in-Ok-view.state ≡ u.state =
-    c.in-Ok-view.ensures.shows kept at.tables u.state [] at.has tables in
+    c.in-Ok-view.ensures.shows kept at.tables u.state [] [] at.has tables in
     rw c.in-OneMirror.is (record {
       world = u;
       responds = (refl, ap (λ s. mirror_told (mirror_json s c.in-OneMirror.name)) is);
@@ -44,7 +44,7 @@ returns-in-Err-clause-comes g c = λ honest kept away u at.
     (g.met.H.Shelf.lawful shelf honest) in
     rw c.in-AllMirrors.is (look_fails g.S.Store g.H.Shelf c.args.bench.now c.view.new.self
     c.view.result c.view.ensures.looks honest kept away u at _ c.in-Err.fault (λ l. l) c.in-Err.is
-    (λ e. c.in-Err.ensures.unreadable kept (ap Err e) at.tables u.state [] at.has tables))
+    (λ e. c.in-Err.ensures.unreadable kept (ap Err e) at.tables u.state [] [] at.has tables))
 
 pub returns-in-Err-view-clause-comes : goal.returns-in-Err-view-clause-comes
 returns-in-Err-view-clause-comes g c = λ honest kept away u at.
@@ -54,7 +54,7 @@ returns-in-Err-view-clause-comes g c = λ honest kept away u at.
     rw c.in-OneMirror.is (look_fails g.S.Store g.H.Shelf c.args.bench.now
     c.view-in-OneMirror.new.self c.view-in-OneMirror.result c.view-in-OneMirror.ensures.looks
     honest kept away u at _ c.in-Err-view.fault (λ l. l) c.in-Err-view.is
-    (λ e. c.in-Err-view.ensures.unreadable kept (ap Err e) at.tables u.state [] at.has tables))
+    (λ e. c.in-Err-view.ensures.unreadable kept (ap Err e) at.tables u.state [] [] at.has tables))
 
 pub returns-in-Err-last_sector-clause-comes : goal.returns-in-Err-last_sector-clause-comes
 returns-in-Err-last_sector-clause-comes g c = λ honest kept away u at.
@@ -76,7 +76,7 @@ pub returns-in-Err-run-clause-comes : goal.returns-in-Err-run-clause-comes
 returns-in-Err-run-clause-comes g c = λ honest kept away u at.
     let shelf = c.args.bench.now.media.shelf in
     let lawful = g.met.H.Shelf.lawful shelf honest in
-    let tables : AreTablesOf at.tables u.state [] =
+    let tables : AreTablesOf at.tables u.state [] [] =
     tables_shown g.S.Store g.H.Shelf.view g.H.Shelf.size _ shelf away u at lawful in
     let records : AreRecordsOf at.tables u.state = record {
       state = tables.state;
@@ -87,7 +87,7 @@ returns-in-Err-run-clause-comes g c = λ honest kept away u at.
       disk = λ is. c.in-Err-run.ensures.runs.disk kept at.tables u.state at.has records
           (ap Err is);
       readable = λ is found written.
-          let all : AreTablesOf found.tables u.state [] = tables_shown g.S.Store g.H.Shelf.view
+          let all : AreTablesOf found.tables u.state [] [] = tables_shown g.S.Store g.H.Shelf.view
           g.H.Shelf.size _ shelf away u found lawful in
           c.in-Err-run.ensures.readable kept (ap Err is) found.tables u.state found.has
           (record {

@@ -10,8 +10,8 @@ pub returns-in-Err-clause-comes : goal.returns-in-Err-clause-comes
 returns-in-Err-clause-comes g c = λ honest kept away u at. (
     let shelf = c.args.bench.now.media.shelf in
     let seen = (g.H.Shelf.view shelf).seen in
-    let tables : AreTablesOf at.tables u.state [] =
-    tables_of at.tables [] (whole (g.H.Shelf.size shelf) away seen) u
+    let tables : AreTablesOf at.tables u.state [] [] =
+    tables_of at.tables [] [] (whole (g.H.Shelf.size shelf) away seen) u
     (at.leads seen (g.met.H.Shelf.lawful shelf honest).holds_now).0 in
     let records : AreRecordsOf at.tables u.state = record {
       state = tables.state;
@@ -23,8 +23,8 @@ returns-in-Err-clause-comes g c = λ honest kept away u at. (
         left = c.in-Err.ensures.leaves honest kept away u at;
         disk = λ is. c.in-Err.ensures.runs.disk kept at.tables u.state at.has records (ap Err is);
         readable = λ is found written.
-            (let all : AreTablesOf found.tables u.state [] =
-            tables_of found.tables [] (whole (g.H.Shelf.size shelf) away seen) u
+            (let all : AreTablesOf found.tables u.state [] [] =
+            tables_of found.tables [] [] (whole (g.H.Shelf.size shelf) away seen) u
             (found.leads seen (g.met.H.Shelf.lawful shelf honest).holds_now).0 in
             c.in-Err.ensures.readable kept (ap Err is) found.tables u.state found.has
             (record {

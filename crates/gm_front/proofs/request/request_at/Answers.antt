@@ -8,7 +8,7 @@ use Rattle.gm_front.proofs.request.request_at.Goals as goal
 pub returns-in_ok-pieces-in-Ok : goal.returns-in_ok-pieces-in-Ok
 returns-in_ok-pieces-in-Ok c =
     let text = take c.in-Whole.count c.args.line.now in
-    let short : IsShort text = short_front _ _ (rw c.in-Whole.is at c.requires) in
+    let short : IsShort text = short_front _ _ (rw c.in-Whole.is at c.requires.fits) in
     let whole = asked_text text short c.in-Ok.ensures.cases.1 in
     let cut = ap texts c.deref.ensures.value ∙ c.in_ok-pieces-in-Ok.ensures
     ∙ ap pieces c.in-Ok.ensures.cases.0 in
@@ -18,5 +18,5 @@ returns-in_ok-pieces-in-Ok c =
 pub returns-in-Err : goal.returns-in-Err
 returns-in-Err c =
     let text = take c.in-Whole.count c.args.line.now in
-    let short : IsShort text = short_front _ _ (rw c.in-Whole.is at c.requires) in
+    let short : IsShort text = short_front _ _ (rw c.in-Whole.is at c.requires.fits) in
     rw c.in-Whole.is (sym (asked_bytes text short c.in-Err.ensures.cases.0))

@@ -9,7 +9,7 @@ use Rattle.gm_http.proofs.request.read_call.Goals as goal
 
 pub returns-in-Some-2-clause-asks : goal.returns-in-Some-2-clause-asks
 returns-in-Some-2-clause-asks g c =
-    let small : c.in-Some.length ≤ 65536 = search rules in
+    let small : c.in-Some.length ≤ 131072 = search rules in
     let field : length_by (map (header_bytes c.args.bytes.now.items) c.args.headers.now)
     ≡ Some c.in-Some.length = search rules in
     let whole : c.args.start + c.in-Some.length ≤ length c.fill.new.bytes.items = search rules in
@@ -20,7 +20,7 @@ returns-in-Some-2-clause-asks g c =
 
 pub returns-in-None-clause-asks : goal.returns-in-None-clause-asks
 returns-in-None-clause-asks g c =
-    let small : c.in-Some.length ≤ 65536 = search rules in
+    let small : c.in-Some.length ≤ 131072 = search rules in
     let field : length_by (map (header_bytes c.args.bytes.now.items) c.args.headers.now)
     ≡ Some c.in-Some.length = search rules in
     let whole : c.args.start + c.in-Some.length ≤ length c.fill.new.bytes.items = search rules in

@@ -1,6 +1,6 @@
 use Rattle.std.proofs.Common.{◌≡◌, true}
-use Rattle.gm_refusals.specs.Adoptable.{is_bytes}
-use Rattle.gm_refusals.proofs.TakenProviders.{are_bytes}
+use Rattle.gm_commands.specs.Sectors.{is_bytes}
+use Rattle.gm_commands.proofs.JoinedSectors.{are_bytes}
 use Rattle.gm_refusals.proofs.found_mirror.taken_with.Goals as goal
 
 pub returns : goal.returns

@@ -17,7 +17,7 @@ returns-in_err-write_change-clause-writes g c =
     let end = c.write_change.new.conn in
     let result = c.from_residual-in_err-write_change.result in
     let number = c.in_ok-count.count + 1 in
-    let changed = with_pending c.args.change.now c.args.intents.now in
+    let changed = with_pending c.args.change.now c.args.intents.now c.args.bytes.now in
     then_writes g.S.Store g.met.S.Store.settled c.args.conn.now mid end
     (λ (t : Tables). number ≡ count_of t + 1)
     (λ t. with_accepted changed c.args.key.now c.args.words.now (left_of c.args.pending t))
@@ -37,7 +37,7 @@ returns-clause-writes g c =
     let mid = c.accepted_on.new.conn in
     let end = c.write_change.new.conn in
     let number = c.in_ok-count.count + 1 in
-    let changed = with_pending c.args.change.now c.args.intents.now in
+    let changed = with_pending c.args.change.now c.args.intents.now c.args.bytes.now in
     then_writes g.S.Store g.met.S.Store.settled c.args.conn.now mid end
     (λ (t : Tables). number ≡ count_of t + 1)
     (λ t. with_accepted changed c.args.key.now c.args.words.now (left_of c.args.pending t))
@@ -64,7 +64,7 @@ returns-clause-accepts g c =
           let it = c.in_ok-count.ensures.count
           (omega (arith, c.write_change.ensures.survives.clean)) t was in
           let after = c.in_ok-write_change.ensures.done clean t it.1.tables (omega (arith, it.0)) in
-          let changed = with_pending c.args.change.now c.args.intents.now in
+          let changed = with_pending c.args.change.now c.args.intents.now c.args.bytes.now in
           let number = c.in_ok-count.count + 1 in
           others_apart (state g.S.Store c.write_change.new.conn).committed.trees
           (with_change changed c.args.key.now number c.args.words.now (left_of c.args.pending t))

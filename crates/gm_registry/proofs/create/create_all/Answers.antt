@@ -3,18 +3,17 @@ use Rattle.sqlite.specs.State.{HasCleanDisk, Survives}
 use Rattle.sqlite.specs.Held.{Held, state}
 use Rattle.sqlite.specs.Tree.{Trees}
 use Rattle.sqlite.proofs.StateLemmas.{survives_then}
-use Rattle.sqlite.proofs.Callers.{survives_begin}
-use Rattle.sqlite_rows.specs.Calls.{IsInside as IsInsideBy}
 use Rattle.sqlite_rows.proofs.Statements.{committed}
 use Rattle.sqlite_rows.proofs.Refusing.{if_err, under_ok}
 use Rattle.gm_rows.specs.Schema.{registry_schema}
 use Rattle.gm_rows.specs.Tables.{HasCounted, SeesTables, Holds, no_tables}
-use Rattle.gm_registry.specs.Opening.{IsBlank, IsBlankInside}
+use Rattle.gm_registry.specs.Opening.{no_rows, IsBlank, IsBlankInside}
 use Rattle.gm_registry.specs.Registry.{StoreFailed}
-use Rattle.gm_registry.proofs.MadeTables.{blank_begun, none_numbered}
 use Rattle.gm_registry.proofs.CountedThrough.{counted_inside}
-use Rattle.gm_registry.proofs.Failures.{commit_failed, failed_since, failed_until}
+use Rattle.gm_registry.proofs.Failures.{failed_since}
+use Rattle.gm_registry.proofs.InTransaction.{commit_fails, commit_leaves, undone_fails}
 use Rattle.gm_registry.proofs.InsideFails.{passed_on}
+use Rattle.gm_registry.proofs.MadeTables.{blank_begun, none_made, none_numbered}
 use Rattle.gm_registry.proofs.create.create_all.Goals as goal
 
 pub returns-clause-made : goal.returns-clause-made
@@ -37,103 +36,110 @@ returns-clause-made g c clean =
     (committed registry_schema HasCounted first (state g.S.Store mid)
     (state g.S.Store end) no_tables c.commit.result
     (counted_inside first (state g.S.Store mid) no_tables none_numbered
-    (c.in_ok-put_about.ensures.made early first bare)) (c.commit.ensures.ok late)))
+    (none_made first (state g.S.Store mid) (c.in_ok-put_about.ensures.made early no_rows first
+    bare))) (c.commit.ensures.ok late)))
 
 pub returns-clause-left : goal.returns-clause-left
 returns-clause-left g c was =
     let old = c.args.conn.now in
     let first = (state g.S.Store old).committed in
+    let begun = c.transaction-tx.result.conn.now in
     let one = c.create_tables.new.tx.conn.now in
     let mid = c.put_about.new.tx.conn.now in
     let end : Held _ = c.commit.new.self.0 in
     let same : end ≡ c.conn-2-1.given.0 = search rules in
     let begin = c.transaction-tx.ensures.begun in
     let P = λ (trees : Trees). Holds trees no_tables in
-    let inside : HasCleanDisk (state g.S.Store mid)
-    → IsInsideBy registry_schema HasCounted first (state g.S.Store mid) no_tables = λ early.
+    let within : Survives (state g.S.Store begun) (state g.S.Store mid) (λ _. ⊥) =
+    survives_then (state g.S.Store begun) (state g.S.Store one) (state g.S.Store mid) (λ _. ⊥)
+    (λ _. ⊥) (λ _. ⊥) (λ _ db none. none) (λ _ db none. none) c.create_tables.ensures.survives
+    c.put_about.ensures.survives in
+    subst (λ h. Survives (state g.S.Store old) (state g.S.Store h) P) same
+    (commit_leaves g.S.Store old begun mid end begin within c.commit.ensures.survives P
+    (λ early.
     let earlier : HasCleanDisk (state g.S.Store one) =
     omega (arith, early, c.put_about.ensures.survives.clean) in
-    counted_inside first (state g.S.Store mid) no_tables none_numbered
-    (c.in_ok-put_about.ensures.made early first
+    (counted_inside first (state g.S.Store mid) no_tables none_numbered
+    (none_made first (state g.S.Store mid) (c.in_ok-put_about.ensures.made early no_rows first
     (c.in_ok-create_tables.ensures.made earlier first
     (subst (λ h. IsBlankInside first (state g.S.Store h)) (sym begin)
-    (blank_begun g.S.Store old was)))) in
-    subst (λ h. Survives (state g.S.Store old) (state g.S.Store h) P) same
-    (survives_then (state g.S.Store old) (state g.S.Store mid) (state g.S.Store end) (λ _. ⊥) _ P
-    (λ _ db none. absurd none)
-    (λ clean db is. subst P (sym is)
-    (inside (omega (arith, c.commit.ensures.survives.clean))).tables)
-    (survives_then (state g.S.Store old) (state g.S.Store one) (state g.S.Store mid) (λ _. ⊥)
-    (λ _. ⊥) (λ _. ⊥) (λ _ db none. none) (λ _ db none. none)
-    (survives_begin g.S.Store old (state g.S.Store one) _
-    (rw begin at c.create_tables.ensures.survives)) c.put_about.ensures.survives)
-    c.commit.ensures.survives)
+    (blank_begun g.S.Store old was)))))).tables))
 
 pub returns-in_err-create_tables-clause-store : goal.returns-in_err-create_tables-clause-store
 returns-in_err-create_tables-clause-store g c clean =
     let old = c.args.conn.now in
-    let start = state g.S.Store c.transaction-tx.result.conn.now in
-    let mid = state g.S.Store c.create_tables.new.tx.conn.now in
+    let begun = c.transaction-tx.result.conn.now in
+    let mid = c.create_tables.new.tx.conn.now in
     let begin = c.transaction-tx.ensures.begun in
     let end : Held _ = c.drop-tx.new.self.0 in
     let same : end ≡ c.conn-1.given.0 = search rules in
     let late : HasCleanDisk (state g.S.Store end) = rw (sym same) at clean in
-    let early : HasCleanDisk mid = omega (arith, c.drop-tx.ensures.survives.clean) in
+    let early : HasCleanDisk (state g.S.Store mid) =
+    omega (arith, c.drop-tx.ensures.survives.clean) in
     passed_on c.from_residual.result c.in_err-create_tables.field-0.0 _ c.from_residual.ensures.1
-    (λ is was.
-    let failed = c.in_err-create_tables.ensures.fails early is (state g.S.Store old).committed
+    (λ is was. subst (λ h. StoreFailed g.S.Store old h) same
+    (undone_fails g.S.Store old begun mid end begin c.create_tables.ensures.survives
+    c.drop-tx.ensures.survives
+    (c.in_err-create_tables.ensures.fails early is (state g.S.Store old).committed
     (subst (λ h. IsBlankInside (state g.S.Store old).committed (state g.S.Store h)) (sym begin)
-    (blank_begun g.S.Store old was)) in
-    subst (λ h. StoreFailed g.S.Store old h) same
-    (subst (λ h. StoreFailed g.S.Store h end) begin
-    (failed_until start mid (state g.S.Store end) _ c.drop-tx.ensures.survives failed)))
+    (blank_begun g.S.Store old was)))))
 
 pub returns-in_err-put_about-clause-store : goal.returns-in_err-put_about-clause-store
 returns-in_err-put_about-clause-store g c clean =
     let old = c.args.conn.now in
-    let start = state g.S.Store c.transaction-tx.result.conn.now in
+    let begun = c.transaction-tx.result.conn.now in
     let first = (state g.S.Store old).committed in
-    let one = state g.S.Store c.create_tables.new.tx.conn.now in
-    let mid = state g.S.Store c.put_about.new.tx.conn.now in
+    let one = c.create_tables.new.tx.conn.now in
+    let mid = c.put_about.new.tx.conn.now in
     let begin = c.transaction-tx.ensures.begun in
     let end : Held _ = c.drop-tx-in_err-put_about.new.self.0 in
     let same : end ≡ c.conn-in_err-put_about-1.given.0 = search rules in
     let late : HasCleanDisk (state g.S.Store end) = rw (sym same) at clean in
-    let early : HasCleanDisk mid =
+    let early : HasCleanDisk (state g.S.Store mid) =
     omega (arith, c.drop-tx-in_err-put_about.ensures.survives.clean) in
-    let earlier : HasCleanDisk one = omega (arith, early, c.put_about.ensures.survives.clean) in
+    let earlier : HasCleanDisk (state g.S.Store one) =
+    omega (arith, early, c.put_about.ensures.survives.clean) in
+    let within : Survives (state g.S.Store begun) (state g.S.Store mid) (λ _. ⊥) =
+    survives_then (state g.S.Store begun) (state g.S.Store one) (state g.S.Store mid) (λ _. ⊥)
+    (λ _. ⊥) (λ _. ⊥) (λ _ db none. none) (λ _ db none. none) c.create_tables.ensures.survives
+    c.put_about.ensures.survives in
     passed_on c.from_residual-in_err-put_about.result c.in_err-put_about.field-0.0 _
     c.from_residual-in_err-put_about.ensures.1 (λ is was.
     let bare = c.in_ok-create_tables.ensures.made earlier first
     (subst (λ h. IsBlankInside first (state g.S.Store h)) (sym begin)
     (blank_begun g.S.Store old was)) in
-    let failed = failed_since start one mid _ c.create_tables.ensures.survives
-    (c.in_err-put_about.ensures.fails early is first bare) in
     subst (λ h. StoreFailed g.S.Store old h) same
-    (subst (λ h. StoreFailed g.S.Store h end) begin
-    (failed_until start mid (state g.S.Store end) _ c.drop-tx-in_err-put_about.ensures.survives
-    failed)))
+    (undone_fails g.S.Store old begun mid end begin within
+    c.drop-tx-in_err-put_about.ensures.survives
+    (failed_since (state g.S.Store begun) (state g.S.Store one) (state g.S.Store mid) _
+    c.create_tables.ensures.survives
+    (c.in_err-put_about.ensures.fails early is no_rows first bare))))
 
 pub returns-clause-store : goal.returns-clause-store
 returns-clause-store g c clean =
     let old = c.args.conn.now in
-    let one = state g.S.Store c.create_tables.new.tx.conn.now in
-    let mid = state g.S.Store c.put_about.new.tx.conn.now in
+    let begun = c.transaction-tx.result.conn.now in
+    let one = c.create_tables.new.tx.conn.now in
+    let mid = c.put_about.new.tx.conn.now in
     let first = (state g.S.Store old).committed in
     let begin = c.transaction-tx.ensures.begun in
     let end : Held _ = c.commit.new.self.0 in
     let same : end ≡ c.conn-2-1.given.0 = search rules in
     let late : HasCleanDisk (state g.S.Store end) = rw (sym same) at clean in
-    let early : HasCleanDisk mid = omega (arith, c.commit.ensures.survives.clean) in
-    let earlier : HasCleanDisk one = omega (arith, early, c.put_about.ensures.survives.clean) in
+    let early : HasCleanDisk (state g.S.Store mid) =
+    omega (arith, c.commit.ensures.survives.clean) in
+    let earlier : HasCleanDisk (state g.S.Store one) =
+    omega (arith, early, c.put_about.ensures.survives.clean) in
+    let within : Survives (state g.S.Store begun) (state g.S.Store mid) (λ _. ⊥) =
+    survives_then (state g.S.Store begun) (state g.S.Store one) (state g.S.Store mid) (λ _. ⊥)
+    (λ _. ⊥) (λ _. ⊥) (λ _ db none. none) (λ _ db none. none) c.create_tables.ensures.survives
+    c.put_about.ensures.survives in
     if_err c.commit.result _ _ (λ e fails is was.
-    let inside = c.in_ok-put_about.ensures.made early first
+    let made = c.in_ok-put_about.ensures.made early no_rows first
     (c.in_ok-create_tables.ensures.made earlier first
     (subst (λ h. IsBlankInside first (state g.S.Store h)) (sym begin)
     (blank_begun g.S.Store old was))) in
     subst (λ h. StoreFailed g.S.Store old h) same
-    (failed_since (state g.S.Store old) one (state g.S.Store end) _
-    (survives_begin g.S.Store old one _ (rw begin at c.create_tables.ensures.survives))
-    (failed_since one mid (state g.S.Store end) _ c.put_about.ensures.survives
-    (commit_failed mid (state g.S.Store end) e inside.inside inside.is_open fails is))))
+    (commit_fails g.S.Store old begun mid end begin within c.commit.ensures.survives e
+    made.inside made.is_open fails is))
     (c.commit.ensures.err late)

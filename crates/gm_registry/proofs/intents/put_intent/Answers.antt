@@ -45,3 +45,31 @@ returns-in-Copy-clause-fails g c clean =
     fails_as c.put_row-in-Copy.result _ _
     (λ fails first t was free. fails first t was (free, short))
     (c.put_row-in-Copy.ensures.fails clean)
+
+pub returns-in-Dirty-clause-put : goal.returns-in-Dirty-clause-put
+returns-in-Dirty-clause-put g c =
+    rw (c.in-Dirty.is) (rw (c.as_str-in-Dirty.ensures.text) at (c.put_row-in-Dirty.ensures.put))
+
+pub returns-in-Dirty-clause-fails : goal.returns-in-Dirty-clause-fails
+returns-in-Dirty-clause-fails g c clean =
+    let short : AreShort c.as_str-in-Dirty.result.now [] =
+    labels_short _ [] (text_of_label _ _ c.as_str-in-Dirty.ensures.text
+    c.as_str-in-Dirty.ensures.label)
+    (omega arith) in
+    fails_as c.put_row-in-Dirty.result _ _
+    (λ fails first t was free. fails first t was (free, short))
+    (c.put_row-in-Dirty.ensures.fails clean)
+
+pub returns-in-Patch-clause-put : goal.returns-in-Patch-clause-put
+returns-in-Patch-clause-put g c =
+    rw (c.in-Patch.is) (rw (c.as_str-in-Patch.ensures.text) at (c.put_row-in-Patch.ensures.put))
+
+pub returns-in-Patch-clause-fails : goal.returns-in-Patch-clause-fails
+returns-in-Patch-clause-fails g c clean =
+    let short : AreShort c.as_str-in-Patch.result.now [] =
+    labels_short _ [] (text_of_label _ _ c.as_str-in-Patch.ensures.text
+    c.as_str-in-Patch.ensures.label)
+    (omega arith) in
+    fails_as c.put_row-in-Patch.result _ _
+    (λ fails first t was free. fails first t was (free, short))
+    (c.put_row-in-Patch.ensures.fails clean)

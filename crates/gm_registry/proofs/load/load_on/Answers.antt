@@ -10,7 +10,8 @@ returns-clause-loaded g c clean =
     let old = state g.S.Store c.args.conn.now in
     let new = state g.S.Store c.fetch.new.conn in
     if_ok c.judge.result _ _ (λ r says t was. (
-      tables_said old.now.trees t c.in_ok-fetched.fetched r.0 r.1.items (counted old t was)
+      tables_said old.now.trees t c.in_ok-fetched.fetched r.0 r.1.items r.2.items
+          (counted old t was)
           (c.in_ok-fetched.ensures.rows clean (ours old t was)) says,
       saved g.S.Store g.met.S.Store.settled c.fetch.new.conn t
           (tables_stay old new t c.in_ok-fetched.ensures.read clean was),
@@ -19,8 +20,9 @@ returns-clause-loaded g c clean =
 pub returns-clause-unreadable : goal.returns-clause-unreadable
 returns-clause-unreadable g c clean =
     let old = state g.S.Store c.args.conn.now in
-    if_err c.judge.result _ _ (λ e none is t s ts was of.
-    none is s ts (says_tables old.now.trees t c.in_ok-fetched.fetched s ts (counted old t was)
+    if_err c.judge.result _ _ (λ e none is t s ts bytes was of.
+    none is s ts bytes (says_tables old.now.trees t c.in_ok-fetched.fetched s ts bytes
+    (counted old t was)
     (c.in_ok-fetched.ensures.rows clean (ours old t was)) of)) c.judge.ensures.unreadable
 
 pub returns-clause-reads : goal.returns-clause-reads
@@ -42,12 +44,12 @@ pub returns-clause-says : goal.returns-clause-says
 returns-clause-says g c clean =
     let old = state g.S.Store c.args.conn.now in
     if_ok c.judge.result _ _
-    (λ r says was. any_tables old.now.trees c.in_ok-fetched.fetched r.0 r.1.items
+    (λ r says was. any_tables old.now.trees c.in_ok-fetched.fetched r.0 r.1.items r.2.items
     (c.in_ok-fetched.ensures.rows clean (registry_ours old was)) says) c.judge.ensures.says
 
 pub returns-clause-silent : goal.returns-clause-silent
 returns-clause-silent g c clean =
     let old = state g.S.Store c.args.conn.now in
-    if_err c.judge.result _ _ (λ e none is s ts was of.
-    none is s ts (any_rows old.now.trees c.in_ok-fetched.fetched s ts
+    if_err c.judge.result _ _ (λ e none is s ts bytes was of.
+    none is s ts bytes (any_rows old.now.trees c.in_ok-fetched.fetched s ts bytes
     (c.in_ok-fetched.ensures.rows clean (registry_ours old was)) of)) c.judge.ensures.unreadable

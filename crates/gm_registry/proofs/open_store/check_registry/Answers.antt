@@ -1,18 +1,17 @@
-use Rattle.std.proofs.Common.{◌≡◌, ◌∙◌, true, false, map, List, IsPermutation, sym, subst, arith}
+use Rattle.std.proofs.Common.{◌≡◌, ◌∙◌, true, false, map, List, IsPermutation, sym, subst, subst₂, arith}
 use Rattle.sqlite.specs.Order.{Row}
 use Rattle.sqlite.specs.State.{HasCleanDisk}
 use Rattle.sqlite.specs.Held.{state}
 use Rattle.gm_rows.specs.Values.{columns_at, two}
 use Rattle.gm_rows.specs.Says.{IsAbout}
-use Rattle.gm_registry.specs.Reads.{IsOurSchema}
-use Rattle.gm_registry.specs.Listing.{our_tables, ShowsList}
+use Rattle.gm_registry.specs.Opening.{IsOfRegistry}
+use Rattle.gm_registry.specs.Listing.{tables_of, ShowsList}
 use Rattle.gm_rows.specs.Queries.{IsShown}
 use Rattle.gm_rows.specs.declared.fetched.Table.TheVariants.{About}
 use Rattle.gm_registry.proofs.Abouts.{about_told, about_shown}
 use Rattle.gm_rows.proofs.RowsSayRecords.{passed_on}
 use Rattle.gm_registry.proofs.Failures.{failed_later}
-use Rattle.sqlite_rows.proofs.Reading.{read_at_most, known_closer, failed_closer}
-use Rattle.gm_registry.proofs.ReadsInTurn.{read_then, failed_then, carried}
+use Rattle.sqlite_rows.proofs.Reading.{carried_over, failed_then_over, read_at_most, read_then_over, known_closer, failed_closer}
 use Rattle.gm_registry.proofs.Texts.{ours_known, ours_listed, ours_shown, not_foreign}
 use Rattle.gm_registry.proofs.open_store.check_registry.Goals as goal
 
@@ -21,23 +20,24 @@ never e = cc
 
 pub returns-in_err-texts-clause-failed : goal.returns-in_err-texts-clause-failed
 returns-in_err-texts-clause-failed g c =
-    failed_closer ShowsList IsOurSchema ours_known (state g.S.Store c.args.conn.now)
+    failed_closer ShowsList IsOfRegistry ours_known (state g.S.Store c.args.conn.now)
     (state g.S.Store c.load_texts.new.conn) c.in_err-texts.ensures.failed
 
 pub returns-then-not-are_texts-clause-unreadable : goal.returns-then-not-are_texts-clause-unreadable
 returns-then-not-are_texts-clause-unreadable g c clean is ours lists about =
     let s0 = state g.S.Store c.args.conn.now in
-    let shown = ours_shown s0.now.trees c.in_ok-texts.texts.items
+    let shown = ours_shown c.args.edition s0.now.trees c.in_ok-texts.texts.items
     (c.in_ok-texts.ensures.rows clean (ours_known _ ours)) lists in
     never (sym c.if-not-are_texts.true ∙ c.are_texts.ensures.1
-    (subst (λ (rows : List Row). IsPermutation our_tables (map (columns_at two) rows))
+    (subst (λ (rows : List Row). IsPermutation (tables_of c.args.edition)
+    (map (columns_at two) rows))
     (sym c.deref.ensures.value) shown))
 
 pub returns-then-not-are_texts-clause-failed : goal.returns-then-not-are_texts-clause-failed
 returns-then-not-are_texts-clause-failed g c =
     let s0 = state g.S.Store c.args.conn.now in
     let s1 = state g.S.Store c.load_texts.new.conn in
-    failed_closer ShowsList IsOurSchema ours_known s0 s1
+    failed_closer ShowsList IsOfRegistry ours_known s0 s1
     (read_at_most ShowsList s0 s1 c.in_ok-texts.ensures.read)
 
 pub returns-then-not-are_texts-clause-foreign : goal.returns-then-not-are_texts-clause-foreign
@@ -49,69 +49,73 @@ pub returns-in_err-about-clause-failed : goal.returns-in_err-about-clause-failed
 returns-in_err-about-clause-failed g c =
     let s0 = state g.S.Store c.args.conn.now in
     let s1 = state g.S.Store c.load_texts.new.conn in
-    failed_then s0 s1 (state g.S.Store c.rows_of.new.conn)
-    (known_closer ShowsList IsOurSchema ours_known s0 s1 c.in_ok-texts.ensures.read)
+    failed_then_over IsOfRegistry s0 s1 (state g.S.Store c.about_rows.new.conn)
+    (known_closer ShowsList IsOfRegistry ours_known s0 s1 c.in_ok-texts.ensures.read)
     c.in_err-about.ensures.failed
 
 pub returns-in_err-about-clause-foreign : goal.returns-in_err-about-clause-foreign
 returns-in_err-about-clause-foreign g c =
     let s0 = state g.S.Store c.args.conn.now in
     let s1 = state g.S.Store c.load_texts.new.conn in
-    let s2 = state g.S.Store c.rows_of.new.conn in
+    let s2 = state g.S.Store c.about_rows.new.conn in
     let failed =
-    failed_then s0 s1 s2 (known_closer ShowsList IsOurSchema ours_known s0 s1
+    failed_then_over IsOfRegistry s0 s1 s2 (known_closer ShowsList IsOfRegistry ours_known s0 s1
     c.in_ok-texts.ensures.read) c.in_err-about.ensures.failed in
-    let ours = subst (λ (rows : List Row). IsPermutation our_tables (map (columns_at two) rows))
+    let ours = subst (λ (rows : List Row). IsPermutation (tables_of c.args.edition)
+    (map (columns_at two) rows))
     c.deref.ensures.value (c.are_texts.ensures.0 c.if-not-are_texts.false) in
-    not_foreign s0 s2 (λ clean shows.
+    not_foreign c.args.edition s0 s2 (λ clean shows.
     let early : HasCleanDisk s1 = omega (arith, c.in_err-about.ensures.failed.left.clean, clean) in
-    ours_listed s0.now.trees c.in_ok-texts.texts.items
-    (c.in_ok-texts.ensures.rows early shows) ours) failed
+    ours_listed c.args.edition s0.now.trees c.in_ok-texts.texts.items
+    (c.in_ok-texts.ensures.rows early shows) ours) failed.left
 
 pub returns-then-not-is_about-clause-unreadable : goal.returns-then-not-is_about-clause-unreadable
 returns-then-not-is_about-clause-unreadable g c clean is ours lists about =
     let s0 = state g.S.Store c.args.conn.now in
     let s1 = state g.S.Store c.load_texts.new.conn in
     let early : HasCleanDisk s1 = omega (arith, c.in_ok-about.ensures.read.left.clean, clean) in
-    let first = known_closer ShowsList IsOurSchema ours_known s0 s1 c.in_ok-texts.ensures.read in
+    let first = known_closer ShowsList IsOfRegistry ours_known s0 s1 c.in_ok-texts.ensures.read in
     let shown : IsShown s0.now.trees About c.in_ok-about.about.items =
-    carried s0 s1 (λ db. IsShown db About c.in_ok-about.about.items) first early
+    carried_over IsOfRegistry s0 s1 (λ db. IsShown db About c.in_ok-about.about.items) first early
     (c.in_ok-about.ensures.rows clean) ours in
     never (sym c.if-not-is_about.true ∙ c.is_about.ensures.1
-    (subst IsAbout (sym c.deref-2.ensures.value)
-    (about_shown s0.now.trees c.in_ok-about.about.items shown about)))
+    (subst₂ IsAbout (sym c.number.ensures) (sym c.deref-2.ensures.value)
+    (about_shown c.args.edition s0.now.trees c.in_ok-about.about.items shown about)))
 
 pub returns-then-not-is_about-clause-failed : goal.returns-then-not-is_about-clause-failed
 returns-then-not-is_about-clause-failed g c =
     let s0 = state g.S.Store c.args.conn.now in
     let s1 = state g.S.Store c.load_texts.new.conn in
-    let s2 = state g.S.Store c.rows_of.new.conn in
-    read_at_most IsOurSchema s0 s2
-    (read_then s0 s1 s2 (known_closer ShowsList IsOurSchema ours_known s0 s1
+    let s2 = state g.S.Store c.about_rows.new.conn in
+    read_at_most IsOfRegistry s0 s2
+    (read_then_over IsOfRegistry s0 s1 s2 (known_closer ShowsList IsOfRegistry ours_known s0 s1
     c.in_ok-texts.ensures.read) c.in_ok-about.ensures.read)
 
 pub returns-then-not-is_about-clause-foreign : goal.returns-then-not-is_about-clause-foreign
 returns-then-not-is_about-clause-foreign g c =
     let s0 = state g.S.Store c.args.conn.now in
     let s1 = state g.S.Store c.load_texts.new.conn in
-    let s2 = state g.S.Store c.rows_of.new.conn in
-    let both = read_then s0 s1 s2
-    (known_closer ShowsList IsOurSchema ours_known s0 s1 c.in_ok-texts.ensures.read)
+    let s2 = state g.S.Store c.about_rows.new.conn in
+    let both = read_then_over IsOfRegistry s0 s1 s2
+    (known_closer ShowsList IsOfRegistry ours_known s0 s1 c.in_ok-texts.ensures.read)
     c.in_ok-about.ensures.read in
-    let ours = subst (λ (rows : List Row). IsPermutation our_tables (map (columns_at two) rows))
+    let ours = subst (λ (rows : List Row). IsPermutation (tables_of c.args.edition)
+    (map (columns_at two) rows))
     c.deref.ensures.value (c.are_texts.ensures.0 c.if-not-are_texts.false) in
-    not_foreign s0 s2 (λ clean shows.
+    not_foreign c.args.edition s0 s2 (λ clean shows.
     let early : HasCleanDisk s1 = omega (arith, c.in_ok-about.ensures.read.left.clean, clean) in
-    ours_listed s0.now.trees c.in_ok-texts.texts.items
-    (c.in_ok-texts.ensures.rows early shows) ours) (read_at_most IsOurSchema s0 s2 both)
+    ours_listed c.args.edition s0.now.trees c.in_ok-texts.texts.items
+    (c.in_ok-texts.ensures.rows early shows) ours) both.left
 
 pub returns-clause-texts : goal.returns-clause-texts
 returns-clause-texts g c clean shows =
     let s0 = state g.S.Store c.args.conn.now in
     let early : HasCleanDisk (state g.S.Store c.load_texts.new.conn) =
     omega (arith, c.in_ok-about.ensures.read.left.clean, clean) in
-    ours_listed s0.now.trees c.in_ok-texts.texts.items (c.in_ok-texts.ensures.rows early shows)
-    (subst (λ (rows : List Row). IsPermutation our_tables (map (columns_at two) rows))
+    ours_listed c.args.edition s0.now.trees c.in_ok-texts.texts.items
+    (c.in_ok-texts.ensures.rows early shows)
+    (subst (λ (rows : List Row). IsPermutation (tables_of c.args.edition)
+    (map (columns_at two) rows))
     c.deref.ensures.value (c.are_texts.ensures.0 c.if-not-are_texts.false))
 
 pub returns-clause-about : goal.returns-clause-about
@@ -119,57 +123,60 @@ returns-clause-about g c clean ours =
     let s0 = state g.S.Store c.args.conn.now in
     let s1 = state g.S.Store c.load_texts.new.conn in
     let early : HasCleanDisk s1 = omega (arith, c.in_ok-about.ensures.read.left.clean, clean) in
-    let first = known_closer ShowsList IsOurSchema ours_known s0 s1 c.in_ok-texts.ensures.read in
+    let first = known_closer ShowsList IsOfRegistry ours_known s0 s1 c.in_ok-texts.ensures.read in
     let shown : IsShown s0.now.trees About c.in_ok-about.about.items =
-    carried s0 s1 (λ db. IsShown db About c.in_ok-about.about.items) first early
+    carried_over IsOfRegistry s0 s1 (λ db. IsShown db About c.in_ok-about.about.items) first early
     (c.in_ok-about.ensures.rows clean) ours in
-    about_told s0.now.trees c.in_ok-about.about.items shown
-    (subst IsAbout c.deref-2.ensures.value (c.is_about.ensures.0 c.if-not-is_about.false))
+    about_told c.args.edition s0.now.trees c.in_ok-about.about.items shown
+    (subst₂ IsAbout c.number.ensures c.deref-2.ensures.value
+    (c.is_about.ensures.0 c.if-not-is_about.false))
 
 pub returns-clause-read : goal.returns-clause-read
 returns-clause-read g c =
     let s0 = state g.S.Store c.args.conn.now in
     let s1 = state g.S.Store c.load_texts.new.conn in
-    read_then s0 s1 (state g.S.Store c.rows_of.new.conn)
-    (known_closer ShowsList IsOurSchema ours_known s0 s1 c.in_ok-texts.ensures.read)
+    read_then_over IsOfRegistry s0 s1 (state g.S.Store c.about_rows.new.conn)
+    (known_closer ShowsList IsOfRegistry ours_known s0 s1 c.in_ok-texts.ensures.read)
     c.in_ok-about.ensures.read
 
 pub returns-clause-failed : goal.returns-clause-failed
 returns-clause-failed g c =
     let s0 = state g.S.Store c.args.conn.now in
     let s1 = state g.S.Store c.load_texts.new.conn in
-    let s2 = state g.S.Store c.rows_of.new.conn in
-    read_at_most IsOurSchema s0 s2
-    (read_then s0 s1 s2 (known_closer ShowsList IsOurSchema ours_known s0 s1
+    let s2 = state g.S.Store c.about_rows.new.conn in
+    read_at_most IsOfRegistry s0 s2
+    (read_then_over IsOfRegistry s0 s1 s2 (known_closer ShowsList IsOfRegistry ours_known s0 s1
     c.in_ok-texts.ensures.read) c.in_ok-about.ensures.read)
 
 pub returns-clause-foreign : goal.returns-clause-foreign
 returns-clause-foreign g c =
     let s0 = state g.S.Store c.args.conn.now in
     let s1 = state g.S.Store c.load_texts.new.conn in
-    let s2 = state g.S.Store c.rows_of.new.conn in
-    let both = read_then s0 s1 s2
-    (known_closer ShowsList IsOurSchema ours_known s0 s1 c.in_ok-texts.ensures.read)
+    let s2 = state g.S.Store c.about_rows.new.conn in
+    let both = read_then_over IsOfRegistry s0 s1 s2
+    (known_closer ShowsList IsOfRegistry ours_known s0 s1 c.in_ok-texts.ensures.read)
     c.in_ok-about.ensures.read in
-    let ours = subst (λ (rows : List Row). IsPermutation our_tables (map (columns_at two) rows))
+    let ours = subst (λ (rows : List Row). IsPermutation (tables_of c.args.edition)
+    (map (columns_at two) rows))
     c.deref.ensures.value (c.are_texts.ensures.0 c.if-not-are_texts.false) in
-    not_foreign s0 s2 (λ clean shows.
+    not_foreign c.args.edition s0 s2 (λ clean shows.
     let early : HasCleanDisk s1 = omega (arith, c.in_ok-about.ensures.read.left.clean, clean) in
-    ours_listed s0.now.trees c.in_ok-texts.texts.items
-    (c.in_ok-texts.ensures.rows early shows) ours) (read_at_most IsOurSchema s0 s2 both)
+    ours_listed c.args.edition s0.now.trees c.in_ok-texts.texts.items
+    (c.in_ok-texts.ensures.rows early shows) ours) both.left
 
 pub returns-in_err-about-clause-store : goal.returns-in_err-about-clause-store
 returns-in_err-about-clause-store g c clean =
     let s0 = state g.S.Store c.args.conn.now in
     let s1 = state g.S.Store c.load_texts.new.conn in
-    let s2 = state g.S.Store c.rows_of.new.conn in
+    let s2 = state g.S.Store c.about_rows.new.conn in
     let early : HasCleanDisk s1 = omega (arith, c.in_err-about.ensures.failed.left.clean, clean) in
     passed_on c.from_residual-in_err-about.result _ _ (λ e same is shows only is_open.
-    let ours = only (ours_listed s0.now.trees c.in_ok-texts.texts.items
+    let ours = only (ours_listed c.args.edition s0.now.trees c.in_ok-texts.texts.items
     (c.in_ok-texts.ensures.rows early shows)
-    (subst (λ (rows : List Row). IsPermutation our_tables (map (columns_at two) rows))
+    (subst (λ (rows : List Row). IsPermutation (tables_of c.args.edition)
+    (map (columns_at two) rows))
     c.deref.ensures.value (c.are_texts.ensures.0 c.if-not-are_texts.false))) in
-    failed_later s0 s1 s2 (known_closer ShowsList IsOurSchema ours_known s0 s1
+    failed_later IsOfRegistry s0 s1 s2 (known_closer ShowsList IsOfRegistry ours_known s0 s1
     c.in_ok-texts.ensures.read) early ours is_open
     (c.in_err-about.ensures.store clean (sym same ∙ is)))
     c.from_residual-in_err-about.ensures.1

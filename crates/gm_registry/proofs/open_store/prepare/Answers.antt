@@ -1,242 +1,266 @@
-use Rattle.std.proofs.Common.{◌∙◌, inl, inr, not, sym, ap, subst}
-use Rattle.sqlite.specs.Held.{state}
-use Rattle.sqlite_rows.proofs.Refusing.{map_ok, if_err, both_ok, on_ok, on_err}
-use Rattle.sqlite_rows.proofs.Reading.{failed_leaves_over}
+use Rattle.std.proofs.Common.{◌≡◌, ◌≢◌, ◌∙◌, inl, inr, not, sym, ap, subst, rules}
 use Rattle.sqlite.specs.Effect.{Database}
-use Rattle.gm_registry.specs.Listing.{ListsOurs, ShowsList}
-use Rattle.gm_registry.specs.Reads.{IsOurSchema}
-use Rattle.gm_registry.specs.Opening.{IsOfSchema1}
-use Rattle.gm_registry.proofs.ReadsInTurn.{tables_stay, tables_refused, nothing_new}
-use Rattle.gm_registry.proofs.OpenedConnection.{blank, has_tables, not_empty, not_full, shows_some, registry_seen, registry_there, foreign_shown, not_foreign_empty}
+use Rattle.sqlite.specs.Held.{state}
+use Rattle.sqlite.specs.Schema.{Schema}
+use Rattle.sqlite_catalog.specs.Listing.{IsSound}
+use Rattle.sqlite.proofs.StateLemmas.{survives_weaker}
+use Rattle.sqlite_rows.proofs.Reading.{failed_closer, failed_leaves_over, known_closer}
+use Rattle.sqlite_rows.proofs.Refusing.{map_ok, if_err, both_ok, on_ok, on_err}
 use Rattle.gm_rows.proofs.RowsSayRecords.{passed_on}
+use Rattle.gm_rows.specs.Schema.{no_schema}
+use Rattle.gm_registry.specs.Listing.{Lists, ShowsList}
+use Rattle.gm_registry.specs.Opening.{schema_of, IsNumbered, IsOfEdition, IsOfRegistry}
+use Rattle.gm_registry.specs.Reads.{IsOurSchema}
+use Rattle.gm_registry.specs.declared.edition.Edition.{Edition}
+use Rattle.gm_registry.specs.declared.edition.Edition.TheVariants.{First, Second}
+use Rattle.gm_registry.proofs.CarriedOver.{first_still, holds_over, sees_over}
+use Rattle.gm_registry.proofs.OpenedConnection.{IsJustOpened, blank, edition_seen, first_store, foreign_shown, has_first, has_tables, no_registry, not_empty, not_first, not_second, nothing_foreign, of_registry, only_first, only_second, registry_there}
+use Rattle.gm_registry.proofs.ReadsInTurn.{nothing_new, tables_refused, tables_stay}
 use Rattle.gm_registry.proofs.Texts.{ours_known}
 use Rattle.gm_registry.proofs.open_store.prepare.Goals as goal
 
-pub returns-in_err-create_all-clause-left_found : goal.returns-in_err-create_all-clause-left_found
-returns-in_err-create_all-clause-left_found g c t is_open holds =
-    absurd (not_empty (state g.S.Store c.args.conn.now) t c.schema.result.now c.is_empty.result
-    (has_tables (state g.S.Store c.args.conn.now) t is_open c.requires
-    (c.is_autocommit-settled.ensures.settled (c.is_autocommit-settled.ensures.value
-    ∙ ap not c.requires) is_open) c.schema.ensures.live holds) c.schema.ensures.value
-    c.is_empty.ensures c.if-is_empty.true)
+-- ---- a store without tables
 
-pub returns-in_err-create_all-clause-refused : goal.returns-in_err-create_all-clause-refused
-returns-in_err-create_all-clause-refused g c clean =
-    on_err c.from_residual.result _ (λ t is_open holds still.
-    absurd (not_empty (state g.S.Store c.args.conn.now) t c.schema.result.now c.is_empty.result
-    (has_tables (state g.S.Store c.args.conn.now) t is_open c.requires
-    (c.is_autocommit-settled.ensures.settled (c.is_autocommit-settled.ensures.value
-    ∙ ap not c.requires) is_open) c.schema.ensures.live holds) c.schema.ensures.value
-    c.is_empty.ensures c.if-is_empty.true))
+pub returns-in_err-create_all : goal.returns-in_err-create_all
+returns-in_err-create_all g c =
+    let s = state g.S.Store c.args.conn.now in
+    let opened : IsJustOpened s = record {
+      autocommit = c.requires;
+      settled = c.is_autocommit-settled.ensures.settled (c.is_autocommit-settled.ensures.value
+          ∙ ap not c.requires);
+      live = c.schema.ensures.live;
+    } in
+    let nothing : s.now.schema ≡ no_schema =
+    sym c.schema.ensures.value ∙ c.is_empty.ensures.0 c.if-is_empty.true in
+    let result = c.from_residual.result in
+    record {
+      made = search rules;
+      found = search rules;
+      registry = search rules;
+      carried = search rules;
+      upgraded = search rules;
+      refused = λ clean. on_err result _ (λ t is_open holds still.
+          absurd (no_registry s opened is_open nothing Second holds.sound));
+      refused_first = λ clean. on_err result _ (λ t is_open holds still.
+          absurd (no_registry s opened is_open nothing First holds.sound));
+      stays = λ clean. on_err result _ (λ is_open sound still.
+          absurd (no_registry s opened is_open nothing First sound));
+      left_made = λ is_open empty. c.in_err-create_all.ensures.left (blank s opened is_open empty);
+      left_found = λ t is_open holds.
+          absurd (no_registry s opened is_open nothing Second holds.sound);
+      left_upgraded = λ t is_open holds.
+          absurd (no_registry s opened is_open nothing First holds.sound);
+      left_carried = λ is_open sound.
+          absurd (no_registry s opened is_open nothing First sound);
+      unreadable = search rules;
+      store = λ clean. passed_on result _ _ (λ e same is is_open some. elim some [
+        | inl empty ↦ c.in_err-create_all.ensures.store clean (sym same ∙ is)
+            (blank s opened is_open empty)
+        | inr (inl has) ↦ absurd (no_registry s opened is_open nothing has.0 has.1)
+        | inr (inr foreign) ↦ absurd (nothing_foreign s opened is_open nothing foreign)
+      ]) c.from_residual.ensures.1;
+      refuses = search rules;
+      foreign = λ is_open foreign. absurd (nothing_foreign s opened is_open nothing foreign);
+      untouched = λ is_open sound.
+          absurd (no_registry s opened is_open nothing Second sound);
+      clean = search rules;
+    }
 
-pub returns-then-is_empty-clause-made : goal.returns-then-is_empty-clause-made
-returns-then-is_empty-clause-made g c clean is_open empty =
-    c.in_ok-create_all.ensures.made clean
-    (blank (state g.S.Store c.args.conn.now) is_open c.requires
-    (c.is_autocommit-settled.ensures.settled (c.is_autocommit-settled.ensures.value
-    ∙ ap not c.requires) is_open) c.schema.ensures.live empty)
+pub returns-then-is_empty : goal.returns-then-is_empty
+returns-then-is_empty g c =
+    let s = state g.S.Store c.args.conn.now in
+    let opened : IsJustOpened s = record {
+      autocommit = c.requires;
+      settled = c.is_autocommit-settled.ensures.settled (c.is_autocommit-settled.ensures.value
+          ∙ ap not c.requires);
+      live = c.schema.ensures.live;
+    } in
+    let nothing : s.now.schema ≡ no_schema =
+    sym c.schema.ensures.value ∙ c.is_empty.ensures.0 c.if-is_empty.true in
+    record {
+      made = λ clean is_open empty.
+          c.in_ok-create_all.ensures.made clean (blank s opened is_open empty);
+      found = λ clean t is_open holds.
+          absurd (no_registry s opened is_open nothing Second holds.sound);
+      registry = λ clean is_open has. absurd (no_registry s opened is_open nothing has.0 has.1);
+      carried = λ clean is_open sound. absurd (no_registry s opened is_open nothing First sound);
+      upgraded = λ clean t is_open holds.
+          absurd (no_registry s opened is_open nothing First holds.sound);
+      refused = search rules;
+      refused_first = search rules;
+      stays = search rules;
+      left_made = λ is_open empty. c.in_ok-create_all.ensures.left (blank s opened is_open empty);
+      left_found = λ t is_open holds.
+          absurd (no_registry s opened is_open nothing Second holds.sound);
+      left_upgraded = λ t is_open holds.
+          absurd (no_registry s opened is_open nothing First holds.sound);
+      left_carried = λ is_open sound.
+          absurd (no_registry s opened is_open nothing First sound);
+      unreadable = search rules;
+      store = search rules;
+      refuses = λ clean is_open foreign. nothing_foreign s opened is_open nothing foreign;
+      foreign = λ is_open foreign. absurd (nothing_foreign s opened is_open nothing foreign);
+      untouched = λ is_open sound.
+          absurd (no_registry s opened is_open nothing Second sound);
+      clean = search rules;
+    }
 
-pub returns-then-is_empty-clause-found : goal.returns-then-is_empty-clause-found
-returns-then-is_empty-clause-found g c clean t is_open holds =
-    absurd (not_empty (state g.S.Store c.args.conn.now) t c.schema.result.now c.is_empty.result
-    (has_tables (state g.S.Store c.args.conn.now) t is_open c.requires
-    (c.is_autocommit-settled.ensures.settled (c.is_autocommit-settled.ensures.value
-    ∙ ap not c.requires) is_open) c.schema.ensures.live holds) c.schema.ensures.value
-    c.is_empty.ensures c.if-is_empty.true)
+-- ---- a registry of the first schema, or something else with as many tables
 
-pub returns-then-is_empty-clause-left_found : goal.returns-then-is_empty-clause-left_found
-returns-then-is_empty-clause-left_found g c t is_open holds =
-    absurd (not_empty (state g.S.Store c.args.conn.now) t c.schema.result.now c.is_empty.result
-    (has_tables (state g.S.Store c.args.conn.now) t is_open c.requires
-    (c.is_autocommit-settled.ensures.settled (c.is_autocommit-settled.ensures.value
-    ∙ ap not c.requires) is_open) c.schema.ensures.live holds) c.schema.ensures.value
-    c.is_empty.ensures c.if-is_empty.true)
+pub returns-in-First : goal.returns-in-First
+returns-in-First g c =
+    let s = state g.S.Store c.args.conn.now in
+    let new = state g.S.Store c.take_first.new.conn in
+    let opened : IsJustOpened s = record {
+      autocommit = c.requires;
+      settled = c.is_autocommit-settled.ensures.settled (c.is_autocommit-settled.ensures.value
+          ∙ ap not c.requires);
+      live = c.schema.ensures.live;
+    } in
+    let some : s.now.schema ≢ no_schema = λ none. (let e = sym (c.is_empty.ensures.1
+    (c.schema.ensures.value ∙ none)) ∙ c.if-is_empty.false in cc) in
+    let only : (edition : Edition) → s.now.schema ≡ schema_of edition → First ≡ edition =
+    λ edition is. c.in-First.ensures edition (c.schema-2.ensures.value ∙ is) in
+    let result = c.take_first.result in
+    let it = c.take_first.ensures in
+    record {
+      made = λ clean. on_ok result _
+          (λ is_open empty. absurd (not_empty s opened is_open some empty));
+      found = λ clean. on_ok result _
+          (λ t is_open holds. absurd (not_second s opened is_open only holds.sound));
+      registry = λ clean. map_ok result _ _ (λ over is_open has.
+          (over (first_store s opened is_open (only_first s opened is_open only
+          (λ edition. IsSound (schema_of edition) s.committed.trees) (λ edition sound. sound)
+          has))).0) (it.carried clean);
+      carried = λ clean. map_ok result _ _
+          (λ over is_open sound. (over (first_store s opened is_open sound)).1) (it.carried clean);
+      upgraded = λ clean. map_ok result _ _ (λ over t is_open holds.
+          let both = over (first_store s opened is_open holds.sound) in
+          sees_over s new t holds both.0 both.1) (it.carried clean);
+      refused = λ clean. on_err result _
+          (λ t is_open holds still. absurd (not_second s opened is_open only holds.sound));
+      refused_first = λ clean. if_err result _ _ (λ e stays t is_open holds still.
+          first_still s new t (has_first s opened is_open t holds)
+          (stays (first_store s opened is_open holds.sound) still)) (it.stays clean);
+      stays = λ clean. if_err result _ _ (λ e stays is_open sound still.
+          ap (λ (d : Database). d.trees) (stays (first_store s opened is_open sound)
+          still).committed_is) (it.stays clean);
+      left_made = λ is_open empty. absurd (not_empty s opened is_open some empty);
+      left_found = λ t is_open holds. absurd (not_second s opened is_open only holds.sound);
+      left_upgraded = λ t is_open holds. survives_weaker s new _ _
+          (λ clean db over. holds_over s.committed.trees db t holds over)
+          (it.left (first_store s opened is_open holds.sound));
+      left_carried = λ is_open sound. it.left (first_store s opened is_open sound);
+      unreadable = λ clean. if_err result _ _ (λ e none is is_open openable. elim openable [
+        | inl empty ↦ not_empty s opened is_open some empty
+        | inr of ↦
+            let first = only_first s opened is_open only
+            (λ edition. IsOfEdition edition s.committed.trees) (λ edition i. i.sound) of in
+            none is (of_registry s opened is_open (First, first.sound))
+            (subst (λ (d : Database). Lists First d.trees) (sym (opened.settled is_open))
+            first.listed)
+            (subst (λ (d : Database). IsNumbered First d.trees) (sym (opened.settled is_open))
+            first.numbered)
+      ]) (it.unreadable clean);
+      store = λ clean. if_err result _ _ (λ e failed is is_open known. elim known [
+        | inl empty ↦ absurd (not_empty s opened is_open some empty)
+        | inr (inl has) ↦
+            let sound = only_first s opened is_open only
+            (λ edition. IsSound (schema_of edition) s.committed.trees) (λ edition i. i) has in
+            failed is (ours_known _ (of_registry s opened is_open has))
+            (λ _. first_store s opened is_open sound) is_open
+        | inr (inr foreign) ↦ failed is (foreign_shown s opened is_open foreign)
+            (λ lists. absurd (foreign.other First (subst (λ (d : Database). Lists First d.trees)
+            (opened.settled is_open) lists))) is_open
+      ]) (it.store clean);
+      refuses = λ clean. map_ok result _ _ (λ lists is_open foreign.
+          foreign.other First (subst (λ (d : Database). Lists First d.trees)
+          (opened.settled is_open) (lists (foreign_shown s opened is_open foreign))))
+          (it.texts clean);
+      foreign = λ is_open foreign. failed_leaves_over ShowsList s new
+          (foreign_shown s opened is_open foreign) (it.foreign (λ lists.
+          foreign.other First (subst (λ (d : Database). Lists First d.trees)
+          (opened.settled is_open) lists)));
+      untouched = λ is_open sound. absurd (not_second s opened is_open only sound);
+      clean = it.clean;
+    }
 
-pub returns-clause-made : goal.returns-clause-made
-returns-clause-made g c clean =
-    on_ok c.check_registry.result _ (λ is_open empty.
-    absurd (not_full (state g.S.Store c.args.conn.now) c.schema.result.now c.is_empty.result
-    (blank (state g.S.Store c.args.conn.now) is_open c.requires
-    (c.is_autocommit-settled.ensures.settled (c.is_autocommit-settled.ensures.value
-    ∙ ap not c.requires) is_open) c.schema.ensures.live empty) c.schema.ensures.value
-    c.is_empty.ensures c.if-is_empty.false))
+-- ---- a registry of the second, or something else
 
-pub returns-clause-found : goal.returns-clause-found
-returns-clause-found g c clean =
-    let old = state g.S.Store c.args.conn.now in
+pub returns-in-Second : goal.returns-in-Second
+returns-in-Second g c =
+    let s = state g.S.Store c.args.conn.now in
     let new = state g.S.Store c.check_registry.new.conn in
-    map_ok c.check_registry.result _ _ (λ read t is_open holds.
-    tables_stay old new t read clean (has_tables old t is_open c.requires
-    (c.is_autocommit-settled.ensures.settled (c.is_autocommit-settled.ensures.value
-    ∙ ap not c.requires) is_open) c.schema.ensures.live holds)) c.check_registry.ensures.read
-
-pub returns-clause-refused : goal.returns-clause-refused
-returns-clause-refused g c clean =
-    let old = state g.S.Store c.args.conn.now in
-    let new = state g.S.Store c.check_registry.new.conn in
-    on_err c.check_registry.result _ (λ t is_open holds.
-    tables_refused old new t c.check_registry.ensures.failed clean
-    (has_tables old t is_open c.requires
-    (c.is_autocommit-settled.ensures.settled (c.is_autocommit-settled.ensures.value
-    ∙ ap not c.requires) is_open) c.schema.ensures.live holds))
-
-pub returns-clause-left_made : goal.returns-clause-left_made
-returns-clause-left_made g c is_open empty =
-    absurd (not_full (state g.S.Store c.args.conn.now) c.schema.result.now c.is_empty.result
-    (blank (state g.S.Store c.args.conn.now) is_open c.requires
-    (c.is_autocommit-settled.ensures.settled (c.is_autocommit-settled.ensures.value
-    ∙ ap not c.requires) is_open) c.schema.ensures.live empty) c.schema.ensures.value
-    c.is_empty.ensures c.if-is_empty.false)
-
-pub returns-clause-left_found : goal.returns-clause-left_found
-returns-clause-left_found g c t is_open holds =
-    let old = state g.S.Store c.args.conn.now in
-    nothing_new old (state g.S.Store c.check_registry.new.conn) t
-    c.check_registry.ensures.failed.left
-    (has_tables old t is_open c.requires
-    (c.is_autocommit-settled.ensures.settled (c.is_autocommit-settled.ensures.value
-    ∙ ap not c.requires) is_open) c.schema.ensures.live holds)
-
-pub returns-then-is_empty-clause-registry : goal.returns-then-is_empty-clause-registry
-returns-then-is_empty-clause-registry g c clean is_open sound =
-    absurd (shows_some (state g.S.Store c.args.conn.now) c.schema.result.now c.is_empty.result
-    (registry_seen (state g.S.Store c.args.conn.now) is_open
-    (c.is_autocommit-settled.ensures.settled (c.is_autocommit-settled.ensures.value
-    ∙ ap not c.requires) is_open) c.schema.ensures.live sound) c.schema.ensures.value
-    c.is_empty.ensures c.if-is_empty.true)
-
-pub returns-clause-registry : goal.returns-clause-registry
-returns-clause-registry g c clean =
-    let old = state g.S.Store c.args.conn.now in
-    let new = state g.S.Store c.check_registry.new.conn in
-    both_ok c.check_registry.result _ _ _ (λ about read is_open sound.
-    let settled =
-    (c.is_autocommit-settled.ensures.settled (c.is_autocommit-settled.ensures.value
-    ∙ ap not c.requires) is_open) in
-    let ours = registry_seen old is_open settled c.schema.ensures.live sound in
-    registry_there old new is_open c.requires settled c.schema.ensures.live sound
-    (read.unchanged clean ours) (about ours)) (c.check_registry.ensures.about clean)
-    c.check_registry.ensures.read
-
-pub returns-clause-unreadable : goal.returns-clause-unreadable
-returns-clause-unreadable g c clean =
-    let old = state g.S.Store c.args.conn.now in
-    if_err c.check_registry.result _ _ (λ e none is is_open openable.
-    let settled =
-    (c.is_autocommit-settled.ensures.settled (c.is_autocommit-settled.ensures.value
-    ∙ ap not c.requires) is_open) in
-    elim openable [
-      | inl empty ↦ not_full old c.schema.result.now c.is_empty.result
-          (blank old is_open c.requires settled c.schema.ensures.live empty) c.schema.ensures.value
-          c.is_empty.ensures c.if-is_empty.false
-      | inr it ↦ none is (registry_seen old is_open settled c.schema.ensures.live it.0)
-          (subst (λ (d : Database). ListsOurs d.trees) (sym settled) it.1)
-          (subst (λ (d : Database). IsOfSchema1 d.trees) (sym settled) it.2)
-    ]) (c.check_registry.ensures.unreadable clean)
-
-pub returns-clause-refuses : goal.returns-clause-refuses
-returns-clause-refuses g c clean =
-    let old = state g.S.Store c.args.conn.now in
-    map_ok c.check_registry.result _ _ (λ lists is_open foreign.
-    let settled =
-    (c.is_autocommit-settled.ensures.settled (c.is_autocommit-settled.ensures.value
-    ∙ ap not c.requires) is_open) in
-    let shows = foreign_shown old is_open settled c.schema.ensures.live foreign in
-    foreign.other (subst (λ (d : Database). ListsOurs d.trees) settled (lists shows)))
-    (c.check_registry.ensures.texts clean)
-
-pub returns-clause-foreign : goal.returns-clause-foreign
-returns-clause-foreign g c is_open foreign =
-    let old = state g.S.Store c.args.conn.now in
-    let settled =
-    (c.is_autocommit-settled.ensures.settled (c.is_autocommit-settled.ensures.value
-    ∙ ap not c.requires) is_open) in
-    failed_leaves_over ShowsList old (state g.S.Store c.check_registry.new.conn)
-    (foreign_shown old is_open settled c.schema.ensures.live foreign)
-    (c.check_registry.ensures.foreign
-    (λ lists. foreign.other (subst (λ (d : Database). ListsOurs d.trees) settled lists)))
-
-pub returns-clause-untouched : goal.returns-clause-untouched
-returns-clause-untouched g c is_open sound =
-    let old = state g.S.Store c.args.conn.now in
-    let settled =
-    (c.is_autocommit-settled.ensures.settled (c.is_autocommit-settled.ensures.value
-    ∙ ap not c.requires) is_open) in
-    failed_leaves_over IsOurSchema old (state g.S.Store c.check_registry.new.conn)
-    (registry_seen old is_open settled c.schema.ensures.live sound)
-    c.check_registry.ensures.failed
-
-pub returns-in_err-create_all-clause-foreign : goal.returns-in_err-create_all-clause-foreign
-returns-in_err-create_all-clause-foreign g c is_open foreign =
-    absurd (not_foreign_empty (state g.S.Store c.args.conn.now) c.schema.result.now
-    c.is_empty.result is_open (c.is_autocommit-settled.ensures.settled
-    (c.is_autocommit-settled.ensures.value ∙ ap not c.requires) is_open) c.schema.ensures.live
-    foreign c.schema.ensures.value c.is_empty.ensures c.if-is_empty.true)
-
-pub returns-in_err-create_all-clause-untouched : goal.returns-in_err-create_all-clause-untouched
-returns-in_err-create_all-clause-untouched g c is_open sound =
-    let old = state g.S.Store c.args.conn.now in
-    absurd (shows_some old c.schema.result.now c.is_empty.result
-    (registry_seen old is_open (c.is_autocommit-settled.ensures.settled
-    (c.is_autocommit-settled.ensures.value ∙ ap not c.requires) is_open) c.schema.ensures.live
-    sound) c.schema.ensures.value c.is_empty.ensures c.if-is_empty.true)
-
-pub returns-then-is_empty-clause-foreign : goal.returns-then-is_empty-clause-foreign
-returns-then-is_empty-clause-foreign g c is_open foreign =
-    absurd (not_foreign_empty (state g.S.Store c.args.conn.now) c.schema.result.now
-    c.is_empty.result is_open (c.is_autocommit-settled.ensures.settled
-    (c.is_autocommit-settled.ensures.value ∙ ap not c.requires) is_open) c.schema.ensures.live
-    foreign c.schema.ensures.value c.is_empty.ensures c.if-is_empty.true)
-
-pub returns-then-is_empty-clause-untouched : goal.returns-then-is_empty-clause-untouched
-returns-then-is_empty-clause-untouched g c is_open sound =
-    let old = state g.S.Store c.args.conn.now in
-    absurd (shows_some old c.schema.result.now c.is_empty.result
-    (registry_seen old is_open (c.is_autocommit-settled.ensures.settled
-    (c.is_autocommit-settled.ensures.value ∙ ap not c.requires) is_open) c.schema.ensures.live
-    sound) c.schema.ensures.value c.is_empty.ensures c.if-is_empty.true)
-
-pub returns-then-is_empty-clause-refuses : goal.returns-then-is_empty-clause-refuses
-returns-then-is_empty-clause-refuses g c clean is_open foreign =
-    not_foreign_empty (state g.S.Store c.args.conn.now) c.schema.result.now c.is_empty.result
-    is_open (c.is_autocommit-settled.ensures.settled
-    (c.is_autocommit-settled.ensures.value ∙ ap not c.requires) is_open) c.schema.ensures.live
-    foreign c.schema.ensures.value c.is_empty.ensures c.if-is_empty.true
-
-pub returns-in_err-create_all-clause-store : goal.returns-in_err-create_all-clause-store
-returns-in_err-create_all-clause-store g c clean =
-    let old = state g.S.Store c.args.conn.now in
-    passed_on c.from_residual.result _ _ (λ e same is is_open some.
-    let settled =
-    (c.is_autocommit-settled.ensures.settled (c.is_autocommit-settled.ensures.value
-    ∙ ap not c.requires) is_open) in
-    elim some [
-      | inl empty ↦ c.in_err-create_all.ensures.store clean (sym same ∙ is)
-          (blank old is_open c.requires settled c.schema.ensures.live empty)
-      | inr (inl sound) ↦ absurd (shows_some old c.schema.result.now c.is_empty.result
-          (registry_seen old is_open settled c.schema.ensures.live sound) c.schema.ensures.value
-          c.is_empty.ensures c.if-is_empty.true)
-      | inr (inr foreign) ↦ absurd (not_foreign_empty old c.schema.result.now c.is_empty.result
-          is_open settled c.schema.ensures.live foreign c.schema.ensures.value c.is_empty.ensures
-          c.if-is_empty.true)
-    ]) c.from_residual.ensures.1
-
-pub returns-clause-store : goal.returns-clause-store
-returns-clause-store g c clean =
-    let old = state g.S.Store c.args.conn.now in
-    if_err c.check_registry.result _ _ (λ e failed is is_open some.
-    let settled =
-    (c.is_autocommit-settled.ensures.settled (c.is_autocommit-settled.ensures.value
-    ∙ ap not c.requires) is_open) in
-    elim some [
-      | inl empty ↦ absurd (not_full old c.schema.result.now c.is_empty.result
-          (blank old is_open c.requires settled c.schema.ensures.live empty) c.schema.ensures.value
-          c.is_empty.ensures c.if-is_empty.false)
-      | inr (inl sound) ↦
-          let ours = registry_seen old is_open settled c.schema.ensures.live sound in
-          failed is (ours_known _ ours) (λ _. ours) is_open
-      | inr (inr foreign) ↦ failed is
-          (foreign_shown old is_open settled c.schema.ensures.live foreign)
-          (λ lists. absurd (foreign.other (subst (λ (d : Database). ListsOurs d.trees) settled
-          lists))) is_open
-    ]) (c.check_registry.ensures.store clean)
+    let opened : IsJustOpened s = record {
+      autocommit = c.requires;
+      settled = c.is_autocommit-settled.ensures.settled (c.is_autocommit-settled.ensures.value
+          ∙ ap not c.requires);
+      live = c.schema.ensures.live;
+    } in
+    let some : s.now.schema ≢ no_schema = λ none. (let e = sym (c.is_empty.ensures.1
+    (c.schema.ensures.value ∙ none)) ∙ c.if-is_empty.false in cc) in
+    let only : (edition : Edition) → s.now.schema ≡ schema_of edition → Second ≡ edition =
+    λ edition is. c.in-Second.ensures edition (c.schema-2.ensures.value ∙ is) in
+    let result = c.check_registry.result in
+    let it = c.check_registry.ensures in
+    let known : (x : Schema) → IsOurSchema x → IsOfRegistry x = λ x is. (Second, is) in
+    let failed = failed_closer IsOfRegistry IsOurSchema known s new it.failed in
+    record {
+      made = λ clean. on_ok result _
+          (λ is_open empty. absurd (not_empty s opened is_open some empty));
+      found = λ clean. map_ok result _ _ (λ read t is_open holds.
+          tables_stay s new t (known_closer IsOfRegistry IsOurSchema known s new read) clean
+          (has_tables s opened is_open t holds)) it.read;
+      registry = λ clean. both_ok result _ _ _ (λ about read is_open has.
+          let sound = only_second s opened is_open only
+          (λ edition. IsSound (schema_of edition) s.committed.trees) (λ edition i. i) has in
+          let ours = of_registry s opened is_open has in
+          registry_there s opened is_open new sound (read.unchanged clean ours) (about ours))
+          (it.about clean) it.read;
+      carried = λ clean. on_ok result _
+          (λ is_open sound. absurd (not_first s opened is_open only sound));
+      upgraded = λ clean. on_ok result _
+          (λ t is_open holds. absurd (not_first s opened is_open only holds.sound));
+      refused = λ clean. on_err result _ (λ t is_open holds still.
+          tables_refused s new t failed clean (has_tables s opened is_open t holds) still);
+      refused_first = λ clean. on_err result _
+          (λ t is_open holds still. absurd (not_first s opened is_open only holds.sound));
+      stays = λ clean. on_err result _
+          (λ is_open sound still. absurd (not_first s opened is_open only sound));
+      left_made = λ is_open empty. absurd (not_empty s opened is_open some empty);
+      left_found = λ t is_open holds.
+          nothing_new s new t failed.left (has_tables s opened is_open t holds);
+      left_upgraded = λ t is_open holds. absurd (not_first s opened is_open only holds.sound);
+      left_carried = λ is_open sound. absurd (not_first s opened is_open only sound);
+      unreadable = λ clean. if_err result _ _ (λ e none is is_open openable. elim openable [
+        | inl empty ↦ not_empty s opened is_open some empty
+        | inr of ↦
+            let second = only_second s opened is_open only
+            (λ edition. IsOfEdition edition s.committed.trees) (λ edition i. i.sound) of in
+            none is (of_registry s opened is_open (Second, second.sound))
+            (subst (λ (d : Database). Lists Second d.trees) (sym (opened.settled is_open))
+            second.listed)
+            (subst (λ (d : Database). IsNumbered Second d.trees) (sym (opened.settled is_open))
+            second.numbered)
+      ]) (it.unreadable clean);
+      store = λ clean. if_err result _ _ (λ e fails is is_open there. elim there [
+        | inl empty ↦ absurd (not_empty s opened is_open some empty)
+        | inr (inl has) ↦
+            let ours = of_registry s opened is_open has in
+            fails is (ours_known _ ours) (λ _. ours) is_open
+        | inr (inr foreign) ↦ fails is (foreign_shown s opened is_open foreign)
+            (λ lists. absurd (foreign.other Second (subst (λ (d : Database). Lists Second d.trees)
+            (opened.settled is_open) lists))) is_open
+      ]) (it.store clean);
+      refuses = λ clean. map_ok result _ _ (λ lists is_open foreign.
+          foreign.other Second (subst (λ (d : Database). Lists Second d.trees)
+          (opened.settled is_open) (lists (foreign_shown s opened is_open foreign))))
+          (it.texts clean);
+      foreign = λ is_open foreign. failed_leaves_over ShowsList s new
+          (foreign_shown s opened is_open foreign) (it.foreign (λ lists.
+          foreign.other Second (subst (λ (d : Database). Lists Second d.trees)
+          (opened.settled is_open) lists)));
+      untouched = λ is_open sound. failed_leaves_over IsOurSchema s new
+          (edition_seen s opened is_open Second sound) failed;
+      clean = failed.left.clean;
+    }

@@ -9,6 +9,7 @@ use Rattle.gm_registry.specs.Keys.{under}
 use Rattle.gm_registry.specs.Parts.{is_asked_by}
 use Rattle.gm_registry.specs.Reads.{IsOurSchema}
 use Rattle.gm_registry.specs.declared.components_by_key.Key.TheVariants.{Provider, Mirror}
+use Rattle.gm_registry.specs.Reads.{IsOurSchema}
 use Rattle.gm_registry.proofs.Failures.{failed_later}
 use Rattle.gm_registry.proofs.PartOf.{mirrors_asked, components_asked}
 use Rattle.gm_registry.proofs.ReadsInTurn.{failed_then, tables_stay}
@@ -92,7 +93,7 @@ returns-in_err-components-clause-store g c clean =
     c.components_under.new.conn c.in_ok-all.ensures.read c.in_ok-named.ensures.read in
     let early = failed_clean mid new c.in_err-components.ensures.failed clean in
     passed_on c.from_residual-in_err-components.result _ _ (λ e same is ours is_open.
-    failed_later old mid new both early ours is_open
+    failed_later IsOurSchema old mid new both early ours is_open
     (c.in_err-components.ensures.store clean (sym same ∙ is)))
     c.from_residual-in_err-components.ensures.1
 
@@ -103,7 +104,7 @@ returns-in_err-named-clause-store g c clean =
     let new = state g.S.Store c.components_under.new.conn in
     let early = failed_clean mid new c.in_err-named.ensures.failed clean in
     passed_on c.from_residual-in_err-named.result _ _ (λ e same is ours is_open.
-    failed_later old mid new c.in_ok-all.ensures.read early ours is_open
+    failed_later IsOurSchema old mid new c.in_ok-all.ensures.read early ours is_open
     (c.in_err-named.ensures.store clean (sym same ∙ is))) c.from_residual-in_err-named.ensures.1
 
 pub returns-clause-asked : goal.returns-clause-asked

@@ -2,7 +2,7 @@ use Rattle.std.proofs.Common.{inl, inr, refl}
 use Rattle.sqlite.specs.Held.{state}
 use Rattle.sqlite_rows.proofs.Refusing.{on_err}
 use Rattle.gm_rows.specs.Queries.{IsShown, IsInOrder}
-use Rattle.gm_rows.specs.declared.fetched.Table.TheVariants.{Mirrors, Components, Intents, Commands}
+use Rattle.gm_rows.specs.declared.fetched.Table.TheVariants.{Mirrors, Components, Intents, Commands, Patches}
 use Rattle.gm_registry.proofs.ReadsInTurn.{read_then, failed_then, clean_before, carried}
 use Rattle.gm_registry.proofs.whole_tables.fetch.Goals as goal
 
@@ -50,6 +50,22 @@ returns-in_err-commands-clause-failed g c =
     on_err c.from_residual-in_err-commands.result _
     (failed_then s0 s4 s5 third c.in_err-commands.ensures.failed)
 
+pub returns-in_err-patches-clause-failed : goal.returns-in_err-patches-clause-failed
+returns-in_err-patches-clause-failed g c =
+    let s0 = state g.S.Store c.args.conn.now in
+    let s1 = state g.S.Store c.rows_of.new.conn in
+    let s2 = state g.S.Store c.rows_of-2.new.conn in
+    let s3 = state g.S.Store c.rows_of-3.new.conn in
+    let s4 = state g.S.Store c.rows_of-4.new.conn in
+    let s5 = state g.S.Store c.rows_of-5.new.conn in
+    let s6 = state g.S.Store c.rows_of-6.new.conn in
+    let first = read_then s0 s1 s2 c.in_ok-about.ensures.read c.in_ok-mirrors.ensures.read in
+    let second = read_then s0 s2 s3 first c.in_ok-components.ensures.read in
+    let third = read_then s0 s3 s4 second c.in_ok-intents.ensures.read in
+    let fourth = read_then s0 s4 s5 third c.in_ok-commands.ensures.read in
+    on_err c.from_residual-in_err-patches.result _
+    (failed_then s0 s5 s6 fourth c.in_err-patches.ensures.failed)
+
 pub returns-clause-read : goal.returns-clause-read
 returns-clause-read g c =
     let s0 = state g.S.Store c.args.conn.now in
@@ -58,10 +74,12 @@ returns-clause-read g c =
     let s3 = state g.S.Store c.rows_of-3.new.conn in
     let s4 = state g.S.Store c.rows_of-4.new.conn in
     let s5 = state g.S.Store c.rows_of-5.new.conn in
+    let s6 = state g.S.Store c.rows_of-6.new.conn in
     let first = read_then s0 s1 s2 c.in_ok-about.ensures.read c.in_ok-mirrors.ensures.read in
     let second = read_then s0 s2 s3 first c.in_ok-components.ensures.read in
     let third = read_then s0 s3 s4 second c.in_ok-intents.ensures.read in
-    read_then s0 s4 s5 third c.in_ok-commands.ensures.read
+    let fourth = read_then s0 s4 s5 third c.in_ok-commands.ensures.read in
+    read_then s0 s5 s6 fourth c.in_ok-patches.ensures.read
 
 pub returns-clause-rows : goal.returns-clause-rows
 returns-clause-rows g c clean ours =
@@ -71,10 +89,13 @@ returns-clause-rows g c clean ours =
     let s3 = state g.S.Store c.rows_of-3.new.conn in
     let s4 = state g.S.Store c.rows_of-4.new.conn in
     let s5 = state g.S.Store c.rows_of-5.new.conn in
+    let s6 = state g.S.Store c.rows_of-6.new.conn in
     let first = read_then s0 s1 s2 c.in_ok-about.ensures.read c.in_ok-mirrors.ensures.read in
     let second = read_then s0 s2 s3 first c.in_ok-components.ensures.read in
     let third = read_then s0 s3 s4 second c.in_ok-intents.ensures.read in
-    let clean4 = clean_before s4 s5 c.in_ok-commands.ensures.read clean in
+    let fourth = read_then s0 s4 s5 third c.in_ok-commands.ensures.read in
+    let clean5 = clean_before s5 s6 c.in_ok-patches.ensures.read clean in
+    let clean4 = clean_before s4 s5 c.in_ok-commands.ensures.read clean5 in
     let clean3 = clean_before s3 s4 c.in_ok-intents.ensures.read clean4 in
     let clean2 = clean_before s2 s3 c.in_ok-components.ensures.read clean3 in
     let clean1 = clean_before s1 s2 c.in_ok-mirrors.ensures.read clean2 in
@@ -90,8 +111,10 @@ returns-clause-rows g c clean ours =
       in_order = carried s0 s3 (λ db. IsInOrder c.in_ok-intents.intents.items) second clean3
           (c.in_ok-intents.ensures.in_order (inl refl) clean4) ours;
       commands = carried s0 s4 (λ db. IsShown db Commands c.in_ok-commands.commands.items) third
-          clean4 (c.in_ok-commands.ensures.rows clean) ours;
+          clean4 (c.in_ok-commands.ensures.rows clean5) ours;
       commands_in_order =
           carried s0 s4 (λ db. IsInOrder c.in_ok-commands.commands.items) third clean4
-          (c.in_ok-commands.ensures.in_order (inr refl) clean) ours;
+          (c.in_ok-commands.ensures.in_order (inr refl) clean5) ours;
+      patches = carried s0 s5 (λ db. IsShown db Patches c.in_ok-patches.patches.items) fourth clean5
+          (c.in_ok-patches.ensures.rows clean) ours;
     }

@@ -2,7 +2,8 @@ use Rattle.std.proofs.Common.{inl, inr, [], ◌∷◌, sym, ◌∙◌, subst}
 use Rattle.sqlite.specs.State.{Shown}
 use Rattle.sqlite.specs.Held.{state}
 use Rattle.gm_rows.specs.Queries.{query_text}
-use Rattle.gm_registry.proofs.WholeQueries.{answers, shows, read, failed}
+use Rattle.gm_registry.specs.Reads.{IsOurSchema}
+use Rattle.gm_registry.proofs.WholeQueries.{answers, ours_have, shows, read, failed}
 use Rattle.gm_rows.proofs.ShownInOrder.{in_order}
 use Rattle.gm_rows.specs.declared.fetched.Table.TheVariants.{Intents, Commands}
 use Rattle.gm_registry.proofs.Failures.{table_failed}
@@ -11,19 +12,19 @@ use Rattle.gm_registry.proofs.whole_tables.rows_of.Goals as goal
 pub returns-in-Ok-clause-rows : goal.returns-in-Ok-clause-rows
 returns-in-Ok-clause-rows g c clean ours =
     shows c.args.table (state g.S.Store c.args.conn.now)
-    (state g.S.Store c.query_all.new.self) c.in-Ok.rows.items ours
+    (state g.S.Store c.query_all.new.self) c.in-Ok.rows.items (ours_have c.args.table _ ours)
     (rw c.query.ensures at (c.in-Ok.ensures.ok clean))
 
 pub returns-in-Ok-clause-read : goal.returns-in-Ok-clause-read
 returns-in-Ok-clause-read g c =
-    read c.args.table (state g.S.Store c.args.conn.now)
+    read c.args.table IsOurSchema (ours_have c.args.table) (state g.S.Store c.args.conn.now)
     (state g.S.Store c.query_all.new.self) c.in-Ok.rows.items
     (λ clean. rw c.query.ensures at (c.in-Ok.ensures.ok clean))
     (rw c.query.ensures at c.query_all.ensures.survives)
 
 pub returns-in-Err-clause-failed : goal.returns-in-Err-clause-failed
 returns-in-Err-clause-failed g c =
-    failed c.args.table (state g.S.Store c.args.conn.now)
+    failed c.args.table IsOurSchema (ours_have c.args.table) (state g.S.Store c.args.conn.now)
     (state g.S.Store c.query_all.new.self) c.in-Err.error
     (λ clean. rw c.query.ensures at (c.in-Err.ensures.err clean))
     (rw c.query.ensures at c.query_all.ensures.survives)
@@ -44,6 +45,6 @@ returns-in-Ok-clause-in_order g c by_number clean ours =
 
 pub returns-in-Err-clause-store : goal.returns-in-Err-clause-store
 returns-in-Err-clause-store g c clean is ours is_open =
-    table_failed (state g.S.Store c.args.conn.now) (state g.S.Store c.query_all.new.self)
-    c.in-Err.error ours is_open c.args.table
+    table_failed c.args.table (state g.S.Store c.args.conn.now)
+    (state g.S.Store c.query_all.new.self) c.in-Err.error (ours_have c.args.table _ ours) is_open
     (rw c.query.ensures at (c.in-Err.ensures.err clean)) (sym c.from.ensures ∙ is)

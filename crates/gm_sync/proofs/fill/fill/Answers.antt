@@ -29,7 +29,7 @@ returns-in_default-clause-whole g c =
             omega (arith, looks.store.clean, kept) in
             let filled = c.loop.invariant.fills.does honest mid away u at in
             (filled.at.tables, filled.at.has);
-        are = λ kept t r ts has are. c.in_ok-state.ensures.shows kept t r ts has are;
+        are = λ kept t r ts bytes has are. c.in_ok-state.ensures.shows kept t r ts bytes has are;
       };
       none = search rules;
       world = λ honest kept away u at.
@@ -39,9 +39,9 @@ returns-in_default-clause-whole g c =
           let still = c.loop.invariant.fills.keep.shelf.honest honest in (
             filled_look g.S.Store g.H.Shelf (IsAdvanceIn c.args.scope.now) c.loop.bench
                 c.view.new.self away u (looks.does still kept) filled,
-            c.in_ok-state.ensures.shows kept filled.at.tables filled.world.state [] filled.at.has
-                (tables_at_rest g.S.Store g.H.Shelf c.loop.bench away filled.world filled.at
-                (g.met.H.Shelf.lawful _ still)),
+            c.in_ok-state.ensures.shows kept filled.at.tables filled.world.state [] []
+                filled.at.has (tables_at_rest g.S.Store g.H.Shelf c.loop.bench away filled.world
+                filled.at (g.met.H.Shelf.lawful _ still)),
           );
     }
 

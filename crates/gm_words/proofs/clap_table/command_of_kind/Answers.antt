@@ -9,6 +9,9 @@ returns-in-Insert-clause-app c = rw c.in-Insert.is c.command_with-in-Insert.ensu
 pub returns-in-Configure-clause-app : goal.returns-in-Configure-clause-app
 returns-in-Configure-clause-app c = rw c.in-Configure.is c.command_with-in-Configure.ensures.app
 
+pub returns-in-Patch-clause-app : goal.returns-in-Patch-clause-app
+returns-in-Patch-clause-app c = rw c.in-Patch.is c.command_with-in-Patch.ensures.app
+
 pub returns-in-Component-clause-app : goal.returns-in-Component-clause-app
 returns-in-Component-clause-app c = rw c.in-Component.is c.command_with-in-Component.ensures.app
 

@@ -1,4 +1,4 @@
-use Rattle.std.proofs.Common.{rules, ◌≡◌, ◌∙◌, Err, List, refl, sym, ap, subst}
+use Rattle.std.proofs.Common.{rules, ◌≡◌, ◌∙◌, Err, ℕ, List, refl, sym, ap, subst, subst₂}
 use Rattle.sqlite.specs.Held.{Held}
 use Rattle.gm_state.specs.declared.intents.Intent.{Intent}
 use Rattle.gm_bench.specs.declared.answer.Work.{Work}
@@ -18,18 +18,21 @@ returns-in-Pending-clause-does g c h work is =
     let shelf = c.args.self.now.media.shelf in
     let after = c.apply.new.self.shelf in
     let hands : c.deref.result.now ≡ c.in-Pending.work.intents.items = c.deref.ensures.value in
+    let laid : c.deref-in-Pending.result.now ≡ c.in-Pending.work.bytes.items =
+    c.deref-in-Pending.ensures.value in
     let does : ApplyDoes g.S.Store view size r shelf after c.in-Pending.work = λ away u w at.
-    let at1 = subst (λ (ts : List Intent). IsAt g.S.Store view size r shelf away ts u w)
-    (sym hands) at.at in
+    let at1 = subst₂ (λ (ts : List Intent) (bytes : List (List ℕ)).
+    IsAt g.S.Store view size r shelf away ts bytes u w) (sym hands) (sym laid) at.at in
     let it = c.in_ok-apply-in-Pending.ensures.done h away u w at1
     (subst (λ (ts : List Intent). Cover c.in-Pending.work.part w.state ts)
     (sym hands) at.cover) in
     let at2 = subst (λ (k : Held g.row.S.Denot).
-    IsAt g.S.Store view size k after away c.deref.result.now u w) c.apply.ensures.registry
+    IsAt g.S.Store view size k after away c.deref.result.now c.deref-in-Pending.result.now u w)
+    c.apply.ensures.registry
     it.0 in (
       record {
-        at = subst (λ (ts : List Intent). IsAt g.S.Store view size r after away ts u w) hands
-            at2;
+        at = subst₂ (λ (ts : List Intent) (bytes : List (List ℕ)).
+            IsAt g.S.Store view size r after away ts bytes u w) hands laid at2;
         cover = at.cover;
       },
       it.1,

@@ -17,7 +17,7 @@ returns-clause-does g c h clean work is =
     IsAtWork g.S.Store view size r c.apply.new.self.media.shelf away work u w)
     (sym c.apply.ensures.registry) it.0 in
     subst (λ (k : g.row.H.Denot). IsAt g.S.Store view size c.settle.new.self.media.registry k away
-    [] w w) (sym c.settle.ensures.settles.shelf) (settled.1 away u w at1 it.1)))
+    [] [] w w) (sym c.settle.ensures.settles.shelf) (settled.1 away u w at1 it.1)))
     (c.settle.ensures.does (c.apply.ensures.carries.keep.shelf.honest h) clean work done.0)
 
 pub returns-clause-leaves : goal.returns-clause-leaves

@@ -11,7 +11,7 @@ use Rattle.gm_bench.specs.Owed.{OpenLeaves}
 use Rattle.gm_bench.proofs.Causes.{of_failed, of_unreadable}
 use Rattle.gm_bench.proofs.OpenedRoom.{room_opened}
 use Rattle.gm_bench.proofs.ReopenedLoss.{answered, at_opened, given_up, lacking, opened_behind, undone}
-use Rattle.gm_bench.proofs.ReopenedStore.{failed_opened, known_store, opened_tables, unopened}
+use Rattle.gm_bench.proofs.ReopenedStore.{failed_opened, known_store, opened_tables, opening_leaves, unopened}
 use Rattle.gm_bench.proofs.bench.Bench.open_without.Goals as goal
 
 pub returns-in-Err-clause-leaves : goal.returns-in-Err-clause-leaves
@@ -19,8 +19,10 @@ returns-in-Err-clause-leaves g c h is_open clean = inl (λ away u w was.
     unopened g.S.Store g.H.Shelf.view g.H.Shelf.size c.args.store c.args.shelf away u w
     (g.met.H.Shelf.lawful c.args.shelf h)
     (λ db left. g.met.S.Store.settled c.args.store.store db is_open left) was.recovers
-    c.in-Err.e.store clean (c.in-Err.ensures.left_made is_open)
-    (λ t holds. c.in-Err.ensures.left_found t is_open holds))
+    c.in-Err.e.store clean (opening_leaves g.S.Store c.args.store c.in-Err.e.store
+    (c.in-Err.ensures.left_made is_open)
+    (λ t holds. c.in-Err.ensures.left_found t is_open holds)
+    (λ t first. c.in-Err.ensures.left_upgraded t is_open first)))
 
 pub returns-in-Err-clause-foreign : goal.returns-in-Err-clause-foreign
 returns-in-Err-clause-foreign g c is_open foreign clean =
@@ -30,13 +32,16 @@ pub returns-in-Ok-Carried-clause-leaves : goal.returns-in-Ok-Carried-clause-leav
 returns-in-Ok-Carried-clause-leaves g c h is_open clean =
     let mid : DiskKept g.S.Store c.in-Ok.registry =
     omega (arith, clean, c.take_up_without.ensures.keep.clean) in
+    let opened = opened_tables g.S.Store c.args.store c.in-Ok.registry
+    (λ empty. c.in-Ok.ensures.made is_open empty mid)
+    (λ t holds. c.in-Ok.ensures.found t is_open holds mid)
+    (λ t first. c.in-Ok.ensures.upgraded t is_open first mid) in
     let only : (db : Trees) → CrashLeaves g.S.Store c.args.store db
     → db ≡ stored g.S.Store c.args.store =
     λ db left. g.met.S.Store.settled c.args.store.store db is_open left in
     let lawful = g.met.H.Shelf.lawful c.args.shelf h in
     given_up g.S.Store g.H.Shelf.view g.H.Shelf.size c.args.store c.in-Ok.registry c.args.shelf
-    lawful only (λ empty. c.in-Ok.ensures.made is_open empty mid)
-    (λ t holds. c.in-Ok.ensures.found t is_open holds mid) c.args.key.now c.args.provider
+    lawful only opened c.args.key.now c.args.provider
     c.take_up_without.new.self.registry c.take_up_without.new.self.shelf
     (c.take_up_without.ensures.leaves h clean)
 
@@ -46,6 +51,10 @@ returns-in-Ok-NotLost-clause-leaves g c h is_open closed =
     subst (λ (k : Held g.row.S.Denot). DiskKept g.S.Store k) c.close.ensures closed in
     let mid : DiskKept g.S.Store c.in-Ok.registry =
     omega (arith, clean, c.take_up_without.ensures.keep.clean) in
+    let opened = opened_tables g.S.Store c.args.store c.in-Ok.registry
+    (λ empty. c.in-Ok.ensures.made is_open empty mid)
+    (λ t holds. c.in-Ok.ensures.found t is_open holds mid)
+    (λ t first. c.in-Ok.ensures.upgraded t is_open first mid) in
     let only : (db : Trees) → CrashLeaves g.S.Store c.args.store db
     → db ≡ stored g.S.Store c.args.store =
     λ db left. g.met.S.Store.settled c.args.store.store db is_open left in
@@ -54,8 +63,7 @@ returns-in-Ok-NotLost-clause-leaves g c h is_open closed =
     c.args.shelf c.args.key.now c.args.provider k c.take_up_without.new.self.shelf)
     (sym c.close.ensures)
     (given_up g.S.Store g.H.Shelf.view g.H.Shelf.size c.args.store c.in-Ok.registry c.args.shelf
-    lawful only (λ empty. c.in-Ok.ensures.made is_open empty mid)
-    (λ t holds. c.in-Ok.ensures.found t is_open holds mid) c.args.key.now c.args.provider
+    lawful only opened c.args.key.now c.args.provider
     c.take_up_without.new.self.registry c.take_up_without.new.self.shelf
     (c.take_up_without.ensures.leaves h clean))
 
@@ -66,6 +74,10 @@ returns-in-Err-take_up_without-clause-leaves g c h is_open closed =
     closed in
     let mid : DiskKept g.S.Store c.in-Ok.registry =
     omega (arith, clean, c.take_up_without.ensures.keep.clean) in
+    let opened = opened_tables g.S.Store c.args.store c.in-Ok.registry
+    (λ empty. c.in-Ok.ensures.made is_open empty mid)
+    (λ t holds. c.in-Ok.ensures.found t is_open holds mid)
+    (λ t first. c.in-Ok.ensures.upgraded t is_open first mid) in
     let only : (db : Trees) → CrashLeaves g.S.Store c.args.store db
     → db ≡ stored g.S.Store c.args.store =
     λ db left. g.met.S.Store.settled c.args.store.store db is_open left in
@@ -74,8 +86,7 @@ returns-in-Err-take_up_without-clause-leaves g c h is_open closed =
     c.args.shelf c.args.key.now c.args.provider k c.take_up_without.new.self.shelf)
     (sym c.close-in-Err-take_up_without.ensures)
     (given_up g.S.Store g.H.Shelf.view g.H.Shelf.size c.args.store c.in-Ok.registry c.args.shelf
-    lawful only (λ empty. c.in-Ok.ensures.made is_open empty mid)
-    (λ t holds. c.in-Ok.ensures.found t is_open holds mid) c.args.key.now c.args.provider
+    lawful only opened c.args.key.now c.args.provider
     c.take_up_without.new.self.registry c.take_up_without.new.self.shelf
     (c.take_up_without.ensures.leaves h clean))
 
@@ -95,7 +106,7 @@ returns-in-Err-clause-unopened g c =
       lacks = search rules;
       absent = search rules;
       disk = search rules;
-      unreadable = λ is_open clean is openable t s ts stands of written. (
+      unreadable = λ is_open clean is openable t s ts bytes stands of written. (
           absurd (c.in-Err.ensures.unreadable is_open clean
           (of_unreadable c.in-Err.e.fault (sym c.of_store.ensures.value ∙ is)) openable));
       failed = λ is_open clean is known.
@@ -113,6 +124,10 @@ returns-in-Ok-Carried-clause-opened g c =
       answers = λ h is_open clean. (
           let mid : DiskKept g.S.Store c.in-Ok.registry =
           omega (arith, clean, c.take_up_without.ensures.keep.clean) in
+          let opened = opened_tables g.S.Store c.args.store c.in-Ok.registry
+          (λ empty. c.in-Ok.ensures.made is_open empty mid)
+          (λ t holds. c.in-Ok.ensures.found t is_open holds mid)
+          (λ t first. c.in-Ok.ensures.upgraded t is_open first mid) in
           let only : (db : Trees) → CrashLeaves g.S.Store c.args.store db
           → db ≡ stored g.S.Store c.args.store =
           λ db left. g.met.S.Store.settled c.args.store.store db is_open left in
@@ -124,8 +139,7 @@ returns-in-Ok-Carried-clause-opened g c =
           } in
           answered g.S.Store g.H.Shelf.view g.H.Shelf.size c.args.store c.in-Ok.registry
           c.args.shelf
-          lawful only (λ empty. c.in-Ok.ensures.made is_open empty mid)
-          (λ t holds. c.in-Ok.ensures.found t is_open holds mid) c.args.key.now c.args.provider b
+          lawful only opened c.args.key.now c.args.provider b
           c.in-Ok-Carried.answer c.in-Ok-Carried.redone refl
           (subst
           (λ (x : TakenUp). DoesWithout g.S.Store g.H.Shelf.view g.H.Shelf.size c.args.key.now
@@ -135,6 +149,10 @@ returns-in-Ok-Carried-clause-opened g c =
       undone = λ h is_open clean. (
           let mid : DiskKept g.S.Store c.in-Ok.registry =
           omega (arith, clean, c.take_up_without.ensures.keep.clean) in
+          let opened = opened_tables g.S.Store c.args.store c.in-Ok.registry
+          (λ empty. c.in-Ok.ensures.made is_open empty mid)
+          (λ t holds. c.in-Ok.ensures.found t is_open holds mid)
+          (λ t first. c.in-Ok.ensures.upgraded t is_open first mid) in
           let only : (db : Trees) → CrashLeaves g.S.Store c.args.store db
           → db ≡ stored g.S.Store c.args.store =
           λ db left. g.met.S.Store.settled c.args.store.store db is_open left in
@@ -145,8 +163,7 @@ returns-in-Ok-Carried-clause-opened g c =
             redone = c.in-Ok-Carried.redone;
           } in
           undone g.S.Store g.H.Shelf.view g.H.Shelf.size c.args.store c.in-Ok.registry c.args.shelf
-          lawful only (λ empty. c.in-Ok.ensures.made is_open empty mid)
-          (λ t holds. c.in-Ok.ensures.found t is_open holds mid) c.args.key.now c.args.provider b
+          lawful only opened c.args.key.now c.args.provider b
           c.in-Ok-Carried.answer c.in-Ok-Carried.redone
           (subst
           (λ (x : TakenUp). KeepsUndone g.S.Store g.H.Shelf.view g.H.Shelf.size c.args.key.now
@@ -165,6 +182,10 @@ returns-in-Ok-NotLost-clause-opened g c =
           subst (λ (k : Held g.row.S.Denot). DiskKept g.S.Store k) c.close.ensures closed in
           let mid : DiskKept g.S.Store c.in-Ok.registry =
           omega (arith, clean, c.take_up_without.ensures.keep.clean) in
+          let opened = opened_tables g.S.Store c.args.store c.in-Ok.registry
+          (λ empty. c.in-Ok.ensures.made is_open empty mid)
+          (λ t holds. c.in-Ok.ensures.found t is_open holds mid)
+          (λ t first. c.in-Ok.ensures.upgraded t is_open first mid) in
           let only : (db : Trees) → CrashLeaves g.S.Store c.args.store db
           → db ≡ stored g.S.Store c.args.store =
           λ db left. g.met.S.Store.settled c.args.store.store db is_open left in
@@ -173,16 +194,19 @@ returns-in-Ok-NotLost-clause-opened g c =
           c.args.key.now c.args.provider c.in-Ok.registry c.take_up_without.new.self.registry
           c.args.shelf c.take_up_without.new.self.shelf x) c.in-Ok-NotLost.field-0-is
           (c.in-Ok-NotLost.ensures.does h clean) in
-          λ away u w left. does away left.recovers.intents u w
+          λ away u w left. does away left.recovers.intents left.recovers.bytes u w
           (at_opened g.S.Store g.H.Shelf.view g.H.Shelf.size c.args.store c.in-Ok.registry
           c.args.shelf
-          lawful only (λ empty. c.in-Ok.ensures.made is_open empty mid)
-          (λ t holds. c.in-Ok.ensures.found t is_open holds mid) away u w left));
+          lawful only opened away u w left));
       undone = λ h is_open closed. (
           let clean : DiskKept g.S.Store c.take_up_without.new.self.registry =
           subst (λ (k : Held g.row.S.Denot). DiskKept g.S.Store k) c.close.ensures closed in
           let mid : DiskKept g.S.Store c.in-Ok.registry =
           omega (arith, clean, c.take_up_without.ensures.keep.clean) in
+          let opened = opened_tables g.S.Store c.args.store c.in-Ok.registry
+          (λ empty. c.in-Ok.ensures.made is_open empty mid)
+          (λ t holds. c.in-Ok.ensures.found t is_open holds mid)
+          (λ t first. c.in-Ok.ensures.upgraded t is_open first mid) in
           let only : (db : Trees) → CrashLeaves g.S.Store c.args.store db
           → db ≡ stored g.S.Store c.args.store =
           λ db left. g.met.S.Store.settled c.args.store.store db is_open left in
@@ -194,8 +218,7 @@ returns-in-Ok-NotLost-clause-opened g c =
           subst (λ (k : Held g.row.S.Denot). OpenLeaves g.S.Store g.H.Shelf.view g.H.Shelf.size
           c.args.store k c.args.shelf c.take_up_without.new.self.shelf) (sym c.close.ensures)
           (opened_behind g.S.Store g.H.Shelf.view g.H.Shelf.size c.args.store c.in-Ok.registry
-          c.args.shelf lawful only (λ empty. c.in-Ok.ensures.made is_open empty mid)
-          (λ t holds. c.in-Ok.ensures.found t is_open holds mid) c.args.key.now c.args.provider
+          c.args.shelf lawful only opened c.args.key.now c.args.provider
           c.take_up_without.new.self.registry c.take_up_without.new.self.shelf keeps));
       ready = search rules;
       refused = search rules;
@@ -211,6 +234,10 @@ returns-in-Err-take_up_without-clause-unopened g c =
           c.close-in-Err-take_up_without.ensures closed in
           let mid : DiskKept g.S.Store c.in-Ok.registry =
           omega (arith, clean, c.take_up_without.ensures.keep.clean) in
+          let opened = opened_tables g.S.Store c.args.store c.in-Ok.registry
+          (λ empty. c.in-Ok.ensures.made is_open empty mid)
+          (λ t holds. c.in-Ok.ensures.found t is_open holds mid)
+          (λ t first. c.in-Ok.ensures.upgraded t is_open first mid) in
           let only : (db : Trees) → CrashLeaves g.S.Store c.args.store db
           → db ≡ stored g.S.Store c.args.store =
           λ db left. g.met.S.Store.settled c.args.store.store db is_open left in
@@ -221,8 +248,7 @@ returns-in-Err-take_up_without-clause-unopened g c =
           (lacking g.S.Store g.H.Shelf.view g.H.Shelf.size c.args.store c.in-Ok.registry
           c.args.shelf
           (g.met.H.Shelf.lawful c.args.shelf h) only
-          (λ empty. c.in-Ok.ensures.made is_open empty mid)
-          (λ t holds. c.in-Ok.ensures.found t is_open holds mid) c.args.key.now c.args.provider
+          opened c.args.key.now c.args.provider
           c.take_up_without.new.self.registry c.take_up_without.new.self.shelf q
           (c.in-Err-take_up_without.ensures.lacks h clean q (ap Err is))));
       absent = search rules;
@@ -232,40 +258,52 @@ returns-in-Err-take_up_without-clause-unopened g c =
           c.close-in-Err-take_up_without.ensures closed in
           let mid : DiskKept g.S.Store c.in-Ok.registry =
           omega (arith, clean, c.take_up_without.ensures.keep.clean) in
-          let has = opened_tables g.S.Store c.args.store c.in-Ok.registry
+          let opened = opened_tables g.S.Store c.args.store c.in-Ok.registry
           (λ empty. c.in-Ok.ensures.made is_open empty mid)
-          (λ t holds. c.in-Ok.ensures.found t is_open holds mid) t stands in
+          (λ t holds. c.in-Ok.ensures.found t is_open holds mid)
+          (λ t first. c.in-Ok.ensures.upgraded t is_open first mid) in
+          let has = opened t stands in
           c.in-Err-take_up_without.ensures.disk clean t has (ap Err is));
-      unreadable = λ is_open closed is openable t s ts stands of written. (
+      unreadable = λ is_open closed is openable t s ts bytes stands of written. (
           let clean : DiskKept g.S.Store c.take_up_without.new.self.registry =
           subst (λ (k : Held g.row.S.Denot). DiskKept g.S.Store k)
           c.close-in-Err-take_up_without.ensures closed in
           let mid : DiskKept g.S.Store c.in-Ok.registry =
           omega (arith, clean, c.take_up_without.ensures.keep.clean) in
-          let has = opened_tables g.S.Store c.args.store c.in-Ok.registry
+          let opened = opened_tables g.S.Store c.args.store c.in-Ok.registry
           (λ empty. c.in-Ok.ensures.made is_open empty mid)
-          (λ t holds. c.in-Ok.ensures.found t is_open holds mid) t stands in
-          c.in-Err-take_up_without.ensures.unreadable clean (ap Err is) t s ts has of written);
+          (λ t holds. c.in-Ok.ensures.found t is_open holds mid)
+          (λ t first. c.in-Ok.ensures.upgraded t is_open first mid) in
+          let has = opened t stands in
+          c.in-Err-take_up_without.ensures.unreadable clean (ap Err is) t s ts bytes has of
+          written);
       failed = λ is_open closed is known. (
           let clean : DiskKept g.S.Store c.take_up_without.new.self.registry =
           subst (λ (k : Held g.row.S.Denot). DiskKept g.S.Store k)
           c.close-in-Err-take_up_without.ensures closed in
           let mid : DiskKept g.S.Store c.in-Ok.registry =
           omega (arith, clean, c.take_up_without.ensures.keep.clean) in
+          let opened = opened_tables g.S.Store c.args.store c.in-Ok.registry
+          (λ empty. c.in-Ok.ensures.made is_open empty mid)
+          (λ t holds. c.in-Ok.ensures.found t is_open holds mid)
+          (λ t first. c.in-Ok.ensures.upgraded t is_open first mid) in
           elim known [
             | inl takes ↦
-                let has = opened_tables g.S.Store c.args.store c.in-Ok.registry
-                (λ empty. c.in-Ok.ensures.made is_open empty mid)
-                (λ t holds. c.in-Ok.ensures.found t is_open holds mid) takes.tables takes.stands in
+                let has = opened takes.tables takes.stands in
                 subst (λ (k : Held g.row.S.Denot). StoreFailed g.S.Store c.args.store k)
                 (sym c.close-in-Err-take_up_without.ensures)
                 (failed_opened g.S.Store c.args.store c.in-Ok.registry
-                c.take_up_without.new.self.registry (c.in-Ok.ensures.left_made is_open)
-                (λ t holds. c.in-Ok.ensures.left_found t is_open holds) takes.tables takes.stands
+                c.take_up_without.new.self.registry takes.tables
+                (opening_leaves g.S.Store c.args.store c.in-Ok.registry
+                (c.in-Ok.ensures.left_made is_open)
+                (λ t holds. c.in-Ok.ensures.left_found t is_open holds)
+                (λ t first. c.in-Ok.ensures.left_upgraded t is_open first) takes.tables
+                takes.stands)
                 (c.in-Err-take_up_without.ensures.store clean (ap Err is) takes.tables
-                takes.records takes.intents has takes.are takes.few
+                takes.records takes.intents takes.bytes has takes.are takes.few
                 (room_opened g.S.Store c.args.store c.in-Ok.registry
-                (c.in-Ok.ensures.untouched is_open) mid takes.tables takes.stands has
+                (c.in-Ok.ensures.untouched is_open) (c.in-Ok.ensures.carried is_open) mid
+                takes.tables takes.stands has
                 takes.room)))
             | inr foreign ↦ absurd (c.in-Ok.ensures.refuses is_open foreign mid)
           ]);

@@ -7,7 +7,7 @@ returns-in-Applied-clause-leaves g c h clean work is away u w at shelf =
     subst (λ (k : g.row.H.Denot). LeavesOnly g.S.Store g.H.Shelf.view g.H.Shelf.size
     c.args.self.now.media.registry c.settle.new.self.registry c.args.self.now.media.shelf k away
     u w) c.settle.ensures.shelf
-    (c.settle.ensures.leaves h clean away work.intents.items u w at.at shelf)
+    (c.settle.ensures.leaves h clean away work.intents.items work.bytes.items u w at.at shelf)
 
 pub returns-in_err-settle-in-Applied-clause-leaves :
     goal.returns-in_err-settle-in-Applied-clause-leaves
@@ -15,4 +15,4 @@ returns-in_err-settle-in-Applied-clause-leaves g c h clean work is away u w at s
     subst (λ (k : g.row.H.Denot). LeavesOnly g.S.Store g.H.Shelf.view g.H.Shelf.size
     c.args.self.now.media.registry c.settle.new.self.registry c.args.self.now.media.shelf k away
     u w) c.settle.ensures.shelf
-    (c.settle.ensures.leaves h clean away work.intents.items u w at.at shelf)
+    (c.settle.ensures.leaves h clean away work.intents.items work.bytes.items u w at.at shelf)

@@ -35,9 +35,9 @@ returns-clause-closes g c =
     }
 
 pub returns-in-Ok-clause-shows : goal.returns-in-Ok-clause-shows
-returns-in-Ok-clause-shows g c clean t s ts has of =
+returns-in-Ok-clause-shows g c clean t s ts bytes has of =
     let loaded = c.in-Ok.ensures.loaded clean t has in
-    (one_reading same_mirror same_component t _ s _ ts loaded.0 of).0
+    (one_reading same_mirror same_component t _ s _ ts _ bytes loaded.0 of).0
 
 pub returns-in-Ok-clause-looks : goal.returns-in-Ok-clause-looks
 returns-in-Ok-clause-looks g c =

@@ -8,21 +8,21 @@ use Rattle.gm_bench.proofs.media.Media.apply.Goals as goal
 pub returns-in-Ok-clause-moments : goal.returns-in-Ok-clause-moments
 returns-in-Ok-clause-moments g c h away u w at cover =
     moments g.S.Store g.H.Shelf.view g.H.Shelf.size c.args.self.now.registry c.args.self.now.shelf
-    c.apply.new.shelf away c.args.intents.now u w at
+    c.apply.new.shelf away c.args.intents.now c.args.bytes.now u w at
     (g.met.H.Shelf.lawful c.args.self.now.shelf h) c.args.part.now cover
     (c.apply.ensures.moments h)
 
 pub returns-in-Err-clause-moments : goal.returns-in-Err-clause-moments
 returns-in-Err-clause-moments g c h away u w at cover =
     moments g.S.Store g.H.Shelf.view g.H.Shelf.size c.args.self.now.registry c.args.self.now.shelf
-    c.apply.new.shelf away c.args.intents.now u w at
+    c.apply.new.shelf away c.args.intents.now c.args.bytes.now u w at
     (g.met.H.Shelf.lawful c.args.self.now.shelf h) c.args.part.now cover
     (c.apply.ensures.moments h)
 
 pub returns-in-Ok-clause-leaves : goal.returns-in-Ok-clause-leaves
 returns-in-Ok-clause-leaves g c h away u w at cover =
     leaves g.S.Store g.H.Shelf.view g.H.Shelf.size c.args.self.now.registry c.args.self.now.shelf
-    c.apply.new.shelf away c.args.intents.now u w at
+    c.apply.new.shelf away c.args.intents.now c.args.bytes.now u w at
     (g.met.H.Shelf.lawful c.args.self.now.shelf h) c.args.part.now cover
     (c.apply.ensures.moments h)
     (g.met.H.Shelf.lawful c.apply.new.shelf (c.apply.ensures.keeps.honest h))
@@ -31,7 +31,7 @@ returns-in-Ok-clause-leaves g c h away u w at cover =
 pub returns-in-Err-clause-leaves : goal.returns-in-Err-clause-leaves
 returns-in-Err-clause-leaves g c h away u w at cover =
     leaves g.S.Store g.H.Shelf.view g.H.Shelf.size c.args.self.now.registry c.args.self.now.shelf
-    c.apply.new.shelf away c.args.intents.now u w at
+    c.apply.new.shelf away c.args.intents.now c.args.bytes.now u w at
     (g.met.H.Shelf.lawful c.args.self.now.shelf h) c.args.part.now cover
     (c.apply.ensures.moments h)
     (g.met.H.Shelf.lawful c.apply.new.shelf (c.apply.ensures.keeps.honest h))
@@ -42,10 +42,12 @@ returns-in-Ok-clause-done g c h away u w at cover =
     let lawful = g.met.H.Shelf.lawful c.args.self.now.shelf h in
     let after = g.met.H.Shelf.lawful c.apply.new.shelf (c.apply.ensures.keeps.honest h) in (
       carried g.S.Store g.H.Shelf.view g.H.Shelf.size c.args.self.now.registry c.args.self.now.shelf
-          c.apply.new.shelf away c.args.intents.now u w at lawful c.args.part.now cover
+          c.apply.new.shelf away c.args.intents.now c.args.bytes.now u w at lawful c.args.part.now
+          cover
           (c.apply.ensures.moments h) after c.apply.ensures.keeps.size,
       ended g.S.Store g.H.Shelf.view g.H.Shelf.size c.args.self.now.registry c.args.self.now.shelf
-          c.apply.new.shelf away c.args.intents.now u w at lawful c.args.part.now cover
+          c.apply.new.shelf away c.args.intents.now c.args.bytes.now u w at lawful c.args.part.now
+          cover
           (c.apply.ensures.moments h) after c.apply.ensures.keeps.size (c.in-Ok.ensures.done h),
     )
 

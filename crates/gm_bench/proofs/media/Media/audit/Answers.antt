@@ -10,18 +10,18 @@ use Rattle.gm_bench.proofs.Looks.{look_does}
 use Rattle.gm_bench.proofs.media.Media.audit.Goals as goal
 
 pub returns-in_err-state-clause-unreadable : goal.returns-in_err-state-clause-unreadable
-returns-in_err-state-clause-unreadable g c clean is t s ts has of =
+returns-in_err-state-clause-unreadable g c clean is t s ts bytes has of =
     c.in_err-state.ensures.unreadable clean (ap Err (fault_is c.from_residual.result _ _
-    c.from_residual.ensures.1 is)) t s ts has of
+    c.from_residual.ensures.1 is)) t s ts bytes has of
 
 pub returns-clause-audits : goal.returns-clause-audits
 returns-clause-audits g c h clean =
     let h1 : g.H.Shelf.honest c.load.new.self.shelf =
     subst g.H.Shelf.honest (sym c.load.ensures.shelf) h in
-    ok_then _ _ (λ names shown t s ts has of. (
+    ok_then _ _ (λ names shown t s ts bytes has of. (
     let state = c.in_ok-state.state in
     let loaded = c.in_ok-state.ensures.loaded clean t has in
-    let same = one_reading same_mirror same_component t state s _ ts loaded.0 of in
+    let same = one_reading same_mirror same_component t state s _ ts _ bytes loaded.0 of in
     let audit = subst (λ (x : g.row.H.Denot). IsAudit state (g.H.Shelf.size x)
     (g.H.Shelf.view x).seen names.items) c.load.ensures.shelf shown in
     subst (λ (x : Records). IsAudit x (g.H.Shelf.size c.args.self.now.shelf)

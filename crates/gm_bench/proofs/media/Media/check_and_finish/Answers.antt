@@ -9,7 +9,7 @@ use Rattle.gm_bench.proofs.Present.{at_hand}
 pub returns-in-Some-clause-leaves : goal.returns-in-Some-clause-leaves
 returns-in-Some-clause-leaves g c h clean away u w at same =
     still_only g.S.Store g.H.Shelf.view g.H.Shelf.size c.args.self.now.registry
-    c.args.self.now.shelf away at.tables c.args.intents.now u w
+    c.args.self.now.shelf away at.tables c.args.intents.now c.args.bytes.now u w
     (saved g.S.Store g.met.S.Store.settled c.args.self.now.registry at.tables at.has).crash
     (g.met.H.Shelf.lawful c.args.self.now.shelf h) at.leads
 
@@ -27,20 +27,24 @@ pub returns-in-None-clause-leaves : goal.returns-in-None-clause-leaves
 returns-in-None-clause-leaves g c h clean away u w at same =
     let lawful = g.met.H.Shelf.lawful c.args.self.now.shelf h in
     let here = ready g.S.Store g.H.Shelf.view g.H.Shelf.size c.args.self.now.registry
-    c.args.self.now.shelf away c.args.intents.now u w at lawful c.args.state.now same
+    c.args.self.now.shelf away c.args.intents.now c.args.bytes.now u w at lawful c.args.state.now
+    same
     (sym c.first_absent.ensures ∙ c.in-None.is) in
     c.finish.ensures.leaves h clean away u w here
     (covered g.S.Store g.H.Shelf.view g.H.Shelf.size c.args.self.now.registry
-    c.args.self.now.shelf away c.args.intents.now u w at lawful c.args.state.now same)
+    c.args.self.now.shelf away c.args.intents.now c.args.bytes.now u w at lawful c.args.state.now
+    same)
 
 pub returns-in-None-clause-done : goal.returns-in-None-clause-done
 returns-in-None-clause-done g c h clean = on_ok_weaker c.finish.result (λ done away u w at same. (
     let lawful = g.met.H.Shelf.lawful c.args.self.now.shelf h in
     done away u w (ready g.S.Store g.H.Shelf.view g.H.Shelf.size c.args.self.now.registry
-    c.args.self.now.shelf away c.args.intents.now u w at lawful c.args.state.now same
+    c.args.self.now.shelf away c.args.intents.now c.args.bytes.now u w at lawful c.args.state.now
+    same
     (sym c.first_absent.ensures ∙ c.in-None.is))
     (covered g.S.Store g.H.Shelf.view g.H.Shelf.size c.args.self.now.registry
-    c.args.self.now.shelf away c.args.intents.now u w at lawful c.args.state.now same)))
+    c.args.self.now.shelf away c.args.intents.now c.args.bytes.now u w at lawful c.args.state.now
+    same)))
     (c.finish.ensures.done h clean)
 
 pub returns-in-None-clause-moments : goal.returns-in-None-clause-moments
@@ -48,7 +52,8 @@ returns-in-None-clause-moments g c h away u w at same =
     let lawful = g.met.H.Shelf.lawful c.args.self.now.shelf h in
     c.finish.ensures.moments h away u w
     (ready g.S.Store g.H.Shelf.view g.H.Shelf.size c.args.self.now.registry
-    c.args.self.now.shelf away c.args.intents.now u w at lawful c.args.state.now same
+    c.args.self.now.shelf away c.args.intents.now c.args.bytes.now u w at lawful c.args.state.now
+    same
     (sym c.first_absent.ensures ∙ c.in-None.is))
     (covered g.S.Store g.H.Shelf.view g.H.Shelf.size c.args.self.now.registry c.args.self.now.shelf
-    away c.args.intents.now u w at lawful c.args.state.now same)
+    away c.args.intents.now c.args.bytes.now u w at lawful c.args.state.now same)

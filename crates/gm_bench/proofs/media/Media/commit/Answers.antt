@@ -1,5 +1,6 @@
 use Rattle.std.proofs.Common.{◌≡◌, ◌∙◌, ◌≤◌, ◌+◌, arith, length, sym}
 use Rattle.gm_registry.specs.Registry.{seen}
+use Rattle.gm_state.specs.Rows.{joined}
 use Rattle.gm_bench.specs.declared.fault.BenchFault.TheVariants.{Store}
 use Rattle.gm_bench.specs.Calls.{most_rows}
 use Rattle.gm_bench.proofs.Causes.{of_failed}
@@ -43,10 +44,20 @@ returns-in-Err-clause-store g c clean is t has room_left key_ok free none fits r
     let fault : c.of_store.result ≡ Store = cc in
     let ch = c.args.planned.change in
     let few : length ch.components ≤ 16 = fits.few_put in
-    let written : length ch.intents ≤ 17 = fits.few_written in
+    let written : length ch.intents ≤ 48 = fits.few_written in
+    let laid : length (joined ch.bytes) ≤ 32768 = fits.few_laid in
     c.in-Err.ensures.accepts.store clean (of_failed c.in-Err.fault
     (sym c.of_store.ensures.value ∙ fault)) t has room_left fits.reply
-    (fits_with ch ch.intents c.args.key.now c.args.words.now t fits (omega (arith, written)) none
-    key_ok free)
+    (fits_with ch ch.intents ch.bytes c.args.key.now c.args.words.now t fits
+    (omega (arith, written))
+    (omega (arith, laid)) none key_ok free)
     (less_room (length ch.components + 2) most_rows (seen g.S.Store c.args.self.now.registry)
     (omega (arith, few)) room)
+
+pub returns-in-Ok-clause-goes_on : goal.returns-in-Ok-clause-goes_on
+returns-in-Ok-clause-goes_on g c clean t has = record {
+  tables = _;
+  has = (c.in-Ok.ensures.writes.done clean t has).tables;
+  counts = (c.accept.ensures.writes.left t has).counts;
+  limit = (c.accept.ensures.writes.left t has).limit;
+}

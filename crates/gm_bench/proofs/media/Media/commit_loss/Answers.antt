@@ -1,10 +1,10 @@
-use Rattle.std.proofs.Common.{◌≡◌, ◌∙◌, ◌+◌, ◌≤◌, List, ℕ, ap₂, arith, length, subst, subst₂, sym}
+use Rattle.std.proofs.Common.{◌≡◌, ◌∙◌, ◌+◌, ◌≤◌, List, ℕ, arith, length, subst, sym}
 use Rattle.gm_registry.proofs.CallsLeave.{saved}
-use Rattle.gm_registry.specs.Changes.{with_accepted, with_pending, settled}
+use Rattle.gm_changes.specs.Decides.{Changed}
+use Rattle.gm_registry.specs.Changes.{with_pending, settled}
 use Rattle.gm_registry.specs.Registry.{HasTables, MayLeave, seen}
 use Rattle.gm_state.specs.Rows.{Tables}
-use Rattle.gm_state.specs.declared.intents.Intent.{Intent}
-use Rattle.gm_bench.proofs.LossCommits.{commits, lost}
+use Rattle.gm_bench.proofs.LossCommits.{commits, lost, same_behind, same_pending}
 use Rattle.gm_registry.specs.FittingChanges.{FitsTables}
 use Rattle.gm_registry.proofs.StepsInTurn.{less_room}
 use Rattle.gm_bench.specs.Calls.{most_rows}
@@ -14,53 +14,52 @@ use Rattle.gm_bench.proofs.FittingLosses.{loss_fits_tables}
 use Rattle.gm_bench.proofs.media.Media.commit_loss.Goals as goal
 
 pub returns-in-Ok-clause-leaves : goal.returns-in-Ok-clause-leaves
-returns-in-Ok-clause-leaves g c h clean p away ts u w was =
+returns-in-Ok-clause-leaves g c h clean p away ts bytes u w was =
     let at = was.found in
-    let is = ap₂ (λ (ts : List Intent) (l : List ℕ). with_accepted
-    (with_pending c.args.loss.now.change ts) c.args.key.now l (settled at.tables))
-    c.deref.ensures.value c.as_str-words.ensures.value in
+    let is = same_behind c.args.loss.now.change c.args.key.now (settled at.tables)
+    c.deref.ensures.value c.deref-2.ensures.value c.as_str-words.ensures.value in
     commits g.S.Store g.H.Shelf.view g.H.Shelf.size c.args.self.now.registry
-    c.accept_instead.new.self c.args.self.now.shelf away ts u w
+    c.accept_instead.new.self c.args.self.now.shelf away ts bytes u w
     (g.met.H.Shelf.lawful c.args.self.now.shelf h) at c.args.key.now p c.args.loss.now was.judged
     (saved g.S.Store g.met.S.Store.settled c.args.self.now.registry at.tables at.has).crash clean
     (subst (λ (t : Tables). MayLeave g.S.Store c.args.self.now.registry c.accept_instead.new.self t)
     is (c.accept_instead.ensures.writes.left at.tables at.has))
 
 pub returns-in-Err-clause-leaves : goal.returns-in-Err-clause-leaves
-returns-in-Err-clause-leaves g c h clean p away ts u w was =
+returns-in-Err-clause-leaves g c h clean p away ts bytes u w was =
     let at = was.found in
-    let is = ap₂ (λ (ts : List Intent) (l : List ℕ). with_accepted
-    (with_pending c.args.loss.now.change ts) c.args.key.now l (settled at.tables))
-    c.deref.ensures.value c.as_str-words.ensures.value in
+    let is = same_behind c.args.loss.now.change c.args.key.now (settled at.tables)
+    c.deref.ensures.value c.deref-2.ensures.value c.as_str-words.ensures.value in
     commits g.S.Store g.H.Shelf.view g.H.Shelf.size c.args.self.now.registry
-    c.accept_instead.new.self c.args.self.now.shelf away ts u w
+    c.accept_instead.new.self c.args.self.now.shelf away ts bytes u w
     (g.met.H.Shelf.lawful c.args.self.now.shelf h) at c.args.key.now p c.args.loss.now was.judged
     (saved g.S.Store g.met.S.Store.settled c.args.self.now.registry at.tables at.has).crash clean
     (subst (λ (t : Tables). MayLeave g.S.Store c.args.self.now.registry c.accept_instead.new.self t)
     is (c.accept_instead.ensures.writes.left at.tables at.has))
 
 pub returns-in-Ok-clause-done : goal.returns-in-Ok-clause-done
-returns-in-Ok-clause-done g c h clean p away ts u w was =
+returns-in-Ok-clause-done g c h clean p away ts bytes u w was =
     let at = was.found in
-    let is = ap₂ (λ (ts : List Intent) (l : List ℕ). with_accepted
-    (with_pending c.args.loss.now.change ts) c.args.key.now l (settled at.tables))
-    c.deref.ensures.value c.as_str-words.ensures.value in
+    let is = same_behind c.args.loss.now.change c.args.key.now (settled at.tables)
+    c.deref.ensures.value c.deref-2.ensures.value c.as_str-words.ensures.value in
     lost g.S.Store g.H.Shelf.view g.H.Shelf.size c.args.self.now.registry
-    c.accept_instead.new.self c.args.self.now.shelf away ts u w
+    c.accept_instead.new.self c.args.self.now.shelf away ts bytes u w
     (g.met.H.Shelf.lawful c.args.self.now.shelf h) at c.args.key.now p c.args.loss.now was.judged
     (subst (λ (t : Tables). HasTables g.S.Store c.accept_instead.new.self t) is
     (c.in-Ok.ensures.writes.done clean at.tables at.has).tables) c.in-Ok.number
     (c.in-Ok.ensures.accepts.number clean at.tables at.has)
 
 pub returns-in-Err-clause-store : goal.returns-in-Err-clause-store
-returns-in-Err-clause-store g c clean is t ts has can low room =
+returns-in-Err-clause-store g c clean is t ts has can low state readable room =
     let fault : c.of_store.result ≡ Store = cc in
     let loss = c.args.loss.now in
     let few : length loss.change.components ≤ 16 = can.change.few_put in
-    let fits = subst₂ (λ (is : List Intent) (l : List ℕ).
-    FitsTables (with_pending loss.change is) c.args.key.now l (settled t))
-    (sym c.deref.ensures.value) (sym c.as_str-words.ensures.value)
-    (loss_fits_tables c.args.key.now ts t loss can low) in
+    let fits = subst (λ (ch : Changed). FitsTables ch c.args.key.now
+    c.as_str-words.result.now (settled t)) (sym (same_pending loss.change c.deref.ensures.value
+    c.deref-2.ensures.value))
+    (subst (λ (l : List ℕ). FitsTables (with_pending loss.change loss.intents.items
+    loss.bytes.items) c.args.key.now l (settled t)) (sym c.as_str-words.ensures.value)
+    (loss_fits_tables c.args.key.now ts t loss can low state readable)) in
     c.in-Err.ensures.accepts.store clean (of_failed c.in-Err.fault
     (sym c.of_store.ensures.value ∙ fault)) t has can.room can.change.reply fits
     (less_room (length loss.change.components + 2) most_rows

@@ -14,13 +14,14 @@ returns-clause-leaves g c h clean away u w at cover =
     c.apply.new.self.shelf c.settle.new.self.shelf away u w c.settle.ensures.shelf
     c.apply.ensures.keeps.size
     (c.apply.ensures.leaves h away u w at cover)
-    (c.settle.ensures.leaves (c.apply.ensures.keeps.honest h) clean away c.args.intents.now u w m.0
+    (c.settle.ensures.leaves (c.apply.ensures.keeps.honest h) clean away c.args.intents.now
+    c.args.bytes.now u w m.0
     m.1)
 
 pub returns-clause-moments : goal.returns-clause-moments
 returns-clause-moments g c h away u w at cover =
     subst (λ (x : g.row.H.Denot). AllLead at.tables c.args.intents.now
-    (g.H.Shelf.size c.args.self.now.shelf) away
+    c.args.bytes.now (g.H.Shelf.size c.args.self.now.shelf) away
     ((g.H.Shelf.view x).left_since (g.H.Shelf.view c.args.self.now.shelf).moment) u w)
     (sym c.settle.ensures.shelf) (c.apply.ensures.moments h away u w at cover)
 

@@ -51,9 +51,10 @@ returns-then-are_of_loss-clause-judged g c clean w t of holds has =
     let are : AreOfLoss c.args.provider (words_of a.0.command) =
     subst (λ (l : List ℕ). AreOfLoss c.args.provider l) (c.as_str.ensures.value ∙ sym a.4)
     (c.if-are_of_loss.ensures.0 refl) in (
-      subst₂ (λ (n : ℕ) r. IsJudged w c.args.intents.now c.args.key.now c.args.provider
+      subst₂ (λ (n : ℕ) r. IsJudged w c.args.intents.now c.args.bytes.now c.args.key.now
+          c.args.provider
           (Kept n r)) a.3 a.5
-          (kept_before w of.sound c.args.intents.now c.args.key.now c.args.provider
+          (kept_before w of.sound c.args.intents.now c.args.bytes.now c.args.key.now c.args.provider
           (sym c.is_key.ensures ∙ c.if-not-is_key.false) a.0 a.1 a.2 are),
       f.1.tables,
     )
@@ -71,9 +72,10 @@ returns-in-Ok-Some-clause-judged g c clean w t of holds has =
     λ are. true≢false (sym (c.if-are_of_loss.ensures.1
     (subst (λ (l : List ℕ). AreOfLoss c.args.provider l) (a.4 ∙ sym c.as_str.ensures.value)
     are))) in (
-      subst (λ (j : Judged). IsJudged w c.args.intents.now c.args.key.now c.args.provider j)
+      subst (λ (j : Judged). IsJudged w c.args.intents.now c.args.bytes.now c.args.key.now
+          c.args.provider j)
           (sym c.refused-else-are_of_loss.ensures)
-          (key_taken w of.sound c.args.intents.now c.args.key.now c.args.provider
+          (key_taken w of.sound c.args.intents.now c.args.bytes.now c.args.key.now c.args.provider
           (sym c.is_key.ensures ∙ c.if-not-is_key.false) a.0 a.1 a.2 other),
       f.1.tables,
     )
@@ -92,7 +94,7 @@ returns-then-are_of_loss-clause-again g c clean t has =
 pub returns-in-Ok-Some-clause-again : goal.returns-in-Ok-Some-clause-again
 returns-in-Ok-Some-clause-again g c clean t has = (
   (c.in-Ok-Some.ensures.found clean t has).1.tables,
-  subst (λ (j : Judged). StaysReadable c.args.state.now c.args.intents.now j)
+  subst (λ (j : Judged). StaysReadable c.args.state.now c.args.intents.now c.args.bytes.now j)
       (sym c.refused-else-are_of_loss.ensures) tt,
 )
 

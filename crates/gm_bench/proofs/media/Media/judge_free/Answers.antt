@@ -21,9 +21,9 @@ returns-then-branch-clause-judged g c clean w key t of holds has key_ok free =
     let no_key = free_key w t of.sound holds key any free in
     let many = as_many w t of.sound holds key any in
     let much = many_of c.in_ok-is_full.field-0 (count_of t) told.0 c.if-branch.true in (
-      subst (λ (j : Judged). IsJudged w c.args.intents.now key c.args.provider j)
+      subst (λ (j : Judged). IsJudged w c.args.intents.now c.args.bytes.now key c.args.provider j)
           (sym c.refused.ensures)
-          (no_room w of.sound c.args.intents.now key c.args.provider key_ok no_key
+          (no_room w of.sound c.args.intents.now c.args.bytes.now key c.args.provider key_ok no_key
           (omega (arith, many, much))),
       told.1,
     )
@@ -37,9 +37,10 @@ returns-in-None-clause-judged g c clean w key t of holds has key_ok free =
     let none : component_of w.state c.args.provider ≡ None =
     subst (λ (s : Records). component_of s c.args.provider ≡ None) of.records
     (sym c.component.ensures.value ∙ c.in-None.is) in (
-      subst (λ (j : Judged). IsJudged w c.args.intents.now key c.args.provider j)
+      subst (λ (j : Judged). IsJudged w c.args.intents.now c.args.bytes.now key c.args.provider j)
           (sym c.refused-in-None.ensures)
-          (not_member w of.sound c.args.intents.now key c.args.provider key_ok no_key
+          (not_member w of.sound c.args.intents.now c.args.bytes.now key c.args.provider key_ok
+          no_key
           (omega (arith, many, few)) none),
       told.1,
     )
@@ -66,14 +67,14 @@ returns-in-Some-clause-judged g c clean =
 pub returns-then-branch-clause-again : goal.returns-then-branch-clause-again
 returns-then-branch-clause-again g c clean t has = (
   (c.in_ok-is_full.ensures.told clean t has).1,
-  subst (λ (j : Judged). StaysReadable c.args.state.now c.args.intents.now j)
+  subst (λ (j : Judged). StaysReadable c.args.state.now c.args.intents.now c.args.bytes.now j)
       (sym c.refused.ensures) tt,
 )
 
 pub returns-in-None-clause-again : goal.returns-in-None-clause-again
 returns-in-None-clause-again g c clean t has = (
   (c.in_ok-is_full.ensures.told clean t has).1,
-  subst (λ (j : Judged). StaysReadable c.args.state.now c.args.intents.now j)
+  subst (λ (j : Judged). StaysReadable c.args.state.now c.args.intents.now c.args.bytes.now j)
       (sym c.refused-in-None.ensures) tt,
 )
 

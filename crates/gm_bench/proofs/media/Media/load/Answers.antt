@@ -5,18 +5,19 @@ use Rattle.gm_bench.proofs.Found.{loaded}
 use Rattle.gm_bench.proofs.media.Media.load.Goals as goal
 
 pub returns-in-Ok-clause-says : goal.returns-in-Ok-clause-says
-returns-in-Ok-clause-says g c h clean away ts u w at =
+returns-in-Ok-clause-says g c h clean away ts bytes u w at =
     let lawful = g.met.H.Shelf.lawful c.args.self.now.shelf h in
     let of = c.in-Ok.ensures.loaded clean at.tables at.has in
     let same = loaded g.S.Store g.H.Shelf.view g.H.Shelf.size c.args.self.now.registry
-    c.args.self.now.shelf away ts u w at lawful c.in-Ok.loaded.0 c.in-Ok.loaded.1.items of.0 in
-    (same.0, same.1, of.1.tables)
+    c.args.self.now.shelf away ts bytes u w at lawful c.in-Ok.loaded.0 c.in-Ok.loaded.1.items
+    c.in-Ok.loaded.2.items of.0 in
+    (same.0, same.1, same.2, of.1.tables)
 
 pub returns-in-Err-clause-unreadable : goal.returns-in-Err-clause-unreadable
-returns-in-Err-clause-unreadable g c clean is t s ts has of =
+returns-in-Err-clause-unreadable g c clean is t s ts bytes has of =
     let fault : c.of_store.result ≡ Unreadable = cc in
     c.in-Err.ensures.unreadable clean (of_unreadable c.in-Err.fault
-    (sym c.of_store.ensures.value ∙ fault)) t s ts has of
+    (sym c.of_store.ensures.value ∙ fault)) t s ts bytes has of
 
 pub returns-in-Err-clause-store : goal.returns-in-Err-clause-store
 returns-in-Err-clause-store g c clean is registry =

@@ -1,4 +1,4 @@
-use Rattle.std.proofs.Common.{◌∙◌, List, Err, refl, sym, ap, subst, arith}
+use Rattle.std.proofs.Common.{◌∙◌, ℕ, List, Err, refl, sym, ap, subst, subst₂, arith}
 use Rattle.sqlite.specs.Held.{state}
 use Rattle.gm_registry.specs.Registry.{DiskKept}
 use Rattle.gm_state.specs.declared.intents.Intent.{Intent}
@@ -13,35 +13,38 @@ use Rattle.gm_bench.proofs.StoreFails.{failed_later}
 use Rattle.gm_bench.proofs.media.Media.look_for_loss.Goals as goal
 
 pub returns-in_err-state-clause-unreadable : goal.returns-in_err-state-clause-unreadable
-returns-in_err-state-clause-unreadable g c clean is t s ts has of written =
+returns-in_err-state-clause-unreadable g c clean is t s ts bytes has of written =
     let fault = fault_is c.from_residual.result _ _ c.from_residual.ensures.1 is in
-    c.in_err-state.ensures.unreadable clean (ap Err fault) t s ts has of
+    c.in_err-state.ensures.unreadable clean (ap Err fault) t s ts bytes has of
 
 pub returns-clause-looked : goal.returns-clause-looked
-returns-clause-looked g c h clean away ts u w at =
+returns-clause-looked g c h clean away ts bytes u w at =
     let view = g.H.Shelf.view in
     let size = g.H.Shelf.size in
     let k = c.args.self.now.shelf in
     let clean1 : DiskKept g.S.Store c.load.new.self.registry =
     omega (arith, clean, c.judge.ensures.clean) in
-    let said = c.in_ok-state.ensures.says h clean1 away ts u w at in
-    let l = lead g.S.Store view size c.args.self.now.registry k away ts u w at
+    let said = c.in_ok-state.ensures.says h clean1 away ts bytes u w at in
+    let l = lead g.S.Store view size c.args.self.now.registry k away ts bytes u w at
     (g.met.H.Shelf.lawful k h) in
     let of : AreOfWorld c.in_ok-state.state (size c.load.new.self.shelf) w = record {
       sound = l.sound;
       records = said.0;
       sizes = at.sizes ∙ sym (ap size c.load.ensures.shelf);
     } in
-    let judged = c.in_ok-judged.ensures.judged clean w at.tables of l.records said.2 in
-    let are = c.deref.ensures.value ∙ said.1 in (
+    let judged = c.in_ok-judged.ensures.judged clean w at.tables of l.records said.3 in
+    let are = c.deref.ensures.value ∙ said.1 in
+    let laid = c.deref-2.ensures.value ∙ said.2 in (
       record {
         found = moved g.S.Store view size c.args.self.now.registry c.judge.new.self.registry k
-            c.judge.new.self.shelf away ts u w at (c.judge.ensures.shelf ∙ c.load.ensures.shelf) ts
-            refl judged.1;
+            c.judge.new.self.shelf away ts bytes u w at (c.judge.ensures.shelf
+            ∙ c.load.ensures.shelf) ts
+            refl bytes refl judged.1;
         state = said.0;
         intents = said.1;
-        judged = subst (λ (is : List Intent). IsJudged w is c.args.key.now c.args.provider
-            c.in_ok-judged.judged) are judged.0;
+        to_lay = said.2;
+        judged = subst₂ (λ (is : List Intent) (b : List (List ℕ)). IsJudged w is b c.args.key.now
+            c.args.provider c.in_ok-judged.judged) are laid judged.0;
       },
       judged.1,
     )
@@ -54,8 +57,8 @@ returns-clause-loaded g c clean t has =
     let again = c.in_ok-judged.ensures.again clean t loaded.1 in (
       loaded.0,
       again.0,
-      subst (λ (is : List Intent). StaysReadable c.in_ok-state.state is c.in_ok-judged.judged)
-          c.deref.ensures.value again.1,
+      subst₂ (λ (is : List Intent) (b : List (List ℕ)). StaysReadable c.in_ok-state.state is b
+          c.in_ok-judged.judged) c.deref.ensures.value c.deref-2.ensures.value again.1,
     )
 
 pub returns-clause-fits : goal.returns-clause-fits

@@ -15,14 +15,18 @@ use Rattle.gm_bench.proofs.media.Media.lose.Goals as goal
 pub returns-in-Some-clause-leaves : goal.returns-in-Some-clause-leaves
 returns-in-Some-clause-leaves g c h clean p =
     inl (
-      λ away ts u w was. not_committed g.S.Store g.H.Shelf.view g.H.Shelf.size
-          c.args.self.now.registry c.args.self.now.registry c.args.self.now.shelf away ts u w
+      λ away ts bytes u w was. not_committed g.S.Store g.H.Shelf.view g.H.Shelf.size
+          c.args.self.now.registry c.args.self.now.registry c.args.self.now.shelf away ts bytes u w
           (g.met.H.Shelf.lawful c.args.self.now.shelf h) was.found
           (saved g.S.Store g.met.S.Store.settled c.args.self.now.registry was.found.tables
           was.found.has).crash (λ db l. l)
           (loss_call c.args.key.now c.args.loss.now.mirror p) p (dropped p ts),
       refl,
     )
+
+pub returns-in_err-number-clause-leaves : goal.returns-in_err-number-clause-leaves
+returns-in_err-number-clause-leaves g c h clean p =
+    inl (c.commit_loss.ensures.leaves h clean p, c.commit_loss.ensures.shelf)
 
 pub returns-in_err-finish-clause-leaves : goal.returns-in_err-finish-clause-leaves
 returns-in_err-finish-clause-leaves g c h clean p =
@@ -40,16 +44,18 @@ returns-in_err-finish-clause-leaves g c h clean p =
     inr (
       mid,
       c.commit_loss.ensures.leaves h clean1 p,
-      λ away ts u w was. (
-          let it = c.in_ok-number.ensures.done h clean1 p away ts u w was in
+      λ away ts bytes u w was. (
+          let it = c.in_ok-number.ensures.done h clean1 p away ts bytes u w was in
           let here =
-          at_hand g.S.Store view size mid k0 k1 away c.args.loss.now c.args.key.now p ts u
-          w c.in_ok-number.number lawful c.commit_loss.ensures.shelf it none c.deref-2.result.now
-          c.deref-2.ensures.value in
+          at_hand g.S.Store view size mid k0 k1 away c.args.loss.now c.args.key.now p ts u w
+          c.in_ok-number.number lawful c.commit_loss.ensures.shelf it none
+          c.deref-2.result.now
+          c.deref-2.ensures.value c.deref-3.result.now c.deref-3.ensures.value in
           let cover =
-          covers g.S.Store view size mid k0 k1 away c.args.loss.now c.args.key.now p ts u
-          w c.in_ok-number.number lawful c.commit_loss.ensures.shelf it none c.deref-2.result.now
-          c.deref-2.ensures.value in (
+          covers g.S.Store view size mid k0 k1 away c.args.loss.now c.args.key.now p ts u w
+          c.in_ok-number.number lawful c.commit_loss.ensures.shelf it none
+          c.deref-2.result.now
+          c.deref-2.ensures.value c.deref-3.result.now c.deref-3.ensures.value in (
             it.0,
             it.1,
             it.4,
@@ -76,16 +82,18 @@ returns-clause-leaves g c h clean p =
     inr (
       mid,
       c.commit_loss.ensures.leaves h clean1 p,
-      λ away ts u w was. (
-          let it = c.in_ok-number.ensures.done h clean1 p away ts u w was in
+      λ away ts bytes u w was. (
+          let it = c.in_ok-number.ensures.done h clean1 p away ts bytes u w was in
           let here =
-          at_hand g.S.Store view size mid k0 k1 away c.args.loss.now c.args.key.now p ts u
-          w c.in_ok-number.number lawful c.commit_loss.ensures.shelf it none c.deref-2.result.now
-          c.deref-2.ensures.value in
+          at_hand g.S.Store view size mid k0 k1 away c.args.loss.now c.args.key.now p ts u w
+          c.in_ok-number.number lawful c.commit_loss.ensures.shelf it none
+          c.deref-2.result.now
+          c.deref-2.ensures.value c.deref-3.result.now c.deref-3.ensures.value in
           let cover =
-          covers g.S.Store view size mid k0 k1 away c.args.loss.now c.args.key.now p ts u
-          w c.in_ok-number.number lawful c.commit_loss.ensures.shelf it none c.deref-2.result.now
-          c.deref-2.ensures.value in (
+          covers g.S.Store view size mid k0 k1 away c.args.loss.now c.args.key.now p ts u w
+          c.in_ok-number.number lawful c.commit_loss.ensures.shelf it none
+          c.deref-2.result.now
+          c.deref-2.ensures.value c.deref-3.result.now c.deref-3.ensures.value in (
             it.0,
             it.1,
             it.4,
@@ -97,7 +105,7 @@ returns-clause-leaves g c h clean p =
     )
 
 pub returns-clause-done : goal.returns-clause-done
-returns-clause-done g c h clean p away ts u w was =
+returns-clause-done g c h clean p away ts bytes u w was =
     let view = g.H.Shelf.view in
     let size = g.H.Shelf.size in
     let k0 = c.args.self.now.shelf in
@@ -109,13 +117,13 @@ returns-clause-done g c h clean p away ts u w was =
     let none : first_absent c.args.loss.now.after (size k0) c.args.loss.now.intents.items ≡ None =
     subst (λ (is : List Intent). first_absent c.args.loss.now.after (size k0) is ≡ None)
     c.deref.ensures.value (sym c.first_absent.ensures ∙ c.in_default.is) in
-    let it = c.in_ok-number.ensures.done h clean1 p away ts u w was in
+    let it = c.in_ok-number.ensures.done h clean1 p away ts bytes u w was in
     let here = at_hand g.S.Store view size mid k0 k1 away c.args.loss.now c.args.key.now p ts u w
     c.in_ok-number.number lawful c.commit_loss.ensures.shelf it none c.deref-2.result.now
-    c.deref-2.ensures.value in
+    c.deref-2.ensures.value c.deref-3.result.now c.deref-3.ensures.value in
     let cover = covers g.S.Store view size mid k0 k1 away c.args.loss.now c.args.key.now p ts u w
     c.in_ok-number.number lawful c.commit_loss.ensures.shelf it none c.deref-2.result.now
-    c.deref-2.ensures.value in
+    c.deref-2.ensures.value c.deref-3.result.now c.deref-3.ensures.value in
     (it.0, it.1, it.2, it.3, c.in_ok-finish.ensures.done h1 clean away u it.0 here cover)
 
 pub returns-in_err-finish-clause-disk : goal.returns-in_err-finish-clause-disk
@@ -141,7 +149,7 @@ returns-in_err-number-clause-store g c clean is =
     c.from_residual.ensures.1 is))
 
 pub returns-in_err-finish-clause-store : goal.returns-in_err-finish-clause-store
-returns-in_err-finish-clause-store g c clean is t ts has can low room =
+returns-in_err-finish-clause-store g c clean is t ts has can low state readable room =
     let mid : DiskKept g.S.Store c.commit_loss.new.self.registry =
     omega (arith, clean, c.finish.ensures.keep.clean) in
     let goes = c.in_ok-number.ensures.goes_on mid t has in

@@ -1,4 +1,4 @@
-use Rattle.std.proofs.Common.{◌≡◌, ◌∙◌, ◌∷◌, [], ℕ, List, IfOk, sym, subst}
+use Rattle.std.proofs.Common.{◌≡◌, ◌∙◌, ◌≤◌, ◌∷◌, [], length, ℕ, List, IfOk, sym, subst}
 use Rattle.gm_commands.specs.declared.command.Command.{Command}
 use Rattle.gm_commands.specs.declared.command.Command.TheVariants.{Lost}
 use Rattle.gm_lists.specs.Ordered.{Has}
@@ -50,7 +50,7 @@ returns-clause-again g c =
 pub returns-clause-fits : goal.returns-clause-fits
 returns-clause-fits g c =
     ok_then _ _ (λ r by t n p are fits is. subst (λ (x : Command). IfOk r
-    (λ ch. IsFitting ch (words_of x) t)) (sym is)
+    (λ ch. IsFitting ch (words_of x) t × (length ch.intents ≤ 17))) (sym is)
     (loss_fits c.args.state.now c.in_ok-facts.facts n p r t
     (subst (λ (x : Command). Decides c.args.state.now (seen_in c.in_ok-facts.facts) x r) is by)
     are (subst CommandFits is fits))) c.decide.result c.decide.ensures.facts

@@ -10,18 +10,18 @@ use Rattle.gm_bench.proofs.Looks.{look_does}
 use Rattle.gm_bench.proofs.media.Media.scrub.Goals as goal
 
 pub returns-in_err-state-clause-unreadable : goal.returns-in_err-state-clause-unreadable
-returns-in_err-state-clause-unreadable g c clean is t s ts has of =
+returns-in_err-state-clause-unreadable g c clean is t s ts bytes has of =
     c.in_err-state.ensures.unreadable clean (ap Err (fault_is c.from_residual.result _ _
-    c.from_residual.ensures.1 is)) t s ts has of
+    c.from_residual.ensures.1 is)) t s ts bytes has of
 
 pub returns-clause-scrubs : goal.returns-clause-scrubs
 returns-clause-scrubs g c h clean =
     let h1 : g.H.Shelf.honest c.load.new.self.shelf =
     subst g.H.Shelf.honest (sym c.load.ensures.shelf) h in
-    ok_then _ _ (λ list shown t s ts has of. (
+    ok_then _ _ (λ list shown t s ts bytes has of. (
     let state = c.in_ok-state.state in
     let loaded = c.in_ok-state.ensures.loaded clean t has in
-    let same = one_reading same_mirror same_component t state s _ ts loaded.0 of in
+    let same = one_reading same_mirror same_component t state s _ ts _ bytes loaded.0 of in
     let scrub = subst (λ (x : g.row.H.Denot). IsScrub state (g.H.Shelf.size x)
     (g.H.Shelf.view x).seen c.args.asked list.items) c.load.ensures.shelf shown in
     subst (λ (x : Records). IsScrub x (g.H.Shelf.size c.args.self.now.shelf)

@@ -6,28 +6,28 @@ use Rattle.gm_bench.proofs.RegistryLeaves.{settle_leaves, settle_rests}
 use Rattle.gm_bench.proofs.media.Media.settle.Goals as goal
 
 pub returns-in-Ok-clause-leaves : goal.returns-in-Ok-clause-leaves
-returns-in-Ok-clause-leaves g c h clean away ts u w at shelf =
+returns-in-Ok-clause-leaves g c h clean away ts bytes u w at shelf =
     let r = c.args.self.now.registry in
     settle_leaves g.S.Store g.H.Shelf.view g.H.Shelf.size r c.args.self.now.shelf
-    c.args.self.now.shelf away ts u w at
+    c.args.self.now.shelf away ts bytes u w at
     (saved g.S.Store g.met.S.Store.settled r at.tables at.has).crash
     (g.met.H.Shelf.lawful c.args.self.now.shelf h) c.settle.new.self clean
     (c.settle.ensures.writes.left at.tables at.has) shelf
 
 pub returns-in-Err-clause-leaves : goal.returns-in-Err-clause-leaves
-returns-in-Err-clause-leaves g c h clean away ts u w at shelf =
+returns-in-Err-clause-leaves g c h clean away ts bytes u w at shelf =
     let r = c.args.self.now.registry in
     settle_leaves g.S.Store g.H.Shelf.view g.H.Shelf.size r c.args.self.now.shelf
-    c.args.self.now.shelf away ts u w at
+    c.args.self.now.shelf away ts bytes u w at
     (saved g.S.Store g.met.S.Store.settled r at.tables at.has).crash
     (g.met.H.Shelf.lawful c.args.self.now.shelf h) c.settle.new.self clean
     (c.settle.ensures.writes.left at.tables at.has) shelf
 
 pub returns-in-Ok-clause-done : goal.returns-in-Ok-clause-done
-returns-in-Ok-clause-done g c h clean away ts u w at shelf =
+returns-in-Ok-clause-done g c h clean away ts bytes u w at shelf =
     let r = c.args.self.now.registry in
     settle_rests g.S.Store g.H.Shelf.view g.H.Shelf.size r c.args.self.now.shelf
-    c.args.self.now.shelf away ts u w at
+    c.args.self.now.shelf away ts bytes u w at
     (saved g.S.Store g.met.S.Store.settled r at.tables at.has).crash
     (g.met.H.Shelf.lawful c.args.self.now.shelf h) c.settle.new.self
     (c.in-Ok.ensures.writes.done clean at.tables at.has).tables shelf

@@ -1,4 +1,4 @@
-use Rattle.std.proofs.Common.{◌<◌, Err, rules, ◌≡◌, ◌∙◌, length, sym, ap, subst, arith, List}
+use Rattle.std.proofs.Common.{◌<◌, Err, rules, ◌≡◌, ◌∙◌, length, sym, ap, subst, subst₂, arith, List, ℕ}
 use Rattle.gm_registry.specs.Registry.{DiskKept}
 use Rattle.sqlite.specs.Held.{state}
 use Rattle.gm_registry.proofs.CallsLeave.{saved}
@@ -15,21 +15,22 @@ use Rattle.gm_rows.specs.ReadableTables.{AreTablesOf}
 use Rattle.gm_registry.proofs.OneReading.{one_reading}
 
 pub returns-clause-leaves : goal.returns-clause-leaves
-returns-clause-leaves g c h clean away ts u w at =
+returns-clause-leaves g c h clean away ts bytes u w at =
     let view = g.H.Shelf.view in
     let size = g.H.Shelf.size in
     let clean1 : DiskKept g.S.Store c.load.new.self.registry =
     omega (arith, clean, c.check_and_finish.ensures.keep.clean) in
-    let said = c.in_ok-state.ensures.says h clean1 away ts u w at in
+    let said = c.in_ok-state.ensures.says h clean1 away ts bytes u w at in
     let are : c.deref.result.now ≡ ts = c.deref.ensures.value ∙ said.1 in
+    let laid : c.deref-2.result.now ≡ bytes = c.deref-2.ensures.value ∙ said.2 in
     let found = moved g.S.Store view size c.args.self.now.registry c.load.new.self.registry
-    c.args.self.now.shelf c.load.new.self.shelf away ts u w at c.load.ensures.shelf
-    c.deref.result.now are said.2 in
+    c.args.self.now.shelf c.load.new.self.shelf away ts bytes u w at c.load.ensures.shelf
+    c.deref.result.now are c.deref-2.result.now laid said.3 in
     let h1 : g.H.Shelf.honest c.load.new.self.shelf =
     subst g.H.Shelf.honest (sym c.load.ensures.shelf) h in
     leaves_back g.S.Store view size c.args.self.now.registry c.load.new.self.registry
-    c.args.self.now.shelf c.load.new.self.shelf away ts u w at c.load.ensures.shelf
-    c.deref.result.now are c.check_and_finish.new.self.registry
+    c.args.self.now.shelf c.load.new.self.shelf away ts bytes u w at c.load.ensures.shelf
+    c.deref.result.now are c.deref-2.result.now laid c.check_and_finish.new.self.registry
     c.check_and_finish.new.self.shelf
     (saved g.S.Store g.met.S.Store.settled c.args.self.now.registry at.tables at.has).crash
     (c.check_and_finish.ensures.moments h1 away u w found said.0)
@@ -37,34 +38,36 @@ returns-clause-leaves g c h clean away ts u w at =
 
 pub returns-clause-moments :
     goal.returns-clause-moments
-returns-clause-moments g c h clean away ts u w at =
+returns-clause-moments g c h clean away ts bytes u w at =
     let view = g.H.Shelf.view in
     let size = g.H.Shelf.size in
     let clean1 : DiskKept g.S.Store c.load.new.self.registry =
     omega (arith, clean, c.check_and_finish.ensures.keep.clean) in
-    let said = c.in_ok-state.ensures.says h clean1 away ts u w at in
+    let said = c.in_ok-state.ensures.says h clean1 away ts bytes u w at in
     let are : c.deref.result.now ≡ ts = c.deref.ensures.value ∙ said.1 in
+    let laid : c.deref-2.result.now ≡ bytes = c.deref-2.ensures.value ∙ said.2 in
     let found = moved g.S.Store view size c.args.self.now.registry c.load.new.self.registry
-    c.args.self.now.shelf c.load.new.self.shelf away ts u w at c.load.ensures.shelf
-    c.deref.result.now are said.2 in
+    c.args.self.now.shelf c.load.new.self.shelf away ts bytes u w at c.load.ensures.shelf
+    c.deref.result.now are c.deref-2.result.now laid said.3 in
     let h1 : g.H.Shelf.honest c.load.new.self.shelf =
     subst g.H.Shelf.honest (sym c.load.ensures.shelf) h in
     moments_back g.S.Store view size c.args.self.now.registry c.load.new.self.registry
-    c.args.self.now.shelf c.load.new.self.shelf away ts u w at c.load.ensures.shelf
-    c.deref.result.now are c.check_and_finish.new.self.shelf
+    c.args.self.now.shelf c.load.new.self.shelf away ts bytes u w at c.load.ensures.shelf
+    c.deref.result.now are c.deref-2.result.now laid c.check_and_finish.new.self.shelf
     (c.check_and_finish.ensures.moments h1 away u w found said.0)
 
 pub returns-clause-done : goal.returns-clause-done
-returns-clause-done g c h clean away ts u w at =
+returns-clause-done g c h clean away ts bytes u w at =
     let view = g.H.Shelf.view in
     let size = g.H.Shelf.size in
     let clean1 : DiskKept g.S.Store c.load.new.self.registry =
     omega (arith, clean, c.check_and_finish.ensures.keep.clean) in
-    let said = c.in_ok-state.ensures.says h clean1 away ts u w at in
+    let said = c.in_ok-state.ensures.says h clean1 away ts bytes u w at in
     let are : c.deref.result.now ≡ ts = c.deref.ensures.value ∙ said.1 in
+    let laid : c.deref-2.result.now ≡ bytes = c.deref-2.ensures.value ∙ said.2 in
     let found = moved g.S.Store view size c.args.self.now.registry c.load.new.self.registry
-    c.args.self.now.shelf c.load.new.self.shelf away ts u w at c.load.ensures.shelf
-    c.deref.result.now are said.2 in
+    c.args.self.now.shelf c.load.new.self.shelf away ts bytes u w at c.load.ensures.shelf
+    c.deref.result.now are c.deref-2.result.now laid said.3 in
     let h1 : g.H.Shelf.honest c.load.new.self.shelf =
     subst g.H.Shelf.honest (sym c.load.ensures.shelf) h in
     let items : c.len.result ≡ length c.in_ok-state.intents.items = search rules in
@@ -73,21 +76,22 @@ returns-clause-done g c h clean away ts u w at =
 
 pub returns-in_err-check_and_finish-clause-leaves :
     goal.returns-in_err-check_and_finish-clause-leaves
-returns-in_err-check_and_finish-clause-leaves g c h clean away ts u w at =
+returns-in_err-check_and_finish-clause-leaves g c h clean away ts bytes u w at =
     let view = g.H.Shelf.view in
     let size = g.H.Shelf.size in
     let clean1 : DiskKept g.S.Store c.load.new.self.registry =
     omega (arith, clean, c.check_and_finish.ensures.keep.clean) in
-    let said = c.in_ok-state.ensures.says h clean1 away ts u w at in
+    let said = c.in_ok-state.ensures.says h clean1 away ts bytes u w at in
     let are : c.deref.result.now ≡ ts = c.deref.ensures.value ∙ said.1 in
+    let laid : c.deref-2.result.now ≡ bytes = c.deref-2.ensures.value ∙ said.2 in
     let found = moved g.S.Store view size c.args.self.now.registry c.load.new.self.registry
-    c.args.self.now.shelf c.load.new.self.shelf away ts u w at c.load.ensures.shelf
-    c.deref.result.now are said.2 in
+    c.args.self.now.shelf c.load.new.self.shelf away ts bytes u w at c.load.ensures.shelf
+    c.deref.result.now are c.deref-2.result.now laid said.3 in
     let h1 : g.H.Shelf.honest c.load.new.self.shelf =
     subst g.H.Shelf.honest (sym c.load.ensures.shelf) h in
     leaves_back g.S.Store view size c.args.self.now.registry c.load.new.self.registry
-    c.args.self.now.shelf c.load.new.self.shelf away ts u w at c.load.ensures.shelf
-    c.deref.result.now are c.check_and_finish.new.self.registry
+    c.args.self.now.shelf c.load.new.self.shelf away ts bytes u w at c.load.ensures.shelf
+    c.deref.result.now are c.deref-2.result.now laid c.check_and_finish.new.self.registry
     c.check_and_finish.new.self.shelf
     (saved g.S.Store g.met.S.Store.settled c.args.self.now.registry at.tables at.has).crash
     (c.check_and_finish.ensures.moments h1 away u w found said.0)
@@ -95,25 +99,26 @@ returns-in_err-check_and_finish-clause-leaves g c h clean away ts u w at =
 
 pub returns-in_err-check_and_finish-clause-moments :
     goal.returns-in_err-check_and_finish-clause-moments
-returns-in_err-check_and_finish-clause-moments g c h clean away ts u w at =
+returns-in_err-check_and_finish-clause-moments g c h clean away ts bytes u w at =
     let view = g.H.Shelf.view in
     let size = g.H.Shelf.size in
     let clean1 : DiskKept g.S.Store c.load.new.self.registry =
     omega (arith, clean, c.check_and_finish.ensures.keep.clean) in
-    let said = c.in_ok-state.ensures.says h clean1 away ts u w at in
+    let said = c.in_ok-state.ensures.says h clean1 away ts bytes u w at in
     let are : c.deref.result.now ≡ ts = c.deref.ensures.value ∙ said.1 in
+    let laid : c.deref-2.result.now ≡ bytes = c.deref-2.ensures.value ∙ said.2 in
     let found = moved g.S.Store view size c.args.self.now.registry c.load.new.self.registry
-    c.args.self.now.shelf c.load.new.self.shelf away ts u w at c.load.ensures.shelf
-    c.deref.result.now are said.2 in
+    c.args.self.now.shelf c.load.new.self.shelf away ts bytes u w at c.load.ensures.shelf
+    c.deref.result.now are c.deref-2.result.now laid said.3 in
     let h1 : g.H.Shelf.honest c.load.new.self.shelf =
     subst g.H.Shelf.honest (sym c.load.ensures.shelf) h in
     moments_back g.S.Store view size c.args.self.now.registry c.load.new.self.registry
-    c.args.self.now.shelf c.load.new.self.shelf away ts u w at c.load.ensures.shelf
-    c.deref.result.now are c.check_and_finish.new.self.shelf
+    c.args.self.now.shelf c.load.new.self.shelf away ts bytes u w at c.load.ensures.shelf
+    c.deref.result.now are c.deref-2.result.now laid c.check_and_finish.new.self.shelf
     (c.check_and_finish.ensures.moments h1 away u w found said.0)
 
 pub returns-in_err-state-clause-leaves : goal.returns-in_err-state-clause-leaves
-returns-in_err-state-clause-leaves g c h clean away ts u w at =
+returns-in_err-state-clause-leaves g c h clean away ts bytes u w at =
     let view = g.H.Shelf.view in
     let size = g.H.Shelf.size in
     let lawful = g.met.H.Shelf.lawful c.args.self.now.shelf h in
@@ -122,7 +127,7 @@ returns-in_err-state-clause-leaves g c h clean away ts u w at =
     subst (λ (x : g.row.H.Denot). LeavesOnly g.S.Store view size c.args.self.now.registry
     c.load.new.self.registry c.args.self.now.shelf x away u w) (sym c.load.ensures.shelf)
     (read_only g.S.Store view size c.args.self.now.registry c.load.new.self.registry
-    c.args.self.now.shelf c.args.self.now.shelf away at.tables ts u w
+    c.args.self.now.shelf c.args.self.now.shelf away at.tables ts bytes u w
     (saved g.S.Store g.met.S.Store.settled c.args.self.now.registry at.tables at.has).crash
     clean (c.load.ensures.reads.left at.tables at.has)
     (λ x l. at.leads x (lawful.only_now x l)) at.leads)
@@ -130,12 +135,12 @@ returns-in_err-state-clause-leaves g c h clean away ts u w at =
 pub returns-clause-tells : goal.returns-clause-tells
 returns-clause-tells g c =
     record {
-      there = λ clean t s ts has of. (
+      there = λ clean t s ts bytes has of. (
           let clean1 : DiskKept g.S.Store c.load.new.self.registry =
           omega (arith, clean, c.check_and_finish.ensures.keep.clean) in
           let said = c.in_ok-state.ensures.loaded clean1 t has in
           let same = one_reading same_mirror same_component t c.in_ok-state.state s
-          c.in_ok-state.intents.items ts said.0 of in
+          c.in_ok-state.intents.items ts c.in_ok-state.bytes.items bytes said.0 of in
           absent_back _ _ _ _ _ _ _ same.0 (ap g.H.Shelf.size c.load.ensures.shelf)
           (c.deref.ensures.value ∙ same.1) c.in_ok-check_and_finish.ensures.there);
       absent = search rules;
@@ -148,12 +153,12 @@ pub returns-in_err-check_and_finish-clause-tells : goal.returns-in_err-check_and
 returns-in_err-check_and_finish-clause-tells g c =
     record {
       there = search rules;
-      absent = λ clean p is t s ts has of. (
+      absent = λ clean p is t s ts bytes has of. (
           let clean1 : DiskKept g.S.Store c.load.new.self.registry =
           omega (arith, clean, c.check_and_finish.ensures.keep.clean) in
           let said = c.in_ok-state.ensures.loaded clean1 t has in
           let same = one_reading same_mirror same_component t c.in_ok-state.state s
-          c.in_ok-state.intents.items ts said.0 of in
+          c.in_ok-state.intents.items ts c.in_ok-state.bytes.items bytes said.0 of in
           let fault = fault_is c.from_residual-in_err-check_and_finish.result _ _
           c.from_residual-in_err-check_and_finish.ensures.1 is in
           absent_back _ _ _ _ _ _ _ same.0 (ap g.H.Shelf.size c.load.ensures.shelf)
@@ -164,9 +169,9 @@ returns-in_err-check_and_finish-clause-tells g c =
           let clean1 : DiskKept g.S.Store c.load.new.self.registry =
           omega (arith, clean, c.check_and_finish.ensures.keep.clean) in
           let said = c.in_ok-state.ensures.loaded clean1 t has in
-          let of : AreTablesOf t c.in_ok-state.state c.deref.result.now =
-          subst (λ (ts : List Intent). AreTablesOf t c.in_ok-state.state ts)
-          (sym c.deref.ensures.value) said.0 in
+          let of : AreTablesOf t c.in_ok-state.state c.deref.result.now c.deref-2.result.now =
+          subst₂ (λ (ts : List Intent) (b : List (List ℕ)). AreTablesOf t c.in_ok-state.state ts b)
+          (sym c.deref.ensures.value) (sym c.deref-2.ensures.value) said.0 in
           let fault = fault_is c.from_residual-in_err-check_and_finish.result _ _
           c.from_residual-in_err-check_and_finish.ensures.1 is in
           subst (λ (x : g.row.H.Denot). (view x).faults <

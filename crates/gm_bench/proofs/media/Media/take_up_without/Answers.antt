@@ -1,4 +1,4 @@
-use Rattle.std.proofs.Common.{rules, ◌≡◌, ◌∙◌, ◌<◌, ◌+◌, ◌^◌, inl, inr, List, Some, Err, refl, length, sym, ap, subst, arith}
+use Rattle.std.proofs.Common.{rules, ◌≡◌, ◌∙◌, ◌<◌, ◌+◌, ◌^◌, inl, inr, ℕ, List, Some, Err, refl, length, sym, ap, subst, subst₂, arith}
 use Rattle.gm_metadata.specs.Images.{Image}
 use Rattle.gm_state.specs.World.{World}
 use Rattle.gm_state.specs.declared.intents.Intent.{Intent}
@@ -37,9 +37,9 @@ returns-in-Refused-clause-leaves g c h clean =
     c.args.key.now c.args.provider clean (c.look_for_loss.ensures.left clean))
 
 pub returns-in-Refused-clause-does : goal.returns-in-Refused-clause-does
-returns-in-Refused-clause-does g c h clean away ts u w at =
-    subst (λ (j : Judged). IsJudged w ts c.args.key.now c.args.provider j) c.in-Refused.is
-    (c.in_ok-looked.ensures.looked h clean away ts u w at).0.judged
+returns-in-Refused-clause-does g c h clean away ts bytes u w at =
+    subst (λ (j : Judged). IsJudged w ts bytes c.args.key.now c.args.provider j) c.in-Refused.is
+    (c.in_ok-looked.ensures.looked h clean away ts bytes u w at).0.judged
 
 pub returns-in_err-check_and_finish-in-Kept-clause-leaves :
     goal.returns-in_err-check_and_finish-in-Kept-clause-leaves
@@ -53,20 +53,22 @@ returns-in_err-check_and_finish-in-Kept-clause-leaves g c h clean =
     let clean1 : DiskKept g.S.Store mid =
     omega (arith, clean, c.check_and_finish.ensures.keep.clean) in
     let h1 : g.H.Shelf.honest k1 = subst g.H.Shelf.honest (sym c.look_for_loss.ensures.shelf) h in
-    inl (λ away ts u w at. (
-    let looked = c.in_ok-looked.ensures.looked h clean1 away ts u w at in
+    inl (λ away ts bytes u w at. (
+    let looked = c.in_ok-looked.ensures.looked h clean1 away ts bytes u w at in
     let was = looked.0 in
     let are : c.deref.result.now ≡ ts = c.deref.ensures.value ∙ was.intents in
-    let found = moved g.S.Store view size r mid k k1 away ts u w at c.look_for_loss.ensures.shelf
-    c.deref.result.now are looked.1 in (
-      leaves_back g.S.Store view size r mid k k1 away ts u w at c.look_for_loss.ensures.shelf
-          c.deref.result.now are c.check_and_finish.new.self.registry
-          c.check_and_finish.new.self.shelf
+    let laid : c.deref-in-Kept.result.now ≡ bytes = c.deref-in-Kept.ensures.value ∙ was.to_lay in
+    let found = moved g.S.Store view size r mid k k1 away ts bytes u w at
+    c.look_for_loss.ensures.shelf
+    c.deref.result.now are c.deref-in-Kept.result.now laid looked.1 in (
+      leaves_back g.S.Store view size r mid k k1 away ts bytes u w at c.look_for_loss.ensures.shelf
+          c.deref.result.now are c.deref-in-Kept.result.now laid
+          c.check_and_finish.new.self.registry c.check_and_finish.new.self.shelf
           (saved g.S.Store g.met.S.Store.settled r at.tables at.has).crash
           (c.check_and_finish.ensures.moments h1 away u w found was.state)
           (c.check_and_finish.ensures.leaves h1 clean away u w found was.state),
-      moments_back g.S.Store view size r mid k k1 away ts u w at c.look_for_loss.ensures.shelf
-          c.deref.result.now are c.check_and_finish.new.self.shelf
+      moments_back g.S.Store view size r mid k k1 away ts bytes u w at c.look_for_loss.ensures.shelf
+          c.deref.result.now are c.deref-in-Kept.result.now laid c.check_and_finish.new.self.shelf
           (c.check_and_finish.ensures.moments h1 away u w found was.state),
     )))
 
@@ -81,25 +83,27 @@ returns-in-Kept-clause-leaves g c h clean =
     let clean1 : DiskKept g.S.Store mid =
     omega (arith, clean, c.check_and_finish.ensures.keep.clean) in
     let h1 : g.H.Shelf.honest k1 = subst g.H.Shelf.honest (sym c.look_for_loss.ensures.shelf) h in
-    inl (λ away ts u w at. (
-    let looked = c.in_ok-looked.ensures.looked h clean1 away ts u w at in
+    inl (λ away ts bytes u w at. (
+    let looked = c.in_ok-looked.ensures.looked h clean1 away ts bytes u w at in
     let was = looked.0 in
     let are : c.deref.result.now ≡ ts = c.deref.ensures.value ∙ was.intents in
-    let found = moved g.S.Store view size r mid k k1 away ts u w at c.look_for_loss.ensures.shelf
-    c.deref.result.now are looked.1 in (
-      leaves_back g.S.Store view size r mid k k1 away ts u w at c.look_for_loss.ensures.shelf
-          c.deref.result.now are c.check_and_finish.new.self.registry
-          c.check_and_finish.new.self.shelf
+    let laid : c.deref-in-Kept.result.now ≡ bytes = c.deref-in-Kept.ensures.value ∙ was.to_lay in
+    let found = moved g.S.Store view size r mid k k1 away ts bytes u w at
+    c.look_for_loss.ensures.shelf
+    c.deref.result.now are c.deref-in-Kept.result.now laid looked.1 in (
+      leaves_back g.S.Store view size r mid k k1 away ts bytes u w at c.look_for_loss.ensures.shelf
+          c.deref.result.now are c.deref-in-Kept.result.now laid
+          c.check_and_finish.new.self.registry c.check_and_finish.new.self.shelf
           (saved g.S.Store g.met.S.Store.settled r at.tables at.has).crash
           (c.check_and_finish.ensures.moments h1 away u w found was.state)
           (c.check_and_finish.ensures.leaves h1 clean away u w found was.state),
-      moments_back g.S.Store view size r mid k k1 away ts u w at c.look_for_loss.ensures.shelf
-          c.deref.result.now are c.check_and_finish.new.self.shelf
+      moments_back g.S.Store view size r mid k k1 away ts bytes u w at c.look_for_loss.ensures.shelf
+          c.deref.result.now are c.deref-in-Kept.result.now laid c.check_and_finish.new.self.shelf
           (c.check_and_finish.ensures.moments h1 away u w found was.state),
     )))
 
 pub returns-in-Kept-clause-does : goal.returns-in-Kept-clause-does
-returns-in-Kept-clause-does g c h clean away ts u w at =
+returns-in-Kept-clause-does g c h clean away ts bytes u w at =
     let view = g.H.Shelf.view in
     let size = g.H.Shelf.size in
     let r = c.args.self.now.registry in
@@ -109,13 +113,15 @@ returns-in-Kept-clause-does g c h clean away ts u w at =
     let clean1 : DiskKept g.S.Store mid =
     omega (arith, clean, c.check_and_finish.ensures.keep.clean) in
     let h1 : g.H.Shelf.honest k1 = subst g.H.Shelf.honest (sym c.look_for_loss.ensures.shelf) h in
-    let looked = c.in_ok-looked.ensures.looked h clean1 away ts u w at in
+    let looked = c.in_ok-looked.ensures.looked h clean1 away ts bytes u w at in
     let was = looked.0 in
     let are : c.deref.result.now ≡ ts = c.deref.ensures.value ∙ was.intents in
-    let found = moved g.S.Store view size r mid k k1 away ts u w at c.look_for_loss.ensures.shelf
-    c.deref.result.now are looked.1 in
+    let laid : c.deref-in-Kept.result.now ≡ bytes = c.deref-in-Kept.ensures.value ∙ was.to_lay in
+    let found = moved g.S.Store view size r mid k k1 away ts bytes u w at
+    c.look_for_loss.ensures.shelf
+    c.deref.result.now are c.deref-in-Kept.result.now laid looked.1 in
     let items : c.len-redone.result ≡ length c.in_ok-looked.looked.intents.items = search rules in (
-      subst (λ (j : Judged). IsJudged w ts c.args.key.now c.args.provider j) c.in-Kept.is
+      subst (λ (j : Judged). IsJudged w ts bytes c.args.key.now c.args.provider j) c.in-Kept.is
           was.judged,
       items ∙ ap length was.intents,
       c.in_ok-check_and_finish-in-Kept.ensures.done h1 clean away u w found was.state,
@@ -132,21 +138,22 @@ returns-in_err-number-in-New-clause-leaves g c h clean =
     let clean1 : DiskKept g.S.Store mid = omega (arith, clean, c.lose.ensures.keep.clean) in
     let h1 : g.H.Shelf.honest k1 = subst g.H.Shelf.honest (sym c.look_for_loss.ensures.shelf) h in
     let loss : Loss = c.in-New.loss in
-    let is_judged : (away : Image) (ts : List Intent) (u w : World)
-    → IsFound g.S.Store view size r k away ts u w
-    → HasJudged g.S.Store view size mid k1 c.args.key.now c.args.provider loss away ts u w =
-    λ away ts u w at. (
-    let was = (c.in_ok-looked.ensures.looked h clean1 away ts u w at).0 in
+    let is_judged : (away : Image) (ts : List Intent) (bytes : List (List ℕ)) (u w : World)
+    → IsFound g.S.Store view size r k away ts bytes u w
+    → HasJudged g.S.Store view size mid k1 c.args.key.now c.args.provider loss away ts bytes u w =
+    λ away ts bytes u w at. (
+    let was = (c.in_ok-looked.ensures.looked h clean1 away ts bytes u w at).0 in
     record {
       found = was.found;
-      judged = subst (λ (j : Judged). IsJudged w ts c.args.key.now c.args.provider j) c.in-New.is
+      judged = subst (λ (j : Judged). IsJudged w ts bytes c.args.key.now c.args.provider j)
+          c.in-New.is
           was.judged;
     }) in
     inr (
       loss.mirror,
       dropped c.args.provider c.in_ok-looked.looked.intents.items,
-      λ away ts u w at. ap (dropped c.args.provider)
-          (c.in_ok-looked.ensures.looked h clean1 away ts u w at).0.intents,
+      λ away ts bytes u w at. ap (dropped c.args.provider)
+          (c.in_ok-looked.ensures.looked h clean1 away ts bytes u w at).0.intents,
       lost_behind g.S.Store view size r mid k k1 c.look_for_loss.ensures.shelf
           (g.met.H.Shelf.lawful k h)
           (λ t has. (saved g.S.Store g.met.S.Store.settled r t has).crash)
@@ -167,21 +174,22 @@ returns-clause-leaves g c h clean =
     let clean1 : DiskKept g.S.Store mid = omega (arith, clean, c.lose.ensures.keep.clean) in
     let h1 : g.H.Shelf.honest k1 = subst g.H.Shelf.honest (sym c.look_for_loss.ensures.shelf) h in
     let loss : Loss = c.in-New.loss in
-    let is_judged : (away : Image) (ts : List Intent) (u w : World)
-    → IsFound g.S.Store view size r k away ts u w
-    → HasJudged g.S.Store view size mid k1 c.args.key.now c.args.provider loss away ts u w =
-    λ away ts u w at. (
-    let was = (c.in_ok-looked.ensures.looked h clean1 away ts u w at).0 in
+    let is_judged : (away : Image) (ts : List Intent) (bytes : List (List ℕ)) (u w : World)
+    → IsFound g.S.Store view size r k away ts bytes u w
+    → HasJudged g.S.Store view size mid k1 c.args.key.now c.args.provider loss away ts bytes u w =
+    λ away ts bytes u w at. (
+    let was = (c.in_ok-looked.ensures.looked h clean1 away ts bytes u w at).0 in
     record {
       found = was.found;
-      judged = subst (λ (j : Judged). IsJudged w ts c.args.key.now c.args.provider j) c.in-New.is
+      judged = subst (λ (j : Judged). IsJudged w ts bytes c.args.key.now c.args.provider j)
+          c.in-New.is
           was.judged;
     }) in
     inr (
       loss.mirror,
       dropped c.args.provider c.in_ok-looked.looked.intents.items,
-      λ away ts u w at. ap (dropped c.args.provider)
-          (c.in_ok-looked.ensures.looked h clean1 away ts u w at).0.intents,
+      λ away ts bytes u w at. ap (dropped c.args.provider)
+          (c.in_ok-looked.ensures.looked h clean1 away ts bytes u w at).0.intents,
       lost_behind g.S.Store view size r mid k k1 c.look_for_loss.ensures.shelf
           (g.met.H.Shelf.lawful k h)
           (λ t has. (saved g.S.Store g.met.S.Store.settled r t has).crash)
@@ -202,25 +210,26 @@ returns-clause-does g c h clean =
     let clean1 : DiskKept g.S.Store mid = omega (arith, clean, c.lose.ensures.keep.clean) in
     let h1 : g.H.Shelf.honest k1 = subst g.H.Shelf.honest (sym c.look_for_loss.ensures.shelf) h in
     let loss : Loss = c.in-New.loss in
-    let is_judged : (away : Image) (ts : List Intent) (u w : World)
-    → IsFound g.S.Store view size r k away ts u w
-    → HasJudged g.S.Store view size mid k1 c.args.key.now c.args.provider loss away ts u w =
-    λ away ts u w at. (
-    let was = (c.in_ok-looked.ensures.looked h clean1 away ts u w at).0 in
+    let is_judged : (away : Image) (ts : List Intent) (bytes : List (List ℕ)) (u w : World)
+    → IsFound g.S.Store view size r k away ts bytes u w
+    → HasJudged g.S.Store view size mid k1 c.args.key.now c.args.provider loss away ts bytes u w =
+    λ away ts bytes u w at. (
+    let was = (c.in_ok-looked.ensures.looked h clean1 away ts bytes u w at).0 in
     record {
       found = was.found;
-      judged = subst (λ (j : Judged). IsJudged w ts c.args.key.now c.args.provider j) c.in-New.is
+      judged = subst (λ (j : Judged). IsJudged w ts bytes c.args.key.now c.args.provider j)
+          c.in-New.is
           was.judged;
     }) in
     let items : c.len-redone.result ≡ length c.in_ok-looked.looked.intents.items = search rules in (
       loss.mirror,
       dropped c.args.provider c.in_ok-looked.looked.intents.items,
-      λ away ts u w at. (
-          let was = (c.in_ok-looked.ensures.looked h clean1 away ts u w at).0 in
+      λ away ts bytes u w at. (
+          let was = (c.in_ok-looked.ensures.looked h clean1 away ts bytes u w at).0 in
           (ap (dropped c.args.provider) was.intents, items ∙ ap length was.intents)),
-      λ away ts u w at. (
-          let it = c.in_ok-number-in-New.ensures.done h1 clean c.args.provider away ts u w
-          (is_judged away ts u w at) in
+      λ away ts bytes u w at. (
+          let it = c.in_ok-number-in-New.ensures.done h1 clean c.args.provider away ts bytes u w
+          (is_judged away ts bytes u w at) in
           (it.0, it.1, it.2 ∙ sym c.reply-reply.ensures, it.3, it.4)),
     )
 
@@ -243,9 +252,9 @@ returns-in_err-check_and_finish-in-Kept-clause-lacks g c h clean q is =
     c.args.key.now c.args.provider clean1 (c.look_for_loss.ensures.left clean1) in (
       subst (λ (m : Media g.row.S.Denot g.row.H.Denot). LeavesOpened g.S.Store view size
           c.args.key.now c.args.provider r m.registry k m.shelf) (sym lack.1) opened,
-      λ away ts u w at. (
-          let was = (c.in_ok-looked.ensures.looked h clean1 away ts u w at).0 in
-          let kept = subst (λ (j : Judged). IsJudged w ts c.args.key.now c.args.provider j)
+      λ away ts bytes u w at. (
+          let was = (c.in_ok-looked.ensures.looked h clean1 away ts bytes u w at).0 in
+          let kept = subst (λ (j : Judged). IsJudged w ts bytes c.args.key.now c.args.provider j)
           c.in-Kept.is was.judged in
           inl (
             kept.0,
@@ -272,11 +281,11 @@ returns-in_err-number-in-New-clause-lacks g c h clean q is =
     c.args.key.now c.args.provider clean1 (c.look_for_loss.ensures.left clean1) in (
       subst (λ (m : Media g.row.S.Denot g.row.H.Denot). LeavesOpened g.S.Store view size
           c.args.key.now c.args.provider r m.registry k m.shelf) (sym lack.1) opened,
-      λ away ts u w at. (
-          let was = (c.in_ok-looked.ensures.looked h clean1 away ts u w at).0 in
+      λ away ts bytes u w at. (
+          let was = (c.in_ok-looked.ensures.looked h clean1 away ts bytes u w at).0 in
           inr (
             c.in-New.loss,
-            subst (λ (j : Judged). IsJudged w ts c.args.key.now c.args.provider j) c.in-New.is
+            subst (λ (j : Judged). IsJudged w ts bytes c.args.key.now c.args.provider j) c.in-New.is
                 was.judged,
             absent_back c.in-New.loss.after c.in-New.loss.after (size k1) (size k)
                 c.in-New.loss.intents.items c.in-New.loss.intents.items (Some q) refl
@@ -303,20 +312,22 @@ returns-in-Kept-clause-undone g c h clean =
     let clean1 : DiskKept g.S.Store mid =
     omega (arith, clean, c.check_and_finish.ensures.keep.clean) in
     let h1 : g.H.Shelf.honest k1 = subst g.H.Shelf.honest (sym c.look_for_loss.ensures.shelf) h in
-    (λ away ts u w at. (
-    let looked = c.in_ok-looked.ensures.looked h clean1 away ts u w at in
+    (λ away ts bytes u w at. (
+    let looked = c.in_ok-looked.ensures.looked h clean1 away ts bytes u w at in
     let was = looked.0 in
     let are : c.deref.result.now ≡ ts = c.deref.ensures.value ∙ was.intents in
-    let found = moved g.S.Store view size r mid k k1 away ts u w at c.look_for_loss.ensures.shelf
-    c.deref.result.now are looked.1 in (
-      leaves_back g.S.Store view size r mid k k1 away ts u w at c.look_for_loss.ensures.shelf
-          c.deref.result.now are c.check_and_finish.new.self.registry
-          c.check_and_finish.new.self.shelf
+    let laid : c.deref-in-Kept.result.now ≡ bytes = c.deref-in-Kept.ensures.value ∙ was.to_lay in
+    let found = moved g.S.Store view size r mid k k1 away ts bytes u w at
+    c.look_for_loss.ensures.shelf
+    c.deref.result.now are c.deref-in-Kept.result.now laid looked.1 in (
+      leaves_back g.S.Store view size r mid k k1 away ts bytes u w at c.look_for_loss.ensures.shelf
+          c.deref.result.now are c.deref-in-Kept.result.now laid
+          c.check_and_finish.new.self.registry c.check_and_finish.new.self.shelf
           (saved g.S.Store g.met.S.Store.settled r at.tables at.has).crash
           (c.check_and_finish.ensures.moments h1 away u w found was.state)
           (c.check_and_finish.ensures.leaves h1 clean away u w found was.state),
-      moments_back g.S.Store view size r mid k k1 away ts u w at c.look_for_loss.ensures.shelf
-          c.deref.result.now are c.check_and_finish.new.self.shelf
+      moments_back g.S.Store view size r mid k k1 away ts bytes u w at c.look_for_loss.ensures.shelf
+          c.deref.result.now are c.deref-in-Kept.result.now laid c.check_and_finish.new.self.shelf
           (c.check_and_finish.ensures.moments h1 away u w found was.state),
     )))
 
@@ -328,8 +339,9 @@ returns-in_err-check_and_finish-in-Kept-clause-disk g c clean t has is =
     let fault = fault_is c.from_residual-in_err-check_and_finish-in-Kept.result _ _
     c.from_residual-in_err-check_and_finish-in-Kept.ensures.1 is in
     let loaded = c.in_ok-looked.ensures.loaded clean1 t has in
-    let of = subst (λ (ts : List Intent). AreTablesOf t c.in_ok-looked.looked.state ts)
-    (sym c.deref.ensures.value) loaded.0 in
+    let of = subst₂ (λ (ts : List Intent) (b : List (List ℕ)).
+    AreTablesOf t c.in_ok-looked.looked.state ts b) (sym c.deref.ensures.value)
+    (sym c.deref-in-Kept.ensures.value) loaded.0 in
     subst (λ (k : g.row.H.Denot). (g.H.Shelf.view k).faults
     < (g.H.Shelf.view c.check_and_finish.new.self.shelf).faults) c.look_for_loss.ensures.shelf
     (c.in_err-check_and_finish-in-Kept.ensures.disk t of (ap Err fault))
@@ -342,14 +354,15 @@ returns-in_err-number-in-New-clause-disk g c clean t has is =
     c.from_residual-in_err-number-in-New.ensures.1 is in
     let loaded = c.in_ok-looked.ensures.loaded clean1 t has in
     let again = subst (λ (j : Judged). StaysReadable c.in_ok-looked.looked.state
-    c.in_ok-looked.looked.intents.items j) c.in-New.is loaded.2 loaded.0.readable in
+    c.in_ok-looked.looked.intents.items c.in_ok-looked.looked.bytes.items j) c.in-New.is loaded.2
+    loaded.0.readable in
     subst (λ (k : g.row.H.Denot). (g.H.Shelf.view k).faults
     < (g.H.Shelf.view c.lose.new.self.shelf).faults) c.look_for_loss.ensures.shelf
     (c.in_err-number-in-New.ensures.disk again.1 again.0 (ap Err fault))
 
 pub returns-in_err-number-in-New-clause-unreadable :
     goal.returns-in_err-number-in-New-clause-unreadable
-returns-in_err-number-in-New-clause-unreadable g c clean is t s ts has of written =
+returns-in_err-number-in-New-clause-unreadable g c clean is t s ts bytes has of written =
     let clean1 : DiskKept g.S.Store c.look_for_loss.new.self.registry =
     omega (arith, clean, c.lose.ensures.keep.clean) in
     let fault = fault_is c.from_residual-in_err-number-in-New.result _ _
@@ -358,18 +371,18 @@ returns-in_err-number-in-New-clause-unreadable g c clean is t s ts has of writte
     (c.in_ok-looked.ensures.loaded clean1 t has).1 of.count
 
 pub returns-in_err-looked-clause-unreadable : goal.returns-in_err-looked-clause-unreadable
-returns-in_err-looked-clause-unreadable g c clean is t s ts has of written =
+returns-in_err-looked-clause-unreadable g c clean is t s ts bytes has of written =
     let fault = fault_is c.from_residual.result _ _ c.from_residual.ensures.1 is in
-    c.in_err-looked.ensures.unreadable clean (ap Err fault) t s ts has of written
+    c.in_err-looked.ensures.unreadable clean (ap Err fault) t s ts bytes has of written
 
 pub returns-in_err-looked-clause-store : goal.returns-in_err-looked-clause-store
-returns-in_err-looked-clause-store g c clean is t s ts has of low room =
+returns-in_err-looked-clause-store g c clean is t s ts bytes has of low room =
     c.in_err-looked.ensures.store clean (ap Err (fault_is c.from_residual.result _ _
     c.from_residual.ensures.1 is)) t has
 
 pub returns-in_err-check_and_finish-in-Kept-clause-store :
     goal.returns-in_err-check_and_finish-in-Kept-clause-store
-returns-in_err-check_and_finish-in-Kept-clause-store g c clean is t s ts has of low room =
+returns-in_err-check_and_finish-in-Kept-clause-store g c clean is t s ts bytes has of low room =
     let clean1 : DiskKept g.S.Store c.look_for_loss.new.self.registry =
     omega (arith, clean, c.check_and_finish.ensures.keep.clean) in
     let then = (c.in_ok-looked.ensures.loaded clean1 t has).1 in
@@ -380,16 +393,18 @@ returns-in_err-check_and_finish-in-Kept-clause-store g c clean is t s ts has of 
     c.from_residual-in_err-check_and_finish-in-Kept.ensures.1 is)) t then)
 
 pub returns-in_err-number-in-New-clause-store : goal.returns-in_err-number-in-New-clause-store
-returns-in_err-number-in-New-clause-store g c clean is t s ts has of low room =
+returns-in_err-number-in-New-clause-store g c clean is t s ts bytes has of low room =
     let clean1 : DiskKept g.S.Store c.look_for_loss.new.self.registry =
     omega (arith, clean, c.lose.ensures.keep.clean) in
     let looked = c.in_ok-looked.looked in
     let loaded = c.in_ok-looked.ensures.loaded clean1 t has in
     let reads = c.look_for_loss.ensures.reads clean1 in
     let same = (one_reading same_mirror same_component t looked.state s looked.intents.items ts
-    loaded.0 of).1 in
+    looked.bytes.items bytes loaded.0 of).1 in
     let can = subst (λ (j : Judged). CanBeCommitted c.args.key.now looked.intents.items t j)
     c.in-New.is (c.in_ok-looked.ensures.fits clean1 t has) in
+    let again = subst (λ (j : Judged). StaysReadable looked.state looked.intents.items
+    looked.bytes.items j) c.in-New.is loaded.2 loaded.0.readable in
     let few : length looked.intents.items + 17 < 2 ^ 32 =
     subst (λ (is : List Intent). length is + 17 < 2 ^ 32) (sym same) low in
     failed_later g.S.Store c.args.self.now.registry c.look_for_loss.new.self.registry t reads has
@@ -397,5 +412,6 @@ returns-in_err-number-in-New-clause-store g c clean is t s ts has of low room =
     (c.in_err-number-in-New.ensures.store clean (ap Err (fault_is
     c.from_residual-in_err-number-in-New.result _ _
     c.from_residual-in_err-number-in-New.ensures.1 is)) t looked.intents.items loaded.1 can few
+    again.0 again.1
     (room_later g.S.Store c.args.self.now.registry c.look_for_loss.new.self.registry t reads has
     loaded.1 most_rows clean1 room))

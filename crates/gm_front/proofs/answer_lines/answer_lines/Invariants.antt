@@ -1,7 +1,7 @@
 use Rattle.std.proofs.Common.{◌≡◌}
 use Rattle.gm_bench.specs.declared.phase.Progress.TheVariants.{Failed}
 use Rattle.gm_front.proofs.Turns.{Going}
-use Rattle.gm_front.proofs.answer_lines.heard_batch.Given as goal
+use Rattle.gm_front.proofs.answer_lines.answer_lines.Given as goal
 
 abbrev pub invariant-loop : goal.invariant-loop
 invariant-loop g l = record {

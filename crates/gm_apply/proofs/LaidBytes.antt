@@ -1,0 +1,99 @@
+-- Bytes that are laid over sectors of a provider.
+use Rattle.std.proofs.Common.{◌≡◌, ◌∙◌, inl, inr, ℕ, Some, ◌≤◌, ◌<◌, ◌+◌, ◌-◌, ◌&&◌, length, take, List, true, refl, sym, ap, subst₂, arith, le-leb, lt-ltb, leb-true, ltb-true, nat_le, nat_lt}
+use Rattle.std.proofs.lemmas.Bool.{cases_Bool, and_parts, ltb-false}
+use Rattle.std.proofs.lemmas.List.{get_or-take, length-take-le}
+use Rattle.std.specs.Prelude.{slice_get}
+use Rattle.std.proofs.lemmas.Option.{get_or_from_slice_get, slice_get_within}
+use Rattle.gm_metadata.specs.Images.{Image, Same, same_label, label_refl}
+use Rattle.gm_shelf.specs.Disk.{View, sector_of, put_run, IsRunWrite}
+use Rattle.gm_state.specs.declared.intents.Intent.TheVariants.{Patch}
+use Rattle.gm_state.specs.Intents.{patches}
+use Rattle.gm_apply.specs.Redo.{with_places, PlacesAreNew, Moments, IsUnderWay}
+use Rattle.gm_apply.proofs.UnderWay.{going_run, moments_same, redone_same}
+use Rattle.gm_apply.proofs.Sectors.{swapped}
+
+-- the first n sectors of the bytes, from sector a of p on, below b
+module _ (p : List ℕ) (a b n : ℕ) (bytes : List (List ℕ)) (few : n ≤ length bytes)
+    (fits : a + n ≤ b) where
+  long : length (take n bytes) ≡ n
+  long = length-take-le n bytes few
+
+  same_sector : (k : ℕ) → k < n → sector_of bytes (a + k - a) ≡ sector_of (take n bytes) k
+  same_sector k low =
+      let at : a + k - a ≡ k = omega arith in
+      ap (sector_of bytes) at ∙ sym (get_or-take n bytes k _ low)
+
+  told : (k : ℕ) → k < length (take n bytes) → (patches (Patch p a b) p (a + k) ≡ true)
+      × (sector_of bytes (a + k - a) ≡ sector_of (take n bytes) k)
+  told k low = (
+    rw (
+      label_refl p,
+      le-leb a (a + k) (omega arith),
+      lt-ltb (a + k) b (omega (arith, low, long, fits)),
+    ) refl,
+    same_sector k (omega (arith, low, long)),
+  )
+
+  pub lay_going : (old new : View) → IsRunWrite p a (take n bytes) old new
+      → IsUnderWay (patches (Patch p a b)) (λ q j. sector_of bytes (j - a)) old new
+  lay_going old new law = going_run (patches (Patch p a b)) (λ q j. sector_of bytes (j - a))
+      old new p a (take n bytes) told law
+
+  pub lay_seen : a + n ≡ b → (x new : Image) → Same new (put_run p a (take n bytes) x)
+      → Same new (with_places (patches (Patch p a b)) (λ q j. sector_of bytes (j - a)) x)
+  lay_seen whole x new written q j =
+      written q j ∙ elim (cases_Bool (patches (Patch p a b) q j)) [
+        | inl here ↦
+            let range = and_parts (nat_le a j) (nat_lt j b)
+            (and_parts (same_label p q) (nat_le a j && nat_lt j b) here).1 in
+            let from : a ≤ j = leb-true a j range.0 in
+            let below : j < b = ltb-true j b range.1 in
+            let low : j - a < n = omega (arith, from, below, whole) in
+            rw (inside q j, here) (get_or-take n bytes (j - a) _ low)
+        | inr off ↦ rw (inside q j, off) refl
+      ]
+    where
+      inside : (q : List ℕ) (j : ℕ)
+          → (same_label q p && (nat_le a j && nat_lt j (a + length (take n bytes))))
+          ≡ patches (Patch p a b) q j
+      inside q j = rw (long, whole, swapped q p) refl
+
+-- where all sectors of the range say theirs, there are bytes for all
+module _ (p : List ℕ) (a b : ℕ) (bytes : List (List ℕ)) (w : Image)
+    (says : (q : List ℕ) (j : ℕ) → patches (Patch p a b) q j ≡ true
+    → slice_get bytes (j - a) ≡ Some (w q j)) where
+  bytes_same : (q : List ℕ) (j : ℕ) → patches (Patch p a b) q j ≡ true
+      → sector_of bytes (j - a) ≡ w q j
+  bytes_same q j e = get_or_from_slice_get bytes (j - a) (w q j) _ (says q j e)
+
+  bytes_enough : b ≤ a + length bytes
+  bytes_enough =
+      elim (cases_Bool (nat_lt a b)) [
+        | inr none ↦ (let few : b ≤ a = ltb-false a b none in omega (arith, few))
+        | inl some ↦
+            let low : a < b = ltb-true a b some in
+            let within : b - 1 - a < length bytes =
+            slice_get_within bytes (b - 1 - a) (w p (b - 1)) (says p (b - 1)
+            (rw (
+              label_refl p,
+              le-leb a (b - 1) (omega (arith, low)),
+              lt-ltb (b - 1) b (omega (arith, low)),
+            ) refl)) in
+            omega (arith, low, within)
+      ]
+
+  -- what was laid from a' to b' - 1 are those bytes
+  module _ (a' b' : ℕ) (first : a' ≡ a) (last : b' ≡ b) (old new : View) where
+    pub laid_moments : Moments (patches (Patch p a' b')) (λ q j. sector_of bytes (j - a')) old new
+        → Moments (patches (Patch p a b)) w old new
+    laid_moments moments =
+        moments_same (patches (Patch p a b)) (λ q j. sector_of bytes (j - a)) w bytes_same old new
+        (subst₂ (λ (x y : ℕ). Moments (patches (Patch p x y)) (λ q j. sector_of bytes (j - x))
+        old new) first last moments)
+
+    pub laid_done : (b' ≤ a' + length bytes → PlacesAreNew (patches (Patch p a' b'))
+        (λ q j. sector_of bytes (j - a')) old new) → PlacesAreNew (patches (Patch p a b)) w old new
+    laid_done done =
+        redone_same (patches (Patch p a b)) (λ q j. sector_of bytes (j - a)) w bytes_same old new
+        (subst₂ (λ (x y : ℕ). PlacesAreNew (patches (Patch p x y)) (λ q j. sector_of bytes (j - x))
+        old new) first last (done (omega (arith, first, last, bytes_enough))))

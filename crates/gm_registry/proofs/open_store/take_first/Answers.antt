@@ -1,0 +1,98 @@
+use Rattle.std.proofs.Common.{◌∙◌, sym, subst, arith}
+use Rattle.sqlite.specs.Effect.{Database}
+use Rattle.sqlite.specs.Held.{state}
+use Rattle.sqlite.specs.State.{HasCleanDisk}
+use Rattle.sqlite_rows.proofs.Refusing.{on_err}
+use Rattle.gm_rows.proofs.RowsSayRecords.{passed_on}
+use Rattle.gm_registry.specs.Opening.{IsCarriedOver}
+use Rattle.gm_registry.specs.declared.edition.Edition.TheVariants.{First}
+use Rattle.gm_registry.proofs.CarriedOver.{as_before, carrying_left, first_found, known_first, same_stored}
+use Rattle.gm_registry.proofs.Failures.{failed_since}
+use Rattle.gm_registry.proofs.Texts.{still_foreign}
+use Rattle.gm_registry.proofs.open_store.take_first.Goals as goal
+
+pub returns-in_err-check_registry-clause-stays : goal.returns-in_err-check_registry-clause-stays
+returns-in_err-check_registry-clause-stays g c clean =
+    let old = state g.S.Store c.args.conn.now in
+    let new = state g.S.Store c.check_registry.new.conn in
+    on_err c.from_residual.result _ (λ was still.
+    as_before old new was still (c.check_registry.ensures.failed.refused clean (known_first old was)
+    still))
+
+pub returns-in_err-check_registry-clause-store : goal.returns-in_err-check_registry-clause-store
+returns-in_err-check_registry-clause-store g c clean =
+    passed_on c.from_residual.result _ _ (λ e same is shows only is_open.
+    c.in_err-check_registry.ensures.store clean (sym same ∙ is) shows
+    (λ lists. known_first (state g.S.Store c.args.conn.now) (only lists)) is_open)
+    c.from_residual.ensures.1
+
+pub returns-clause-carried : goal.returns-clause-carried
+returns-clause-carried g c clean was =
+    let s0 = state g.S.Store c.args.conn.now in
+    let s1 = state g.S.Store c.check_registry.new.conn in
+    let s2 = state g.S.Store c.carry_over.new.conn in
+    let early : HasCleanDisk s1 = omega (arith, c.carry_over.ensures.survives.clean, clean) in
+    let checked = c.in_ok-check_registry.ensures in
+    let it = c.in_ok-carry_over.ensures.done clean
+    (first_found s0 s1 s2 checked.read checked.about early was) in (
+      it.0,
+      subst (λ (d : Database). IsCarriedOver d.trees s2.committed.trees)
+          (same_stored s0 s1 s2 checked.read checked.about early was) it.1,
+    )
+
+pub returns-in_err-carry_over-clause-stays : goal.returns-in_err-carry_over-clause-stays
+returns-in_err-carry_over-clause-stays g c clean =
+    let s0 = state g.S.Store c.args.conn.now in
+    let s1 = state g.S.Store c.check_registry.new.conn in
+    let s2 = state g.S.Store c.carry_over.new.conn in
+    let early : HasCleanDisk s1 = omega (arith, c.carry_over.ensures.survives.clean, clean) in
+    let checked = c.in_ok-check_registry.ensures in
+    on_err c.from_residual-in_err-carry_over.result _ (λ was still.
+    let it = c.in_err-carry_over.ensures.refused clean
+    (first_found s0 s1 s2 checked.read checked.about early was) still in
+    record {
+      is_open = it.is_open;
+      autocommit = it.autocommit;
+      settled = it.settled;
+      committed_is = it.committed_is
+          ∙ same_stored s0 s1 s2 checked.read checked.about early was;
+    })
+
+pub returns-clause-left : goal.returns-clause-left
+returns-clause-left g c =
+    carrying_left (state g.S.Store c.args.conn.now) (state g.S.Store c.check_registry.new.conn)
+    (state g.S.Store c.carry_over.new.conn) c.in_ok-check_registry.ensures.read
+    c.in_ok-check_registry.ensures.about c.carry_over.ensures.survives c.carry_over.ensures.left
+
+pub returns-in_err-carry_over-clause-left : goal.returns-in_err-carry_over-clause-left
+returns-in_err-carry_over-clause-left g c =
+    carrying_left (state g.S.Store c.args.conn.now) (state g.S.Store c.check_registry.new.conn)
+    (state g.S.Store c.carry_over.new.conn) c.in_ok-check_registry.ensures.read
+    c.in_ok-check_registry.ensures.about c.carry_over.ensures.survives c.carry_over.ensures.left
+
+pub returns-in_err-carry_over-clause-store : goal.returns-in_err-carry_over-clause-store
+returns-in_err-carry_over-clause-store g c clean =
+    let s0 = state g.S.Store c.args.conn.now in
+    let s1 = state g.S.Store c.check_registry.new.conn in
+    let s2 = state g.S.Store c.carry_over.new.conn in
+    let early : HasCleanDisk s1 = omega (arith, c.carry_over.ensures.survives.clean, clean) in
+    let checked = c.in_ok-check_registry.ensures in
+    passed_on c.from_residual-in_err-carry_over.result _ _ (λ e same is shows only is_open.
+    failed_since s0 s1 s2 _ checked.read.left
+    (c.in_err-carry_over.ensures.store clean (sym same ∙ is)
+    (first_found s0 s1 s2 checked.read checked.about early
+    (only (checked.texts early shows))))) c.from_residual-in_err-carry_over.ensures.1
+
+pub returns-clause-foreign : goal.returns-clause-foreign
+returns-clause-foreign g c =
+    still_foreign First (state g.S.Store c.args.conn.now)
+    (state g.S.Store c.check_registry.new.conn) (state g.S.Store c.carry_over.new.conn)
+    c.in_ok-check_registry.ensures.texts c.in_ok-check_registry.ensures.read
+    c.carry_over.ensures.survives
+
+pub returns-in_err-carry_over-clause-foreign : goal.returns-in_err-carry_over-clause-foreign
+returns-in_err-carry_over-clause-foreign g c =
+    still_foreign First (state g.S.Store c.args.conn.now)
+    (state g.S.Store c.check_registry.new.conn) (state g.S.Store c.carry_over.new.conn)
+    c.in_ok-check_registry.ensures.texts c.in_ok-check_registry.ensures.read
+    c.carry_over.ensures.survives
