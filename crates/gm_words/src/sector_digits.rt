@@ -9,11 +9,21 @@ use gm_commands::Sectors;
 use hex::FromHexError;
 use std::alloc::{AllocError, Global};
 
+fn is_digit(byte: u8) -> bool
+    ensures { result ≡ is_digit byte }
+{
+    matches!(byte, b'0'..=b'9' | b'a'..=b'f')
+}
+
+// Every byte is looked at: a loop without an early end tests many at a time.
 fn are_digits(text: &[u8]) -> bool
     ensures { result ≡ list_all is_digit text.now }
 {
-    text.iter()
-        .all(|byte| matches!(*byte, b'0'..=b'9' | b'a'..=b'f'))
+    let mut all = true;
+    for byte in text {
+        all &= is_digit(*byte);
+    }
+    all
 }
 
 // The bytes as sectors, where they are whole ones, 1 to 64.
