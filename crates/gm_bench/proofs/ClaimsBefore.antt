@@ -11,9 +11,7 @@ use Rattle.gm_lists.proofs.Finding.{find_one}
 use Rattle.gm_lists.proofs.Order.{same_is}
 use Rattle.gm_lists.proofs.Putting.{put_there}
 use Rattle.gm_state.specs.declared.intents.Intent.{Intent}
-use Rattle.gm_state.specs.declared.records.Component.{Component}
 use Rattle.gm_state.specs.declared.records.Mirror.{Mirror}
-use Rattle.gm_state.specs.Intents.{IsOf}
 use Rattle.gm_state.specs.Lookups.{mirror_of}
 use Rattle.gm_state.specs.Records.{name}
 use Rattle.gm_state.specs.World.{World, Sound, Claims, data_at}

@@ -1,5 +1,5 @@
 -- How many bytes are to be laid.
-use Rattle.std.proofs.Common.{◌≡◌, inl, inr, ℕ, ◌+◌, ◌*◌, ◌<◌, ◌≤◌, ◌&&◌, ◌==◌, true, IsTrue, refl, subst, arith, List, [], ◌∷◌, length, length-append, eqb-true}
+use Rattle.std.proofs.Common.{◌≡◌, inl, inr, ℕ, ◌*◌, ◌≤◌, ◌==◌, true, IsTrue, refl, subst, arith, List, [], ◌∷◌, length, length-append, eqb-true}
 use Rattle.std.specs.List.{list_all, list_any}
 use Rattle.std.proofs.lemmas.Bool.{and_parts, cases_Bool}
 use Rattle.gm_commands.specs.declared.command.Command.{Command}

@@ -1,5 +1,5 @@
 -- What the rules decide on a state fits the tables of that state.
-use Rattle.std.proofs.Common.{◌≡◌, ◌≢◌, ◌≤◌, inr, ℕ, ◌<◌, ◌^◌, true, sym, subst, arith, List, [], length, IfOk, Result, Ok, Err}
+use Rattle.std.proofs.Common.{◌≡◌, ◌≢◌, ◌≤◌, inr, ℕ, ◌<◌, ◌^◌, true, sym, subst, arith, List, length, IfOk, Result, Ok, Err}
 use Rattle.std.specs.List.{AllByRecursion}
 use Rattle.gm_commands.specs.declared.command.Command.{Command}
 use Rattle.gm_commands.specs.Commands.{CommandFits, is_key, words_of}

@@ -4,7 +4,6 @@ use Rattle.std.proofs.lemmas.Bool.{cases_Bool, and_parts}
 use Rattle.std.proofs.lemmas.Bool.Decides.{nat_tests}
 use Rattle.gm_metadata.specs.Images.{Sizes, same_label}
 use Rattle.gm_state.specs.declared.intents.Intent.{Intent}
-use Rattle.gm_state.specs.declared.intents.Intent.TheVariants.{Copy}
 use Rattle.gm_lists.specs.Ordered.{Has}
 use Rattle.gm_state.specs.Intents.{is_last, copies, names, any_copies, is_place}
 use Rattle.gm_lists.proofs.Order.{same_is}

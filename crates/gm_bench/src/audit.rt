@@ -101,7 +101,7 @@ impl<S: Alter, H: Shelf> Media<S, H> {
             → StoreFailed S.Store self.old.registry self.new.registry }
         ensures asks { Asks S.Store H.Shelf self.old self.new result }
     {
-        let (state, _, _) = self.load(alloc)?;
-        audit_shelf(alloc, &mut self.shelf, &state)
+        let loaded = self.load(alloc)?;
+        audit_shelf(alloc, &mut self.shelf, &loaded.state)
     }
 }

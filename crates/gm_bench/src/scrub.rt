@@ -176,7 +176,7 @@ impl<S: Alter, H: Shelf> Media<S, H> {
             → AreTablesOf t s ts bytes → ⊥ }
         ensures asks { Asks S.Store H.Shelf self.old self.new result }
     {
-        let (state, _, _) = self.load(alloc)?;
-        flaws_on(alloc, &mut self.shelf, &state, &asked, watch)
+        let loaded = self.load(alloc)?;
+        flaws_on(alloc, &mut self.shelf, &loaded.state, &asked, watch)
     }
 }

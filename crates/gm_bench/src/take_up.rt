@@ -19,6 +19,7 @@ ghost use Rattle.gm_bench.specs.Opened.{TellsOfTables, StaysBefore};
 use crate::fault::BenchFault;
 use crate::media::Media;
 use crate::presence::first_absent;
+use gm_rows::Loaded;
 use gm_shelf::Shelf;
 use gm_state::{Intent, State};
 use sqlite::Alter;
@@ -63,21 +64,19 @@ impl<S: Alter, H: Shelf> Media<S, H> {
         self.settle()
     }
 
-    /// The whole state, the pending intents, and the sectors that they lay. It writes nothing.
-    pub(crate) fn load(
-        &mut self,
-        alloc: Global,
-    ) -> Result<(State, Vec<Intent>, Vec<[u8; 512]>), BenchFault>
+    /// All that the registry holds. It writes nothing.
+    pub(crate) fn load(&mut self, alloc: Global) -> Result<Loaded, BenchFault>
         ensures says { H.honest self.old.shelf → DiskKept S.Store self.new.registry
-            → IfOk result (λ r. (away : Image) (ts : List Intent) (bytes : List (List ℕ))
+            → IfOk result (λ l. (away : Image) (ts : List Intent) (bytes : List (List ℕ))
             (u w : World)
             → (at : IsFound S.Store H.view H.size self.old.registry self.old.shelf away ts bytes u
             w)
-            → (r.0 ≡ w.state) × (r.1.items ≡ ts) × (r.2.items ≡ bytes)
+            → (l.state ≡ w.state) × (l.intents.items ≡ ts) × (l.bytes.items ≡ bytes)
             × HasTables S.Store self.new.registry at.tables) }
         ensures loaded { DiskKept S.Store self.new.registry
-            → IfOk result (λ r. (t : Tables) → HasTables S.Store self.old.registry t
-            → AreTablesOf t r.0 r.1.items r.2.items × HasTables S.Store self.new.registry t) }
+            → IfOk result (λ l. (t : Tables) → HasTables S.Store self.old.registry t
+            → AreTablesOf t l.state l.intents.items l.bytes.items
+            × HasTables S.Store self.new.registry t) }
         ensures unreadable { DiskKept S.Store self.new.registry
             → IsErrOf result BenchFault.Unreadable → (t : Tables) (s : Records) (ts : List Intent)
             (bytes : List (List ℕ)) → HasTables S.Store self.old.registry t
@@ -168,8 +167,8 @@ impl<S: Alter, H: Shelf> Media<S, H> {
         ensures keep { Keep S.Store H.Shelf self.old.registry self.new.registry
             self.old.shelf self.new.shelf }
     {
-        let (state, intents, bytes) = self.load(alloc)?;
-        self.check_and_finish(&state, &intents, &bytes)?;
-        Ok(intents.len() as u64)
+        let loaded = self.load(alloc)?;
+        self.check_and_finish(&loaded.state, &loaded.intents, &loaded.bytes)?;
+        Ok(loaded.intents.len() as u64)
     }
 }

@@ -84,12 +84,19 @@ impl<S: Alter, H: Shelf> Media<S, H> {
         ensures shelf { self.new.shelf ≡ self.old.shelf }
         ensures clean { WasClean S.Store self.old.registry self.new.registry }
     {
-        let (state, intents, bytes) = self.load(alloc)?;
-        let judged = self.judge(alloc, &state, &intents, &bytes, provider, key)?;
+        let loaded = self.load(alloc)?;
+        let judged = self.judge(
+            alloc,
+            &loaded.state,
+            &loaded.intents,
+            &loaded.bytes,
+            provider,
+            key,
+        )?;
         Ok(Looked {
-            state,
-            intents,
-            bytes,
+            state: loaded.state,
+            intents: loaded.intents,
+            bytes: loaded.bytes,
             judged,
         })
     }

@@ -22,6 +22,7 @@ use crate::phase::Progress;
 use crate::scrub::Scrubbed;
 use gm_apply::Watch;
 use gm_metadata::Label;
+use gm_rows::Loaded;
 use gm_shelf::Shelf;
 use gm_state::State;
 use sqlite::Alter;
@@ -53,7 +54,7 @@ impl<S: Alter, H: Shelf> Bench<S, H> {
             _ => {}
         }
         match self.media.load(alloc) {
-            Ok((state, _, _)) => Ok(state),
+            Ok(Loaded { state, .. }) => Ok(state),
             Err(fault) => {
                 self.progress = Progress::Failed;
                 Err(fault)

@@ -155,7 +155,7 @@ fn zeros(alloc: Global, count: usize) -> Result<Vec<u8>, AllocError>
     vec![in alloc; 0u8; count]
 }
 
-// The same with a buffer for a line.
+// What `batch` does, with a buffer for a line.
 fn answer_lines<R: BufRead, W: Write, S: Alter, H: Shelf, L: Listener>(
     alloc: Global,
     reader: &mut R,

@@ -56,7 +56,7 @@ fn told_on<H: Shelf>(
     ensures looks { Looks H.Shelf shelf.old shelf.new result }
 {
     match *intent {
-        Intent::Meta { provider } => {
+        Intent::Meta { provider } | Intent::Dirty { provider } | Intent::Patch { provider, .. } => {
             let standing = standing_of_named(shelf, state, provider)?;
             one_told(alloc, standing)
         }
@@ -69,14 +69,6 @@ fn told_on<H: Shelf>(
             let takes = standing_of_named(shelf, state, target)?;
             let told = two_told(alloc, source, lends, target, takes)?;
             Ok(told)
-        }
-        Intent::Dirty { provider } => {
-            let standing = standing_of_named(shelf, state, provider)?;
-            one_told(alloc, standing)
-        }
-        Intent::Patch { provider, .. } => {
-            let standing = standing_of_named(shelf, state, provider)?;
-            one_told(alloc, standing)
         }
     }
 }

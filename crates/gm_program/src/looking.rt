@@ -13,10 +13,11 @@ use crate::place::Place;
 use crate::registry_files::leave_out_registry;
 use crate::show::{list_report, status_report};
 use crate::streams::Streams;
-use crate::unopened::{Records, records_of};
+use crate::unopened::records_of;
 use gm_bench::audit_shelf;
 use gm_command_line::Look;
 use gm_pending::{pending_text, pending_text_on};
+use gm_registry::Loaded;
 use gm_shelf::{FileShelf, Shelf};
 use gm_state::Intent;
 use std::alloc::Global;
@@ -35,7 +36,7 @@ fn pending_report(alloc: Global, intents: &[Intent]) -> Result<Report, Fault>
 // What is pending, and how the images stand to that.
 fn pending_report_on<H: Shelf>(
     alloc: Global,
-    records: &Records,
+    records: &Loaded,
     shelf: &mut H,
 ) -> Result<Report, Fault> {
     Ok(Report {
@@ -48,7 +49,7 @@ fn pending_report_on<H: Shelf>(
 fn look_report<H: Shelf>(
     alloc: Global,
     look: Look,
-    records: &Records,
+    records: &Loaded,
     shelf: &mut H,
 ) -> Result<Report, Fault>
     ensures { IfOk result (λ report. MayShow look report.status) }

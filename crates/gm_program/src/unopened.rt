@@ -7,9 +7,8 @@ ghost use Rattle.sqlite_disk.specs.Memory.{memory_is_usable};
 use crate::exit::Fault;
 use crate::registry_files::{file_fault, store_fault};
 use gm_bench::BenchFault;
-use gm_registry::{Registry, StoreFault};
+use gm_registry::{Loaded, Registry, StoreFault};
 use gm_shelf::FileId;
-use gm_state::{Intent, State};
 use os::RangeLock;
 use sqlite::{Connection, FileStore, Files, Options};
 use sqlite_disk::{Disk, Memory};
@@ -23,13 +22,6 @@ use std::os::fd::AsRawFd;
 const LOCKS: u64 = 1 << 30;
 
 const LOCK_BYTES: u64 = 512;
-
-/// What a registry holds.
-#[derive(Drop)]
-pub(crate) struct Records {
-    pub(crate) state: State,
-    pub(crate) intents: Vec<Intent>,
-}
 
 // Opens a regular file to be read, under a lock that others who read may hold as well.
 fn open_shared(rt: &HostRuntime, path: &str) -> io::Result<File> {
@@ -104,7 +96,7 @@ fn registry_fault(fault: StoreFault) -> BenchFault {
 }
 
 // What the registry of a store holds.
-fn records_in(alloc: Global, store: Connection<FileStore<Memory>>) -> Result<Records, BenchFault> {
+fn records_in(alloc: Global, store: Connection<FileStore<Memory>>) -> Result<Loaded, BenchFault> {
     if !store.is_autocommit() {
         return Err(BenchFault::Store);
     }
@@ -112,15 +104,12 @@ fn records_in(alloc: Global, store: Connection<FileStore<Memory>>) -> Result<Rec
         Ok(registry) => registry,
         Err(e) => return Err(registry_fault(e.fault)),
     };
-    match registry.load(alloc) {
-        Ok((state, intents, _bytes)) => Ok(Records { state, intents }),
-        Err(fault) => Err(registry_fault(fault)),
-    }
+    registry.load(alloc).map_err(registry_fault)
 }
 
 /// What a registry holds as it stands. `Store` where there is no such file, where another program
 /// has it open, or where its journal holds anything; `Unreadable` where an opening would say so.
-pub(crate) fn records_of(rt: &HostRuntime, registry: &str) -> Result<Records, Fault> {
+pub(crate) fn records_of(rt: &HostRuntime, registry: &str) -> Result<Loaded, Fault> {
     let alloc = rt.alloc();
     let files = files_of(rt, registry).map_err(file_fault)?;
     let seed = RandomState::new(rt).map_err(file_fault)?.hash_one(&0u8);

@@ -24,7 +24,7 @@ mod registry;
 mod replies;
 mod whole_tables;
 
-pub use gm_rows::StoreFault;
+pub use gm_rows::{Loaded, StoreFault};
 pub use laws::{change_holds, one_reading, tables_are_saved};
 pub use part::Part;
 pub use registry::{OpenFault, Registry};

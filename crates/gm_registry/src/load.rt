@@ -1,4 +1,4 @@
-//! The state, the pending intents and the bytes that they lay, as a registry holds them.
+//! What a registry holds, read whole.
 
 ghost use Rattle.std.specs.Prelude.{ℕ, List, IfOk};
 ghost use Rattle.sqlite.specs.Held.{state};
@@ -12,25 +12,25 @@ ghost use Rattle.gm_rows.specs.Faults.{OnUnreadable, OnStore};
 
 use crate::registry::Registry;
 use crate::whole_tables::fetch;
-use gm_rows::{StoreFault, judge};
-use gm_state::{Intent, State};
+use gm_rows::{Loaded, StoreFault, judge};
 use sqlite::{Alter, Connection};
 use std::alloc::Global;
 
-/// Reads all tables, and tells the state, the pending intents and their bytes that they hold.
+/// Reads all tables, and tells what they hold.
 pub(crate) fn load_on<S: Alter>(
     alloc: Global,
     conn: &mut Connection<S>,
-) -> Result<(State, Vec<Intent>, Vec<[u8; 512]>), StoreFault>
-    ensures says { DiskKept S.Store conn.new → IfOk result (λ r. IsRegistry S.Store conn.old
-        → TablesSay (seen S.Store conn.old) r.0 r.1.items r.2.items) }
+) -> Result<Loaded, StoreFault>
+    ensures says { DiskKept S.Store conn.new → IfOk result (λ l. IsRegistry S.Store conn.old
+        → TablesSay (seen S.Store conn.old) l.state l.intents.items l.bytes.items) }
     ensures silent { DiskKept S.Store conn.new
         → OnUnreadable result ((s : Records) (ts : List Intent)
         (bytes : List (List ℕ)) → IsRegistry S.Store conn.old
         → TablesSay (seen S.Store conn.old) s ts bytes → ⊥) }
     ensures loaded { DiskKept S.Store conn.new
-        → IfOk result (λ r. (t : Tables) → HasTables S.Store conn.old t
-        → AreTablesOf t r.0 r.1.items r.2.items × HasSaved S.Store conn.new t) }
+        → IfOk result (λ l. (t : Tables) → HasTables S.Store conn.old t
+        → AreTablesOf t l.state l.intents.items l.bytes.items
+        × HasSaved S.Store conn.new t) }
     ensures unreadable { DiskKept S.Store conn.new
         → OnUnreadable result ((t : Tables) (s : Records) (ts : List Intent)
         (bytes : List (List ℕ))
@@ -45,23 +45,20 @@ pub(crate) fn load_on<S: Alter>(
 }
 
 impl<S: Alter> Registry<S> {
-    /// The state, the pending intents in their order, and the sectors of the bytes that they lay,
-    /// none where nothing is patched. `Unreadable` exactly where the tables aren't those of a state
+    /// All that the registry holds. `Unreadable` exactly where the tables aren't those of a state
     /// with intents and bytes that are readable for it; `Memory`, `Store` as of any call.
-    pub fn load(
-        &mut self,
-        alloc: Global,
-    ) -> Result<(State, Vec<Intent>, Vec<[u8; 512]>), StoreFault>
+    pub fn load(&mut self, alloc: Global) -> Result<Loaded, StoreFault>
         ensures says { DiskKept S.Store self.new
-            → IfOk result (λ r. IsRegistry S.Store self.old
-            → TablesSay (seen S.Store self.old) r.0 r.1.items r.2.items) }
+            → IfOk result (λ l. IsRegistry S.Store self.old
+            → TablesSay (seen S.Store self.old) l.state l.intents.items l.bytes.items) }
         ensures silent { DiskKept S.Store self.new
             → OnUnreadable result ((s : Records) (ts : List Intent)
             (bytes : List (List ℕ)) → IsRegistry S.Store self.old
             → TablesSay (seen S.Store self.old) s ts bytes → ⊥) }
         ensures loaded { DiskKept S.Store self.new
-            → IfOk result (λ r. (t : Tables) → HasTables S.Store self.old t
-            → AreTablesOf t r.0 r.1.items r.2.items × HasSaved S.Store self.new t) }
+            → IfOk result (λ l. (t : Tables) → HasTables S.Store self.old t
+            → AreTablesOf t l.state l.intents.items l.bytes.items
+            × HasSaved S.Store self.new t) }
         ensures unreadable { DiskKept S.Store self.new
             → OnUnreadable result ((t : Tables) (s : Records) (ts : List Intent)
             (bytes : List (List ℕ))

@@ -17,6 +17,15 @@ use gm_state::{Component, Intent, MAX_SECTORS, Mirror, State, are_readable, one_
 use sqlite::Row;
 use std::alloc::Global;
 
+/// What a registry holds: all records, what is pending in its order, and the sectors that it lays,
+/// none where nothing is patched.
+#[derive(Drop)]
+pub struct Loaded {
+    pub state: State,
+    pub intents: Vec<Intent>,
+    pub bytes: Vec<[u8; 512]>,
+}
+
 fn is_between(row: &Row, at: usize, low: u64, high: u64) -> bool
     ensures { IsTrue result ↔ IsBetween low high (column row.now at) }
 {
@@ -97,13 +106,9 @@ fn read_patches(alloc: Global, rows: &[Row]) -> Result<Vec<[u8; 512]>, StoreFaul
     Ok(bytes)
 }
 
-/// The state, the intents and the bytes to be laid that all rows say; `Unreadable` where they say
-/// none.
-pub fn judge(
-    alloc: Global,
-    fetched: &Fetched,
-) -> Result<(State, Vec<Intent>, Vec<[u8; 512]>), StoreFault>
-    ensures says { IfOk result (λ r. Say fetched.now r.0 r.1.items r.2.items) }
+/// What all rows say; `Unreadable` where they say nothing that a registry holds.
+pub fn judge(alloc: Global, fetched: &Fetched) -> Result<Loaded, StoreFault>
+    ensures says { IfOk result (λ l. Say fetched.now l.state l.intents.items l.bytes.items) }
     ensures fault { IfErr result (λ e. e ≢ StoreFault.Store) }
     ensures unreadable { OnUnreadable result ((s : Records) (ts : List Intent)
         (bytes : List (List ℕ)) → Say fetched.now s ts bytes → ⊥) }
@@ -117,5 +122,9 @@ pub fn judge(
     if !are_readable(&state, &bytes, &intents) {
         return Err(StoreFault::Unreadable);
     }
-    Ok((state, intents, bytes))
+    Ok(Loaded {
+        state,
+        intents,
+        bytes,
+    })
 }

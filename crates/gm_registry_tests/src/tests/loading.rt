@@ -3,7 +3,7 @@
 use super::{in_memory, label, must, opened};
 use gm_metadata::{Balance, MirrorFlags};
 use gm_registry::Registry;
-use gm_rows::StoreFault;
+use gm_rows::{Loaded, StoreFault};
 use gm_state::{Component, Disk, Intent, Mirror, State};
 use sqlite::{Alter, Connection};
 use std::alloc::Global;
@@ -79,7 +79,7 @@ pub(super) const EDITS: [&str; 42] = [
 pub(super) fn load<S: Alter>(
     alloc: Global,
     registry: &mut Registry<S>,
-) -> Result<(State, Vec<Intent>, Vec<[u8; 512]>), StoreFault> {
+) -> Result<Loaded, StoreFault> {
     registry.load(alloc)
 }
 
@@ -164,9 +164,9 @@ fn must_be_the_rows(rt: &impl Abort, state: &State, pending: &[Intent]) {
 
 // The registry says the rows, and no bytes to be laid.
 pub(super) fn says_the_rows<S: Alter>(rt: &(impl Abort + AllocGlobal), registry: &mut Registry<S>) {
-    let (state, pending, bytes) = load(rt.alloc(), registry).expect(rt, "not loaded");
-    must_be_the_rows(rt, &state, &pending);
-    must(rt, bytes.is_empty(), "bytes");
+    let loaded = load(rt.alloc(), registry).expect(rt, "not loaded");
+    must_be_the_rows(rt, &loaded.state, &loaded.intents);
+    must(rt, loaded.bytes.is_empty(), "bytes");
 }
 
 fn say_a_state<S: Alter + Drop>(rt: &(impl Abort + AllocGlobal), store: Connection<S>) {

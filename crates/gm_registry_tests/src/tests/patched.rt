@@ -81,9 +81,9 @@ fn must_be_pending<S: Alter + Drop>(
     bytes: &[[u8; 512]],
 ) -> Registry<S> {
     let mut again = opened(rt, registry.close());
-    let (_, pending, laid) = load(rt.alloc(), &mut again).expect(rt, "not loaded");
-    must(rt, pending.as_slice() == intents, "other intents");
-    must(rt, laid.as_slice() == bytes, "other bytes");
+    let loaded = load(rt.alloc(), &mut again).expect(rt, "not loaded");
+    must(rt, loaded.intents.as_slice() == intents, "other intents");
+    must(rt, loaded.bytes.as_slice() == bytes, "other bytes");
     again
 }
 
@@ -127,9 +127,17 @@ fn patched<S: Alter + Drop>(
 
 fn says<S: Alter + Drop>(rt: &(impl Abort + AllocGlobal), store: Connection<S>) {
     let mut registry = opened(rt, patched(rt, store));
-    let (_, pending, laid) = load(rt.alloc(), &mut registry).expect(rt, "not loaded");
-    must(rt, pending.as_slice() == patching(rt).as_slice(), "intents");
-    must(rt, laid.as_slice() == [[97u8; 512]; 2].as_slice(), "bytes");
+    let loaded = load(rt.alloc(), &mut registry).expect(rt, "not loaded");
+    must(
+        rt,
+        loaded.intents.as_slice() == patching(rt).as_slice(),
+        "intents",
+    );
+    must(
+        rt,
+        loaded.bytes.as_slice() == [[97u8; 512]; 2].as_slice(),
+        "bytes",
+    );
 }
 
 #[test]

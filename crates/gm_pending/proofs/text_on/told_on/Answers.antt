@@ -10,8 +10,8 @@ returns-in_ok-told-in-Copy-clause-told g c h =
     let s = c.args.state.now in
     let size = g.H.Shelf.size c.args.shelf.now in
     let seen = (g.H.Shelf.view c.args.shelf.now).seen in
-    let mid = c.standing_of_named-in-Copy.new.shelf in
-    let only = c.standing_of_named-in-Copy.ensures.looks.only in
+    let mid = c.standing_of_named.new.shelf in
+    let only = c.standing_of_named.ensures.looks.only in
     subst (λ (t : Intent). IsTold s size seen t (string_bytes c.in_ok-told-in-Copy.told))
     (sym c.in-Copy.is) (
       c.in_ok-lends-in-Copy.lends,

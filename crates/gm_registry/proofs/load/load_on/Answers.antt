@@ -9,8 +9,8 @@ pub returns-clause-loaded : goal.returns-clause-loaded
 returns-clause-loaded g c clean =
     let old = state g.S.Store c.args.conn.now in
     let new = state g.S.Store c.fetch.new.conn in
-    if_ok c.judge.result _ _ (λ r says t was. (
-      tables_said old.now.trees t c.in_ok-fetched.fetched r.0 r.1.items r.2.items
+    if_ok c.judge.result _ _ (λ l says t was. (
+      tables_said old.now.trees t c.in_ok-fetched.fetched l.state l.intents.items l.bytes.items
           (counted old t was)
           (c.in_ok-fetched.ensures.rows clean (ours old t was)) says,
       saved g.S.Store g.met.S.Store.settled c.fetch.new.conn t
@@ -44,8 +44,9 @@ pub returns-clause-says : goal.returns-clause-says
 returns-clause-says g c clean =
     let old = state g.S.Store c.args.conn.now in
     if_ok c.judge.result _ _
-    (λ r says was. any_tables old.now.trees c.in_ok-fetched.fetched r.0 r.1.items r.2.items
-    (c.in_ok-fetched.ensures.rows clean (registry_ours old was)) says) c.judge.ensures.says
+    (λ l says was. any_tables old.now.trees c.in_ok-fetched.fetched l.state l.intents.items
+    l.bytes.items (c.in_ok-fetched.ensures.rows clean (registry_ours old was)) says)
+    c.judge.ensures.says
 
 pub returns-clause-silent : goal.returns-clause-silent
 returns-clause-silent g c clean =

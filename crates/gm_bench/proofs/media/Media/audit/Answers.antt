@@ -9,9 +9,9 @@ use Rattle.gm_bench.proofs.DecidesOnly.{ok_then}
 use Rattle.gm_bench.proofs.Looks.{look_does}
 use Rattle.gm_bench.proofs.media.Media.audit.Goals as goal
 
-pub returns-in_err-state-clause-unreadable : goal.returns-in_err-state-clause-unreadable
-returns-in_err-state-clause-unreadable g c clean is t s ts bytes has of =
-    c.in_err-state.ensures.unreadable clean (ap Err (fault_is c.from_residual.result _ _
+pub returns-in_err-loaded-clause-unreadable : goal.returns-in_err-loaded-clause-unreadable
+returns-in_err-loaded-clause-unreadable g c clean is t s ts bytes has of =
+    c.in_err-loaded.ensures.unreadable clean (ap Err (fault_is c.from_residual.result _ _
     c.from_residual.ensures.1 is)) t s ts bytes has of
 
 pub returns-clause-audits : goal.returns-clause-audits
@@ -19,8 +19,8 @@ returns-clause-audits g c h clean =
     let h1 : g.H.Shelf.honest c.load.new.self.shelf =
     subst g.H.Shelf.honest (sym c.load.ensures.shelf) h in
     ok_then _ _ (λ names shown t s ts bytes has of. (
-    let state = c.in_ok-state.state in
-    let loaded = c.in_ok-state.ensures.loaded clean t has in
+    let state = c.in_ok-loaded.loaded.state in
+    let loaded = c.in_ok-loaded.ensures.loaded clean t has in
     let same = one_reading same_mirror same_component t state s _ ts _ bytes loaded.0 of in
     let audit = subst (λ (x : g.row.H.Denot). IsAudit state (g.H.Shelf.size x)
     (g.H.Shelf.view x).seen names.items) c.load.ensures.shelf shown in
@@ -40,11 +40,11 @@ returns-clause-looks g c h clean =
     c.load.ensures.shelf (c.audit_shelf.ensures.looks.only.reads h1).quiet in
     ok_then _ _ (λ names shown. look_does g.S.Store view size c.args.self.now.registry
     c.load.new.self.registry shelf c.audit_shelf.new.shelf quiet
-    (λ t has. (c.in_ok-state.ensures.loaded clean t has).1)
+    (λ t has. (c.in_ok-loaded.ensures.loaded clean t has).1)
     (c.audit_shelf.ensures.looks.only.keeps.size ∙ ap size c.load.ensures.shelf))
     c.audit_shelf.result (c.audit_shelf.ensures.audit h1)
 
-pub returns-in_err-state-clause-store : goal.returns-in_err-state-clause-store
-returns-in_err-state-clause-store g c clean is =
-    c.in_err-state.ensures.store clean (ap Err (fault_is c.from_residual.result _ _
+pub returns-in_err-loaded-clause-store : goal.returns-in_err-loaded-clause-store
+returns-in_err-loaded-clause-store g c clean is =
+    c.in_err-loaded.ensures.store clean (ap Err (fault_is c.from_residual.result _ _
     c.from_residual.ensures.1 is))

@@ -9,8 +9,8 @@ returns-in-Ok-clause-says g c h clean away ts bytes u w at =
     let lawful = g.met.H.Shelf.lawful c.args.self.now.shelf h in
     let of = c.in-Ok.ensures.loaded clean at.tables at.has in
     let same = loaded g.S.Store g.H.Shelf.view g.H.Shelf.size c.args.self.now.registry
-    c.args.self.now.shelf away ts bytes u w at lawful c.in-Ok.loaded.0 c.in-Ok.loaded.1.items
-    c.in-Ok.loaded.2.items of.0 in
+    c.args.self.now.shelf away ts bytes u w at lawful c.in-Ok.loaded.state
+    c.in-Ok.loaded.intents.items c.in-Ok.loaded.bytes.items of.0 in
     (same.0, same.1, same.2, of.1.tables)
 
 pub returns-in-Err-clause-unreadable : goal.returns-in-Err-clause-unreadable

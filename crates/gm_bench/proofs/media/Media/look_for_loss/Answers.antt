@@ -12,10 +12,10 @@ use Rattle.gm_bench.proofs.DecidesOnly.{reads_then}
 use Rattle.gm_bench.proofs.StoreFails.{failed_later}
 use Rattle.gm_bench.proofs.media.Media.look_for_loss.Goals as goal
 
-pub returns-in_err-state-clause-unreadable : goal.returns-in_err-state-clause-unreadable
-returns-in_err-state-clause-unreadable g c clean is t s ts bytes has of written =
+pub returns-in_err-loaded-clause-unreadable : goal.returns-in_err-loaded-clause-unreadable
+returns-in_err-loaded-clause-unreadable g c clean is t s ts bytes has of written =
     let fault = fault_is c.from_residual.result _ _ c.from_residual.ensures.1 is in
-    c.in_err-state.ensures.unreadable clean (ap Err fault) t s ts bytes has of
+    c.in_err-loaded.ensures.unreadable clean (ap Err fault) t s ts bytes has of
 
 pub returns-clause-looked : goal.returns-clause-looked
 returns-clause-looked g c h clean away ts bytes u w at =
@@ -24,10 +24,10 @@ returns-clause-looked g c h clean away ts bytes u w at =
     let k = c.args.self.now.shelf in
     let clean1 : DiskKept g.S.Store c.load.new.self.registry =
     omega (arith, clean, c.judge.ensures.clean) in
-    let said = c.in_ok-state.ensures.says h clean1 away ts bytes u w at in
+    let said = c.in_ok-loaded.ensures.says h clean1 away ts bytes u w at in
     let l = lead g.S.Store view size c.args.self.now.registry k away ts bytes u w at
     (g.met.H.Shelf.lawful k h) in
-    let of : AreOfWorld c.in_ok-state.state (size c.load.new.self.shelf) w = record {
+    let of : AreOfWorld c.in_ok-loaded.loaded.state (size c.load.new.self.shelf) w = record {
       sound = l.sound;
       records = said.0;
       sizes = at.sizes ∙ sym (ap size c.load.ensures.shelf);
@@ -53,11 +53,11 @@ pub returns-clause-loaded : goal.returns-clause-loaded
 returns-clause-loaded g c clean t has =
     let clean1 : DiskKept g.S.Store c.load.new.self.registry =
     omega (arith, clean, c.judge.ensures.clean) in
-    let loaded = c.in_ok-state.ensures.loaded clean1 t has in
+    let loaded = c.in_ok-loaded.ensures.loaded clean1 t has in
     let again = c.in_ok-judged.ensures.again clean t loaded.1 in (
       loaded.0,
       again.0,
-      subst₂ (λ (is : List Intent) (b : List (List ℕ)). StaysReadable c.in_ok-state.state is b
+      subst₂ (λ (is : List Intent) (b : List (List ℕ)). StaysReadable c.in_ok-loaded.loaded.state is b
           c.in_ok-judged.judged) c.deref.ensures.value c.deref-2.ensures.value again.1,
     )
 
@@ -65,24 +65,24 @@ pub returns-clause-fits : goal.returns-clause-fits
 returns-clause-fits g c clean t has =
     let clean1 : DiskKept g.S.Store c.load.new.self.registry =
     omega (arith, clean, c.judge.ensures.clean) in
-    let loaded = c.in_ok-state.ensures.loaded clean1 t has in
-    let are : AreRecordsOf t c.in_ok-state.state = record {
+    let loaded = c.in_ok-loaded.ensures.loaded clean1 t has in
+    let are : AreRecordsOf t c.in_ok-loaded.loaded.state = record {
       state = loaded.0.state;
       rows = record { mirrors = loaded.0.mirrors; components = loaded.0.components };
     } in
     subst (λ (is : List Intent). CanBeCommitted c.args.key.now is t c.in_ok-judged.judged)
     c.deref.ensures.value (c.in_ok-judged.ensures.fits clean t loaded.1 are)
 
-pub returns-in_err-state-clause-store : goal.returns-in_err-state-clause-store
-returns-in_err-state-clause-store g c clean is t has =
-    c.in_err-state.ensures.store clean (ap Err (fault_is c.from_residual.result _ _
+pub returns-in_err-loaded-clause-store : goal.returns-in_err-loaded-clause-store
+returns-in_err-loaded-clause-store g c clean is t has =
+    c.in_err-loaded.ensures.store clean (ap Err (fault_is c.from_residual.result _ _
     c.from_residual.ensures.1 is)) (sees_registry (state g.S.Store c.args.self.now.registry) t has)
 
 pub returns-in_err-judged-clause-store : goal.returns-in_err-judged-clause-store
 returns-in_err-judged-clause-store g c clean is t has =
     let clean1 : DiskKept g.S.Store c.load.new.self.registry =
     omega (arith, clean, c.judge.ensures.clean) in
-    let then = (c.in_ok-state.ensures.loaded clean1 t has).1 in
+    let then = (c.in_ok-loaded.ensures.loaded clean1 t has).1 in
     failed_later g.S.Store c.args.self.now.registry c.load.new.self.registry t
     c.load.ensures.reads has then c.judge.new.self.registry
     (c.in_err-judged.ensures.store clean (ap Err (fault_is
@@ -93,7 +93,7 @@ returns-clause-reads g c clean =
     let clean1 : DiskKept g.S.Store c.load.new.self.registry =
     omega (arith, clean, c.judge.ensures.clean) in
     reads_then g.S.Store c.args.self.now.registry c.load.new.self.registry
-    c.judge.new.self.registry (λ t has. (c.in_ok-state.ensures.loaded clean1 t has).1)
+    c.judge.new.self.registry (λ t has. (c.in_ok-loaded.ensures.loaded clean1 t has).1)
     c.load.ensures.reads (c.judge.ensures.reads clean)
 
 pub returns-in_err-judged-clause-reads : goal.returns-in_err-judged-clause-reads
@@ -101,5 +101,5 @@ returns-in_err-judged-clause-reads g c clean =
     let clean1 : DiskKept g.S.Store c.load.new.self.registry =
     omega (arith, clean, c.judge.ensures.clean) in
     reads_then g.S.Store c.args.self.now.registry c.load.new.self.registry
-    c.judge.new.self.registry (λ t has. (c.in_ok-state.ensures.loaded clean1 t has).1)
+    c.judge.new.self.registry (λ t has. (c.in_ok-loaded.ensures.loaded clean1 t has).1)
     c.load.ensures.reads (c.judge.ensures.reads clean)

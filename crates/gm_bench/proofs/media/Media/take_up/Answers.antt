@@ -20,7 +20,7 @@ returns-clause-leaves g c h clean away ts bytes u w at =
     let size = g.H.Shelf.size in
     let clean1 : DiskKept g.S.Store c.load.new.self.registry =
     omega (arith, clean, c.check_and_finish.ensures.keep.clean) in
-    let said = c.in_ok-state.ensures.says h clean1 away ts bytes u w at in
+    let said = c.in_ok-loaded.ensures.says h clean1 away ts bytes u w at in
     let are : c.deref.result.now ≡ ts = c.deref.ensures.value ∙ said.1 in
     let laid : c.deref-2.result.now ≡ bytes = c.deref-2.ensures.value ∙ said.2 in
     let found = moved g.S.Store view size c.args.self.now.registry c.load.new.self.registry
@@ -43,7 +43,7 @@ returns-clause-moments g c h clean away ts bytes u w at =
     let size = g.H.Shelf.size in
     let clean1 : DiskKept g.S.Store c.load.new.self.registry =
     omega (arith, clean, c.check_and_finish.ensures.keep.clean) in
-    let said = c.in_ok-state.ensures.says h clean1 away ts bytes u w at in
+    let said = c.in_ok-loaded.ensures.says h clean1 away ts bytes u w at in
     let are : c.deref.result.now ≡ ts = c.deref.ensures.value ∙ said.1 in
     let laid : c.deref-2.result.now ≡ bytes = c.deref-2.ensures.value ∙ said.2 in
     let found = moved g.S.Store view size c.args.self.now.registry c.load.new.self.registry
@@ -62,7 +62,7 @@ returns-clause-done g c h clean away ts bytes u w at =
     let size = g.H.Shelf.size in
     let clean1 : DiskKept g.S.Store c.load.new.self.registry =
     omega (arith, clean, c.check_and_finish.ensures.keep.clean) in
-    let said = c.in_ok-state.ensures.says h clean1 away ts bytes u w at in
+    let said = c.in_ok-loaded.ensures.says h clean1 away ts bytes u w at in
     let are : c.deref.result.now ≡ ts = c.deref.ensures.value ∙ said.1 in
     let laid : c.deref-2.result.now ≡ bytes = c.deref-2.ensures.value ∙ said.2 in
     let found = moved g.S.Store view size c.args.self.now.registry c.load.new.self.registry
@@ -70,7 +70,7 @@ returns-clause-done g c h clean away ts bytes u w at =
     c.deref.result.now are c.deref-2.result.now laid said.3 in
     let h1 : g.H.Shelf.honest c.load.new.self.shelf =
     subst g.H.Shelf.honest (sym c.load.ensures.shelf) h in
-    let items : c.len.result ≡ length c.in_ok-state.intents.items = search rules in
+    let items : c.len.result ≡ length c.in_ok-loaded.loaded.intents.items = search rules in
     let many : c.len.result ≡ length ts = items ∙ ap length said.1 in
     (many, c.in_ok-check_and_finish.ensures.done h1 clean away u w found said.0)
 
@@ -81,7 +81,7 @@ returns-in_err-check_and_finish-clause-leaves g c h clean away ts bytes u w at =
     let size = g.H.Shelf.size in
     let clean1 : DiskKept g.S.Store c.load.new.self.registry =
     omega (arith, clean, c.check_and_finish.ensures.keep.clean) in
-    let said = c.in_ok-state.ensures.says h clean1 away ts bytes u w at in
+    let said = c.in_ok-loaded.ensures.says h clean1 away ts bytes u w at in
     let are : c.deref.result.now ≡ ts = c.deref.ensures.value ∙ said.1 in
     let laid : c.deref-2.result.now ≡ bytes = c.deref-2.ensures.value ∙ said.2 in
     let found = moved g.S.Store view size c.args.self.now.registry c.load.new.self.registry
@@ -104,7 +104,7 @@ returns-in_err-check_and_finish-clause-moments g c h clean away ts bytes u w at 
     let size = g.H.Shelf.size in
     let clean1 : DiskKept g.S.Store c.load.new.self.registry =
     omega (arith, clean, c.check_and_finish.ensures.keep.clean) in
-    let said = c.in_ok-state.ensures.says h clean1 away ts bytes u w at in
+    let said = c.in_ok-loaded.ensures.says h clean1 away ts bytes u w at in
     let are : c.deref.result.now ≡ ts = c.deref.ensures.value ∙ said.1 in
     let laid : c.deref-2.result.now ≡ bytes = c.deref-2.ensures.value ∙ said.2 in
     let found = moved g.S.Store view size c.args.self.now.registry c.load.new.self.registry
@@ -117,8 +117,8 @@ returns-in_err-check_and_finish-clause-moments g c h clean away ts bytes u w at 
     c.deref.result.now are c.deref-2.result.now laid c.check_and_finish.new.self.shelf
     (c.check_and_finish.ensures.moments h1 away u w found said.0)
 
-pub returns-in_err-state-clause-leaves : goal.returns-in_err-state-clause-leaves
-returns-in_err-state-clause-leaves g c h clean away ts bytes u w at =
+pub returns-in_err-loaded-clause-leaves : goal.returns-in_err-loaded-clause-leaves
+returns-in_err-loaded-clause-leaves g c h clean away ts bytes u w at =
     let view = g.H.Shelf.view in
     let size = g.H.Shelf.size in
     let lawful = g.met.H.Shelf.lawful c.args.self.now.shelf h in
@@ -138,9 +138,9 @@ returns-clause-tells g c =
       there = λ clean t s ts bytes has of. (
           let clean1 : DiskKept g.S.Store c.load.new.self.registry =
           omega (arith, clean, c.check_and_finish.ensures.keep.clean) in
-          let said = c.in_ok-state.ensures.loaded clean1 t has in
-          let same = one_reading same_mirror same_component t c.in_ok-state.state s
-          c.in_ok-state.intents.items ts c.in_ok-state.bytes.items bytes said.0 of in
+          let said = c.in_ok-loaded.ensures.loaded clean1 t has in
+          let same = one_reading same_mirror same_component t c.in_ok-loaded.loaded.state s
+          c.in_ok-loaded.loaded.intents.items ts c.in_ok-loaded.loaded.bytes.items bytes said.0 of in
           absent_back _ _ _ _ _ _ _ same.0 (ap g.H.Shelf.size c.load.ensures.shelf)
           (c.deref.ensures.value ∙ same.1) c.in_ok-check_and_finish.ensures.there);
       absent = search rules;
@@ -156,9 +156,9 @@ returns-in_err-check_and_finish-clause-tells g c =
       absent = λ clean p is t s ts bytes has of. (
           let clean1 : DiskKept g.S.Store c.load.new.self.registry =
           omega (arith, clean, c.check_and_finish.ensures.keep.clean) in
-          let said = c.in_ok-state.ensures.loaded clean1 t has in
-          let same = one_reading same_mirror same_component t c.in_ok-state.state s
-          c.in_ok-state.intents.items ts c.in_ok-state.bytes.items bytes said.0 of in
+          let said = c.in_ok-loaded.ensures.loaded clean1 t has in
+          let same = one_reading same_mirror same_component t c.in_ok-loaded.loaded.state s
+          c.in_ok-loaded.loaded.intents.items ts c.in_ok-loaded.loaded.bytes.items bytes said.0 of in
           let fault = fault_is c.from_residual-in_err-check_and_finish.result _ _
           c.from_residual-in_err-check_and_finish.ensures.1 is in
           absent_back _ _ _ _ _ _ _ same.0 (ap g.H.Shelf.size c.load.ensures.shelf)
@@ -168,9 +168,9 @@ returns-in_err-check_and_finish-clause-tells g c =
           let view = g.H.Shelf.view in
           let clean1 : DiskKept g.S.Store c.load.new.self.registry =
           omega (arith, clean, c.check_and_finish.ensures.keep.clean) in
-          let said = c.in_ok-state.ensures.loaded clean1 t has in
-          let of : AreTablesOf t c.in_ok-state.state c.deref.result.now c.deref-2.result.now =
-          subst₂ (λ (ts : List Intent) (b : List (List ℕ)). AreTablesOf t c.in_ok-state.state ts b)
+          let said = c.in_ok-loaded.ensures.loaded clean1 t has in
+          let of : AreTablesOf t c.in_ok-loaded.loaded.state c.deref.result.now c.deref-2.result.now =
+          subst₂ (λ (ts : List Intent) (b : List (List ℕ)). AreTablesOf t c.in_ok-loaded.loaded.state ts b)
           (sym c.deref.ensures.value) (sym c.deref-2.ensures.value) said.0 in
           let fault = fault_is c.from_residual-in_err-check_and_finish.result _ _
           c.from_residual-in_err-check_and_finish.ensures.1 is in
@@ -181,8 +181,8 @@ returns-in_err-check_and_finish-clause-tells g c =
       closed = search rules;
     }
 
-pub returns-in_err-state-clause-tells : goal.returns-in_err-state-clause-tells
-returns-in_err-state-clause-tells g c =
+pub returns-in_err-loaded-clause-tells : goal.returns-in_err-loaded-clause-tells
+returns-in_err-loaded-clause-tells g c =
     record {
       there = search rules;
       absent = search rules;
@@ -190,13 +190,13 @@ returns-in_err-state-clause-tells g c =
       unreadable = λ clean is. (
           let fault = fault_is c.from_residual.result _ _
           c.from_residual.ensures.1 is in
-          c.in_err-state.ensures.unreadable clean (ap Err fault));
+          c.in_err-loaded.ensures.unreadable clean (ap Err fault));
       closed = search rules;
     }
 
-pub returns-in_err-state-clause-store : goal.returns-in_err-state-clause-store
-returns-in_err-state-clause-store g c clean is t has =
-    c.in_err-state.ensures.store clean (ap Err (fault_is c.from_residual.result _ _
+pub returns-in_err-loaded-clause-store : goal.returns-in_err-loaded-clause-store
+returns-in_err-loaded-clause-store g c clean is t has =
+    c.in_err-loaded.ensures.store clean (ap Err (fault_is c.from_residual.result _ _
     c.from_residual.ensures.1 is)) (sees_registry (state g.S.Store c.args.self.now.registry) t has)
 
 pub returns-in_err-check_and_finish-clause-store :
@@ -210,4 +210,4 @@ returns-in_err-check_and_finish-clause-store g c clean is t has =
     (c.in_err-check_and_finish.ensures.store clean
     (ap Err (fault_is c.from_residual-in_err-check_and_finish.result _ _
     c.from_residual-in_err-check_and_finish.ensures.1 is)) t
-    (c.in_ok-state.ensures.loaded mid t has).1)
+    (c.in_ok-loaded.ensures.loaded mid t has).1)
