@@ -1,2 +1,4 @@
-pub mod Reports
-pub mod Statuses
+pub mod Ends
+pub mod Recoveries
+pub use Rattle.gm_process.specs.Statuses
+pub use Rattle.gm_reports.specs.Reports

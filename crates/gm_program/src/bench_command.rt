@@ -3,31 +3,21 @@
 ghost use Rattle.std.specs.Prelude.{◌≡◌, IfOk};
 ghost use Rattle.gm_bench.specs.Benches.{progress_of};
 ghost use Rattle.gm_bench.specs.Phases.{TakesCommands};
-ghost use Rattle.gm_program.specs.Reports.{MayEnd};
+ghost use Rattle.gm_program.specs.Ends.{MayEnd};
 
-use crate::audit::{audit_report, damage};
-use crate::batch::hand_in;
-use crate::exit::{Fault, Status};
-use crate::filling::fill_components;
 use crate::recover::recovered;
-use crate::scrub::scrub;
-use crate::serve::serve;
-use crate::show::{list_report, status_report};
-use crate::single::hand_in_one;
-use crate::streams::Streams;
 use gm_bench::Bench;
 use gm_command_line::Work;
+use gm_faults::Fault;
+use gm_filling::fill_components;
+use gm_handing_in::{hand_in, hand_in_one, serve};
+use gm_looking::{damage, scrub};
+use gm_process::{Status, Streams};
+use gm_reports::{Report, audit_report, list_report, status_report};
 use gm_shelf::Shelf;
 use sqlite::Alter;
 use std::alloc::Global;
 use std::io::{BufRead, Write};
-
-/// How the work ended, and the text that is still to be printed.
-#[derive(Drop)]
-pub struct Report {
-    pub status: Status,
-    pub text: String,
-}
 
 // That something was done, and all of it printed.
 fn told(alloc: Global, status: Status) -> Report
@@ -53,18 +43,18 @@ pub fn perform<S: Alter, H: Shelf, I: BufRead, O: Write, E: Write>(
 {
     let alloc = rt.alloc();
     match *work {
-        Work::Recover | Work::RecoverWithout { .. } => recovered(alloc, bench.redone()),
+        Work::Recover | Work::RecoverWithout { .. } => { Ok(recovered(alloc, bench.redone())?) }
         Work::Status(form) => {
             let state = bench.view(alloc)?;
-            status_report(alloc, &state, form)
+            Ok(status_report(alloc, &state, form)?)
         }
         Work::List(form) => {
             let state = bench.view(alloc)?;
-            list_report(alloc, &state, form)
+            Ok(list_report(alloc, &state, form)?)
         }
         Work::Audit(form) => {
             let names = bench.audit(alloc)?;
-            audit_report(alloc, &names, form)
+            Ok(audit_report(alloc, &names, form)?)
         }
         Work::Scrub(comparing) => scrub(rt, comparing, bench, streams),
         Work::Do { key, words } => {

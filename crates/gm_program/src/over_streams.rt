@@ -1,16 +1,13 @@
 //! All that the program does, over any streams.
 
-use crate::dump::dump;
-use crate::environment::Environment;
-use crate::exit::{Fault, Status};
-use crate::explain::explain_fault;
-use crate::looking::{look_at, show_pending, show_pending_at};
-use crate::place::{Place, work_at};
-use crate::streams::Streams;
-use crate::taste::taste_folder;
+use crate::place::work_at;
 use clap::Error;
 use clap::error::ErrorKind;
 use gm_command_line::{Job, Work, job_of};
+use gm_dump::dump;
+use gm_faults::{Fault, explain_fault};
+use gm_looking::{look_at, show_pending, show_pending_at, taste_folder};
+use gm_process::{Environment, Place, Status, Streams};
 use std::io::{BufRead, Write};
 
 // Prints what clap has to say, on the stream where it belongs.
@@ -44,7 +41,7 @@ fn perform<I: BufRead, O: Write, E: Write>(
             folder,
             provider,
             form,
-        } => dump(rt, folder, provider, form, streams),
+        } => Ok(dump(rt, folder, provider, form, streams)?),
         Job::Taste { folder, form } => taste_folder(rt, folder, form, streams),
         Job::Pending {
             registry,

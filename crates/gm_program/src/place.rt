@@ -2,30 +2,24 @@
 //! which is opened and closed again.
 
 ghost use Rattle.std.specs.Prelude.{◌≡◌, false, IfOk};
-ghost use Rattle.gm_program.specs.Reports.{MayEnd, MayRefuse};
+ghost use Rattle.gm_process.specs.Statuses.{MayRefuse};
+ghost use Rattle.gm_program.specs.Ends.{MayEnd};
 
-use crate::bench_command::{Report, perform};
-use crate::exit::{Fault, Status};
-use crate::explain::explain_loss;
-use crate::held_folder::{HeldFolder, cause_of};
+use crate::bench_command::perform;
 use crate::recover::{recovered_without, refused_without};
-use crate::registry_files::{is_there, leave_out_registry, store_fault};
-use crate::streams::Streams;
 use gm_bench::{Bench, BenchFault, Without};
 use gm_command_line::Work;
+use gm_faults::{Fault, explain_loss};
 use gm_metadata::Label;
+use gm_process::{HeldFolder, Place, Status, Streams, cause_of};
+use gm_registry::StoreFault;
+use gm_registry_files::{is_there, leave_out_registry};
+use gm_reports::Report;
 use gm_shelf::FileShelf;
 use sqlite::{Alter, Connection, FileStore};
 use sqlite_disk::Disk;
 use std::alloc::Global;
 use std::io::{BufRead, Write};
-
-/// The paths of a registry, and of the folder with the images that it keeps record of.
-#[derive(Clone, Copy)]
-pub struct Place<'a> {
-    pub registry: &'a str,
-    pub folder: &'a str,
-}
 
 // Opens a bench without a provider, and gives its store back with what is told of that.
 fn without<S: Alter + Drop, I, O, E: Write>(
@@ -43,11 +37,12 @@ fn without<S: Alter + Drop, I, O, E: Write>(
         Ok(Without::Opened { bench, answer }) => {
             let report = recovered_without(alloc, key, answer, bench.redone());
             let (store, _) = bench.close();
-            Ok((report, store))
+            Ok((report.map_err(Fault::from), store))
         }
         Ok(Without::Refused { why, store, .. }) => {
             explain_loss(alloc, streams, key, provider, why);
-            Ok((refused_without(alloc, key, why), store))
+            let report = refused_without(alloc, key, why);
+            Ok((report.map_err(Fault::from), store))
         }
         Err(e) => {
             streams.explaining.failure = e.shelf.last_failure();
@@ -114,7 +109,7 @@ fn at_files<D: Disk + Drop, I: BufRead, O: Write, E: Write>(
     ensures { IfOk result (λ report. MayEnd work.now report.status) }
 {
     let (report, store) = at_bench(rt, store, shelf, work, streams)?;
-    let closed = store.close().map_err(store_fault);
+    let closed = store.close().map_err(StoreFault::from);
     let report = report?;
     closed?;
     Ok(report)
@@ -131,7 +126,7 @@ fn report_of<I: BufRead, O: Write, E: Write>(
     ensures { IfOk result (λ report. MayEnd work.now report.status) }
 {
     let was_there = is_there(rt, registry);
-    let store = Connection::open(rt, registry).map_err(store_fault)?;
+    let store = Connection::open(rt, registry).map_err(StoreFault::from)?;
     leave_out_registry(rt, registry, &mut shelf)?;
     let report = at_files(rt, store, shelf, work, streams);
     if streams.explaining.wanted && !was_there && is_there(rt, registry) {

@@ -2,16 +2,17 @@
 //! without a provider.
 
 ghost use Rattle.std.specs.Prelude.{IfOk};
-ghost use Rattle.gm_program.specs.Reports.{IsDone, IsRefused, recovered_text, refused_text, without_text};
+ghost use Rattle.gm_reports.specs.Reports.{IsDone, IsRefused};
+ghost use Rattle.gm_program.specs.Recoveries.{recovered_text, refused_text, without_text};
 
-use crate::bench_command::Report;
-use crate::exit::{Fault, Status};
 use gm_bench::{Answer, LossRefusal};
 use gm_front::loss_text;
-use std::alloc::Global;
+use gm_process::Status;
+use gm_reports::Report;
+use std::alloc::{AllocError, Global};
 
 /// Says how many pending intents were carried out.
-pub fn recovered(alloc: Global, redone: u64) -> Result<Report, Fault>
+pub fn recovered(alloc: Global, redone: u64) -> Result<Report, AllocError>
     ensures { IfOk result (IsDone (recovered_text redone)) }
 {
     Ok(Report {
@@ -27,7 +28,7 @@ pub fn recovered_without(
     key: &str,
     answer: Answer,
     redone: u64,
-) -> Result<Report, Fault>
+) -> Result<Report, AllocError>
     ensures { IfOk result (IsDone (without_text key.now answer redone)) }
 {
     let mut text = loss_text(alloc, key, Ok(answer))?;
@@ -39,7 +40,7 @@ pub fn recovered_without(
 }
 
 /// Says why the loss is refused with which a bench was to be opened.
-pub fn refused_without(alloc: Global, key: &str, why: LossRefusal) -> Result<Report, Fault>
+pub fn refused_without(alloc: Global, key: &str, why: LossRefusal) -> Result<Report, AllocError>
     ensures { IfOk result (IsRefused (refused_text key.now why)) }
 {
     Ok(Report {

@@ -1,6 +1,5 @@
 //! The sentences.
 
-use gm_bench::{BenchFault, LossRefusal};
 use gm_refusals::{CallRefusal, Refusal};
 use gm_shelf::Cause;
 
@@ -47,15 +46,6 @@ pub fn call_sentence(why: CallRefusal) -> &'static str {
     }
 }
 
-/// Why an opening without an image is refused.
-pub fn loss_sentence(why: LossRefusal) -> &'static str {
-    match why {
-        LossRefusal::ByCall(refusal) => call_sentence(refusal),
-        LossRefusal::OnlySource => "a pending copy takes from IMAGE and can take from nothing else",
-        LossRefusal::OnShelf => "IMAGE is on the shelf",
-    }
-}
-
 /// Why an image failed.
 pub fn cause_sentence(cause: Cause) -> &'static str {
     match cause {
@@ -66,17 +56,5 @@ pub fn cause_sentence(cause: Cause) -> &'static str {
         Cause::Full => "IMAGE is on a medium that is full",
         Cause::TooLong => "IMAGE is longer than the system lets this process write a file",
         Cause::Device => "IMAGE can't be read or written",
-    }
-}
-
-/// Why the bench failed.
-pub fn fault_sentence(fault: BenchFault) -> &'static str {
-    match fault {
-        BenchFault::Memory => "the system gave no more memory",
-        BenchFault::Store => "the registry isn't one, or can't be read or written",
-        BenchFault::Disk => "an image can't be read or written, or isn't the file that it was",
-        BenchFault::Closed => "an earlier fault ended this",
-        BenchFault::Absent(_) => "IMAGE isn't there in its size, and a write to it is pending",
-        BenchFault::Unreadable => "the registry has tables that gmbench doesn't write",
     }
 }

@@ -2,7 +2,8 @@
 
 use gm_bench::{Bench, Phase};
 use gm_command_line::Service;
-use gm_program::{Status, serve_connections};
+use gm_handing_in::serve_connections;
+use gm_process::Status;
 use gm_shelf::Shelf;
 use gm_test_bench::open;
 use gm_test_media::{memory, must, shelf};

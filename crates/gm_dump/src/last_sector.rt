@@ -1,0 +1,94 @@
+//! The command `dump`, which says what the last sector of an image says. No registry is opened, and
+//! nothing is written or held.
+
+use crate::refusal::DumpRefusal;
+use gm_command_line::Form;
+use gm_json::{decode_json, metadata_json};
+use gm_metadata::{Label, decode};
+use gm_process::{Failure, Status, Streams};
+use gm_refusals::{CallRefusal, Refusal};
+use gm_reports::as_line;
+use gm_sentences::{About, call_sentence};
+use gm_shelf::{FileShelf, Shelf};
+use gm_words::dump_text;
+use std::alloc::{AllocError, Global};
+use std::io::Write;
+
+// The last sector of a provider, or why there is none.
+fn last_sector<H: Shelf>(
+    shelf: &mut H,
+    provider: Label,
+) -> Result<Result<[u8; 512], DumpRefusal>, Failure> {
+    let Some(count) = shelf.sectors(provider) else {
+        return Ok(Err(DumpRefusal::Absent));
+    };
+    if count == 0 {
+        return Ok(Err(DumpRefusal::WrongSize));
+    }
+    let mut sector = [0; 512];
+    shelf.read(provider, count - 1, &mut sector)?;
+    Ok(Ok(sector))
+}
+
+// What a last sector says, as JSON.
+fn sector_json(alloc: Global, sector: &[u8; 512]) -> Result<String, AllocError> {
+    let text = match decode(sector) {
+        Ok(metadata) => metadata_json(alloc, &metadata)?,
+        Err(fault) => decode_json(alloc, fault)?,
+    };
+    as_line(text)
+}
+
+// Why the last sector of an image can't be printed.
+fn explain<I, O, E: Write>(
+    alloc: Global,
+    streams: &mut Streams<'_, I, O, E>,
+    image: Label,
+    why: DumpRefusal,
+) {
+    if !streams.explaining.wanted {
+        return;
+    }
+    let rule = match why {
+        DumpRefusal::Absent => Refusal::Absent,
+        DumpRefusal::WrongSize => Refusal::WrongSize,
+    };
+    let sentence = call_sentence(CallRefusal::ByRules(rule));
+    if let Ok(sentence) = About::image(image).sentence(alloc, sentence) {
+        let number = why.number();
+        let _ = writeln!(streams.complaints, "refused {number}: {sentence}");
+    }
+}
+
+/// Prints what the last sector of a provider says, or why there is none.
+pub fn dump<I, O: Write, E: Write>(
+    rt: &HostRuntime,
+    folder: &str,
+    provider: Label,
+    form: Form,
+    streams: &mut Streams<'_, I, O, E>,
+) -> Result<Status, Failure> {
+    let alloc = rt.alloc();
+    let mut shelf = FileShelf::look_at(rt, folder, &[provider])?;
+    let found = last_sector(&mut shelf, provider);
+    streams.explaining.failure = shelf.last_failure();
+    match found? {
+        Ok(sector) => {
+            let text = match form {
+                Form::Text => dump_text(alloc, &sector)?,
+                Form::Json => sector_json(alloc, &sector)?,
+            };
+            streams.output.write_all(text.as_bytes())?;
+            Ok(match decode(&sector) {
+                Ok(_) => Status::Done,
+                Err(_) => Status::Refused,
+            })
+        }
+        Err(refusal) => {
+            let number = refusal.number();
+            writeln!(streams.output, "refused {number}")?;
+            explain(alloc, streams, provider, refusal);
+            Ok(Status::Refused)
+        }
+    }
+}

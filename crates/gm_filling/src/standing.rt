@@ -1,0 +1,35 @@
+//! How components stand, in a line each.
+
+use gm_state::{Component, State, component_state};
+use gm_sync::Scope;
+use std::alloc::{AllocError, Global};
+
+// Adds the line of a component.
+fn push_standing(
+    text: &mut String,
+    state: &State,
+    component: &Component,
+) -> Result<(), AllocError> {
+    let mirror = component.mirror.as_str();
+    let provider = component.provider.as_str();
+    let standing = match component_state(state, component.provider) {
+        Some(standing) => standing.name(),
+        None => "",
+    };
+    writeln!(text, "{mirror} {provider} {standing}")
+}
+
+/// A line for each component that is meant.
+pub(crate) fn standing_text(
+    alloc: Global,
+    state: &State,
+    scope: &Scope,
+) -> Result<String, AllocError> {
+    let mut text = String::new(alloc);
+    for component in state.components() {
+        if scope.has(component) {
+            push_standing(&mut text, state, component)?;
+        }
+    }
+    Ok(text)
+}

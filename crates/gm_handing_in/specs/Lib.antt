@@ -1,0 +1,2 @@
+pub mod Ends
+pub use Rattle.gm_process.specs.Statuses

@@ -1,0 +1,145 @@
+//! Sentences on the complaints: why a command is refused.
+
+use gm_bench::Answer;
+use gm_commands::Command;
+use gm_front::{Listener, Outcome, pieces};
+use gm_metadata::Label;
+use gm_process::Explaining;
+use gm_refusals::{CallRefusal, Refusal};
+use gm_sentences::{About, Image, call_sentence, images_in_a_row};
+use gm_shelf::{FileShelf, Shelf};
+use gm_words::{read_words, words_complaint};
+use std::alloc::{AllocError, Global};
+use std::io::Write;
+use std::str;
+
+/// Explains refusals, where that is wanted. What can't be told isn't, and what it looks at it looks
+/// at by itself: the bench is asked nothing.
+#[derive(Drop)]
+pub(crate) struct Explainer<'a, E> {
+    rt: &'a HostRuntime,
+    complaints: &'a mut E,
+    explaining: &'a Explaining,
+}
+
+impl<'a, E: Write> Explainer<'a, E> {
+    pub(crate) fn new(
+        rt: &'a HostRuntime,
+        complaints: &'a mut E,
+        explaining: &'a Explaining,
+    ) -> Explainer<'a, E> {
+        Explainer {
+            rt,
+            complaints,
+            explaining,
+        }
+    }
+
+    // How many sectors an image has in the folder, as it is now.
+    fn sectors(&self, image: Label) -> Option<u64> {
+        let shelf = FileShelf::look_at(self.rt, self.explaining.folder.as_str(), &[image]).ok()?;
+        shelf.sectors(image)
+    }
+
+    // The first of these images that isn't in the folder.
+    fn first_absent(&self, images: &[Label]) -> Option<Label> {
+        for image in images {
+            if self.sectors(*image).is_none() {
+                return Some(*image);
+            }
+        }
+        None
+    }
+
+    // The image that isn't in the folder, of those that the command names.
+    fn absent_of(&self, command: &Command, about: &About) -> Option<Label> {
+        match &about.image {
+            Image::Unnamed => None,
+            Image::Named(image) => match self.sectors(*image) {
+                Some(_) => None,
+                None => Some(*image),
+            },
+            Image::OneOfSeveral => self.first_absent(images_in_a_row(command)),
+        }
+    }
+
+    // What a refusal is about, of that which the command names.
+    fn about(&self, command: &Command, why: &CallRefusal) -> About {
+        let about = About::command(command);
+        match why {
+            CallRefusal::ByRules(Refusal::Absent) => {}
+            _ => return about,
+        }
+        let image = match self.absent_of(command, &about) {
+            Some(image) => Image::Named(image),
+            None => Image::Unnamed,
+        };
+        about.with_image(image)
+    }
+
+    // Why these words are no command, or why the command is refused that they are.
+    fn sentence(&self, words: &[&str], why: Option<CallRefusal>) -> Result<String, AllocError> {
+        let alloc = self.rt.alloc();
+        match (read_words(alloc, words)?, why) {
+            (Ok(command), Some(why)) => {
+                let about = self.about(&command, &why);
+                about.sentence(alloc, call_sentence(why))
+            }
+            _ => words_complaint(alloc, words),
+        }
+    }
+
+    fn say(&mut self, key: &str, number: u8, sentence: &str) {
+        let _ = writeln!(self.complaints, "{key}: refused {number}: {sentence}");
+    }
+
+    /// Why the command of these words is refused under a key, by what it came to.
+    pub(crate) fn explain(&mut self, words: &[&str], outcome: &Outcome<'_>) {
+        if !self.explaining.wanted {
+            return;
+        }
+        let (key, number, why) = match *outcome {
+            Outcome::Wrong(key) => (key, 1, None),
+            Outcome::Answered(key, Answer::Refused(why)) => (key, why.number(), Some(why)),
+            _ => return,
+        };
+        if let Ok(sentence) = self.sentence(words, why) {
+            self.say(key, number, sentence.as_str());
+        }
+    }
+
+    // The same by a line, without its line feed; none where it has more than 131,072 bytes.
+    fn explain_line(
+        &mut self,
+        line: Option<&[u8]>,
+        outcome: &Outcome<'_>,
+    ) -> Result<(), AllocError> {
+        let Some(line) = line else {
+            self.say("?", 1, "the line has more than 131,072 bytes");
+            return Ok(());
+        };
+        let Ok(text) = str::from_utf8(line) else {
+            self.say("?", 1, "the line isn't UTF-8");
+            return Ok(());
+        };
+        if text.ends_with('\r') {
+            if let Outcome::Wrong(key) = *outcome {
+                self.say(key, 1, "the line ends with CR LF, not with LF alone");
+                return Ok(());
+            }
+        }
+        let pieces = pieces(self.rt.alloc(), text)?;
+        if let Some((_, words)) = pieces.as_slice().split_first() {
+            self.explain(words, outcome);
+        }
+        Ok(())
+    }
+}
+
+impl<E: Write> Listener for Explainer<'_, E> {
+    fn answered(&mut self, line: Option<&[u8]>, outcome: &Outcome<'_>) {
+        if self.explaining.wanted && outcome.is_refused() {
+            let _ = self.explain_line(line, outcome);
+        }
+    }
+}

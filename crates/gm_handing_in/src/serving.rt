@@ -1,0 +1,114 @@
+//! The command `serve`, which answers requests over HTTP, one connection after the other.
+
+ghost use Rattle.std.specs.Prelude.{◌≡◌, IfOk};
+ghost use Rattle.gm_bench.specs.Benches.{progress_of};
+ghost use Rattle.gm_bench.specs.Phases.{TakesCommands};
+ghost use Rattle.gm_process.specs.declared.status.Status.TheVariants.{Done};
+
+use gm_bench::{Bench, BenchFault};
+use gm_command_line::Service;
+use gm_connections::{Incoming, Outgoing, Told, end, write_line};
+use gm_faults::Fault;
+use gm_front::{FrontFault, Response, serve_request};
+use gm_process::{Status, Streams};
+use gm_shelf::Shelf;
+use sqlite::Alter;
+use std::io::{self, ErrorKind, Read, Write};
+use std::net::{Ipv4Addr, TcpListener, TcpStream};
+
+// Whether a connection was gone before it could be taken.
+fn is_gone(error: &io::Error) -> bool {
+    matches!(
+        error.kind(),
+        ErrorKind::Interrupted
+            | ErrorKind::ConnectionAborted
+            | ErrorKind::ConnectionReset
+            | ErrorKind::NetworkDown
+            | ErrorKind::NetworkUnreachable
+            | ErrorKind::HostUnreachable
+    )
+}
+
+// What is logged of a response, where all of it was written.
+fn told(response: Result<Response, FrontFault>) -> Option<Told> {
+    match response {
+        Ok(response) => Some(Told {
+            status: response.status.code(),
+            length: response.length,
+        }),
+        Err(_) => None,
+    }
+}
+
+// Serves a connection, and logs it where that is wanted. Whatever breaks of the connection itself
+// ends it alone; answers why the bench failed, where it did.
+fn serve_connection<S: Alter, H: Shelf, E: Write>(
+    rt: &HostRuntime,
+    stream: &TcpStream,
+    bench: &mut Bench<S, H>,
+    logs: bool,
+    log: &mut E,
+) -> Option<BenchFault>
+    requires { TakesCommands (progress_of bench.old) }
+    ensures { TakesCommands (progress_of bench.new) }
+{
+    let Ok(mut incoming) = Incoming::begin(rt, stream) else {
+        return None;
+    };
+    let mut outgoing = Outgoing::new(rt, stream);
+    let served = serve_request(rt.alloc(), &mut incoming, &mut outgoing, bench);
+    if logs {
+        write_line(rt, log, incoming.beginning(), told(served.response));
+    }
+    if served.response.is_ok() {
+        let _ = end(rt, stream);
+    }
+    served.fault
+}
+
+/// Serves so many connections of a listener, one after the other, and logs each where that is
+/// wanted. A bench that fails ends it.
+pub fn serve_connections<S: Alter, H: Shelf, E: Write>(
+    rt: &HostRuntime,
+    listener: &TcpListener,
+    service: Service,
+    bench: &mut Bench<S, H>,
+    log: &mut E,
+) -> Result<Status, Fault>
+    requires { TakesCommands (progress_of bench.old) }
+    ensures { IfOk result (λ status. status ≡ Done) }
+{
+    let mut left = service.count;
+    for taken in listener.incoming() {
+        let stream = match taken {
+            Ok(stream) => stream,
+            Err(error) if is_gone(&error) => continue,
+            Err(error) => return Err(Fault::from(error)),
+        };
+        if let Some(fault) = serve_connection(rt, &stream, bench, service.logs, log) {
+            return Err(Fault::Bench(fault));
+        }
+        left = left.saturating_sub(1);
+        if left == 0 {
+            break;
+        }
+    }
+    Ok(Status::Done)
+}
+
+/// Listens on 127.0.0.1, says on which port, and serves what comes.
+pub fn serve<S: Alter, H: Shelf, I: Read, O: Write, E: Write>(
+    rt: &HostRuntime,
+    service: Service,
+    bench: &mut Bench<S, H>,
+    streams: &mut Streams<'_, I, O, E>,
+) -> Result<Status, Fault>
+    requires { TakesCommands (progress_of bench.old) }
+    ensures { IfOk result (λ status. status ≡ Done) }
+{
+    let listener = TcpListener::bind(rt, (Ipv4Addr::LOCALHOST, service.port))?;
+    let port = listener.local_addr()?.port();
+    writeln!(streams.output, "listening on 127.0.0.1:{port}")?;
+    streams.output.flush()?;
+    serve_connections(rt, &listener, service, bench, streams.complaints)
+}

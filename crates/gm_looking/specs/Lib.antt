@@ -1,0 +1,3 @@
+pub mod Looks
+pub use Rattle.gm_process.specs.Statuses
+pub use Rattle.gm_reports.specs.Reports

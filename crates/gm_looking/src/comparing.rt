@@ -1,0 +1,90 @@
+//! The command `scrub`, which lists the components whose data aren't their mirror's.
+
+ghost use Rattle.std.specs.Prelude.{◌≡◌, length, IfOk};
+ghost use Rattle.gm_bench.specs.Benches.{progress_of};
+ghost use Rattle.gm_bench.specs.Phases.{TakesCommands};
+ghost use Rattle.gm_process.specs.Statuses.{MayRefuse, status_of_list};
+
+use gm_bench::{Bench, Flaw, Scrubbed};
+use gm_command_line::{Comparing, Form};
+use gm_faults::Fault;
+use gm_json::{Difference, scrub_json};
+use gm_metadata::Label;
+use gm_process::{Meter, Status, Streams};
+use gm_reports::{Report, as_line, no_mirror, refused};
+use gm_shelf::Shelf;
+use sqlite::Alter;
+use std::alloc::{AllocError, Global};
+use std::io::Write;
+
+// A line for each component.
+fn flaws_text(alloc: Global, found: &[Scrubbed]) -> Result<String, AllocError> {
+    let mut text = String::new(alloc);
+    for one in found {
+        let name = one.provider.as_str();
+        match one.flaw {
+            Flaw::Uncompared => writeln!(text, "{name} isn't compared")?,
+            Flaw::Differs { sectors, first } => {
+                writeln!(text, "{name} differs in {sectors} sectors, first {first}")?
+            }
+        }
+    }
+    Ok(text)
+}
+
+// The same as JSON.
+fn flaws_json(alloc: Global, found: &[Scrubbed]) -> Result<String, AllocError> {
+    let mut differ: Vec<Difference> = Vec::new(alloc);
+    let mut uncompared: Vec<Label> = Vec::new(alloc);
+    for one in found {
+        match one.flaw {
+            Flaw::Uncompared => uncompared.push(one.provider)?,
+            Flaw::Differs { sectors, first } => differ.push(Difference {
+                provider: one.provider,
+                sectors,
+                first,
+            })?,
+        }
+    }
+    scrub_json(alloc, &differ, &uncompared)
+}
+
+/// Says which components were found otherwise than their mirror.
+pub fn scrub_report(alloc: Global, found: &[Scrubbed], form: Form) -> Result<Report, AllocError>
+    ensures { IfOk result (λ report. report.status ≡ status_of_list (length found.now)) }
+{
+    let text = match form {
+        Form::Text => flaws_text(alloc, found)?,
+        Form::Json => as_line(flaws_json(alloc, found)?)?,
+    };
+    let status = if found.is_empty() {
+        Status::Done
+    } else {
+        Status::Refused
+    };
+    Ok(Report { status, text })
+}
+
+/// Compares the data of components, and says which aren't their mirror's.
+pub fn scrub<S: Alter, H: Shelf, I, O, E: Write>(
+    rt: &HostRuntime,
+    comparing: Comparing,
+    bench: &mut Bench<S, H>,
+    streams: &mut Streams<'_, I, O, E>,
+) -> Result<Report, Fault>
+    requires { TakesCommands (progress_of bench.old) }
+    ensures { IfOk result (λ report. MayRefuse report.status) }
+{
+    let alloc = rt.alloc();
+    if let Some(mirror) = comparing.mirror {
+        let state = bench.view(alloc)?;
+        if let Some(refusal) = no_mirror(&state, mirror) {
+            return Ok(refused(alloc, streams, refusal)?);
+        }
+    }
+    let style = streams.explaining.style(comparing.is_quiet);
+    let mut meter = Meter::new(rt, streams.complaints, style);
+    let found = bench.scrub(alloc, comparing.mirror, &mut meter);
+    meter.end();
+    Ok(scrub_report(alloc, &found?, comparing.form)?)
+}

@@ -1,0 +1,135 @@
+//! What is looked at without an opening: the command `pending`, and those that are to write
+//! nothing. A registry is shown as it stands, and what is pending in it stays pending.
+
+ghost use Rattle.std.specs.Prelude.{IfOk};
+ghost use Rattle.gm_pending.specs.Texts.{pending_text};
+ghost use Rattle.gm_reports.specs.Reports.{IsDone};
+ghost use Rattle.gm_looking.specs.Looks.{MayShow};
+
+use gm_bench::audit_shelf;
+use gm_command_line::Look;
+use gm_faults::Fault;
+use gm_pending::{pending_text, pending_text_on};
+use gm_process::{HeldFolder, Place, Status, Streams, cause_of};
+use gm_registry::Loaded;
+use gm_registry_files::{leave_out_registry, records_of};
+use gm_reports::{Report, audit_report, list_report, status_report};
+use gm_shelf::{FileShelf, Shelf};
+use gm_state::Intent;
+use std::alloc::Global;
+use std::io::Write;
+
+// What is pending, without the images.
+fn pending_report(alloc: Global, intents: &[Intent]) -> Result<Report, Fault>
+    ensures { IfOk result (IsDone (pending_text intents.now)) }
+{
+    Ok(Report {
+        status: Status::Done,
+        text: pending_text(alloc, intents)?,
+    })
+}
+
+// What is pending, and how the images stand to that.
+fn pending_report_on<H: Shelf>(
+    alloc: Global,
+    records: &Loaded,
+    shelf: &mut H,
+) -> Result<Report, Fault> {
+    Ok(Report {
+        status: Status::Done,
+        text: pending_text_on(alloc, &records.state, &records.intents, shelf)?,
+    })
+}
+
+// What is seen of the registry, or of the images beside it.
+fn look_report<H: Shelf>(
+    alloc: Global,
+    look: Look,
+    records: &Loaded,
+    shelf: &mut H,
+) -> Result<Report, Fault>
+    ensures { IfOk result (λ report. MayShow look report.status) }
+{
+    match look {
+        Look::Status(form) => Ok(status_report(alloc, &records.state, form)?),
+        Look::List(form) => Ok(list_report(alloc, &records.state, form)?),
+        Look::Audit(form) => {
+            let names = audit_shelf(alloc, shelf, &records.state)?;
+            Ok(audit_report(alloc, &names, form)?)
+        }
+    }
+}
+
+// Holds a folder beside others that look at its images, and tells why it can't.
+fn hold<I, O, E>(
+    rt: &HostRuntime,
+    folder: &str,
+    streams: &mut Streams<'_, I, O, E>,
+) -> Result<HeldFolder, Fault> {
+    match HeldFolder::share(rt, folder) {
+        Ok(held) => Ok(held),
+        Err(e) => {
+            streams.explaining.cause = cause_of(&e);
+            Err(Fault::from(e))
+        }
+    }
+}
+
+// The images of a place, to be read alone.
+fn images_at(rt: &HostRuntime, place: Place<'_>) -> Result<FileShelf<HostRuntime>, Fault> {
+    let names = FileShelf::open(rt, place.folder)?.names()?;
+    let mut shelf = FileShelf::look_at(rt, place.folder, &names)?;
+    leave_out_registry(rt, place.registry, &mut shelf)?;
+    Ok(shelf)
+}
+
+/// Prints what an opening of the registry would carry out.
+pub fn show_pending<I, O: Write, E>(
+    rt: &HostRuntime,
+    registry: &str,
+    streams: &mut Streams<'_, I, O, E>,
+) -> Result<Status, Fault> {
+    let records = records_of(rt, registry)?;
+    let report = pending_report(rt.alloc(), &records.intents)?;
+    streams.output.write_all(report.text.as_bytes())?;
+    Ok(report.status)
+}
+
+/// The same, with how the images of the folder stand to that.
+pub fn show_pending_at<I, O: Write, E>(
+    rt: &HostRuntime,
+    place: Place<'_>,
+    streams: &mut Streams<'_, I, O, E>,
+) -> Result<Status, Fault> {
+    let _held = hold(rt, place.folder, streams)?;
+    let records = records_of(rt, place.registry)?;
+    let mut shelf = images_at(rt, place)?;
+    let report = pending_report_on(rt.alloc(), &records, &mut shelf);
+    streams.explaining.failure = shelf.last_failure();
+    let report = report?;
+    streams.output.write_all(report.text.as_bytes())?;
+    Ok(report.status)
+}
+
+/// Prints what is looked at, and how many writes are pending, where any are.
+pub fn look_at<I, O: Write, E: Write>(
+    rt: &HostRuntime,
+    look: Look,
+    place: Place<'_>,
+    streams: &mut Streams<'_, I, O, E>,
+) -> Result<Status, Fault>
+    ensures { IfOk result (MayShow look) }
+{
+    let _held = hold(rt, place.folder, streams)?;
+    let records = records_of(rt, place.registry)?;
+    let mut shelf = images_at(rt, place)?;
+    let report = look_report(rt.alloc(), look, &records, &mut shelf);
+    streams.explaining.failure = shelf.last_failure();
+    let report = report?;
+    streams.output.write_all(report.text.as_bytes())?;
+    let pending = records.intents.len();
+    if pending > 0 {
+        writeln!(streams.complaints, "{pending} writes are pending")?;
+    }
+    Ok(report.status)
+}

@@ -1,0 +1,18 @@
+-- What is told of a recovery.
+use Rattle.std.specs.Prelude.{ℕ, ◌++◌, ◌∷◌, List, [], Ok, Err, codes}
+use Rattle.std.specs.Fmt.{decimal}
+use Rattle.gm_bench.specs.declared.answer.Answer.{Answer}
+use Rattle.gm_bench.specs.declared.loss.LossRefusal.{LossRefusal}
+use Rattle.gm_front.specs.Losses.{loss_line}
+
+-- the line of a recovery
+abbrev pub recovered_text : ℕ → List ℕ
+recovered_text redone = codes "recovered " ++ decimal redone ++ 10 ∷ []
+
+-- the lines of a recovery without a provider: what its loss is answered, and the recovery's own
+abbrev pub without_text : List ℕ → Answer → ℕ → List ℕ
+without_text key answer redone = loss_line key (Ok answer) ++ recovered_text redone
+
+-- the line of one that is refused
+abbrev pub refused_text : List ℕ → LossRefusal → List ℕ
+refused_text key why = loss_line key (Err why)

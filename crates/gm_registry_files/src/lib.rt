@@ -1,0 +1,12 @@
+//! The files of a registry, which may lie among the images, and a registry that is read without an
+//! opening.
+//!
+//! `registry_files.rt` knows which files are a registry's: its own, and those that SQLite puts
+//! beside it. `unopened.rt` reads them into memory, so that nothing is written.
+#![tactic(auto)]
+
+mod registry_files;
+mod unopened;
+
+pub use registry_files::{is_there, leave_out_registry};
+pub use unopened::records_of;

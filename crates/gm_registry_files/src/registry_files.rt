@@ -1,0 +1,55 @@
+//! The files of a registry: its own, and those that SQLite puts beside it.
+
+use gm_registry::StoreFault;
+use gm_shelf::{FileId, FileShelf};
+use std::fs;
+use std::io::{self, ErrorKind};
+
+// What SQLite appends to a database's name for the files that it puts beside it.
+const BESIDE: [&str; 3] = ["-wal", "-shm", "-journal"];
+
+// What is told of a registry's file, by what the system says of it.
+pub(crate) fn file_fault(error: io::Error) -> StoreFault {
+    match error.kind() {
+        ErrorKind::OutOfMemory => StoreFault::Memory,
+        _ => StoreFault::Store,
+    }
+}
+
+/// Whether there is a registry's file.
+pub fn is_there(rt: &HostRuntime, registry: &str) -> bool {
+    fs::symlink_metadata(rt, registry).is_ok()
+}
+
+// The files of a registry that is there: its own, by whatever path it is named, and those that
+// SQLite puts beside it.
+fn files_of(rt: &HostRuntime, registry: &str) -> io::Result<Vec<FileId>> {
+    let real = fs::canonicalize(rt, registry)?;
+    let mut files = Vec::new(rt.alloc());
+    files.push(FileId::of(&fs::metadata(rt, real.as_str())?))?;
+    for suffix in BESIDE {
+        let path = format!(in rt.alloc(); "{}{suffix}", real.as_str())?;
+        match fs::symlink_metadata(rt, path.as_str()) {
+            Ok(found) => files.push(FileId::of(&found))?,
+            Err(e) if e.kind() == ErrorKind::NotFound => {}
+            Err(e) => return Err(e),
+        }
+    }
+    Ok(files)
+}
+
+/// Leaves the files of a registry out of the images among which they may lie. `Store` if they can't
+/// be looked at.
+pub fn leave_out_registry(
+    rt: &HostRuntime,
+    registry: &str,
+    shelf: &mut FileShelf<HostRuntime>,
+) -> Result<(), StoreFault> {
+    match files_of(rt, registry) {
+        Ok(files) => {
+            shelf.leave_out(&files);
+            Ok(())
+        }
+        Err(e) => Err(file_fault(e)),
+    }
+}

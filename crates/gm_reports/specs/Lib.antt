@@ -1,0 +1,2 @@
+pub mod Reports
+pub use Rattle.gm_process.specs.Statuses
