@@ -1,6 +1,9 @@
 //! What is logged of a connection: a line with the time, the request's method and target as its
 //! first line has them, the status of the response, and how many bytes its body has.
 
+ghost use Rattle.std.specs.Prelude.{◌≡◌, true};
+ghost use Rattle.std.specs.Char.{is_ascii_graphic};
+
 use httpdate::HttpDate;
 use std::io::Write;
 use std::time::SystemTime;
@@ -12,9 +15,12 @@ fn time_now(rt: &HostRuntime) -> Option<[u8; 29]> {
     Some(HttpDate::from_unix_secs(since.as_secs()).ok()?.to_bytes())
 }
 
-// A byte of a word: none that a terminal acts upon.
-fn is_shown(byte: u8) -> bool {
-    byte.is_ascii_graphic()
+// A byte of a word as it is logged: none that a terminal acts upon.
+fn shown(byte: u8) -> u8
+    ensures graphic { is_ascii_graphic result ≡ true }
+    ensures same { is_ascii_graphic byte ≡ true → result ≡ byte }
+{
+    if byte.is_ascii_graphic() { byte } else { b'?' }
 }
 
 // Writes a word of the request, with `?` for what isn't shown; `-` where there is none.
@@ -25,8 +31,7 @@ fn write_word<W: Write>(log: &mut W, word: Option<&[u8]>) {
     };
     let _ = log.write_all(b" ");
     for byte in word {
-        let shown = if is_shown(*byte) { *byte } else { b'?' };
-        let _ = log.write_all(&[shown]);
+        let _ = log.write_all(&[shown(*byte)]);
     }
 }
 
