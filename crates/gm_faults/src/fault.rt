@@ -19,6 +19,7 @@ pub enum Fault {
 }
 
 impl Fault {
+    /// Want of memory.
     pub const MEMORY: Fault = Fault::Bench(BenchFault::Memory);
 }
 
@@ -81,6 +82,10 @@ impl From<StoreFault> for Fault {
 }
 
 impl From<Failure> for Fault {
+    ghost use Rattle.gm_faults.specs.Faults.{of_failure};
+
+    ghost from_gives = { λ cause fault. fault ≡ of_failure cause };
+
     fn from(cause: Failure) -> Self {
         match cause {
             Failure::Memory => Fault::MEMORY,

@@ -4,7 +4,7 @@ use gm_bench::{BenchFault, LossRefusal};
 use gm_sentences::call_sentence;
 
 /// Why an opening without an image is refused.
-pub fn loss_sentence(why: LossRefusal) -> &'static str {
+pub(crate) fn loss_sentence(why: LossRefusal) -> &'static str {
     match why {
         LossRefusal::ByCall(refusal) => call_sentence(refusal),
         LossRefusal::OnlySource => "a pending copy takes from IMAGE and can take from nothing else",
@@ -13,7 +13,7 @@ pub fn loss_sentence(why: LossRefusal) -> &'static str {
 }
 
 /// Why the bench failed.
-pub fn fault_sentence(fault: BenchFault) -> &'static str {
+pub(crate) fn fault_sentence(fault: BenchFault) -> &'static str {
     match fault {
         BenchFault::Memory => "the system gave no more memory",
         BenchFault::Store => "the registry isn't one, or can't be read or written",

@@ -37,6 +37,10 @@ impl From<io::Error> for Failure {
 }
 
 impl From<ShelfFault> for Failure {
+    ghost use Rattle.gm_process.specs.Failures.{of_shelf};
+
+    ghost from_gives = { λ cause failure. failure ≡ of_shelf cause };
+
     fn from(cause: ShelfFault) -> Self {
         match cause {
             ShelfFault::Memory => Failure::Memory,
