@@ -11,8 +11,6 @@ mod last_sector;
 mod said;
 mod standing;
 mod standings;
-#[cfg(test)]
-mod tests;
 mod text;
 mod text_on;
 

@@ -3,7 +3,8 @@
     crates.py TOP
 
 The proof of gm_bench is the longest, and what stands on it comes last. So a crate of the program stands on it only if it uses
-something of it, and one that does is small: those above it are proved side by side.
+something of it, and one that does is small: those above it are proved side by side. Tests are in crates of their own, which
+the program doesn't need.
 """
 
 import os
@@ -34,14 +35,14 @@ def all_below(crates, name):
     return found
 
 
-def text_of(top, name, *parts):
-    """What is written in these folders of a crate, without its tests."""
+def text_of(top, name, *parts, tests=False):
+    """What is written in these folders of a crate, with its tests or without."""
     texts = []
     for part in parts:
         for at, folders, files in os.walk(os.path.join(top, "crates", name, part)):
-            folders[:] = sorted(it for it in folders if it != "tests")
+            folders[:] = sorted(it for it in folders if tests or it != "tests")
             for it in sorted(files):
-                if it.endswith((".rt", ".antt")) and it != "tests.rt":
+                if it.endswith((".rt", ".antt")) and (tests or it != "tests.rt"):
                     with open(os.path.join(at, it), encoding="utf-8") as file:
                         texts.append(file.read())
     return "\n".join(texts)
@@ -58,6 +59,9 @@ def main(top):
         late = [it for it in below if order.index(it) > order.index(name)]
         tell(f"{name} is listed after the crates below it", late and f"{late[0]} comes later")
     program = all_below(crates, PROGRAM) | {PROGRAM}
+    for name in sorted(program):
+        has_tests = re.search(r"^\s*#\[test\]", text_of(top, name, "src", tests=True), re.M)
+        tell(f"{name} has no tests, which a build would prove", has_tests and "it has some")
     above = [it for it in order if it in program and BENCH in all_below(crates, it)]
     tell("some crates stand above the bench", None if above else "there are none")
     for name in above:

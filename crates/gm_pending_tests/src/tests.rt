@@ -1,8 +1,8 @@
 //! Every standing of each kind of image, and each line.
 
-use crate::{Standing, pending_text, pending_text_on, standing_of_cleared, standing_of_named};
 use gm_bench::BenchFault;
 use gm_metadata::{Balance, Label, MirrorFlags, encode};
+use gm_pending::{Standing, pending_text, pending_text_on, standing_of_cleared, standing_of_named};
 use gm_shelf::{FaultShelf, MemShelf, Shelf};
 use gm_state::{Component, Disk, Intent, Mirror, State, metadata};
 use std::process::Abort;
