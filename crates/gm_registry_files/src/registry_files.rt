@@ -1,5 +1,7 @@
 //! The files of a registry: its own, and those that SQLite puts beside it.
 
+ghost use Rattle.std.specs.Prelude.{◌≢◌, IfErr};
+
 use gm_registry::StoreFault;
 use gm_shelf::{FileId, FileShelf};
 use std::fs;
@@ -8,8 +10,11 @@ use std::io::{self, ErrorKind};
 // What SQLite appends to a database's name for the files that it puts beside it.
 const BESIDE: [&str; 3] = ["-wal", "-shm", "-journal"];
 
-// What is told of a registry's file, by what the system says of it.
-pub(crate) fn file_fault(error: io::Error) -> StoreFault {
+// What is told of a registry's file, by what the system says of it: never that its tables say no
+// state.
+pub(crate) fn file_fault(error: io::Error) -> StoreFault
+    ensures { result ≢ StoreFault.Unreadable }
+{
     match error.kind() {
         ErrorKind::OutOfMemory => StoreFault::Memory,
         _ => StoreFault::Store,
@@ -44,7 +49,9 @@ pub fn leave_out_registry(
     rt: &HostRuntime,
     registry: &str,
     shelf: &mut FileShelf<HostRuntime>,
-) -> Result<(), StoreFault> {
+) -> Result<(), StoreFault>
+    ensures { IfErr result (λ fault. fault ≢ StoreFault.Unreadable) }
+{
     match files_of(rt, registry) {
         Ok(files) => {
             shelf.leave_out(&files);

@@ -28,7 +28,7 @@ done
 mv "$here/crates/gmbench/src/lib.rt" "$here/crates/gmbench/src/main.rt"
 cat >"$work/path/rt" <<'END'
 #!/bin/sh
-# What a test wants of it lies in $notes: `fails.NAME`, `hangs.NAME`, `full`, `forgets`.
+# What a test wants of it lies in $notes: `slow`, `fails.NAME`, `hangs.NAME`, `full`, `forgets`, `unkept`.
 case $1 in
     help) [ -e "$notes/forgets" ] || echo 'rt ci --anew'; exit ;;
     version) echo stand-in; exit ;;
@@ -54,7 +54,7 @@ for name in ${*:-gmbench}; do
         echo "rt: $name NOT PROVED"
         exit 1
     fi
-    sleep 0.2
+    [ -e "$notes/slow" ] && sleep 2 || sleep 0.2
     echo "rt: $name proved"
 done
 [ $# -gt 0 ] || { mkdir -p crates/gmbench/out && echo "the program of $(cat crates/gmbench/src/main.rt)" >crates/gmbench/out/gmbench; }
@@ -113,7 +113,7 @@ expect_nothing_left() {
 if has_python 'builds'; then
     # ---- each crate is proved once those below it are, then all together
 
-    begin
+    begin slow
     build
     [ "$status" = 0 ] && pass 'a build' || fail 'a build' "status $status: $(head -n 3 "$work/complaints")"
     whole_lines "the program of //! gmbench" >"$work/wanted"
