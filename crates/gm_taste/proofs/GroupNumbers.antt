@@ -1,18 +1,10 @@
--- The numbers of a group, and what its list of members says.
-use Rattle.std.proofs.Common.{◌≡◌, ◌∙◌, ◌⊎◌, inl, inr, ⊎_elim, ℕ, ◌≤◌, Bool, true, false, ◌&&◌, nat_lt, cond, refl, sym, ap, subst, arith, List, [], ◌∷◌}
+-- The numbers of a group: the greatest of those that are meant.
+use Rattle.std.proofs.Common.{◌≡◌, ◌∙◌, ◌⊎◌, inl, inr, ⊎_elim, ℕ, ◌≤◌, Bool, true, false, ◌&&◌, nat_lt, cond, refl, sym, ap, arith, List, [], ◌∷◌}
 use Rattle.std.proofs.lemmas.Bool.{cases_Bool}
 use Rattle.std.proofs.lemmas.Bool.Decides.{nat_tests}
-use Rattle.gm_taste.specs.declared.groups.Key.{Key}
 use Rattle.gm_taste.specs.declared.groups.Taken.{Taken}
-use Rattle.gm_taste.specs.declared.tasted.Group.{Group}
 use Rattle.gm_lists.specs.Ordered.{Has}
-use Rattle.gm_taste.specs.Tasting.{raised, Made, key_of}
-use Rattle.gm_taste.proofs.Keys.{key_is}
-
--- the group of a key is the group of its own key
-pub made_own : (taken : List Taken) (k : Key) (g : Group) → Made taken k g → Made taken (key_of g) g
-made_own taken k g m =
-    subst (λ (j : Key). Made taken j g) (key_is k (key_of g) (sym m.name_is) (sym m.mid_is)) m
+use Rattle.gm_taste.specs.Tasting.{raised}
 
 -- ---- the greatest number of those that are meant
 

@@ -1,5 +1,5 @@
 -- What is made of the providers in order is what the definition says of them.
-use Rattle.std.proofs.Common.{◌≡◌, ◌∙◌, ⊎_elim, ℕ, true, ◌==◌, refl, sym, ap, ap₂, subst, arith, List, [], filter, map, Some, Result, Ok, Err}
+use Rattle.std.proofs.Common.{◌≡◌, ◌∙◌, ℕ, true, ◌==◌, refl, sym, ap, ap₂, subst, arith, List, filter, map, Some, Result, Ok, Err}
 use Rattle.std.specs.List.{filter_map}
 use Rattle.std.specs.List.Sorted.{IsPermutation, IsSortedByKey}
 use Rattle.std.specs.Ordering.{nat_cmp}
@@ -18,11 +18,11 @@ use Rattle.gm_taste.specs.declared.groups.Taken.{Taken}
 use Rattle.gm_lists.specs.Ordered.{label_lt, Has, AscendsBy, Ascends}
 use Rattle.gm_taste.specs.Verdicts.{verdict}
 use Rattle.gm_taste.specs.States.{state_of}
-use Rattle.gm_taste.specs.Tasted.{DistinctNames, SaysOf, IsLeftOut, IsMember, IsGreatest, IsGroup, IsTasted, group_lt}
-use Rattle.gm_taste.specs.Tasting.{taken_as, taken_by, left_as, left_by, key_lt, key_in, key_of, keys_from, is_of, member, Made}
-use Rattle.gm_lists.proofs.Lists.{Has-filter, filter-Has, AscendsBy-filter, Has-map, map-Has, AscendsBy-map, AscendsBy-unmap, Has-filter_map, filter_map-Has, AscendsBy-filter_map}
+use Rattle.gm_taste.specs.Tasted.{DistinctNames, SaysOf, IsLeftOut, IsMember, IsGreatest, IsGroup, IsTasted}
+use Rattle.gm_taste.specs.Tasting.{taken_as, taken_by, left_as, left_by, key_of, is_of, member, Made, Grouped}
+use Rattle.gm_lists.proofs.Lists.{Has-filter, filter-Has, AscendsBy-filter, Has-map, map-Has, AscendsBy-map, Has-filter_map, filter_map-Has, AscendsBy-filter_map}
 use Rattle.gm_lists.proofs.Sorting.{Has-permutation, sorted_ascends}
-use Rattle.gm_taste.proofs.Keys.{keys_ascend, keys_have, keys_are, is_of_tells, is_of_from}
+use Rattle.gm_taste.proofs.Keys.{is_of_tells, is_of_from}
 use Rattle.gm_taste.proofs.GroupNumbers.{bound, greatest}
 
 -- ---- one provider
@@ -102,7 +102,8 @@ equal_tells a b h = grind (arith, nat_tests)
 equal_holds : (a b : ℕ) → a ≡ b → (a == b) ≡ true
 equal_holds a b h = grind (arith, nat_tests)
 
-module _ (ps : List Provider) (g : Group) (made : Made (taken ps) (key_of g) g) where
+module _ (ps : List Provider) (g : Group)
+    (made : Made (filter (is_of (key_of g)) (taken ps)) g) where
   abbrev own : List Taken
   own = filter (is_of (key_of g)) (taken ps)
 
@@ -255,45 +256,27 @@ module _ (ps os : List Provider) (to : (p : Provider) → Has ps p → Has os p)
 
 module _ (ps os : List Provider) (t : Tasted) (ordered : Ascends (λ (p : Provider). p.name) os)
     (to : (p : Provider) → Has ps p → Has os p) (from : (p : Provider) → Has os p → Has ps p)
-    (keys : map key_of t.groups.items ≡ keys_from [] (taken os))
-    (made : (g : Group) → Has t.groups.items g → Made (taken os) (key_of g) g) where
-  has_one : (g : Group) → Has t.groups.items g
-      → (u : Taken) × Has (filter (is_of (key_of g)) (taken os)) u
-  has_one g h =
-      let k : Has (keys_from [] (taken os)) (key_of g) =
-      subst (λ (ks : List Key). Has ks (key_of g)) keys (map-Has key_of t.groups.items g h) in
-      ⊎_elim (λ (n : ⊥). absurd n)
-      (λ (r : (u : Taken) × Has (taken os) u × (key_in u ≡ key_of g)). (
-        r.0,
-        filter-Has (is_of (key_of g)) (taken os) r.0 r.1
-            (is_of_from (key_of g) r.0 (ap (λ (k : Key). k.name) r.2)
-            (ap (λ (k : Key). k.mid) r.2)),
-      ))
-      (keys_are [] (taken os) (key_of g) k)
-
+    (grouped : Grouped (taken os) t.groups.items) where
   groups_are : (g : Group) → Has t.groups.items g → IsGroup ps g
-  groups_are g h = let u = has_one g h in
-      group_from ps os to from g (is_group os g (made g h) ordered u.0 u.1)
+  groups_are g h =
+      let u = grouped.has_one g h in
+      let own : Has (filter (is_of (key_of g)) (taken os)) u.0 =
+      filter-Has (is_of (key_of g)) (taken os) u.0 u.1
+      (is_of_from (key_of g) u.0 (ap (λ (k : Key). k.name) u.2) (ap (λ (k : Key). k.mid) u.2)) in
+      group_from ps os to from g (is_group os g (grouped.made g h) ordered u.0 own)
 
   all_in_groups : (name : List ℕ) (m : Metadata) → SaysOf ps name m
       → (g : Group) × Has t.groups.items g × (g.name ≡ m.name) × (g.mid ≡ m.mid)
   all_in_groups name m s =
       let u : Taken = record { provider = name; metadata = m } in
-      let h : Has (taken os) u = says_taken os name m (says_to ps os to from name m s) in
-      let k : Has (map key_of t.groups.items) (key_in u) =
-      subst (λ (ks : List Key). Has ks (key_in u)) (sym keys) (keys_have [] (taken os) u h) in
-      let r = Has-map key_of t.groups.items (key_in u) k in
-      (r.0, r.1, ap (λ (j : Key). j.name) r.2, ap (λ (j : Key). j.mid) r.2)
-
-  groups_ascend : AscendsBy group_lt t.groups.items
-  groups_ascend = AscendsBy-unmap key_of key_lt t.groups.items
-      (subst (λ (ks : List Key). AscendsBy key_lt ks) (sym keys) (keys_ascend [] (taken os) tt))
+      let r = grouped.all_in_groups u (says_taken os name m (says_to ps os to from name m s)) in
+      (r.0, r.1, ap (λ (k : Key). k.name) r.2, ap (λ (k : Key). k.mid) r.2)
 
   pub is_tasted : t.left.items ≡ filter_map left_by os → IsTasted ps t
   is_tasted e = record {
     groups_are = groups_are;
     all_in_groups = all_in_groups;
-    groups_ascend = groups_ascend;
+    groups_ascend = grouped.ascend;
     left_are = λ x. (let l = left_from ps os to from x in (
       λ h. l.0 (subst (λ (xs : List LeftOut). Has xs x) e h),
       λ s. subst (λ (xs : List LeftOut). Has xs x) (sym e) (l.1 s),
@@ -306,11 +289,9 @@ module _ (ps os : List Provider) (t : Tasted) (ordered : Ascends (λ (p : Provid
 -- what is made of the providers that were sorted by name
 pub tasted : (ps os : List Provider) (t : Tasted) → IsPermutation ps os
     → IsSortedByKey (λ (p : Provider). p.name) (slice_cmp nat_cmp) os
-    → map key_of t.groups.items ≡ keys_from [] (filter_map taken_by os)
-    → ((g : Group) → Has t.groups.items g → Made (filter_map taken_by os) (key_of g) g)
+    → Grouped (filter_map taken_by os) t.groups.items
     → t.left.items ≡ filter_map left_by os → DistinctNames ps → IsTasted ps t
-tasted ps os t perm up keys made left distinct =
+tasted ps os t perm up grouped left distinct =
     let back = IsPermutation-sym ps os perm in
     is_tasted ps os t (sorted_ascends (λ (p : Provider). p.name) os ps up back distinct)
-    (λ p h. Has-permutation ps os p perm h) (λ p h. Has-permutation os ps p back h) keys made
-    left
+    (λ p h. Has-permutation ps os p perm h) (λ p h. Has-permutation os ps p back h) grouped left

@@ -10,7 +10,7 @@ use Rattle.gm_taste.specs.declared.tasted.Member.{Member}
 use Rattle.gm_taste.specs.declared.tasted.Group.{Group}
 use Rattle.gm_taste.specs.declared.groups.Taken.{Taken}
 use Rattle.gm_taste.specs.declared.groups.Key.{Key}
-use Rattle.gm_lists.specs.Ordered.{label_lt}
+use Rattle.gm_lists.specs.Ordered.{label_lt, Has, AscendsBy}
 use Rattle.gm_taste.specs.Verdicts.{verdict}
 use Rattle.gm_taste.specs.States.{state_of}
 
@@ -37,12 +37,6 @@ key_lt a b = label_lt a.name b.name || (same_label a.name b.name && nat_lt a.mid
 abbrev pub same_key : Key → Key → Bool
 same_key a b = same_label a.name b.name && (a.mid == b.mid)
 
--- with the key at its place, once
-abbrev pub put_key : Key → List Key → List Key
-put_key x [] = x ∷ []
-put_key x (y ∷ ys) =
-    if key_lt y x then y ∷ put_key x ys else (if same_key y x then y ∷ ys else x ∷ y ∷ ys)
-
 -- what tells the mirror of a taken provider, or of a group
 abbrev pub key_in : Taken → Key
 key_in t = record { name = t.metadata.name; mid = t.metadata.mid }
@@ -50,13 +44,8 @@ key_in t = record { name = t.metadata.name; mid = t.metadata.mid }
 abbrev pub key_of : Group → Key
 key_of g = record { name = g.name; mid = g.mid }
 
--- these keys and those of the taken
-abbrev pub keys_from : List Key → List Taken → List Key
-keys_from keys [] = keys
-keys_from keys (t ∷ ts) = keys_from (put_key (key_in t) keys) ts
-
 abbrev pub is_of : Key → Taken → Bool
-is_of k t = same_label t.metadata.name k.name && (t.metadata.mid == k.mid)
+is_of k t = same_key (key_in t) k
 
 -- the greatest of n and the numbers of those that are meant
 abbrev pub raised : (Taken → Bool) → (Taken → ℕ) → ℕ → List Taken → ℕ
@@ -77,10 +66,16 @@ member genid syncid t = record {
   state = state_of genid syncid t.metadata;
 }
 
--- the group of this key, made of the taken
-pub record Made (taken : List Taken) (k : Key) (g : Group) : Type 0 where
-  pub name_is : g.name ≡ k.name
-  pub mid_is : g.mid ≡ k.mid
-  pub genid_is : g.genid ≡ genid_in (filter (is_of k) taken)
-  pub syncid_is : g.syncid ≡ syncid_in g.genid (filter (is_of k) taken)
-  pub members_are : g.members.items ≡ map (member g.genid g.syncid) (filter (is_of k) taken)
+-- the numbers and the members of a group, made of its own
+pub record Made (own : List Taken) (g : Group) : Type 0 where
+  pub genid_is : g.genid ≡ genid_in own
+  pub syncid_is : g.syncid ≡ syncid_in g.genid own
+  pub members_are : g.members.items ≡ map (member g.genid g.syncid) own
+
+-- a group for each key of the taken, made of all that have it, in the order of keys
+pub record Grouped (taken : List Taken) (groups : List Group) : Type 0 where
+  pub has_one : (g : Group) → Has groups g → (t : Taken) × Has taken t × (key_in t ≡ key_of g)
+  pub made : (g : Group) → Has groups g → Made (filter (is_of (key_of g)) taken) g
+  pub all_in_groups : (t : Taken) → Has taken t
+      → (g : Group) × Has groups g × (key_of g ≡ key_in t)
+  pub ascend : AscendsBy (λ g h. key_lt (key_of g) (key_of h)) groups

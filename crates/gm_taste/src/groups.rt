@@ -1,9 +1,8 @@
 //! From the taken providers to the groups.
 
-ghost use Rattle.std.specs.Prelude.{◌≡◌, [], ◌≤◌, true, length, filter, map, IfOk, OnOk};
+ghost use Rattle.std.specs.Prelude.{◌≡◌, ◌≤◌, length, map, IfOk};
 ghost use Rattle.std.specs.List.{prefix_len};
-ghost use Rattle.gm_taste.specs.Tasting.{is_of, key_lt, same_key, put_key, keys_from, raised, genid_in, syncid_in, member, Made, key_of};
-ghost use Rattle.gm_lists.specs.Ordered.{Has};
+ghost use Rattle.gm_taste.specs.Tasting.{key_in, is_of, genid_in, syncid_in, member, key_of, Made, Grouped};
 
 use crate::member_states::state_of;
 use crate::tasted::{Group, Member};
@@ -17,72 +16,34 @@ pub struct Taken {
     pub metadata: Metadata,
 }
 
-// What tells mirrors apart.
-#[derive(Clone, Copy)]
+// What tells mirrors apart. They go by name, and then by mid.
+#[derive(Clone, Copy, PartialEq, Eq, PartialOrd, Ord)]
 pub(crate) struct Key {
     name: Label,
     mid: u32,
 }
 
-fn key_lt(a: &Key, b: &Key) -> bool
-    ensures { result ≡ key_lt a.now b.now }
+fn key_in(taken: &Taken) -> Key
+    ensures { result ≡ key_in taken.now }
 {
-    a.name < b.name || a.name == b.name && a.mid < b.mid
-}
-
-fn same_key(a: &Key, b: &Key) -> bool
-    ensures { result ≡ same_key a.now b.now }
-{
-    a.name == b.name && a.mid == b.mid
-}
-
-fn place_of(keys: &[Key], key: &Key) -> usize
-    ensures value { result ≡ prefix_len (λ k. key_lt k key.now) keys.now }
-    ensures within { result ≤ length keys.now }
-{
-    keys.iter().take_while(|k| key_lt(k, key)).count()
-}
-
-// Puts the key at its place, unless it is there.
-fn put_key(keys: &mut Vec<Key>, key: Key) -> Result<(), AllocError>
-    ensures { OnOk result (keys.new.items ≡ put_key key keys.old.items) }
-{
-    let at = place_of(keys, &key);
-    if at < keys.len() && same_key(&keys[at], &key) {
-        return Ok(());
+    Key {
+        name: taken.metadata.name,
+        mid: taken.metadata.mid,
     }
-    keys.insert(at, key)?;
-    Ok(())
-}
-
-fn keys_of(alloc: Global, taken: &[Taken]) -> Result<Vec<Key>, AllocError>
-    ensures { IfOk result (λ v. v.items ≡ keys_from [] taken.now) }
-{
-    let mut keys = Vec::new(alloc);
-    for t in taken {
-        let key = Key {
-            name: t.metadata.name,
-            mid: t.metadata.mid,
-        };
-        put_key(&mut keys, key)?;
-    }
-    Ok(keys)
 }
 
 fn is_of(key: &Key, taken: &Taken) -> bool
     ensures { result ≡ is_of key.now taken.now }
 {
-    taken.metadata.name == key.name && taken.metadata.mid == key.mid
+    key_in(taken) == *key
 }
 
-fn own_of(alloc: Global, taken: &[Taken], key: &Key) -> Result<Vec<Taken>, AllocError>
-    ensures { IfOk result (λ v. v.items ≡ filter (is_of key.now) taken.now) }
+// How many of the key stand first.
+fn run_of(key: &Key, taken: &[Taken]) -> usize
+    ensures value { result ≡ prefix_len (is_of key.now) taken.now }
+    ensures within { result ≤ length taken.now }
 {
-    taken
-        .iter()
-        .copied()
-        .filter(|t| is_of(key, t))
-        .collect(alloc)
+    taken.iter().take_while(|t| is_of(key, t)).count()
 }
 
 fn genid_in(own: &[Taken]) -> u32
@@ -135,13 +96,14 @@ fn members_of(
     Ok(members)
 }
 
-fn group_of(alloc: Global, taken: &[Taken], key: &Key) -> Result<Group, AllocError>
-    ensures { IfOk result (λ g. Made taken.now key.now g) }
+// The group of the key, made of those that have it.
+fn group_of(alloc: Global, key: &Key, own: &[Taken]) -> Result<Group, AllocError>
+    ensures key { IfOk result (λ g. key_of g ≡ key.now) }
+    ensures made { IfOk result (λ g. Made own.now g) }
 {
-    let own = own_of(alloc, taken, key)?;
-    let genid = genid_in(&own);
-    let syncid = syncid_in(&own, genid);
-    let members = members_of(alloc, &own, genid, syncid)?;
+    let genid = genid_in(own);
+    let syncid = syncid_in(own, genid);
+    let members = members_of(alloc, own, genid, syncid)?;
     Ok(Group {
         name: key.name,
         mid: key.mid,
@@ -151,15 +113,19 @@ fn group_of(alloc: Global, taken: &[Taken], key: &Key) -> Result<Group, AllocErr
     })
 }
 
-// The groups of the taken, in the order of their keys.
-pub(crate) fn groups_of(alloc: Global, taken: &[Taken]) -> Result<Vec<Group>, AllocError>
-    ensures keys { IfOk result (λ v. map key_of v.items ≡ keys_from [] taken.now) }
-    ensures made { IfOk result (λ v. (g : Group) → Has v.items g → Made taken.now (key_of g) g) }
+// The groups of the taken, in the order of their keys; in a group they keep their order. It takes a
+// sort and then one pass, however many keys there are.
+pub(crate) fn groups_of(alloc: Global, mut taken: Vec<Taken>) -> Result<Vec<Group>, AllocError>
+    ensures { IfOk result (λ v. Grouped taken.items v.items) }
 {
-    let keys = keys_of(alloc, taken)?;
+    taken.sort_by_key(|t| key_in(t))?;
     let mut groups = Vec::new(alloc);
-    for key in &keys {
-        groups.push(group_of(alloc, taken, key)?)?;
+    let mut rest = taken.as_slice();
+    while let Some(first) = rest.first() {
+        let key = key_in(first);
+        let (own, others) = rest.split_at(run_of(&key, rest));
+        groups.push(group_of(alloc, &key, own)?)?;
+        rest = others;
     }
     Ok(groups)
 }

@@ -60,6 +60,6 @@ pub fn taste(alloc: Global, providers: &[Provider]) -> Result<Tasted, AllocError
     ordered.sort_unstable_by_key(|p| p.name);
     let taken = taken_in(alloc, &ordered)?;
     let left = left_in(alloc, &ordered)?;
-    let groups = groups_of(alloc, &taken)?;
+    let groups = groups_of(alloc, taken)?;
     Ok(Tasted { groups, left })
 }

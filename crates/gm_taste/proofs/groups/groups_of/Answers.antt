@@ -1,29 +1,35 @@
-use Rattle.std.proofs.Common.{arith, ◌≡◌, ⊎_elim, subst, List, [], ◌∷◌, ◌++◌}
-use Rattle.std.proofs.lemmas.Grind.{common_steps}
-use Rattle.gm_taste.specs.declared.tasted.Group.{Group}
-use Rattle.gm_lists.specs.Ordered.{Has}
-use Rattle.gm_taste.specs.Tasting.{Made, key_of}
-use Rattle.gm_taste.proofs.Keys.{key_is}
-use Rattle.gm_lists.proofs.Lists.{Has-push}
-use Rattle.gm_taste.proofs.GroupNumbers.{made_own}
+use Rattle.std.proofs.Common.{rules, arith, subst, List, take}
+use Rattle.std.proofs.lemmas.List.Sorted.{answers_always}
+use Rattle.gm_taste.specs.declared.groups.Taken.{Taken}
+use Rattle.gm_taste.specs.Tasting.{key_in, Made}
+use Rattle.gm_taste.proofs.Grouping.{so_begun, so_more, run_some, so_ended}
 use Rattle.gm_taste.proofs.groups.groups_of.Goals as goal
 
-pub loop-key-preserved : goal.loop-key-preserved
-loop-key-preserved c =
-    let new = c.in_ok-group_of.field-0 in
-    let made : Made c.args.taken.now c.key-item.result new = c.in_ok-group_of.ensures in
-    let key : key_of new ≡ c.key-item.result =
-    key_is (key_of new) c.key-item.result made.name_is made.mid_is in
-    let own : Made c.args.taken.now (key_of new) new =
-    made_own c.args.taken.now c.key-item.result new made in
-    let pushed : c.push.new.self.items ≡ c.loop-key.groups.items ++ new ∷ [] =
-    c.in_ok-push.ensures.items in
-    record {
-      keys = grind (arith, common_steps, key, pushed);
-      made = λ g h.
-          let k : Has (c.loop-key.groups.items ++ new ∷ []) g =
-          subst (λ (gs : List Group). Has gs g) pushed h in
-          ⊎_elim (λ (m : Has c.loop-key.groups.items g). c.loop-key.invariant.made g m)
-          (λ (s : new ≡ g). subst (λ (w : Group). Made c.args.taken.now (key_of w) w) s own)
-          (Has-push c.loop-key.groups.items new g k);
-    }
+pub loop-first-init : goal.loop-first-init
+loop-first-init c =
+    let always = answers_always _ _ _ (λ f a r g h. search rules) in
+    rw (c.as_slice-rest.ensures.value, c.new-groups.ensures.items)
+    (so_begun c.args.taken.items c.sort_by_key.new.self.items
+    c.in_ok-sort_by_key.ensures.permutation (c.in_ok-sort_by_key.ensures.sorted key_in always)
+    (c.in_ok-sort_by_key.ensures.stable key_in always))
+
+pub loop-first-smaller : goal.loop-first-smaller
+loop-first-smaller c =
+    let some = run_some c.loop-first.rest.now c.in-Some.first.now c.key_in-key.result
+    c.run_of.result c.in-Some.ensures.value c.key_in-key.ensures c.run_of.ensures.value in
+    omega (arith, c.split_at.ensures.back_len, some)
+
+pub loop-first-preserved : goal.loop-first-preserved
+loop-first-preserved c =
+    let made : Made (take c.run_of.result c.loop-first.rest.now) c.in_ok-group_of.field-0 =
+    subst (λ (own : List Taken). Made own c.in_ok-group_of.field-0) c.split_at.ensures.front
+    c.in_ok-group_of.ensures.made in
+    rw (c.split_at.ensures.back, c.in_ok-push.ensures.items)
+    (so_more c.args.taken.items c.loop-first.rest.now c.loop-first.groups.items
+    c.in-Some.first.now c.key_in-key.result c.run_of.result c.in_ok-group_of.field-0
+    c.loop-first.invariant c.in-Some.ensures.value c.key_in-key.ensures c.run_of.ensures.value
+    c.in_ok-group_of.ensures.key made)
+
+pub returns : goal.returns
+returns c = so_ended c.args.taken.items c.loop-first.rest.now c.loop-first.groups.items
+    c.loop-first.invariant c.in_default.ensures.value

@@ -1,12 +1,10 @@
-use Rattle.std.proofs.Common.{rules, ◌≡◌, ◌∙◌, ap, subst, List, [], map}
+use Rattle.std.proofs.Common.{rules, ◌≡◌, ◌∙◌, ap, subst, List}
 use Rattle.std.proofs.lemmas.List.Sorted.{answers_always}
 use Rattle.std.specs.List.{filter_map}
 use Rattle.std.specs.List.Sorted.{IsPermutation}
 use Rattle.gm_taste.specs.declared.provider.Provider.{Provider}
-use Rattle.gm_taste.specs.declared.tasted.Group.{Group}
 use Rattle.gm_taste.specs.declared.groups.Taken.{Taken}
-use Rattle.gm_lists.specs.Ordered.{Has}
-use Rattle.gm_taste.specs.Tasting.{taken_by, left_by, key_of, keys_from, Made}
+use Rattle.gm_taste.specs.Tasting.{taken_by, left_by, Grouped}
 use Rattle.gm_taste.proofs.Outcome.{tasted}
 use Rattle.gm_taste.proofs.tasting.taste.Goals as goal
 
@@ -16,14 +14,11 @@ returns c =
     let perm : IsPermutation c.args.providers.now os =
     subst (λ (xs : List Provider). IsPermutation xs os) c.in_ok-ordered.ensures.items
     c.sort_unstable_by_key.ensures.permutation in
-    let taken : c.deref-3.result.now ≡ filter_map taken_by os =
-    c.deref-3.ensures.value
-    ∙ (c.in_ok-taken.ensures ∙ ap (filter_map taken_by) c.deref.ensures.value) in
+    let taken : c.in_ok-taken.taken.items ≡ filter_map taken_by os =
+    c.in_ok-taken.ensures ∙ ap (filter_map taken_by) c.deref.ensures.value in
     tasted c.args.providers.now os _ perm
     (c.sort_unstable_by_key.ensures.sorted (λ (p : Provider). p.name)
     (answers_always _ _ _ (λ f a r g h. search rules)))
-    (subst (λ (ts : List Taken). map key_of c.in_ok-groups.groups.items ≡ keys_from [] ts) taken
-    c.in_ok-groups.ensures.keys)
-    (subst (λ (ts : List Taken). (g : Group) → Has c.in_ok-groups.groups.items g
-    → Made ts (key_of g) g) taken c.in_ok-groups.ensures.made)
+    (subst (λ (ts : List Taken). Grouped ts c.in_ok-groups.groups.items) taken
+    c.in_ok-groups.ensures)
     (c.in_ok-left.ensures ∙ ap (filter_map left_by) c.deref-2.ensures.value)
