@@ -77,7 +77,7 @@ key_lt_trans a b c h k =
       | inr e ↦ absurd (true≢false (sym h ∙ key_order.chain a c b e (key_order.one_way b c k)))
     ]
 
--- ---- of two takens of one key neither goes before the other
+-- ---- of two that have one key, neither goes before the other
 
 abbrev pub taken_lt : Taken → Taken → Bool
 taken_lt t u = key_lt (key_in t) (key_in u)
