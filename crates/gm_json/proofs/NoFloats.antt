@@ -9,10 +9,11 @@ use Rattle.serde_json.specs.Written.{has_float, items_have_float}
 use Rattle.gm_taste.specs.declared.tasted.Member.{Member}
 use Rattle.gm_taste.specs.declared.tasted.Group.{Group}
 use Rattle.gm_taste.specs.declared.tasted.Tasted.{Tasted}
+use Rattle.gm_shelf.specs.declared.passed_over.PassedOver.{PassedOver}
 use Rattle.gm_json.specs.declared.audits.Difference.{Difference}
 use Rattle.gm_json.specs.Audits.{audit_data, difference_data, scrub_data}
 use Rattle.gm_json.specs.Mirrors.{component_data, list_data, mirror_data, standing_component, standing_mirror, status_data}
-use Rattle.gm_json.specs.Tastings.{filled_to, left_data, tasted_component, tasted_mirror, tasted_with, tasting_data}
+use Rattle.gm_json.specs.Tastings.{filled_to, left_data, passed_data, tasted_component, tasted_mirror, tasted_with, tasting_data}
 
 -- nor has a list of them
 none_of_each : {X : Type 0} (f : X → Data) (xs : List X) → ((x : X) → has_float (f x) ≡ false)
@@ -54,7 +55,9 @@ tasted_mirror_none : (g : Group) → has_float (tasted_mirror g) ≡ false
 tasted_mirror_none g =
     rw (none_of_each tasted_component g.members.items (λ x. tasted_with_none (filled_to x.state) x))
 
-pub tasting_none : (t : Tasted) → has_float (tasting_data t) ≡ false
-tasting_none t =
+pub tasting_none : (t : Tasted) (passed : List PassedOver)
+    → has_float (tasting_data t passed) ≡ false
+tasting_none t passed =
     rw (none_of_each left_data t.left.items (λ x. refl))
-    (rw (none_of_each tasted_mirror t.groups.items tasted_mirror_none))
+    (rw (none_of_each tasted_mirror t.groups.items tasted_mirror_none)
+    (rw (none_of_each passed_data passed (λ x. refl))))

@@ -1,11 +1,12 @@
 //! What gmbench says, as JSON: how the mirrors stand, what is known of them, what a last sector
-//! says, what is answered to a command, and what images show that were looked at.
+//! says, what is answered to a command, and what images show that were looked at, and what in their
+//! folder is no image.
 //!
 //! Each text is compact, with the keys of every object in byte order, and is the text that the
 //! library `serde_json` gives to a value. `specs/` says which value, key by key, as it is read:
 //! `Mirrors` of `mirrors.rt`, `Sectors` of `sectors.rt`, `Answers` of `answers.rt`, `Audits` of
 //! `audits.rt`, `Tastings` of `tastings.rt`, by the words of `Fields`. Nothing here knows of a
-//! registry, a shelf, a bench or a request.
+//! registry, a bench or a request, and of a shelf only what an entry is that it passes over.
 #![tactic(auto)]
 
 mod answers;

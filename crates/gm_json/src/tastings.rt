@@ -1,13 +1,15 @@
-//! What is told of images that were tasted.
+//! What is told of images that were tasted, and of what in their folder is none.
 
 ghost use Rattle.std.specs.Prelude.{◌≡◌, IfOk, map};
+ghost use Rattle.std.specs.List.{list_any};
 ghost use Rattle.std.specs.String.{string_bytes};
 ghost use Rattle.serde_json.specs.View.{items_of, items_view, view};
 ghost use Rattle.gm_json.specs.Sectors.{provider_name};
-ghost use Rattle.gm_json.specs.Tastings.{filled_to, left_data, reason_text, tasted_component, tasted_mirror, tasted_with, tasting_data, tasting_json};
+ghost use Rattle.gm_json.specs.Tastings.{filled_to, is_sure, left_data, passed_data, reason_text, tasted_component, tasted_mirror, tasted_with, tasting_data, tasting_json};
 
 use crate::text::{put_text, text_of};
 use gm_metadata::{DecodeFault, Label};
+use gm_shelf::PassedOver;
 use gm_taste::{Group, LeftOut, Member, MemberState, Reason, Tasted, source_of};
 use serde_json::{Map, Value, json, put};
 use std::alloc::{AllocError, Global};
@@ -26,11 +28,14 @@ fn component_with(alloc: Global, filled: Option<u64>, x: &Member) -> Result<Valu
     ensures { IfOk result (λ v. view v ≡ tasted_with filled x.now) }
 {
     let (name, state) = (x.provider.as_str(), x.state.name());
+    let dirty = x.metadata.dflags.dirty;
     match filled {
-        None => json!(in alloc; {"name": name, "state": state}),
+        None => json!(in alloc; {"dirty": dirty, "name": name, "state": state}),
         Some(offset) => {
             let (held, all) = (offset / 512, x.metadata.mediasize / 512);
-            json!(in alloc; {"copied": held, "name": name, "of": all, "state": state})
+            json!(in alloc; {
+                "copied": held, "dirty": dirty, "name": name, "of": all, "state": state
+            })
         }
     }
 }
@@ -62,10 +67,20 @@ fn source_name(source: &Option<Label>) -> &str
     }
 }
 
+// Whether one of them has the mirror's data for sure: it is ACTIVE, and doesn't say DIRTY.
+fn one_is_sure(members: &[Member]) -> bool
+    ensures { result ≡ list_any is_sure members.now }
+{
+    members
+        .iter()
+        .any(|x| x.state.is_active() && !x.metadata.dflags.dirty)
+}
+
 fn mirror_value(alloc: Global, group: &Group) -> Result<Value, AllocError>
     ensures { IfOk result (λ v. view v ≡ tasted_mirror group.now) }
 {
     let source = source_of(group);
+    let sure = one_is_sure(&group.members);
     let components = component_values(alloc, &group.members)?;
     let mut map = Map::new(alloc);
     put(&mut map, alloc, "components", Value::Array(components))?;
@@ -73,6 +88,7 @@ fn mirror_value(alloc: Global, group: &Group) -> Result<Value, AllocError>
     put(&mut map, alloc, "mid", Value::from(group.mid))?;
     put_text(&mut map, alloc, "name", group.name.as_str())?;
     put_text(&mut map, alloc, "source", source_name(&source))?;
+    put(&mut map, alloc, "sure", Value::from(sure))?;
     put(&mut map, alloc, "syncid", Value::from(group.syncid))?;
     Ok(Value::Object(map))
 }
@@ -122,20 +138,46 @@ fn left_values(alloc: Global, left: &[LeftOut]) -> Result<Vec<Value>, AllocError
     Ok(values)
 }
 
-fn tasting_value(alloc: Global, tasted: &Tasted) -> Result<Value, AllocError>
-    ensures { IfOk result (λ v. view v ≡ tasting_data tasted.now) }
+fn passed_value(alloc: Global, passed: &PassedOver) -> Result<Value, AllocError>
+    ensures { IfOk result (λ v. view v ≡ passed_data passed.now) }
+{
+    let reason = format!(in alloc; "{}", passed.reason)?;
+    let mut map = Map::new(alloc);
+    put_text(&mut map, alloc, "name", passed.name.as_str())?;
+    put_text(&mut map, alloc, "reason", reason.as_str())?;
+    Ok(Value::Object(map))
+}
+
+fn passed_values(alloc: Global, passed: &[PassedOver]) -> Result<Vec<Value>, AllocError>
+    ensures { IfOk result (λ vs. items_view vs.items ≡ items_of (map passed_data passed.now)) }
+{
+    let mut values = Vec::new(alloc);
+    for x in passed {
+        values.push(passed_value(alloc, x)?)?;
+    }
+    Ok(values)
+}
+
+fn tasting_value(alloc: Global, tasted: &Tasted, passed: &[PassedOver]) -> Result<Value, AllocError>
+    ensures { IfOk result (λ v. view v ≡ tasting_data tasted.now passed.now) }
 {
     let left = left_values(alloc, &tasted.left)?;
     let mirrors = mirror_values(alloc, &tasted.groups)?;
-    json!(in alloc; {"left_out": left, "mirrors": mirrors})
+    let passed = passed_values(alloc, passed)?;
+    json!(in alloc; {"left_out": left, "mirrors": mirrors, "passed_over": passed})
 }
 
 /// What the last sectors of images tell: each mirror with its components and the one that its data
-/// are taken from, which is empty where there is none; and the images that are left out, with the
-/// reasons. Of a component that is to be filled it tells also how many sectors of how many it has.
-pub fn tasting_json(alloc: Global, tasted: &Tasted) -> Result<String, AllocError>
-    ensures { IfOk result (λ text. string_bytes text ≡ tasting_json tasted.now) }
+/// are taken from, which is empty where there is none, and whether any is sure; the images that are
+/// left out, and the entries of the folder that aren't images, with the reasons. Of a component
+/// that is to be filled it tells also how many sectors of how many it has.
+pub fn tasting_json(
+    alloc: Global,
+    tasted: &Tasted,
+    passed: &[PassedOver],
+) -> Result<String, AllocError>
+    ensures { IfOk result (λ text. string_bytes text ≡ tasting_json tasted.now passed.now) }
 {
-    let value = tasting_value(alloc, tasted)?;
+    let value = tasting_value(alloc, tasted, passed)?;
     text_of(alloc, &value)
 }

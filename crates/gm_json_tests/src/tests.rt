@@ -5,6 +5,7 @@ use gm_json::{
     metadata_json, mirror_json, refused_json, repeated_json, scrub_json, status_json, tasting_json,
 };
 use gm_metadata::{Balance, DecodeFault, DiskFlags, Label, Metadata, MirrorFlags};
+use gm_shelf::{NoImage, PassedOver};
 use gm_state::{Component, Disk, Mirror, Reply, State, metadata};
 use gm_taste::{Group, LeftOut, Member, MemberState, Reason, Tasted};
 use std::alloc::AllocError;
@@ -70,17 +71,23 @@ const SCRUB: &str = concat!(
     r#"{"first":0,"name":"d.img","sectors":18446744073709551615}],"uncompared":["c.img"]}"#
 );
 
-// Two mirrors, the second without a source, and an image for each reason.
+// Three mirrors, the second without a source, and the third with one that isn't sure; an image for
+// each reason, and two entries that aren't images.
 const TASTING: &str = concat!(
     r#"{"left_out":[{"name":"f.img","reason":"fault 3"},"#,
     r#"{"name":"g.img","reason":"names another image"},"#,
     r#"{"name":"h.img","reason":"tells another size"},{"name":"k.img","reason":"no metadata"}],"#,
-    r#""mirrors":[{"components":[{"name":"a.img","state":"ACTIVE"},"#,
-    r#"{"copied":2,"name":"b.img","of":3,"state":"SYNCHRONIZING"}],"#,
-    r#""genid":5,"mid":7,"name":"gm0","source":"a.img","syncid":6},"#,
-    r#"{"components":[{"name":"c.img","state":"BROKEN"},{"name":"d.img","state":"INACTIVE"},"#,
-    r#"{"copied":0,"name":"e.img","of":3,"state":"STALE"}],"#,
-    r#""genid":5,"mid":8,"name":"gm1","source":"","syncid":6}]}"#
+    r#""mirrors":[{"components":[{"dirty":false,"name":"a.img","state":"ACTIVE"},"#,
+    r#"{"copied":2,"dirty":true,"name":"b.img","of":3,"state":"SYNCHRONIZING"}],"#,
+    r#""genid":5,"mid":7,"name":"gm0","source":"a.img","sure":true,"syncid":6},"#,
+    r#"{"components":[{"dirty":false,"name":"c.img","state":"BROKEN"},"#,
+    r#"{"dirty":false,"name":"d.img","state":"INACTIVE"},"#,
+    r#"{"copied":0,"dirty":false,"name":"e.img","of":3,"state":"STALE"}],"#,
+    r#""genid":5,"mid":8,"name":"gm1","source":"","sure":false,"syncid":6},"#,
+    r#"{"components":[{"dirty":true,"name":"l.img","state":"ACTIVE"}],"#,
+    r#""genid":5,"mid":9,"name":"gm2","source":"l.img","sure":false,"syncid":6}],"#,
+    r#""passed_over":[{"name":"bell\u0007","reason":"name with other characters"},"#,
+    "{\"name\":\"\u{e4}\",\"reason\":\"a link\"}]}"
 );
 
 // What fails ends a test at once, here and below: so a proof has no way out of each call to go
@@ -290,6 +297,12 @@ fn member(rt: &impl Abort, provider: &str, state: MemberState) -> Member {
     }
 }
 
+fn dirty(rt: &impl Abort, provider: &str, state: MemberState) -> Member {
+    let mut said = member(rt, provider, state);
+    said.metadata.dflags.dirty = true;
+    said
+}
+
 fn left_out(rt: &impl Abort, provider: &str, reason: Reason) -> LeftOut {
     LeftOut {
         provider: label(rt, provider),
@@ -300,7 +313,7 @@ fn left_out(rt: &impl Abort, provider: &str, reason: Reason) -> LeftOut {
 fn tasted(rt: &(impl Abort + AllocGlobal)) -> Tasted {
     let first = [
         member(rt, "a.img", MemberState::Active),
-        member(rt, "b.img", MemberState::Synchronizing(1024)),
+        dirty(rt, "b.img", MemberState::Synchronizing(1024)),
     ];
     let second = [
         member(rt, "c.img", MemberState::Broken),
@@ -313,10 +326,22 @@ fn tasted(rt: &(impl Abort + AllocGlobal)) -> Tasted {
         left_out(rt, "h.img", Reason::OtherSize),
         left_out(rt, "k.img", Reason::Decode(DecodeFault::Magic)),
     ];
-    let groups = vec![in rt.alloc(); group(rt, 7, "gm0", &first), group(rt, 8, "gm1", &second)];
+    let third = [dirty(rt, "l.img", MemberState::Active)];
+    let groups = vec![in rt.alloc();
+        group(rt, 7, "gm0", &first),
+        group(rt, 8, "gm1", &second),
+        group(rt, 9, "gm2", &third),
+    ];
     Tasted {
         groups: groups.expect(rt, "no memory"),
         left: left.to_vec(rt.alloc()).expect(rt, "no memory"),
+    }
+}
+
+fn passed(rt: &(impl Abort + AllocGlobal), name: &str, reason: NoImage) -> PassedOver {
+    PassedOver {
+        name: String::from_str(rt.alloc(), name).expect(rt, "no memory"),
+        reason,
     }
 }
 
@@ -326,9 +351,17 @@ fn images_that_were_tasted_are_told(rt: HostRuntime) {
         groups: Vec::new(rt.alloc()),
         left: Vec::new(rt.alloc()),
     };
-    let nothing = r#"{"left_out":[],"mirrors":[]}"#;
-    must_be(&rt, tasting_json(rt.alloc(), &none), nothing);
-    must_be(&rt, tasting_json(rt.alloc(), &tasted(&rt)), TASTING);
+    let nothing = r#"{"left_out":[],"mirrors":[],"passed_over":[]}"#;
+    must_be(&rt, tasting_json(rt.alloc(), &none, &[]), nothing);
+    let entries = [
+        passed(&rt, "bell\u{7}", NoImage::OtherCharacters),
+        passed(&rt, "\u{e4}", NoImage::Link),
+    ];
+    must_be(
+        &rt,
+        tasting_json(rt.alloc(), &tasted(&rt), &entries),
+        TASTING,
+    );
 }
 
 #[test]

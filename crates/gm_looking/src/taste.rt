@@ -4,12 +4,22 @@
 use gm_bench::taste_shelf;
 use gm_command_line::Form;
 use gm_faults::Fault;
+use gm_metadata::Label;
 use gm_process::{Status, Streams};
+use gm_registry_files::without_beside;
 use gm_reports::taste_report;
-use gm_shelf::{FileShelf, Shelf};
+use gm_shelf::{FileShelf, PassedOver, Shelf};
 use std::io::Write;
 
-/// Tastes the images of a folder, which are read alone, and prints what they tell.
+// What of a folder is passed over beside these images. What SQLite puts beside a database isn't
+// told: the folder may have a registry, of which nothing is known here.
+fn passed_over(rt: &HostRuntime, folder: &str, images: &[Label]) -> Result<Vec<PassedOver>, Fault> {
+    let passed = FileShelf::passed_over(rt, folder)?;
+    Ok(without_beside(rt.alloc(), images, passed)?)
+}
+
+/// Tastes the images of a folder, which are read alone, and prints what they tell, and what of the
+/// folder is no image.
 pub fn taste_folder<I, O: Write, E>(
     rt: &HostRuntime,
     folder: &str,
@@ -18,10 +28,11 @@ pub fn taste_folder<I, O: Write, E>(
 ) -> Result<Status, Fault> {
     let alloc = rt.alloc();
     let names = FileShelf::open(rt, folder)?.names()?;
+    let passed = passed_over(rt, folder, &names)?;
     let mut shelf = FileShelf::look_at(rt, folder, &names)?;
     let tasted = taste_shelf(alloc, &mut shelf);
     streams.explaining.failure = shelf.last_failure();
-    let report = taste_report(alloc, &tasted?, form)?;
+    let report = taste_report(alloc, &tasted?, &passed, form)?;
     streams.output.write_all(report.text.as_bytes())?;
     Ok(report.status)
 }

@@ -2,11 +2,14 @@
 //! opening.
 //!
 //! `registry_files.rt` knows which files are a registry's: its own, and those that SQLite puts
-//! beside it. `unopened.rt` reads them into memory, so that nothing is written.
+//! beside it, which `beside.rt` names. `unopened.rt` reads them into memory, so that nothing is
+//! written.
 #![tactic(auto)]
 
+mod beside;
 mod registry_files;
 mod unopened;
 
+pub use beside::without_beside;
 pub use registry_files::{is_there, leave_out_registry};
 pub use unopened::records_of;

@@ -2,13 +2,11 @@
 
 ghost use Rattle.std.specs.Prelude.{◌≢◌, IfErr};
 
+use crate::beside::BESIDE;
 use gm_registry::StoreFault;
 use gm_shelf::{FileId, FileShelf};
 use std::fs;
 use std::io::{self, ErrorKind};
-
-// What SQLite appends to a database's name for the files that it puts beside it.
-const BESIDE: [&str; 3] = ["-wal", "-shm", "-journal"];
 
 // What is told of a registry's file, by what the system says of it: never that its tables say no
 // state.

@@ -1,2 +1,3 @@
+pub mod PassedOver
 pub mod Reports
 pub use Rattle.gm_process.specs.Statuses

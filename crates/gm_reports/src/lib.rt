@@ -3,12 +3,14 @@
 //!
 //! `report.rt` says what a report is; `specs/Reports.antt` says when one is done or refused.
 //! `mirrors.rt` shows mirrors, `names.rt` lists components that are amiss, `tasting.rt` says what
-//! images tell, and `wanted.rt` that something isn't there that is named.
+//! images tell, with `passed_over.rt` for what beside them is none, and `wanted.rt` that something
+//! isn't there that is named.
 #![tactic(auto)]
 
 mod json_line;
 mod mirrors;
 mod names;
+mod passed_over;
 mod report;
 mod tasting;
 mod wanted;

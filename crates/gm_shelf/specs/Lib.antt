@@ -1,5 +1,6 @@
 pub mod Cache
 pub mod Disk
+pub mod Entries
 pub mod FaultShelves
 pub mod Faults
 pub mod FileFaults

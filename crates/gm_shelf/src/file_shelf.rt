@@ -11,6 +11,7 @@ use crate::fault::{ShelfFault, check_run, device_failed};
 use crate::file_id::FileId;
 use crate::folder_images::{ImageFile, Images, images_in, images_named, leave_out};
 use crate::open_files::{Access, OpenFiles};
+use crate::passed_over::{PassedOver, passed_over_in};
 use crate::provider_names::names_in;
 use crate::shelf::Shelf;
 use gm_metadata::Label;
@@ -46,6 +47,12 @@ impl<R: Files<File = File> + AllocGlobal + Clone + Drop> FileShelf<R> {
             failures: 0,
             last_failure: None,
         })
+    }
+
+    /// What lies in a folder beside its images, with the reasons, in byte order of names: each entry
+    /// that an opening skips. Fails where the folder can't be listed.
+    pub fn passed_over(rt: &R, folder: &str) -> io::Result<Vec<PassedOver>> {
+        passed_over_in(rt, folder)
     }
 
     /// Which image failed last, and why; None where none has failed. It stands beside the faults,

@@ -4,6 +4,7 @@ ghost use Rattle.std.specs.Prelude.{◌≡◌};
 ghost use Rattle.gm_shelf.specs.Folder.{images_but};
 
 use crate::file_id::FileId;
+use crate::no_image::length_of;
 use gm_metadata::Label;
 use std::alloc::Global;
 use std::collections::{BTreeMap, BTreeSet};
@@ -23,10 +24,7 @@ pub(crate) type Images = BTreeMap<Label, ImageFile>;
 
 // The image that something with these attributes is, where it is one.
 fn image_with(found: &Metadata) -> Option<ImageFile> {
-    let length = found.len();
-    if !found.is_file() || length % 512 != 0 {
-        return None;
-    }
+    let length = length_of(found).ok()?;
     Some(ImageFile {
         length,
         file: FileId::of(found),
@@ -97,15 +95,15 @@ pub(crate) fn leave_out(images: &mut Images, files: &[FileId])
     images.retain(|_, image| !files.contains(&image.file));
 }
 
-// The image of this name in a folder, where there is one.
-fn image_named<R: Files + AllocGlobal>(
+/// What has this name in a folder, where something has: its attributes, and no link's target's.
+pub(crate) fn found_as<R: Files + AllocGlobal>(
     rt: &R,
     folder: &str,
     name: Label,
-) -> io::Result<Option<ImageFile>> {
+) -> io::Result<Option<Metadata>> {
     let path = format!(in rt.alloc(); "{folder}/{name}")?;
     match fs::symlink_metadata(rt, path.as_str()) {
-        Ok(found) => Ok(image_with(&found)),
+        Ok(found) => Ok(Some(found)),
         Err(e) if e.kind() == ErrorKind::NotFound => Ok(None),
         Err(e) => Err(e),
     }
@@ -124,7 +122,7 @@ pub(crate) fn images_named<R: Files + AllocGlobal>(
     }
     let mut images = BTreeMap::new(rt.alloc());
     for name in names {
-        if let Some(image) = image_named(rt, folder, *name)? {
+        if let Some(image) = found_as(rt, folder, *name)?.and_then(|found| image_with(&found)) {
             images.insert(*name, image)?;
         }
     }

@@ -4,7 +4,8 @@
 //! Begin with `shelf.rt`, the trait `Shelf` and its law; `fault.rt` has the four faults and when
 //! each comes. `last_sector.rt` writes a last sector so that it is old or new at every moment.
 //! Three shelves keep to the law: `file_shelf.rt` is a folder of image files, of whose contents
-//! nothing is claimed (`folder_images.rt` lists them, `open_files.rt` opens them,
+//! nothing is claimed (`folder_images.rt` lists them, `passed_over.rt` what isn't one, by what
+//! `no_image.rt` says; `open_files.rt` opens them,
 //! `whole_transfers.rt` reads and writes them within `size_limit.rt`, `file_id.rt` tells which file
 //! a file is, and `failure.rt` why one fails); `mem_shelf.rt` is a disk in memory, of which
 //! `crash_image.rt` makes the images that a crash may leave; and `fault_shelf.rt` makes the calls
@@ -22,7 +23,9 @@ mod folder_images;
 mod history;
 mod last_sector;
 mod mem_shelf;
+mod no_image;
 mod open_files;
+mod passed_over;
 mod provider_names;
 mod shelf;
 mod size_limit;
@@ -36,5 +39,7 @@ pub use file_id::FileId;
 pub use file_shelf::FileShelf;
 pub use last_sector::{write_last, write_meta};
 pub use mem_shelf::MemShelf;
+pub use no_image::NoImage;
 pub use open_files::OPEN_FILES;
+pub use passed_over::{PassedOver, visible};
 pub use shelf::Shelf;

@@ -1,10 +1,12 @@
-//! `files.rt` tries the shelf over files, `memory.rt` the one in memory, `failing.rt` the one whose
-//! calls fail, and `faults.rt` the texts.
+//! `files.rt` tries the shelf over files, `passed_over.rt` what of a folder isn't an image,
+//! `memory.rt` the shelf in memory, `failing.rt` the one whose calls fail, and `faults.rt` the
+//! texts.
 
 mod failing;
 mod faults;
 mod files;
 mod memory;
+mod passed_over;
 
 use gm_metadata::Label;
 use std::process::Abort;

@@ -1,6 +1,7 @@
 -- The text of what the last sectors of images tell.
-use Rattle.std.specs.Prelude.{ℕ, ◌/◌, List, [], ◌∷◌, ◌++◌, codes, flat_map, if◌then◌else◌}
+use Rattle.std.specs.Prelude.{ℕ, ◌/◌, Bool, not, ◌&&◌, List, [], ◌∷◌, ◌++◌, codes, flat_map, Option, Some, None, if◌then◌else◌}
 use Rattle.std.specs.Fmt.{decimal}
+use Rattle.std.specs.List.{list_any}
 use Rattle.gm_metadata.specs.Faults.{fault_number}
 use Rattle.gm_taste.specs.declared.tasted.MemberState.{MemberState}
 use Rattle.gm_taste.specs.declared.tasted.MemberState.TheVariants.{Inactive, Broken, Stale, Synchronizing, Active}
@@ -11,9 +12,8 @@ use Rattle.gm_taste.specs.declared.tasted.Group.{Group}
 use Rattle.gm_taste.specs.declared.tasted.LeftOut.{LeftOut}
 use Rattle.gm_taste.specs.declared.tasted.Tasted.{Tasted}
 use Rattle.gm_taste.specs.Sources.{source_of}
-use Rattle.gm_taste.specs.States.{member_state_name}
+use Rattle.gm_taste.specs.States.{is_active, member_state_name}
 use Rattle.gm_taste.specs.Verdicts.{is_magic}
-use Rattle.gm_words.specs.Dump.{provider_name}
 use Rattle.gm_words.specs.Lines.{line, field, left_in_15}
 
 -- how many sectors of how many, both told in bytes
@@ -29,10 +29,17 @@ filled (Stale offset) mediasize = sectors_of offset mediasize
 filled (Synchronizing offset) mediasize = sectors_of offset mediasize
 filled Active mediasize = []
 
+-- of a member that says DIRTY
+abbrev pub dirty_mark : Bool → List ℕ
+dirty_mark dirty = if dirty then codes " DIRTY" else []
+
+-- how a member stands
+abbrev pub standing : Member → List ℕ
+standing x = codes " " ++ member_state_name x.state ++ filled x.state x.metadata.mediasize
+    ++ dirty_mark x.metadata.dflags.dirty
+
 abbrev pub member_line : Member → List ℕ
-member_line x =
-    line (codes "  " ++ left_in_15 x.provider ++ codes " " ++ member_state_name x.state
-    ++ filled x.state x.metadata.mediasize)
+member_line x = line (codes "  " ++ left_in_15 x.provider ++ standing x)
 
 -- a number behind its name
 abbrev pub named_number : List ℕ → ℕ → List ℕ
@@ -44,9 +51,24 @@ group_line g =
     ++ named_number (codes "genid") g.genid
     ++ named_number (codes "syncid") g.syncid)
 
--- the member that the data are taken from, or (none), which is no name
+-- it has the mirror's data for sure: it is ACTIVE, and doesn't say DIRTY
+abbrev pub is_sure : Member → Bool
+is_sure x = is_active x.state && not x.metadata.dflags.dirty
+
+-- a source, and that no member is sure where none is
+abbrev pub named_source : List ℕ → Bool → List ℕ
+named_source name sure =
+    if sure then name else name ++ codes ", but none is sure: each ACTIVE one is DIRTY"
+
+-- the same, or (none), which is no name
+abbrev pub source_text : Option (List ℕ) → Bool → List ℕ
+source_text (Some name) sure = named_source name sure
+source_text None sure = codes "(none)"
+
+-- the member that the data are taken from
 abbrev pub source_line : Group → List ℕ
-source_line g = field (codes "  source") (provider_name (source_of g))
+source_line g =
+    field (codes "  source") (source_text (source_of g) (list_any is_sure g.members.items))
 
 -- a mirror, below it its members, and its source
 abbrev pub group_block : Group → List ℕ

@@ -1,8 +1,10 @@
 //! The text of what the last sectors of images tell: the mirrors, and the images that are left out.
 
-ghost use Rattle.std.specs.Prelude.{◌≡◌, ◌++◌, IfOk, OnOk};
+ghost use Rattle.std.specs.Prelude.{◌≡◌, ◌++◌, codes, IfOk, OnOk};
+ghost use Rattle.std.specs.List.{list_any};
 ghost use Rattle.std.specs.String.{string_bytes};
-ghost use Rattle.gm_words.specs.Tasting.{filled, group_block, group_line, groups_text, left_line, left_text, member_line, named_number, reason_text, sectors_of, source_line, tasting_text};
+ghost use Rattle.gm_words.specs.Lines.{field};
+ghost use Rattle.gm_words.specs.Tasting.{dirty_mark, filled, group_block, group_line, groups_text, is_sure, left_line, left_text, member_line, named_number, named_source, reason_text, sectors_of, source_line, standing, tasting_text};
 
 use crate::lines::{push_field, push_left_in_15};
 use gm_metadata::DecodeFault;
@@ -32,17 +34,35 @@ fn push_filled(text: &mut String, state: MemberState, mediasize: u64) -> Result<
     }
 }
 
+// Appends that a member says DIRTY, where it does.
+fn push_dirty_mark(text: &mut String, dirty: bool) -> Result<(), AllocError>
+    ensures { OnOk result (string_bytes text.new ≡ string_bytes text.old ++ dirty_mark dirty) }
+{
+    if dirty {
+        text.push_str(" DIRTY")?;
+    }
+    Ok(())
+}
+
+// Appends how a member stands.
+fn push_standing(text: &mut String, member: &Member) -> Result<(), AllocError>
+    ensures { OnOk result (string_bytes text.new ≡ string_bytes text.old ++ standing member.now) }
+{
+    let state = member.state;
+    let state_name = state.name();
+    write!(text, " {state_name}")?;
+    push_filled(text, state, member.metadata.mediasize)?;
+    push_dirty_mark(text, member.metadata.dflags.dirty)
+}
+
 // Appends the line of a member.
 fn push_member_line(text: &mut String, member: &Member) -> Result<(), AllocError>
     ensures { OnOk result
         (string_bytes text.new ≡ string_bytes text.old ++ member_line member.now) }
 {
-    let state = member.state;
-    let state_name = state.name();
     text.push_str("  ")?;
     push_left_in_15(text, member.provider)?;
-    write!(text, " {state_name}")?;
-    push_filled(text, state, member.metadata.mediasize)?;
+    push_standing(text, member)?;
     text.push('\n')
 }
 
@@ -65,12 +85,36 @@ fn push_group_line(text: &mut String, group: &Group) -> Result<(), AllocError>
     text.push('\n')
 }
 
+// Whether one of them has the mirror's data for sure: it is ACTIVE, and doesn't say DIRTY.
+fn one_is_sure(members: &[Member]) -> bool
+    ensures { result ≡ list_any is_sure members.now }
+{
+    members
+        .iter()
+        .any(|x| x.state.is_active() && !x.metadata.dflags.dirty)
+}
+
+// Appends the line of a source.
+fn push_named_source(text: &mut String, name: &str, sure: bool) -> Result<(), AllocError>
+    ensures { OnOk result (string_bytes text.new
+        ≡ string_bytes text.old ++ field (codes "  source") (named_source name.now sure)) }
+{
+    if sure {
+        push_field(text, "  source", name)
+    } else {
+        writeln!(
+            text,
+            "  source: {name}, but none is sure: each ACTIVE one is DIRTY"
+        )
+    }
+}
+
 // Appends the line of the member that the data are taken from.
 fn push_source_line(text: &mut String, group: &Group) -> Result<(), AllocError>
     ensures { OnOk result (string_bytes text.new ≡ string_bytes text.old ++ source_line group.now) }
 {
     match source_of(group) {
-        Some(name) => push_field(text, "  source", name.as_str()),
+        Some(name) => push_named_source(text, name.as_str(), one_is_sure(&group.members)),
         None => push_field(text, "  source", "(none)"),
     }
 }
@@ -142,6 +186,7 @@ fn groups_text(alloc: Global, groups: &[Group]) -> Result<String, AllocError>
 
 /// What the last sectors of images tell: each mirror, below it its members and the one that its
 /// data are taken from, and last the images that are left out. `no mirrors` where there is none.
+/// A member that says DIRTY is marked, and where each ACTIVE one does, the source is no sure one.
 /// The form is this project's own.
 pub fn tasting_text(alloc: Global, tasted: &Tasted) -> Result<String, AllocError>
     ensures { IfOk result (λ text. string_bytes text ≡ tasting_text tasted.now) }

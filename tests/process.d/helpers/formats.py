@@ -156,10 +156,12 @@ def group_lines(name, mid, members):
     for provider, said in members:
         its, offset = state(said, genid, syncid)
         filled = "" if offset is None else f" {offset // 512} of {said['mediasize'] // 512}"
-        lines.append(f"  {provider.decode():<15} {its}{filled}")
+        dirty = said["dflags"] & 1
+        lines.append(f"  {provider.decode():<15} {its}{filled}{' DIRTY' if dirty else ''}")
         if its == "ACTIVE":
-            active.append((-said["priority"], provider))
-    lines.append(f"  source: {min(active)[1].decode() if active else '(none)'}")
+            active.append((-said["priority"], provider, dirty))
+    doubt = ", but none is sure: each ACTIVE one is DIRTY" if active and all(dirty for _, _, dirty in active) else ""
+    lines.append(f"  source: {min(active)[1].decode() if active else '(none)'}{doubt}")
     return lines
 
 

@@ -109,7 +109,7 @@ put_back_dirty() {
 put_back_dirty
 run taste --shelf "$bench/images"
 expect 'an image that says DIRTY is tasted by what else it says' 0 "$(lines \
-    'gm0             mid 7 genid 0 syncid 3\n  a.img           ACTIVE\n  b.img           ACTIVE\n  source: a.img')" ''
+    'gm0             mid 7 genid 0 syncid 3\n  a.img           ACTIVE\n  b.img           ACTIVE DIRTY\n  source: a.img')" ''
 batch 'k1 adopt gm0 a.img b.img\n'
 expect 'the mirror is adopted' 0 'k1 ok 1' ''
 expect_told 'DIRTY is gone' b.img 'gm0 7 2 2 0 3 0 4096 load 1536 0 NONE NONE (none) 2048'

@@ -27,7 +27,29 @@ if has_python 'what is printed as JSON'; then
     run dump --json --shelf "$bench/images" a.img
     expect_json 'a dump' 0 'j["name"], j["did"], j["all"], j["provsize"]' 'gm0 1 2 2048'
     run taste --json --shelf "$bench/images"
-    expect_json 'a taste' 0 'j["mirrors"][0]["source"], j["left_out"]' 'a.img []'
+    expect_json 'a taste' 0 'j["mirrors"][0]["source"], j["left_out"], j["passed_over"]' 'a.img [] []'
+    expect_json 'which images say DIRTY, and that one is sure' 0 \
+        '[(c["name"], c["dirty"]) for c in j["mirrors"][0]["components"]], j["mirrors"][0]["sure"]' \
+        "[('a.img', False), ('b.img', False)] True"
+    mkdir "$work/json-dirty"
+    put_edited "$work/json-dirty/a.img" a 87 '\001'
+    put_edited "$work/json-dirty/b.img" b 40 '\002' 71 '\000\002' 87 '\003'
+    run taste --json --shelf "$work/json-dirty"
+    expect_json 'a taste of images that say DIRTY' 0 'j["mirrors"][0]' \
+        "{'components': [{'dirty': True, 'name': 'a.img', 'state': 'ACTIVE'}, {'copied': 1, 'dirty': True, 'name': 'b.img', \
+'of': 3, 'state': 'SYNCHRONIZING'}], 'genid': 0, 'mid': 7, 'name': 'gm0', 'source': 'a.img', 'sure': False, 'syncid': 1}"
+    overwrite "$work/json-dirty/a.img" 87 '\011'
+    rehash "$work/json-dirty/a.img"
+    run taste --json --shelf "$work/json-dirty"
+    expect_json 'a taste without a source' 0 'j["mirrors"][0]["source"], j["mirrors"][0]["sure"]' ' False'
+    put_image "$work/json-dirty/two words" a bare
+    put_image "$work/json-dirty/$byte.img" a bare
+    put_image "$work/json-dirty/ä" a bare
+    ln -s a.img "$work/json-dirty/link"
+    run taste --json --shelf "$work/json-dirty"
+    expect_json 'what a taste passes over' 0 '[(x["name"].encode(), x["reason"]) for x in j["passed_over"]]' \
+        "[(b'link', 'a link'), (b'two words', 'name with other characters'), (b'\xc3\xa4', 'name with other characters'), \
+(b'?.img', 'name with other characters')]"
     damage "$bench/images/b.img" 1600 x
     at_bench audit --json
     expect_json 'an audit that lists one' 1 'j' "{'amiss': ['b.img']}"

@@ -26,15 +26,18 @@ images=$work/pairs
 mkdir "$images"
 expect_beside 'one that has the numbers of its mirror' <<'END'
 45 \001 49 \002|ACTIVE
-45 \001 49 \002 87 \001|ACTIVE
+45 \001 49 \002 87 \001|ACTIVE DIRTY
 45 \001 49 \002 71 \000\002|ACTIVE
 45 \001 49 \002 79 \001|ACTIVE
 45 \001 49 \002 71 \000\002 87 \002|SYNCHRONIZING 1 of 3
 45 \001 49 \002 71 \000\002 87 \006|SYNCHRONIZING 1 of 3
 45 \001 49 \002 71 \000\002 87 \002 79 \001|STALE 1 of 3
+45 \001 49 \002 71 \000\002 87 \003|SYNCHRONIZING 1 of 3 DIRTY
+45 \001 49 \002 71 \000\002 87 \003 79 \001|STALE 1 of 3 DIRTY
 45 \001 49 \002 71 \000\002 87 \006 79 \001|SYNCHRONIZING 1 of 3
 45 \001 49 \002 71 \377\003 87 \002|SYNCHRONIZING 1 of 3
 45 \001 49 \002 87 \010|INACTIVE
+45 \001 49 \002 87 \011|INACTIVE DIRTY
 END
 expect_beside 'one of a lower syncid begins anew, whatever offset it says' <<'END'
 45 \001 49 \001|SYNCHRONIZING 0 of 3
@@ -51,6 +54,7 @@ expect_beside 'one of a lower genid is broken, whatever syncid it says' <<'END'
 49 \011|BROKEN
 49 \011 71 \000\002 87 \002|BROKEN
 49 \002 79 \001|BROKEN
+49 \002 87 \001|BROKEN DIRTY
 END
 expect_beside 'one that is out of use is inactive, whatever else it says' <<'END'
 87 \010|INACTIVE
@@ -85,6 +89,20 @@ put_edited "$images/e.img" e 40 '\005' 49 '\002' 53 '\200'
 source_is 'a priority has no sign' e.img
 put_edited "$images/a.img" a 49 '\003' 87 '\010'
 source_is 'none that is behind is the source' '(none)'
+
+# Two images that are ACTIVE; the source says DIRTY, and then both do.
+images=$work/of-dirty
+mkdir "$images"
+put_edited "$images/a.img" a 87 '\001'
+put_edited "$images/b.img" b 40 '\002'
+source_is 'one that says DIRTY is the source, where another is sure' a.img
+put_edited "$images/b.img" b 40 '\002' 87 '\001'
+source_is 'each ACTIVE one says DIRTY' 'a.img, but none is sure: each ACTIVE one is DIRTY'
+put_edited "$images/c.img" c 40 '\003' 87 '\002'
+source_is 'one that is to be filled is not sure' 'a.img, but none is sure: each ACTIVE one is DIRTY'
+put_edited "$images/a.img" a 87 '\011'
+put_edited "$images/b.img" b 40 '\002' 87 '\011'
+source_is 'DIRTY beside no ACTIVE one' '(none)'
 
 # ---- which images are of one mirror
 

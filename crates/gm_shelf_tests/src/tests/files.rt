@@ -8,7 +8,11 @@ use std::process::Abort;
 use std::{env, fs, process};
 
 // An empty folder of its own for each test and each process.
-fn new_folder<R: Files + Env + AllocGlobal + Abort>(rt: &R, test: &str, id: u32) -> String {
+pub(super) fn new_folder<R: Files + Env + AllocGlobal + Abort>(
+    rt: &R,
+    test: &str,
+    id: u32,
+) -> String {
     let temp = env::temp_dir(rt).expect(rt, "no folder for temporary files");
     let base = temp.as_str();
     let folder = format!(in rt.alloc(); "{base}/gm_shelf-{test}-{id}").expect(rt, "no path");
@@ -19,11 +23,16 @@ fn new_folder<R: Files + Env + AllocGlobal + Abort>(rt: &R, test: &str, id: u32)
 // What follows ends a test where the file system fails, so that a proof has no way out of each
 // call to go through. It goes over any runtime and any shelf, so that the proof carries neither
 // what those of files are made of.
-fn path_in<R: AllocGlobal + Abort>(rt: &R, folder: &str, name: &str) -> String {
+pub(super) fn path_in<R: AllocGlobal + Abort>(rt: &R, folder: &str, name: &str) -> String {
     format!(in rt.alloc(); "{folder}/{name}").expect(rt, "no path")
 }
 
-fn put_file<R: Files + AllocGlobal + Abort>(rt: &R, folder: &str, name: &str, bytes: &[u8]) {
+pub(super) fn put_file<R: Files + AllocGlobal + Abort>(
+    rt: &R,
+    folder: &str,
+    name: &str,
+    bytes: &[u8],
+) {
     let path = path_in(rt, folder, name);
     fs::write(rt, path.as_str(), bytes).expect(rt, "not written");
 }
@@ -33,7 +42,7 @@ fn remove_file<R: Files + AllocGlobal + Abort>(rt: &R, folder: &str, name: &str)
     fs::remove_file(rt, path.as_str()).expect(rt, "not removed");
 }
 
-fn remove_folder<R: Files + AllocGlobal + Abort>(rt: &R, folder: &str) {
+pub(super) fn remove_folder<R: Files + AllocGlobal + Abort>(rt: &R, folder: &str) {
     fs::remove_dir_all(rt, folder).expect(rt, "not removed");
 }
 
