@@ -20,6 +20,7 @@ mod mirrors;
 mod open_store;
 mod part;
 mod patches;
+mod records;
 mod registry;
 mod replies;
 mod whole_tables;

@@ -6,6 +6,7 @@ mod first;
 mod loading;
 mod parts;
 mod patched;
+mod records;
 mod stops;
 mod stored;
 mod untouched;

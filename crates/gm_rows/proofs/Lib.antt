@@ -6,6 +6,7 @@ pub mod ListMembers
 pub mod NumberedRows
 pub mod ReorderedValues
 pub mod RowsSayRecords
+pub mod RowsSayState
 pub mod RowsSayTables
 pub mod ShownInOrder
 pub mod TypedRecords

@@ -80,6 +80,15 @@ pub record Say (f : Fetched) (s : Records) (ts : List Intent) (bytes : List (Lis
   pub readable : AreReadable s bytes ts
   pub commands : AreCommands f.commands.items
 
+-- The tables of mirrors and of components, whatever they were to hold, are those of a state: their
+-- columns say just these records.
+pub record RecordsSay (db : Trees) (s : Records) : Type 0 where
+  pub state : IsState s
+  pub mirrors : IsPermutation (map mirror_shown s.mirrors)
+      (map (columns_at (shown_places Mirrors)) (db 1))
+  pub components : IsPermutation (map component_shown s.components)
+      (map (columns_at (shown_places Components)) (db 4))
+
 -- The tables, whatever they were to hold, are those of a state and of intents and bytes that are
 -- readable for it: their columns say just these records, the commands count from 1 without gaps,
 -- and the numbers of replies are in range.

@@ -23,7 +23,7 @@ pub use fetched::{Fetched, Table};
 pub use read_column::{
     bytes_at, is_empty_at, is_number_at, is_text_at, label_at, text_at, u32_at, u64_at,
 };
-pub use said_state::{Loaded, is_about, judge};
+pub use said_state::{Loaded, is_about, judge, state_of_rows};
 pub use schema::{ABOUT, COMMANDS, COMPONENTS, INTENTS, MIRRORS, PATCHES};
 pub use shown::{Shown, read_all};
 pub use write_column::{balance_number, bytes_in, disk_number, mirror_number, truth_number};

@@ -67,7 +67,11 @@ pub fn is_about(rows: &[Row], schema_no: u64) -> bool
 }
 
 /// The state that the rows of mirrors and components say; `Unreadable` where they say none.
-fn read_state(alloc: Global, mirrors: &[Row], components: &[Row]) -> Result<State, StoreFault>
+pub fn state_of_rows(
+    alloc: Global,
+    mirrors: &[Row],
+    components: &[Row],
+) -> Result<State, StoreFault>
     ensures says { IfOk result (λ s. SayState mirrors.now components.now s) }
     ensures only { IfOk result (λ s. (other : Records) → SayState mirrors.now components.now other
         → other ≡ s) }
@@ -116,7 +120,7 @@ pub fn judge(alloc: Global, fetched: &Fetched) -> Result<Loaded, StoreFault>
     if !is_about(&fetched.about, 2) || !are_commands(&fetched.commands) {
         return Err(StoreFault::Unreadable);
     }
-    let state = read_state(alloc, &fetched.mirrors, &fetched.components)?;
+    let state = state_of_rows(alloc, &fetched.mirrors, &fetched.components)?;
     let intents: Vec<Intent> = read_all(alloc, &fetched.intents)?;
     let bytes = read_patches(alloc, &fetched.patches)?;
     if !are_readable(&state, &bytes, &intents) {
