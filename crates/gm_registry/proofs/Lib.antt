@@ -25,6 +25,7 @@ pub mod Keys
 pub mod LastCommand
 pub mod MadeTables
 pub mod MakingFails
+pub mod MirrorPart
 pub mod NumberedSteps
 pub mod OneReading
 pub mod OpenedConnection

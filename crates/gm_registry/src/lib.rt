@@ -16,6 +16,7 @@ mod edition;
 mod intents;
 mod laws;
 mod load;
+mod mirror_records;
 mod mirrors;
 mod open_store;
 mod part;

@@ -159,10 +159,14 @@ fn intents(rt: &impl Abort) -> [Intent; 3] {
 pub(super) fn must_be_the_records(rt: &impl Abort, state: &State) {
     must(rt, state.mirrors().len() == 3, "mirrors");
     must(rt, state.components().len() == 7, "components");
-    let mirror = state.mirror(label(rt, "gm0"));
-    must(rt, mirror == Some(gm0(rt)), "gm0");
+    must_be_gm0(rt, state);
     let component = state.component(label(rt, "b.img"));
     must(rt, component == Some(b_img(rt)), "b.img");
+}
+
+pub(super) fn must_be_gm0(rt: &impl Abort, state: &State) {
+    let mirror = state.mirror(label(rt, "gm0"));
+    must(rt, mirror == Some(gm0(rt)), "gm0");
 }
 
 // The registry says the rows, and no bytes to be laid.
