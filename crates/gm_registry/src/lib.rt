@@ -8,6 +8,7 @@
 
 mod accept;
 mod carry_over;
+mod command_numbers;
 mod commands;
 mod components;
 mod components_by_key;

@@ -7,6 +7,7 @@ mod loading;
 mod parts;
 mod patched;
 mod records;
+mod replies;
 mod stops;
 mod stored;
 mod untouched;

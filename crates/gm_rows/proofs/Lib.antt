@@ -1,5 +1,6 @@
 pub mod BlobSectors
 pub mod CountedCommands
+pub mod CountedNumbers
 pub mod FlagNumbers
 pub mod FoundLabels
 pub mod ListMembers

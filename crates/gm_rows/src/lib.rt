@@ -4,11 +4,13 @@
 //! Begin with `schema.rt`, the texts that make the tables, and `specs/Tables.antt`, what a store
 //! holds as five tables. `read_column.rt` and `write_column.rt` have the values of one column,
 //! `read_record.rt` reads a record from a row, and `shown.rt` the records of many. `fetched.rt` is
-//! what the queries of whole tables show, `said_state.rt` which state that says, if any;
+//! what the queries of whole tables show, `command_numbers.rt` how the commands are counted,
+//! `said_state.rt` which state all that says, if any;
 //! `specs/ReadableTables.antt` says which tables are readable. `fault.rt` has the faults of a
 //! store.
 #![tactic(auto)]
 
+mod command_numbers;
 mod fault;
 mod fetched;
 mod read_column;
@@ -18,6 +20,7 @@ mod schema;
 mod shown;
 mod write_column;
 
+pub use command_numbers::{CommandNumber, CommandNumbers};
 pub use fault::{StoreFault, readable};
 pub use fetched::{Fetched, Table};
 pub use read_column::{

@@ -59,7 +59,7 @@ pub(super) const RECORD_EDITS: [&str; 25] = [
 ];
 
 // Edits of the others that do.
-pub(super) const OTHER_EDITS: [&str; 17] = [
+pub(super) const OTHER_EDITS: [&str; 22] = [
     "UPDATE intents SET kind = 9 WHERE ord = 2",
     "UPDATE intents SET prov = 'y.img' WHERE ord = 2",
     "UPDATE intents SET prov = 'a.img' WHERE ord = 3",
@@ -75,7 +75,20 @@ pub(super) const OTHER_EDITS: [&str; 17] = [
     "INSERT INTO intents VALUES (4, 4, 'b.img', '', 0, 0); INSERT INTO intents VALUES (5, 1, 'b.img', '', 0, 0)",
     "DELETE FROM intents; INSERT INTO intents VALUES (1, 4, 'a.img', '', 0, 0); INSERT INTO intents VALUES (2, 5, 'a.img', '', 1, 2); INSERT INTO intents VALUES (3, 1, 'a.img', '', 0, 0)",
     "UPDATE commands SET seq = 4 WHERE seq = 3",
+    "UPDATE commands SET seq = 4 WHERE seq = 2",
+    "UPDATE commands SET seq = 0 WHERE seq = 2",
+    "UPDATE commands SET seq = -1 WHERE seq = 1",
+    "UPDATE commands SET seq = 100001 WHERE seq = 3",
+    "UPDATE commands SET seq = 9223372036854775807 WHERE seq = 3",
+    "DELETE FROM commands WHERE seq = 1",
+    "DELETE FROM commands WHERE seq = 2",
+];
+
+// Edits of replies. They leave the rows a state, since a loading doesn't read them.
+pub(super) const REPLY_EDITS: [&str; 4] = [
     "UPDATE commands SET copied = 1048577 WHERE seq = 3",
+    "UPDATE commands SET copied = -1 WHERE seq = 3",
+    "UPDATE commands SET of_total = 4294967295 WHERE seq = 3",
     "UPDATE commands SET of_total = -1 WHERE seq = 3",
 ];
 
