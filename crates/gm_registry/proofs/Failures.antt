@@ -20,7 +20,7 @@ use Rattle.gm_rows.specs.Schema.{registry_schema}
 use Rattle.gm_rows.specs.Statements.{find_command_text, last_command_text}
 use Rattle.gm_rows.specs.declared.fault.StoreFault.TheVariants.{Memory, Store}
 use Rattle.gm_rows.specs.declared.fetched.Table.{Table}
-use Rattle.gm_rows.specs.declared.fetched.Table.TheVariants.{About, Mirrors, Components, Intents, Commands, Patches}
+use Rattle.gm_rows.specs.declared.fetched.Table.TheVariants.{About, Mirrors, Components, Intents, Patches}
 use Rattle.sqlite.specs.Schema.{Schema}
 use Rattle.sqlite_rows.specs.Reads.{HasReadOver}
 use Rattle.sqlite_rows.proofs.Reading.{known_still}
@@ -51,7 +51,6 @@ ours_whole About = refl
 ours_whole Mirrors = refl
 ours_whole Components = refl
 ours_whole Intents = refl
-ours_whole Commands = refl
 ours_whole Patches = refl
 
 find_typed : (key : List ℕ) → accepts_program registry_schema [] find_query (Text key ∷ []) ≡ true
@@ -74,7 +73,6 @@ ours_typed About = refl
 ours_typed Mirrors = refl
 ours_typed Components = refl
 ours_typed Intents = refl
-ours_typed Commands = refl
 ours_typed Patches = refl
 
 -- over a schema that has its table a query is whole, and well typed
@@ -97,7 +95,6 @@ module _ (schema : Schema) where
   tables_fit Mirrors has = ours Mirrors has
   tables_fit Components has = ours Components has
   tables_fit Intents has = ours Intents has
-  tables_fit Commands has = ours Commands has
   tables_fit Patches has = ours Patches has
 
 pub never : (rows : List Row) → Any (λ _. ⊥) rows → ⊥

@@ -1,40 +1,38 @@
 -- A registry that was read as a state has tables of it.
-use Rattle.std.proofs.Common.{◌≡◌, ◌∙◌, inl, inr, ℕ, pos, ◌≤◌, true, List, [], ◌∷◌, map, length, refl, sym, ap, subst, subst₂}
+use Rattle.std.proofs.Common.{◌≡◌, ◌∙◌, inl, inr, ℕ, pos, ◌≤◌, arith, List, [], ◌∷◌, map, length, refl, sym, ap, subst, subst₂}
 use Rattle.std.specs.List.Sorted.{IsPermutation}
 use Rattle.std.proofs.lemmas.Bool.{and_parts}
 use Rattle.std.proofs.lemmas.List.{length-map}
-use Rattle.std.proofs.lemmas.List.Sorted.{IsPermutation-refl, IsPermutation-map, IsPermutation-sym}
+use Rattle.std.proofs.lemmas.List.Sorted.{IsPermutation-refl, IsPermutation-map}
 use Rattle.sqlite.specs.Order.{Row, column}
 use Rattle.sqlite.specs.Effect.{Database}
 use Rattle.sqlite.specs.Held.{Held}
 use Rattle.sqlite.specs.Tree.{Trees}
 use Rattle.sqlite.specs.declared.types.Value.TheVariants.{Int, Text}
 use Rattle.sqlite_catalog.specs.Listing.{IsSound}
-use Rattle.sqlite_rows.proofs.Keyed.{mapped_from, has_mapped}
+use Rattle.sqlite_rows.proofs.Keyed.{mapped_from}
 use Rattle.sqlite_rows.specs.Keeps.{Keeps, columns, whole}
 use Rattle.sqlite_rules.specs.Lists.{Has as Stands}
-use Rattle.sqlite_schema.specs.Rules.{are_typed}
 use Rattle.sqlite_trees.proofs.ListLemmas.{map-map}
 use Rattle.sqlite_trees.specs.declared.store.Store.{Ghosts}
-use Rattle.sqlite_value.specs.declared.value.Value.{Value}
 use Rattle.gm_state.specs.Records.{Records}
 use Rattle.gm_state.specs.Rows.{Tables, CommandRow, mirror_row, component_row, intent_rows, patch_rows}
 use Rattle.gm_lists.specs.Ordered.{Has}
 use Rattle.gm_state.specs.declared.intents.Intent.{Intent}
 use Rattle.gm_rows.specs.Queries.{shown_places}
-use Rattle.gm_rows.specs.ReadableTables.{AreTablesOf, IsInRange}
+use Rattle.gm_rows.specs.ReadableTables.{AreTablesOf, AreRepliesInRange, IsInRange}
 use Rattle.gm_registry.specs.Registry as of
 use Rattle.gm_rows.specs.Rows.{about_values, mirror_values, component_values, intent_values, command_values, patch_values}
-use Rattle.gm_rows.specs.Says.{mirror_shown, component_shown, number_value, TablesSay}
-use Rattle.gm_rows.specs.Schema.{registry_schema, mirrors, components, intents, commands, patches}
+use Rattle.gm_rows.specs.Says.{mirror_shown, component_shown, TablesSay, RepliesSay}
+use Rattle.gm_rows.specs.Schema.{registry_schema, mirrors, components, intents, patches}
 use Rattle.gm_rows.specs.Tables.{HasRows, AreNumbered, HasRisingRowids, numbers_of}
 use Rattle.gm_rows.specs.Values.{columns_at, shown_intent, shown_patch}
 use Rattle.gm_rows.specs.declared.fetched.Table.TheVariants.{Mirrors, Components, Intents, Patches}
-use Rattle.gm_rows.proofs.CountedCommands.{count_from}
-use Rattle.gm_rows.proofs.ListMembers.{has_from, stands_from, stands_permuted}
+use Rattle.gm_rows.proofs.CountedNumbers.{AreUpTo, all_numbers}
+use Rattle.gm_rows.proofs.ListMembers.{has_from, stands_from}
 use Rattle.gm_rows.proofs.RowsSayTables.{text_in, number_in, rows_numbered}
-use Rattle.gm_rows.proofs.WholeRows.{its_columns}
-use Rattle.gm_registry.proofs.Stored.{with_null, with_one_null, intent_whole, patch_whole, command_in, text_is, number_is, at_most, five_picked, typed, present, whole_row, nine_whole}
+use Rattle.gm_registry.proofs.Stored.{with_null, with_one_null, intent_whole, patch_whole, command_in, text_is, number_is, at_most, typed, present, nine_whole, command_columns, command_typed, command_present}
+use Rattle.gm_registry.proofs.ApartCommands.{apart}
 
 map_agree : {A B : Type 0} (f g : A → B) (xs : List A) → ((x : A) → Stands xs x → f x ≡ g x)
     → map f xs ≡ map g xs
@@ -59,7 +57,7 @@ kept_as part stored back values shown same records rows told are =
 -- what a registry says that was read as a state
 module _ (db : Trees) (sound : IsSound registry_schema db) (s : Records) (ts : List Intent)
     (bytes : List (List ℕ)) (about : db 0 ≡ about_values ∷ []) (rising : HasRisingRowids db)
-    (says : TablesSay db s ts bytes) where
+    (says : TablesSay db s ts bytes) (replies : RepliesSay db) where
   mirrors_kept : Keeps columns mirror_values (map mirror_row s.mirrors) (db 1)
   mirrors_kept = record {
     same = subst (λ l. IsPermutation l (map columns (db 1)))
@@ -116,33 +114,24 @@ module _ (db : Trees) (sound : IsSound registry_schema db) (s : Records) (ts : L
   -- the command's number is one
   has_number : (row : Row) → Stands (db 8) row → column row 2 ≡ Int (pos (number_in (column row 2)))
   has_number row there =
-      let number : Row → Value = λ r. column r 2 in
-      let back = stands_permuted (map number (db 8)) (map number_value (numbers_of (length (db 8))))
-      (column row 2) (IsPermutation-sym _ _ says.numbers)
-      (has_mapped number (db 8) row there) in
-      let from = mapped_from number_value (numbers_of (length (db 8))) (column row 2) back in
-      number_is (column row 2) from.0 from.2
+      let it = says.numbers row (has_from (db 8) row there) in
+      number_is (column row 2) it.0 it.1
 
   command_whole : (row : Row) → Stands (db 8) row → command_values (command_in row) ≡ columns row
   command_whole row there =
-      let listed : Stands registry_schema.tables commands = inr (inr (inr (inr (inl refl)))) in
-      let many = whole_row db sound commands listed (λ k low. refl) refl row there in
-      let is : columns_at (count_from 1 5) row ≡ columns row =
-      sym (five_picked row) ∙ its_columns 5 (columns row) many in
-      let suits : are_typed commands.key 0 commands.columns (columns_at (count_from 1 5) row)
-      ≡ true = ap (are_typed commands.key 0 commands.columns) is
-      ∙ typed db sound commands listed row there in
-      let full = present db sound commands listed row there in
+      let suits = command_typed db sound row there in
+      let full = command_present db sound row there in
       let key : column row 1 ≡ Text (text_in (column row 1)) =
       text_is (column row 1) (and_parts _ _ suits).0 (and_parts _ _ full).0 in
       let words : column row 3 ≡ Text (text_in (column row 3)) =
       text_is (column row 3) (and_parts _ _ (and_parts _ _ (and_parts _ _ suits).1).1).0
       (and_parts _ _ (and_parts _ _ (and_parts _ _ full).1).1).0 in
       let seq = has_number row there in
-      let limits = says.replies row (has_from (db 8) row there) in
+      let limits = replies row (has_from (db 8) row there) in
       let copied = number_is (column row 4) limits.0.0 limits.0.1 in
       let total = number_is (column row 5) limits.1.0 limits.1.1 in
-      (λ i. sym key i ∷ sym seq i ∷ sym words i ∷ sym copied i ∷ sym total i ∷ []) ∙ is
+      (λ i. sym key i ∷ sym seq i ∷ sym words i ∷ sym copied i ∷ sym total i ∷ [])
+      ∙ command_columns db sound row there
 
   commands_kept : Keeps columns command_values (map command_in (db 8)) (db 8)
   commands_kept = record {
@@ -153,25 +142,30 @@ module _ (db : Trees) (sound : IsSound registry_schema db) (s : Records) (ts : L
     keyed = rising.commands;
   }
 
-  numbers_said : (ns : List ℕ) → map number_in (map number_value ns) ≡ ns
-  numbers_said [] = refl
-  numbers_said (n ∷ ns) = ap (λ more. n ∷ more) (numbers_said ns)
+  -- the number that is read of a row
+  abbrev number : Row → ℕ
+  number row = number_in (column row 2)
+
+  within : AreUpTo (length (db 8)) (map number (db 8))
+  within n has =
+      let from = mapped_from number (db 8) n (stands_from (map number (db 8)) n has) in
+      let it = says.numbers from.0 (has_from (db 8) from.0 from.1) in
+      let is : n ≡ it.0 = from.2 ∙ ap number_in it.1 in
+      (omega (arith, is, it.2), omega (arith, is, it.3))
 
   numbered : AreNumbered (map command_in (db 8))
   numbered =
-      let number : Row → Value = λ row. column row 2 in
-      let seq : CommandRow → ℕ = λ c. c.seq in
-      let mine : map number_in (map number_value (numbers_of (length (db 8))))
-      ≡ numbers_of (length (map command_in (db 8))) =
-      numbers_said _ ∙ ap numbers_of (sym (length-map (db 8) command_in)) in
-      let theirs : map number_in (map number (db 8)) ≡ map seq (map command_in (db 8)) =
-      map-map number_in number (db 8) ∙ sym (map-map seq command_in (db 8)) in
-      subst₂ IsPermutation mine theirs (IsPermutation-map number_in _ _ says.numbers)
+      let all = all_numbers (length (db 8)) (map number (db 8)) (length-map (db 8) number)
+      (apart db sound number has_number rising.commands) within in
+      let many : length (map command_in (db 8)) ≡ length (db 8) = length-map (db 8) command_in in
+      let seqs : map (λ (c : CommandRow). c.seq) (map command_in (db 8)) ≡ map number (db 8) =
+      map-map (λ (c : CommandRow). c.seq) command_in (db 8) in
+      subst₂ IsPermutation (ap numbers_of (sym many)) (sym seqs) all
 
   in_range : (c : CommandRow) → Has (map command_in (db 8)) c → IsInRange c
   in_range c has =
       let from = mapped_from command_in (db 8) c (stands_from _ c has) in
-      let limits = says.replies from.0 (has_from (db 8) from.0 from.1) in
+      let limits = replies from.0 (has_from (db 8) from.0 from.1) in
       subst IsInRange (sym from.2) (
         at_most 1048576 (column from.0 4) limits.0,
         at_most 1048576 (column from.0 5) limits.1,
@@ -204,32 +198,35 @@ module _ (db : Trees) (sound : IsSound registry_schema db) (s : Records) (ts : L
     intents = IsPermutation-refl _;
     patches = refl;
     readable = says.readable;
-    commands = in_range;
     count = subst (λ n. n ≤ 100000) (sym (length-map (db 8) command_in)) says.count;
   }
 
 pub read_held : {S : Type 0} (g : Ghosts S) (r : Held S) (s : Records) (ts : List Intent)
     (bytes : List (List ℕ)) → of.IsRegistry g r → HasRisingRowids (of.seen g r)
-    → TablesSay (of.seen g r) s ts bytes → of.HasTablesOf g r s ts bytes
-read_held g r s ts bytes is rising says =
+    → TablesSay (of.seen g r) s ts bytes → RepliesSay (of.seen g r)
+    → (it : of.HasTablesOf g r s ts bytes) × AreRepliesInRange it.tables
+read_held g r s ts bytes is rising says replies =
     let db = of.stored g r in
     let same : of.seen g r ≡ db = ap (λ (d : Database). d.trees) is.settled in
     let up : HasRisingRowids db = subst HasRisingRowids same rising in
     let told : TablesSay db s ts bytes = subst (λ d. TablesSay d s ts bytes) same says in
-    record {
-      tables = tables db is.sound s ts bytes is.about up told;
-      has = record {
-        is_open = is.is_open;
-        autocommit = is.autocommit;
-        schema_is = is.schema_is;
-        settled = is.settled;
-        tables = record {
-          rows = record {
-            rows = rows db is.sound s ts bytes is.about up told;
-            numbered = numbered db is.sound s ts bytes is.about up told;
+    let answers : RepliesSay db = subst RepliesSay same replies in (
+      record {
+        tables = tables db is.sound s ts bytes is.about up told answers;
+        has = record {
+          is_open = is.is_open;
+          autocommit = is.autocommit;
+          schema_is = is.schema_is;
+          settled = is.settled;
+          tables = record {
+            rows = record {
+              rows = rows db is.sound s ts bytes is.about up told answers;
+              numbered = numbered db is.sound s ts bytes is.about up told answers;
+            };
+            sound = is.sound;
           };
-          sound = is.sound;
         };
-      };
-      are = are_of db is.sound s ts bytes is.about up told;
-    }
+        are = are_of db is.sound s ts bytes is.about up told answers;
+      },
+      in_range db is.sound s ts bytes is.about up told answers,
+    )

@@ -1,8 +1,7 @@
 -- What the query of the last command finds.
-use Rattle.std.proofs.Common.{◌≡◌, inl, inr, ℕ, zero, suc, pos, ◌+◌, ◌<◌, ◌≤◌, Bool, true, false, ltb, List, [], ◌∷◌, map, flat_map, take, length, get_or, IsPermutation, refl, sym, ap, subst, subst₂, ◌∙◌, arith, slice_get, Some, Option}
-use Rattle.std.specs.Ordering.{is_lt, int_cmp}
-use Rattle.std.proofs.lemmas.Bool.{true≢false, ltb-false, cases_Bool}
-use Rattle.std.proofs.lemmas.List.Sorted.{IsPermutation-map, IsPermutation-trans, IsPermutation-sym, Contains-permutation, ranks_by, IsStrictWeakOrder-flip, sorted_far}
+use Rattle.std.proofs.Common.{◌≡◌, inl, inr, ℕ, zero, suc, pos, ◌+◌, ◌<◌, ◌≤◌, List, [], ◌∷◌, map, length, get_or, IsPermutation, refl, sym, ap, subst, subst₂, ◌∙◌, arith, slice_get, Some, Option, true}
+use Rattle.std.specs.Ordering.{is_lt}
+use Rattle.std.proofs.lemmas.List.Sorted.{IsPermutation-map, IsPermutation-trans, IsPermutation-sym, ranks_by, IsStrictWeakOrder-flip}
 use Rattle.std.specs.List.Sorted.{IsSortedBy}
 use Rattle.sqlite_trees.proofs.ListLemmas.{map-map}
 use Rattle.sqlite.specs.Order.{Row, column}
@@ -10,12 +9,10 @@ use Rattle.sqlite_value.specs.Order.{value_cmp}
 use Rattle.sqlite_value.proofs.OrderLemmas.{value_cmp_total, value_cmp-Int, then-Equal}
 use Rattle.sqlite.specs.declared.types.Value.{Value}
 use Rattle.sqlite.specs.declared.types.Value.TheVariants.{Null, Int}
-use Rattle.sqlite.specs.Tree.{Trees}
-use Rattle.sqlite.specs.Query.{IsAnswer, Output, output, output_cmp, matches_as, end}
+use Rattle.sqlite.specs.Query.{IsAnswer, Output, output, output_cmp}
 use Rattle.sqlite.specs.State.{State, Shown}
 use Rattle.sqlite.proofs.Callers.{reads_as}
 use Rattle.sqlite_rules.specs.Lists.{Has as Stands}
-use Rattle.sqlite_rules.proofs.ListLemmas.{contains_had}
 use Rattle.sqlite_rows.specs.Keeps.{columns}
 use Rattle.sqlite_rows.proofs.Finding.{overlaid}
 use Rattle.sqlite_rows.proofs.Keyed.{mapped_from, has_mapped}
@@ -28,7 +25,11 @@ use Rattle.gm_rows.specs.Rows.{command_values}
 use Rattle.gm_rows.specs.Tables.{SeesTables, HasCounted, AreNumbered, numbers_of}
 use Rattle.gm_registry.specs.Replies.{IsLastOf, count_of}
 use Rattle.gm_registry.proofs.TextMeanings.{last_query, last_is}
-use Rattle.gm_registry.proofs.FoundReply.{nothing_found}
+use Rattle.gm_registry.proofs.FirstShown.{key, first_shown}
+use Rattle.gm_registry.proofs.NumberQueries.{outs}
+use Rattle.gm_rows.specs.Queries.{is_less, is_greater, IsFirstBy}
+use Rattle.gm_rows.proofs.CountedCommands.{not_below}
+use Rattle.gm_rows.proofs.CountedNumbers.{counted_up_to}
 use Rattle.gm_rows.proofs.ListMembers.{has_from, stands_from, stands_permuted}
 
 -- what a row is sorted by, and shows
@@ -45,51 +46,23 @@ out_columns : (row : Row) → of_columns (columns row) ≡ out row
 out_columns [] = refl
 out_columns (x ∷ xs) = refl
 
-outs : (db : Trees) (xs : List Row)
-    → map (output last_query) (flat_map (λ r. matches_as Null db [] end ([] ∷ r ∷ [])) xs)
-    ≡ map out xs
-outs db [] = refl
-outs db (x ∷ xs) = ap (λ l. out x ∷ l) (outs db xs)
+-- the number that a command is sorted by
+abbrev number_value : CommandRow → Value
+number_value c = Int (pos c.seq)
 
-at_most : (a b : ℕ) → is_lt (int_cmp (pos a) (pos b)) ≡ false → b ≤ a
-at_most a b h = elim (cases_Bool (ltb a b)) [
-  | inl low ↦ absurd (true≢false (let e : is_lt (int_cmp (pos a) (pos b)) ≡ true = rw low in
-      sym e ∙ h))
-  | inr high ↦ omega (arith, ltb-false a b high)
-]
-
-abbrev key : Output → Value
-key o = column o.0 0
+last_of : (t : Tables) (rows : List Row) → IsFirstBy is_greater number_value t.commands rows
+    → IsLastOf t rows
+last_of t rows (inl none) = inl none
+last_of t rows (inr it) = inr (
+  it.0,
+  it.1,
+  λ d has. not_below it.0.seq d.seq
+      (ap is_lt (sym (value_cmp-Int (pos it.0.seq) (pos d.seq))) ∙ it.2 d has),
+  it.3,
+)
 
 sorts_by : (x y : Output) → output_cmp last_query x y ≡ value_cmp (key y) (key x)
 sorts_by x y = then-Equal (value_cmp (key y) (key x))
-
-abbrev lower : Output → Output → Bool
-lower x y = is_lt (value_cmp (key y) (key x))
-
-finish : (t : Tables) (rows : List Row) (ordered : List Output)
-    → IsPermutation (map number_out t.commands) ordered → IsSortedBy lower ordered
-    → rows ≡ take 1 (map (λ (o : Output). o.1) ordered) → IsLastOf t rows
-finish t rows [] among up shows = inl (nothing_found number_out t.commands among, shows)
-finish t rows (o ∷ more) among up shows =
-    let back = stands_permuted (o ∷ more) (map number_out t.commands) o
-    (IsPermutation-sym _ _ among) (inl refl) in
-    let from = mapped_from number_out t.commands o back in
-    let most : (d : CommandRow) → Has t.commands d → d.seq ≤ from.0.seq = λ d has.
-    let it = Contains-permutation (map number_out t.commands) (o ∷ more) (number_out d) among
-    (contains_had (map number_out t.commands) (number_out d)
-    (has_mapped number_out t.commands d (stands_from t.commands d has))) in
-    let far : is_lt (value_cmp (key o) (key (get_or (o ∷ more) it.0 (number_out d)))) ≡ false =
-    sorted_far lower (IsStrictWeakOrder-flip (λ x y. is_lt (value_cmp (key x) (key y)))
-    (ranks_by value_cmp_total key)) (o ∷ more) up 0 it.0 (number_out d) (omega arith) it.1 in
-    at_most from.0.seq d.seq (ap is_lt (sym (value_cmp-Int (pos from.0.seq) (pos d.seq)))
-    ∙ subst₂ (λ x y. is_lt (value_cmp (key x) (key y)) ≡ false) from.2 it.2 far) in
-    inr (
-      from.0,
-      has_from t.commands from.0 from.1,
-      most,
-      shows ∙ ap (λ (x : Output). x.1 ∷ []) from.2,
-    )
 
 pub lasts : (old new : State) (rows : List Row) (t : Tables) → SeesTables old t
     → Shown last_command_text [] old new rows → IsLastOf t rows
@@ -101,22 +74,19 @@ lasts old new rows t was h =
     let a : IsAnswer last_query db [] rows =
     subst (λ d. IsAnswer last_query d [] rows) (overlaid db) (all.answer Null) in
     let kept : a.kept ≡ map out (db 8) =
-    a.distinct ∙ (ap (map (output last_query)) a.grouped ∙ outs db (db 8)) in
+    a.distinct ∙ (ap (map (output last_query)) a.grouped ∙ outs true db (db 8)) in
     let stored : map of_columns (map columns (db 8)) ≡ map out (db 8) =
     map-map of_columns columns (db 8) ∙ (λ i. map (λ row. out_columns row i) (db 8)) in
     let mine : IsPermutation (map number_out t.commands) a.ordered =
     IsPermutation-trans _ _ _ (subst₂ IsPermutation (map-map of_columns command_values t.commands)
     (stored ∙ sym kept) (IsPermutation-map of_columns _ _
     (settled_rows registry_schema HasCounted old t was).rows.rows.commands.same)) a.same in
-    let up : IsSortedBy lower a.ordered =
+    let up : IsSortedBy (λ (x y : Output). is_greater (key x) (key y)) a.ordered =
     λ k d i j. sym (ap is_lt (sorts_by (get_or a.ordered (k + 1) d) (get_or a.ordered k d)))
     ∙ a.sorted k d i j in
-    finish t rows a.ordered mine up a.shown
-
-below : (n k : ℕ) → Stands (numbers_of n) k → k ≤ n
-below zero k h = absurd h
-below (suc n) k (inl same) = omega (arith, same)
-below (suc n) k (inr later) = omega (arith, below n k later)
+    last_of t rows (first_shown is_greater
+    (IsStrictWeakOrder-flip (λ x y. is_less (key x) (key y)) (ranks_by value_cmp_total key))
+    number_value t.commands rows a.ordered mine up a.shown)
 
 greatest : (n : ℕ) → 0 < n → Stands (numbers_of n) n
 greatest zero some = absurd (omega (arith, some))
@@ -131,8 +101,10 @@ pub seq_in_range : (commands : List CommandRow) → AreNumbered commands → (c 
     → Stands commands c → c.seq ≤ length commands
 seq_in_range commands numbered c has =
     let seqs = map (λ (d : CommandRow). d.seq) commands in
-    below (length commands) c.seq (stands_permuted seqs (numbers_of (length commands)) c.seq
-    (IsPermutation-sym _ _ numbered) (has_mapped (λ d. d.seq) commands c has))
+    let stands = stands_permuted seqs (numbers_of (length commands)) c.seq
+    (IsPermutation-sym _ _ numbered) (has_mapped (λ d. d.seq) commands c has) in
+    (counted_up_to (length commands) c.seq
+    (has_from (numbers_of (length commands)) c.seq stands)).1
 
 -- the greatest says how many there are
 counted : (commands : List CommandRow) → AreNumbered commands → (c : CommandRow) → Has commands c

@@ -1,4 +1,5 @@
 pub mod Abouts
+pub mod ApartCommands
 pub mod CallsLeave
 pub mod CarriedOver
 pub mod CarryingOver
@@ -8,6 +9,7 @@ pub mod CountedThrough
 pub mod CreatableTables
 pub mod EitherSchema
 pub mod Failures
+pub mod FirstShown
 pub mod FittingClears
 pub mod FittingCommands
 pub mod FittingComponents
@@ -25,6 +27,8 @@ pub mod Keys
 pub mod LastCommand
 pub mod MadeTables
 pub mod MakingFails
+pub mod MirrorPart
+pub mod NumberQueries
 pub mod NumberedSteps
 pub mod OneReading
 pub mod OpenedConnection

@@ -1,5 +1,5 @@
 -- Rows that obey the tables of a registry are what is shown of them.
-use Rattle.std.proofs.Common.{◌≡◌, ◌∙◌, ℕ, suc, pos, ◌+◌, ◌≤◌, true, false, not, Some, [], ◌∷◌, drop, length, refl, sym, ap, arith}
+use Rattle.std.proofs.Common.{◌≡◌, ◌∙◌, inl, inr, ℕ, ℤ, suc, pos, ◌+◌, ◌≤◌, true, false, not, Some, [], ◌∷◌, drop, length, refl, sym, ap, subst, arith}
 use Rattle.std.proofs.lemmas.Bool.{and_parts, true≢false, ne_eqb}
 use Rattle.sqlite.specs.Order.{Row, column}
 use Rattle.sqlite.specs.Kind.TheVariants as kind
@@ -16,12 +16,17 @@ use Rattle.sqlite_schema.specs.declared.schema.Constraint.TheVariants.{Datatype,
 use Rattle.sqlite_sql.specs.Ops.{is_null}
 use Rattle.sqlite_value.specs.declared.value.Value.{Value}
 use Rattle.gm_state.specs.Rows.{CommandRow}
-use Rattle.gm_rows.specs.Queries.{shown_places}
+use Rattle.gm_rows.specs.Queries.{number_of, shown_places}
 use Rattle.gm_rows.specs.Says.{IsBetween}
-use Rattle.gm_rows.specs.Schema.{registry_schema, intents, patches}
+use Rattle.gm_rows.specs.Schema.{registry_schema, intents, commands, patches}
+use Rattle.gm_rows.specs.Tables.{SeesRegistry}
+use Rattle.sqlite.specs.Effect.{Database}
+use Rattle.sqlite.specs.State.{State}
+use Rattle.gm_lists.specs.Ordered.{Has}
+use Rattle.gm_rows.proofs.ListMembers.{stands_from}
 use Rattle.gm_rows.specs.Values.{columns_at}
 use Rattle.gm_rows.specs.declared.fetched.Table.TheVariants.{Mirrors, Intents, Patches}
-use Rattle.gm_rows.proofs.CountedCommands.{count_from}
+use Rattle.gm_rows.proofs.CountedNumbers.{count_from}
 use Rattle.gm_rows.proofs.RowsSayTables.{text_in, number_in, nine_picked}
 use Rattle.gm_rows.proofs.WholeRows.{are_required, as_many, its_columns}
 use Rattle.gm_registry.proofs.Abouts.{only_null}
@@ -102,6 +107,14 @@ text_is (Real x) typed present = absurd (true≢false (sym typed))
 text_is (Text t) typed present = refl
 text_is (Blob b) typed present = absurd (true≢false (sym typed))
 
+pub int_is : (v : Value) → is_of kind.Integer v ≡ true → not (is_null v) ≡ true
+    → (z : ℤ) × (v ≡ Int z)
+int_is Null typed present = absurd (true≢false (sym present))
+int_is (Int n) typed present = (n, refl)
+int_is (Real x) typed present = absurd (true≢false (sym typed))
+int_is (Text t) typed present = absurd (true≢false (sym typed))
+int_is (Blob b) typed present = absurd (true≢false (sym typed))
+
 pub number_is : (v : Value) (n : ℕ) → v ≡ Int (pos n) → v ≡ Int (pos (number_in v))
 number_is v n e = e ∙ ap (λ w. Int (pos (number_in w))) (sym e)
 
@@ -147,3 +160,38 @@ module _ (db : Trees) (sound : IsSound registry_schema db) where
   nine_whole t listed free must nine row there =
       sym (nine_picked row) ∙ its_columns 9 (columns row)
       (whole_row t listed free must row there ∙ nine)
+
+  -- ---- rows of commands
+
+  commands_listed : Stands registry_schema.tables commands
+  commands_listed = inr (inr (inr (inr (inl refl))))
+
+  pub command_columns : (row : Row) → Stands (db 8) row
+      → columns_at (count_from 1 5) row ≡ columns row
+  command_columns row there =
+      sym (five_picked row) ∙ its_columns 5 (columns row)
+      (whole_row commands commands_listed (λ k low. refl) refl row there)
+
+  pub command_typed : (row : Row) → Stands (db 8) row
+      → are_typed commands.key 0 commands.columns (columns_at (count_from 1 5) row) ≡ true
+  command_typed row there =
+      ap (are_typed commands.key 0 commands.columns) (command_columns row there)
+      ∙ typed commands commands_listed row there
+
+  pub command_present : (row : Row) → Stands (db 8) row
+      → are_present commands.key 0 commands.columns row ≡ true
+  command_present row there = present commands commands_listed row there
+
+  pub number_stored : (row : Row) → Stands (db 8) row → (z : ℤ) × (number_of row ≡ Int z)
+  number_stored row there =
+      int_is (number_of row)
+      (and_parts _ _ (and_parts _ _ (command_typed row there)).1).0
+      (and_parts _ _ (and_parts _ _ (command_present row there)).1).0
+
+-- the numbers of the commands that a registry shows are integers
+pub registry_numbers : (s : State) → SeesRegistry s → (row : Row) → Has (s.now.trees 8) row
+    → (z : ℤ) × (number_of row ≡ Int z)
+registry_numbers s is row has =
+    let same : s.now.trees ≡ s.committed.trees = ap (λ (d : Database). d.trees) is.settled in
+    number_stored s.committed.trees is.sound row
+    (stands_from (s.committed.trees 8) row (subst (λ (db : Trees). Has (db 8) row) same has))

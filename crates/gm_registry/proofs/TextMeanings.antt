@@ -1,5 +1,5 @@
 -- What each text means.
-use Rattle.std.proofs.Common.{◌≡◌, List, [], ◌∷◌, ℕ, Ok, refl, codes, pos, Some, false, true}
+use Rattle.std.proofs.Common.{◌≡◌, List, [], ◌∷◌, ℕ, Ok, refl, codes, pos, Some, Bool, false, true}
 use Rattle.sqlite.specs.Table.{Table}
 use Rattle.sqlite.specs.Schema.{Schema}
 use Rattle.sqlite.specs.Compile.{table_defined_by}
@@ -218,10 +218,19 @@ pub find_is : Asks find_command_text find_query (codes "seq" ∷ codes "words" �
 unfolding understood everything
 find_is = record { command_is = refl; plain = (refl, refl); of_tables = refl }
 
+-- the first row by its number, from below or from above
+abbrev pub end_query : Bool → Query
+end_query descending =
+    record (scan 8 [] (col 1 2 ∷ []) ((
+      col 1 2,
+      record {
+        collation = Binary;
+        descending = descending;
+      },
+    ) ∷ [])) { limit = lit (Int (pos 1)) }
+
 abbrev pub last_query : Query
-last_query =
-    record (scan 8 [] (col 1 2 ∷ []) ((col 1 2, record { collation = Binary; descending = true })
-    ∷ [])) { limit = lit (Int (pos 1)) }
+last_query = end_query true
 
 pub last_is : Asks last_command_text last_query (codes "seq" ∷ [])
 unfolding understood everything

@@ -24,7 +24,7 @@ use Rattle.gm_registry.specs.Reads.{IsOurSchema}
 use Rattle.gm_registry.specs.declared.edition.Edition.{Edition}
 use Rattle.gm_registry.specs.declared.edition.Edition.TheVariants.{First, Second}
 use Rattle.gm_rows.specs.declared.fetched.Table.{Table}
-use Rattle.gm_rows.specs.declared.fetched.Table.TheVariants.{About, Mirrors, Components, Intents, Commands, Patches}
+use Rattle.gm_rows.specs.declared.fetched.Table.TheVariants.{About, Mirrors, Components, Intents, Patches}
 use Rattle.gm_registry.proofs.TextMeanings.{Asks, AsksOver}
 
 -- by its number
@@ -33,7 +33,6 @@ order_of About = []
 order_of Mirrors = []
 order_of Components = []
 order_of Intents = (col 1 0, record { collation = Binary; descending = false }) ∷ []
-order_of Commands = (col 1 2, record { collation = Binary; descending = false }) ∷ []
 order_of Patches = []
 
 abbrev pub query_of : Table → Query
@@ -45,7 +44,6 @@ HasTable About schema = IsOfRegistry schema
 HasTable Mirrors schema = IsOurSchema schema
 HasTable Components schema = IsOurSchema schema
 HasTable Intents schema = IsOurSchema schema
-HasTable Commands schema = IsOurSchema schema
 HasTable Patches schema = IsOurSchema schema
 
 pub ours_have : (t : Table) (schema : Schema) → IsOurSchema schema → HasTable t schema
@@ -53,7 +51,6 @@ ours_have About schema is = (Second, is)
 ours_have Mirrors schema is = is
 ours_have Components schema is = is
 ours_have Intents schema is = is
-ours_have Commands schema is = is
 ours_have Patches schema is = is
 
 about_asked : (edition : Edition) → AsksOver (schema_of edition) (query_text About) (query_of About)
@@ -80,11 +77,6 @@ intents_asked : Asks (query_text Intents) (query_of Intents)
 unfolding understood everything
 intents_asked = record { command_is = refl; plain = (refl, refl); of_tables = refl }
 
-commands_asked : Asks (query_text Commands) (query_of Commands)
-    (codes "seq" ∷ codes "copied" ∷ codes "of_total" ∷ [])
-unfolding understood everything
-commands_asked = record { command_is = refl; plain = (refl, refl); of_tables = refl }
-
 patches_asked : Asks (query_text Patches) (query_of Patches) (codes "one" ∷ codes "bytes" ∷ [])
 unfolding understood everything
 patches_asked = record { command_is = refl; plain = (refl, refl); of_tables = refl }
@@ -104,7 +96,6 @@ module _ (schema : Schema) where
   asked Mirrors has = over Mirrors _ registry_schema mirrors_asked has
   asked Components has = over Components _ registry_schema components_asked has
   asked Intents has = over Intents _ registry_schema intents_asked has
-  asked Commands has = over Commands _ registry_schema commands_asked has
   asked Patches has = over Patches _ registry_schema patches_asked has
 
 -- the terms of a query are its places
@@ -114,7 +105,6 @@ terms_are About row = refl
 terms_are Mirrors row = refl
 terms_are Components row = refl
 terms_are Intents row = refl
-terms_are Commands row = refl
 terms_are Patches row = refl
 
 pub answers : (t : Table) (old new : State) (rows : List Row) → HasTable t old.now.schema

@@ -34,11 +34,11 @@ IsFree t key = filter (is_under key) t.commands ≡ []
 abbrev pub count_of : Tables → ℕ
 count_of t = length t.commands
 
--- its numbers have 32 bits, and its words are text
+-- its number has 32 bits, those of its reply are in range, and its words are text
 pub record Fits (c : CommandRow) : Type 0 where
   pub number : c.seq < 2 ^ 32
-  pub copied : c.copied < 2 ^ 32
-  pub of_total : c.of_total < 2 ^ 32
+  pub copied : c.copied ≤ 1048576
+  pub of_total : c.of_total ≤ 1048576
   pub words : IsUtf8 c.words
 
 -- the commands under this key are such as are written here

@@ -62,7 +62,7 @@ fn rows_under<S: Alter>(
 }
 
 /// The components with a label in the column of the key.
-fn components_with<S: Alter>(
+pub(crate) fn components_with<S: Alter>(
     alloc: Global,
     conn: &mut Connection<S>,
     key: Key,

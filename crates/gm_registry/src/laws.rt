@@ -7,9 +7,9 @@ ghost use Rattle.gm_state.specs.Records.{Records, IsState};
 ghost use Rattle.gm_state.specs.Rows.{Tables, intent_rows, patch_rows};
 ghost use Rattle.gm_changes.specs.Decides.{Changed, changed_by};
 ghost use Rattle.gm_registry.specs.Changes.{command_row, with_accepted};
-ghost use Rattle.gm_rows.specs.ReadableTables.{AreTablesOf, HoldState};
+ghost use Rattle.gm_rows.specs.ReadableTables.{AreTablesOf, AreRepliesInRange, HoldState};
 ghost use Rattle.gm_registry.specs.Registry.{HasTables, HasTablesOf, HasSaved, IsRegistry, IsUnbroken, seen};
-ghost use Rattle.gm_rows.specs.Says.{TablesSay};
+ghost use Rattle.gm_rows.specs.Says.{TablesSay, RepliesSay};
 ghost use Rattle.gm_rows.specs.Tables.{HasRisingRowids};
 
 use gm_state::one_row;
@@ -45,14 +45,16 @@ pub fn tables_are_saved<S: Alter>()
 {}
 
 /// A registry that was only read, as `load` reads it, has tables: those of the state, the intents
-/// and the bytes that `load` tells. That the rowids rise in each table is asked for: a read tells
-/// none but those of `intents`, and `sqlite` keeps its tables so, but no clause of a connection
-/// says it.
+/// and the bytes that `load` tells. Two things are asked for. That the rowids rise in each table: a
+/// read tells none but those of `intents`, and `sqlite` keeps its tables so, but no clause of a
+/// connection says it. And that the replies are in range, which `load` doesn't read: a row with a
+/// negative one is of no tables.
 /// A registry that has tables has rowids that rise.
 pub fn what_is_read_is_held<S: Alter>()
     ensures { (r : Held S) (s : Records) (ts : List Intent) (bytes : List (List ℕ))
         → IsRegistry S.Store r → HasRisingRowids (seen S.Store r)
-        → TablesSay (seen S.Store r) s ts bytes → HasTablesOf S.Store r s ts bytes }
+        → TablesSay (seen S.Store r) s ts bytes → RepliesSay (seen S.Store r)
+        → (it : HasTablesOf S.Store r s ts bytes) × AreRepliesInRange it.tables }
 {}
 
 /// The rowids rise in each table of a registry whose store isn't broken, as `sqlite` has it: no

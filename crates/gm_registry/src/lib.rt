@@ -8,6 +8,7 @@
 
 mod accept;
 mod carry_over;
+mod command_numbers;
 mod commands;
 mod components;
 mod components_by_key;
@@ -16,10 +17,12 @@ mod edition;
 mod intents;
 mod laws;
 mod load;
+mod mirror_records;
 mod mirrors;
 mod open_store;
 mod part;
 mod patches;
+mod records;
 mod registry;
 mod replies;
 mod whole_tables;

@@ -16,7 +16,7 @@ use gm_rows::{Loaded, StoreFault, judge};
 use sqlite::{Alter, Connection};
 use std::alloc::Global;
 
-/// Reads all tables, and tells what they hold.
+/// Reads all tables, of the commands their numbers alone, and tells what they hold.
 pub(crate) fn load_on<S: Alter>(
     alloc: Global,
     conn: &mut Connection<S>,
@@ -45,8 +45,9 @@ pub(crate) fn load_on<S: Alter>(
 }
 
 impl<S: Alter> Registry<S> {
-    /// All that the registry holds. `Unreadable` exactly where the tables aren't those of a state
-    /// with intents and bytes that are readable for it; `Memory`, `Store` as of any call.
+    /// The state and what is pending. `Unreadable` exactly where the tables aren't those of a state
+    /// with intents and bytes that are readable for it, or the commands, of which none but their
+    /// numbers is read, don't count from 1 without gaps; `Memory`, `Store` as of any call.
     pub fn load(&mut self, alloc: Global) -> Result<Loaded, StoreFault>
         ensures says { DiskKept S.Store self.new
             → IfOk result (λ l. IsRegistry S.Store self.old

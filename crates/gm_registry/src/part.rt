@@ -43,7 +43,10 @@ pub(crate) struct Asked {
 }
 
 /// All mirrors, in any order.
-fn all_mirrors<S: Alter>(alloc: Global, conn: &mut Connection<S>) -> Result<Vec<Mirror>, StoreFault>
+pub(crate) fn all_mirrors<S: Alter>(
+    alloc: Global,
+    conn: &mut Connection<S>,
+) -> Result<Vec<Mirror>, StoreFault>
     ensures says { DiskKept S.Store conn.new → IfOk result (λ ms. IsOurs S.Store conn.old
         → IsPermutation (map (columns_at (shown_places Mirrors)) (seen S.Store conn.old 1))
         (map mirror_shown ms.items)) }

@@ -1,7 +1,7 @@
 //! The calls of a registry.
 
-ghost use Rattle.std.specs.Prelude.{OnOk, ◌≡◌, ◌≢◌, ◌≤◌, ◌+◌, false, IfOk, IfErr, MatchOption, MatchResult, string_bytes};
-ghost use Rattle.gm_state.specs.Rows.{Tables};
+ghost use Rattle.std.specs.Prelude.{OnOk, ◌≡◌, ◌≢◌, ◌≤◌, ◌+◌, false, IfOk, IfErr, IfSome, MatchOption, MatchResult, string_bytes};
+ghost use Rattle.gm_state.specs.Rows.{Tables, copied_of, total_of};
 ghost use Rattle.gm_rows.specs.Tables.{Holds, HoldsFirst, IsEmpty, no_tables};
 ghost use Rattle.sqlite_catalog.specs.Listing.{IsSound};
 ghost use Rattle.gm_rows.specs.Schema.{first_schema, registry_schema};
@@ -128,6 +128,9 @@ impl<S: Alter> Registry<S> {
             → IfOk result (λ found. (t : Tables) → HasTables S.Store self.old t
             → MatchOption found (IsFree t key.now)
             (λ it. IsKept t key.now it.0 (string_bytes it.1) it.2) × HasSaved S.Store self.new t) }
+        // A row whose reply is out of range is `Unreadable`.
+        ensures range { IfOk result (λ found. IfSome found
+            (λ it. (copied_of it.2 ≤ 1048576) × (total_of it.2 ≤ 1048576))) }
         ensures unreadable { DiskKept S.Store self.new
             → OnUnreadable result ((t : Tables) → HasTables S.Store self.old t
             → AreWrittenUnder key.now t → ⊥) }

@@ -1,15 +1,15 @@
 //! What is read of the accepted commands: the reply under a key, and the greatest number.
 
-ghost use Rattle.std.specs.Prelude.{◌≡◌, ◌≢◌, ◌≤◌, ◌<◌, ◌^◌, ◌==◌, ℕ, pos, filter, map, string_bytes, IfOk, IfErr, OnOk, MatchOption, IsPermutation};
+ghost use Rattle.std.specs.Prelude.{◌≡◌, ◌≢◌, ◌≤◌, ◌<◌, ◌^◌, ◌==◌, ℕ, pos, filter, map, string_bytes, IfOk, IfErr, IfSome, OnOk, MatchOption, IsPermutation};
 ghost use Rattle.sqlite.specs.Order.{column};
 ghost use Rattle.sqlite.specs.declared.types.Value.TheVariants.{Int, Text};
-ghost use Rattle.gm_state.specs.Rows.{Tables, CommandRow};
+ghost use Rattle.gm_state.specs.Rows.{Tables, CommandRow, copied_of, total_of};
 ghost use Rattle.gm_registry.specs.Replies.{Fits, AreWrittenUnder, reply_in, is_under, reply_values, IsKept, IsFree, IsLastOf, count_of};
 ghost use Rattle.gm_registry.specs.Registry.{DiskKept, HasTables, seen, StoreFailed, HasSaved, Reads};
 ghost use Rattle.gm_rows.specs.Faults.{OnUnreadable, OnStore, OnOther};
 
 use gm_rows::{StoreFault, text_at, u32_at};
-use gm_state::Reply;
+use gm_state::{MAX_SECTORS, Reply};
 use sqlite::{Alter, Connection, Error, Row, params};
 
 /// The row of a command as a query of its key shows it.
@@ -33,11 +33,26 @@ fn read_number(row: &Row, at: usize) -> Result<u32, StoreFault>
     }
 }
 
+/// A number of a reply: so many sectors, at most as many as an image has.
+fn read_sectors(row: &Row, at: usize) -> Result<u32, StoreFault>
+    ensures number { IfOk result (λ number. column row.now at ≡ Int (pos number)) }
+    ensures range { IfOk result (λ number. number ≤ 1048576) }
+    ensures fault { IfErr result (λ e. e ≢ StoreFault.Store) }
+    ensures unreadable { IfErr result (λ e. (number : ℕ) → number ≤ 1048576
+        → column row.now at ≡ Int (pos number) → ⊥) }
+{
+    match u32_at(row, at) {
+        Some(number) if number <= MAX_SECTORS => Ok(number),
+        _ => Err(StoreFault::Unreadable),
+    }
+}
+
 fn read_kept(row: &Row) -> Result<Kept, StoreFault>
     ensures kept { IfOk result (λ kept. (column row.now 0 ≡ Int (pos kept.number))
         × (column row.now 1 ≡ Text (string_bytes kept.words))
         × (column row.now 2 ≡ Int (pos kept.copied))
         × (column row.now 3 ≡ Int (pos kept.of_total))) }
+    ensures range { IfOk result (λ kept. (kept.copied ≤ 1048576) × (kept.of_total ≤ 1048576)) }
     ensures fault { IfErr result (λ e. e ≢ StoreFault.Store) }
     ensures unreadable { OnUnreadable result ((c : CommandRow) → Fits c → row.now ≡ reply_values c
         → ⊥) }
@@ -45,8 +60,8 @@ fn read_kept(row: &Row) -> Result<Kept, StoreFault>
     Ok(Kept {
         number: read_number(row, 0)?,
         words: text_at(row, 1)?,
-        copied: read_number(row, 2)?,
-        of_total: read_number(row, 3)?,
+        copied: read_sectors(row, 2)?,
+        of_total: read_sectors(row, 3)?,
     })
 }
 
@@ -89,6 +104,8 @@ pub(crate) fn reply_on<S: Alter>(
         → IfOk result (λ found. (t : Tables) → HasTables S.Store conn.old t
         → MatchOption found (IsFree t key.now)
         (λ it. IsKept t key.now it.0 (string_bytes it.1) it.2) × HasSaved S.Store conn.new t) }
+    ensures range { IfOk result (λ found. IfSome found
+        (λ it. (copied_of it.2 ≤ 1048576) × (total_of it.2 ≤ 1048576))) }
     ensures unreadable { DiskKept S.Store conn.new
         → OnUnreadable result ((t : Tables) → HasTables S.Store conn.old t
         → AreWrittenUnder key.now t → ⊥) }

@@ -5,6 +5,7 @@ ghost use Rattle.gm_rows.specs.Queries.{IsNumbered, IsShown, IsInOrder, AreShown
 ghost use Rattle.gm_registry.specs.Registry.{DiskKept, IsOpen, seen, HasRead, HasFailed, IsOurs, StoreFailed};
 ghost use Rattle.gm_rows.specs.Faults.{OnStore};
 
+use crate::command_numbers::fetch_numbers;
 use gm_rows::{Fetched, StoreFault, Table};
 use sqlite::{Alter, Connection, Row};
 
@@ -30,7 +31,7 @@ pub(crate) fn rows_of<S: Alter>(
     }
 }
 
-/// Reads all tables.
+/// Reads all tables, but of the commands their numbers alone.
 pub(crate) fn fetch<S: Alter>(conn: &mut Connection<S>) -> Result<Fetched, StoreFault>
     ensures rows { DiskKept S.Store conn.new → IfOk result (λ f. IsOurs S.Store conn.old
         → AreShown (seen S.Store conn.old) f) }
@@ -45,7 +46,7 @@ pub(crate) fn fetch<S: Alter>(conn: &mut Connection<S>) -> Result<Fetched, Store
     let mirrors = rows_of(conn, Table::Mirrors)?;
     let components = rows_of(conn, Table::Components)?;
     let intents = rows_of(conn, Table::Intents)?;
-    let commands = rows_of(conn, Table::Commands)?;
+    let commands = fetch_numbers(conn)?;
     let patches = rows_of(conn, Table::Patches)?;
     Ok(Fetched {
         about,

@@ -6,6 +6,8 @@ mod first;
 mod loading;
 mod parts;
 mod patched;
+mod records;
+mod replies;
 mod stops;
 mod stored;
 mod untouched;

@@ -1,93 +1,153 @@
--- Commands that count from 1 are shown in the order of their numbers.
-use Rattle.std.proofs.Common.{◌≡◌, ◌∙◌, inl, inr, ℕ, zero, suc, pos, ◌+◌, List, [], ◌∷◌, ◌++◌, map, length, refl, sym, ap, subst, arith}
-use Rattle.std.specs.List.Sorted.{IsPermutation}
-use Rattle.std.proofs.lemmas.List.Sorted.{IsPermutation-refl, IsPermutation-cons, IsPermutation-map, IsPermutation-sym, IsPermutation-trans, IsPermutation-to_front, length_permutation}
+-- Commands are counted by how many there are, and by the least and the greatest of their numbers.
+use Rattle.std.proofs.Common.{◌≡◌, ◌∙◌, inl, inr, ℕ, ℤ, pos, negsuc, ◌≤◌, ◌<◌, Bool, true, false, ltb, List, [], ◌∷◌, map, min, length, refl, sym, ap, subst, arith}
+use Rattle.std.specs.Ordering.{is_lt, int_cmp}
+use Rattle.std.proofs.Math.Nat.{min-eq_left, min-eq_right}
+use Rattle.std.proofs.lemmas.Bool.{cases_Bool, cases_lt, ltb-false, true≢false}
+use Rattle.std.proofs.lemmas.List.{length-map}
+use Rattle.std.proofs.lemmas.List.Sorted.{IsPermutation-sym, length_permutation}
 use Rattle.sqlite.specs.Order.{Row, column}
+use Rattle.sqlite.specs.Tree.{Trees}
+use Rattle.sqlite_value.proofs.OrderLemmas.{value_cmp-Int}
 use Rattle.sqlite_value.specs.declared.value.Value.{Value}
 use Rattle.sqlite.specs.declared.types.Value.TheVariants.{Int}
+use Rattle.sqlite_rows.specs.Keeps.{columns}
 use Rattle.gm_lists.specs.Ordered.{Has}
-use Rattle.gm_rows.specs.Tables.{numbers_of}
-use Rattle.gm_rows.specs.Values.{numbered}
-use Rattle.gm_rows.specs.Queries.{IsInOrder}
-use Rattle.gm_rows.specs.Says.{number_value, IsBetween, IsCommand, AreCommandsFrom}
-use Rattle.gm_rows.proofs.ReorderedValues.{unmapped}
-use Rattle.gm_rows.proofs.ShownInOrder.{one_order}
+use Rattle.gm_lists.proofs.Sorting.{Has-permutation}
+use Rattle.gm_state.specs.Rows.{Tables, CommandRow}
+use Rattle.gm_rows.specs.Queries.{number_of, is_less, is_greater, IsFirstBy, AreNumbersShown}
+use Rattle.gm_rows.specs.Rows.{command_values}
+use Rattle.gm_rows.specs.Says.{IsBetween, IsNumber, IsWithin, AreCounted}
+use Rattle.gm_rows.specs.Tables.{HasRows, HasCounted, numbers_of}
+use Rattle.gm_rows.specs.declared.command_numbers.CommandNumbers.{CommandNumbers}
+use Rattle.gm_rows.proofs.CountedNumbers.{counted_up_to}
 
--- so many numbers from n on
-abbrev pub count_from : ℕ → ℕ → List ℕ
-count_from n zero = []
-count_from n (suc k) = n ∷ count_from (n + 1) k
+-- ---- numbers as values
 
-one_more : (n k : ℕ) → count_from n (suc k) ≡ count_from n k ++ (n + k) ∷ []
-one_more n zero = let e : n ≡ n + 0 = omega arith in ap (λ m. m ∷ []) e
-one_more n (suc k) = let e : n + 1 + k ≡ n + suc k = omega arith in
-    ap (λ l. n ∷ l) (one_more (n + 1) k ∙ ap (λ m. count_from (n + 1) k ++ m ∷ []) e)
+same_number : (a b : ℕ) → ◌≡◌ {A = Value} (Int (pos a)) (Int (pos b)) → a ≡ b
+same_number a b e = cc
 
-pub counted_up : (k : ℕ) → IsPermutation (numbers_of k) (count_from 1 k)
-counted_up zero = IsPermutation-refl []
-counted_up (suc k) =
-    let e : suc k ≡ 1 + k = omega arith in
-    let last : count_from 1 k ++ suc k ∷ [] ≡ count_from 1 (suc k) =
-    ap (λ m. count_from 1 k ++ m ∷ []) e ∙ sym (one_more 1 k) in
-    IsPermutation-trans _ _ _ (IsPermutation-cons (suc k) (numbers_of k) (count_from 1 k)
-    (counted_up k)) (subst (IsPermutation (suc k ∷ count_from 1 k)) last
-    (IsPermutation-sym _ _ (IsPermutation-to_front (count_from 1 k) (suc k))))
+-- what isn't below a number is at least that
+pub not_below : (a b : ℕ) → is_lt (int_cmp (pos a) (pos b)) ≡ false → b ≤ a
+not_below a b h = elim (cases_Bool (ltb a b)) [
+  | inl low ↦ absurd (true≢false (let e : is_lt (int_cmp (pos a) (pos b)) ≡ true = rw low in
+      sym e ∙ h))
+  | inr high ↦ omega (arith, ltb-false a b high)
+]
 
--- what is shown of things that bear numbers
-module _ {A : Type 0} (number : A → Value) (rest : A → Row) where
-  abbrev shown : A → Row
-  shown x = number x ∷ rest x
+-- an integer that is neither below the one nor above the other is between them
+between : (z : ℤ) (low high : ℕ) → is_less (Int z) (Int (pos low)) ≡ false
+    → is_greater (Int z) (Int (pos high)) ≡ false
+    → (n : ℕ) × (z ≡ pos n) × (low ≤ n) × (n ≤ high)
+between (pos n) low high above below = (
+  n,
+  refl,
+  not_below n low (ap is_lt (sym (value_cmp-Int (pos n) (pos low))) ∙ above),
+  not_below high n (ap is_lt (sym (value_cmp-Int (pos high) (pos n))) ∙ below),
+)
+between (negsuc k) low high above below =
+    let less : is_lt (int_cmp (negsuc k) (pos low)) ≡ true = refl in
+    absurd (true≢false (sym less ∙ (ap is_lt (sym (value_cmp-Int (negsuc k) (pos low))) ∙ above)))
 
-  abbrev placed : ℕ → A → Row
-  placed n x = Int (pos n) ∷ rest x
+-- a count that isn't cut is how many there are
+count_whole : (many most count : ℕ) → count < most → min many most ≡ count → count ≡ many
+count_whole many most count few is = elim (cases_lt most many) [
+  | inl over ↦ absurd (let cut : min many most ≡ most = min-eq_right (omega (arith, over)) in
+      omega (arith, cut, is, few))
+  | inr under ↦ sym is ∙ min-eq_left under
+]
 
-  in_place : (n : ℕ) (xs : List A) → map number xs ≡ map number_value (count_from n (length xs))
-      → numbered placed n xs ≡ map shown xs
-  in_place n [] e = refl
-  in_place n (x ∷ xs) e =
-      let head : number x ≡ Int (pos n) = cc in
-      let tail : map number xs ≡ map number_value (count_from (n + 1) (length xs)) = cc in
-      ap (λ v. (v ∷ rest x) ∷ numbered placed (n + 1) xs) (sym head)
-      ∙ ap (λ l. shown x ∷ l) (in_place (n + 1) xs tail)
+-- ---- the rows of the commands, and what is shown of them
 
-  -- in order, the nth of them bears the number n
-  pub in_their_order : (xs : List A) (rows : List Row)
-      → IsPermutation (map number_value (numbers_of (length xs))) (map number xs)
-      → IsPermutation (map shown xs) rows → IsInOrder rows
-      → (zs : List A) × IsPermutation xs zs × (rows ≡ numbered placed 1 zs)
-  in_their_order xs rows numbers are up =
-      let rising : IsPermutation (map number xs) (map number_value (count_from 1 (length xs))) =
-      IsPermutation-trans _ _ _ (IsPermutation-sym _ _ numbers)
-      (IsPermutation-map number_value _ _ (counted_up (length xs))) in
-      let it = unmapped number xs (map number_value (count_from 1 (length xs))) rising in
-      let many : length it.0 ≡ length xs = length_permutation xs it.0 it.1 in
-      let are_placed =
-      in_place 1 it.0 (it.2 ∙ ap (λ k. map number_value (count_from 1 k)) (sym many)) in
-      let among : IsPermutation (numbered placed 1 it.0) rows =
-      IsPermutation-trans _ _ _ (subst (λ l. IsPermutation l (map shown xs)) (sym are_placed)
-      (IsPermutation-map shown _ _ (IsPermutation-sym _ _ it.1))) are in
-      (it.0, it.1, one_order placed (λ n x. refl) rows it.0 among up)
+has_mapped : {A B : Type 0} (f : A → B) (xs : List A) (x : A) → Has xs x → Has (map f xs) (f x)
+has_mapped f [] x h = absurd h
+has_mapped f (y ∷ xs) x (inl same) = inl (ap f same)
+has_mapped f (y ∷ xs) x (inr later) = inr (has_mapped f xs x later)
 
-  -- they are commands where the numbers of their replies are in range
-  pub commands_from : (n : ℕ) (zs : List A)
-      → ((x : A) → Has zs x → IsBetween 0 1048576 (column (rest x) 0)
-      × IsBetween 0 1048576 (column (rest x) 1)) → AreCommandsFrom n (numbered placed n zs)
-  commands_from n [] each = tt
-  commands_from n (x ∷ zs) each = (
-    record { number_is = refl; copied = (each x (inl refl)).0; total = (each x (inl refl)).1 },
-    commands_from (n + 1) zs (λ y h. each y (inr h)),
-  )
+mapped_from : {A B : Type 0} (f : A → B) (xs : List A) (y : B) → Has (map f xs) y
+    → (x : A) × Has xs x × (f x ≡ y)
+mapped_from f [] y h = absurd h
+mapped_from f (x ∷ xs) y (inl same) = (x, inl refl, same)
+mapped_from f (x ∷ xs) y (inr later) = let it = mapped_from f xs y later in (it.0, inr it.1, it.2)
 
--- the numbers of rows of commands
-pub numbers_shown : (n : ℕ) (rows : List Row) → AreCommandsFrom n rows
-    → map (λ (row : Row). column row 0) rows ≡ map number_value (count_from n (length rows))
-numbers_shown n [] all = refl
-numbers_shown n (row ∷ rows) all =
-    ap (λ v. v ∷ map (λ (r : Row). column r 0) rows) all.0.number_is
-    ∙ ap (λ l. Int (pos n) ∷ l) (numbers_shown (n + 1) rows all.1)
+module _ (db : Trees) (n : CommandNumbers) (are : AreNumbersShown db n) where
+  -- counted commands are as many as are counted
+  pub count_is : (says : AreCounted n) → says.count ≡ length (db 8)
+  count_is says =
+      count_whole (length (db 8)) 9223372036854775807 says.count (omega (arith, says.few))
+      (same_number _ _ (subst (IsNumber says.count) are.count says.count_is))
 
-pub any_command : (n : ℕ) (rows : List Row) (row : Row) → AreCommandsFrom n rows → Has rows row
-    → (m : ℕ) × IsCommand m row
-any_command n [] row all has = absurd has
-any_command n (r ∷ rows) row all (inl same) = (n, subst (IsCommand n) same all.0)
-any_command n (r ∷ rows) row all (inr later) = any_command (n + 1) rows row all.1 later
+  -- and numbered from 1 to how many they are, if their numbers are integers
+  pub each_numbered : ((row : Row) → Has (db 8) row → (z : ℤ) × (number_of row ≡ Int z))
+      → AreCounted n → (row : Row) → Has (db 8) row → IsBetween 1 (length (db 8)) (number_of row)
+  each_numbered ints says row has = elim are.least [
+    | inl none ↦ absurd (subst (λ rows. Has rows row) none.0 has)
+    | inr first ↦ elim are.greatest [
+      | inl none ↦ absurd (subst (λ rows. Has rows row) none.0 has)
+      | inr last ↦
+          let low : IsBetween 1 says.count (number_of first.0) =
+          subst (IsWithin says.count) first.3 says.least in
+          let high : IsBetween 1 says.count (number_of last.0) =
+          subst (IsWithin says.count) last.3 says.greatest in
+          let it = ints row has in
+          let above : is_less (Int it.0) (Int (pos low.0)) ≡ false =
+          ap (λ v. is_less v (Int (pos low.0))) (sym it.1)
+          ∙ (ap (is_less (number_of row)) (sym low.1) ∙ first.2 row has) in
+          let below : is_greater (Int it.0) (Int (pos high.0)) ≡ false =
+          ap (λ v. is_greater v (Int (pos high.0))) (sym it.1)
+          ∙ (ap (is_greater (number_of row)) (sym high.1) ∙ last.2 row has) in
+          let found = between it.0 low.0 high.0 above below in (
+            found.0,
+            it.1 ∙ ap Int found.1,
+            omega (arith, low.2, found.2),
+            omega (arith, high.3, found.3, count_is says),
+          )
+    ]
+  ]
+
+  within : (before : Value → Value → Bool) (rows : List Row)
+      → ((row : Row) → Has (db 8) row → IsBetween 1 (length (db 8)) (number_of row))
+      → IsFirstBy before number_of (db 8) rows → IsWithin (length (db 8)) rows
+  within before rows each (inl none) = subst (IsWithin (length (db 8))) (sym none.1) tt
+  within before rows each (inr it) =
+      subst (IsWithin (length (db 8))) (sym it.3) (each it.0 it.1)
+
+  -- commands that are numbered so are counted, if there aren't too many
+  pub counted_so : length (db 8) ≤ 100000
+      → ((row : Row) → Has (db 8) row → IsBetween 1 (length (db 8)) (number_of row))
+      → AreCounted n
+  counted_so few each = record {
+    count = length (db 8);
+    count_is = subst (IsNumber (length (db 8))) (sym are.count)
+        (ap (λ k. Int (pos k)) (min-eq_left (omega (arith, few))));
+    few = few;
+    least = within is_less n.least.items each are.least;
+    greatest = within is_greater n.greatest.items each are.greatest;
+  }
+
+-- ---- the commands of a registry
+
+number_kept : (row : Row) → column (columns row) 1 ≡ number_of row
+number_kept [] = refl
+number_kept (v ∷ row) = refl
+
+pub kept_many : (db : Trees) (t : Tables) → HasRows db t → length (db 8) ≡ length t.commands
+kept_many db t has =
+    sym (length-map (db 8) columns) ∙ (length_permutation _ _ has.commands.same
+    ∙ length-map t.commands command_values)
+
+-- they are numbered from 1 to how many they are
+pub kept_numbered : (db : Trees) (t : Tables) → HasCounted db t → (row : Row) → Has (db 8) row
+    → IsBetween 1 (length (db 8)) (number_of row)
+kept_numbered db t has row there =
+    let seq : CommandRow → ℕ = λ c. c.seq in
+    let from = mapped_from command_values t.commands (columns row)
+    (Has-permutation (map columns (db 8)) (map command_values t.commands) (columns row)
+    (IsPermutation-sym _ _ has.rows.commands.same) (has_mapped columns (db 8) row there)) in
+    let number = Has-permutation (map seq t.commands) (numbers_of (length t.commands)) from.0.seq
+    (IsPermutation-sym _ _ has.numbered) (has_mapped seq t.commands from.0 from.1) in
+    let up = counted_up_to (length t.commands) from.0.seq number in (
+      from.0.seq,
+      sym (number_kept row) ∙ ap (λ (r : Row). column r 1) (sym from.2),
+      up.0,
+      omega (arith, up.1, kept_many db t has.rows),
+    )

@@ -1,11 +1,13 @@
 pub mod BlobSectors
 pub mod CountedCommands
+pub mod CountedNumbers
 pub mod FlagNumbers
 pub mod FoundLabels
 pub mod ListMembers
 pub mod NumberedRows
 pub mod ReorderedValues
 pub mod RowsSayRecords
+pub mod RowsSayState
 pub mod RowsSayTables
 pub mod ShownInOrder
 pub mod TypedRecords

@@ -1,7 +1,6 @@
 -- The rows that are shown of a registry's tables say what the tables hold.
-use Rattle.std.proofs.Common.{◌≡◌, ◌∙◌, inl, inr, ℕ, pos, ◌+◌, ◌≤◌, List, [], ◌∷◌, map, length, refl, sym, ap, subst, subst₂, arith}
+use Rattle.std.proofs.Common.{◌≡◌, ◌∙◌, ℕ, ℤ, pos, ◌+◌, List, [], ◌∷◌, map, refl, sym, ap, subst, subst₂, arith}
 use Rattle.std.specs.List.Sorted.{IsPermutation}
-use Rattle.std.proofs.lemmas.List.{length-map}
 use Rattle.std.proofs.lemmas.List.Sorted.{IsPermutation-map, IsPermutation-sym, IsPermutation-trans, length_permutation}
 use Rattle.sqlite.specs.Order.{Row, column}
 use Rattle.sqlite.specs.Tree.{Trees}
@@ -14,20 +13,19 @@ use Rattle.gm_state.specs.declared.intents.Intent.{Intent}
 use Rattle.gm_state.specs.declared.intents.Intent.TheVariants.{Meta, Clear, Copy, Dirty, Patch}
 use Rattle.gm_lists.specs.Ordered.{Has}
 use Rattle.gm_state.specs.Records.{Records}
-use Rattle.gm_state.specs.Rows.{Tables, MirrorRow, ComponentRow, IntentRow, CommandRow, mirror_row, component_row, intent_rows, joined, patch_rows}
-use Rattle.gm_lists.proofs.Sorting.{Has-permutation}
-use Rattle.gm_rows.specs.Rows.{mirror_values, component_values, intent_values, command_values, patch_values}
-use Rattle.gm_rows.specs.Tables.{HasRows, HasCounted, AreNumbered, numbers_of}
-use Rattle.gm_rows.specs.ReadableTables.{AreTablesOf, IsInRange}
+use Rattle.gm_state.specs.Rows.{Tables, MirrorRow, ComponentRow, IntentRow, mirror_row, component_row, intent_rows, joined, patch_rows}
+use Rattle.gm_rows.specs.Rows.{mirror_values, component_values, intent_values, patch_values}
+use Rattle.gm_rows.specs.Tables.{HasRows, HasCounted}
+use Rattle.gm_rows.specs.ReadableTables.{AreTablesOf}
 use Rattle.gm_rows.specs.Values.{columns_at, numbered, two, six, nine, shown_intent, shown_patch}
-use Rattle.gm_rows.specs.Queries.{AreShown, IsShown, IsInOrder, shown_places}
-use Rattle.gm_rows.specs.Says.{number_value, intent_shown, shown_about, IsBetween, IsAbout, AreCommandsFrom, AreCommands, ArePatches, Say, TablesSay}
+use Rattle.gm_rows.specs.Queries.{AreShown, IsShown, number_of, shown_places}
+use Rattle.gm_rows.specs.Says.{intent_shown, shown_about, IsAbout, ArePatches, Say, TablesSay}
 use Rattle.gm_rows.specs.declared.fetched.Fetched.{Fetched}
-use Rattle.gm_rows.specs.declared.fetched.Table.TheVariants.{About, Mirrors, Components, Intents, Commands, Patches}
+use Rattle.gm_rows.specs.declared.fetched.Table.TheVariants.{About, Mirrors, Components, Intents, Patches}
 use Rattle.gm_rows.proofs.ReorderedValues.{same_records}
 use Rattle.gm_rows.proofs.RowsSayRecords.{blob_in}
 use Rattle.gm_rows.proofs.ShownInOrder.{one_order}
-use Rattle.gm_rows.proofs.CountedCommands.{count_from, counted_up, in_their_order, commands_from, numbers_shown, any_command}
+use Rattle.gm_rows.proofs.CountedCommands.{count_is, each_numbered, counted_so, kept_many, kept_numbered}
 
 -- the text and the number of a value
 abbrev pub text_in : Value → List ℕ
@@ -202,76 +200,6 @@ intents_kept db t f ts has are is =
     same_records shown_intent one_intent_row (intent_rows 1 ts) t.intents
     (IsPermutation-sym _ _ (subst (IsPermutation (map shown_intent t.intents)) these shown))
 
--- ---- commands
-
--- what is shown of a command
-abbrev shown_command : CommandRow → Row
-shown_command c = Int (pos c.seq) ∷ Int (pos c.copied) ∷ Int (pos c.of_total) ∷ []
-
-command_picked : (row : Row)
-    → columns_at (1 ∷ 3 ∷ 4 ∷ []) (columns row) ≡ columns_at (shown_places Commands) row
-command_picked [] = refl
-command_picked (x ∷ row) = refl
-
-commands_shown : (db : Trees) (t : Tables) (f : Fetched) → HasRows db t → AreShown db f
-    → IsPermutation (map shown_command t.commands) f.commands.items
-commands_shown db t f has are =
-    shows_records columns (columns_at (1 ∷ 3 ∷ 4 ∷ []))
-    (columns_at (shown_places Commands)) command_values shown_command command_picked
-    (λ c. refl) t.commands f.commands.items (db 8) has.commands are.commands
-
-has_mapped : {A B : Type 0} (f : A → B) (xs : List A) (x : A) → Has xs x → Has (map f xs) (f x)
-has_mapped f [] x h = absurd h
-has_mapped f (y ∷ xs) x (inl same) = inl (ap f same)
-has_mapped f (y ∷ xs) x (inr later) = inr (has_mapped f xs x later)
-
-mapped_from : {A B : Type 0} (f : A → B) (xs : List A) (y : B) → Has (map f xs) y
-    → (x : A) × Has xs x × (f x ≡ y)
-mapped_from f [] y h = absurd h
-mapped_from f (x ∷ xs) y (inl same) = (x, inl refl, same)
-mapped_from f (x ∷ xs) y (inr later) = let it = mapped_from f xs y later in (it.0, inr it.1, it.2)
-
-as_many : (t : Tables) (f : Fetched) → IsPermutation (map shown_command t.commands) f.commands.items
-    → length f.commands.items ≡ length t.commands
-as_many t f are = length_permutation _ _ are ∙ length-map t.commands shown_command
-
-commands_said : (t : Tables) (f : Fetched)
-    → IsPermutation (map shown_command t.commands) f.commands.items → IsInOrder f.commands.items
-    → AreNumbered t.commands
-    → ((c : CommandRow) → Has t.commands c → IsInRange c) → length t.commands ≤ 100000
-    → AreCommands f.commands.items
-commands_said t f are up numbers range few =
-    let seq : CommandRow → ℕ = λ c. c.seq in
-    let rest : CommandRow → Row = λ c. Int (pos c.copied) ∷ Int (pos c.of_total) ∷ [] in
-    let values = subst (IsPermutation (map number_value (numbers_of (length t.commands))))
-    (map-map number_value seq t.commands) (IsPermutation-map number_value _ _ numbers) in
-    let it = in_their_order (λ (c : CommandRow). Int (pos c.seq)) rest t.commands f.commands.items
-    values are up in
-    let many = as_many t f are in
-    record {
-      count = omega (arith, many, few);
-      each = subst (AreCommandsFrom 1) (sym it.2)
-          (commands_from (λ (c : CommandRow). Int (pos c.seq)) rest 1 it.0 (λ c has.
-          let limits =
-          range c (Has-permutation it.0 t.commands c (IsPermutation-sym _ _ it.1) has) in
-          ((c.copied, refl, omega arith, limits.0), (c.of_total, refl, omega arith, limits.1))));
-    }
-
-at_most : (high n : ℕ) → IsBetween 0 high (Int (pos n)) → n ≤ high
-at_most high n it = let e : n ≡ it.0 = same n it.0 it.1 in omega (arith, e, it.3)
-  where
-    same : (a b : ℕ) → ◌≡◌ {A = Value} (Int (pos a)) (Int (pos b)) → a ≡ b
-    same a b e = cc
-
-commands_kept : (t : Tables) (f : Fetched)
-    → IsPermutation (map shown_command t.commands) f.commands.items → AreCommands f.commands.items
-    → (c : CommandRow) → Has t.commands c → IsInRange c
-commands_kept t f are says c has =
-    let it = any_command 1 f.commands.items (shown_command c) says.each
-    (Has-permutation (map shown_command t.commands) f.commands.items (shown_command c) are
-    (has_mapped shown_command t.commands c has)) in
-    (at_most 1048576 c.copied it.1.copied, at_most 1048576 c.of_total it.1.total)
-
 -- ---- bytes to be laid
 
 -- records like that of the bytes, or none, are these
@@ -352,8 +280,8 @@ says_tables db t f s ts bytes has are of = record {
   intents = intents_said db t f ts has.rows are of.intents;
   patches = patches_said db t f bytes has.rows are of.patches;
   readable = of.readable;
-  commands = commands_said t f (commands_shown db t f has.rows are) are.commands_in_order
-      has.numbered of.commands of.count;
+  commands = counted_so db f.commands are.commands
+      (let few = of.count in omega (arith, few, kept_many db t has.rows)) (kept_numbered db t has);
 }
 
 -- and tables that say a state are its
@@ -361,9 +289,9 @@ pub tables_said : (db : Trees) (t : Tables) (f : Fetched) (s : Records) (ts : Li
     (bytes : List (List ℕ)) → HasCounted db t → AreShown db f → Say f s ts bytes
     → AreTablesOf t s ts bytes
 tables_said db t f s ts bytes has are says =
-    let commands = commands_shown db t f has.rows are in
-    let many = as_many t f commands in
-    let count = says.commands.count in
+    let few = says.commands.few in
+    let many = kept_many db t has.rows in
+    let counted = count_is db f.commands are.commands says.commands in
     record {
       state = says.records.state;
       mirrors = kept_of mirror_row mirror_values one_mirror_row s.mirrors t.mirrors _
@@ -375,8 +303,7 @@ tables_said db t f s ts bytes has are says =
       intents = intents_kept db t f ts has.rows are says.intents;
       patches = patches_kept db t f bytes has.rows are says.patches;
       readable = says.readable;
-      commands = commands_kept t f commands says.commands;
-      count = omega (arith, many, count);
+      count = omega (arith, few, many, counted);
     }
 
 -- ---- whatever the tables were to hold
@@ -393,29 +320,12 @@ two_again : (row : Row) → columns_at two (columns_at (shown_places About) row)
     ≡ columns_at (shown_places About) row
 two_again row = refl
 
--- the numbers of the commands that are kept
-numbers_told : (db : Trees) (f : Fetched) → length f.commands.items ≡ length (db 8) → AreShown db f
-    → AreCommandsFrom 1 f.commands.items
-    → IsPermutation (map number_value (numbers_of (length (db 8))))
-    (map (λ (row : Row). column row 2) (db 8))
-numbers_told db f many are each =
-    let rows = f.commands.items in
-    let first : Row → Value = λ row. column row 0 in
-    let kept : IsPermutation (map (λ (row : Row). column row 2) (db 8)) (map first rows) =
-    subst (λ l. IsPermutation l (map first rows))
-    (map-map first (columns_at (shown_places Commands)) (db 8))
-    (IsPermutation-map first _ _ are.commands) in
-    let counted = IsPermutation-map number_value _ _ (counted_up (length (db 8))) in
-    let shown : map first rows ≡ map number_value (count_from 1 (length (db 8))) =
-    numbers_shown 1 rows each ∙ ap (λ k. map number_value (count_from 1 k)) many in
-    IsPermutation-trans _ _ _ counted
-    (IsPermutation-sym _ _ (subst (IsPermutation (map (λ (row : Row). column row 2) (db 8)))
-    shown kept))
-
--- rows that say something say tables that do
+-- rows that say something say tables that do, if the numbers of commands are integers
 pub any_tables : (db : Trees) (f : Fetched) (s : Records) (ts : List Intent)
-    (bytes : List (List ℕ)) → AreShown db f → Say f s ts bytes → TablesSay db s ts bytes
-any_tables db f s ts bytes are says =
+    (bytes : List (List ℕ))
+    → ((row : Row) → Has (db 8) row → (z : ℤ) × (number_of row ≡ Int z))
+    → AreShown db f → Say f s ts bytes → TablesSay db s ts bytes
+any_tables db f s ts bytes ints are says =
     let one : List Row = shown_about 2 ∷ [] in
     let about : IsPermutation (map (columns_at (shown_places About)) (db 0)) one =
     subst (IsPermutation (map (columns_at (shown_places About)) (db 0))) says.about
@@ -427,9 +337,8 @@ any_tables db f s ts bytes are says =
     (db 4) f.components.items are.components in
     let intents = again_shown (columns_at six) (columns_at (shown_places Intents)) six_again
     (db 7) f.intents.items are.intents in
-    let stored = columns_at (shown_places Commands) in
-    let many : length f.commands.items ≡ length (db 8) =
-    length_permutation _ _ are.commands ∙ length-map (db 8) stored in
+    let few = says.commands.few in
+    let counted = count_is db f.commands are.commands says.commands in
     record {
       state = says.records.state;
       about = one_permutation (shown_about 2) _ (IsPermutation-sym _ _ about);
@@ -444,13 +353,8 @@ any_tables db f s ts bytes are says =
           (IsPermutation-sym _ _ (again_shown (columns_at two)
           (columns_at (shown_places Patches)) two_again (db 11) f.patches.items are.patches)));
       readable = says.readable;
-      count = subst (λ n. n ≤ 100000) many says.commands.count;
-      numbers = numbers_told db f many are says.commands.each;
-      replies = λ row has.
-          let it = any_command 1 f.commands.items (stored row) says.commands.each
-          (Has-permutation (map stored (db 8)) f.commands.items (stored row) are.commands
-          (has_mapped stored (db 8) row has)) in
-          (it.1.copied, it.1.total);
+      count = omega (arith, few, counted);
+      numbers = each_numbered db f.commands are.commands ints says.commands;
     }
 
 -- and tables that say something are shown by rows that do
@@ -468,13 +372,6 @@ any_rows db f s ts bytes are of =
     let intents : f.intents.items ≡ numbered intent_shown 1 ts =
     one_order intent_shown first_is_number f.intents.items ts
     (IsPermutation-trans _ _ _ of.intents are.intents) are.in_order in
-    let stored = columns_at (shown_places Commands) in
-    let many : length f.commands.items ≡ length (db 8) =
-    length_permutation _ _ are.commands ∙ length-map (db 8) stored in
-    let number : Row → Value = λ row. column row 2 in
-    let rest : Row → Row = λ row. column row 4 ∷ column row 5 ∷ [] in
-    let order = in_their_order number rest (db 8) f.commands.items of.numbers are.commands
-    are.commands_in_order in
     record {
       about = ap (map (columns_at two)) about;
       records = record {
@@ -487,11 +384,5 @@ any_rows db f s ts bytes are of =
           (subst (λ l. IsPermutation l f.patches.items) of.patches are.patches))
           ∙ patches_again bytes;
       readable = of.readable;
-      commands = record {
-        count = subst (λ n. n ≤ 100000) (sym many) of.count;
-        each = subst (AreCommandsFrom 1) (sym order.2)
-            (commands_from number rest 1 order.0
-            (λ row has. of.replies row (Has-permutation order.0 (db 8) row
-            (IsPermutation-sym _ _ order.1) has)));
-      };
+      commands = counted_so db f.commands are.commands of.count of.numbers;
     }

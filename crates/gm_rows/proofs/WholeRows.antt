@@ -10,7 +10,7 @@ use Rattle.sqlite_schema.specs.Names.{is_key}
 use Rattle.sqlite_schema.specs.Rules.{are_typed, are_present}
 use Rattle.sqlite_sql.specs.Ops.{is_null}
 use Rattle.gm_rows.specs.Values.{columns_at}
-use Rattle.gm_rows.proofs.CountedCommands.{count_from}
+use Rattle.gm_rows.proofs.CountedNumbers.{count_from}
 
 -- none of the columns may be NULL
 abbrev pub are_required : List Column → Bool

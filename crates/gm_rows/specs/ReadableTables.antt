@@ -13,6 +13,10 @@ use Rattle.gm_rows.specs.Tables.{Holds}
 abbrev pub IsInRange : CommandRow → Type 0
 IsInRange c = (c.copied ≤ 1048576) × (c.of_total ≤ 1048576)
 
+-- so are those of each
+abbrev pub AreRepliesInRange : Tables → Type 0
+AreRepliesInRange t = (c : CommandRow) → Has t.commands c → IsInRange c
+
 -- the rows of mirrors and components are those of the records, in some order
 pub record HoldState (s : Records) (t : Tables) : Type 0 where
   pub mirrors : IsPermutation (map mirror_row s.mirrors) t.mirrors
@@ -24,7 +28,7 @@ pub record AreRecordsOf (t : Tables) (s : Records) : Type 0 where
   pub rows : HoldState s t
 
 -- The tables are those of a state with these intents pending, which are numbered from 1 in their
--- order, and these bytes to be laid.
+-- order, and these bytes to be laid, with no more commands than there may be.
 pub record AreTablesOf (t : Tables) (s : Records) (ts : List Intent)
     (bytes : List (List ℕ)) : Type 0 where
   pub state : IsState s
@@ -33,7 +37,6 @@ pub record AreTablesOf (t : Tables) (s : Records) (ts : List Intent)
   pub intents : IsPermutation (intent_rows 1 ts) t.intents
   pub patches : t.patches ≡ patch_rows bytes
   pub readable : AreReadable s bytes ts
-  pub commands : (c : CommandRow) → Has t.commands c → IsInRange c
   pub count : length t.commands ≤ 100000
 
 -- the store holds a registry of the state, with these intents and these bytes pending

@@ -1,6 +1,6 @@
 -- The form that code goes by: what the rows that are shown of the tables say. `ReadableTables`
 -- defines readable tables.
-use Rattle.std.specs.Prelude.{◌≡◌, ◌≤◌, ◌+◌, ℕ, List, [], ◌∷◌, length, map, pos}
+use Rattle.std.specs.Prelude.{◌≡◌, ◌≤◌, ℕ, List, [], ◌∷◌, length, map, pos}
 use Rattle.std.specs.List.Sorted.{IsPermutation}
 use Rattle.sqlite.specs.Order.{Row, column}
 use Rattle.sqlite_value.specs.declared.value.Value.{Value}
@@ -13,12 +13,12 @@ use Rattle.gm_state.specs.Records.{Records, IsState}
 use Rattle.gm_state.specs.Rows.{mirror_row, component_row, intent_row, patch_rows}
 use Rattle.gm_rows.specs.Rows.{mirror_values, component_values}
 use Rattle.gm_state.specs.Readable.{AreReadable}
-use Rattle.gm_rows.specs.Tables.{numbers_of}
 use Rattle.gm_rows.specs.Values.{columns_at, numbered, two, six, nine, shown_intent, shown_patch}
 use Rattle.sqlite.specs.Tree.{Trees}
 use Rattle.gm_rows.specs.Queries.{shown_places}
 use Rattle.gm_rows.specs.declared.fetched.Table.TheVariants.{About, Mirrors, Components, Intents, Patches}
 use Rattle.gm_rows.specs.declared.fetched.Fetched.{Fetched}
+use Rattle.gm_rows.specs.declared.command_numbers.CommandNumbers.{CommandNumbers}
 
 abbrev pub mirror_shown : Mirror → Row
 mirror_shown m = mirror_values (mirror_row m)
@@ -29,23 +29,27 @@ component_shown k = component_values (component_row k)
 abbrev pub intent_shown : ℕ → Intent → Row
 intent_shown n t = shown_intent (intent_row n t)
 
-abbrev pub number_value : ℕ → Value
-number_value n = Int (pos n)
-
 -- a number from low to high
 abbrev pub IsBetween : ℕ → ℕ → Value → Type 0
 IsBetween low high value = (n : ℕ) × (value ≡ Int (pos n)) × (low ≤ n) × (n ≤ high)
 
--- the number of a command, and the two numbers of its reply
-pub record IsCommand (number : ℕ) (row : Row) : Type 0 where
-  pub number_is : column row 0 ≡ Int (pos number)
-  pub copied : IsBetween 0 1048576 (column row 1)
-  pub total : IsBetween 0 1048576 (column row 2)
+-- the rows begin with this number
+abbrev pub IsNumber : ℕ → List Row → Type 0
+IsNumber n [] = ⊥
+IsNumber n (row ∷ more) = column row 0 ≡ Int (pos n)
 
--- each row bears the number after that of the row before
-abbrev pub AreCommandsFrom : ℕ → List Row → Type 0
-AreCommandsFrom n [] = Unit {0}
-AreCommandsFrom n (row ∷ more) = IsCommand n row × AreCommandsFrom (n + 1) more
+-- the rows begin with a number from 1 to this one, or are none
+abbrev pub IsWithin : ℕ → List Row → Type 0
+IsWithin high [] = Unit {0}
+IsWithin high (row ∷ more) = IsBetween 1 high (column row 0)
+
+-- there aren't too many commands, and none is numbered below 1 or above how many there are
+pub record AreCounted (n : CommandNumbers) : Type 0 where
+  pub count : ℕ
+  pub count_is : IsNumber count n.count.items
+  pub few : count ≤ 100000
+  pub least : IsWithin count n.least.items
+  pub greatest : IsWithin count n.greatest.items
 
 -- what is shown of the one record of `about` in a store of this schema
 abbrev pub shown_about : ℕ → Row
@@ -58,11 +62,6 @@ IsAbout schema_no rows = map (columns_at two) rows ≡ shown_about schema_no ∷
 -- the rows of `patches` are the record of these bytes, or none where there are none
 abbrev pub ArePatches : List (List ℕ) → List Row → Type 0
 ArePatches bytes rows = map (columns_at two) rows ≡ map shown_patch (patch_rows bytes)
-
--- the rows are those of commands, numbered from 1, of which there may be so many
-pub record AreCommands (rows : List Row) : Type 0 where
-  pub count : length rows ≤ 100000
-  pub each : AreCommandsFrom 1 rows
 
 -- the rows are those of the records of a state, in some order
 pub record SayState (mirrors components : List Row) (s : Records) : Type 0 where
@@ -78,11 +77,20 @@ pub record Say (f : Fetched) (s : Records) (ts : List Intent) (bytes : List (Lis
   pub intents : map (columns_at six) f.intents.items ≡ numbered intent_shown 1 ts
   pub patches : ArePatches bytes f.patches.items
   pub readable : AreReadable s bytes ts
-  pub commands : AreCommands f.commands.items
+  pub commands : AreCounted f.commands
+
+-- The tables of mirrors and of components, whatever they were to hold, are those of a state: their
+-- columns say just these records.
+pub record RecordsSay (db : Trees) (s : Records) : Type 0 where
+  pub state : IsState s
+  pub mirrors : IsPermutation (map mirror_shown s.mirrors)
+      (map (columns_at (shown_places Mirrors)) (db 1))
+  pub components : IsPermutation (map component_shown s.components)
+      (map (columns_at (shown_places Components)) (db 4))
 
 -- The tables, whatever they were to hold, are those of a state and of intents and bytes that are
--- readable for it: their columns say just these records, the commands count from 1 without gaps,
--- and the numbers of replies are in range.
+-- readable for it: their columns say just these records, and each command's number is from 1 to how
+-- many there are, so that they count without gaps, as no number comes twice.
 pub record TablesSay (db : Trees) (s : Records) (ts : List Intent) (bytes : List (List ℕ)) : Type 0
   where
     pub state : IsState s
@@ -97,7 +105,9 @@ pub record TablesSay (db : Trees) (s : Records) (ts : List Intent) (bytes : List
         ≡ map shown_patch (patch_rows bytes)
     pub readable : AreReadable s bytes ts
     pub count : length (db 8) ≤ 100000
-    pub numbers : IsPermutation (map number_value (numbers_of (length (db 8))))
-        (map (λ row. column row 2) (db 8))
-    pub replies : (row : Row) → Has (db 8) row
-        → IsBetween 0 1048576 (column row 4) × IsBetween 0 1048576 (column row 5)
+    pub numbers : (row : Row) → Has (db 8) row → IsBetween 1 (length (db 8)) (column row 2)
+
+-- the numbers of each command's reply are in range
+abbrev pub RepliesSay : Trees → Type 0
+RepliesSay db = (row : Row) → Has (db 8) row
+    → IsBetween 0 1048576 (column row 4) × IsBetween 0 1048576 (column row 5)

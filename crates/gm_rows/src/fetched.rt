@@ -1,24 +1,24 @@
-//! The rows of the tables, as the queries of them whole show them.
+//! What a registry's tables are read as: the rows that the queries of them whole show, and of the
+//! commands their numbers alone.
 
 ghost use Rattle.std.specs.Prelude.{◌≡◌};
 ghost use Rattle.gm_rows.specs.Queries.{query_text};
 
+use crate::command_numbers::CommandNumbers;
 use sqlite::Row;
 
-/// The tables of a registry.
+/// The tables of a registry that are read whole.
 #[derive(Clone, Copy, Debug, PartialEq, Eq)]
 pub enum Table {
     About,
     Mirrors,
     Components,
     Intents,
-    Commands,
     Patches,
 }
 
 impl Table {
-    /// The query that shows all its rows: of intents and commands by their numbers, else in any
-    /// order.
+    /// The query that shows all its rows: of intents by their numbers, else in any order.
     pub fn query(self) -> &'static str
         ensures { result.now ≡ query_text self }
     {
@@ -33,19 +33,18 @@ impl Table {
             Table::Intents => {
                 "SELECT ord, kind, prov, source, first_sector, end_sector FROM intents ORDER BY ord"
             }
-            Table::Commands => "SELECT seq, copied, of_total FROM commands ORDER BY seq",
             Table::Patches => "SELECT one, bytes FROM patches",
         }
     }
 }
 
-/// The rows of all tables, as their queries show them.
+/// The rows of the tables that are read whole, and the numbers of the commands.
 #[derive(Debug, Drop)]
 pub struct Fetched {
     pub about: Vec<Row>,
     pub mirrors: Vec<Row>,
     pub components: Vec<Row>,
     pub intents: Vec<Row>,
-    pub commands: Vec<Row>,
+    pub commands: CommandNumbers,
     pub patches: Vec<Row>,
 }

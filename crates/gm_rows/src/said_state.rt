@@ -1,19 +1,18 @@
 //! What the rows of all tables say, where they say a state.
 
 ghost use Rattle.std.specs.Prelude.{IfErr, ◌≡◌, ◌≢◌, ◌↔◌, ℕ, IsTrue, List, IfOk};
-ghost use Rattle.sqlite.specs.Order.{column};
 ghost use Rattle.gm_state.specs.declared.intents.Intent.{Intent};
 ghost use Rattle.gm_state.specs.Records.{Records};
 ghost use Rattle.gm_state.specs.Readable.{AreSectors};
-ghost use Rattle.gm_rows.specs.Says.{IsBetween, IsCommand, IsAbout, AreCommands, ArePatches, SayState, Say};
+ghost use Rattle.gm_rows.specs.Says.{IsAbout, ArePatches, SayState, Say};
 ghost use Rattle.gm_rows.specs.Faults.{OnUnreadable};
 
+use crate::command_numbers::are_counted;
 use crate::fault::StoreFault;
 use crate::fetched::Fetched;
-use crate::read_column::{bytes_at, is_number_at, u64_at};
+use crate::read_column::{bytes_at, is_number_at};
 use crate::shown::read_all;
-use gm_commands::MAX_COMMANDS;
-use gm_state::{Component, Intent, MAX_SECTORS, Mirror, State, are_readable, one_row};
+use gm_state::{Component, Intent, Mirror, State, are_readable, one_row};
 use sqlite::Row;
 use std::alloc::Global;
 
@@ -26,39 +25,6 @@ pub struct Loaded {
     pub bytes: Vec<[u8; 512]>,
 }
 
-fn is_between(row: &Row, at: usize, low: u64, high: u64) -> bool
-    ensures { IsTrue result ↔ IsBetween low high (column row.now at) }
-{
-    match u64_at(row, at) {
-        Some(number) => low <= number && number <= high,
-        None => false,
-    }
-}
-
-/// Whether a row of `commands` bears this number.
-fn is_command(row: &Row, number: u64) -> bool
-    ensures { IsTrue result ↔ IsCommand number row.now }
-{
-    is_number_at(row, 0, number)
-        && is_between(row, 1, 0, u64::from(MAX_SECTORS))
-        && is_between(row, 2, 0, u64::from(MAX_SECTORS))
-}
-
-/// Whether the nth row bears the number n, and there aren't too many.
-fn are_commands(rows: &[Row]) -> bool
-    ensures { IsTrue result ↔ AreCommands rows.now }
-{
-    if rows.len() > MAX_COMMANDS as usize {
-        return false;
-    }
-    'rows: for (index, row) in rows.iter().enumerate() {
-        if !is_command(row, index as u64 + 1) {
-            return false;
-        }
-    }
-    true
-}
-
 /// Whether the rows of `about` are the one record of a schema, (1, its number).
 pub fn is_about(rows: &[Row], schema_no: u64) -> bool
     ensures { IsTrue result ↔ IsAbout schema_no rows.now }
@@ -67,7 +33,11 @@ pub fn is_about(rows: &[Row], schema_no: u64) -> bool
 }
 
 /// The state that the rows of mirrors and components say; `Unreadable` where they say none.
-fn read_state(alloc: Global, mirrors: &[Row], components: &[Row]) -> Result<State, StoreFault>
+pub fn state_of_rows(
+    alloc: Global,
+    mirrors: &[Row],
+    components: &[Row],
+) -> Result<State, StoreFault>
     ensures says { IfOk result (λ s. SayState mirrors.now components.now s) }
     ensures only { IfOk result (λ s. (other : Records) → SayState mirrors.now components.now other
         → other ≡ s) }
@@ -106,17 +76,18 @@ fn read_patches(alloc: Global, rows: &[Row]) -> Result<Vec<[u8; 512]>, StoreFaul
     Ok(bytes)
 }
 
-/// What all rows say; `Unreadable` where they say nothing that a registry holds.
+/// What the rows say; `Unreadable` where they say nothing that a registry holds, or the commands
+/// aren't counted by their numbers.
 pub fn judge(alloc: Global, fetched: &Fetched) -> Result<Loaded, StoreFault>
     ensures says { IfOk result (λ l. Say fetched.now l.state l.intents.items l.bytes.items) }
     ensures fault { IfErr result (λ e. e ≢ StoreFault.Store) }
     ensures unreadable { OnUnreadable result ((s : Records) (ts : List Intent)
         (bytes : List (List ℕ)) → Say fetched.now s ts bytes → ⊥) }
 {
-    if !is_about(&fetched.about, 2) || !are_commands(&fetched.commands) {
+    if !is_about(&fetched.about, 2) || !are_counted(&fetched.commands) {
         return Err(StoreFault::Unreadable);
     }
-    let state = read_state(alloc, &fetched.mirrors, &fetched.components)?;
+    let state = state_of_rows(alloc, &fetched.mirrors, &fetched.components)?;
     let intents: Vec<Intent> = read_all(alloc, &fetched.intents)?;
     let bytes = read_patches(alloc, &fetched.patches)?;
     if !are_readable(&state, &bytes, &intents) {

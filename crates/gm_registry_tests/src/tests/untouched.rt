@@ -1,6 +1,6 @@
 //! Stores that can't be read, which an opening and a loading leave as they are.
 
-use super::loading::{EDITS, ROWS};
+use super::loading::{OTHER_EDITS, RECORD_EDITS, ROWS};
 use super::stops::{edited, one_command, run};
 use super::{inserts, must};
 use gm_test_media::StoreBytes;
@@ -38,5 +38,6 @@ fn what_cannot_be_read_keeps_its_bytes(rt: HostRuntime) {
     let empty = edited(&rt, &registry, EMPTY);
     let rows = edited(&rt, &empty, ROWS);
     must(&rt, !is_left_alone(&rt, &rows), "a state is unread");
-    are_left_alone(&rt, &rows, &EDITS);
+    are_left_alone(&rt, &rows, &RECORD_EDITS);
+    are_left_alone(&rt, &rows, &OTHER_EDITS);
 }

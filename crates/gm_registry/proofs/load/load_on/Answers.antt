@@ -2,6 +2,7 @@ use Rattle.sqlite.specs.Held.{state}
 use Rattle.sqlite_rows.proofs.Refusing.{if_ok, if_err}
 use Rattle.gm_registry.proofs.ReadsInTurn.{ours, counted, tables_stay, registry_ours, read_leaves}
 use Rattle.gm_rows.proofs.RowsSayTables.{says_tables, tables_said, any_tables, any_rows}
+use Rattle.gm_registry.proofs.Stored.{registry_numbers}
 use Rattle.gm_registry.proofs.CallsLeave.{saved, answered_reads, failed_reads}
 use Rattle.gm_registry.proofs.load.load_on.Goals as goal
 
@@ -45,7 +46,7 @@ returns-clause-says g c clean =
     let old = state g.S.Store c.args.conn.now in
     if_ok c.judge.result _ _
     (λ l says was. any_tables old.now.trees c.in_ok-fetched.fetched l.state l.intents.items
-    l.bytes.items (c.in_ok-fetched.ensures.rows clean (registry_ours old was)) says)
+    l.bytes.items (registry_numbers old was) (c.in_ok-fetched.ensures.rows clean (registry_ours old was)) says)
     c.judge.ensures.says
 
 pub returns-clause-silent : goal.returns-clause-silent

@@ -1,8 +1,8 @@
-use Rattle.std.proofs.Common.{inl, inr, refl}
+use Rattle.std.proofs.Common.{refl}
 use Rattle.sqlite.specs.Held.{state}
 use Rattle.sqlite_rows.proofs.Refusing.{on_err}
-use Rattle.gm_rows.specs.Queries.{IsShown, IsInOrder}
-use Rattle.gm_rows.specs.declared.fetched.Table.TheVariants.{Mirrors, Components, Intents, Commands, Patches}
+use Rattle.gm_rows.specs.Queries.{IsShown, IsInOrder, AreNumbersShown}
+use Rattle.gm_rows.specs.declared.fetched.Table.TheVariants.{Mirrors, Components, Intents, Patches}
 use Rattle.gm_registry.proofs.ReadsInTurn.{read_then, failed_then, clean_before, carried}
 use Rattle.gm_registry.proofs.whole_tables.fetch.Goals as goal
 
@@ -43,7 +43,7 @@ returns-in_err-commands-clause-failed g c =
     let s2 = state g.S.Store c.rows_of-2.new.conn in
     let s3 = state g.S.Store c.rows_of-3.new.conn in
     let s4 = state g.S.Store c.rows_of-4.new.conn in
-    let s5 = state g.S.Store c.rows_of-5.new.conn in
+    let s5 = state g.S.Store c.fetch_numbers.new.conn in
     let first = read_then s0 s1 s2 c.in_ok-about.ensures.read c.in_ok-mirrors.ensures.read in
     let second = read_then s0 s2 s3 first c.in_ok-components.ensures.read in
     let third = read_then s0 s3 s4 second c.in_ok-intents.ensures.read in
@@ -57,8 +57,8 @@ returns-in_err-patches-clause-failed g c =
     let s2 = state g.S.Store c.rows_of-2.new.conn in
     let s3 = state g.S.Store c.rows_of-3.new.conn in
     let s4 = state g.S.Store c.rows_of-4.new.conn in
-    let s5 = state g.S.Store c.rows_of-5.new.conn in
-    let s6 = state g.S.Store c.rows_of-6.new.conn in
+    let s5 = state g.S.Store c.fetch_numbers.new.conn in
+    let s6 = state g.S.Store c.rows_of-5.new.conn in
     let first = read_then s0 s1 s2 c.in_ok-about.ensures.read c.in_ok-mirrors.ensures.read in
     let second = read_then s0 s2 s3 first c.in_ok-components.ensures.read in
     let third = read_then s0 s3 s4 second c.in_ok-intents.ensures.read in
@@ -73,8 +73,8 @@ returns-clause-read g c =
     let s2 = state g.S.Store c.rows_of-2.new.conn in
     let s3 = state g.S.Store c.rows_of-3.new.conn in
     let s4 = state g.S.Store c.rows_of-4.new.conn in
-    let s5 = state g.S.Store c.rows_of-5.new.conn in
-    let s6 = state g.S.Store c.rows_of-6.new.conn in
+    let s5 = state g.S.Store c.fetch_numbers.new.conn in
+    let s6 = state g.S.Store c.rows_of-5.new.conn in
     let first = read_then s0 s1 s2 c.in_ok-about.ensures.read c.in_ok-mirrors.ensures.read in
     let second = read_then s0 s2 s3 first c.in_ok-components.ensures.read in
     let third = read_then s0 s3 s4 second c.in_ok-intents.ensures.read in
@@ -88,8 +88,8 @@ returns-clause-rows g c clean ours =
     let s2 = state g.S.Store c.rows_of-2.new.conn in
     let s3 = state g.S.Store c.rows_of-3.new.conn in
     let s4 = state g.S.Store c.rows_of-4.new.conn in
-    let s5 = state g.S.Store c.rows_of-5.new.conn in
-    let s6 = state g.S.Store c.rows_of-6.new.conn in
+    let s5 = state g.S.Store c.fetch_numbers.new.conn in
+    let s6 = state g.S.Store c.rows_of-5.new.conn in
     let first = read_then s0 s1 s2 c.in_ok-about.ensures.read c.in_ok-mirrors.ensures.read in
     let second = read_then s0 s2 s3 first c.in_ok-components.ensures.read in
     let third = read_then s0 s3 s4 second c.in_ok-intents.ensures.read in
@@ -109,12 +109,9 @@ returns-clause-rows g c clean ours =
       intents = carried s0 s3 (λ db. IsShown db Intents c.in_ok-intents.intents.items) second clean3
           (c.in_ok-intents.ensures.rows clean4) ours;
       in_order = carried s0 s3 (λ db. IsInOrder c.in_ok-intents.intents.items) second clean3
-          (c.in_ok-intents.ensures.in_order (inl refl) clean4) ours;
-      commands = carried s0 s4 (λ db. IsShown db Commands c.in_ok-commands.commands.items) third
-          clean4 (c.in_ok-commands.ensures.rows clean5) ours;
-      commands_in_order =
-          carried s0 s4 (λ db. IsInOrder c.in_ok-commands.commands.items) third clean4
-          (c.in_ok-commands.ensures.in_order (inr refl) clean5) ours;
+          (c.in_ok-intents.ensures.in_order refl clean4) ours;
+      commands = carried s0 s4 (λ db. AreNumbersShown db c.in_ok-commands.commands) third clean4
+          (c.in_ok-commands.ensures.rows clean5) ours;
       patches = carried s0 s5 (λ db. IsShown db Patches c.in_ok-patches.patches.items) fourth clean5
           (c.in_ok-patches.ensures.rows clean) ours;
     }

@@ -1,11 +1,11 @@
-use Rattle.std.proofs.Common.{inl, inr, [], ◌∷◌, sym, ◌∙◌, subst}
+use Rattle.std.proofs.Common.{[], ◌∷◌, sym, ◌∙◌, subst}
 use Rattle.sqlite.specs.State.{Shown}
 use Rattle.sqlite.specs.Held.{state}
 use Rattle.gm_rows.specs.Queries.{query_text}
 use Rattle.gm_registry.specs.Reads.{IsOurSchema}
 use Rattle.gm_registry.proofs.WholeQueries.{answers, ours_have, shows, read, failed}
 use Rattle.gm_rows.proofs.ShownInOrder.{in_order}
-use Rattle.gm_rows.specs.declared.fetched.Table.TheVariants.{Intents, Commands}
+use Rattle.gm_rows.specs.declared.fetched.Table.TheVariants.{Intents}
 use Rattle.gm_registry.proofs.Failures.{table_failed}
 use Rattle.gm_registry.proofs.whole_tables.rows_of.Goals as goal
 
@@ -34,14 +34,9 @@ returns-in-Ok-clause-in_order g c by_number clean ours =
     let old = state g.S.Store c.args.conn.now in
     let new = state g.S.Store c.query_all.new.self in
     let shown = rw c.query.ensures at (c.in-Ok.ensures.ok clean) in
-    elim by_number [
-      | inl is ↦ in_order 7 0 (2 ∷ 3 ∷ 4 ∷ 5 ∷ 6 ∷ []) old.now.trees c.in-Ok.rows.items
-          (answers Intents old new c.in-Ok.rows.items ours
-          (subst (λ t. Shown (query_text t) [] old new c.in-Ok.rows.items) is shown))
-      | inr is ↦ in_order 8 2 (4 ∷ 5 ∷ []) old.now.trees c.in-Ok.rows.items
-          (answers Commands old new c.in-Ok.rows.items ours
-          (subst (λ t. Shown (query_text t) [] old new c.in-Ok.rows.items) is shown))
-    ]
+    in_order 7 0 (2 ∷ 3 ∷ 4 ∷ 5 ∷ 6 ∷ []) old.now.trees c.in-Ok.rows.items
+    (answers Intents old new c.in-Ok.rows.items ours
+    (subst (λ t. Shown (query_text t) [] old new c.in-Ok.rows.items) by_number shown))
 
 pub returns-in-Err-clause-store : goal.returns-in-Err-clause-store
 returns-in-Err-clause-store g c clean is ours is_open =

@@ -4,7 +4,7 @@ use Rattle.gm_rows.specs.Values.{IsMirrorValue, IsComponentValue}
 use Rattle.gm_rows.proofs.TypedRecords.{mirror_value, component_value}
 use Rattle.gm_rows.proofs.RowsSayRecords.{one_mirror, one_component, says_these, none_said, read_said, passed_on}
 use Rattle.gm_state.proofs.MadeState.{same_state}
-use Rattle.gm_rows.proofs.said_state.read_state.Goals as goal
+use Rattle.gm_rows.proofs.said_state.state_of_rows.Goals as goal
 
 pub returns-in_err-mirrors-clause-unreadable : goal.returns-in_err-mirrors-clause-unreadable
 returns-in_err-mirrors-clause-unreadable c =
