@@ -9,7 +9,7 @@ use gm_process::{Failure, Status, Streams};
 use gm_refusals::{CallRefusal, Refusal};
 use gm_reports::as_line;
 use gm_sentences::{About, call_sentence};
-use gm_shelf::{FileShelf, Shelf};
+use gm_shelf::{FileShelf, Shelf, read_last};
 use gm_words::dump_text;
 use std::alloc::{AllocError, Global};
 use std::io::Write;
@@ -19,15 +19,13 @@ fn last_sector<H: Shelf>(
     shelf: &mut H,
     provider: Label,
 ) -> Result<Result<[u8; 512], DumpRefusal>, Failure> {
-    let Some(count) = shelf.sectors(provider) else {
-        return Ok(Err(DumpRefusal::Absent));
-    };
-    if count == 0 {
-        return Ok(Err(DumpRefusal::WrongSize));
+    match read_last(shelf, provider)? {
+        Some(sector) => Ok(Ok(sector)),
+        None => Ok(Err(match shelf.sectors(provider) {
+            Some(_) => DumpRefusal::WrongSize,
+            None => DumpRefusal::Absent,
+        })),
     }
-    let mut sector = [0; 512];
-    shelf.read(provider, count - 1, &mut sector)?;
-    Ok(Ok(sector))
 }
 
 // What a last sector says, as JSON.

@@ -4,6 +4,7 @@ pub mod Fresh
 pub mod InTurn
 pub mod Keeping
 pub mod KeyNames
+pub mod LastRead
 pub mod LastWrite
 pub mod NothingWritten
 pub mod OneMorePick

@@ -1,7 +1,9 @@
 -- What a call leaves of a shelf, at each of its exits.
-use Rattle.std.specs.Prelude.{◌≡◌, ◌≤◌}
+use Rattle.std.specs.Prelude.{◌≡◌, ◌≤◌, ◌<◌, Result, IsErrOf}
 use Rattle.gm_shelf.specs.Disk.{AreReads}
 use Rattle.gm_shelf.specs.declared.shelf.Shelf.{Ghosts}
+use Rattle.gm_shelf.specs.declared.fault.ShelfFault.{ShelfFault}
+use Rattle.gm_shelf.specs.declared.fault.ShelfFault.TheVariants.{Absent, Range, Device}
 
 module _ {H : Type 0} (g : Ghosts H) (old new : H) where
   -- An honest shelf stays so, its sizes stay, and its count of failures doesn't fall.
@@ -14,3 +16,12 @@ module _ {H : Type 0} (g : Ghosts H) (old new : H) where
   pub record ReadsOnly : Type 0 where
     pub keeps : Keeps
     pub reads : g.honest old → AreReads (g.view old) (g.view new)
+
+-- A call that only reads, and only what is there: it fails for want of memory, or where the device
+-- failed and that was counted.
+pub record Looks {H T : Type 0} (g : Ghosts H) (old new : H) (result : Result T ShelfFault) :
+    Type 0 where
+  pub only : ReadsOnly g old new
+  pub device : IsErrOf result Device → (g.view old).faults < (g.view new).faults
+  pub absent : IsErrOf result Absent → ⊥
+  pub range : IsErrOf result Range → ⊥

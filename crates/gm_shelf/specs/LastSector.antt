@@ -1,8 +1,18 @@
--- One sector that is written and then fixed.
-use Rattle.std.specs.Prelude.{◌≡◌, ◌≤◌, ◌⊎◌, ℕ, List, OnOk, OnErr}
+-- The last sector of a provider, and one sector that is written and then fixed.
+use Rattle.std.specs.Prelude.{◌≡◌, ◌≤◌, ◌⊎◌, ◌-◌, ◌==◌, ℕ, List, Option, Some, None, OnOk, OnErr, if◌then◌else◌}
+use Rattle.std.specs.Option.{option_and_then}
 use Rattle.gm_metadata.specs.declared.label.Label.{Label}
-use Rattle.gm_metadata.specs.Images.{Image, Same, put}
+use Rattle.gm_metadata.specs.Images.{Image, Same, Sizes, put, zeros}
 use Rattle.gm_shelf.specs.Disk.{View, Answer, Torn, From}
+
+-- the last of so many sectors; zeros are the one of a provider without sectors
+abbrev pub last_of : ℕ → (ℕ → List ℕ) → List ℕ
+last_of n sectors = if n == 0 then zeros else sectors (n - 1)
+
+-- the last sector of a provider that is there and has one
+abbrev pub last_sector : Sizes → Image → Label → Option (List ℕ)
+last_sector size seen p =
+    option_and_then (λ n. if n == 0 then None else Some (seen p (n - 1))) (size p)
 
 -- the sector is old or new, and every other is as it was: in what a read gives, and in each image
 -- that a crash may leave, now or at any moment since

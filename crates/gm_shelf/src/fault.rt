@@ -3,7 +3,7 @@
 ghost use Rattle.std.specs.Prelude.{◌≡◌, ◌≤◌, ◌<◌, ◌+◌, ◌==◌, ◌↔◌, None, IfErr, IsOk, IsErrOf, IsSomeAnd, if◌then◌else◌};
 ghost use Rattle.gm_shelf.specs.Faults.{fault_number, fault_after, count_after};
 
-use std::alloc::AllocFailed;
+use std::alloc::{AllocError, AllocFailed};
 use std::error::Error;
 use std::fmt;
 
@@ -58,6 +58,16 @@ impl<T: Drop> From<AllocFailed<T>> for ShelfFault {
     ghost from_gives = { λ _ e. e ≡ Memory };
 
     fn from(_: AllocFailed<T>) -> Self {
+        ShelfFault::Memory
+    }
+}
+
+impl From<AllocError> for ShelfFault {
+    ghost use Rattle.gm_shelf.specs.declared.fault.ShelfFault.TheVariants.{Memory};
+
+    ghost from_gives = { λ _ e. e ≡ Memory };
+
+    fn from(_: AllocError) -> Self {
         ShelfFault::Memory
     }
 }

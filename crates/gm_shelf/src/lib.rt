@@ -2,7 +2,8 @@
 //! a call fails.
 //!
 //! Begin with `shelf.rt`, the trait `Shelf` and its law; `fault.rt` has the four faults and when
-//! each comes. `last_sector.rt` writes a last sector so that it is old or new at every moment.
+//! each comes. `last_sector.rt` reads a last sector, and writes one so that it is old or new at every
+//! moment.
 //! Three shelves keep to the law: `file_shelf.rt` is a folder of image files, of whose contents
 //! nothing is claimed (`folder_images.rt` lists them, `passed_over.rt` what isn't one, by what
 //! `no_image.rt` says; `open_files.rt` opens them,
@@ -37,7 +38,7 @@ pub use fault::ShelfFault;
 pub use fault_shelf::FaultShelf;
 pub use file_id::FileId;
 pub use file_shelf::FileShelf;
-pub use last_sector::{write_last, write_meta};
+pub use last_sector::{read_last, write_last, write_meta};
 pub use mem_shelf::MemShelf;
 pub use no_image::NoImage;
 pub use open_files::OPEN_FILES;

@@ -95,6 +95,19 @@ fn reasons_are_printed(rt: HostRuntime) -> Result<(), Fail> {
         let printed = format!(in rt.alloc(); "{reason}")?;
         assert_eq!(rt; printed.as_str(), text);
     }
-    assert_eq!(rt; [b'!', b'~', b' ', 27, 127, 195].map(visible), *b"!~????");
     Ok(())
+}
+
+#[test]
+fn bytes_that_could_harm_a_terminal_are_not_shown(rt: HostRuntime) {
+    for (byte, shown) in [
+        (b'!', b'!'),
+        (b'~', b'~'),
+        (b' ', b'?'),
+        (27, b'?'),
+        (127, b'?'),
+        (195, b'?'),
+    ] {
+        assert_eq!(rt; visible(byte), shown);
+    }
 }
