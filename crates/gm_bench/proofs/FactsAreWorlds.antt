@@ -12,7 +12,10 @@ use Rattle.gm_refusals.specs.declared.facts.Fact.{Fact}
 use Rattle.gm_refusals.specs.Facts.{equals_in, size_in}
 use Rattle.gm_apply.specs.EqualData.{CountsEqual, count_of, reach_of}
 use Rattle.gm_bench.specs.declared.adopt_scope.Compared.{Compared}
-use Rattle.gm_bench.specs.ShelfFacts.{AreEqual, IsFact, Tell, TellSizes, last_of}
+use Rattle.gm_bench.specs.ShelfFacts.{AreEqual, IsFact, Tell, TellSizes}
+use Rattle.gm_shelf.specs.LastSector.{last_of}
+use Rattle.gm_lists.proofs.Lists.{Has-push}
+use Rattle.gm_looks.proofs.Pushed.{has_left, has_last}
 
 -- the provider is absent, or there is an entry for it
 abbrev pub IsCovered : List Fact → Sizes → List ℕ → Type 0
@@ -132,22 +135,6 @@ size_found (Some g) f size name e m =
     subst (λ (x : Fact). size x.provider ≡ Some x.sectors) same
     (ap size m.0 ∙ m.1)
 
-pub has_either : {X : Type 0} (xs : List X) (x q : X) → Has (xs ++ x ∷ []) q → Has xs q ⊎ (x ≡ q)
-has_either [] x q (inl e) = inr e
-has_either [] x q (inr none) = absurd none
-has_either (y ∷ ys) x q (inl e) = inl (inl e)
-has_either (y ∷ ys) x q (inr h) =
-    elim (has_either ys x q h) [ inl was ↦ inl (inr was) | inr e ↦ inr e ]
-
-pub has_left : {X : Type 0} (xs : List X) (x q : X) → Has xs q → Has (xs ++ x ∷ []) q
-has_left [] x q h = absurd h
-has_left (y ∷ ys) x q (inl e) = inl e
-has_left (y ∷ ys) x q (inr h) = inr (has_left ys x q h)
-
-pub has_last : {X : Type 0} (xs : List X) (x : X) → Has (xs ++ x ∷ []) x
-has_last [] x = inl refl
-has_last (y ∷ ys) x = inr (has_last ys x)
-
 pub covered_more : (entries more : List Fact) (size : Sizes) (names : List (List ℕ)) (i : ℕ)
     (name : List ℕ) → i < length names → name ≡ get_or names i name
     → ((f : Fact) → Has entries f → Has more f) → IsCovered more size name
@@ -157,7 +144,7 @@ covered_more entries more size names i name low is sub here before q h =
     let h' : Has (take i names ++ name ∷ []) q =
     subst (λ l. Has l q) (take_more names i name low
     ∙ ap (λ (n : List ℕ). take i names ++ n ∷ []) (sym is)) h in
-    elim (has_either (take i names) name q h') [
+    elim (Has-push (take i names) name q h') [
       | inl was ↦ (elim (before q was) [
         | inl gone ↦ inl gone
         | inr there

@@ -25,7 +25,8 @@ use Rattle.gm_shelf.specs.declared.shelf.Shelf.{Ghosts as ShelfGhosts}
 use Rattle.gm_rules.specs.Itself.{IsItself}
 use Rattle.gm_rules.proofs.AdoptedEqual.{agree_itself}
 use Rattle.gm_bench.specs.Leading.{whole, Leads}
-use Rattle.gm_bench.specs.ShelfFacts.{AreEqual, IsHonestToAdopt, Tell, last_of}
+use Rattle.gm_shelf.specs.LastSector.{last_of}
+use Rattle.gm_bench.specs.ShelfFacts.{AreEqual, IsHonestToAdopt, Tell}
 use Rattle.gm_bench.proofs.ShelfProviders.{masked, there_full, whole_there}
 use Rattle.gm_bench.proofs.WorldAtRest.{at_rest}
 use Rattle.gm_bench.proofs.FactsAreWorlds.{agree_same}

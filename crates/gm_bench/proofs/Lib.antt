@@ -1,5 +1,4 @@
 pub mod Asked
-pub mod AuditAgrees
 pub mod CallAnswers
 pub mod Carried
 pub mod CarriedIntents
@@ -16,7 +15,6 @@ pub mod FittingPlans
 pub mod Found
 pub mod GatheredFacts
 pub mod Induction
-pub mod Listed
 pub mod Looks
 pub mod LossCarried
 pub mod LossCommits
@@ -29,7 +27,6 @@ pub mod LossRemaining
 pub mod LossRules
 pub mod LossSources
 pub mod Losses
-pub mod MirrorSource
 pub mod OpenedRoom
 pub mod PartCovers
 pub mod Phases
@@ -40,10 +37,8 @@ pub mod RedoLeadsOn
 pub mod RegistryLeaves
 pub mod ReopenedLoss
 pub mod ReopenedStore
-pub mod ScrubbedSoFar
 pub mod ShelfProviders
 pub mod ShortWords
-pub mod ShownSoFar
 pub mod StoreFails
 pub mod TakenUp
 pub mod WorldAtRest

@@ -13,7 +13,7 @@ use Rattle.gm_registry.specs.Fitting.{HasRoom}
 use Rattle.gm_registry.specs.Replies.{AreWrittenUnder, count_of}
 use Rattle.gm_bench.specs.Benches.{media_of, progress_of, redone_of, registry_of, shelf_of}
 use Rattle.gm_bench.specs.ShelfFacts.{IsHonestToAdopt}
-use Rattle.gm_registry.specs.Registry.{DiskKept, HasTables, IsOpen, LeavesNothingNew, Reads, StoreFailed, WasClean, seen}
+use Rattle.gm_registry.specs.Registry.{DiskKept, HasTables, IsOpen, IsRegistry, LeavesNothingNew, Reads, StoreFailed, WasClean, seen}
 use Rattle.gm_bench.specs.declared.bench.Bench.{Bench}
 use Rattle.gm_bench.specs.declared.fault.BenchFault.{BenchFault}
 use Rattle.gm_bench.specs.declared.fault.BenchFault.TheVariants.{Absent, Closed, Disk, Store, Unreadable}
@@ -71,6 +71,12 @@ module _ {S H T : Type 0} (s : StoreGhosts S) (h : ShelfGhosts H) (old new : Med
     pub disk : TellsDisk h old.shelf new.shelf result
     pub fault : IfErr result IsOfCall
 
+  -- one that looks: where it is answered the tables stay
+  pub record LooksAt : Type 0 where
+    pub asks : Asks
+    pub stays : DiskKept s new.registry → OnOk result ((t : Tables)
+        → HasTables s old.registry t → HasTables s new.registry t)
+
   -- A call that hands in a command: it reads the shelf, where an answer says that nothing was done
   -- it only read the registry too, and a failure of the disk comes before anything is written.
   pub record Accepts (is_undone : T → Type 0) : Type 0 where
@@ -81,6 +87,14 @@ module _ {S H T : Type 0} (s : StoreGhosts S) (h : ShelfGhosts H) (old new : Med
     pub undone : DiskKept s new.registry
         → IfOk result (λ a. is_undone a → Reads s old.registry new.registry)
     pub clean : WasClean s old.registry new.registry
+
+-- What a look tells of a registry by the rows of mirrors and components alone: F6 only if these say
+-- no state, and Store only if the store failed.
+pub record TellsOfRecords {S T : Type 0} (s : StoreGhosts S) (old new : Held S)
+    (result : Result T BenchFault) : Type 0 where
+  pub unreadable : DiskKept s new → IsErrOf result Unreadable → (t : Tables) (r : Records)
+      → HasTables s old t → AreRecordsOf t r → ⊥
+  pub store : DiskKept s new → IsErrOf result Store → IsRegistry s old → StoreFailed s old new
 
 -- What is told of a command that is handed in by the registry's rows and the shelf's sizes alone.
 module _ {S H T : Type 0} (s : StoreGhosts S) (h : ShelfGhosts H) (old new : Media S H)

@@ -1,7 +1,5 @@
 pub mod Accepting
 pub mod AdoptScope
-pub mod Agreeing
-pub mod Audits
 pub mod Benches
 pub mod Calls
 pub mod Faults
@@ -16,7 +14,5 @@ pub mod Presence
 pub mod Recovering
 pub mod Running
 pub mod Schedule
-pub mod Scrubs
 pub mod ShelfFacts
-pub mod Shown
 pub mod Without

@@ -1,23 +1,14 @@
 -- What a command has to know of the shelf.
-use Rattle.std.specs.Prelude.{◌≡◌, ◌-◌, ◌==◌, ℕ, List, Option, Some, None, option_map, if◌then◌else◌}
-use Rattle.std.specs.Option.{option_and_then}
-use Rattle.gm_metadata.specs.Images.{Image, Sizes, zeros}
+use Rattle.std.specs.Prelude.{◌≡◌, ℕ, List, Option, Some, None, option_map}
+use Rattle.gm_metadata.specs.Images.{Image, Sizes}
 use Rattle.gm_shelf.specs.declared.shelf.Shelf.{Ghosts as ShelfGhosts}
+use Rattle.gm_shelf.specs.LastSector.{last_of}
 use Rattle.gm_commands.specs.declared.command.Command.{Command}
 use Rattle.gm_commands.specs.declared.command.Command.TheVariants.{Adopt}
 use Rattle.gm_refusals.specs.declared.facts.Fact.{Fact}
 use Rattle.gm_refusals.specs.Facts.{size_in, last_in, equals_in}
 use Rattle.gm_apply.specs.EqualData.{CountsEqual, reach_of}
 use Rattle.gm_bench.specs.declared.adopt_scope.Compared.{Compared}
-
--- the last of so many sectors; zeros stand for the one of a provider without sectors
-abbrev pub last_of : ℕ → (ℕ → List ℕ) → List ℕ
-last_of n sectors = if n == 0 then zeros else sectors (n - 1)
-
--- the last sector of a provider that is there and has one
-abbrev pub last_sector : Sizes → Image → List ℕ → Option (List ℕ)
-last_sector size seen p =
-    option_and_then (λ n. if n == 0 then None else Some (seen p (n - 1))) (size p)
 
 -- where a provider is compared, so many of its first sectors are equal
 abbrev pub AreEqual : Sizes → Image → Option Compared → List ℕ → ℕ → Type 0

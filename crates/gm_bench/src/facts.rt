@@ -1,11 +1,9 @@
 //! What a command has to know of the shelf.
 
-ghost use Rattle.std.specs.Prelude.{◌≡◌, ◌≤◌, ◌<◌, ℕ, List, Some, None, IfOk, IfSome, IfErr, MatchOption, IsErrOf};
-ghost use Rattle.gm_shelf.specs.Disk.{AreReads};
+ghost use Rattle.std.specs.Prelude.{◌≡◌, ℕ, List, Some, None, IfOk, IfSome, MatchOption};
+ghost use Rattle.gm_shelf.specs.LastSector.{last_of};
 ghost use Rattle.gm_lists.specs.Ordered.{Has};
-ghost use Rattle.gm_bench.specs.Faults.{IsOfMedia};
-ghost use Rattle.gm_bench.specs.ShelfFacts.{AreEqual, Tell, TellSizes, IsFact, last_of};
-ghost use Rattle.gm_shelf.specs.Keeping.{ReadsOnly};
+ghost use Rattle.gm_bench.specs.ShelfFacts.{AreEqual, Tell, TellSizes, IsFact};
 ghost use Rattle.gm_bench.specs.Calls.{Looks};
 
 use crate::adopt_scope::Compared;
@@ -13,31 +11,17 @@ use crate::fault::BenchFault;
 use gm_apply::equal_sectors;
 use gm_metadata::Label;
 use gm_refusals::{Fact, Facts};
-use gm_shelf::Shelf;
+use gm_shelf::{Shelf, read_last};
 use std::alloc::Global;
 
-/// The last sector of a provider that has so many.
-pub(crate) fn last_of<H: Shelf>(
-    shelf: &mut H,
-    provider: Label,
-    sectors: u64,
-) -> Result<[u8; 512], BenchFault>
-    ensures bytes { H.honest shelf.old
+// The last sector of a provider that has so many; zeros if it has none.
+fn last_of<H: Shelf>(shelf: &mut H, provider: Label, sectors: u64) -> Result<[u8; 512], BenchFault>
+    ensures bytes { H.honest shelf.old → H.size shelf.old provider ≡ Some sectors
         → IfOk result (λ last. last ≡ last_of sectors ((H.view shelf.old).seen provider)) }
-    ensures disk { H.size shelf.old provider ≡ Some sectors → IsErrOf result BenchFault.Disk
-        → (H.view shelf.old).faults < (H.view shelf.new).faults }
-    ensures not_store { IsErrOf result BenchFault.Store → ⊥ }
-    ensures fault { IfErr result IsOfMedia }
-    ensures only { ReadsOnly H.Shelf shelf.old shelf.new }
+    ensures looks { Looks H.Shelf shelf.old shelf.new result }
 {
-    let mut last = [0; 512];
-    if sectors == 0 {
-        return Ok(last);
-    }
-    match shelf.read(provider, sectors - 1, &mut last) {
-        Ok(()) => Ok(last),
-        Err(fault) => Err(BenchFault::of_shelf(fault)),
-    }
+    let last = read_last(shelf, provider)?;
+    Ok(last.unwrap_or([0; 512]))
 }
 
 // How many first sectors of the provider are equal to those that it is compared with.
@@ -70,11 +54,7 @@ fn fact_there<H: Shelf>(
         → IfOk result (λ f. IsFact (H.size shelf.old) (H.view shelf.old).seen against f
         × (f.provider ≡ provider)) }
     ensures named { IfOk result (λ f. (f.provider ≡ provider) × (f.sectors ≡ sectors)) }
-    ensures disk { H.size shelf.old provider ≡ Some sectors → IsErrOf result BenchFault.Disk
-        → (H.view shelf.old).faults < (H.view shelf.new).faults }
-    ensures not_store { IsErrOf result BenchFault.Store → ⊥ }
-    ensures fault { IfErr result IsOfMedia }
-    ensures only { ReadsOnly H.Shelf shelf.old shelf.new }
+    ensures looks { Looks H.Shelf shelf.old shelf.new result }
 {
     let last = last_of(shelf, provider, sectors)?;
     let equal = equal_of(shelf, against, provider)?;

@@ -1,4 +1,4 @@
-//! What holds of every schedule, and of an audit that lists none.
+//! What holds of every schedule.
 
 ghost use Rattle.std.specs.Prelude.{◌≡◌, ◌∷◌, ℕ, Some, List, []};
 ghost use Rattle.std.specs.List.Sorted.{IsPermutation};
@@ -13,16 +13,10 @@ ghost use Rattle.gm_bench.specs.Leading.{Leads, KeepsClaims};
 ghost use Rattle.gm_bench.specs.Losing.{HasNext, as_left, left_to_lay, pending_after};
 ghost use Rattle.sqlite.specs.Held.{Held};
 ghost use Rattle.gm_metadata.specs.Images.{Image, Sizes};
-ghost use Rattle.gm_state.specs.Records.{IsState, Records, members};
-ghost use Rattle.gm_taste.specs.declared.provider.Provider.{Provider};
-ghost use Rattle.gm_taste.specs.declared.tasted.Tasted.{Tasted};
-ghost use Rattle.gm_taste.specs.Tasted.{IsTasted};
-ghost use Rattle.gm_bench.specs.Agreeing.{Agree, AreRegistered};
-ghost use Rattle.gm_bench.specs.Audits.{IsAudit};
+ghost use Rattle.gm_state.specs.Records.{members};
 ghost use Rattle.gm_bench.specs.Schedule.{Event, Now, Runs, Headline};
 
 use gm_shelf::Shelf;
-use gm_state::metadata_fits;
 use sqlite::Alter;
 
 /// With an honest shelf and a disk that keeps what is written, whatever is handed in, wherever it
@@ -36,16 +30,6 @@ pub fn whole_run_law<S: Alter, H: Shelf>()
         → Runs S.Store H.view H.size all events now
         → Headline S.Store H.view H.size all now.phase now.away now.accepted now.acknowledged }
 {}
-
-/// Where an audit lists none, the last sectors of the registered components tell by themselves what
-/// the registry says: tasted alone, each is a member, and has the state that the records name.
-pub fn clean_audit_law()
-    ensures { (s : Records) (size : Sizes) (seen : Image) (ps : List Provider) (t : Tasted)
-        → IsState s → IsAudit s size seen [] → AreRegistered s size seen ps → IsTasted ps t
-        → Agree s t }
-{
-    metadata_fits();
-}
 
 /// What is pending behind the loss of a component leads on, and keeps what was claimed before the
 /// first command.

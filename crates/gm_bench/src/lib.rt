@@ -7,9 +7,8 @@
 //! `specs/Calls.antt` and `specs/Opened.antt`, what all calls of a kind leave and tell beside that
 //! (`specs/Benches.antt` names what is in a bench), and `specs/Schedule.antt`, what a whole run is;
 //! then `bench` and `calls`, whose calls are those of `media` in turn. `laws` says what holds of
-//! every run. `views` has the calls that only look, of which `audit` holds the images against the
-//! registry (`specs/Audits.antt`), and `scrub` the data of components against their mirror's source
-//! (`specs/Scrubs.antt`); `bare_shelf` looks at a shelf that has no bench.
+//! every run. `views` has the calls that only look; `reading` has what they read of both media, which
+//! gm_looks tells of a state and a shelf.
 //!
 //! `open_without` opens a bench of which an image is gone for good: `specs/Losing.antt` says what
 //! is pending behind that, `specs/Without.antt` why it is refused, and `specs/GivingUp.antt` what
@@ -19,8 +18,6 @@
 mod accept;
 mod adopt_scope;
 mod answer;
-mod audit;
-mod bare_shelf;
 mod bench;
 mod calls;
 mod facts;
@@ -33,7 +30,7 @@ mod open_without;
 mod phase;
 mod plan;
 mod presence;
-mod scrub;
+mod reading;
 mod sectors;
 mod sizes;
 mod take_up;
@@ -42,13 +39,10 @@ mod views;
 mod without;
 
 pub use answer::Answer;
-pub use audit::audit_shelf;
-pub use bare_shelf::taste_shelf;
 pub use bench::{Bench, OpenFault};
 pub use fault::BenchFault;
 pub use gm_apply::Watch;
-pub use laws::{clean_audit_law, losses_lead_on, whole_run_law};
+pub use laws::{losses_lead_on, whole_run_law};
 pub use loss::LossRefusal;
 pub use open_without::Without;
 pub use phase::Phase;
-pub use scrub::{Flaw, Scrubbed};

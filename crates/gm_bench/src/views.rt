@@ -1,68 +1,93 @@
 //! What a bench shows of its media. It changes neither.
 
-ghost use Rattle.std.specs.Prelude.{◌≡◌, ◌≤◌, ◌<◌, ℕ, List, IfOk, OnOk, OnErr, IsErrOf};
-ghost use Rattle.gm_shelf.specs.Disk.{AreReads};
-ghost use Rattle.gm_state.specs.declared.intents.Intent.{Intent};
+ghost use Rattle.std.specs.Prelude.{◌≡◌, ◌≢◌, ◌≤◌, IfOk, IfErr, OnOk, OnErr, IsErrOf};
+ghost use Rattle.gm_shelf.specs.LastSector.{last_sector};
 ghost use Rattle.gm_state.specs.Records.{Records};
 ghost use Rattle.gm_state.specs.Rows.{Tables};
-ghost use Rattle.gm_rows.specs.ReadableTables.{AreTablesOf};
-ghost use Rattle.gm_registry.specs.Registry.{DiskKept, HasTables, IsRegistry, Reads, StoreFailed};
+ghost use Rattle.gm_rows.specs.ReadableTables.{AreRecordsOf};
+ghost use Rattle.gm_registry.specs.Parts.{mirror_part};
+ghost use Rattle.gm_registry.specs.Registry.{DiskKept, HasTables};
 ghost use Rattle.gm_registry.specs.Replies.{count_of};
-ghost use Rattle.gm_bench.specs.Benches.{registry_of, shelf_of};
-ghost use Rattle.gm_bench.specs.Audits.{IsAudit};
-ghost use Rattle.gm_bench.specs.Scrubs.{IsScrub};
-ghost use Rattle.gm_bench.specs.ShelfFacts.{last_sector};
-ghost use Rattle.gm_bench.specs.Owed.{LookDoes, LookLeaves};
-ghost use Rattle.gm_bench.specs.Calls.{ClosesOnFault, LooksOn};
+ghost use Rattle.gm_looks.specs.Audits.{IsAudit};
+ghost use Rattle.gm_looks.specs.Scrubs.{IsScrub};
+ghost use Rattle.gm_bench.specs.Benches.{media_of, progress_of, redone_of, registry_of, shelf_of};
+ghost use Rattle.gm_bench.specs.Calls.{ClosesOnFault, LooksOn, TellsOfRecords};
 
 use crate::bench::Bench;
-use crate::facts::fact_of;
 use crate::fault::BenchFault;
 use crate::phase::Progress;
-use crate::scrub::Scrubbed;
 use gm_apply::Watch;
+use gm_looks::Scrubbed;
 use gm_metadata::Label;
-use gm_rows::Loaded;
 use gm_shelf::Shelf;
 use gm_state::State;
 use sqlite::Alter;
 use std::alloc::Global;
 
 impl<S: Alter, H: Shelf> Bench<S, H> {
+    // `Closed` after an earlier fault.
+    fn check_open(&self) -> Result<(), BenchFault>
+        ensures open { OnOk result (progress_of self.now ≢ Progress.Failed) }
+        ensures closed { IfErr result (λ fault. fault ≡ BenchFault.Closed) }
+        ensures failed { OnErr result (progress_of self.now ≡ Progress.Failed) }
+    {
+        match self.progress {
+            Progress::Failed => Err(BenchFault::Closed),
+            _ => Ok(()),
+        }
+    }
+
+    // Closes the bench if a look ended with a fault.
+    fn looked<T: Drop>(&mut self, answer: Result<T, BenchFault>) -> Result<T, BenchFault>
+        ensures answer { result ≡ answer }
+        ensures stays { OnOk result (progress_of self.new ≡ progress_of self.old) }
+        ensures closes { OnErr result (progress_of self.new ≡ Progress.Failed) }
+        ensures media { media_of self.new ≡ media_of self.old }
+        ensures redone { redone_of self.new ≡ redone_of self.old }
+    {
+        if answer.is_err() {
+            self.progress = Progress::Failed;
+        }
+        answer
+    }
+
     /// The mirrors and their components, as the registry has them: what is pending counts as
     /// carried out. `Closed` after an earlier fault; any other fault closes the bench.
     pub fn view(&mut self, alloc: Global) -> Result<State, BenchFault>
-        // The records that the registry holds, whatever the images hold.
+        // The records that the registry holds, whatever its other tables and the images hold.
         ensures shows { DiskKept S.Store (registry_of self.new)
-            → IfOk result (λ state. (t : Tables) (s : Records) (ts : List Intent)
-            (bytes : List (List ℕ)) → HasTables S.Store (registry_of self.old) t
-            → AreTablesOf t s ts bytes → state ≡ s) }
-        ensures unreadable { DiskKept S.Store (registry_of self.new)
-            → IsErrOf result BenchFault.Unreadable → (t : Tables) (s : Records) (ts : List Intent)
-            (bytes : List (List ℕ)) → HasTables S.Store (registry_of self.old) t
-            → AreTablesOf t s ts bytes → ⊥ }
-        // On a disk that didn't fail, without a limit on steps, it is never `Store`.
-        ensures store { DiskKept S.Store (registry_of self.new) → IsErrOf result BenchFault.Store
-            → IsRegistry S.Store (registry_of self.old)
-            → StoreFailed S.Store (registry_of self.old) (registry_of self.new) }
+            → IfOk result (λ state. (t : Tables) (s : Records)
+            → HasTables S.Store (registry_of self.old) t → AreRecordsOf t s → state ≡ s) }
+        ensures records { TellsOfRecords S.Store (registry_of self.old) (registry_of self.new)
+            result }
         ensures shelf { shelf_of self.new ≡ shelf_of self.old }
         ensures looks { LooksOn S.Store H.Shelf self.old self.new result }
         ensures closes { ClosesOnFault self.old self.new result }
     {
-        match self.progress {
-            Progress::Failed => return Err(BenchFault::Closed),
-            _ => {}
-        }
-        match self.media.load(alloc) {
-            Ok(Loaded { state, .. }) => Ok(state),
-            Err(fault) => {
-                self.progress = Progress::Failed;
-                Err(fault)
-            }
-        }
+        self.check_open()?;
+        let state = self.media.state(alloc);
+        self.looked(state)
     }
 
-    /// The last sector of a provider; None where it is absent or has no sectors. `Closed` after an
+    /// The same of one mirror alone, by its name: the mirror with all its components, or no mirror
+    /// if none has this name. It reads the rows of mirrors, and of components by the key.
+    pub fn view_of(&mut self, alloc: Global, mirror: Label) -> Result<State, BenchFault>
+        ensures shows { DiskKept S.Store (registry_of self.new)
+            → IfOk result (λ state. (t : Tables) (s : Records)
+            → HasTables S.Store (registry_of self.old) t → AreRecordsOf t s
+            → state ≡ mirror_part s mirror) }
+        ensures records { TellsOfRecords S.Store (registry_of self.old) (registry_of self.new)
+            result }
+        ensures shelf { shelf_of self.new ≡ shelf_of self.old }
+        ensures looks { LooksOn S.Store H.Shelf self.old self.new result }
+        ensures closes { ClosesOnFault self.old self.new result }
+    {
+        self.check_open()?;
+        let state = self.media.mirror_state(alloc, mirror);
+        self.looked(state)
+    }
+
+    /// The last sector of a provider; None if it is absent or has no sectors. `Closed` after an
     /// earlier fault; any other fault closes the bench.
     pub fn last_sector(&mut self, provider: Label) -> Result<Option<[u8; 512]>, BenchFault>
         ensures shows { H.honest (shelf_of self.old) → IfOk result (λ found. found
@@ -74,18 +99,9 @@ impl<S: Alter, H: Shelf> Bench<S, H> {
         ensures looks { LooksOn S.Store H.Shelf self.old self.new result }
         ensures closes { ClosesOnFault self.old self.new result }
     {
-        match self.progress {
-            Progress::Failed => return Err(BenchFault::Closed),
-            _ => {}
-        }
-        match fact_of(&mut self.media.shelf, None, provider) {
-            Ok(Some(fact)) if 0 < fact.sectors => Ok(Some(fact.last)),
-            Ok(_) => Ok(None),
-            Err(fault) => {
-                self.progress = Progress::Failed;
-                Err(fault)
-            }
-        }
+        self.check_open()?;
+        let last = self.media.last_sector(provider);
+        self.looked(last)
     }
 
     /// The components that the shelf shows otherwise than they are registered, by the names of
@@ -95,37 +111,22 @@ impl<S: Alter, H: Shelf> Bench<S, H> {
     pub fn audit(&mut self, alloc: Global) -> Result<Vec<Label>, BenchFault>
         // By the records that the registry holds and by what the shelf shows, whoever wrote it.
         ensures audits { H.honest (shelf_of self.old) → DiskKept S.Store (registry_of self.new)
-            → IfOk result (λ names. (t : Tables) (s : Records) (ts : List Intent)
-            (bytes : List (List ℕ)) → HasTables S.Store (registry_of self.old) t
-            → AreTablesOf t s ts bytes
+            → IfOk result (λ names. (t : Tables) (s : Records)
+            → HasTables S.Store (registry_of self.old) t → AreRecordsOf t s
             → IsAudit s (H.size (shelf_of self.old)) (H.view (shelf_of self.old)).seen
             names.items) }
-        ensures unreadable { DiskKept S.Store (registry_of self.new)
-            → IsErrOf result BenchFault.Unreadable → (t : Tables) (s : Records) (ts : List Intent)
-            (bytes : List (List ℕ)) → HasTables S.Store (registry_of self.old) t
-            → AreTablesOf t s ts bytes → ⊥ }
-        // On a disk that didn't fail, without a limit on steps, it is never `Store`.
-        ensures store { DiskKept S.Store (registry_of self.new) → IsErrOf result BenchFault.Store
-            → IsRegistry S.Store (registry_of self.old)
-            → StoreFailed S.Store (registry_of self.old) (registry_of self.new) }
+        ensures records { TellsOfRecords S.Store (registry_of self.old) (registry_of self.new)
+            result }
         ensures looks { LooksOn S.Store H.Shelf self.old self.new result }
         ensures closes { ClosesOnFault self.old self.new result }
     {
-        match self.progress {
-            Progress::Failed => return Err(BenchFault::Closed),
-            _ => {}
-        }
-        match self.media.audit(alloc) {
-            Ok(names) => Ok(names),
-            Err(fault) => {
-                self.progress = Progress::Failed;
-                Err(fault)
-            }
-        }
+        self.check_open()?;
+        let names = self.media.audit(alloc);
+        self.looked(names)
     }
 
     /// The ACTIVE components that hold other data than their mirror's source, in byte order of
-    /// their providers, each with what is amiss: of this mirror, or of all where none is named. A
+    /// their providers, each with what is amiss: of this mirror, or of all if none is named. A
     /// mirror's source is its ACTIVE component with the greatest priority, among equals the one
     /// with the least name. The watch is told how far it is. `Closed` after an earlier fault; any
     /// other fault closes the bench.
@@ -137,29 +138,18 @@ impl<S: Alter, H: Shelf> Bench<S, H> {
     ) -> Result<Vec<Scrubbed>, BenchFault>
         // By the records that the registry holds and by what the shelf shows, whoever wrote it.
         ensures scrubs { H.honest (shelf_of self.old) → DiskKept S.Store (registry_of self.new)
-            → IfOk result (λ list. (t : Tables) (s : Records) (ts : List Intent)
-            (bytes : List (List ℕ)) → HasTables S.Store (registry_of self.old) t
-            → AreTablesOf t s ts bytes
+            → IfOk result (λ list. (t : Tables) (s : Records)
+            → HasTables S.Store (registry_of self.old) t → AreRecordsOf t s
             → IsScrub s (H.size (shelf_of self.old)) (H.view (shelf_of self.old)).seen mirror
             list.items) }
-        ensures unreadable { DiskKept S.Store (registry_of self.new)
-            → IsErrOf result BenchFault.Unreadable → (t : Tables) (s : Records) (ts : List Intent)
-            (bytes : List (List ℕ)) → HasTables S.Store (registry_of self.old) t
-            → AreTablesOf t s ts bytes → ⊥ }
+        ensures records { TellsOfRecords S.Store (registry_of self.old) (registry_of self.new)
+            result }
         ensures looks { LooksOn S.Store H.Shelf self.old self.new result }
         ensures closes { ClosesOnFault self.old self.new result }
     {
-        match self.progress {
-            Progress::Failed => return Err(BenchFault::Closed),
-            _ => {}
-        }
-        match self.media.scrub(alloc, mirror, watch) {
-            Ok(list) => Ok(list),
-            Err(fault) => {
-                self.progress = Progress::Failed;
-                Err(fault)
-            }
-        }
+        self.check_open()?;
+        let list = self.media.scrub(alloc, mirror, watch);
+        self.looked(list)
     }
 
     /// How many commands were accepted so far. `Closed` after an earlier fault; any other fault
@@ -175,16 +165,8 @@ impl<S: Alter, H: Shelf> Bench<S, H> {
         ensures looks { LooksOn S.Store H.Shelf self.old self.new result }
         ensures closes { ClosesOnFault self.old self.new result }
     {
-        match self.progress {
-            Progress::Failed => return Err(BenchFault::Closed),
-            _ => {}
-        }
-        match self.media.accepted() {
-            Ok(count) => Ok(count),
-            Err(fault) => {
-                self.progress = Progress::Failed;
-                Err(fault)
-            }
-        }
+        self.check_open()?;
+        let count = self.media.accepted();
+        self.looked(count)
     }
 }

@@ -1,7 +1,7 @@
 -- What a bench at rest shows is the world's.
 use Rattle.std.proofs.Common.{◌≡◌, ◌∙◌, ◌-◌, ◌==◌, ℕ, List, [], refl, sym, ap, subst, Option, Some, None, Result, Ok, Err}
 use Rattle.std.specs.Result.{OnOk}
-use Rattle.std.specs.Prelude.{if◌then◌else◌, is_some}
+use Rattle.std.specs.Prelude.{if◌then◌else◌}
 use Rattle.std.specs.Option.{option_and_then}
 use Rattle.sqlite_trees.specs.declared.store.Store.{Ghosts}
 use Rattle.sqlite_trees.specs.declared.store.Store.{Ghosts as StoreGhosts}
@@ -10,7 +10,7 @@ use Rattle.gm_metadata.specs.Images.{Image, Sizes, SameThere}
 use Rattle.gm_shelf.specs.Disk.{View, IsLawful}
 use Rattle.gm_shelf.specs.declared.shelf.Shelf.{Ghosts as ShelfGhosts}
 use Rattle.gm_state.specs.World.{World, present}
-use Rattle.gm_rows.specs.ReadableTables.{AreTablesOf}
+use Rattle.gm_rows.specs.ReadableTables.{AreRecordsOf, AreTablesOf}
 use Rattle.gm_registry.specs.Registry.{DiskKept}
 use Rattle.gm_bench.specs.declared.bench.Bench.{Bench}
 use Rattle.gm_bench.specs.declared.fault.BenchFault.{BenchFault}
@@ -20,7 +20,8 @@ use Rattle.gm_bench.specs.Calls.{LooksOn}
 use Rattle.gm_bench.specs.Leading.{whole}
 use Rattle.gm_bench.specs.Owed.{LookDoes}
 use Rattle.gm_bench.specs.Recovering.{IsAt, LeavesOnly}
-use Rattle.gm_bench.specs.ShelfFacts.{last_sector}
+use Rattle.gm_shelf.specs.LastSector.{last_sector}
+use Rattle.gm_bench.proofs.GatheredFacts.{are_records}
 use Rattle.gm_bench.proofs.Looks.{looked_at}
 use Rattle.gm_bench.proofs.ReadTables.{tables_of}
 use Rattle.gm_bench.proofs.ShelfProviders.{masked, there_full, whole_there}
@@ -58,7 +59,11 @@ module _ {S H : Type 0} (g : Ghosts S) (view : H → View) (size : H → Sizes) 
   last_shown p = last_same (size h) (view h).seen u.shelf p seen_there
       ∙ ap (λ (z : Sizes). last_sector z u.shelf p) (sym at.sizes)
 
-  -- and what the tables say are the records
+  -- what the tables of mirrors and components say are the records
+  pub records_shown : AreRecordsOf at.tables u.state
+  records_shown = are_records g view size r h away u at lawful
+
+  -- and nothing is pending
   pub tables_shown : AreTablesOf at.tables u.state [] []
   tables_shown = tables_of at.tables [] [] (whole (size h) away (view h).seen) u
       (at.leads (view h).seen lawful.holds_now).0

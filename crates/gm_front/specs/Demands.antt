@@ -10,7 +10,7 @@ use Rattle.gm_rules.specs.AbstractCalls as run
 use Rattle.gm_bench.specs.declared.fault.BenchFault.{BenchFault}
 use Rattle.gm_bench.specs.declared.fault.BenchFault.TheVariants as bench
 use Rattle.gm_bench.specs.Faults.{fault_number}
-use Rattle.gm_bench.specs.ShelfFacts.{last_sector}
+use Rattle.gm_shelf.specs.LastSector.{last_sector}
 use Rattle.gm_http.specs.declared.status.Status.{Status}
 use Rattle.gm_http.specs.declared.status.Status.TheVariants as status
 use Rattle.gm_http.specs.Requests.{Asked}

@@ -1,12 +1,11 @@
 //! An audit before commands are carried out.
 
-ghost use Rattle.std.specs.Prelude.{◌≡◌, ℕ, true, false, List, [], IfOk, IfSome, OnOk, Ok, None};
-ghost use Rattle.gm_state.specs.declared.intents.Intent.{Intent};
+ghost use Rattle.std.specs.Prelude.{◌≡◌, true, false, [], IfOk, IfSome, OnOk, Ok, None};
 ghost use Rattle.gm_state.specs.Records.{Records};
 ghost use Rattle.gm_state.specs.Rows.{Tables};
-ghost use Rattle.gm_rows.specs.ReadableTables.{AreTablesOf};
+ghost use Rattle.gm_rows.specs.ReadableTables.{AreRecordsOf};
 ghost use Rattle.gm_registry.specs.Registry.{DiskKept, HasTables};
-ghost use Rattle.gm_bench.specs.Audits.{IsAudit};
+ghost use Rattle.gm_looks.specs.Audits.{IsAudit};
 ghost use Rattle.gm_bench.specs.Benches.{progress_of, registry_of, shelf_of};
 ghost use Rattle.gm_bench.specs.Phases.{TakesCommands};
 ghost use Rattle.gm_process.specs.declared.status.Status.TheVariants.{Refused};
@@ -28,11 +27,11 @@ pub fn damage<S: Alter, H: Shelf>(
     requires { TakesCommands (progress_of bench.old) }
     ensures found { IfOk result (λ found. IfSome found (λ report. report.status ≡ Refused)) }
     ensures unasked { audits ≡ false → result ≡ Ok None }
-    // Where an audit is asked for and nothing is told, no image is amiss.
+    // If an audit is asked for and nothing is told, no image is amiss.
     ensures clean { audits ≡ true → H.honest (shelf_of bench.old)
         → DiskKept S.Store (registry_of bench.new) → result ≡ Ok None
-        → (t : Tables) (s : Records) (ts : List Intent) (bytes : List (List ℕ))
-        → HasTables S.Store (registry_of bench.old) t → AreTablesOf t s ts bytes
+        → (t : Tables) (s : Records) → HasTables S.Store (registry_of bench.old) t
+        → AreRecordsOf t s
         → IsAudit s (H.size (shelf_of bench.old)) (H.view (shelf_of bench.old)).seen [] }
     ensures phase { OnOk result (TakesCommands (progress_of bench.new)) }
 {

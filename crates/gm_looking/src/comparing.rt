@@ -5,10 +5,11 @@ ghost use Rattle.gm_bench.specs.Benches.{progress_of};
 ghost use Rattle.gm_bench.specs.Phases.{TakesCommands};
 ghost use Rattle.gm_process.specs.Statuses.{MayRefuse, status_of_list};
 
-use gm_bench::{Bench, Flaw, Scrubbed};
+use gm_bench::Bench;
 use gm_command_line::{Comparing, Form};
 use gm_faults::Fault;
 use gm_json::{Difference, scrub_json};
+use gm_looks::{Flaw, Scrubbed};
 use gm_metadata::Label;
 use gm_process::{Meter, Status, Streams};
 use gm_reports::{Report, as_line, no_mirror, refused};

@@ -2,14 +2,13 @@
 //! nothing. A registry is shown as it stands, and what is pending in it stays pending.
 
 ghost use Rattle.std.specs.Prelude.{IfOk};
-ghost use Rattle.gm_pending.specs.Texts.{pending_text};
+ghost use Rattle.gm_looks.specs.Texts.{pending_text};
 ghost use Rattle.gm_reports.specs.Reports.{IsDone};
 ghost use Rattle.gm_looking.specs.Looks.{MayShow};
 
-use gm_bench::audit_shelf;
 use gm_command_line::Look;
 use gm_faults::Fault;
-use gm_pending::{pending_text, pending_text_on};
+use gm_looks::{audit_shelf, pending_text, pending_text_on};
 use gm_process::{HeldFolder, Place, Status, Streams, cause_of};
 use gm_registry::Loaded;
 use gm_registry_files::{leave_out_registry, records_of};

@@ -1,9 +1,9 @@
 //! The command `taste`, which says what the images of a folder tell by themselves. No registry is
 //! opened, and nothing is written or held.
 
-use gm_bench::taste_shelf;
 use gm_command_line::Form;
 use gm_faults::Fault;
+use gm_looks::taste_shelf;
 use gm_metadata::Label;
 use gm_process::{Status, Streams};
 use gm_registry_files::without_beside;

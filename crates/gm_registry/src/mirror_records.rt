@@ -38,8 +38,9 @@ fn mirror_state_on<S: Alter>(
     ensures silent { DiskKept S.Store conn.new → OnUnreadable result (IsRegistry S.Store conn.old
         → SaysNoMirror (seen S.Store conn.old) label) }
     ensures state { DiskKept S.Store conn.new
-        → IfOk result (λ it. (t : Tables) (s : Records) → HasTables S.Store conn.old t
-        → AreRecordsOf t s → (it ≡ mirror_part s label) × HasSaved S.Store conn.new t) }
+        → IfOk result (λ it. (t : Tables) → HasTables S.Store conn.old t
+        → ((s : Records) → AreRecordsOf t s → it ≡ mirror_part s label)
+        × HasSaved S.Store conn.new t) }
     ensures unreadable { DiskKept S.Store conn.new
         → OnUnreadable result ((t : Tables) (s : Records) → HasTables S.Store conn.old t
         → AreRecordsOf t s → ⊥) }
@@ -69,8 +70,9 @@ impl<S: Alter> Registry<S> {
             → OnUnreadable result (IsRegistry S.Store self.old
             → SaysNoMirror (seen S.Store self.old) label) }
         ensures state { DiskKept S.Store self.new
-            → IfOk result (λ it. (t : Tables) (s : Records) → HasTables S.Store self.old t
-            → AreRecordsOf t s → (it ≡ mirror_part s label) × HasSaved S.Store self.new t) }
+            → IfOk result (λ it. (t : Tables) → HasTables S.Store self.old t
+            → ((s : Records) → AreRecordsOf t s → it ≡ mirror_part s label)
+            × HasSaved S.Store self.new t) }
         ensures unreadable { DiskKept S.Store self.new
             → OnUnreadable result ((t : Tables) (s : Records) → HasTables S.Store self.old t
             → AreRecordsOf t s → ⊥) }

@@ -23,8 +23,8 @@ fn state_on<S: Alter>(alloc: Global, conn: &mut Connection<S>) -> Result<State, 
         → OnUnreadable result ((s : Records) → IsRegistry S.Store conn.old
         → RecordsSay (seen S.Store conn.old) s → ⊥) }
     ensures state { DiskKept S.Store conn.new
-        → IfOk result (λ it. (t : Tables) (s : Records) → HasTables S.Store conn.old t
-        → AreRecordsOf t s → (it ≡ s) × HasSaved S.Store conn.new t) }
+        → IfOk result (λ it. (t : Tables) → HasTables S.Store conn.old t
+        → ((s : Records) → AreRecordsOf t s → it ≡ s) × HasSaved S.Store conn.new t) }
     ensures unreadable { DiskKept S.Store conn.new
         → OnUnreadable result ((t : Tables) (s : Records) → HasTables S.Store conn.old t
         → AreRecordsOf t s → ⊥) }
@@ -50,8 +50,8 @@ impl<S: Alter> Registry<S> {
             → OnUnreadable result ((s : Records) → IsRegistry S.Store self.old
             → RecordsSay (seen S.Store self.old) s → ⊥) }
         ensures state { DiskKept S.Store self.new
-            → IfOk result (λ it. (t : Tables) (s : Records) → HasTables S.Store self.old t
-            → AreRecordsOf t s → (it ≡ s) × HasSaved S.Store self.new t) }
+            → IfOk result (λ it. (t : Tables) → HasTables S.Store self.old t
+            → ((s : Records) → AreRecordsOf t s → it ≡ s) × HasSaved S.Store self.new t) }
         ensures unreadable { DiskKept S.Store self.new
             → OnUnreadable result ((t : Tables) (s : Records) → HasTables S.Store self.old t
             → AreRecordsOf t s → ⊥) }

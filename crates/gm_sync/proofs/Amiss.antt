@@ -9,7 +9,7 @@ use Rattle.gm_state.specs.declared.records.Component.{Component}
 use Rattle.gm_state.specs.Intents.{IsOf}
 use Rattle.gm_state.specs.Lookups.{component_of}
 use Rattle.gm_state.specs.Records.{Records, IsState, provider}
-use Rattle.gm_bench.specs.Audits.{IsAudit}
+use Rattle.gm_looks.specs.Audits.{IsAudit}
 use Rattle.gm_sync.specs.declared.scope.Scope.{Scope}
 use Rattle.gm_sync.specs.declared.synced.Synced.{Synced}
 use Rattle.gm_sync.specs.declared.synced.Synced.TheVariants.{Whole, Amiss, Refused}

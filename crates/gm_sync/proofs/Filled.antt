@@ -11,7 +11,7 @@ use Rattle.gm_state.specs.Records.{Records}
 use Rattle.gm_state.specs.World.{World}
 use Rattle.gm_rules.specs.AbstractCalls.{Call, Run}
 use Rattle.gm_rules.specs.AbstractCalls as run
-use Rattle.gm_rows.specs.ReadableTables.{AreTablesOf}
+use Rattle.gm_rows.specs.ReadableTables.{AreRecordsOf}
 use Rattle.gm_registry.specs.Registry.{DiskKept}
 use Rattle.gm_bench.specs.Benches.{registry_of, shelf_of}
 use Rattle.gm_bench.specs.Calls.{Keep, LooksOn}
@@ -21,7 +21,7 @@ use Rattle.gm_bench.specs.declared.answer.Answer.{Answer}
 use Rattle.gm_bench.specs.declared.fault.BenchFault.{BenchFault}
 use Rattle.gm_bench.specs.declared.bench.Bench.{Bench}
 use Rattle.gm_bench.proofs.Looks.{looked_at}
-use Rattle.gm_bench.proofs.ReadTables.{tables_of}
+use Rattle.gm_bench.proofs.GatheredFacts.{are_records}
 use Rattle.gm_sync.specs.declared.scope.Scope.{Scope}
 use Rattle.gm_sync.specs.Filling.{Fills, IsFilledFrom, IsWhole}
 
@@ -73,9 +73,9 @@ module _ {S H : Type 0} (g : StoreGhosts S) (h : ShelfGhosts H) where
   -- at rest the tables are those of the world's records
   pub tables_at_rest : (b : Bench S H) (away : Image) (w : World)
       (at : IsAt g h.view h.size (registry_of b) (shelf_of b) away [] [] w w)
-      → IsLawful (h.view (shelf_of b)) → AreTablesOf at.tables w.state [] []
+      → IsLawful (h.view (shelf_of b)) → AreRecordsOf at.tables w.state
   tables_at_rest b away w at lawful =
-      tables_of at.tables [] [] _ w (at.leads (h.view (shelf_of b)).seen lawful.holds_now).0
+      are_records g h.view h.size (registry_of b) (shelf_of b) away w at lawful
 
   -- looks in turn
   pub look_then : (a b c : Bench S H)

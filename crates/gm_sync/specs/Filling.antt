@@ -7,7 +7,6 @@ use Rattle.gm_lists.specs.Ordered.{Has}
 use Rattle.gm_shelf.specs.declared.shelf.Shelf.{Ghosts as ShelfGhosts}
 use Rattle.gm_commands.specs.declared.command.Command.{Command}
 use Rattle.gm_commands.specs.declared.command.Command.TheVariants.{Advance}
-use Rattle.gm_state.specs.declared.intents.Intent.{Intent}
 use Rattle.gm_state.specs.declared.records.Mirror.{Mirror}
 use Rattle.gm_state.specs.declared.records.Component.{Component}
 use Rattle.gm_state.specs.Intents.{IsOf}
@@ -16,9 +15,9 @@ use Rattle.gm_state.specs.Rows.{Tables}
 use Rattle.gm_state.specs.World.{World}
 use Rattle.gm_rules.specs.AbstractCalls.{Call, Run}
 use Rattle.gm_rules.specs.AbstractCalls as run
-use Rattle.gm_rows.specs.ReadableTables.{AreTablesOf}
+use Rattle.gm_rows.specs.ReadableTables.{AreRecordsOf}
 use Rattle.gm_registry.specs.Registry.{DiskKept, HasTables, Reads}
-use Rattle.gm_bench.specs.Audits.{IsAsRegistered}
+use Rattle.gm_looks.specs.Audits.{IsAsRegistered}
 use Rattle.gm_bench.specs.Benches.{registry_of, shelf_of}
 use Rattle.gm_bench.specs.Calls.{Keep}
 use Rattle.gm_bench.specs.Owed.{LookDoes}
@@ -63,8 +62,8 @@ pub record AreLastSeen {S H : Type 0} (g : StoreGhosts S) (h : ShelfGhosts H) (o
   pub has : h.honest (shelf_of old) → DiskKept g (registry_of new) → (away : Image) (u : World)
       → IsAt g h.view h.size (registry_of old) (shelf_of old) away [] [] u u
       → (t : Tables) × HasTables g seen t
-  pub are : DiskKept g (registry_of new) → (t : Tables) (r : Records) (ts : List Intent)
-      → (bytes : List (List ℕ)) → HasTables g seen t → AreTablesOf t r ts bytes → state ≡ r
+  pub are : DiskKept g (registry_of new) → (t : Tables) (r : Records)
+      → HasTables g seen t → AreRecordsOf t r → state ≡ r
 
 -- from rest the bench was filled, as far as is meant, to rest in a world of these records
 abbrev pub IsFilledTo : {S H : Type 0} → StoreGhosts S → ShelfGhosts H → Bench S H → Bench S H
@@ -98,8 +97,7 @@ pub record IsAmiss (scope : Scope) (s : Records) (size : Sizes) (seen : Image)
 -- these are amiss by what the registry and the shelf of a bench hold, and nothing is changed
 pub record IsAmissOver {S H : Type 0} (g : StoreGhosts S) (h : ShelfGhosts H) (old new : Bench S H)
     (scope : Scope) (names : List (List ℕ)) : Type 0 where
-  pub are : (t : Tables) (s : Records) (ts : List Intent) (bytes : List (List ℕ))
-      → HasTables g (registry_of old) t → AreTablesOf t s ts bytes
+  pub are : (t : Tables) (s : Records) → HasTables g (registry_of old) t → AreRecordsOf t s
       → IsAmiss scope s (h.size (shelf_of old)) (h.view (shelf_of old)).seen names
   pub looked : LookDoes g h.view h.size (registry_of old) (registry_of new) (shelf_of old)
       (shelf_of new)

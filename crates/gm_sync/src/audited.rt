@@ -1,10 +1,9 @@
 //! An audit of the mirrors that are meant, and then the filling of what is SYNCHRONIZING.
 
-ghost use Rattle.std.specs.Prelude.{◌≡◌, ℕ, true, List, IfOk, OnOk};
-ghost use Rattle.gm_state.specs.declared.intents.Intent.{Intent};
+ghost use Rattle.std.specs.Prelude.{◌≡◌, true, IfOk, OnOk};
 ghost use Rattle.gm_state.specs.Records.{Records};
 ghost use Rattle.gm_state.specs.Rows.{Tables};
-ghost use Rattle.gm_rows.specs.ReadableTables.{AreTablesOf};
+ghost use Rattle.gm_rows.specs.ReadableTables.{AreRecordsOf};
 ghost use Rattle.gm_registry.specs.Registry.{DiskKept, HasTables};
 ghost use Rattle.gm_bench.specs.Benches.{progress_of, registry_of, shelf_of};
 ghost use Rattle.gm_bench.specs.Calls.{Keep};
@@ -42,9 +41,8 @@ pub fn sync<S: Alter, H: Shelf, P: Progress>(
     // Nothing is filled but where the images are as they are registered.
     ensures audited { audits ≡ true → H.honest (shelf_of bench.old)
         → DiskKept S.Store (registry_of bench.new) → IfOk result (UnlessAmiss
-        ((t : Tables) (s : Records) (ts : List Intent) (bytes : List (List ℕ))
-        → HasTables S.Store (registry_of bench.old) t → AreTablesOf t s ts bytes
-        → AreAsRegistered scope.now s (H.size (shelf_of bench.old))
+        ((t : Tables) (s : Records) → HasTables S.Store (registry_of bench.old) t
+        → AreRecordsOf t s → AreAsRegistered scope.now s (H.size (shelf_of bench.old))
         (H.view (shelf_of bench.old)).seen)) }
     ensures amiss { H.honest (shelf_of bench.old) → DiskKept S.Store (registry_of bench.new)
         → IfOk result (IfAmiss (IsAmissOver S.Store H.Shelf bench.old bench.new scope.now)) }

@@ -1,7 +1,8 @@
 //! The calls of a bench as tests make them, and what a last sector is expected to say.
 
-use gm_bench::{Answer, Bench, BenchFault, OpenFault, Phase, Scrubbed, Watch};
+use gm_bench::{Answer, Bench, BenchFault, OpenFault, Phase, Watch};
 use gm_commands::{Command, Sectors};
+use gm_looks::Scrubbed;
 use gm_metadata::{Balance, DiskFlags, Label, Metadata, MirrorFlags, encode};
 use gm_shelf::Shelf;
 use gm_state::{Reply, State};
@@ -196,6 +197,14 @@ pub fn try_view<S: Alter, H: Shelf>(
     bench: &mut Bench<S, H>,
 ) -> Result<State, BenchFault> {
     bench.view(alloc)
+}
+
+pub fn try_view_of<S: Alter, H: Shelf>(
+    alloc: Global,
+    bench: &mut Bench<S, H>,
+    mirror: Label,
+) -> Result<State, BenchFault> {
+    bench.view_of(alloc, mirror)
 }
 
 pub fn try_audit<S: Alter, H: Shelf>(

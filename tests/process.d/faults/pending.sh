@@ -68,6 +68,14 @@ metadata of b.img: as registered')" ''
     expect "a blank file in the source's place" 0 \
         "$(lines 'copy 3 sectors of a.img to b.img from 0: a.img no metadata, b.img as registered
 metadata of b.img: as registered')" ''
+
+    # A destroy takes the mirror out of the registry before it clears the images.
+    fresh_bench destroyed
+    batch "$label$insert"
+    sqlite3 "$registry" "DELETE FROM components; DELETE FROM mirrors;
+        INSERT INTO intents VALUES (1, 2, 'a.img', '', 0, 0), (2, 2, 'b.img', '', 0, 0)"
+    at_bench pending
+    expect 'a destroy that was stopped' 0 "$(lines 'clear a.img: member\nclear b.img: member')" ''
 else
     skip 'a copy' 'there is no sqlite3 here'
 fi

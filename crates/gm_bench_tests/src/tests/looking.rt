@@ -1,9 +1,10 @@
 //! An audit and a tasting whose shelf stops at each of their looks. Neither changes anything.
 
-use gm_bench::{Bench, BenchFault, Phase, taste_shelf};
-use gm_shelf::{FaultShelf, MemShelf, Shelf};
-use gm_test_bench::{INSERT, of_two, open, try_audit};
-use gm_test_media::{add, memory, must, shelf};
+use gm_bench::{Bench, BenchFault, Phase};
+use gm_looks::taste_shelf;
+use gm_shelf::{FaultShelf, MemShelf, Shelf, ShelfFault};
+use gm_test_bench::{INSERT, of_two, open, try_audit, try_view_of};
+use gm_test_media::{add, label, memory, must, shelf};
 use gm_words::tasting_text;
 use sqlite::{Alter, Connection};
 use std::alloc::Global;
@@ -70,7 +71,7 @@ fn tell_at(alloc: Global, shelf: MemShelf, nth: u64) -> Result<MemShelf, Fail> {
     let mut stopping = FaultShelf::stop_from(shelf, nth);
     if nth < 4 {
         let tasted = taste_shelf(alloc, &mut stopping);
-        must(tasted.err() == Some(BenchFault::Disk), "it was tasted")?;
+        must(tasted.err() == Some(ShelfFault::Device), "it was tasted")?;
     } else {
         must_tell(alloc, &mut stopping, TOLD)?;
     }
@@ -86,4 +87,27 @@ fn a_shelf_tells_of_its_mirrors(rt: HostRuntime) -> Result<(), Fail> {
         shelf = tell_at(alloc, shelf, nth)?;
     }
     must_tell(alloc, &mut MemShelf::new(alloc), "no mirrors\n")
+}
+
+// How many mirrors and components are seen of one by its name.
+fn seen_of<S: Alter, H: Shelf>(
+    alloc: Global,
+    bench: &mut Bench<S, H>,
+    name: &str,
+) -> Result<[usize; 2], Fail> {
+    let state = try_view_of(alloc, bench, label(name)?)?;
+    Ok([state.mirrors().len(), state.components().len()])
+}
+
+#[test]
+fn one_mirror_is_seen_by_its_name(rt: HostRuntime) -> Result<(), Fail> {
+    let alloc = rt.alloc();
+    let (store, shelf) = of_two(alloc, memory(alloc)?, shelf(alloc)?, INSERT)?;
+    let mut bench = open(alloc, store, shelf)?;
+    must(seen_of(alloc, &mut bench, "gm0")? == [1, 2], "another part")?;
+    must(
+        seen_of(alloc, &mut bench, "gm9")? == [0, 0],
+        "a mirror that isn't there",
+    )?;
+    Ok(())
 }

@@ -1,6 +1,7 @@
 //! Scrubs of data that are equal, that differ, that can't be read, and that aren't there.
 
-use gm_bench::{Answer, BenchFault, Flaw, Phase, Scrubbed, Watch};
+use gm_bench::{Answer, BenchFault, Phase, Watch};
+use gm_looks::{Flaw, Scrubbed};
 use gm_metadata::Label;
 use gm_shelf::{FaultShelf, MemShelf, Shelf};
 use gm_state::Reply;

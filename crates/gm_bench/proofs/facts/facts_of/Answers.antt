@@ -5,7 +5,9 @@ use Rattle.gm_lists.specs.Ordered.{Has}
 use Rattle.gm_refusals.specs.declared.facts.Fact.{Fact}
 use Rattle.gm_bench.specs.ShelfFacts.{IsFact, Tell, TellSizes}
 use Rattle.gm_shelf.proofs.Keeping.{only_then}
-use Rattle.gm_bench.proofs.FactsAreWorlds.{tell, tell_sizes, size_found, moved, fact_found, absent_found, covered_more, has_either, has_left, has_last}
+use Rattle.gm_bench.proofs.FactsAreWorlds.{tell, tell_sizes, size_found, moved, fact_found, absent_found, covered_more}
+use Rattle.gm_lists.proofs.Lists.{Has-push}
+use Rattle.gm_looks.proofs.Pushed.{has_left, has_last}
 use Rattle.gm_bench.proofs.facts.facts_of.Goals as goal
 use Rattle.gm_bench.proofs.facts.facts_of.Goals.{in-Some+in-Ok, in-None}
 
@@ -33,7 +35,7 @@ loop-name-preserved g c =
           record {
             only = only_then g.H.Shelf _ _ _ inv.only c.fact_of.ensures.looks.only;
             sizes = λ f has.
-                (elim (has_either c.loop-name.entries.items w.in-Some.fact f
+                (elim (Has-push c.loop-name.entries.items w.in-Some.fact f
                 (subst (λ (l : List Fact). Has l f) more has)) [
                   | inl old ↦ inv.sizes f old
                   | inr new ↦ subst (λ (x : Fact). size x.provider ≡ Some x.sectors) new
@@ -43,7 +45,7 @@ loop-name-preserved g c =
                       c.in_ok-fact_of.ensures.size))
                 ]);
             facts = λ h f has.
-                (elim (has_either c.loop-name.entries.items w.in-Some.fact f
+                (elim (Has-push c.loop-name.entries.items w.in-Some.fact f
                 (subst (λ (l : List Fact). Has l f) more has)) [
                   | inl old ↦ inv.facts h f old
                   | inr new ↦ subst (IsFact size seen against) new (fact h).0

@@ -3,7 +3,9 @@ use Rattle.std.proofs.lemmas.List.{take_all}
 use Rattle.gm_lists.specs.Ordered.{Has}
 use Rattle.gm_refusals.specs.Facts.{size_in}
 use Rattle.gm_refusals.specs.declared.facts.Fact.{Fact}
-use Rattle.gm_bench.proofs.FactsAreWorlds.{tell_size, covered_more, has_either, has_left, has_last}
+use Rattle.gm_bench.proofs.FactsAreWorlds.{tell_size, covered_more}
+use Rattle.gm_lists.proofs.Lists.{Has-push}
+use Rattle.gm_looks.proofs.Pushed.{has_left, has_last}
 use Rattle.gm_bench.proofs.sizes.sizes_of.Goals as goal
 use Rattle.gm_bench.proofs.sizes.sizes_of.Goals.{in-Some+in_ok-push, in_default}
 
@@ -23,7 +25,7 @@ loop-name-preserved g c =
           c.size_of.ensures in
           record {
             sizes = λ f has.
-                (elim (has_either c.loop-name.entries.items fact f
+                (elim (Has-push c.loop-name.entries.items fact f
                 (subst (λ (l : List Fact). Has l f) more has)) [
                   | inl old ↦ inv.sizes f old
                   | inr new ↦ subst (λ (x : Fact). size x.provider ≡ Some x.sectors) new

@@ -1,20 +1,19 @@
 use Rattle.std.proofs.Common.{◌≡◌, refl, ap, Err, []}
 use Rattle.gm_rows.specs.ReadableTables.{AreRecordsOf, AreTablesOf}
-use Rattle.gm_bench.specs.declared.fault.BenchFault.TheVariants.{Unreadable}
 use Rattle.gm_bench.proofs.FactsLookedUp.{honest_to_adopt}
 use Rattle.gm_http.specs.declared.status.Status.TheVariants as status
 use Rattle.gm_json.specs.Mirrors.{mirror_json, status_json}
 use Rattle.gm_front.specs.Demands.{mirror_told, told_as}
-use Rattle.gm_front.proofs.Found.{look_fails, stays_at_rest, tables_shown}
+use Rattle.gm_front.proofs.Found.{look_fails, records_shown, stays_at_rest, tables_shown}
 use Rattle.gm_front.proofs.finding.find.Goals as goal
 
 pub returns-in-Ok-clause-comes : goal.returns-in-Ok-clause-comes
 returns-in-Ok-clause-comes g c = λ honest kept away u at.
     let shelf = c.args.bench.now.media.shelf in
-    let tables = tables_shown g.S.Store g.H.Shelf.view g.H.Shelf.size _ shelf away u at
+    let records = records_shown g.S.Store g.H.Shelf.view g.H.Shelf.size _ shelf away u at
     (g.met.H.Shelf.lawful shelf honest) in
     let is : c.in-Ok.state ≡ u.state =
-    c.in-Ok.ensures.shows kept at.tables u.state [] [] at.has tables in
+    c.in-Ok.ensures.shows kept at.tables u.state at.has records in
     rw c.in-AllMirrors.is (record {
       world = u;
       responds = (refl, ap (λ s. told_as status.Ok (status_json s)) is);
@@ -25,10 +24,10 @@ returns-in-Ok-clause-comes g c = λ honest kept away u at.
 pub returns-in-Ok-view-clause-comes : goal.returns-in-Ok-view-clause-comes
 returns-in-Ok-view-clause-comes g c = λ honest kept away u at.
     let shelf = c.args.bench.now.media.shelf in
-    let tables = tables_shown g.S.Store g.H.Shelf.view g.H.Shelf.size _ shelf away u at
+    let records = records_shown g.S.Store g.H.Shelf.view g.H.Shelf.size _ shelf away u at
     (g.met.H.Shelf.lawful shelf honest) in
     let is : c.in-Ok-view.state ≡ u.state =
-    c.in-Ok-view.ensures.shows kept at.tables u.state [] [] at.has tables in
+    c.in-Ok-view.ensures.shows kept at.tables u.state at.has records in
     rw c.in-OneMirror.is (record {
       world = u;
       responds = (refl, ap (λ s. mirror_told (mirror_json s c.in-OneMirror.name)) is);
@@ -40,21 +39,23 @@ returns-in-Ok-view-clause-comes g c = λ honest kept away u at.
 pub returns-in-Err-clause-comes : goal.returns-in-Err-clause-comes
 returns-in-Err-clause-comes g c = λ honest kept away u at.
     let shelf = c.args.bench.now.media.shelf in
-    let tables = tables_shown g.S.Store g.H.Shelf.view g.H.Shelf.size _ shelf away u at
+    let records = records_shown g.S.Store g.H.Shelf.view g.H.Shelf.size _ shelf away u at
     (g.met.H.Shelf.lawful shelf honest) in
     rw c.in-AllMirrors.is (look_fails g.S.Store g.H.Shelf c.args.bench.now c.view.new.self
     c.view.result c.view.ensures.looks honest kept away u at _ c.in-Err.fault (λ l. l) c.in-Err.is
-    (λ e. c.in-Err.ensures.unreadable kept (ap Err e) at.tables u.state [] [] at.has tables))
+    (λ e. c.in-Err.ensures.records.unreadable kept (ap Err e) at.tables u.state at.has
+    records))
 
 pub returns-in-Err-view-clause-comes : goal.returns-in-Err-view-clause-comes
 returns-in-Err-view-clause-comes g c = λ honest kept away u at.
     let shelf = c.args.bench.now.media.shelf in
-    let tables = tables_shown g.S.Store g.H.Shelf.view g.H.Shelf.size _ shelf away u at
+    let records = records_shown g.S.Store g.H.Shelf.view g.H.Shelf.size _ shelf away u at
     (g.met.H.Shelf.lawful shelf honest) in
     rw c.in-OneMirror.is (look_fails g.S.Store g.H.Shelf c.args.bench.now
     c.view-in-OneMirror.new.self c.view-in-OneMirror.result c.view-in-OneMirror.ensures.looks
     honest kept away u at _ c.in-Err-view.fault (λ l. l) c.in-Err-view.is
-    (λ e. c.in-Err-view.ensures.unreadable kept (ap Err e) at.tables u.state [] [] at.has tables))
+    (λ e. c.in-Err-view.ensures.records.unreadable kept (ap Err e) at.tables u.state at.has
+    records))
 
 pub returns-in-Err-last_sector-clause-comes : goal.returns-in-Err-last_sector-clause-comes
 returns-in-Err-last_sector-clause-comes g c = λ honest kept away u at.
@@ -76,12 +77,8 @@ pub returns-in-Err-run-clause-comes : goal.returns-in-Err-run-clause-comes
 returns-in-Err-run-clause-comes g c = λ honest kept away u at.
     let shelf = c.args.bench.now.media.shelf in
     let lawful = g.met.H.Shelf.lawful shelf honest in
-    let tables : AreTablesOf at.tables u.state [] [] =
-    tables_shown g.S.Store g.H.Shelf.view g.H.Shelf.size _ shelf away u at lawful in
-    let records : AreRecordsOf at.tables u.state = record {
-      state = tables.state;
-      rows = record { mirrors = tables.mirrors; components = tables.components };
-    } in
+    let records : AreRecordsOf at.tables u.state =
+    records_shown g.S.Store g.H.Shelf.view g.H.Shelf.size _ shelf away u at lawful in
     rw (c.in-Carry.is, ← c.as_str.ensures.value) (record {
       left = c.in-Err-run.ensures.leaves honest kept away u at;
       disk = λ is. c.in-Err-run.ensures.runs.disk kept at.tables u.state at.has records
@@ -90,8 +87,6 @@ returns-in-Err-run-clause-comes g c = λ honest kept away u at.
           let all : AreTablesOf found.tables u.state [] [] = tables_shown g.S.Store g.H.Shelf.view
           g.H.Shelf.size _ shelf away u found lawful in
           c.in-Err-run.ensures.readable kept (ap Err is) found.tables u.state found.has
-          (record {
-            state = all.state;
-            rows = record { mirrors = all.mirrors; components = all.components };
-          }) all.count written (honest_to_adopt g.H.Shelf shelf honest c.in-Carry.command);
+          (records_shown g.S.Store g.H.Shelf.view g.H.Shelf.size _ shelf away u found lawful)
+          all.count written (honest_to_adopt g.H.Shelf shelf honest c.in-Carry.command);
     })

@@ -156,7 +156,7 @@ returns-clause-silent g c clean is was s said values =
     (c.in_ok-all.ensures.says early (registry_ours old was)) theirs s said))
 
 pub returns-in-Some-clause-state : goal.returns-in-Some-clause-state
-returns-in-Some-clause-state g c clean t s was of =
+returns-in-Some-clause-state g c clean t was =
     let old = state g.S.Store c.args.conn.now in
     let mid = state g.S.Store c.all_mirrors.new.conn in
     let new = state g.S.Store c.components_with.new.conn in
@@ -166,14 +166,16 @@ returns-in-Some-clause-state g c clean t s was of =
     let named : c.in_ok-mirrors.mirrors.items ≡ filter (has_name c.args.label) all =
     ◌∙◌ {b = filter (has_name c.args.label) c.deref.result.now} c.in_ok-mirrors.ensures
     (ap (filter (has_name c.args.label)) c.deref.ensures.value) in
-    let there = tables_stay old mid t c.in_ok-all.ensures.read early was in
-    let part = mirror_part s c.args.label in
-    let mine : IsStateOf c.in_ok-mirrors.mirrors.items owned part =
-    subst (λ ms. IsStateOf ms owned part) (sym named)
-    (is_mirror_part c.args.label all owned s of.state (c.in_ok-all.ensures.all early t s was of)
-    (c.in_ok-components.ensures.found clean t s there of)) in (
-      same_state c.in_ok-mirrors.mirrors.items owned c.in-Some.state part c.in-Some.ensures.some
-          mine,
+    let there = tables_stay old mid t c.in_ok-all.ensures.read early was in (
+      λ s of.
+          let part = mirror_part s c.args.label in
+          let mine : IsStateOf c.in_ok-mirrors.mirrors.items owned part =
+          subst (λ ms. IsStateOf ms owned part) (sym named)
+          (is_mirror_part c.args.label all owned s of.state
+          (c.in_ok-all.ensures.all early t s was of)
+          (c.in_ok-components.ensures.found clean t s there of)) in
+          same_state c.in_ok-mirrors.mirrors.items owned c.in-Some.state part
+          c.in-Some.ensures.some mine,
       saved g.S.Store g.met.S.Store.settled c.components_with.new.conn t
           (tables_stay mid new t c.in_ok-components.ensures.read clean there),
     )

@@ -104,9 +104,9 @@ returns-clause-state g c clean =
     let early = clean_before mid new c.in_ok-components.ensures.read clean in
     let both = read_then old mid new c.in_ok-mirrors.ensures.read
     c.in_ok-components.ensures.read in
-    if_ok c.state_of_rows.result _ _ (λ it only t s was of. (
-      sym (only s (subst₂ (λ (m k : List Row). SayState m k s) (sym c.deref.ensures.value)
-          (sym c.deref-2.ensures.value)
+    if_ok c.state_of_rows.result _ _ (λ it only t was. (
+      λ s of. sym (only s (subst₂ (λ (m k : List Row). SayState m k s)
+          (sym c.deref.ensures.value) (sym c.deref-2.ensures.value)
           (says_records old.now.trees c.in_ok-mirrors.mirrors.items
           c.in_ok-components.components.items
           (c.in_ok-mirrors.ensures.rows early (ours old t was))

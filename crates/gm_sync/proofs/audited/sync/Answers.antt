@@ -18,9 +18,9 @@ returns-clause-audited g c = λ asked honest kept.
     omega (arith, c.in_ok-synced.ensures.keep.clean, kept) in
     let zero : length c.in_ok-names.names.items ≡ 0 = search rules in
     let told = c.in_ok-names.ensures.told honest mid in
-    unless_amiss _ c.in_ok-synced.synced (λ t s ts bytes has are.
+    unless_amiss _ c.in_ok-synced.synced (λ t s has are.
     none_amiss c.args.scope.now s _ _ c.in_ok-names.names.items
-    (no_names c.in_ok-names.names.items zero) (told.are t s ts bytes has are))
+    (no_names c.in_ok-names.names.items zero) (told.are t s has are))
 
 pub returns-clause-whole : goal.returns-clause-whole
 returns-clause-whole g c =

@@ -1,94 +1,28 @@
-use Rattle.std.proofs.Common.{rules, ◌≡◌, Err, ap}
-use Rattle.gm_bench.specs.declared.fault.BenchFault.TheVariants.{Unreadable}
-use Rattle.gm_shelf.proofs.InTurn.{quiet_itself}
-use Rattle.gm_bench.proofs.DecidesOnly.{quiet_same, reads_none}
-use Rattle.gm_bench.proofs.Looks.{look_does, look_leaves}
+use Rattle.std.proofs.Common.{rules}
+use Rattle.gm_bench.specs.Benches.{media_of}
+use Rattle.gm_bench.specs.Calls.{LooksAt}
+use Rattle.gm_bench.proofs.DecidesOnly.{ok_then}
+use Rattle.gm_bench.proofs.Looks.{closed_looks, looks_on}
 use Rattle.gm_bench.proofs.bench.Bench.accepted.Goals as goal
 
-pub returns-in-Ok-clause-closes : goal.returns-in-Ok-clause-closes
-returns-in-Ok-clause-closes g c =
-    record {
-      closed = λ failed. (
-          absurd (c.in_default.not-Failed failed));
-      reopen = search rules;
-      failed = search rules;
-      absent = search rules;
-      redone = search rules;
-    }
+pub returns-in_err-check_open-clause-looks : goal.returns-in_err-check_open-clause-looks
+returns-in_err-check_open-clause-looks g c =
+    closed_looks g.S.Store g.H.Shelf g.met.S.Store.settled c.args.self.now _ (search rules)
+    (λ h. g.met.H.Shelf.lawful _ h)
 
-pub returns-in-Err-clause-unreadable : goal.returns-in-Err-clause-unreadable
-returns-in-Err-clause-unreadable g c clean is =
-    let fault : c.in-Err.fault ≡ Unreadable = cc in
-    c.in-Err.ensures.readable clean (ap Err fault)
-
-pub returns-in-Err-clause-closes : goal.returns-in-Err-clause-closes
-returns-in-Err-clause-closes g c =
-    record {
-      closed = λ failed. (
-          absurd (c.in_default.not-Failed failed));
-      reopen = search rules;
-      failed = search rules;
-      absent = search rules;
-      redone = search rules;
-    }
-
-pub returns-in-Ok-clause-looks : goal.returns-in-Ok-clause-looks
-returns-in-Ok-clause-looks g c =
-    record {
-      stays = search rules;
-      does = λ h clean. (
-          let view = g.H.Shelf.view in
-          let size = g.H.Shelf.size in
-          let r = c.args.self.now.media.registry in
-          let shelf = c.args.self.now.media.shelf in
-          look_does g.S.Store view size r c.accepted.new.self.registry shelf
-          c.accepted.new.self.shelf
-          (quiet_same view shelf c.accepted.new.self.shelf c.accepted.ensures.shelf)
-          (λ t has. (c.in-Ok.ensures.count clean t has).1) (ap size c.accepted.ensures.shelf));
-      leaves = λ h clean. (
-          let view = g.H.Shelf.view in
-          let r = c.args.self.now.media.registry in
-          let shelf = c.args.self.now.media.shelf in
-          look_leaves g.S.Store view g.H.Shelf.size r c.accepted.new.self.registry shelf
-          c.accepted.new.self.shelf
-          (quiet_same view shelf c.accepted.new.self.shelf c.accepted.ensures.shelf)
-          g.met.S.Store.settled (g.met.H.Shelf.lawful shelf h) clean c.accepted.ensures.reads);
-      store = search rules;
-      only = search rules;
-      disk = search rules;
-    }
-
-pub returns-in-Err-clause-looks : goal.returns-in-Err-clause-looks
-returns-in-Err-clause-looks g c =
-    record {
-      stays = search rules;
-      does = search rules;
-      leaves = λ h clean. (
-          let view = g.H.Shelf.view in
-          let r = c.args.self.now.media.registry in
-          let shelf = c.args.self.now.media.shelf in
-          look_leaves g.S.Store view g.H.Shelf.size r c.accepted.new.self.registry shelf
-          c.accepted.new.self.shelf
-          (quiet_same view shelf c.accepted.new.self.shelf c.accepted.ensures.shelf)
-          g.met.S.Store.settled (g.met.H.Shelf.lawful shelf h) clean c.accepted.ensures.reads);
-      store = search rules;
-      only = search rules;
-      disk = search rules;
-    }
-
-pub returns-in-Failed-clause-looks : goal.returns-in-Failed-clause-looks
-returns-in-Failed-clause-looks g c =
-    record {
-      stays = search rules;
-      does = search rules;
-      leaves = λ h clean. (
-          let view = g.H.Shelf.view in
-          let r = c.args.self.now.media.registry in
-          let shelf = c.args.self.now.media.shelf in
-          look_leaves g.S.Store view g.H.Shelf.size r r shelf shelf (quiet_itself (view shelf))
-          g.met.S.Store.settled (g.met.H.Shelf.lawful shelf h) clean
-          (reads_none g.S.Store g.met.S.Store.settled r));
-      store = reads_none g.S.Store g.met.S.Store.settled c.args.self.now.media.registry;
-      only = search rules;
-      disk = search rules;
-    }
+pub returns-clause-looks : goal.returns-clause-looks
+returns-clause-looks g c =
+    let at : LooksAt g.S.Store g.H.Shelf (media_of c.args.self.now) c.accepted-count.new.self
+    c.accepted-count.result = record {
+      asks = record {
+        store = c.accepted-count.ensures.reads;
+        only = search rules;
+        disk = search rules;
+        fault = c.accepted-count.ensures.fault;
+      };
+      stays = λ clean. ok_then _ _ (λ n counted t has. (counted t has).1) c.accepted-count.result
+          (c.accepted-count.ensures.count clean);
+    } in
+    looks_on g.S.Store g.H.Shelf g.met.S.Store.settled c.args.self.now c.looked.new.self _
+    (λ h. g.met.H.Shelf.lawful _ h) c.accepted-count.new.self c.accepted-count.result at
+    c.looked.ensures.answer c.looked.ensures.media c.looked.ensures.stays

@@ -1,50 +1,17 @@
-use Rattle.std.proofs.Common.{◌∙◌, Err, sym, ap, subst}
-use Rattle.gm_shelf.specs.Disk.{IsQuiet}
+use Rattle.std.proofs.Common.{sym, subst}
 use Rattle.gm_state.specs.Records.{Records}
-use Rattle.gm_state.proofs.SameRows.{same_mirror, same_component}
-use Rattle.gm_registry.proofs.OneReading.{one_reading}
-use Rattle.gm_bench.specs.Audits.{IsAudit}
-use Rattle.gm_bench.proofs.Causes.{fault_is}
-use Rattle.gm_bench.proofs.DecidesOnly.{ok_then}
-use Rattle.gm_bench.proofs.Looks.{look_does}
+use Rattle.gm_looks.specs.Audits.{IsAudit}
 use Rattle.gm_bench.proofs.media.Media.audit.Goals as goal
 
-pub returns-in_err-loaded-clause-unreadable : goal.returns-in_err-loaded-clause-unreadable
-returns-in_err-loaded-clause-unreadable g c clean is t s ts bytes has of =
-    c.in_err-loaded.ensures.unreadable clean (ap Err (fault_is c.from_residual.result _ _
-    c.from_residual.ensures.1 is)) t s ts bytes has of
-
 pub returns-clause-audits : goal.returns-clause-audits
-returns-clause-audits g c h clean =
-    let h1 : g.H.Shelf.honest c.load.new.self.shelf =
-    subst g.H.Shelf.honest (sym c.load.ensures.shelf) h in
-    ok_then _ _ (λ names shown t s ts bytes has of. (
-    let state = c.in_ok-loaded.loaded.state in
-    let loaded = c.in_ok-loaded.ensures.loaded clean t has in
-    let same = one_reading same_mirror same_component t state s _ ts _ bytes loaded.0 of in
-    let audit = subst (λ (x : g.row.H.Denot). IsAudit state (g.H.Shelf.size x)
-    (g.H.Shelf.view x).seen names.items) c.load.ensures.shelf shown in
-    subst (λ (x : Records). IsAudit x (g.H.Shelf.size c.args.self.now.shelf)
-    (g.H.Shelf.view c.args.self.now.shelf).seen names.items) same.0 audit))
-    c.audit_shelf.result (c.audit_shelf.ensures.audit h1)
-
-pub returns-clause-looks : goal.returns-clause-looks
-returns-clause-looks g c h clean =
-    let view = g.H.Shelf.view in
+returns-clause-audits g c h clean t s has are =
     let size = g.H.Shelf.size in
+    let view = g.H.Shelf.view in
+    let names = c.in_ok-names.names.items in
     let shelf = c.args.self.now.shelf in
-    let h1 : g.H.Shelf.honest c.load.new.self.shelf =
-    subst g.H.Shelf.honest (sym c.load.ensures.shelf) h in
-    let quiet : IsQuiet (view shelf) (view c.audit_shelf.new.shelf) =
-    subst (λ (x : g.row.H.Denot). IsQuiet (view x) (view c.audit_shelf.new.shelf))
-    c.load.ensures.shelf (c.audit_shelf.ensures.looks.only.reads h1).quiet in
-    ok_then _ _ (λ names shown. look_does g.S.Store view size c.args.self.now.registry
-    c.load.new.self.registry shelf c.audit_shelf.new.shelf quiet
-    (λ t has. (c.in_ok-loaded.ensures.loaded clean t has).1)
-    (c.audit_shelf.ensures.looks.only.keeps.size ∙ ap size c.load.ensures.shelf))
-    c.audit_shelf.result (c.audit_shelf.ensures.audit h1)
-
-pub returns-in_err-loaded-clause-store : goal.returns-in_err-loaded-clause-store
-returns-in_err-loaded-clause-store g c clean is =
-    c.in_err-loaded.ensures.store clean (ap Err (fault_is c.from_residual.result _ _
-    c.from_residual.ensures.1 is))
+    let h1 : g.H.Shelf.honest c.state.new.self.shelf =
+    subst g.H.Shelf.honest (sym c.state.ensures.shelf) h in
+    subst (λ (x : Records). IsAudit x (size shelf) (view shelf).seen names)
+    (c.in_ok-state.ensures.shows clean t s has are)
+    (subst (λ (x : g.row.H.Denot). IsAudit c.in_ok-state.state (size x) (view x).seen names)
+    c.state.ensures.shelf (c.in_ok-names.ensures.audit h1))

@@ -1,0 +1,11 @@
+use Rattle.std.proofs.Common.{◌≡◌, ◌∙◌, ap}
+use Rattle.std.specs.Option.{unwrap_or}
+use Rattle.gm_metadata.specs.Images.{zeros}
+use Rattle.gm_shelf.proofs.LastRead.{last_read}
+use Rattle.gm_bench.proofs.facts.last_of.Goals as goal
+
+pub returns-clause-bytes : goal.returns-clause-bytes
+returns-clause-bytes g c h is =
+    c.unwrap_or.ensures ∙ (ap (λ o. unwrap_or o zeros) (c.in_ok-last.ensures.last h)
+    ∙ last_read (g.H.Shelf.size c.args.shelf.now) (g.H.Shelf.view c.args.shelf.now).seen
+    c.args.provider c.args.sectors is)

@@ -1,0 +1,12 @@
+pub mod AuditAgrees
+pub mod ComponentFound
+pub mod CopyText
+pub mod Listed
+pub mod MirrorSource
+pub mod Pushed
+pub mod ScrubbedSoFar
+pub mod SeenBefore
+pub mod ShownSoFar
+pub mod StandingTells
+pub mod StandingsFound
+pub mod ToldLines

@@ -1,0 +1,15 @@
+use Rattle.std.proofs.Common.{take}
+use Rattle.gm_shelf.specs.Keeping.{ReadsOnly}
+use Rattle.gm_looks.proofs.Listed.{AuditedSoFar}
+use Rattle.gm_looks.proofs.audit.audit_shelf.Given as goal
+
+abbrev pub invariant-loop-component : goal.invariant-loop-component
+invariant-loop-component g l =
+    let H = g.H.Shelf in
+    let old = H.view l.fn.shelf in
+    record {
+      only : ReadsOnly H l.fn.shelf l.shelf;
+      listed : H.honest l.fn.shelf
+          → AuditedSoFar l.fn.state (H.size l.fn.shelf) old.seen
+          (take l.component-index l.fn.state.components) l.names.items;
+    }

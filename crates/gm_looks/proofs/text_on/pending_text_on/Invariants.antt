@@ -1,0 +1,15 @@
+use Rattle.std.proofs.Common.{take}
+use Rattle.std.specs.String.{string_bytes}
+use Rattle.gm_shelf.specs.Keeping.{ReadsOnly}
+use Rattle.gm_looks.specs.Texts.{AreTold}
+use Rattle.gm_looks.proofs.text_on.pending_text_on.Given as goal
+
+abbrev pub invariant-loop-intent : goal.invariant-loop-intent
+invariant-loop-intent g l =
+    let H = g.H.Shelf in
+    record {
+      only : ReadsOnly H l.fn.shelf l.shelf;
+      told : H.honest l.fn.shelf
+          → AreTold l.fn.state (H.size l.fn.shelf) (H.view l.fn.shelf).seen
+          (take l.intent-index l.fn.intents) (string_bytes l.text);
+    }

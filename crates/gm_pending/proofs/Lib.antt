@@ -1,5 +1,0 @@
-pub mod ComponentFound
-pub mod CopyText
-pub mod SeenBefore
-pub mod StandingsFound
-pub mod ToldLines

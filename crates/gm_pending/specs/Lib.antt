@@ -1,3 +1,0 @@
-pub mod Standings
-pub mod Texts
-pub mod Words
