@@ -83,7 +83,43 @@ fn fill_one<S: Alter, H: Shelf, P: Progress>(
     Ok(Some(CallRefusal::NoRoom))
 }
 
-/// Fills whatever is meant and SYNCHRONIZING, one component after the other.
+// A component that isn't filled, because an advance of it is refused.
+#[derive(Drop)]
+struct Unfilled {
+    provider: Label,
+    why: CallRefusal,
+}
+
+// Fills whatever of one mirror is meant and SYNCHRONIZING, one component after the other, or finds
+// one that isn't filled. It reads that mirror's records alone.
+fn fill_mirror<S: Alter, H: Shelf, P: Progress>(
+    alloc: Global,
+    bench: &mut Bench<S, H>,
+    scope: &Scope,
+    mirror: Label,
+    progress: &mut P,
+) -> Result<Option<Unfilled>, BenchFault>
+    requires { TakesCommands (progress_of bench.old) }
+    ensures phase { TakesCommands (progress_of bench.new) }
+    ensures fills { OnOk result
+        (Fills S.Store H.Shelf (IsAdvanceIn scope.now) bench.old bench.new) }
+    ensures keep { Keep S.Store H.Shelf (registry_of bench.old) (registry_of bench.new)
+        (shelf_of bench.old) (shelf_of bench.new) }
+{
+    for _ in 0..u64::MAX {
+        let state = bench.view_of(alloc, mirror)?;
+        let Some(component) = next_of(&state, *scope) else {
+            return Ok(None);
+        };
+        let provider = component.provider;
+        if let Some(why) = fill_one(alloc, bench, &component, progress)? {
+            return Ok(Some(Unfilled { provider, why }));
+        }
+    }
+    Ok(None)
+}
+
+/// Fills whatever is meant and SYNCHRONIZING, one mirror after the other.
 pub(crate) fn fill<S: Alter, H: Shelf, P: Progress>(
     alloc: Global,
     bench: &mut Bench<S, H>,
@@ -105,10 +141,11 @@ pub(crate) fn fill<S: Alter, H: Shelf, P: Progress>(
         let Some(component) = next_of(&state, *scope) else {
             return Ok(Synced::Whole(state));
         };
-        if let Some(why) = fill_one(alloc, bench, &component, progress)? {
+        let mirror = component.mirror;
+        if let Some(unfilled) = fill_mirror(alloc, bench, scope, mirror, progress)? {
             return Ok(Synced::Refused {
-                provider: Some(component.provider),
-                why,
+                provider: Some(unfilled.provider),
+                why: unfilled.why,
             });
         }
     }

@@ -1,9 +1,8 @@
-use Rattle.std.proofs.Common.{arith, rules, sym, []}
+use Rattle.std.proofs.Common.{arith, rules}
 use Rattle.gm_bench.specs.Benches.{registry_of}
 use Rattle.gm_registry.specs.Registry.{DiskKept}
 use Rattle.gm_sync.specs.Filling.{IsAdvanceIn}
 use Rattle.gm_sync.proofs.Filled.{fills_looked, fills_none, fills_then, filled_look, tables_at_rest}
-use Rattle.gm_sync.proofs.Meant.{fills_next}
 use Rattle.gm_sync.proofs.fill.fill.Goals as goal
 
 pub loop-init : goal.loop-init
@@ -29,7 +28,7 @@ returns-in_default-clause-whole g c =
             omega (arith, looks.store.clean, kept) in
             let filled = c.loop.invariant.fills.does honest mid away u at in
             (filled.at.tables, filled.at.has);
-        are = λ kept t r ts bytes has are. c.in_ok-state.ensures.shows kept t r ts bytes has are;
+        are = λ kept t r has are. c.in_ok-state.ensures.shows kept t r has are;
       };
       none = search rules;
       world = λ honest kept away u at.
@@ -39,8 +38,8 @@ returns-in_default-clause-whole g c =
           let still = c.loop.invariant.fills.keep.shelf.honest honest in (
             filled_look g.S.Store g.H.Shelf (IsAdvanceIn c.args.scope.now) c.loop.bench
                 c.view.new.self away u (looks.does still kept) filled,
-            c.in_ok-state.ensures.shows kept filled.at.tables filled.world.state [] []
-                filled.at.has (tables_at_rest g.S.Store g.H.Shelf c.loop.bench away filled.world
+            c.in_ok-state.ensures.shows kept filled.at.tables filled.world.state filled.at.has
+                (tables_at_rest g.S.Store g.H.Shelf c.loop.bench away filled.world
                 filled.at (g.met.H.Shelf.lawful _ still)),
           );
     }
@@ -48,19 +47,17 @@ returns-in_default-clause-whole g c =
 pub returns-in-Some-2-clause-fills : goal.returns-in-Some-2-clause-fills
 returns-in-Some-2-clause-fills g c =
     fills_then g.S.Store g.H.Shelf (IsAdvanceIn c.args.scope.now) c.args.bench.now c.view.new.self
-    c.fill_one.new.bench
+    c.fill_mirror.new.bench
     (fills_looked g.S.Store g.H.Shelf (IsAdvanceIn c.args.scope.now) c.args.bench.now c.loop.bench
     c.view.new.self c.in_ok-state.state c.loop.invariant.fills c.in_ok-state.ensures.looks)
-    (fills_next g.S.Store g.H.Shelf c.args.scope.now c.in_ok-state.state c.in-Some.component
-    (sym c.in-Some.ensures) c.view.new.self c.fill_one.new.bench c.in_ok-why.ensures.fills)
+    c.in_ok-unfilled.ensures.fills
 
 pub loop-preserved : goal.loop-preserved
 loop-preserved g c = record {
-  phase = c.in_ok-why.ensures.phase;
+  phase = c.in_ok-unfilled.ensures.phase;
   fills = fills_then g.S.Store g.H.Shelf (IsAdvanceIn c.args.scope.now) c.args.bench.now
-      c.view.new.self c.fill_one.new.bench
+      c.view.new.self c.fill_mirror.new.bench
       (fills_looked g.S.Store g.H.Shelf (IsAdvanceIn c.args.scope.now) c.args.bench.now c.loop.bench
       c.view.new.self c.in_ok-state.state c.loop.invariant.fills c.in_ok-state.ensures.looks)
-      (fills_next g.S.Store g.H.Shelf c.args.scope.now c.in_ok-state.state c.in-Some.component
-      (sym c.in-Some.ensures) c.view.new.self c.fill_one.new.bench c.in_ok-why.ensures.fills);
+      c.in_ok-unfilled.ensures.fills;
 }
