@@ -6,8 +6,8 @@
 //! (`said.rt`). `audit.rt` lists the components that aren't as registered (`specs/Audits.antt`),
 //! `scrub.rt` those that hold other data than their mirror's source (`specs/Scrubs.antt`), and
 //! `tasting.rt` tells what images say without a state (`specs/Shown.antt`); `laws.rt` has what an
-//! audit and a tasting have to do with each other. `text.rt` has a line for each pending intent, and
-//! `text_on.rt` the same with how its images stand (`specs/Texts.antt`).
+//! audit and a tasting have to do with each other. `text.rt` has a line for each pending intent,
+//! and `text_on.rt` the same with how its images stand (`specs/Texts.antt`).
 #![tactic(auto)]
 
 mod audit;

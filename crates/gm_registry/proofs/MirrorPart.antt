@@ -32,7 +32,8 @@ module _ (label : List ℕ) (all : List Mirror) (ks : List Component) where
   }
 
   module _ (db : Trees)
-      (mirrors : IsPermutation (map (columns_at (shown_places Mirrors)) (db 1)) (map mirror_shown all))
+      (mirrors : IsPermutation (map (columns_at (shown_places Mirrors)) (db 1))
+      (map mirror_shown all))
       (components : IsPermutation (shown_under db OfMirror label) (map component_shown ks)) where
     -- the state that they make is what the rows say
     pub said_of : (s : Records) → IsStateOf (filter (has_name label) all) ks s

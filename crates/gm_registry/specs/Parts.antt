@@ -73,8 +73,8 @@ pub record AreValues {db : Trees} {c : Command} {mids : List ℕ} {asked : List 
 abbrev pub SaysNoPart : Trees → Command → List ℕ → Type 0
 SaysNoPart db c mids = (p : Part) → (said : IsSaidFor db c mids p) → AreValues said.1 → ⊥
 
--- The records are a state, and what the rows say that are read for a name: of the mirrors, which the
--- whole table says, the one of this name, and all components under it.
+-- The records are a state, and what the rows say that are read for a name: of the mirrors, which
+-- the whole table says, the one of this name, and all components under it.
 pub record IsSaidOf (db : Trees) (label : List ℕ) (s : Records) : Type 0 where
   pub state : IsState s
   pub mirrors : List Mirror

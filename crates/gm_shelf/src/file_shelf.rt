@@ -49,8 +49,8 @@ impl<R: Files<File = File> + AllocGlobal + Clone + Drop> FileShelf<R> {
         })
     }
 
-    /// What lies in a folder beside its images, with the reasons, in byte order of names: each entry
-    /// that an opening skips. Fails where the folder can't be listed.
+    /// What a folder has beside its images, with the reasons, in byte order of names: each entry
+    /// that an opening skips. Fails if the folder can't be listed.
     pub fn passed_over(rt: &R, folder: &str) -> io::Result<Vec<PassedOver>> {
         passed_over_in(rt, folder)
     }

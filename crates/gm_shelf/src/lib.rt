@@ -2,8 +2,8 @@
 //! a call fails.
 //!
 //! Begin with `shelf.rt`, the trait `Shelf` and its law; `fault.rt` has the four faults and when
-//! each comes. `last_sector.rt` reads a last sector, and writes one so that it is old or new at every
-//! moment.
+//! each comes. `last_sector.rt` reads a last sector, and writes one so that it is old or new at
+//! every moment.
 //! Three shelves keep to the law: `file_shelf.rt` is a folder of image files, of whose contents
 //! nothing is claimed (`folder_images.rt` lists them, `passed_over.rt` what isn't one, by what
 //! `no_image.rt` says; `open_files.rt` opens them,

@@ -5,8 +5,8 @@ mod rows;
 
 use super::{Told, got, in_memory, must, open, tell, try_status};
 use gm_bench::Bench;
-use gm_looks::taste_shelf;
 use gm_front::BatchEnd;
+use gm_looks::taste_shelf;
 use gm_metadata::{Balance, DiskFlags, Label, Metadata, MirrorFlags, Version, encode, read_sector};
 use gm_shelf::{MemShelf, Shelf};
 use gm_test_media::{add, in_version, sector};

@@ -21,7 +21,8 @@ returns-clause-told g c h state m o =
     (sym c.mirror.ensures.value ∙ c.in-Some.is) in
     let tells = tells_registered size seen c.in-Some.mirror k (some_sectors s state m k o)
     c.in_ok-standing.standing (c.in_ok-standing.ensures.stands h) in
-    subst (λ (n : Mirror). IsTrue c.is_as_registered.result ↔ IsAsRegistered size seen n k) (sym same) (
+    subst (λ (n : Mirror). IsTrue c.is_as_registered.result ↔ IsAsRegistered size seen n k)
+    (sym same) (
       λ t. tells.0 (c.is_as_registered.ensures.0 t),
       λ is. c.is_as_registered.ensures.1 (tells.1 is),
     )

@@ -42,7 +42,8 @@ loop-name-preserved g c =
             let gone : size name ≡ None =
             subst (λ (z : Sizes). z name ≡ None) inv.only.keeps.size
             (sym c.sectors.ensures ∙ w.in_default.is) in
-            absurd (not_absent size seen names are i name c.loop-name-test.true c.name-item.is gone);
+            absurd (not_absent size seen names are i name c.loop-name-test.true c.name-item.is
+            gone);
       }
       | in-Some+in_ok-read_last+in_ok-push w ↦
           let n = w.in-Some.sectors in
@@ -64,7 +65,8 @@ loop-name-preserved g c =
                   last_is = last ∙ seen_last n (was name) (seen name)
                       (λ j. (inv.only.reads h).quiet.seen name j);
                 } in
-                subst (λ (l : List Provider). ShownSoFar size seen (take (i + 1) names) l) (sym more)
+                subst (λ (l : List Provider). ShownSoFar size seen (take (i + 1) names) l)
+                (sym more)
                 (shown_more size seen names are i name f c.loop-name.providers.items
                 c.loop-name-test.true c.name-item.is shown refl (inv.shown h));
           }

@@ -46,7 +46,8 @@ returns-clause-says g c clean =
     let old = state g.S.Store c.args.conn.now in
     if_ok c.judge.result _ _
     (λ l says was. any_tables old.now.trees c.in_ok-fetched.fetched l.state l.intents.items
-    l.bytes.items (registry_numbers old was) (c.in_ok-fetched.ensures.rows clean (registry_ours old was)) says)
+    l.bytes.items (registry_numbers old was)
+    (c.in_ok-fetched.ensures.rows clean (registry_ours old was)) says)
     c.judge.ensures.says
 
 pub returns-clause-silent : goal.returns-clause-silent

@@ -17,8 +17,8 @@ returns-in_default-clause-fills g c =
 
 pub returns-in-Some-2-clause-fills : goal.returns-in-Some-2-clause-fills
 returns-in-Some-2-clause-fills g c =
-    fills_then g.S.Store g.H.Shelf (IsAdvanceIn c.args.scope.now) c.args.bench.now c.view_of.new.self
-    c.fill_one.new.bench
+    fills_then g.S.Store g.H.Shelf (IsAdvanceIn c.args.scope.now) c.args.bench.now
+    c.view_of.new.self c.fill_one.new.bench
     (fills_looked g.S.Store g.H.Shelf (IsAdvanceIn c.args.scope.now) c.args.bench.now c.loop.bench
     c.view_of.new.self c.in_ok-state.state c.loop.invariant.fills c.in_ok-state.ensures.looks)
     (fills_next g.S.Store g.H.Shelf c.args.scope.now c.in_ok-state.state c.in-Some.component

@@ -10,5 +10,6 @@ returns-in_err-check_open-clause-looks g c =
 pub returns-clause-looks : goal.returns-clause-looks
 returns-clause-looks g c =
     looks_on g.S.Store g.H.Shelf g.met.S.Store.settled c.args.self.now c.looked.new.self _
-    (λ h. g.met.H.Shelf.lawful _ h) c.last_sector-last.new.self c.last_sector-last.result c.last_sector-last.ensures.looks
-    c.looked.ensures.answer c.looked.ensures.media c.looked.ensures.stays
+    (λ h. g.met.H.Shelf.lawful _ h) c.last_sector-last.new.self c.last_sector-last.result
+    c.last_sector-last.ensures.looks c.looked.ensures.answer c.looked.ensures.media
+    c.looked.ensures.stays

@@ -13,5 +13,6 @@ returns-clause-scrubs g c h clean t s has are =
     subst g.H.Shelf.honest (sym c.state.ensures.shelf) h in
     subst (λ (x : Records). IsScrub x (size shelf) (view shelf).seen c.args.asked list)
     (c.in_ok-state.ensures.shows clean t s has are)
-    (subst (λ (x : g.row.H.Denot). IsScrub c.in_ok-state.state (size x) (view x).seen c.args.asked list)
+    (subst (λ (x : g.row.H.Denot). IsScrub c.in_ok-state.state (size x) (view x).seen
+    c.args.asked list)
     c.state.ensures.shelf (c.in_ok-list.ensures.scrub h1))
