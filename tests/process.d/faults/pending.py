@@ -37,13 +37,13 @@ def put_before(lines):
         place.forget_registry()
 
 
-def said(sector, mirrors):
-    """What a last sector says of these mirrors."""
+def said(sector, mirrors, cleared):
+    """What a last sector says of these mirrors, or of an image that is to be cleared and so may be no component's any more."""
     found = decode(sector)
     if isinstance(found, int):
         return "no metadata"
-    names = [(row["name"].encode(), row["mid"]) for row in mirrors]
-    return "member" if (found["name"], found["mid"]) in names else "another"
+    mids = {row["name"].encode(): row["mid"] for row in mirrors}
+    return "member" if mids.get(found["name"], found["mid"] if cleared else None) == found["mid"] else "another"
 
 
 def standing(records, name, cleared):
@@ -55,10 +55,10 @@ def standing(records, name, cleared):
     with open(path, "rb") as file:
         sector = file.read()[-512:]
     if component is None:
-        return "zero" if sector == bytes(512) else said(sector, records.mirrors.values())
+        return "zero" if sector == bytes(512) else said(sector, records.mirrors.values(), True)
     if sector == records.last_sector(name):
         return "as registered"
-    return said(sector, [records.mirrors[component["mirror"]]])
+    return said(sector, [records.mirrors[component["mirror"]]], False)
 
 
 def lines_of(records, shelf):
