@@ -1,7 +1,6 @@
 -- What is told of images that were tasted, and of what in their folder is none.
-use Rattle.std.specs.Prelude.{ℕ, ◌/◌, Bool, not, ◌&&◌, List, [], ◌∷◌, ◌++◌, codes, Option, Some, None, if◌then◌else◌}
+use Rattle.std.specs.Prelude.{ℕ, ◌/◌, List, [], ◌∷◌, ◌++◌, codes, Option, Some, None, if◌then◌else◌}
 use Rattle.std.specs.Fmt.{decimal}
-use Rattle.std.specs.List.{list_any}
 use Rattle.std.specs.String.{string_bytes}
 use Rattle.gm_metadata.specs.Faults.{fault_number}
 use Rattle.gm_taste.specs.declared.tasted.MemberState.{MemberState}
@@ -12,8 +11,8 @@ use Rattle.gm_taste.specs.declared.tasted.Member.{Member}
 use Rattle.gm_taste.specs.declared.tasted.Group.{Group}
 use Rattle.gm_taste.specs.declared.tasted.LeftOut.{LeftOut}
 use Rattle.gm_taste.specs.declared.tasted.Tasted.{Tasted}
-use Rattle.gm_taste.specs.Sources.{source_of}
-use Rattle.gm_taste.specs.States.{is_active, member_state_name}
+use Rattle.gm_taste.specs.Sources.{has_sure_member, source_of}
+use Rattle.gm_taste.specs.States.{member_state_name}
 use Rattle.gm_taste.specs.Verdicts.{is_magic}
 use Rattle.gm_shelf.specs.declared.passed_over.PassedOver.{PassedOver}
 use Rattle.gm_shelf.specs.Entries.{no_image_text}
@@ -47,10 +46,6 @@ tasted_with (Some offset) x = object_of (
 abbrev pub tasted_component : Member → Data
 tasted_component x = tasted_with (filled_to x.state) x
 
--- it has the mirror's data for sure: it is ACTIVE, and doesn't say DIRTY
-abbrev pub is_sure : Member → Bool
-is_sure x = is_active x.state && not x.metadata.dflags.dirty
-
 -- a mirror, the component that its data are taken from, or nothing, and whether any is sure
 abbrev pub tasted_mirror : Group → Data
 tasted_mirror g = object_of (
@@ -59,7 +54,7 @@ tasted_mirror g = object_of (
     ∷ number_at (codes "mid") g.mid
     ∷ text_at (codes "name") g.name
     ∷ text_at (codes "source") (provider_name (source_of g))
-    ∷ truth_at (codes "sure") (list_any is_sure g.members.items)
+    ∷ truth_at (codes "sure") (has_sure_member g)
     ∷ number_at (codes "syncid") g.syncid
     ∷ [])
 

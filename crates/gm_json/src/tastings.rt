@@ -1,16 +1,15 @@
 //! What is told of images that were tasted, and of what in their folder is none.
 
 ghost use Rattle.std.specs.Prelude.{◌≡◌, IfOk, map};
-ghost use Rattle.std.specs.List.{list_any};
 ghost use Rattle.std.specs.String.{string_bytes};
 ghost use Rattle.serde_json.specs.View.{items_of, items_view, view};
 ghost use Rattle.gm_json.specs.Sectors.{provider_name};
-ghost use Rattle.gm_json.specs.Tastings.{filled_to, is_sure, left_data, passed_data, reason_text, tasted_component, tasted_mirror, tasted_with, tasting_data, tasting_json};
+ghost use Rattle.gm_json.specs.Tastings.{filled_to, left_data, passed_data, reason_text, tasted_component, tasted_mirror, tasted_with, tasting_data, tasting_json};
 
 use crate::text::{put_text, text_of};
 use gm_metadata::{DecodeFault, Label};
 use gm_shelf::PassedOver;
-use gm_taste::{Group, LeftOut, Member, MemberState, Reason, Tasted, source_of};
+use gm_taste::{Group, LeftOut, Member, MemberState, Reason, Tasted, has_sure_member, source_of};
 use serde_json::{Map, Value, json, put};
 use std::alloc::{AllocError, Global};
 
@@ -67,20 +66,11 @@ fn source_name(source: &Option<Label>) -> &str
     }
 }
 
-// Whether one of them has the mirror's data for sure: it is ACTIVE, and doesn't say DIRTY.
-fn one_is_sure(members: &[Member]) -> bool
-    ensures { result ≡ list_any is_sure members.now }
-{
-    members
-        .iter()
-        .any(|x| x.state.is_active() && !x.metadata.dflags.dirty)
-}
-
 fn mirror_value(alloc: Global, group: &Group) -> Result<Value, AllocError>
     ensures { IfOk result (λ v. view v ≡ tasted_mirror group.now) }
 {
     let source = source_of(group);
-    let sure = one_is_sure(&group.members);
+    let sure = has_sure_member(group);
     let components = component_values(alloc, &group.members)?;
     let mut map = Map::new(alloc);
     put(&mut map, alloc, "components", Value::Array(components))?;

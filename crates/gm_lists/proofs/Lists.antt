@@ -68,12 +68,6 @@ module _ {X Y : Type 0} (f : X → Y) where
     AscendsBy-map before xs a.1,
   )
 
-  pub AscendsBy-unmap : (before : Y → Y → Bool) (xs : List X) → AscendsBy before (map f xs)
-      → AscendsBy (λ a b. before (f a) (f b)) xs
-  AscendsBy-unmap before [] a = a
-  AscendsBy-unmap before (x ∷ xs) a =
-      (λ y h. a.0 (f y) (map-Has xs y h), AscendsBy-unmap before xs a.1)
-
 -- ---- a map of some
 
 Has-cons : {Y : Type 0} (o : Option Y) (ys : List Y) (y : Y) → Has (cons_option o ys) y

@@ -1,30 +1,11 @@
 //! The text of what was passed over in a folder, since it is no image.
 
-ghost use Rattle.std.specs.Prelude.{◌≡◌, ◌++◌, ◌∷◌, ◌-◌, [], OnOk, map, replicate};
+ghost use Rattle.std.specs.Prelude.{◌≡◌, ◌++◌, ◌-◌, OnOk, replicate};
 ghost use Rattle.std.specs.String.{string_bytes};
-ghost use Rattle.gm_shelf.specs.Entries.{visible};
 ghost use Rattle.gm_reports.specs.PassedOver.{passed_line, passed_text};
 
-use gm_shelf::{PassedOver, visible};
+use gm_shelf::{PassedOver, push_shown};
 use std::alloc::AllocError;
-
-// Appends a byte as it is shown.
-fn push_visible(text: &mut String, byte: u8) -> Result<(), AllocError>
-    ensures { OnOk result (string_bytes text.new ≡ string_bytes text.old ++ visible byte ∷ []) }
-{
-    text.push(char::from(visible(byte)))
-}
-
-// Appends a name as it is shown.
-fn push_shown(text: &mut String, name: &str) -> Result<(), AllocError>
-    ensures { OnOk result
-        (string_bytes text.new ≡ string_bytes text.old ++ map visible name.now) }
-{
-    for byte in name.as_bytes() {
-        push_visible(text, *byte)?;
-    }
-    Ok(())
-}
 
 // Appends what something of so many places lacks to 15.
 fn push_rest_of_15(text: &mut String, taken: usize) -> Result<(), AllocError>
@@ -44,7 +25,7 @@ fn push_line(text: &mut String, passed: &PassedOver) -> Result<(), AllocError>
 {
     let reason = passed.reason;
     text.push_str("  ")?;
-    push_shown(text, passed.name.as_str())?;
+    push_shown(text, passed.name.as_bytes())?;
     push_rest_of_15(text, passed.name.len())?;
     writeln!(text, " {reason}")
 }

@@ -42,5 +42,5 @@ pub use last_sector::{read_last, write_last, write_meta};
 pub use mem_shelf::MemShelf;
 pub use no_image::NoImage;
 pub use open_files::OPEN_FILES;
-pub use passed_over::{PassedOver, visible};
+pub use passed_over::{PassedOver, push_shown, visible};
 pub use shelf::Shelf;

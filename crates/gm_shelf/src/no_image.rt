@@ -1,6 +1,6 @@
 //! Why an entry of a folder isn't an image: by its name, and by what it is.
 
-ghost use Rattle.std.specs.Prelude.{◌≡◌, ◌<◌, ◌↔◌, ◌%◌, false, length, IfOk, IsErr, IsErrOf, IsOk};
+ghost use Rattle.std.specs.Prelude.{◌≡◌, ◌<◌, ◌≤◌, ◌↔◌, ◌%◌, false, length, IfOk, IsErr, IsErrOf, IsOk};
 ghost use Rattle.std.specs.Fs.{file_type, metadata_len, IsFile, IsSymlink};
 ghost use Rattle.gm_metadata.specs.Labels.{is_label};
 
@@ -45,6 +45,8 @@ pub(crate) fn label_of(name: &[u8]) -> Result<Label, NoImage>
     ensures label { IfOk result (λ label. label ≡ name.now) }
     ensures none { IsErr result ↔ (is_label name.now ≡ false) }
     ensures long { IsErrOf result NoImage.LongName ↔ (15 < length name.now) }
+    ensures other { IsErrOf result NoImage.OtherCharacters
+        ↔ ((is_label name.now ≡ false) × (length name.now ≤ 15)) }
 {
     if name.len() > 15 {
         return Err(NoImage::LongName);
@@ -59,6 +61,8 @@ pub(crate) fn label_of(name: &[u8]) -> Result<Label, NoImage>
 pub(crate) fn length_of(found: &Metadata) -> Result<u64, NoImage>
     ensures length { IfOk result (λ bytes. bytes ≡ metadata_len found.now) }
     ensures link { IsErrOf result NoImage.Link ↔ IsSymlink (file_type found.now) }
+    ensures other { IsErrOf result NoImage.NotRegular ↔ (¬ (IsSymlink (file_type found.now))
+        × ¬ (IsFile (file_type found.now))) }
     ensures regular { IsErrOf result NoImage.Length
         ↔ (IsFile (file_type found.now) × (0 < metadata_len found.now % 512)) }
     ensures whole { IsOk result

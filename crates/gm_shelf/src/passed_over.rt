@@ -33,10 +33,21 @@ pub fn visible(byte: u8) -> u8
 }
 
 // Appends a byte as it is shown.
-fn push_shown(text: &mut String, byte: u8) -> Result<(), AllocError>
+fn push_visible(text: &mut String, byte: u8) -> Result<(), AllocError>
     ensures { OnOk result (string_bytes text.new ≡ string_bytes text.old ++ visible byte ∷ []) }
 {
     text.push(char::from(visible(byte)))
+}
+
+/// Appends bytes as they are shown.
+pub fn push_shown(text: &mut String, bytes: &[u8]) -> Result<(), AllocError>
+    ensures { OnOk result
+        (string_bytes text.new ≡ string_bytes text.old ++ map visible bytes.now) }
+{
+    for byte in bytes {
+        push_visible(text, *byte)?;
+    }
+    Ok(())
 }
 
 // These bytes as they are shown.
@@ -44,9 +55,7 @@ fn shown(alloc: Global, bytes: &[u8]) -> Result<String, AllocError>
     ensures { IfOk result (λ text. string_bytes text ≡ map visible bytes.now) }
 {
     let mut text = String::new(alloc);
-    for byte in bytes {
-        push_shown(&mut text, *byte)?;
-    }
+    push_shown(&mut text, bytes)?;
     Ok(text)
 }
 

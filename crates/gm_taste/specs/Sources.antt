@@ -1,5 +1,6 @@
 -- Which member a mirror takes its data from where it is taken over from its images.
-use Rattle.std.specs.Prelude.{◌≡◌, ◌⊎◌, ◌<◌, ℕ, Bool, true, false, ◌||◌, ◌&&◌, ◌==◌, nat_lt, List, [], ◌∷◌, Option, Some, None, option_map, if◌then◌else◌}
+use Rattle.std.specs.Prelude.{◌≡◌, ◌⊎◌, ◌<◌, ℕ, Bool, true, false, not, ◌||◌, ◌&&◌, ◌==◌, nat_lt, List, [], ◌∷◌, Option, Some, None, option_map, if◌then◌else◌}
+use Rattle.std.specs.List.{list_any}
 use Rattle.gm_taste.specs.declared.tasted.Member.{Member}
 use Rattle.gm_taste.specs.declared.tasted.Group.{Group}
 use Rattle.gm_lists.specs.Ordered.{label_lt, Has}
@@ -45,3 +46,13 @@ first_from known (x ∷ xs) = first_from (first_of_two known x) xs
 
 abbrev pub source_of : Group → Option (List ℕ)
 source_of g = option_map (λ x. x.provider) (first_from None g.members.items)
+
+-- ---- which members have the mirror's data for sure
+
+-- it is ACTIVE, and doesn't say DIRTY
+abbrev pub is_sure : Member → Bool
+is_sure x = is_active x.state && not x.metadata.dflags.dirty
+
+-- at least one of the group is
+abbrev pub has_sure_member : Group → Bool
+has_sure_member g = list_any is_sure g.members.items

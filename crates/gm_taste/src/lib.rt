@@ -18,6 +18,6 @@ pub use gm_metadata::same;
 pub use groups::{Taken, member};
 pub use laws::{one_tasting, reasons_tell};
 pub use provider::Provider;
-pub use sources::{first_of_two, source_of};
+pub use sources::{first_of_two, has_sure_member, source_of};
 pub use tasted::{Group, LeftOut, Member, MemberState, Reason, Tasted};
 pub use tasting::{taken_by, taste};

@@ -1,7 +1,7 @@
 //! Which member a mirror takes its data from where it is taken over from its images.
 
 ghost use Rattle.std.specs.Prelude.{◌≡◌, None, option_map};
-ghost use Rattle.gm_taste.specs.Sources.{IsSource, first_from, first_of_two, goes_before, source_of, takes_place};
+ghost use Rattle.gm_taste.specs.Sources.{IsSource, first_from, first_of_two, goes_before, has_sure_member, source_of, takes_place};
 
 use crate::tasted::{Group, Member};
 use gm_metadata::Label;
@@ -60,4 +60,15 @@ pub fn source_of(group: &Group) -> Option<Label>
     ensures source { IsSource group.now result }
 {
     name_of(&first_in(&group.members))
+}
+
+/// Whether a member of the group has the mirror's data for sure: it is ACTIVE, and its metadata
+/// don't say DIRTY.
+pub fn has_sure_member(group: &Group) -> bool
+    ensures { result ≡ has_sure_member group.now }
+{
+    group
+        .members
+        .iter()
+        .any(|x| x.state.is_active() && !x.metadata.dflags.dirty)
 }

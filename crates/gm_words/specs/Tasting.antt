@@ -1,7 +1,6 @@
 -- The text of what the last sectors of images tell.
-use Rattle.std.specs.Prelude.{ℕ, ◌/◌, Bool, not, ◌&&◌, List, [], ◌∷◌, ◌++◌, codes, flat_map, Option, Some, None, if◌then◌else◌}
+use Rattle.std.specs.Prelude.{ℕ, ◌/◌, Bool, List, [], ◌∷◌, ◌++◌, codes, flat_map, Option, Some, None, if◌then◌else◌}
 use Rattle.std.specs.Fmt.{decimal}
-use Rattle.std.specs.List.{list_any}
 use Rattle.gm_metadata.specs.Faults.{fault_number}
 use Rattle.gm_taste.specs.declared.tasted.MemberState.{MemberState}
 use Rattle.gm_taste.specs.declared.tasted.MemberState.TheVariants.{Inactive, Broken, Stale, Synchronizing, Active}
@@ -11,8 +10,8 @@ use Rattle.gm_taste.specs.declared.tasted.Member.{Member}
 use Rattle.gm_taste.specs.declared.tasted.Group.{Group}
 use Rattle.gm_taste.specs.declared.tasted.LeftOut.{LeftOut}
 use Rattle.gm_taste.specs.declared.tasted.Tasted.{Tasted}
-use Rattle.gm_taste.specs.Sources.{source_of}
-use Rattle.gm_taste.specs.States.{is_active, member_state_name}
+use Rattle.gm_taste.specs.Sources.{has_sure_member, source_of}
+use Rattle.gm_taste.specs.States.{member_state_name}
 use Rattle.gm_taste.specs.Verdicts.{is_magic}
 use Rattle.gm_words.specs.Lines.{line, field, left_in_15}
 
@@ -51,10 +50,6 @@ group_line g =
     ++ named_number (codes "genid") g.genid
     ++ named_number (codes "syncid") g.syncid)
 
--- it has the mirror's data for sure: it is ACTIVE, and doesn't say DIRTY
-abbrev pub is_sure : Member → Bool
-is_sure x = is_active x.state && not x.metadata.dflags.dirty
-
 -- a source, and that no member is sure where none is
 abbrev pub named_source : List ℕ → Bool → List ℕ
 named_source name sure =
@@ -68,7 +63,7 @@ source_text None sure = codes "(none)"
 -- the member that the data are taken from
 abbrev pub source_line : Group → List ℕ
 source_line g =
-    field (codes "  source") (source_text (source_of g) (list_any is_sure g.members.items))
+    field (codes "  source") (source_text (source_of g) (has_sure_member g))
 
 -- a mirror, below it its members, and its source
 abbrev pub group_block : Group → List ℕ

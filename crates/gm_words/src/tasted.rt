@@ -1,14 +1,13 @@
 //! The text of what the last sectors of images tell: the mirrors, and the images that are left out.
 
 ghost use Rattle.std.specs.Prelude.{◌≡◌, ◌++◌, codes, IfOk, OnOk};
-ghost use Rattle.std.specs.List.{list_any};
 ghost use Rattle.std.specs.String.{string_bytes};
 ghost use Rattle.gm_words.specs.Lines.{field};
-ghost use Rattle.gm_words.specs.Tasting.{dirty_mark, filled, group_block, group_line, groups_text, is_sure, left_line, left_text, member_line, named_number, named_source, reason_text, sectors_of, source_line, standing, tasting_text};
+ghost use Rattle.gm_words.specs.Tasting.{dirty_mark, filled, group_block, group_line, groups_text, left_line, left_text, member_line, named_number, named_source, reason_text, sectors_of, source_line, standing, tasting_text};
 
 use crate::lines::{push_field, push_left_in_15};
 use gm_metadata::DecodeFault;
-use gm_taste::{Group, LeftOut, Member, MemberState, Reason, Tasted, source_of};
+use gm_taste::{Group, LeftOut, Member, MemberState, Reason, Tasted, has_sure_member, source_of};
 use std::alloc::{AllocError, Global};
 
 // Appends how many sectors of how many these bytes are.
@@ -85,15 +84,6 @@ fn push_group_line(text: &mut String, group: &Group) -> Result<(), AllocError>
     text.push('\n')
 }
 
-// Whether one of them has the mirror's data for sure: it is ACTIVE, and doesn't say DIRTY.
-fn one_is_sure(members: &[Member]) -> bool
-    ensures { result ≡ list_any is_sure members.now }
-{
-    members
-        .iter()
-        .any(|x| x.state.is_active() && !x.metadata.dflags.dirty)
-}
-
 // Appends the line of a source.
 fn push_named_source(text: &mut String, name: &str, sure: bool) -> Result<(), AllocError>
     ensures { OnOk result (string_bytes text.new
@@ -114,7 +104,7 @@ fn push_source_line(text: &mut String, group: &Group) -> Result<(), AllocError>
     ensures { OnOk result (string_bytes text.new ≡ string_bytes text.old ++ source_line group.now) }
 {
     match source_of(group) {
-        Some(name) => push_named_source(text, name.as_str(), one_is_sure(&group.members)),
+        Some(name) => push_named_source(text, name.as_str(), has_sure_member(group)),
         None => push_field(text, "  source", "(none)"),
     }
 }

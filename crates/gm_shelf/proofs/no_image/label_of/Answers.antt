@@ -1,5 +1,6 @@
-use Rattle.std.proofs.Common.{refl}
+use Rattle.std.proofs.Common.{rules, ◌≡◌, ◌≤◌, false, refl, length}
 use Rattle.std.proofs.lemmas.Bool.{false_from_ne_true}
+use Rattle.gm_metadata.specs.Labels.{is_label}
 use Rattle.gm_metadata.proofs.Labels.{label_is_text}
 use Rattle.gm_shelf.proofs.no_image.label_of.Goals as goal
 
@@ -7,3 +8,10 @@ pub returns-in_default-clause-none : goal.returns-in_default-clause-none
 returns-in_default-clause-none c =
     let none = false_from_ne_true _ (λ h. c.in_default.ensures.cases.0 (label_is_text _ h)) in
     (λ _. none, λ _. refl)
+
+pub returns-in_default-clause-other : goal.returns-in_default-clause-other
+returns-in_default-clause-other c =
+    let none : is_label c.args.name.now ≡ false =
+    false_from_ne_true _ (λ h. c.in_default.ensures.cases.0 (label_is_text _ h)) in
+    let short : length c.args.name.now ≤ 15 = search rules in
+    (λ _. (none, short), λ _. refl)

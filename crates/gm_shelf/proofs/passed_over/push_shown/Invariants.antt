@@ -1,8 +1,8 @@
 use Rattle.std.proofs.Common.{◌≡◌, ◌++◌, map, take}
 use Rattle.std.specs.String.{string_bytes}
 use Rattle.gm_shelf.specs.Entries.{visible}
-use Rattle.gm_reports.proofs.passed_over.push_shown.Given as goal
+use Rattle.gm_shelf.proofs.passed_over.push_shown.Given as goal
 
 abbrev pub invariant-loop-byte : goal.invariant-loop-byte
 invariant-loop-byte l =
-    string_bytes l.text ≡ string_bytes l.fn.text ++ map visible (take l.byte-index l.fn.name)
+    string_bytes l.text ≡ string_bytes l.fn.text ++ map visible (take l.byte-index l.fn.bytes)

@@ -1,7 +1,0 @@
-use Rattle.std.proofs.Common.{◌≡◌, map, take}
-use Rattle.std.specs.String.{string_bytes}
-use Rattle.gm_shelf.specs.Entries.{visible}
-use Rattle.gm_shelf.proofs.passed_over.shown.Given as goal
-
-abbrev pub invariant-loop-byte : goal.invariant-loop-byte
-invariant-loop-byte l = string_bytes l.text ≡ map visible (take l.byte-index l.bytes)
