@@ -37,9 +37,13 @@ is_synchronizing (Some Inactive) = false
 abbrev pub is_filling : Records → Component → Bool
 is_filling s k = is_synchronizing (component_state s k.provider)
 
--- the first component that is meant and SYNCHRONIZING
+-- a component is meant and SYNCHRONIZING
+abbrev pub is_next : Scope → Records → Component → Bool
+is_next scope s k = is_in scope k && is_filling s k
+
+-- the first such component
 abbrev pub next_of : Scope → Records → Option Component
-next_of scope s = find (λ k. is_in scope k && is_filling s k) s.components
+next_of scope s = find (is_next scope s) s.components
 
 -- the component on a provider, where one is there, is of a mirror of which one is meant
 abbrev pub is_beside_at : Scope → Option Component → Bool

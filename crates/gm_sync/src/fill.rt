@@ -7,7 +7,7 @@ ghost use Rattle.gm_bench.specs.Phases.{TakesCommands};
 ghost use Rattle.gm_sync.specs.Filling.{Fills, IsAdvanceIn, IsAdvanceOf, IsWhole};
 ghost use Rattle.gm_sync.specs.Ends.{IfAmiss, IfWhole};
 
-use crate::scope::{Scope, next_of};
+use crate::scope::{Scope, is_next, next_of};
 use crate::synced::Synced;
 use gm_bench::{Answer, Bench, BenchFault};
 use gm_commands::Command;
@@ -90,13 +90,13 @@ struct Unfilled {
     why: CallRefusal,
 }
 
-// Fills whatever of one mirror is meant and SYNCHRONIZING, one component after the other, or finds
-// one that isn't filled. It reads that mirror's records alone.
-fn fill_mirror<S: Alter, H: Shelf, P: Progress>(
+// Fills each component that is meant and SYNCHRONIZING by a state, in the state's order, or finds
+// one that isn't filled.
+fn fill_each<S: Alter, H: Shelf, P: Progress>(
     alloc: Global,
     bench: &mut Bench<S, H>,
     scope: &Scope,
-    mirror: Label,
+    state: &State,
     progress: &mut P,
 ) -> Result<Option<Unfilled>, BenchFault>
     requires { TakesCommands (progress_of bench.old) }
@@ -106,20 +106,20 @@ fn fill_mirror<S: Alter, H: Shelf, P: Progress>(
     ensures keep { Keep S.Store H.Shelf (registry_of bench.old) (registry_of bench.new)
         (shelf_of bench.old) (shelf_of bench.new) }
 {
-    for _ in 0..u64::MAX {
-        let state = bench.view_of(alloc, mirror)?;
-        let Some(component) = next_of(&state, *scope) else {
-            return Ok(None);
-        };
+    for component in state.components() {
+        if !is_next(state, *scope, component) {
+            continue;
+        }
         let provider = component.provider;
-        if let Some(why) = fill_one(alloc, bench, &component, progress)? {
+        if let Some(why) = fill_one(alloc, bench, component, progress)? {
             return Ok(Some(Unfilled { provider, why }));
         }
     }
     Ok(None)
 }
 
-/// Fills whatever is meant and SYNCHRONIZING, one mirror after the other.
+/// Fills whatever is meant and SYNCHRONIZING, one component after the other. The mirrors are looked
+/// at whole before the first and after the last, and not in between.
 pub(crate) fn fill<S: Alter, H: Shelf, P: Progress>(
     alloc: Global,
     bench: &mut Bench<S, H>,
@@ -138,11 +138,10 @@ pub(crate) fn fill<S: Alter, H: Shelf, P: Progress>(
 {
     for _ in 0..u64::MAX {
         let state = bench.view(alloc)?;
-        let Some(component) = next_of(&state, *scope) else {
+        if next_of(&state, *scope).is_none() {
             return Ok(Synced::Whole(state));
-        };
-        let mirror = component.mirror;
-        if let Some(unfilled) = fill_mirror(alloc, bench, scope, mirror, progress)? {
+        }
+        if let Some(unfilled) = fill_each(alloc, bench, scope, &state, progress)? {
             return Ok(Synced::Refused {
                 provider: Some(unfilled.provider),
                 why: unfilled.why,

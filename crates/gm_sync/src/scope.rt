@@ -1,7 +1,7 @@
 //! Which components are meant.
 
-ghost use Rattle.std.specs.Prelude.{◌≡◌, ◌&&◌, find};
-ghost use Rattle.gm_sync.specs.Scopes.{is_filling, is_in, is_beside, next_of};
+ghost use Rattle.std.specs.Prelude.{◌≡◌, find};
+ghost use Rattle.gm_sync.specs.Scopes.{is_filling, is_in, is_beside, is_next, next_of};
 
 use gm_metadata::Label;
 use gm_state::{Component, ComponentState, State, component_state};
@@ -52,10 +52,20 @@ fn is_filling(state: &State, component: &Component) -> bool
     }
 }
 
-/// The first component that is meant and SYNCHRONIZING.
+/// Whether a component is meant and SYNCHRONIZING.
+pub(crate) fn is_next(state: &State, scope: Scope, component: &Component) -> bool
+    ensures { result ≡ is_next scope state.now component.now }
+{
+    scope.has(component) && is_filling(state, component)
+}
+
+/// The first such component.
 pub(crate) fn next_of(state: &State, scope: Scope) -> Option<Component>
     ensures { result ≡ next_of scope state.now }
 {
-    state.components().iter().copied().find(|component| scope.has(component)
-        && is_filling(state, component))
+    state
+        .components()
+        .iter()
+        .copied()
+        .find(|component| is_next(state, scope, component))
 }

@@ -47,7 +47,7 @@ returns-in_default-clause-whole g c =
 pub returns-in-Some-2-clause-fills : goal.returns-in-Some-2-clause-fills
 returns-in-Some-2-clause-fills g c =
     fills_then g.S.Store g.H.Shelf (IsAdvanceIn c.args.scope.now) c.args.bench.now c.view.new.self
-    c.fill_mirror.new.bench
+    c.fill_each.new.bench
     (fills_looked g.S.Store g.H.Shelf (IsAdvanceIn c.args.scope.now) c.args.bench.now c.loop.bench
     c.view.new.self c.in_ok-state.state c.loop.invariant.fills c.in_ok-state.ensures.looks)
     c.in_ok-unfilled.ensures.fills
@@ -56,7 +56,7 @@ pub loop-preserved : goal.loop-preserved
 loop-preserved g c = record {
   phase = c.in_ok-unfilled.ensures.phase;
   fills = fills_then g.S.Store g.H.Shelf (IsAdvanceIn c.args.scope.now) c.args.bench.now
-      c.view.new.self c.fill_mirror.new.bench
+      c.view.new.self c.fill_each.new.bench
       (fills_looked g.S.Store g.H.Shelf (IsAdvanceIn c.args.scope.now) c.args.bench.now c.loop.bench
       c.view.new.self c.in_ok-state.state c.loop.invariant.fills c.in_ok-state.ensures.looks)
       c.in_ok-unfilled.ensures.fills;

@@ -1,11 +1,11 @@
 use Rattle.gm_bench.specs.Benches.{progress_of}
 use Rattle.gm_bench.specs.Phases.{TakesCommands}
 use Rattle.gm_sync.specs.Filling.{Fills, IsAdvanceIn}
-use Rattle.gm_sync.proofs.fill.fill_mirror.Given as goal
+use Rattle.gm_sync.proofs.fill.fill_each.Given as goal
 
 -- the bench may be asked, and was only filled
-abbrev pub invariant-loop : goal.invariant-loop
-invariant-loop g l = record {
+abbrev pub invariant-loop-component : goal.invariant-loop-component
+invariant-loop-component g l = record {
   phase : TakesCommands (progress_of l.bench);
   fills : Fills g.S.Store g.H.Shelf (IsAdvanceIn l.fn.scope) l.fn.bench l.bench;
 }
