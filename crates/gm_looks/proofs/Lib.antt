@@ -10,3 +10,4 @@ pub mod ShownSoFar
 pub mod StandingTells
 pub mod StandingsFound
 pub mod ToldLines
+pub mod UnlikeSoFar

@@ -1,4 +1,4 @@
--- What was listed so far is what the audit lists of the components that were looked at.
+-- What is listed of the components that were looked at so far.
 use Rattle.std.proofs.Common.{◌≡◌, ◌∙◌, ◌⊎◌, inl, inr, ⊎_elim, ℕ, zero, suc, ◌+◌, ◌-◌, ◌<◌, ◌≤◌, true, ◌↔◌, refl, sym, ap, subst, arith, List, [], ◌∷◌, ◌++◌, length, take, get_or, Option, Some}
 use Rattle.std.proofs.lemmas.List.{take_more, take_all}
 use Rattle.gm_metadata.specs.Images.{Image, Sizes, Same, same_label}
@@ -38,20 +38,6 @@ pub some_sectors : (s : Records) → IsState s → (m : Mirror) (k : Component) 
     → 0 < k.sectors
 some_sectors s state m k o = let room = (state.each m o.mirror).sizes k o.component in
     omega (arith, room)
-
--- what was only read shows it as before
-pub as_before : (size size' : Sizes) (seen seen' : Image) (m : Mirror) (k : Component)
-    → size' ≡ size → Same seen' seen → IsAsRegistered size' seen' m k ↔ IsAsRegistered size seen m k
-as_before size size' seen seen' m k e same = (
-  λ a. record {
-    size_is = subst (λ (z : Sizes). z k.provider ≡ Some k.sectors) e a.size_is;
-    last_is = sym (same k.provider (k.sectors - 1)) ∙ a.last_is;
-  },
-  λ b. record {
-    size_is = subst (λ (z : Sizes). z k.provider ≡ Some k.sectors) (sym e) b.size_is;
-    last_is = same k.provider (k.sectors - 1) ∙ b.last_is;
-  },
-)
 
 -- ---- the components in their order
 
@@ -189,25 +175,3 @@ module _ {X : Type 0} (key : X → List ℕ) (Told : Mirror → Component → X 
       let all : take i s.components ≡ s.components = take_all i s.components high in
       so.others m k o (subst (λ (l : List Component). Has l k) (sym all)
       (member s m.name k o.component).0)
-
--- ---- an audit
-
-module _ (s : Records) (size : Sizes) (seen : Image) where
-  -- what an audit has listed of these
-  abbrev pub AuditedSoFar : List Component → List (List ℕ) → Type 0
-  AuditedSoFar done names =
-      SoFar (λ p. p) (λ m k p. IsAsRegistered size seen m k → ⊥) (IsAsRegistered size seen)
-      s done names
-
-  pub all_audited : (i : ℕ) (names : List (List ℕ)) → length s.components ≤ i
-      → AuditedSoFar (take i s.components) names → IsAudit s size seen names
-  all_audited i names high so = record {
-    amiss = so.told;
-    others = λ m k o. ⊎_elim
-        (λ (right : IsAsRegistered size seen m k). inl right)
-        (λ (e : (p : List ℕ) × Has names p × (p ≡ k.provider)).
-        inr (subst (Has names) e.2 e.1))
-        (all_looked_at (λ p. p) (λ m k p. IsAsRegistered size seen m k → ⊥)
-        (IsAsRegistered size seen) s i names high so m k o);
-    ascend = so.ascend;
-  }

@@ -79,6 +79,12 @@ module _ (s : Records) (size size' : Sizes) (x y : Image) (sizes : size' ≡ siz
       named_seen s size x y same p standing
       (subst (λ (z : Sizes). IsOfNamed s z y p standing) sizes h)
 
+  pub component_before : (m : Mirror) (k : Component) (standing : Standing)
+      → IsOfComponent size' y m k standing → IsOfComponent size x m k standing
+  component_before m k standing h =
+      component_seen s size x y same m k standing
+      (subst (λ (z : Sizes). IsOfComponent z y m k standing) sizes h)
+
   pub told_before : (t : Intent) (told : List ℕ) → IsTold s size' y t told
       → IsTold s size x t told
   told_before t told h =

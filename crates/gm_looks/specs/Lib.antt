@@ -4,4 +4,5 @@ pub mod Scrubs
 pub mod Shown
 pub mod Standings
 pub mod Texts
+pub mod Unlikes
 pub mod Words

@@ -73,6 +73,12 @@ pub record HasAnotherSize (size : Sizes) (k : Component) : Type 0 where
   pub size_is : size k.provider ≡ Some sectors
   pub other : sectors ≢ k.sectors
 
+-- how it stands by its size alone, if that isn't the registered one
+abbrev pub IsBySize : Sizes → Component → Standing → Type 0
+IsBySize size k standing =
+    (((size k.provider ≡ None) ⊎ (size k.provider ≡ Some 0)) × (standing ≡ Absent))
+    ⊎ (HasAnotherSize size k × (standing ≡ AnotherSize))
+
 -- it is there in its registered size, and its last sector is this one, which isn't the component's
 -- metadata
 pub record ShowsOther (size : Sizes) (seen : Image) (m : Mirror) (k : Component)

@@ -1,34 +1,25 @@
 //! Which components the shelf shows otherwise than they are registered. Nothing is written.
 
-ghost use Rattle.std.specs.Prelude.{◌↔◌, IsTrue, IfOk};
+ghost use Rattle.std.specs.Prelude.{◌≡◌, IfOk, map};
 ghost use Rattle.gm_shelf.specs.Keeping.{Looks};
-ghost use Rattle.gm_state.specs.declared.records.Mirror.{Mirror};
-ghost use Rattle.gm_state.specs.Intents.{IsOf};
 ghost use Rattle.gm_state.specs.Records.{IsState};
-ghost use Rattle.gm_looks.specs.Audits.{IsAsRegistered, IsAudit};
+ghost use Rattle.gm_looks.specs.Audits.{IsAudit};
 
-use crate::standings::standing_of_component;
+use crate::unlike::{Meant, Unlike, unlike_shelf};
 use gm_metadata::Label;
 use gm_shelf::{Shelf, ShelfFault};
-use gm_state::{Component, State};
-use std::alloc::Global;
+use gm_state::State;
+use std::alloc::{AllocError, Global};
 
-// Whether the shelf shows a component of the state as it is registered.
-fn is_as_registered<H: Shelf>(
-    shelf: &mut H,
-    state: &State,
-    component: &Component,
-) -> Result<bool, ShelfFault>
-    ensures told { H.honest shelf.old → IfOk result (λ is. IsState state.now → (m : Mirror)
-        → IsOf state.now m component.now → IsTrue is
-        ↔ IsAsRegistered (H.size shelf.old) (H.view shelf.old).seen m component.now) }
-    ensures looks { Looks H.Shelf shelf.old shelf.new result }
+// Their names.
+fn names_of(alloc: Global, list: &[Unlike]) -> Result<Vec<Label>, AllocError>
+    ensures { IfOk result (λ names. names.items ≡ map (λ e. e.provider) list.now) }
 {
-    let Some(mirror) = state.mirror(component.mirror) else {
-        return Ok(false);
-    };
-    let standing = standing_of_component(shelf, &mirror, component)?;
-    Ok(standing.is_as_registered())
+    let mut names = Vec::new(alloc);
+    for unlike in list {
+        names.push(unlike.provider)?;
+    }
+    Ok(names)
 }
 
 /// The names of the components of a state that the shelf shows otherwise than they are registered,
@@ -43,12 +34,6 @@ pub fn audit_shelf<H: Shelf>(
         IsAudit state.now (H.size shelf.old) (H.view shelf.old).seen names.items) }
     ensures looks { Looks H.Shelf shelf.old shelf.new result }
 {
-    let mut names = Vec::new(alloc);
-    for component in state.components() {
-        if is_as_registered(shelf, state, component)? {
-            continue;
-        }
-        names.push(component.provider)?;
-    }
-    Ok(names)
+    let list = unlike_shelf(alloc, shelf, state, Meant::All)?;
+    Ok(names_of(alloc, &list)?)
 }

@@ -3,8 +3,8 @@
 //!
 //! Begin with `standing.rt`, how an image can stand to what is registered; `specs/Standings.antt`
 //! says when each of these comes. `standings.rt` finds it out, by what a last sector says
-//! (`said.rt`). `audit.rt` lists the components that aren't as registered (`specs/Audits.antt`),
-//! `scrub.rt` those that hold other data than their mirror's source (`specs/Scrubs.antt`), and
+//! (`said.rt`). `unlike.rt` lists the components that aren't as registered, with how they stand
+//! (`specs/Unlikes.antt`), `audit.rt` their names (`specs/Audits.antt`), and `scrub.rt` those that hold other data than their mirror's source (`specs/Scrubs.antt`), and
 //! `tasting.rt` tells what images say without a state (`specs/Shown.antt`); `laws.rt` has what an
 //! audit and a tasting have to do with each other. `text.rt` has a line for each pending intent,
 //! and `text_on.rt` the same with how its images stand (`specs/Texts.antt`).
@@ -19,6 +19,7 @@ mod standings;
 mod tasting;
 mod text;
 mod text_on;
+mod unlike;
 
 pub use audit::audit_shelf;
 pub use laws::clean_audit_law;
@@ -28,3 +29,4 @@ pub use standings::{standing_of_cleared, standing_of_component, standing_of_name
 pub use tasting::taste_shelf;
 pub use text::pending_text;
 pub use text_on::pending_text_on;
+pub use unlike::{Meant, Unlike, unlike_shelf};

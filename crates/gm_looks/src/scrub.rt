@@ -1,6 +1,6 @@
 //! Which ACTIVE components hold other data than their mirror's source. Nothing is written.
 
-ghost use Rattle.std.specs.Prelude.{◌≡◌, ◌↔◌, IsTrue, IfOk, IfSome, IfNone};
+ghost use Rattle.std.specs.Prelude.{◌≡◌, ◌↔◌, Some, IsTrue, IfOk, IfSome, IfNone};
 ghost use Rattle.gm_shelf.specs.Keeping.{Looks};
 ghost use Rattle.gm_lists.specs.Ordered.{Has};
 ghost use Rattle.gm_state.specs.declared.records.Mirror.{Mirror};
@@ -8,7 +8,7 @@ ghost use Rattle.gm_state.specs.Records.{IsState};
 ghost use Rattle.gm_state.specs.Sources.{goes_first};
 ghost use Rattle.gm_looks.specs.Scrubs.{IsActiveOf, IsAskedFor, IsScrub, IsSourceOfMirror, MayHaveFlaw};
 
-use crate::standings::has_its_size;
+use crate::standings::standing_by_size;
 use gm_apply::{Watch, differing_sectors};
 use gm_metadata::Label;
 use gm_shelf::{Shelf, ShelfFault};
@@ -80,6 +80,14 @@ fn asked_mirror(state: &State, component: &Component, asked: &Option<Label>) -> 
     } else {
         None
     }
+}
+
+// Whether the image of a component is there with the size that is registered.
+fn has_its_size<H: Shelf>(shelf: &H, component: &Component) -> bool
+    ensures { IsTrue result
+        ↔ (H.size shelf.now component.now.provider ≡ Some component.now.sectors) }
+{
+    standing_by_size(shelf, component).is_none()
 }
 
 // What is amiss of an ACTIVE component of a mirror.

@@ -1,10 +1,10 @@
 //! How images stand. Nothing is written.
 
-ghost use Rattle.std.specs.Prelude.{◌≡◌, ◌↔◌, Some, IsTrue, IfOk};
+ghost use Rattle.std.specs.Prelude.{◌≡◌, ◌↔◌, Some, IsNone, IfOk, IfSome};
 ghost use Rattle.gm_shelf.specs.Keeping.{Looks};
 ghost use Rattle.gm_state.specs.Lookups.{at_component};
 ghost use Rattle.gm_state.specs.Records.{IsState};
-ghost use Rattle.gm_looks.specs.Standings.{IsOfCleared, IsOfComponent, IsOfNamed};
+ghost use Rattle.gm_looks.specs.Standings.{IsBySize, IsOfCleared, IsOfComponent, IsOfNamed};
 
 use crate::said::{said, said_of_mirrors};
 use crate::standing::Standing;
@@ -12,14 +12,17 @@ use gm_metadata::{Label, encode, same};
 use gm_shelf::{Shelf, ShelfFault, read_last};
 use gm_state::{Component, Mirror, State, metadata};
 
-/// Whether the image is there with the size that is registered of the component.
-pub(crate) fn has_its_size<H: Shelf>(shelf: &H, component: &Component) -> bool
-    ensures { IsTrue result
+/// How the image of a component stands by its size alone: `Absent` or `AnotherSize`, or nothing if
+/// it is there with the size that is registered. No sector is read.
+pub(crate) fn standing_by_size<H: Shelf>(shelf: &H, component: &Component) -> Option<Standing>
+    ensures its_size { IsNone result
         ↔ (H.size shelf.now component.now.provider ≡ Some component.now.sectors) }
+    ensures other { IfSome result (IsBySize (H.size shelf.now) component.now) }
 {
     match shelf.sectors(component.provider) {
-        Some(sectors) => sectors == u64::from(component.sectors),
-        None => false,
+        Some(sectors) if sectors == u64::from(component.sectors) => None,
+        None | Some(0) => Some(Standing::Absent),
+        Some(_) => Some(Standing::AnotherSize),
     }
 }
 
@@ -34,12 +37,8 @@ pub fn standing_of_component<H: Shelf>(
         (H.view shelf.old).seen mirror.now component.now) }
     ensures looks { Looks H.Shelf shelf.old shelf.new result }
 {
-    match shelf.sectors(component.provider) {
-        None | Some(0) => return Ok(Standing::Absent),
-        Some(sectors) if sectors != u64::from(component.sectors) => {
-            return Ok(Standing::AnotherSize);
-        }
-        Some(_) => {}
+    if let Some(standing) = standing_by_size(shelf, component) {
+        return Ok(standing);
     }
     let Some(last) = read_last(shelf, component.provider)? else {
         return Ok(Standing::Absent);

@@ -123,6 +123,12 @@ abbrev pub is_awaited : Command → Component → Bool
 is_awaited (Lost n ps) k = not (is_on_any ps k)
 is_awaited _ k = true
 
+-- the command is about the component, one of the mirror that it names or on a provider that it
+-- names, unless it gives that up
+abbrev pub is_about : Command → Component → Bool
+is_about c k =
+    is_awaited c k && (is_member_of (name_of c) k || is_on_any (providers_of c) k)
+
 -- the components of the mirror that the command names, of those that it waits for
 abbrev pub awaited : Records → Command → List Component
 awaited s c = filter (λ k. is_awaited c k) (members_named s c)

@@ -19,5 +19,5 @@ pub use asked_mirrors::{a_part_is_a_state, is_called};
 pub use facts::{Fact, Facts};
 pub use found_mirror::{adopt_source, data_of, found_mids, genid_of, syncid_of, taken};
 pub use needed_providers::needed;
-pub use refusal_tests::{is_inactive, is_on_any, least_refusal, providers_of};
+pub use refusal_tests::{is_about, is_inactive, is_on_any, least_refusal, providers_of};
 pub use refusals::{CallRefusal, Refusal};

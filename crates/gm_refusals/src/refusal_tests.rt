@@ -10,7 +10,7 @@ ghost use Rattle.gm_refusals.specs.Facts.{size_in, last_in, last_carries};
 ghost use Rattle.gm_refusals.specs.Refusals.{own};
 ghost use Rattle.gm_refusals.specs.Seen.{has_size, is_there_and, seen_in};
 ghost use Rattle.gm_refusals.specs.Adoptable.{has_twice};
-ghost use Rattle.gm_refusals.specs.Applies.{name_of, providers_of, preferred, looked_at, has_mid, takes_mid, reaches_beyond, is_being_filled, has_did, finds_did_twice, names_too_many, is_unfit, is_member_of, is_on_any, is_awaited, is_synchronizing, is_empty, gives_nothing, has_wrong_size, mirror_named};
+ghost use Rattle.gm_refusals.specs.Applies.{name_of, providers_of, preferred, looked_at, has_mid, takes_mid, reaches_beyond, is_about, is_being_filled, has_did, finds_did_twice, names_too_many, is_unfit, is_member_of, is_on_any, is_awaited, is_synchronizing, is_empty, gives_nothing, has_wrong_size, mirror_named};
 ghost use Rattle.gm_refusals.specs.PartOf.{applies_to_part};
 
 use crate::facts::Facts;
@@ -265,6 +265,16 @@ pub fn is_on_any(providers: &[Label], component: &Component) -> bool
     ensures { result ≡ is_on_any providers.now component.now }
 {
     providers.iter().any(|p| component.provider == *p)
+}
+
+/// Whether a command is about a component: one of the mirror that it names, or on a provider that
+/// it names, unless it gives that up as lost.
+pub fn is_about(command: &Command, component: &Component) -> bool
+    ensures { result ≡ is_about command.now component.now }
+{
+    is_awaited(command, component)
+        && (is_member_of(name_of(command), component)
+            || is_on_any(providers_of(command), component))
 }
 
 // Whether each active component of the mirror is on one of these providers.

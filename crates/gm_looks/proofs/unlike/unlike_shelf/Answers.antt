@@ -1,16 +1,21 @@
 use Rattle.std.proofs.Common.{◌≡◌, ◌∙◌, ◌+◌, ◌<◌, ◌≤◌, true, false, List, refl, get_or, length, take, sym, ap, subst}
 use Rattle.gm_state.specs.declared.records.Component.{Component}
 use Rattle.gm_shelf.proofs.Keeping.{only_then}
-use Rattle.gm_looks.specs.Audits.{IsAsRegistered}
-use Rattle.gm_looks.proofs.Listed.{AuditedSoFar, all_audited, as_before, has_item, home_of, listed, passed}
-use Rattle.gm_looks.proofs.audit.audit_shelf.Goals as goal
+use Rattle.gm_looks.specs.Unlikes.{TellsUnlike, is_meant}
+use Rattle.gm_looks.specs.declared.unlike.Unlike.{Unlike}
+use Rattle.gm_looks.proofs.Listed.{has_item, home_of, listed, passed, some_sectors}
+use Rattle.gm_looks.proofs.SeenBefore.{component_before}
+use Rattle.gm_looks.proofs.StandingTells.{tells_registered}
+use Rattle.gm_looks.proofs.UnlikeSoFar.{Listed, Right, all_unlike, on}
+use Rattle.gm_looks.proofs.unlike.unlike_shelf.Goals as goal
 
-pub loop-component-preserved-then-branch : goal.loop-component-preserved-then-branch
-loop-component-preserved-then-branch g c =
+pub loop-component-preserved-then-not-has : goal.loop-component-preserved-then-not-has
+loop-component-preserved-then-not-has g c =
     let inv = c.loop-component.invariant in
     let s = c.args.state.now in
     let size = g.H.Shelf.size c.args.shelf.now in
     let seen = (g.H.Shelf.view c.args.shelf.now).seen in
+    let meant = is_meant c.args.meant in
     let i = c.loop-component.component-index in
     let k = c.component-item.result in
     let all = c.components-component-items.ensures in
@@ -19,15 +24,41 @@ loop-component-preserved-then-branch g c =
     let is : k ≡ get_or s.components i k =
     c.component-item.is ∙ ap (λ (l : List Component). get_or l i k) all.value in
     record {
-      only = only_then g.H.Shelf _ _ _ inv.only c.is_as_registered.ensures.looks.only;
+      only = inv.only;
       listed = λ h.
-          passed (λ p. p) (λ m j p. IsAsRegistered size seen m j → ⊥) (IsAsRegistered size seen) s
-          all.state i k low is c.loop-component.names.items (inv.listed h)
-          (λ m o. (as_before size (g.H.Shelf.size c.loop-component.shelf) seen
-          (g.H.Shelf.view c.loop-component.shelf).seen m k inv.only.keeps.size
-          (inv.only.reads h).quiet.seen).0
-          ((c.in_ok-is_as_registered.ensures.told (inv.only.keeps.honest h) all.state m o).0
-          c.if-branch.true));
+          passed on (TellsUnlike meant size seen) (Right meant s size seen) s all.state i k low is
+          c.loop-component.list.items (inv.listed h)
+          (λ m o yes. absurd (let no : true ≡ false = sym yes ∙ (sym c.has.ensures
+          ∙ c.if-not-has.true) in cc));
+    }
+
+pub loop-component-preserved-then-is_as_registered :
+    goal.loop-component-preserved-then-is_as_registered
+loop-component-preserved-then-is_as_registered g c =
+    let inv = c.loop-component.invariant in
+    let s = c.args.state.now in
+    let size = g.H.Shelf.size c.args.shelf.now in
+    let seen = (g.H.Shelf.view c.args.shelf.now).seen in
+    let meant = is_meant c.args.meant in
+    let i = c.loop-component.component-index in
+    let k = c.component-item.result in
+    let all = c.components-component-items.ensures in
+    let low : i < length s.components =
+    subst (λ (l : List Component). i < length l) all.value c.loop-component-test.true in
+    let is : k ≡ get_or s.components i k =
+    c.component-item.is ∙ ap (λ (l : List Component). get_or l i k) all.value in
+    record {
+      only = only_then g.H.Shelf _ _ _ inv.only c.standing_in.ensures.looks.only;
+      listed = λ h.
+          passed on (TellsUnlike meant size seen) (Right meant s size seen) s all.state i k low is
+          c.loop-component.list.items (inv.listed h)
+          (λ m o yes. (tells_registered size seen m k (some_sectors s all.state m k o)
+          c.in_ok-standing.standing
+          (component_before s size (g.H.Shelf.size c.loop-component.shelf) seen
+          (g.H.Shelf.view c.loop-component.shelf).seen inv.only.keeps.size
+          (inv.only.reads h).quiet.seen m k c.in_ok-standing.standing
+          (c.in_ok-standing.ensures.stands (inv.only.keeps.honest h) all.state m o))).0
+          (c.is_as_registered.ensures.0 c.if-is_as_registered.true));
     }
 
 pub loop-component-preserved : goal.loop-component-preserved
@@ -36,6 +67,7 @@ loop-component-preserved g c =
     let s = c.args.state.now in
     let size = g.H.Shelf.size c.args.shelf.now in
     let seen = (g.H.Shelf.view c.args.shelf.now).seen in
+    let meant = is_meant c.args.meant in
     let i = c.loop-component.component-index in
     let k = c.component-item.result in
     let all = c.components-component-items.ensures in
@@ -44,30 +76,32 @@ loop-component-preserved g c =
     let is : k ≡ get_or s.components i k =
     c.component-item.is ∙ ap (λ (l : List Component). get_or l i k) all.value in
     let home = home_of s all.state k (has_item s.components i k low is) in
+    let e : Unlike = record { provider = k.provider; standing = c.in_ok-standing.standing } in
     record {
-      only = only_then g.H.Shelf _ _ _ inv.only c.is_as_registered.ensures.looks.only;
+      only = only_then g.H.Shelf _ _ _ inv.only c.standing_in.ensures.looks.only;
       listed = λ h.
-          let told = c.in_ok-is_as_registered.ensures.told (inv.only.keeps.honest h) all.state
-          home.0 home.1 in
-          let same = as_before size (g.H.Shelf.size c.loop-component.shelf) seen
-          (g.H.Shelf.view c.loop-component.shelf).seen home.0 k inv.only.keeps.size
-          (inv.only.reads h).quiet.seen in
-          let amiss : IsAsRegistered size seen home.0 k
-          → ⊥ = λ a. (let both : true ≡ false = sym (told.1 (same.1 a)) ∙ c.if-branch.false in
-          cc) in
-          subst (λ names. AuditedSoFar s size seen (take (i + 1) s.components) names)
+          let tells : TellsUnlike meant size seen home.0 k e = record {
+            meant = sym c.has.ensures ∙ c.if-not-has.false;
+            stands = component_before s size (g.H.Shelf.size c.loop-component.shelf) seen
+                (g.H.Shelf.view c.loop-component.shelf).seen inv.only.keeps.size
+                (inv.only.reads h).quiet.seen home.0 k c.in_ok-standing.standing
+                (c.in_ok-standing.ensures.stands (inv.only.keeps.honest h) all.state home.0
+                home.1);
+            other = λ same. (let both : true ≡ false = sym (c.is_as_registered.ensures.1 same)
+                ∙ c.if-is_as_registered.false in cc);
+          } in
+          subst (λ (list : List Unlike). Listed meant s size seen (take (i + 1) s.components) list)
           (sym c.in_ok-push.ensures.items)
-          (listed (λ p. p) (λ m j p. IsAsRegistered size seen m j → ⊥) (IsAsRegistered size seen) s
-          all.state i k low is c.loop-component.names.items (inv.listed h) home.0 home.1 k.provider
-          refl amiss);
+          (listed on (TellsUnlike meant size seen) (Right meant s size seen) s all.state i k low is
+          c.loop-component.list.items (inv.listed h) home.0 home.1 e refl tells);
     }
 
-pub returns-clause-audit : goal.returns-clause-audit
-returns-clause-audit g c h =
+pub returns-clause-unlike : goal.returns-clause-unlike
+returns-clause-unlike g c h =
     let s = c.args.state.now in
     let high : length s.components ≤ c.loop-component.component-index =
     subst (λ (l : List Component). length l ≤ c.loop-component.component-index)
     c.components-component-items.ensures.value c.loop-component-test.false in
-    all_audited s (g.H.Shelf.size c.args.shelf.now) (g.H.Shelf.view c.args.shelf.now).seen
-    c.loop-component.component-index c.loop-component.names.items high
-    (c.loop-component.invariant.listed h)
+    all_unlike (is_meant c.args.meant) s (g.H.Shelf.size c.args.shelf.now)
+    (g.H.Shelf.view c.args.shelf.now).seen c.loop-component.component-index
+    c.loop-component.list.items high (c.loop-component.invariant.listed h)

@@ -1,7 +1,8 @@
 use Rattle.std.proofs.Common.{take}
 use Rattle.gm_shelf.specs.Keeping.{ReadsOnly}
-use Rattle.gm_looks.proofs.Listed.{AuditedSoFar}
-use Rattle.gm_looks.proofs.audit.audit_shelf.Given as goal
+use Rattle.gm_looks.specs.Unlikes.{is_meant}
+use Rattle.gm_looks.proofs.UnlikeSoFar.{Listed}
+use Rattle.gm_looks.proofs.unlike.unlike_shelf.Given as goal
 
 abbrev pub invariant-loop-component : goal.invariant-loop-component
 invariant-loop-component g l =
@@ -10,6 +11,6 @@ invariant-loop-component g l =
     record {
       only : ReadsOnly H l.fn.shelf l.shelf;
       listed : H.honest l.fn.shelf
-          → AuditedSoFar l.fn.state (H.size l.fn.shelf) old.seen
-          (take l.component-index l.fn.state.components) l.names.items;
+          → Listed (is_meant l.fn.meant) l.fn.state (H.size l.fn.shelf) old.seen
+          (take l.component-index l.fn.state.components) l.list.items;
     }
