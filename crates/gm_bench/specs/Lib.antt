@@ -5,6 +5,7 @@ pub mod Calls
 pub mod Faults
 pub mod GivingUp
 pub mod Leading
+pub mod KeptCommands
 pub mod Losing
 pub mod Opened
 pub mod Owed

@@ -15,6 +15,15 @@ pub enum Answer {
     Refused(CallRefusal),
 }
 
+/// A command that was accepted before, under the key that was asked for.
+#[derive(Debug, Drop)]
+pub struct Kept {
+    pub number: u64,
+    /// Its words as they are kept, with each option that it has.
+    pub words: String,
+    pub reply: Reply,
+}
+
 /// What an accepted command has still to be carried out: its part of the records, its intents, and
 /// the sectors that they lay.
 #[derive(Drop)]

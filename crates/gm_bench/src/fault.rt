@@ -6,7 +6,6 @@ ghost use Rattle.gm_bench.specs.Faults.{fault_number, of_store, of_shelf, IsOfMe
 use gm_metadata::Label;
 use gm_rows::StoreFault;
 use gm_shelf::ShelfFault;
-use std::alloc::AllocFailed;
 
 /// Why the bench didn't do a call. After any of these but `Closed` and `Absent` the bench is
 /// closed: every call is answered `Closed` until it is opened again.
@@ -93,15 +92,5 @@ impl From<StoreFault> for BenchFault {
 
     fn from(cause: StoreFault) -> Self {
         BenchFault::of_store(cause)
-    }
-}
-
-impl<T: Drop> From<AllocFailed<T>> for BenchFault {
-    ghost use Rattle.gm_bench.specs.declared.fault.BenchFault.TheVariants.{Memory};
-
-    ghost from_gives = { λ _ fault. fault ≡ Memory };
-
-    fn from(_: AllocFailed<T>) -> Self {
-        BenchFault::Memory
     }
 }

@@ -38,7 +38,7 @@ mod take_up_without;
 mod views;
 mod without;
 
-pub use answer::Answer;
+pub use answer::{Answer, Kept};
 pub use bench::{Bench, OpenFault};
 pub use fault::BenchFault;
 pub use gm_apply::Watch;

@@ -7,17 +7,22 @@ ghost use Rattle.gm_state.specs.Rows.{Tables};
 ghost use Rattle.gm_rows.specs.ReadableTables.{AreRecordsOf};
 ghost use Rattle.gm_registry.specs.Parts.{mirror_part};
 ghost use Rattle.gm_registry.specs.Registry.{DiskKept, HasTables};
-ghost use Rattle.gm_registry.specs.Replies.{count_of};
+ghost use Rattle.gm_registry.specs.Replies.{AreWrittenUnder, count_of};
 ghost use Rattle.gm_looks.specs.Audits.{IsAudit};
 ghost use Rattle.gm_looks.specs.Scrubs.{IsScrub};
+ghost use Rattle.gm_looks.specs.Unlikes.{IsUnlike};
+ghost use Rattle.gm_refusals.specs.Applies.{is_about};
 ghost use Rattle.gm_bench.specs.Benches.{media_of, progress_of, redone_of, registry_of, shelf_of};
-ghost use Rattle.gm_bench.specs.Calls.{ClosesOnFault, LooksOn, TellsOfRecords};
+ghost use Rattle.gm_bench.specs.KeptCommands.{TellsKept};
+ghost use Rattle.gm_bench.specs.Calls.{ClosesOnFault, LooksOn, TellsOfRecords, TellsStore};
 
+use crate::answer::Kept;
 use crate::bench::Bench;
 use crate::fault::BenchFault;
 use crate::phase::Progress;
 use gm_apply::Watch;
-use gm_looks::Scrubbed;
+use gm_commands::Command;
+use gm_looks::{Scrubbed, Unlike};
 use gm_metadata::Label;
 use gm_shelf::Shelf;
 use gm_state::State;
@@ -125,6 +130,27 @@ impl<S: Alter, H: Shelf> Bench<S, H> {
         self.looked(names)
     }
 
+    /// The components that a command is about, and whose images aren't as they are registered, in
+    /// byte order of their providers, each with how it stands: those of the mirror that the command
+    /// names and those on providers that it names, but for those that it gives up as lost. `Closed`
+    /// after an earlier fault; any other fault closes the bench.
+    pub fn unlike(&mut self, alloc: Global, command: &Command) -> Result<Vec<Unlike>, BenchFault>
+        // By the records that the registry holds and by what the shelf shows, whoever wrote it.
+        ensures unlike { H.honest (shelf_of self.old) → DiskKept S.Store (registry_of self.new)
+            → IfOk result (λ list. (t : Tables) (s : Records)
+            → HasTables S.Store (registry_of self.old) t → AreRecordsOf t s
+            → IsUnlike (is_about command.now) s (H.size (shelf_of self.old))
+            (H.view (shelf_of self.old)).seen list.items) }
+        ensures records { TellsOfRecords S.Store (registry_of self.old) (registry_of self.new)
+            result }
+        ensures looks { LooksOn S.Store H.Shelf self.old self.new result }
+        ensures closes { ClosesOnFault self.old self.new result }
+    {
+        self.check_open()?;
+        let list = self.media.unlike(alloc, command);
+        self.looked(list)
+    }
+
     /// The ACTIVE components that hold other data than their mirror's source, in byte order of
     /// their providers, each with what is amiss: of this mirror, or of all if none is named. A
     /// mirror's source is its ACTIVE component with the greatest priority, among equals the one
@@ -150,6 +176,25 @@ impl<S: Alter, H: Shelf> Bench<S, H> {
         self.check_open()?;
         let list = self.media.scrub(alloc, mirror, watch);
         self.looked(list)
+    }
+
+    /// The command that was accepted under a key, or `None`. `Closed` after an earlier fault; any
+    /// other fault closes the bench.
+    pub fn kept(&mut self, key: &str) -> Result<Option<Kept>, BenchFault>
+        ensures shows { DiskKept S.Store (registry_of self.new)
+            → IfOk result (λ found. (t : Tables) → HasTables S.Store (registry_of self.old) t
+            → TellsKept t key.now found) }
+        ensures unreadable { DiskKept S.Store (registry_of self.new)
+            → IsErrOf result BenchFault.Unreadable → (t : Tables)
+            → HasTables S.Store (registry_of self.old) t → AreWrittenUnder key.now t → ⊥ }
+        ensures store { TellsStore S.Store (registry_of self.old) (registry_of self.new) result }
+        ensures shelf { shelf_of self.new ≡ shelf_of self.old }
+        ensures looks { LooksOn S.Store H.Shelf self.old self.new result }
+        ensures closes { ClosesOnFault self.old self.new result }
+    {
+        self.check_open()?;
+        let kept = self.media.kept(key);
+        self.looked(kept)
     }
 
     /// How many commands were accepted so far. `Closed` after an earlier fault; any other fault

@@ -1,8 +1,8 @@
 //! The calls of a bench as tests make them, and what a last sector is expected to say.
 
-use gm_bench::{Answer, Bench, BenchFault, OpenFault, Phase, Watch};
+use gm_bench::{Answer, Bench, BenchFault, Kept, OpenFault, Phase, Watch};
 use gm_commands::{Command, Sectors};
-use gm_looks::Scrubbed;
+use gm_looks::{Scrubbed, Unlike};
 use gm_metadata::{Balance, DiskFlags, Label, Metadata, MirrorFlags, encode};
 use gm_shelf::Shelf;
 use gm_state::{Reply, State};
@@ -212,6 +212,23 @@ pub fn try_audit<S: Alter, H: Shelf>(
     bench: &mut Bench<S, H>,
 ) -> Result<Vec<Label>, BenchFault> {
     bench.audit(alloc)
+}
+
+/// What stands otherwise than it is registered, of that which a command is about.
+pub fn try_unlike<S: Alter, H: Shelf>(
+    alloc: Global,
+    bench: &mut Bench<S, H>,
+    words: &str,
+) -> Result<Result<Vec<Unlike>, BenchFault>, Fail> {
+    let command = command(alloc, words)?;
+    Ok(bench.unlike(alloc, &command))
+}
+
+pub fn try_kept<S: Alter, H: Shelf>(
+    bench: &mut Bench<S, H>,
+    key: &str,
+) -> Result<Option<Kept>, BenchFault> {
+    bench.kept(key)
 }
 
 pub fn try_scrub<S: Alter, H: Shelf, W: Watch>(

@@ -1,9 +1,11 @@
 //! An audit and a tasting whose shelf stops at each of their looks. Neither changes anything.
 
 use gm_bench::{Bench, BenchFault, Phase};
-use gm_looks::taste_shelf;
+use gm_looks::{Standing, Unlike, taste_shelf};
+use gm_metadata::Label;
 use gm_shelf::{FaultShelf, MemShelf, Shelf, ShelfFault};
-use gm_test_bench::{INSERT, of_two, open, try_audit, try_view_of};
+use gm_state::Reply;
+use gm_test_bench::{INSERT, of_two, open, try_audit, try_kept, try_unlike, try_view_of};
 use gm_test_media::{add, label, memory, must, shelf};
 use gm_words::tasting_text;
 use sqlite::{Alter, Connection};
@@ -110,4 +112,85 @@ fn one_mirror_is_seen_by_its_name(rt: HostRuntime) -> Result<(), Fail> {
         "a mirror that isn't there",
     )?;
     Ok(())
+}
+
+// Of the images that a command is about, how the only one stands that isn't as registered; none, if
+// all are.
+fn only_unlike<S: Alter, H: Shelf>(
+    alloc: Global,
+    bench: &mut Bench<S, H>,
+    words: &str,
+) -> Result<Option<Unlike>, Fail> {
+    let list = try_unlike(alloc, bench, words)??;
+    must(list.len() < 2, "more than one")?;
+    Ok(list.first().copied())
+}
+
+// How b.img, of which zeros were written over the last sector, is told.
+fn zeros_in_b() -> Result<Unlike, Fail> {
+    Ok(Unlike {
+        provider: label("b.img")?,
+        standing: Standing::NoMetadata,
+    })
+}
+
+fn must_list_b<S: Alter, H: Shelf>(
+    alloc: Global,
+    bench: &mut Bench<S, H>,
+    words: &str,
+) -> Result<(), Fail> {
+    must(
+        only_unlike(alloc, bench, words)? == Some(zeros_in_b()?),
+        "b.img isn't told",
+    )
+}
+
+fn must_list_none<S: Alter, H: Shelf>(
+    alloc: Global,
+    bench: &mut Bench<S, H>,
+    words: &str,
+) -> Result<(), Fail> {
+    must(
+        only_unlike(alloc, bench, words)?.is_none(),
+        "an image is told",
+    )
+}
+
+// gm0 of a.img and b.img, where something wrote zeros over the last sector of b.img.
+fn with_zeros_in_b(mut shelf: MemShelf) -> Result<MemShelf, Fail> {
+    let b: Label = label("b.img")?;
+    let last = shelf.sectors(b).ok_or("no b.img")? - 1;
+    shelf.write(b, last, &[0; 512])?;
+    Ok(shelf)
+}
+
+#[test]
+fn a_look_before_a_command_tells_which_of_its_images_are_unlike(
+    rt: HostRuntime,
+) -> Result<(), Fail> {
+    let alloc = rt.alloc();
+    let (store, shelf) = of_two(alloc, memory(alloc)?, shelf(alloc)?, INSERT)?;
+    let mut bench = open(alloc, store, with_zeros_in_b(shelf)?)?;
+    must_list_b(alloc, &mut bench, "insert --did 3 gm0 c.img")?;
+    must_list_b(alloc, &mut bench, "remove gm0 a.img")?;
+    must_list_b(alloc, &mut bench, "clear b.img")?;
+    must_list_b(alloc, &mut bench, "adopt gm9 c.img b.img")?;
+    must_list_b(alloc, &mut bench, "lost gm0 a.img")?;
+    must_list_none(alloc, &mut bench, "lost gm0 b.img")?;
+    must_list_none(alloc, &mut bench, "clear a.img")?;
+    must_list_none(alloc, &mut bench, "insert --did 3 gm9 c.img")?;
+    Ok(())
+}
+
+#[test]
+fn the_command_under_a_key_is_told(rt: HostRuntime) -> Result<(), Fail> {
+    let alloc = rt.alloc();
+    let (store, shelf) = of_two(alloc, memory(alloc)?, shelf(alloc)?, INSERT)?;
+    let mut bench = open(alloc, store, shelf)?;
+    let kept = try_kept(&mut bench, "k2")?.ok_or("no command under k2")?;
+    must(kept.number == 2, "another number")?;
+    let words = "insert --did 2 --priority 0 --hardcode off gm0 b.img";
+    must(kept.words.as_str() == words, "other words")?;
+    must(kept.reply == Reply::Plain, "another reply")?;
+    must(try_kept(&mut bench, "k9")?.is_none(), "a command under k9")
 }
