@@ -1,9 +1,10 @@
 //! A file's bytes, and those that were written over them.
 
-ghost use Rattle.std.specs.Prelude.{◌≡◌, ◌<◌, ◌≤◌, ◌+◌, ◌^◌, length, IfOk};
+ghost use Rattle.std.specs.Prelude.{◌≡◌, ◌≢◌, ◌<◌, ◌≤◌, ◌+◌, ◌^◌, ◌/◌, ◌%◌, ℕ, List, length, take, drop, Some, IfOk, OnOk};
 ghost use Rattle.std.specs.Io.{ReadsAtMost};
+ghost use Rattle.gm_overlay.specs.Written.{block_at, HasWithin, HasOver};
 
-use std::alloc::{AllocError, Global};
+use std::alloc::Global;
 use std::collections::BTreeMap;
 use std::fs::File;
 use std::io::{self, ErrorKind};
@@ -64,6 +65,14 @@ fn fill(file: &File, out: &mut [u8], offset: usize) -> io::Result<()> {
     Ok(())
 }
 
+// Lays bytes over a part of a block.
+fn lay(block: &mut [u8; BLOCK], within: usize, bytes: &[u8])
+    requires { within + length bytes.now ≤ 4096 }
+    ensures { HasWithin block.new within bytes.now }
+{
+    block[within..within + bytes.len()].copy_from_slice(bytes);
+}
+
 impl Layers {
     pub(crate) fn over(alloc: Global, file: Option<File>) -> io::Result<Layers> {
         let len = match &file {
@@ -101,6 +110,9 @@ impl Layers {
     pub(crate) fn read(&self, at: usize, out: &mut [u8]) -> io::Result<usize>
         requires { 0 < length out.old }
         ensures count { IfOk result (λ n. (0 < n) × (n ≤ length out.old) × (at < 2 ^ 63)) }
+        // Of a block in memory, its bytes.
+        ensures back { IfOk result (λ n. (block : List ℕ) → block_at self.now (at / 4096) ≡ Some block
+            → take n out.new ≡ take n (drop (at % 4096) block)) }
     {
         if at >= self.len || at > MAX_LEN {
             return Err(io::Error::from(ErrorKind::UnexpectedEof));
@@ -121,24 +133,35 @@ impl Layers {
         Ok(block)
     }
 
+    // Takes the bytes into the block at this place.
+    fn put(&mut self, place: usize, within: usize, bytes: &[u8]) -> io::Result<()>
+        requires { within + length bytes.now ≤ 4096 }
+        ensures taken { OnOk result (HasOver self.new place within bytes.now) }
+        ensures others { (q : ℕ) → q ≢ place → block_at self.new q ≡ block_at self.old q }
+    {
+        if let Some(block) = self.written.get_mut(&place) {
+            lay(block, within, bytes);
+            return Ok(());
+        }
+        let mut block = self.copied(place)?;
+        lay(&mut block, within, bytes);
+        self.written.insert(place, block)?;
+        Ok(())
+    }
+
     /// Takes some of the bytes, of one block at most. Nothing is changed where that fails.
     pub(crate) fn write(&mut self, at: usize, bytes: &[u8]) -> io::Result<usize>
         requires { 0 < length bytes.now }
         ensures count { IfOk result (λ n. (0 < n) × (n ≤ length bytes.now) × (at < 2 ^ 63)) }
+        ensures taken { IfOk result (λ n. HasOver self.new (at / 4096) (at % 4096) (take n bytes.now)) }
+        ensures others { (q : ℕ) → q ≢ at / 4096 → block_at self.new q ≡ block_at self.old q }
     {
         if at > MAX_LEN - BLOCK {
             return Err(io::Error::from(ErrorKind::InvalidInput));
         }
         let (place, within) = (at / BLOCK, at % BLOCK);
         let count = usize::min(bytes.len(), BLOCK - within);
-        match self.written.get_mut(&place) {
-            Some(block) => block[within..within + count].copy_from_slice(&bytes[..count]),
-            None => {
-                let mut block = self.copied(place)?;
-                block[within..within + count].copy_from_slice(&bytes[..count]);
-                self.written.insert(place, block)?;
-            }
-        }
+        self.put(place, within, &bytes[..count])?;
         self.len = usize::max(self.len, at + count);
         Ok(count)
     }
