@@ -117,12 +117,14 @@ fn goes_through<R: AllocGlobal, D: Disk>(
     mut bytes: Vec<u8>,
 ) -> Result<bool, AllocError>
     requires { IsTrue (D.Disk.is_usable disk.old) }
-    ensures usable { IsTrue (D.Disk.is_usable disk.new) }
 {
     let mut goes = holds(rt, disk, &bytes)?;
     for step in SCRIPT {
         make(&mut bytes, step)?;
-        goes = carry_out(rt, disk, step)? && holds(rt, disk, &bytes)? && goes;
+        if !goes || !disk.may_be_used() {
+            return Ok(false);
+        }
+        goes = carry_out(rt, disk, step)? && holds(rt, disk, &bytes)?;
     }
     Ok(goes)
 }
