@@ -59,7 +59,7 @@ look_in_little() {
         elif [ "$status" != 0 ] || [ "$(cat "$work/output")" != "$wanted" ] || [ -s "$work/complaints" ]; then
             wrong="in $kilobytes KB status $status, '$(head -n 1 "$work/output" "$work/complaints")'"
         fi
-        kilobytes=$((kilobytes + 2000))
+        kilobytes=$((kilobytes + 4000))
     done
     if [ "$status" != 0 ] && [ -z "$wrong" ]; then
         wrong='it never answered'
