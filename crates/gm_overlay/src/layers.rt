@@ -106,8 +106,8 @@ impl Layers {
         }
     }
 
-    /// Reads some bytes, of one block at most.
-    pub(crate) fn read(&self, at: usize, out: &mut [u8]) -> io::Result<usize>
+    // Reads some bytes, of one block at most.
+    fn read_block(&self, at: usize, out: &mut [u8]) -> io::Result<usize>
         requires { 0 < length out.old }
         ensures count { IfOk result (λ n. (0 < n) × (n ≤ length out.old) × (at < 2 ^ 63)) }
         // Of a block in memory, its bytes.
@@ -124,6 +124,22 @@ impl Layers {
             None => self.read_below(at, &mut out[..count])?,
         }
         Ok(count)
+    }
+
+    /// Reads these bytes, as far as there are any.
+    pub(crate) fn read(&self, at: usize, out: &mut [u8]) -> io::Result<usize>
+        requires { 0 < length out.old }
+        ensures count { IfOk result (λ n. (0 < n) × (n ≤ length out.old) × (at < 2 ^ 63)) }
+    {
+        let mut done = self.read_block(at, out)?;
+        // Each turn reads a byte at least.
+        for _ in 0..out.len() {
+            if done >= out.len() || at.saturating_add(done) >= self.len {
+                break;
+            }
+            done += self.read_block(at.saturating_add(done), &mut out[done..])?;
+        }
+        Ok(done)
     }
 
     // What is below the block at this place, in memory.

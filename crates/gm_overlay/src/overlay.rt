@@ -1,6 +1,7 @@
 //! What `sqlite_disk` asks of a file, of one that is only read.
 
-ghost use Rattle.std.specs.Prelude.{◌≡◌, IsTrue, IfOk};
+ghost use Rattle.std.specs.Prelude.{◌≡◌, [], ◌∷◌, IsTrue, IfOk};
+ghost use Rattle.sqlite_disk.specs.Events.{settled};
 
 use crate::history::{Call, History};
 use crate::layers::Layers;
@@ -109,8 +110,20 @@ impl Calls for Overlay {
     }
 }
 
-/// A disk over a file that is open for reading, or over none. It stays open as long as the disk is
-/// there. A write that wants memory finds no room, so that the disk's tally tells it.
+impl Overlay {
+    /// Over a file that is open for reading, or over none. The file stays open as long as this is
+    /// there. A write that wants memory finds no room, so that the tally of a disk tells it.
+    pub fn over(alloc: Global, file: Option<File>, key: u64) -> io::Result<Overlay>
+        ensures { IfOk result (λ it. it.history.events ≡ settled key ∷ []) }
+    {
+        Ok(Overlay {
+            layers: Layers::over(alloc, file)?,
+            history: History::begun(key),
+        })
+    }
+}
+
+/// The disk over such a file, with this key.
 pub fn disk_over(
     alloc: Global,
     file: Option<File>,
@@ -119,9 +132,6 @@ pub fn disk_over(
 ) -> io::Result<OverlayDisk>
     ensures usable { IfOk result (λ disk. IsTrue (⟦<OverlayDisk as Disk>⟧.is_usable disk)) }
 {
-    let overlay = Overlay {
-        layers: Layers::over(alloc, file)?,
-        history: History::begun(key),
-    };
+    let overlay = Overlay::over(alloc, file, key)?;
     Ok(Modelled::new(overlay, is_log, key))
 }

@@ -3,8 +3,8 @@
 
 ghost use Rattle.std.specs.Prelude.{IsTrue};
 
-use gm_overlay::disk_over;
-use sqlite_disk::Disk;
+use gm_overlay::{Overlay, disk_over};
+use sqlite_disk::{Calls, Disk};
 use std::alloc::AllocError;
 use std::env::Env;
 use std::fs::{File, Files};
@@ -129,11 +129,11 @@ fn goes_through<R: AllocGlobal, D: Disk>(
     Ok(goes)
 }
 
-// A path of its own for each process.
-fn new_path<R: Env + AllocGlobal + Abort>(rt: &R, id: u32) -> String {
+// A path of its own for each test and each process.
+fn new_path<R: Env + AllocGlobal + Abort>(rt: &R, test: &str, id: u32) -> String {
     let temp = env::temp_dir(rt).expect(rt, "no folder for temporary files");
     let base = temp.as_str();
-    format!(in rt.alloc(); "{base}/gm_overlay-{id}").expect(rt, "no path")
+    format!(in rt.alloc(); "{base}/gm_overlay-{test}-{id}").expect(rt, "no path")
 }
 
 fn put<R: Files + AllocGlobal + Abort>(rt: &R, path: &str, bytes: &[u8]) {
@@ -152,7 +152,7 @@ fn stays<R: Files + AllocGlobal + Abort>(rt: &R, path: &str, bytes: &[u8], file:
 
 #[test]
 fn what_is_written_is_read_back_and_the_file_stays(rt: HostRuntime) -> Result<(), Fail> {
-    let path = new_path(&rt, process::id(rt.process()));
+    let path = new_path(&rt, "script", process::id(rt.process()));
     for len in [0, 1, 4_096, 12_288, 13_000] {
         let bytes = file_bytes(&rt, len)?;
         put(&rt, path.as_str(), &bytes);
@@ -167,5 +167,32 @@ fn over_no_file_a_disk_is_empty(rt: HostRuntime) -> Result<(), Fail> {
     let mut disk = disk_over(rt.alloc(), None, true, 5)?;
     let none = Vec::new(rt.alloc());
     must(&rt, goes_through(&rt, &mut disk, none)?, "another disk");
+    Ok(())
+}
+
+// A page that a digest is known of has to come at once.
+fn reads_at_once<R: Abort>(rt: &R, overlay: &mut Overlay) {
+    let mut page = [0; 5_000];
+    let is_written = matches!(overlay.write_some(4_000, &[7; 90]), Ok(90));
+    let is_whole = matches!(overlay.read_under(1, 2, 3_900, &mut page), Ok(5_000));
+    // Before what was written, it, and behind it, in the next block.
+    let bytes = [page[0], page[100], page[189], page[190], page[4_999]];
+    let wanted = [3_900, 0, 0, 4_090, 8_899].map(|at| (at % 251) as u8 + 1);
+    let is_right = bytes == [wanted[0], 7, 7, wanted[3], wanted[4]];
+    must(rt, is_written && is_whole && is_right, "another page");
+    must(
+        rt,
+        matches!(overlay.read_some(8_000, &mut page), Ok(4_288)),
+        "another end",
+    );
+}
+
+#[test]
+fn a_read_goes_on_from_block_to_block(rt: HostRuntime) -> Result<(), Fail> {
+    let path = new_path(&rt, "reads", process::id(rt.process()));
+    put(&rt, path.as_str(), &file_bytes(&rt, 12_288)?);
+    let file = File::open(&rt, path.as_str())?;
+    reads_at_once(&rt, &mut Overlay::over(rt.alloc(), Some(file), 5)?);
+    fs::remove_file(&rt, path.as_str())?;
     Ok(())
 }
