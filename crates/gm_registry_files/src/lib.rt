@@ -2,7 +2,7 @@
 //! opening.
 //!
 //! `registry_files.rt` knows which files are a registry's: its own, and those that SQLite puts
-//! beside it, which `beside.rt` names. `unopened.rt` reads them into memory, so that nothing is
+//! beside it, which `beside.rt` names. `unopened.rt` reads them by an overlay, so that nothing is
 //! written.
 #![tactic(auto)]
 

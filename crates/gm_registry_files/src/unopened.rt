@@ -1,19 +1,19 @@
-//! A registry that is read without an opening: its files are copied into memory, and opened there,
-//! so that nothing is written, not even SQLite's log.
+//! A registry that is read without an opening: its files are opened for reading alone, and whatever
+//! SQLite writes stays in memory, so that no file is written, not even SQLite's log.
 
-ghost use Rattle.std.specs.Prelude.{◌≡◌, false, IfOk, IsTrue};
-ghost use Rattle.sqlite_disk.specs.Memory.{memory_is_usable};
+ghost use Rattle.std.specs.Prelude.{◌≡◌, ◌≢◌, IsTrue, IfOk, IfErr};
 
 use crate::registry_files::file_fault;
+use gm_overlay::{OverlayDisk, disk_over};
 use gm_registry::{Loaded, Registry, StoreFault};
 use gm_shelf::FileId;
 use os::RangeLock;
 use sqlite::{Connection, FileStore, Files, Options};
-use sqlite_disk::{Disk, Memory};
+use sqlite_disk::Disk;
 use std::alloc::Global;
 use std::fs::{self, File};
 use std::hash::{BuildHasher, RandomState};
-use std::io::{self, ErrorKind, Read};
+use std::io::{self, ErrorKind};
 use std::os::fd::AsRawFd;
 
 // Where SQLite's locks lie in a file, in bytes: the pending, the reserved and the shared lock.
@@ -37,24 +37,11 @@ fn open_shared(rt: &HostRuntime, path: &str) -> io::Result<File> {
     Ok(file)
 }
 
-// What a file holds, in memory.
-fn copy_of(alloc: Global, file: &mut File) -> io::Result<Memory>
-    ensures { IfOk result (λ disk. IsTrue (memory_is_usable disk)) }
-{
-    let mut bytes = Vec::new(alloc);
-    file.read_to_end(&mut bytes)?;
-    let mut disk = Memory::new(alloc);
-    disk.write_at(0, &bytes)?;
-    Ok(disk)
-}
-
-// What the log of a registry holds, in memory: nothing, where there is none.
-fn copy_of_log(rt: &HostRuntime, path: &str) -> io::Result<Memory>
-    ensures { IfOk result (λ disk. IsTrue (memory_is_usable disk)) }
-{
+// The log of a registry, or none.
+fn open_log(rt: &HostRuntime, path: &str) -> io::Result<Option<File>> {
     match open_shared(rt, path) {
-        Ok(mut file) => copy_of(rt.alloc(), &mut file),
-        Err(e) if e.kind() == ErrorKind::NotFound => Ok(Memory::new(rt.alloc())),
+        Ok(file) => Ok(Some(file)),
+        Err(e) if e.kind() == ErrorKind::NotFound => Ok(None),
         Err(e) => Err(e),
     }
 }
@@ -70,41 +57,54 @@ fn check_journal(rt: &HostRuntime, path: &str) -> io::Result<()> {
     }
 }
 
-// The two files of a registry, in memory. The lock on the first is held until the second is read.
-fn files_of(rt: &HostRuntime, registry: &str) -> io::Result<Files<Memory>>
-    ensures log { IfOk result (λ files. IsTrue (memory_is_usable files.log)) }
-    ensures db { IfOk result (λ files. IsTrue (memory_is_usable files.db)) }
+// The two files of a registry, which stay open and locked as long as these are there.
+fn files_of(rt: &HostRuntime, registry: &str, key: u64) -> io::Result<Files<OverlayDisk>>
+    ensures log { IfOk result (λ files. IsTrue (⟦<OverlayDisk as Disk>⟧.is_usable files.log)) }
+    ensures db { IfOk result (λ files. IsTrue (⟦<OverlayDisk as Disk>⟧.is_usable files.db)) }
 {
     let alloc = rt.alloc();
     let real = fs::canonicalize(rt, registry)?;
     let path = real.as_str();
-    let mut file = open_shared(rt, path)?;
+    let file = open_shared(rt, path)?;
     check_journal(rt, format!(in alloc; "{path}-journal")?.as_str())?;
-    let log = copy_of_log(rt, format!(in alloc; "{path}-wal")?.as_str())?;
-    let db = copy_of(alloc, &mut file)?;
-    Ok(Files { log, db })
+    let log = open_log(rt, format!(in alloc; "{path}-wal")?.as_str())?;
+    Ok(Files {
+        log: disk_over(alloc, log, true, key)?,
+        db: disk_over(alloc, Some(file), false, key)?,
+    })
+}
+
+// The fault of an opening that left these files. They find no room only where memory was refused.
+fn opening_fault(fault: StoreFault, files: Files<OverlayDisk>) -> StoreFault {
+    if files.tally().refused != 0 {
+        StoreFault::Memory
+    } else {
+        fault
+    }
 }
 
 // What the registry of a store holds.
-fn records_in(alloc: Global, store: Connection<FileStore<Memory>>) -> Result<Loaded, StoreFault> {
+fn records_in(
+    alloc: Global,
+    store: Connection<FileStore<OverlayDisk>>,
+) -> Result<Loaded, StoreFault> {
     if !store.is_autocommit() {
         return Err(StoreFault::Store);
     }
-    let mut registry = match Registry::open(store) {
-        Ok(registry) => registry,
-        Err(e) => return Err(e.fault),
-    };
-    registry.load(alloc)
+    match Registry::open(store) {
+        Ok(mut registry) => registry.load(alloc),
+        Err(e) => Err(opening_fault(e.fault, e.store.into_store().close())),
+    }
 }
 
 /// What a registry holds as it stands. `Store` where there is no such file, where another program
 /// has it open, or where its journal holds anything; `Unreadable` where an opening would say so.
 pub fn records_of(rt: &HostRuntime, registry: &str) -> Result<Loaded, StoreFault> {
     let alloc = rt.alloc();
-    let files = files_of(rt, registry).map_err(file_fault)?;
-    let seed = RandomState::new(rt).map_err(file_fault)?.hash_one(&0u8);
-    match Connection::open_files(alloc, files, Options::new(seed)) {
+    let random = RandomState::new(rt).map_err(file_fault)?;
+    let files = files_of(rt, registry, random.hash_one(&0u8)).map_err(file_fault)?;
+    match Connection::open_files(alloc, files, Options::new(random.hash_one(&1u8))) {
         Ok(store) => records_in(alloc, store),
-        Err((error, _)) => Err(StoreFault::from(error)),
+        Err((error, left)) => Err(opening_fault(StoreFault::from(error), left.into_files())),
     }
 }
