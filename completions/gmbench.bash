@@ -3,14 +3,15 @@
 # The options of a subcommand.
 _gmbench_options() {
     case $1 in
-        dump | taste) echo --shelf --json --help ;;
-        pending | do) echo --registry --shelf --help ;;
-        recover) echo --registry --shelf --without --key --help ;;
-        status | list | audit) echo --registry --shelf --json --read-only --help ;;
-        scrub) echo --registry --shelf --json --quiet --help ;;
-        batch) echo --registry --shelf --audit --explain --help ;;
-        sync) echo --registry --shelf --unchecked --quiet --help ;;
-        serve) echo --registry --shelf --port --count --log --audit --help ;;
+        dump | taste) echo --shelf --json --explain --help ;;
+        pending) echo --registry --shelf --explain --wait --help ;;
+        recover) echo --registry --shelf --existing --explain --wait --without --key --help ;;
+        status | list | audit) echo --registry --shelf --existing --explain --wait --json --read-only --help ;;
+        scrub) echo --registry --shelf --explain --wait --json --quiet --help ;;
+        do) echo --registry --shelf --existing --explain --wait --help ;;
+        batch) echo --registry --shelf --existing --explain --wait --audit --stop --help ;;
+        sync) echo --registry --shelf --explain --wait --unchecked --quiet --help ;;
+        serve) echo --registry --shelf --existing --explain --wait --port --count --log --audit --help ;;
     esac
 }
 
@@ -74,7 +75,7 @@ _gmbench() {
             continue
         fi
         case $before in
-            --registry | --shelf | --without | --key | --port | --count | --mid | --did | --balance | --slice | \
+            --registry | --shelf | --wait | --without | --key | --port | --count | --mid | --did | --balance | --slice | \
                 --autosync | --failsync | --hardcode | --priority | --prov | --first | --data) option=$before ;;
             -*) ;;
             *) names+=("$before") ;;

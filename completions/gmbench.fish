@@ -2,7 +2,7 @@
 
 # The words before the cursor that are names, the subcommand first.
 function __gmbench_names
-    set -l valued --registry --shelf --without --key --port --count --mid --did --balance --slice --autosync --failsync \
+    set -l valued --registry --shelf --wait --without --key --port --count --mid --did --balance --slice --autosync --failsync \
         --hardcode --priority --prov --first --data
     set -l wants no
     for word in (commandline -opc)[2..-1]
@@ -104,7 +104,10 @@ complete -c gmbench -n '__gmbench_in dump taste status list audit scrub' -l json
 complete -c gmbench -n '__gmbench_in status list audit' -l read-only -d 'Carry out nothing, and write nothing'
 complete -c gmbench -n '__gmbench_in scrub sync' -l quiet -d 'Do not say how far it is'
 complete -c gmbench -n '__gmbench_in batch serve' -l audit -d 'Audit the images first'
-complete -c gmbench -n '__gmbench_in batch' -l explain -d 'Say why a line is refused'
+complete -c gmbench -n '__gmbench_in batch' -l stop -d 'End at the first line that is refused'
+complete -c gmbench -n '__gmbench_in recover status list audit do batch serve' -l existing -d 'Make no registry'
+complete -c gmbench -n "__gmbench_in dump taste $at_bench" -l explain -d 'Say what a refusal or a fault means'
+complete -c gmbench -n "__gmbench_in $at_bench" -l wait -x -d 'For how many seconds what is in use is tried again'
 complete -c gmbench -n '__gmbench_in sync' -l unchecked -d 'Fill without an audit'
 complete -c gmbench -n '__gmbench_in recover' -l without -x -a '(__gmbench_images)' -d 'An image that is gone for good'
 complete -c gmbench -n '__gmbench_in recover' -l key -x -d 'The key under which it is given up'

@@ -2,14 +2,17 @@
 
 /// What the help of the program says below its commands.
 pub(crate) const MORE: &str =
-    "All but dump and taste take --registry FILE --shelf DIR: the registry, which is made where there is
-none, and the folder with the images. Each first carries out what a run that stopped left pending;
-recover can go on without an image that is gone for good. dump and taste look at images alone, and
-write nothing; nor does pending, nor status, list and audit with --read-only: they show the registry
-as it stands. Where --registry or --shelf is left out, the environment's GMBENCH_REGISTRY or
-GMBENCH_SHELF stands for it.
+    "All but dump and taste take --registry FILE --shelf DIR: the registry, and the folder with the
+images. Where there is no registry, recover, status, list, audit, batch, serve, and do with label or
+adopt make one, and say so; with --existing they don't. Each first carries out what a run that
+stopped left pending; recover can go on without an image that is gone for good. dump and taste look
+at images alone, and write nothing; nor does pending, nor status, list and audit with --read-only:
+they show the registry as it stands. Where --registry or --shelf is left out, the environment's
+GMBENCH_REGISTRY or GMBENCH_SHELF stands for it. GMBENCH_EXISTING=1 and GMBENCH_EXPLAIN=1 are
+--existing and --explain.
 
-Where standard error is a terminal, a sentence there says behind a refusal or a fault what it means.
+With --explain, or where standard error is a terminal, a sentence there says behind a refusal or a
+fault what it means.
 
 Exit statuses:
   0  done

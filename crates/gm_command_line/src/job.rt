@@ -1,6 +1,19 @@
 //! What the program may be asked to do.
 
+ghost use Rattle.std.specs.Prelude.{◌≡◌};
+ghost use Rattle.gm_command_line.specs.Works.{makes_registry, registers};
+
 use gm_metadata::Label;
+
+// Whether the first of these words is that of a command which registers a mirror.
+fn registers(words: &[&str]) -> bool
+    ensures { result ≡ registers words.now }
+{
+    match words.first() {
+        Some(word) => *word == "label" || *word == "adopt",
+        None => false,
+    }
+}
 
 /// Where requests over HTTP are taken, and how many.
 #[derive(Clone, Copy)]
@@ -73,12 +86,27 @@ pub enum Work<'a> {
     /// Hand in one command, under a key.
     Do { key: &'a str, words: &'a [&'a str] },
     /// Hand in the commands of an input, and answer each; none of them where the images are to be
-    /// audited first and the audit lists any.
-    Batch { audits: bool, explains: bool },
+    /// audited first and the audit lists any, and none behind a refused one where it stops there.
+    Batch { audits: bool, stops: bool },
     /// Fill components.
     Sync(Filling),
     /// Serve requests over HTTP.
     Serve(Service),
+}
+
+impl Work<'_> {
+    /// Whether a registry that isn't there is made for it: it shows mirrors, serves whoever asks,
+    /// or is a command that registers a mirror. Nothing else has anything to do at a registry that
+    /// knows nothing.
+    pub fn makes_registry(&self) -> bool
+        ensures { result ≡ makes_registry self.now }
+    {
+        match *self {
+            Work::Sync(_) | Work::Scrub(_) => false,
+            Work::Do { words, .. } => registers(words),
+            _ => true,
+        }
+    }
 }
 
 /// What is looked at as it stands: nothing pending is carried out, and nothing is written.
@@ -90,6 +118,24 @@ pub enum Look {
     List(Form),
     /// The components that the images don't show as they are registered.
     Audit(Form),
+}
+
+/// How something is done, whatever it is.
+#[derive(Clone, Copy)]
+pub struct Manner {
+    /// Whether no registry is made, whatever it is for.
+    pub existing: bool,
+    /// Whether sentences say what refusals and faults mean, wherever the complaints go.
+    pub explains: bool,
+    /// For how many seconds a folder or a registry that is in use is tried again.
+    pub wait: u32,
+}
+
+/// What the program is asked to do, and how.
+#[derive(Clone, Copy)]
+pub struct Asked<'a> {
+    pub job: Job<'a>,
+    pub manner: Manner,
 }
 
 /// What the program is asked to do.

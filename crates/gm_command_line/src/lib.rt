@@ -10,6 +10,6 @@ mod reading;
 mod settings;
 mod table;
 
-pub use job::{Comparing, Filling, Form, Job, Look, Scope, Service, Work};
-pub use reading::job_of;
-pub use settings::{REGISTRY, SHELF, Setting, Settings};
+pub use job::{Asked, Comparing, Filling, Form, Job, Look, Manner, Scope, Service, Work};
+pub use reading::asked_of;
+pub use settings::{EXISTING, EXPLAIN, REGISTRY, SHELF, Setting, Settings};

@@ -1,6 +1,6 @@
 //! What the program's own words ask for.
 
-use crate::job::{Comparing, Filling, Form, Job, Look, Scope, Service, Work};
+use crate::job::{Asked, Comparing, Filling, Form, Job, Look, Manner, Scope, Service, Work};
 use crate::settings::{REGISTRY, SHELF, Setting, Settings};
 use crate::table::{DUMP, RECOVER, SCRUB, SYNC, Subcommand, program, program_command};
 use clap::error::ErrorKind;
@@ -269,7 +269,7 @@ fn work_of<'a>(
         "do" => Some(command_of(given, words)),
         "batch" => Some(Work::Batch {
             audits: given.get_flag("audit"),
-            explains: given.get_flag("explain"),
+            stops: given.get_flag("stop"),
         }),
         "sync" => Some(Work::Sync(filling_of(alloc, given, settings)?)),
         "serve" => Some(Work::Serve(service_of(given))),
@@ -321,17 +321,42 @@ fn job_by<'a>(
     }
 }
 
-/// The job that the words ask for, without the program's own name; of options that are left out,
-/// the settings say what stands for them. An `Err` is clap's: the text to print, or of the kind
+// How these matches of the program's words, or else the settings, would have it done.
+fn manner_by(matches: &ArgMatches<'_>, settings: Settings<'_>) -> Manner {
+    let mut manner = manner_of_settings(settings);
+    if let Some((_, given)) = matches.subcommand() {
+        manner.existing |= given.get_flag("existing");
+        manner.explains |= given.get_flag("explain");
+        manner.wait = given.get_one("wait").unwrap_or(0);
+    }
+    manner
+}
+
+fn manner_of_settings(settings: Settings<'_>) -> Manner {
+    Manner {
+        existing: settings.existing.is_on(),
+        explains: settings.explain.is_on(),
+        wait: 0,
+    }
+}
+
+/// What the words ask for, without the program's own name; of options that are left out, the
+/// settings say what stands for them. An `Err` is clap's: the text to print, or of the kind
 /// `OutOfMemory`.
-pub fn job_of<'a>(
+pub fn asked_of<'a>(
     alloc: Global,
     words: &'a [&'a str],
     settings: Settings<'a>,
-) -> Result<Job<'a>, Error> {
+) -> Result<Asked<'a>, Error> {
     if words.is_empty() {
-        return Ok(Job::Introduce);
+        return Ok(Asked {
+            job: Job::Introduce,
+            manner: manner_of_settings(settings),
+        });
     }
     let matches = program_command(alloc, settings)?.try_get_matches_from(words)?;
-    job_by(alloc, &matches, words, settings)
+    Ok(Asked {
+        job: job_by(alloc, &matches, words, settings)?,
+        manner: manner_by(&matches, settings),
+    })
 }

@@ -6,6 +6,12 @@ pub const REGISTRY: &str = "GMBENCH_REGISTRY";
 /// The variable of the environment that stands for `--shelf`.
 pub const SHELF: &str = "GMBENCH_SHELF";
 
+/// The variable of the environment that stands for `--existing`, if it is on.
+pub const EXISTING: &str = "GMBENCH_EXISTING";
+
+/// The variable of the environment that stands for `--explain`, if it is on.
+pub const EXPLAIN: &str = "GMBENCH_EXPLAIN";
+
 /// What a variable of the environment says.
 #[derive(Clone, Copy)]
 pub enum Setting<'a> {
@@ -20,6 +26,11 @@ impl Setting<'_> {
     pub(crate) fn is_unset(self) -> bool {
         matches!(self, Setting::Unset)
     }
+
+    /// Whether it turns something on: it is there, isn't empty, and isn't `0`.
+    pub fn is_on(self) -> bool {
+        !matches!(self, Setting::Unset | Setting::Text("0"))
+    }
 }
 
 /// What stands for the options, each where it is left out.
@@ -27,4 +38,6 @@ impl Setting<'_> {
 pub struct Settings<'a> {
     pub registry: Setting<'a>,
     pub shelf: Setting<'a>,
+    pub existing: Setting<'a>,
+    pub explain: Setting<'a>,
 }

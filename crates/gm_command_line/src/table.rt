@@ -88,8 +88,23 @@ fn audit_option<'a>(alloc: Global) -> Arg<'a> {
 }
 
 fn explain_option<'a>(alloc: Global) -> Arg<'a> {
-    let help = "Says on standard error why a line is refused";
+    let help = "Says on standard error what a refusal or a fault means";
     flag(alloc, "explain", help)
+}
+
+fn stop_option<'a>(alloc: Global) -> Arg<'a> {
+    let help = "Ends at the first line that is refused";
+    flag(alloc, "stop", help)
+}
+
+fn existing_option<'a>(alloc: Global) -> Arg<'a> {
+    let help = "Makes no registry: one that isn't there is a fault";
+    flag(alloc, "existing", help)
+}
+
+fn wait_option<'a>(alloc: Global) -> Arg<'a> {
+    let help = "How long a folder or a registry in use is tried again";
+    with_value(alloc, "wait", "SECONDS", help).value_parser(ValueParser::unsigned(0, 86_400))
 }
 
 fn json_option<'a>(alloc: Global) -> Arg<'a> {
@@ -251,6 +266,7 @@ fn with_image<'a>(
     command
         .arg(shelf_option(alloc, settings))?
         .arg(json_option(alloc))?
+        .arg(explain_option(alloc))?
         .arg(provider_name(alloc))
 }
 
@@ -261,7 +277,8 @@ fn with_folder<'a>(
 ) -> Result<Command<'a>, AllocError> {
     command
         .arg(shelf_option(alloc, settings))?
-        .arg(json_option(alloc))
+        .arg(json_option(alloc))?
+        .arg(explain_option(alloc))
 }
 
 fn with_registry<'a>(
@@ -271,7 +288,9 @@ fn with_registry<'a>(
 ) -> Result<Command<'a>, AllocError> {
     command
         .arg(registry_there(alloc, settings))?
-        .arg(shelf_if_any(alloc))
+        .arg(shelf_if_any(alloc))?
+        .arg(explain_option(alloc))?
+        .arg(wait_option(alloc))
 }
 
 fn with_bench<'a>(
@@ -281,7 +300,22 @@ fn with_bench<'a>(
 ) -> Result<Command<'a>, AllocError> {
     command
         .arg(registry_option(alloc, settings))?
-        .arg(shelf_option(alloc, settings))
+        .arg(shelf_option(alloc, settings))?
+        .arg(existing_option(alloc))?
+        .arg(explain_option(alloc))?
+        .arg(wait_option(alloc))
+}
+
+fn with_bench_there<'a>(
+    alloc: Global,
+    command: Command<'a>,
+    settings: Settings<'a>,
+) -> Result<Command<'a>, AllocError> {
+    command
+        .arg(registry_there(alloc, settings))?
+        .arg(shelf_option(alloc, settings))?
+        .arg(explain_option(alloc))?
+        .arg(wait_option(alloc))
 }
 
 fn with_look<'a>(alloc: Global, command: Command<'a>) -> Result<Command<'a>, AllocError> {
@@ -299,7 +333,7 @@ fn with_command<'a>(alloc: Global, command: Command<'a>) -> Result<Command<'a>, 
 }
 
 fn with_lines<'a>(alloc: Global, command: Command<'a>) -> Result<Command<'a>, AllocError> {
-    command.arg(audit_option(alloc))?.arg(explain_option(alloc))
+    command.arg(audit_option(alloc))?.arg(stop_option(alloc))
 }
 
 fn with_scope<'a>(alloc: Global, command: Command<'a>) -> Result<Command<'a>, AllocError> {
@@ -361,7 +395,12 @@ impl Subcommand {
             Takes::Registry => return with_registry(alloc, command, settings),
             _ => {}
         }
-        let command = with_bench(alloc, command, settings)?;
+        let command = match self.takes {
+            Takes::BenchAndScope | Takes::BenchAndMirror => {
+                with_bench_there(alloc, command, settings)?
+            }
+            _ => with_bench(alloc, command, settings)?,
+        };
         match self.takes {
             Takes::Image | Takes::Folder | Takes::Registry => Ok(command),
             Takes::Bench => with_look(alloc, command),

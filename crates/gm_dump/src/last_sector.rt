@@ -67,7 +67,8 @@ pub fn dump<I, O: Write, E: Write>(
     streams: &mut Streams<'_, I, O, E>,
 ) -> Result<Status, Failure> {
     let alloc = rt.alloc();
-    let mut shelf = FileShelf::look_at(rt, folder, &[provider])?;
+    let opened = FileShelf::look_at(rt, folder, &[provider]);
+    let mut shelf = streams.explaining.heed(rt, folder, opened)?;
     let found = last_sector(&mut shelf, provider);
     streams.explaining.failure = shelf.last_failure();
     match found? {

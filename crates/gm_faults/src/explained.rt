@@ -8,7 +8,7 @@ use gm_process::Streams;
 use gm_sentences::{About, cause_sentence};
 use gm_shelf::ImageFailure;
 use std::alloc::{AllocError, Global};
-use std::io::Write;
+use std::io::{self, Write};
 
 /// Why an opening without an image is refused.
 pub fn explain_loss<I, O, E: Write>(
@@ -52,17 +52,37 @@ pub fn explain_fault<I, O, E: Write>(
     if !streams.explaining.wanted {
         return;
     }
-    match fault {
-        Fault::Bench(fault) => {
+    let _ = write_line(alloc, streams, fault);
+}
+
+// The line of what a fault means: what is known of the file that failed, or the fault's own
+// sentence.
+fn write_line<I, O, E: Write>(
+    alloc: Global,
+    streams: &mut Streams<'_, I, O, E>,
+    fault: &Fault,
+) -> io::Result<()> {
+    let complaints = &mut *streams.complaints;
+    match (fault, &streams.explaining.trouble) {
+        (Fault::Bench(BenchFault::Store), Some(trouble)) => {
+            let number = BenchFault::Store.number();
+            write!(complaints, "F{number}: ")?;
+            trouble.write(complaints)?;
+            writeln!(complaints)
+        }
+        (Fault::Bench(fault), _) => {
             let number = fault.number();
-            if let Ok(sentence) = fault_said(alloc, fault, &streams.explaining.failure) {
-                let _ = writeln!(streams.complaints, "F{number}: {sentence}");
-            }
+            let sentence = fault_said(alloc, fault, &streams.explaining.failure)?;
+            writeln!(complaints, "F{number}: {sentence}")
         }
-        Fault::InputOrOutput => {
-            let cause = streams.explaining.cause;
-            let cause = cause.unwrap_or("a stream or the folder can't be read or written");
-            let _ = writeln!(streams.complaints, "input or output: {cause}");
+        (Fault::InputOrOutput, Some(trouble)) => {
+            write!(complaints, "input or output: ")?;
+            trouble.write(complaints)?;
+            writeln!(complaints)
         }
+        (Fault::InputOrOutput, None) => writeln!(
+            complaints,
+            "input or output: a stream or a port can't be read or written"
+        ),
     }
 }

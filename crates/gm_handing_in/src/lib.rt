@@ -11,6 +11,6 @@ mod explainer;
 mod serving;
 mod single;
 
-pub use batch::hand_in;
+pub use batch::{hand_in, hand_in_until_refused};
 pub use serving::{serve, serve_connections};
 pub use single::hand_in_one;

@@ -9,9 +9,9 @@ ghost use Rattle.gm_looking.specs.Looks.{MayShow};
 use gm_command_line::Look;
 use gm_faults::Fault;
 use gm_looks::{audit_shelf, pending_text, pending_text_on};
-use gm_process::{HeldFolder, Place, Status, Streams, cause_of};
-use gm_registry::Loaded;
-use gm_registry_files::{leave_out_registry, records_of};
+use gm_process::{HeldFolder, Patience, Place, Status, Streams};
+use gm_registry::{Loaded, StoreFault};
+use gm_registry_files::{StoreCause, leave_out_registry, records_of, store_cause};
 use gm_reports::{Report, audit_report, list_report, status_report};
 use gm_shelf::{FileShelf, Shelf};
 use gm_state::Intent;
@@ -63,20 +63,45 @@ fn look_report<H: Shelf>(
 fn hold<I, O, E>(
     rt: &HostRuntime,
     folder: &str,
+    patience: Patience,
     streams: &mut Streams<'_, I, O, E>,
 ) -> Result<HeldFolder, Fault> {
-    match HeldFolder::share(rt, folder) {
-        Ok(held) => Ok(held),
-        Err(e) => {
-            streams.explaining.cause = cause_of(&e);
-            Err(Fault::from(e))
+    let held = HeldFolder::share(rt, folder, patience);
+    Ok(streams.explaining.heed(rt, folder, held)?)
+}
+
+// What a registry holds as it stands; one in use is tried again. Tells why it can't be read.
+fn records_at<I, O, E>(
+    rt: &HostRuntime,
+    registry: &str,
+    patience: Patience,
+    streams: &mut Streams<'_, I, O, E>,
+) -> Result<Loaded, Fault> {
+    let alloc = rt.alloc();
+    for _ in 0..u64::MAX {
+        match records_of(rt, registry) {
+            Err(StoreFault::Store) => {
+                let cause = store_cause(rt, registry);
+                if matches!(cause, Some(StoreCause::InUse)) && patience.pauses(rt) {
+                    continue;
+                }
+                streams.explaining.trouble = cause.and_then(|cause| cause.trouble(alloc, registry));
+                return Err(Fault::from(StoreFault::Store));
+            }
+            records => return Ok(records?),
         }
     }
+    Err(Fault::from(StoreFault::Store))
 }
 
 // The images of a place, to be read alone.
-fn images_at(rt: &HostRuntime, place: Place<'_>) -> Result<FileShelf<HostRuntime>, Fault> {
-    let names = FileShelf::open(rt, place.folder)?.names()?;
+fn images_at<I, O, E>(
+    rt: &HostRuntime,
+    place: Place<'_>,
+    streams: &mut Streams<'_, I, O, E>,
+) -> Result<FileShelf<HostRuntime>, Fault> {
+    let opened = FileShelf::open(rt, place.folder);
+    let names = streams.explaining.heed(rt, place.folder, opened)?.names()?;
     let mut shelf = FileShelf::look_at(rt, place.folder, &names)?;
     leave_out_registry(rt, place.registry, &mut shelf)?;
     Ok(shelf)
@@ -86,9 +111,10 @@ fn images_at(rt: &HostRuntime, place: Place<'_>) -> Result<FileShelf<HostRuntime
 pub fn show_pending<I, O: Write, E>(
     rt: &HostRuntime,
     registry: &str,
+    patience: Patience,
     streams: &mut Streams<'_, I, O, E>,
 ) -> Result<Status, Fault> {
-    let records = records_of(rt, registry)?;
+    let records = records_at(rt, registry, patience, streams)?;
     let report = pending_report(rt.alloc(), &records.intents)?;
     streams.output.write_all(report.text.as_bytes())?;
     Ok(report.status)
@@ -98,11 +124,12 @@ pub fn show_pending<I, O: Write, E>(
 pub fn show_pending_at<I, O: Write, E>(
     rt: &HostRuntime,
     place: Place<'_>,
+    patience: Patience,
     streams: &mut Streams<'_, I, O, E>,
 ) -> Result<Status, Fault> {
-    let _held = hold(rt, place.folder, streams)?;
-    let records = records_of(rt, place.registry)?;
-    let mut shelf = images_at(rt, place)?;
+    let _held = hold(rt, place.folder, patience, streams)?;
+    let records = records_at(rt, place.registry, patience, streams)?;
+    let mut shelf = images_at(rt, place, streams)?;
     let report = pending_report_on(rt.alloc(), &records, &mut shelf);
     streams.explaining.failure = shelf.last_failure();
     let report = report?;
@@ -115,13 +142,14 @@ pub fn look_at<I, O: Write, E: Write>(
     rt: &HostRuntime,
     look: Look,
     place: Place<'_>,
+    patience: Patience,
     streams: &mut Streams<'_, I, O, E>,
 ) -> Result<Status, Fault>
     ensures { IfOk result (MayShow look) }
 {
-    let _held = hold(rt, place.folder, streams)?;
-    let records = records_of(rt, place.registry)?;
-    let mut shelf = images_at(rt, place)?;
+    let _held = hold(rt, place.folder, patience, streams)?;
+    let records = records_at(rt, place.registry, patience, streams)?;
+    let mut shelf = images_at(rt, place, streams)?;
     let report = look_report(rt.alloc(), look, &records, &mut shelf);
     streams.explaining.failure = shelf.last_failure();
     let report = report?;

@@ -27,7 +27,8 @@ pub fn taste_folder<I, O: Write, E>(
     streams: &mut Streams<'_, I, O, E>,
 ) -> Result<Status, Fault> {
     let alloc = rt.alloc();
-    let names = FileShelf::open(rt, folder)?.names()?;
+    let opened = FileShelf::open(rt, folder);
+    let names = streams.explaining.heed(rt, folder, opened)?.names()?;
     let passed = passed_over(rt, folder, &names)?;
     let mut shelf = FileShelf::look_at(rt, folder, &names)?;
     let tasted = taste_shelf(alloc, &mut shelf);

@@ -1,6 +1,6 @@
 //! What the environment says in the place of options that are left out.
 
-use gm_command_line::{REGISTRY, SHELF, Setting, Settings};
+use gm_command_line::{EXISTING, EXPLAIN, REGISTRY, SHELF, Setting, Settings};
 use std::alloc::AllocError;
 use std::env::{self, VarError};
 
@@ -37,6 +37,8 @@ impl Variable {
 pub struct Environment {
     registry: Variable,
     shelf: Variable,
+    existing: Variable,
+    explain: Variable,
 }
 
 impl Environment {
@@ -45,6 +47,8 @@ impl Environment {
         Ok(Environment {
             registry: Variable::find(rt, REGISTRY)?,
             shelf: Variable::find(rt, SHELF)?,
+            existing: Variable::find(rt, EXISTING)?,
+            explain: Variable::find(rt, EXPLAIN)?,
         })
     }
 
@@ -53,6 +57,8 @@ impl Environment {
         Settings {
             registry: self.registry.setting(),
             shelf: self.shelf.setting(),
+            existing: self.existing.setting(),
+            explain: self.explain.setting(),
         }
     }
 }

@@ -4,21 +4,27 @@
 //! `status.rt` has the exit statuses, `failure.rt` what can fail, `streams.rt` the streams and what
 //! is explained beside them, and `meter.rt` tells how far a long work is. `environment.rt` finds
 //! the variables, `place.rt` has the paths of a bench, and `held_folder.rt` holds a folder of
-//! images.
+//! images; `patience.rt` says how long one in use is tried again, `folder_cause.rt` why one can't
+//! be used, and `trouble.rt` tells that.
 #![tactic(auto)]
 
 mod environment;
 mod failure;
+mod folder_cause;
 mod held_folder;
 mod meter;
+mod patience;
 mod place;
 mod status;
 mod streams;
+mod trouble;
 
 pub use environment::Environment;
 pub use failure::Failure;
-pub use held_folder::{HeldFolder, cause_of};
+pub use held_folder::HeldFolder;
 pub use meter::{Meter, Style};
+pub use patience::Patience;
 pub use place::Place;
 pub use status::Status;
 pub use streams::{Explaining, Streams};
+pub use trouble::Trouble;

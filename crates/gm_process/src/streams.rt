@@ -1,8 +1,13 @@
 //! The streams that the program is run over, and what is explained beside them.
 
+ghost use Rattle.std.specs.Prelude.{◌≡◌};
+
+use crate::folder_cause::folder_trouble;
 use crate::meter::Style;
+use crate::trouble::Trouble;
 use gm_shelf::ImageFailure;
 use std::alloc::Global;
+use std::io;
 
 /// What is explained on the complaints, beside the lines that the program's numbers are on.
 #[derive(Drop)]
@@ -13,8 +18,8 @@ pub struct Explaining {
     pub at_terminal: bool,
     /// The folder with the images.
     pub folder: String,
-    /// Why the folder or a stream failed, where more is known of it.
-    pub cause: Option<&'static str>,
+    /// Which file failed and why, where more is known of it: the folder, a stream or the registry.
+    pub trouble: Option<Trouble>,
     /// Which image failed last, and why, where one has.
     pub failure: Option<ImageFailure>,
 }
@@ -26,9 +31,20 @@ impl Explaining {
             wanted: at_terminal,
             at_terminal,
             folder: String::new(alloc),
-            cause: None,
+            trouble: None,
             failure: None,
         }
+    }
+
+    /// Hands on how a call on the folder of images went, and keeps what is known of one that
+    /// failed.
+    pub fn heed<T>(&mut self, rt: &HostRuntime, folder: &str, done: io::Result<T>) -> io::Result<T>
+        ensures { result ≡ done }
+    {
+        if let Err(error) = &done {
+            self.trouble = folder_trouble(rt, folder, error);
+        }
+        done
     }
 
     /// How it is told how far something is.

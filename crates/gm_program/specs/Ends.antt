@@ -21,6 +21,6 @@ MayEnd (work.List form) status = status ≡ Done
 MayEnd (work.Audit form) status = MayRefuse status
 MayEnd (work.Scrub comparing) status = MayRefuse status
 MayEnd (work.Do key words) status = MayRefuse status
-MayEnd (work.Batch audits explains) status = MayRefuse status
+MayEnd (work.Batch audits stops) status = MayRefuse status
 MayEnd (work.Sync filling) status = MayRefuse status
 MayEnd (work.Serve service) status = MayServe service.audits status

@@ -10,7 +10,7 @@ use gm_bench::Bench;
 use gm_command_line::Work;
 use gm_faults::Fault;
 use gm_filling::fill_components;
-use gm_handing_in::{hand_in, hand_in_one, serve};
+use gm_handing_in::{hand_in, hand_in_one, hand_in_until_refused, serve};
 use gm_looking::{damage, scrub};
 use gm_process::{Status, Streams};
 use gm_reports::{Report, audit_report, list_report, status_report};
@@ -61,11 +61,15 @@ pub fn perform<S: Alter, H: Shelf, I: BufRead, O: Write, E: Write>(
             let status = hand_in_one(rt, key, words, bench, streams)?;
             Ok(told(alloc, status))
         }
-        Work::Batch { audits, .. } => {
+        Work::Batch { audits, stops } => {
             if let Some(report) = damage(alloc, bench, audits)? {
                 return Ok(report);
             }
-            let status = hand_in(rt, bench, streams)?;
+            let status = if stops {
+                hand_in_until_refused(rt, bench, streams)?
+            } else {
+                hand_in(rt, bench, streams)?
+            };
             Ok(told(alloc, status))
         }
         Work::Sync(filling) => fill_components(rt, filling, bench, streams),

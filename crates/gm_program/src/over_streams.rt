@@ -1,13 +1,13 @@
 //! All that the program does, over any streams.
 
-use crate::place::work_at;
+use crate::place::{Terms, work_at};
 use clap::Error;
 use clap::error::ErrorKind;
-use gm_command_line::{Job, Work, job_of};
+use gm_command_line::{Asked, Job, Work, asked_of};
 use gm_dump::dump;
 use gm_faults::{Fault, explain_fault};
 use gm_looking::{look_at, show_pending, show_pending_at, taste_folder};
-use gm_process::{Environment, Place, Status, Streams};
+use gm_process::{Environment, Patience, Place, Status, Streams};
 use std::io::{BufRead, Write};
 
 // Prints what clap has to say, on the stream where it belongs.
@@ -29,10 +29,12 @@ fn print_error<O: Write, E: Write>(
 
 fn perform<I: BufRead, O: Write, E: Write>(
     rt: &HostRuntime,
-    job: &Job<'_>,
+    asked: &Asked<'_>,
     streams: &mut Streams<'_, I, O, E>,
 ) -> Result<Status, Fault> {
-    match *job {
+    let patience = Patience::begin(rt, asked.manner.wait);
+    streams.explaining.wanted |= asked.manner.explains;
+    match asked.job {
         Job::Introduce => {
             writeln!(streams.output, "gmbench: GEOM_MIRROR version 4")?;
             Ok(Status::Done)
@@ -46,25 +48,28 @@ fn perform<I: BufRead, O: Write, E: Write>(
         Job::Pending {
             registry,
             folder: None,
-        } => show_pending(rt, registry, streams),
+        } => show_pending(rt, registry, patience, streams),
         Job::Pending {
             registry,
             folder: Some(folder),
-        } => show_pending_at(rt, Place { registry, folder }, streams),
+        } => show_pending_at(rt, Place { registry, folder }, patience, streams),
         Job::LookAt {
             look,
             registry,
             folder,
-        } => look_at(rt, look, Place { registry, folder }, streams),
+        } => look_at(rt, look, Place { registry, folder }, patience, streams),
         Job::AtBench {
             ref work,
             registry,
             folder,
         } => {
-            let explains = matches!(*work, Work::Do { .. } | Work::Batch { explains: true, .. });
-            streams.explaining.wanted |= explains;
+            streams.explaining.wanted |= matches!(*work, Work::Do { .. });
             streams.explaining.folder = String::from_str(rt.alloc(), folder)?;
-            work_at(rt, Place { registry, folder }, work, streams)
+            let terms = Terms {
+                makes: work.makes_registry() && !asked.manner.existing,
+                patience,
+            };
+            work_at(rt, Place { registry, folder }, terms, work, streams)
         }
     }
 }
@@ -75,8 +80,8 @@ fn run<I: BufRead, O: Write, E: Write>(
     streams: &mut Streams<'_, I, O, E>,
 ) -> Result<Status, Fault> {
     let environment = Environment::find(rt)?;
-    let done = match job_of(rt.alloc(), words, environment.settings()) {
-        Ok(job) => perform(rt, &job, streams),
+    let done = match asked_of(rt.alloc(), words, environment.settings()) {
+        Ok(asked) => perform(rt, &asked, streams),
         Err(error) => print_error(&error, streams.output, streams.complaints),
     };
     // What was printed before a fault is to be seen as well.

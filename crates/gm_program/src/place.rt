@@ -11,15 +11,15 @@ use gm_bench::{Bench, BenchFault, Without};
 use gm_command_line::Work;
 use gm_faults::{Fault, explain_loss};
 use gm_metadata::Label;
-use gm_process::{HeldFolder, Place, Status, Streams, cause_of};
+use gm_process::{HeldFolder, Patience, Place, Status, Streams};
 use gm_registry::StoreFault;
-use gm_registry_files::{is_there, leave_out_registry};
+use gm_registry_files::{StoreCause, is_no_database, is_there, leave_out_registry, store_cause};
 use gm_reports::Report;
 use gm_shelf::FileShelf;
-use sqlite::{Alter, Connection, FileStore};
+use sqlite::{Alter, Connection, Error, ErrorCode, File, FileStore};
 use sqlite_disk::Disk;
 use std::alloc::Global;
-use std::io::{BufRead, Write};
+use std::io::{self, BufRead, Write};
 
 // Opens a bench without a provider, and gives its store back with what is told of that.
 fn without<S: Alter + Drop, I, O, E: Write>(
@@ -115,24 +115,108 @@ fn at_files<D: Disk + Drop, I: BufRead, O: Write, E: Write>(
     Ok(report)
 }
 
+/// On which terms a bench is opened.
+#[derive(Clone, Copy)]
+pub struct Terms {
+    /// Whether a registry is made where there is none.
+    pub makes: bool,
+    /// For how long a folder or a registry that is in use is tried again.
+    pub patience: Patience,
+}
+
+// Opens a registry over files; one in use is tried again.
+fn open_patiently(
+    rt: &HostRuntime,
+    registry: &str,
+    patience: Patience,
+) -> Result<Connection<FileStore<File>>, Error> {
+    let busy = Error::SqliteFailure(ErrorCode::DatabaseBusy);
+    for _ in 0..u64::MAX {
+        match Connection::open(rt, registry) {
+            Err(e) if e == busy && patience.pauses(rt) => {}
+            opened => return opened,
+        }
+    }
+    Err(busy)
+}
+
+// Why a registry isn't opened at all: none is made where none is to be, and nothing of a file that
+// is no registry is touched.
+fn obstacle(rt: &HostRuntime, registry: &str, was_there: bool, makes: bool) -> Option<StoreCause> {
+    if !was_there && !makes {
+        return Some(StoreCause::Missing);
+    }
+    if is_no_database(rt, registry) {
+        return Some(StoreCause::NoDatabase);
+    }
+    None
+}
+
+// Why a registry couldn't be opened, by SQLite's answer and a look at its files.
+fn cause_of(rt: &HostRuntime, registry: &str, error: Error) -> Option<StoreCause> {
+    match error {
+        Error::SqliteFailure(ErrorCode::DatabaseBusy) => Some(StoreCause::InUse),
+        Error::SqliteFailure(ErrorCode::DiskFull) => Some(StoreCause::Full),
+        _ => match store_cause(rt, registry) {
+            Some(StoreCause::Missing) => Some(StoreCause::NotMade),
+            cause => cause,
+        },
+    }
+}
+
 // Alone in naming a registry over files. Whoever mistyped its path made a new one, and is told so.
+fn open_registry<I, O, E: Write>(
+    rt: &HostRuntime,
+    registry: &str,
+    terms: Terms,
+    streams: &mut Streams<'_, I, O, E>,
+) -> Result<Connection<FileStore<File>>, StoreFault> {
+    let alloc = rt.alloc();
+    let was_there = is_there(rt, registry);
+    if let Some(cause) = obstacle(rt, registry, was_there, terms.makes) {
+        streams.explaining.trouble = cause.trouble(alloc, registry);
+        return Err(StoreFault::Store);
+    }
+    match open_patiently(rt, registry, terms.patience) {
+        Ok(store) => {
+            if !was_there {
+                let _ = writeln!(streams.complaints, "a new registry was made at {registry}");
+            }
+            Ok(store)
+        }
+        Err(error) => {
+            let cause = cause_of(rt, registry, error);
+            streams.explaining.trouble = cause.and_then(|cause| cause.trouble(alloc, registry));
+            Err(StoreFault::from(error))
+        }
+    }
+}
+
+// Has the work done with a registry that is opened and closed again.
 fn report_of<I: BufRead, O: Write, E: Write>(
     rt: &HostRuntime,
     registry: &str,
     mut shelf: FileShelf<HostRuntime>,
+    terms: Terms,
     work: &Work<'_>,
     streams: &mut Streams<'_, I, O, E>,
 ) -> Result<Report, Fault>
     ensures { IfOk result (λ report. MayEnd work.now report.status) }
 {
-    let was_there = is_there(rt, registry);
-    let store = Connection::open(rt, registry).map_err(StoreFault::from)?;
+    let store = open_registry(rt, registry, terms, streams)?;
     leave_out_registry(rt, registry, &mut shelf)?;
-    let report = at_files(rt, store, shelf, work, streams);
-    if streams.explaining.wanted && !was_there && is_there(rt, registry) {
-        let _ = writeln!(streams.complaints, "a new registry was made at {registry}");
-    }
-    report
+    at_files(rt, store, shelf, work, streams)
+}
+
+// The images of a folder, which is held. One that can't be listed is told before the registry is
+// looked for.
+fn images_at(
+    rt: &HostRuntime,
+    folder: &str,
+    patience: Patience,
+) -> io::Result<(HeldFolder, FileShelf<HostRuntime>)> {
+    let held = HeldFolder::hold(rt, folder, patience)?;
+    Ok((held, FileShelf::open(rt, folder)?))
 }
 
 /// Opens the bench of a place, which carries out what is pending, has the work done at it, and
@@ -141,21 +225,15 @@ fn report_of<I: BufRead, O: Write, E: Write>(
 pub fn work_at<I: BufRead, O: Write, E: Write>(
     rt: &HostRuntime,
     place: Place<'_>,
+    terms: Terms,
     work: &Work<'_>,
     streams: &mut Streams<'_, I, O, E>,
 ) -> Result<Status, Fault>
     ensures { IfOk result (MayEnd work.now) }
 {
-    let _held = match HeldFolder::hold(rt, place.folder) {
-        Ok(held) => held,
-        Err(e) => {
-            streams.explaining.cause = cause_of(&e);
-            return Err(Fault::from(e));
-        }
-    };
-    // A folder that can't be listed is told before the registry is looked for.
-    let shelf = FileShelf::open(rt, place.folder)?;
-    let report = report_of(rt, place.registry, shelf, work, streams)?;
+    let images = images_at(rt, place.folder, terms.patience);
+    let (_held, shelf) = streams.explaining.heed(rt, place.folder, images)?;
+    let report = report_of(rt, place.registry, shelf, terms, work, streams)?;
     streams.output.write_all(report.text.as_bytes())?;
     Ok(report.status)
 }

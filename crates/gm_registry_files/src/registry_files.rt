@@ -19,9 +19,13 @@ pub(crate) fn file_fault(error: io::Error) -> StoreFault
     }
 }
 
-/// Whether there is a registry's file.
+/// Whether something lies where a registry is to be, by whatever path it is named. What the system
+/// doesn't say isn't there may be.
 pub fn is_there(rt: &HostRuntime, registry: &str) -> bool {
-    fs::symlink_metadata(rt, registry).is_ok()
+    match fs::metadata(rt, registry) {
+        Err(e) => e.kind() != ErrorKind::NotFound,
+        Ok(_) => true,
+    }
 }
 
 // The files of a registry that is there: its own, by whatever path it is named, and those that

@@ -41,7 +41,23 @@ for file in text database; do
         at_bench $command </dev/null
         expect "a $command over somebody's $file" 3 '' "$fault"
         expect_same "it leaves the $file" "$registry" "$work/kept-file"
+        [ $file = database ] || expect_none "it puts nothing beside the $file" "$registry-wal"
     done
+done
+
+# Bytes that no database begins with, at whatever place: the first, one in the middle, the last, and of a short file.
+for bytes in 'XQLite format 3\000' 'SQLite gormat 3\000' 'SQLite format 3\001' 'SQLX'; do
+    registry=$bench/images/first-bytes
+    printf "$bytes" >"$registry"
+    head -c 4096 /dev/zero >>"$registry"
+    cp "$registry" "$work/kept-file"
+    printf log >"$registry-wal"
+    at_bench status --explain
+    expect "a file that begins with $bytes" 3 '' "gmbench: F2 store
+F2: $registry isn't a registry: no database begins as it does"
+    expect_same "it is left, $bytes" "$registry" "$work/kept-file"
+    printf log >"$work/kept-file"
+    expect_same "what lies beside it is left, $bytes" "$registry-wal" "$work/kept-file"
 done
 for registry in "$bench/nowhere/registry" "$bench/images" '' :memory:; do
     at_bench recover

@@ -21,7 +21,9 @@ class Bench:
             [self.program, words[0], *place, *words[1:]], input=lines, capture_output=True, timeout=30,
             env={**os.environ, **environment},
         )
-        return done.returncode, done.stdout.decode(), done.stderr.decode()
+        # The registry is new in some of the runs.
+        complaints = done.stderr.decode().removeprefix(f"a new registry was made at {self.registry}\n")
+        return done.returncode, done.stdout.decode(), complaints
 
     def count(self):
         """The number that a preloaded library wrote at the end of the last run."""

@@ -248,7 +248,7 @@ for asked, expected in zip(lines, wanted):
         wrong.append(f"{asked[:200]!r} was answered {found!r}, and not {expected!r}")
 if told[at:] != [b""]:
     wrong.append(f"it printed {len(told) - at - 1} lines more")
-if done.returncode != 1 or done.stderr:
+if done.returncode != 1 or done.stderr != f"a new registry was made at {os.path.join(bench, 'registry')}\n".encode():
     wrong.append(f"it ended with {done.returncode}, {done.stderr[:200]!r}")
 kinds = {}
 for it in wanted:

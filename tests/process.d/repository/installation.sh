@@ -212,6 +212,16 @@ expect 'a file that somebody changed: removing' 1 "$(removals "$work/changed" |
 (cd "$work/changed" && find . -type f) >"$work/after"
 expect_lines 'a file that somebody changed stays' "$work/after" ./share/man/man8/gmbench.8
 
+# A list that somebody changed, so that it names folders that lie elsewhere.
+mkdir -p "$work/elsewhere/bin" "$work/beside"
+install "$work/elsewhere/below"
+printf '%s\n' 'folder ../bin' 'folder share/../../../beside' 'folder ..' 'above x' >>"$work/elsewhere/below/share/gmbench/installed"
+install --remove "$work/elsewhere/below"
+expect 'a list with paths that lead out: removing' 0 "$(removals "$work/elsewhere/below")" ''
+[ -d "$work/elsewhere/bin" ] && [ -d "$work/beside" ] && pass 'a list with paths that lead out: what is elsewhere stays' ||
+    fail 'a list with paths that lead out: what is elsewhere stays' "$(ls "$work/elsewhere" "$work")"
+expect_none 'a list with paths that lead out: what was made is gone' "$work/elsewhere/below"
+
 # ---- over what is there, and where names have spaces
 
 mkdir -p "$work/older/bin" "$work/older/share/man/man8"
@@ -347,6 +357,27 @@ for call in 1 3 5; do
     )
     expect_lines "ended while file $call was written: its status" "$work/status" 1
     expect_older "ended while file $call was written"
+done
+# The same, but it does first what it is called for.
+stand_in_behind() {
+    stand_in "$1" 0 "$3"
+    cat >"$work/path/$1" <<END
+#!/bin/sh
+echo >>"$work/calls"
+PATH=${PATH#"$work/path:"} $1 "\$@" || exit
+[ "\$(wc -l <"$work/calls")" != $2 ] || kill -$3 \$PPID
+END
+    chmod +x "$work/path/$1"
+}
+for call in 1 2 4; do
+    stand_in_behind mkdir "$call" TERM
+    (
+        PATH=$work/path:$PATH
+        install "$work/new/below"
+        echo "$status" >"$work/status"
+    )
+    expect_lines "ended when folder $call was made: its status" "$work/status" 1
+    expect_none "ended when folder $call was made: none is left" "$work/new"
 done
 # The list and the program are renamed by then, and the page isn't.
 stand_in mv 3 KILL

@@ -68,10 +68,10 @@ grow_memory() {
         if [ "$status" -le 3 ] && [ -z "$least" ]; then
             least=$kilobytes
         fi
-        if [ "$status" = 3 ] && [ "$(cat "$work/complaints")" = "$no_memory" ] &&
+        if [ "$status" = 3 ] && [ "$(grep -v "^$made" "$work/complaints")" = "$no_memory" ] &&
             { [ ! -s "$work/output" ] || [ "$(cat "$work/output")" = "$told" ]; }; then
             refused=$((refused + 1))
-        elif [ "$status" = 0 ] && [ "$(cat "$work/output")" = "$lines" ] && [ ! -s "$work/complaints" ]; then
+        elif [ "$status" = 0 ] && [ "$(cat "$work/output")" = "$lines" ] && ! grep -qv "^$made" "$work/complaints"; then
             answered=yes
         elif [ "$status" -gt 128 ] && [ ! -s "$work/output" ] && [ "$kilobytes" -le $((${least:-$kilobytes} + 64)) ]; then
             :

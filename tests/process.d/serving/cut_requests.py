@@ -62,6 +62,8 @@ def serve(requests, **more):
         port = int(server.stdout.readline().rsplit(b":", 1)[1])
         answers = [ask(port, request) for request in requests]
         _, complaints = server.communicate(timeout=30)
+        # The registry is new in some of the runs.
+        complaints = complaints.removeprefix(f"a new registry was made at {registry}\n".encode())
         return answers, (server.returncode, complaints)
 
 

@@ -118,13 +118,13 @@ at_terminal() {
 if command -v script >/dev/null; then
     at_terminal 80 status --registry "$registry" --shelf "$work/nowhere"
     expect 'a folder that is not there' 3 '' "$broken
-input or output: the folder with the images isn't there"
+input or output: there is no folder $work/nowhere"
     at_terminal 80 dump --shelf "$bench/images" c.img
     expect 'a dump of nothing' 1 'refused 8' "refused 8: c.img isn't on the shelf"
     printf 'no database, whatever it is' >"$work/none"
     at_terminal 80 status --registry "$work/none" --shelf "$bench/images"
     expect 'a file that is no registry' 3 '' "gmbench: F2 store
-F2: the registry isn't one, or can't be read or written"
+F2: $work/none isn't a registry: no database begins as it does"
     stopped_remove gone
     rm "$bench/images/b.img"
     at_terminal 80 recover --registry "$registry" --shelf "$bench/images"

@@ -72,7 +72,7 @@ while read -r option; do
     section DESCRIPTION | sed -n '/^\.It /p; s/.*\(Fl -[a-z-]*\).*/\1/p' | grep -qE "(Fl|,) ${option#-}( |\$)" &&
         pass "what $option is for is said" || fail "what $option is for is said" 'the description lacks it'
 done <"$work/options"
-for variable in GMBENCH_REGISTRY GMBENCH_SHELF; do
+for variable in GMBENCH_REGISTRY GMBENCH_SHELF GMBENCH_EXISTING GMBENCH_EXPLAIN; do
     section ENVIRONMENT | grep -qx "\.It Ev $variable" && pass "it names $variable" ||
         fail "it names $variable" 'it does not'
 done

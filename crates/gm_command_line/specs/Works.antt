@@ -1,0 +1,24 @@
+-- Which work makes the registry that it finds missing.
+use Rattle.std.specs.Prelude.{ℕ, Bool, true, false, ◌||◌, List, [], ◌∷◌, codes}
+use Rattle.std.specs.Borrow.{Bor}
+use Rattle.std.specs.Str.{bytes_eq}
+use Rattle.gm_command_line.specs.declared.job.Work.{Work}
+use Rattle.gm_command_line.specs.declared.job.Work.TheVariants as work
+
+-- the first word is that of a command which registers a mirror
+abbrev pub registers : List (Bor (List ℕ)) → Bool
+registers [] = false
+registers (word ∷ _) = bytes_eq word.now (codes "label") || bytes_eq word.now (codes "adopt")
+
+-- all but what fills or compares components, and a command at mirrors that are registered already
+abbrev pub makes_registry : Work → Bool
+makes_registry (work.Sync filling) = false
+makes_registry (work.Scrub comparing) = false
+makes_registry (work.Do key words) = registers words.now
+makes_registry work.Recover = true
+makes_registry (work.RecoverWithout provider key) = true
+makes_registry (work.Status form) = true
+makes_registry (work.List form) = true
+makes_registry (work.Audit form) = true
+makes_registry (work.Batch audits stops) = true
+makes_registry (work.Serve service) = true
