@@ -10,7 +10,7 @@ _gmbench_options() {
         scrub) echo --registry --shelf --json --quiet --help ;;
         batch) echo --registry --shelf --audit --explain --help ;;
         sync) echo --registry --shelf --unchecked --quiet --help ;;
-        serve) echo --registry --shelf --port --count --log --audit --help ;;
+        serve) echo --registry --shelf --port --count --log --audit --any-origin --help ;;
     esac
 }
 

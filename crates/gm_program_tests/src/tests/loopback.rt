@@ -62,6 +62,7 @@ fn serves<S: Alter, H: Shelf>(
         count,
         logs: false,
         audits: false,
+        any_origin: false,
     };
     let mut log = Vec::new(rt.alloc());
     match bench.phase() {
