@@ -7,7 +7,7 @@ ghost use Rattle.gm_process.specs.declared.status.Status.TheVariants.{Done};
 
 use gm_bench::{Bench, BenchFault};
 use gm_command_line::Service;
-use gm_connections::{Incoming, Outgoing, Told, end, write_line};
+use gm_connections::{Incoming, Log, Outgoing, Told, end};
 use gm_faults::Fault;
 use gm_front::{FrontFault, Response, Served, serve_request, serve_request_unless_page};
 use gm_process::{Status, Streams};
@@ -66,7 +66,7 @@ fn serve_connection<S: Alter, H: Shelf, E: Write>(
     stream: &TcpStream,
     service: Service,
     bench: &mut Bench<S, H>,
-    log: &mut E,
+    log: &mut Log<'_, E>,
 ) -> Option<BenchFault>
     requires { TakesCommands (progress_of bench.old) }
     ensures { TakesCommands (progress_of bench.new) }
@@ -83,7 +83,7 @@ fn serve_connection<S: Alter, H: Shelf, E: Write>(
         bench,
     );
     if service.logs {
-        write_line(rt, log, incoming.beginning(), told(served.response));
+        log.tell(rt, incoming.beginning(), told(served.response));
     }
     if served.response.is_ok() {
         let _ = end(rt, stream);
@@ -98,7 +98,7 @@ pub fn serve_connections<S: Alter, H: Shelf, E: Write>(
     listener: &TcpListener,
     service: Service,
     bench: &mut Bench<S, H>,
-    log: &mut E,
+    log: &mut Log<'_, E>,
 ) -> Result<Status, Fault>
     requires { TakesCommands (progress_of bench.old) }
     ensures { IfOk result (λ status. status ≡ Done) }
@@ -135,5 +135,8 @@ pub fn serve<S: Alter, H: Shelf, I: Read, O: Write, E: Write>(
     let port = listener.local_addr()?.port();
     writeln!(streams.output, "listening on 127.0.0.1:{port}")?;
     streams.output.flush()?;
-    serve_connections(rt, &listener, service, bench, streams.complaints)
+    let mut log = Log::on_standard_error(&mut *streams.complaints);
+    let served = serve_connections(rt, &listener, service, bench, &mut log);
+    log.end(rt);
+    served
 }
