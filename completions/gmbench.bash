@@ -11,7 +11,7 @@ _gmbench_options() {
         do) echo --registry --shelf --existing --explain --wait --help ;;
         batch) echo --registry --shelf --existing --explain --wait --audit --stop --help ;;
         sync) echo --registry --shelf --explain --wait --unchecked --quiet --help ;;
-        serve) echo --registry --shelf --existing --explain --wait --port --count --log --audit --help ;;
+        serve) echo --registry --shelf --existing --explain --wait --port --count --log --audit --any-origin --help ;;
     esac
 }
 

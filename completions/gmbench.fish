@@ -114,6 +114,7 @@ complete -c gmbench -n '__gmbench_in recover' -l key -x -d 'The key under which 
 complete -c gmbench -n '__gmbench_in serve' -l port -x -d 'The port on 127.0.0.1'
 complete -c gmbench -n '__gmbench_in serve' -l count -x -d 'How many connections are served'
 complete -c gmbench -n '__gmbench_in serve' -l log -d 'Log each connection'
+complete -c gmbench -n '__gmbench_in serve' -l any-origin -d 'Answer web pages too'
 
 # Images, where a subcommand wants one.
 complete -c gmbench -n '__gmbench_behind dump 0' -a '(__gmbench_images)' -d Image

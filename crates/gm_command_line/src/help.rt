@@ -128,7 +128,9 @@ connection after the other:
   POST /commands                   carries out {\"key\":\"KEY\",\"words\":[\"COMMAND\",..]},
                                    the words of a batch's line, cut at its spaces
 
-Who can reach the port can change the images: it asks nobody who they are.
+Who can reach the port can change the images: it asks nobody who they are. Web pages are turned
+away with 403: what has a field Origin, or Sec-Fetch-Site other than none, or a Host whose name
+has a dot. With --any-origin they are answered.
 
 Example:
   gmbench serve --registry registry --shelf images --port 8080 --count 1 &

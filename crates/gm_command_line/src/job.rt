@@ -26,6 +26,8 @@ pub struct Service {
     pub logs: bool,
     /// Whether the images are audited first, and nothing is served where the audit lists any.
     pub audits: bool,
+    /// Whether requests that web pages sent are served too.
+    pub any_origin: bool,
 }
 
 /// In which form something is printed.

@@ -174,6 +174,7 @@ fn service_of(given: &ArgMatches<'_>) -> Service {
         count: given.get_one("count").unwrap_or(u32::MAX),
         logs: given.get_flag("log"),
         audits: given.get_flag("audit"),
+        any_origin: given.get_flag("any-origin"),
     }
 }
 

@@ -82,6 +82,11 @@ fn log_option<'a>(alloc: Global) -> Arg<'a> {
     flag(alloc, "log", help)
 }
 
+fn origin_option<'a>(alloc: Global) -> Arg<'a> {
+    let help = "Answers web pages too, which are turned away without it";
+    flag(alloc, "any-origin", help)
+}
+
 fn audit_option<'a>(alloc: Global) -> Arg<'a> {
     let help = "Audits the images first, and carries out nothing where it lists any";
     flag(alloc, "audit", help)
@@ -356,7 +361,8 @@ fn with_requests<'a>(alloc: Global, command: Command<'a>) -> Result<Command<'a>,
         .arg(port_option(alloc))?
         .arg(count_option(alloc))?
         .arg(log_option(alloc))?
-        .arg(audit_option(alloc))
+        .arg(audit_option(alloc))?
+        .arg(origin_option(alloc))
 }
 
 impl Subcommand {

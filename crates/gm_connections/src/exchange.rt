@@ -7,6 +7,9 @@ use std::time::{Duration, Instant};
 // How many seconds a request may take to come, and a response to be taken.
 const PATIENCE: u64 = 10;
 
+// How many seconds a request may take to begin to come.
+const FIRST_PATIENCE: u64 = 2;
+
 // For how many seconds what still comes behind a response is taken, and how many bytes of it.
 const LINGERING: u64 = 2;
 
@@ -42,11 +45,12 @@ impl<'a> Deadline<'a> {
     }
 }
 
-/// The side of a connection from which a request is read, in ten seconds in all. It keeps the
-/// beginning of what was read, for the log.
+/// The side of a connection from which a request is read: its first byte in two seconds, and all of
+/// it in ten. It keeps the beginning of what was read, for the log.
 #[derive(Drop)]
 pub struct Incoming<'a> {
     stream: &'a TcpStream,
+    first: Deadline<'a>,
     deadline: Deadline<'a>,
     line: [u8; LINE_BYTES],
     kept: usize,
@@ -57,6 +61,7 @@ impl<'a> Incoming<'a> {
     pub fn begin(rt: &'a HostRuntime, stream: &'a TcpStream) -> io::Result<Incoming<'a>> {
         Ok(Incoming {
             stream,
+            first: Deadline::within(rt, FIRST_PATIENCE)?,
             deadline: Deadline::within(rt, PATIENCE)?,
             line: [0; LINE_BYTES],
             kept: 0,
@@ -66,6 +71,15 @@ impl<'a> Incoming<'a> {
     /// The beginning of what was read.
     pub fn beginning(&self) -> &[u8] {
         self.line.get(..self.kept).unwrap_or(&[])
+    }
+
+    // What is left of the time for what is missing.
+    fn left(&self) -> io::Result<Duration> {
+        if self.kept == 0 {
+            self.first.left()
+        } else {
+            self.deadline.left()
+        }
     }
 
     // Keeps as much of the bytes as there is room for.
@@ -82,7 +96,7 @@ impl<'a> Incoming<'a> {
 
 impl Read for Incoming<'_> {
     fn read(&mut self, buf: &mut [u8]) -> io::Result<usize> {
-        self.stream.set_read_timeout(Some(self.deadline.left()?))?;
+        self.stream.set_read_timeout(Some(self.left()?))?;
         let count = (&mut &*self.stream).read(buf)?;
         self.keep(&buf[..count]);
         Ok(count)

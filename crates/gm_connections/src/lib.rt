@@ -8,4 +8,4 @@ mod exchange;
 mod log;
 
 pub use exchange::{Incoming, Outgoing, end};
-pub use log::{Told, write_line};
+pub use log::{Log, Told};

@@ -1,5 +1,6 @@
 pub mod BatchRuns
 pub mod Found
+pub mod Pages
 pub mod Requests
 pub mod RequestsServed
 pub mod ServedRuns

@@ -17,8 +17,8 @@ use Rattle.gm_front.specs.Batch.{AppendsFront}
 use Rattle.gm_front.specs.Demands.{Demand, TurnedDown, AllMirrors, OneMirror, LastSector, NoCommand, Carry, Told, Responds, demand_of}
 use Rattle.gm_front.specs.Findings.{Fails}
 use Rattle.gm_front.specs.HandedIn.{IsAtRestBehind}
-use Rattle.gm_front.specs.ServedRuns.{calls_in, IsStoppedIn, IsServed, ServedLeaves}
-use Rattle.gm_front.specs.Services.{Serves, Tells}
+use Rattle.gm_front.specs.ServedRuns.{calls_in, IsStoppedIn, IsServed, ServedLeaves, ServedUnlessPage}
+use Rattle.gm_front.specs.Services.{Serves, ServesUnlessPage, Tells}
 use Rattle.gm_front.proofs.BatchRuns.{one_call, stopped_at}
 
 module _ {S H : Type 0} (g : Ghosts S) (view : H → View) (size : H → Sizes) (all : Sizes)
@@ -112,3 +112,9 @@ module _ {S H : Type 0} (g : Ghosts S) (view : H → View) (size : H → Sizes) 
       inr (served input (AppendsFront before now) (λ n. Unit {0}) it)
   served_leaves input before now (Err Write) it =
       served input (AppendsFront before now) (λ n. Unit {0}) it
+
+  pub served_unless_page : (input before now : Option (List ℕ)) (end : Result ℕ FrontFault)
+      → ServesUnlessPage g view size input before now r s h k away rest.world end
+      → ServedUnlessPage g view size all input r s h k away acc ack rest end
+  served_unless_page input before now end (inl it) = inl (served_leaves input before now end it)
+  served_unless_page input before now end (inr it) = inr (it.0, untouched it.1 it.2)

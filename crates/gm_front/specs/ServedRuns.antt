@@ -8,6 +8,7 @@ use Rattle.gm_shelf.specs.Disk.{View}
 use Rattle.gm_rules.specs.AbstractCalls as run
 use Rattle.gm_bench.specs.Schedule.{Entry, IsStop, AtRest, Stopped}
 use Rattle.gm_http.specs.Requests.{Asked, Asks}
+use Rattle.gm_http.specs.Senders.{IsFromPage}
 use Rattle.gm_front.specs.declared.answer_lines.FrontFault.{FrontFault}
 use Rattle.gm_front.specs.declared.answer_lines.FrontFault.TheVariants.{Memory, Read, Write}
 use Rattle.gm_front.specs.Demands.{Demand, Carry, demand_of}
@@ -50,3 +51,11 @@ module _ {S H : Type 0} (g : Ghosts S) (view : H → View) (size : H → Sizes) 
       AtRest g view size all s k away acc ack ⊎ IsServed input r s h k away acc ack rest
   ServedLeaves input r s h k away acc ack rest (Err Write) =
       IsServed input r s h k away acc ack rest
+
+  -- the same where pages are turned away: behind a page's request the bench is at rest as it was
+  abbrev pub ServedUnlessPage : Option (List ℕ) → (r s : Held S) (h k : H) (away : Image)
+      (acc ack : List Entry) → AtRest g view size all r h away acc ack → Result ℕ FrontFault
+      → Type 0
+  ServedUnlessPage input r s h k away acc ack rest result =
+      ServedLeaves input r s h k away acc ack rest result
+      ⊎ (IfSome input IsFromPage × AtRest g view size all s k away acc ack)

@@ -1,5 +1,5 @@
 -- What serving a request owes: what it asks, what is told of that, and where it leaves the bench.
-use Rattle.std.specs.Prelude.{◌≡◌, ◌⊎◌, ℕ, List, Option, Result, Ok, Err, IfSome}
+use Rattle.std.specs.Prelude.{◌≡◌, ◌⊎◌, ℕ, List, Option, Result, Ok, Err, IfSome, codes}
 use Rattle.std.specs.Io.KnownBytes.{Appends, Keeps}
 use Rattle.sqlite_trees.specs.declared.store.Store.{Ghosts}
 use Rattle.sqlite.specs.Held.{Held}
@@ -9,11 +9,14 @@ use Rattle.gm_state.specs.World.{World}
 use Rattle.gm_bench.specs.declared.fault.BenchFault.{BenchFault}
 use Rattle.gm_http.specs.Requests.{Asked, Asks}
 use Rattle.gm_http.specs.Responses.{code_of, response_bytes}
+use Rattle.gm_http.specs.Senders.{IsFromPage}
+use Rattle.gm_http.specs.declared.status.Status.TheVariants.{Forbidden}
+use Rattle.gm_json.specs.Answers.{error_json}
 use Rattle.gm_front.specs.declared.answer_lines.FrontFault.{FrontFault}
 use Rattle.gm_front.specs.declared.service.Response.{Response}
 use Rattle.gm_front.specs.declared.answer_lines.FrontFault.TheVariants.{Memory, Read, Write}
 use Rattle.gm_front.specs.Batch.{AppendsFront}
-use Rattle.gm_front.specs.Demands.{Told, demand_of, fault_status, fault_told}
+use Rattle.gm_front.specs.Demands.{Told, demand_of, fault_status, fault_told, told_as}
 use Rattle.gm_front.specs.Findings.{Fails, IsFound}
 
 -- the bytes of a response
@@ -24,6 +27,18 @@ bytes_of told = response_bytes told.status told.body
 abbrev pub code_told : Result Response FrontFault → Result ℕ FrontFault
 code_told (Ok response) = Ok (code_of response.status)
 code_told (Err fault) = Err fault
+
+-- what a page is told
+abbrev pub page_told : Told
+page_told = told_as Forbidden (error_json (codes "not from a page"))
+
+-- A page was turned away: all of that was written, or a beginning of it; or nothing, where its
+-- request wasn't read to its end.
+abbrev pub TurnsAway : Option (List ℕ) → Option (List ℕ) → Result ℕ FrontFault → Type 0
+TurnsAway before now (Ok code) = (code ≡ 403) × Appends before now (bytes_of page_told)
+TurnsAway before now (Err Read) = Keeps before now
+TurnsAway before now (Err Memory) = AppendsFront before now (bytes_of page_told)
+TurnsAway before now (Err Write) = AppendsFront before now (bytes_of page_told)
 
 module _ {S H : Type 0} (g : Ghosts S) (view : H → View) (size : H → Sizes) where
   -- The request was responded to.
@@ -63,3 +78,10 @@ module _ {S H : Type 0} (g : Ghosts S) (view : H → View) (size : H → Sizes) 
       ⊎ Tells input (AppendsFront before now) r s h k away u (λ n. Unit {0})
   Serves input before now r s h k away u (Err Write) =
       Tells input (AppendsFront before now) r s h k away u (λ n. Unit {0})
+
+  -- what serving a request comes to where pages are turned away, for which the bench isn't asked
+  abbrev pub ServesUnlessPage : Option (List ℕ) → Option (List ℕ) → Option (List ℕ) → Held S
+      → Held S → H → H → Image → World → Result ℕ FrontFault → Type 0
+  ServesUnlessPage input before now r s h k away u result =
+      Serves input before now r s h k away u result
+      ⊎ (IfSome input IsFromPage × (s ≡ r) × (k ≡ h) × TurnsAway before now result)

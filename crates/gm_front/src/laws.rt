@@ -8,8 +8,8 @@ ghost use Rattle.gm_front.specs.declared.answer_lines.BatchEnd.{BatchEnd};
 ghost use Rattle.gm_front.specs.declared.answer_lines.FrontFault.{FrontFault};
 ghost use Rattle.gm_front.specs.Batch.{Batches};
 ghost use Rattle.gm_front.specs.BatchRuns.{BatchLeaves};
-ghost use Rattle.gm_front.specs.ServedRuns.{ServedLeaves};
-ghost use Rattle.gm_front.specs.Services.{Serves};
+ghost use Rattle.gm_front.specs.ServedRuns.{ServedLeaves, ServedUnlessPage};
+ghost use Rattle.gm_front.specs.Services.{Serves, ServesUnlessPage};
 
 use gm_shelf::Shelf;
 use sqlite::Alter;
@@ -36,4 +36,14 @@ pub fn served_request_law<S: Alter, H: Shelf>()
         → (rest : AtRest S.Store H.view H.size all r h away acc ack)
         → Serves S.Store H.view H.size input before now r s h k away rest.world end
         → ServedLeaves S.Store H.view H.size all input r s h k away acc ack rest end }
+{}
+
+/// So is a request that is served unless a page sent it: behind a page's the bench is at rest as it
+/// was, and nothing more is accepted.
+pub fn unless_page_law<S: Alter, H: Shelf>()
+    ensures { (all : Sizes) (r s : Held S) (h k : H) (away : Image) (acc ack : List Entry)
+        (input before now : Option (List ℕ)) (end : Result ℕ FrontFault)
+        → (rest : AtRest S.Store H.view H.size all r h away acc ack)
+        → ServesUnlessPage S.Store H.view H.size input before now r s h k away rest.world end
+        → ServedUnlessPage S.Store H.view H.size all input r s h k away acc ack rest end }
 {}

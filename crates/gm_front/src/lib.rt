@@ -26,8 +26,8 @@ mod service;
 
 pub use answer_lines::{BatchEnd, FrontFault, Listener, batch, heard_batch};
 pub use gm_words::{WordsFault, dump_text, list_text, read_words, status_text};
-pub use laws::{served_request_law, whole_batch_law};
+pub use laws::{served_request_law, unless_page_law, whole_batch_law};
 pub use lines::{Line, MAX_LINE, next_line};
 pub use outcome::{Outcome, ask, loss_text};
 pub use request::{Request, pieces, request_of};
-pub use service::{Response, Served, serve_one, serve_request};
+pub use service::{Response, Served, serve_one, serve_request, serve_request_unless_page};

@@ -1,11 +1,13 @@
 //! One request over HTTP, answered.
 
-ghost use Rattle.std.specs.Prelude.{◌≡◌, ℕ, List, [], Err, IfOk, IfErr, None, OnErr};
+ghost use Rattle.std.specs.Prelude.{◌≡◌, ℕ, List, [], Err, IfOk, IfErr, IfSome, None, OnErr, Option};
 ghost use Rattle.std.specs.Io.KnownBytes.{Appends};
 ghost use Rattle.gm_metadata.specs.Images.{Image};
 ghost use Rattle.gm_state.specs.World.{World};
 ghost use Rattle.gm_registry.specs.Registry.{DiskKept};
+ghost use Rattle.gm_http.specs.Requests.{Asks, asked_of};
 ghost use Rattle.gm_http.specs.Responses.{code_of};
+ghost use Rattle.gm_http.specs.Senders.{IsFromPage};
 ghost use Rattle.gm_bench.specs.Benches.{progress_of, redone_of, registry_of, shelf_of};
 ghost use Rattle.gm_bench.specs.Calls.{Keep};
 ghost use Rattle.gm_bench.specs.declared.phase.Progress.TheVariants.{Failed};
@@ -14,13 +16,13 @@ ghost use Rattle.gm_bench.specs.Recovering.{IsAt};
 ghost use Rattle.gm_front.specs.Batch.{AppendsFront};
 ghost use Rattle.gm_front.specs.Demands.{fault_told};
 ghost use Rattle.gm_front.specs.Findings.{progress_behind, told_of};
-ghost use Rattle.gm_front.specs.Services.{Serves, bytes_of, code_told};
+ghost use Rattle.gm_front.specs.Services.{Serves, ServesUnlessPage, TurnsAway, bytes_of, code_told};
 
 use crate::answer_lines::{FrontFault, write_whole};
 use crate::demand::demand_of;
 use crate::finding::{Finding, find};
 use gm_bench::{Bench, BenchFault};
-use gm_http::{RequestFault, Status, read_request, response};
+use gm_http::{Request, RequestFault, Sender, Status, read_request, receive_request, response};
 use gm_shelf::Shelf;
 use sqlite::Alter;
 use std::alloc::Global;
@@ -79,6 +81,40 @@ fn unserved(fault: FrontFault) -> Served
     }
 }
 
+// Asks the bench what a request demands that was read, and writes the response.
+fn respond<W: Write, S: Alter, H: Shelf>(
+    alloc: Global,
+    writer: &mut W,
+    bench: &mut Bench<S, H>,
+    request: Request,
+) -> Served
+    requires { TakesCommands (progress_of bench.old) }
+    ensures serves { H.honest (shelf_of bench.old) → DiskKept S.Store (registry_of bench.new)
+        → (input : Option (List ℕ)) → IfSome input (λ bytes. Asks bytes (asked_of request))
+        → (away : Image) (u : World)
+        → IsAt S.Store H.view H.size (registry_of bench.old) (shelf_of bench.old) away [] [] u u
+        → Serves S.Store H.view H.size input (W.contents writer.old) (W.contents writer.new)
+        (registry_of bench.old) (registry_of bench.new)
+        (shelf_of bench.old) (shelf_of bench.new) away u (code_told result.response) }
+    ensures progress { progress_of bench.new
+        ≡ progress_behind (progress_of bench.old) result.fault }
+    ensures phase { TakesCommands (progress_of bench.new) }
+    ensures closed { progress_of bench.old ≡ Failed → bench.new ≡ bench.old }
+    ensures redone { redone_of bench.new ≡ redone_of bench.old }
+    ensures keep { Keep S.Store H.Shelf (registry_of bench.old) (registry_of bench.new)
+        (shelf_of bench.old) (shelf_of bench.new) }
+{
+    let Ok(demand) = demand_of(alloc, request) else {
+        return unserved(FrontFault::Memory);
+    };
+    let finding = find(alloc, bench, &demand);
+    let response = tell(alloc, writer, &finding);
+    Served {
+        response,
+        fault: finding.fault(),
+    }
+}
+
 /// Reads one request, asks the bench what it demands, and writes the response. Asks for a bench in
 /// phase Ready or Failed.
 pub fn serve_request<R: Read, W: Write, S: Alter, H: Shelf>(
@@ -103,19 +139,61 @@ pub fn serve_request<R: Read, W: Write, S: Alter, H: Shelf>(
     ensures keep { Keep S.Store H.Shelf (registry_of bench.old) (registry_of bench.new)
         (shelf_of bench.old) (shelf_of bench.new) }
 {
-    let request = match read_request(alloc, reader) {
-        Ok(request) => request,
+    match read_request(alloc, reader) {
+        Ok(request) => respond(alloc, writer, bench, request),
+        Err(RequestFault::Memory) => unserved(FrontFault::Memory),
+        Err(RequestFault::Read) => unserved(FrontFault::Read),
+    }
+}
+
+// Tells a page that it isn't served.
+fn turn_away<W: Write>(alloc: Global, writer: &mut W) -> Served
+    ensures response { TurnsAway (W.contents writer.old) (W.contents writer.new)
+        (code_told result.response) }
+    ensures none { result.fault ≡ None }
+{
+    let finding = Finding::TurnedDown(Status::Forbidden, "not from a page");
+    Served {
+        response: tell(alloc, writer, &finding),
+        fault: None,
+    }
+}
+
+/// The same as `serve_request`, but a request that a web page sent is turned away: the bench isn't
+/// asked of it, and stays what it is.
+pub fn serve_request_unless_page<R: Read, W: Write, S: Alter, H: Shelf>(
+    alloc: Global,
+    reader: &mut R,
+    writer: &mut W,
+    bench: &mut Bench<S, H>,
+) -> Served
+    requires { TakesCommands (progress_of bench.old) }
+    ensures page { IfSome (R.remaining reader.old) (λ input. IsFromPage input
+        → (bench.new ≡ bench.old) × TurnsAway (W.contents writer.old) (W.contents writer.new)
+        (code_told result.response)) }
+    ensures serves { H.honest (shelf_of bench.old) → DiskKept S.Store (registry_of bench.new)
+        → (away : Image) (u : World)
+        → IsAt S.Store H.view H.size (registry_of bench.old) (shelf_of bench.old) away [] [] u u
+        → ServesUnlessPage S.Store H.view H.size (R.remaining reader.old)
+        (W.contents writer.old) (W.contents writer.new)
+        (registry_of bench.old) (registry_of bench.new)
+        (shelf_of bench.old) (shelf_of bench.new) away u (code_told result.response) }
+    ensures progress { progress_of bench.new
+        ≡ progress_behind (progress_of bench.old) result.fault }
+    ensures phase { TakesCommands (progress_of bench.new) }
+    ensures closed { progress_of bench.old ≡ Failed → bench.new ≡ bench.old }
+    ensures redone { redone_of bench.new ≡ redone_of bench.old }
+    ensures keep { Keep S.Store H.Shelf (registry_of bench.old) (registry_of bench.new)
+        (shelf_of bench.old) (shelf_of bench.new) }
+{
+    let received = match receive_request(alloc, reader) {
+        Ok(received) => received,
         Err(RequestFault::Memory) => return unserved(FrontFault::Memory),
         Err(RequestFault::Read) => return unserved(FrontFault::Read),
     };
-    let Ok(demand) = demand_of(alloc, request) else {
-        return unserved(FrontFault::Memory);
-    };
-    let finding = find(alloc, bench, &demand);
-    let response = tell(alloc, writer, &finding);
-    Served {
-        response,
-        fault: finding.fault(),
+    match received.sender {
+        Sender::Page => turn_away(alloc, writer),
+        Sender::Program => respond(alloc, writer, bench, received.request),
     }
 }
 

@@ -7,12 +7,13 @@ ghost use Rattle.gm_process.specs.declared.status.Status.TheVariants.{Done};
 
 use gm_bench::{Bench, BenchFault};
 use gm_command_line::Service;
-use gm_connections::{Incoming, Outgoing, Told, end, write_line};
+use gm_connections::{Incoming, Log, Outgoing, Told, end};
 use gm_faults::Fault;
-use gm_front::{FrontFault, Response, serve_request};
+use gm_front::{FrontFault, Response, Served, serve_request, serve_request_unless_page};
 use gm_process::{Status, Streams};
 use gm_shelf::Shelf;
 use sqlite::Alter;
+use std::alloc::Global;
 use std::io::{self, ErrorKind, Read, Write};
 use std::net::{Ipv4Addr, TcpListener, TcpStream};
 
@@ -40,14 +41,32 @@ fn told(response: Result<Response, FrontFault>) -> Option<Told> {
     }
 }
 
+// Serves a request, one that a web page sent only where those of any origin are wanted.
+fn serve_from<R: Read, W: Write, S: Alter, H: Shelf>(
+    alloc: Global,
+    incoming: &mut R,
+    outgoing: &mut W,
+    any_origin: bool,
+    bench: &mut Bench<S, H>,
+) -> Served
+    requires { TakesCommands (progress_of bench.old) }
+    ensures { TakesCommands (progress_of bench.new) }
+{
+    if any_origin {
+        serve_request(alloc, incoming, outgoing, bench)
+    } else {
+        serve_request_unless_page(alloc, incoming, outgoing, bench)
+    }
+}
+
 // Serves a connection, and logs it where that is wanted. Whatever breaks of the connection itself
 // ends it alone; answers why the bench failed, where it did.
 fn serve_connection<S: Alter, H: Shelf, E: Write>(
     rt: &HostRuntime,
     stream: &TcpStream,
+    service: Service,
     bench: &mut Bench<S, H>,
-    logs: bool,
-    log: &mut E,
+    log: &mut Log<'_, E>,
 ) -> Option<BenchFault>
     requires { TakesCommands (progress_of bench.old) }
     ensures { TakesCommands (progress_of bench.new) }
@@ -56,9 +75,15 @@ fn serve_connection<S: Alter, H: Shelf, E: Write>(
         return None;
     };
     let mut outgoing = Outgoing::new(rt, stream);
-    let served = serve_request(rt.alloc(), &mut incoming, &mut outgoing, bench);
-    if logs {
-        write_line(rt, log, incoming.beginning(), told(served.response));
+    let served = serve_from(
+        rt.alloc(),
+        &mut incoming,
+        &mut outgoing,
+        service.any_origin,
+        bench,
+    );
+    if service.logs {
+        log.tell(rt, incoming.beginning(), told(served.response));
     }
     if served.response.is_ok() {
         let _ = end(rt, stream);
@@ -73,7 +98,7 @@ pub fn serve_connections<S: Alter, H: Shelf, E: Write>(
     listener: &TcpListener,
     service: Service,
     bench: &mut Bench<S, H>,
-    log: &mut E,
+    log: &mut Log<'_, E>,
 ) -> Result<Status, Fault>
     requires { TakesCommands (progress_of bench.old) }
     ensures { IfOk result (λ status. status ≡ Done) }
@@ -85,7 +110,7 @@ pub fn serve_connections<S: Alter, H: Shelf, E: Write>(
             Err(error) if is_gone(&error) => continue,
             Err(error) => return Err(Fault::from(error)),
         };
-        if let Some(fault) = serve_connection(rt, &stream, bench, service.logs, log) {
+        if let Some(fault) = serve_connection(rt, &stream, service, bench, log) {
             return Err(Fault::Bench(fault));
         }
         left = left.saturating_sub(1);
@@ -110,5 +135,8 @@ pub fn serve<S: Alter, H: Shelf, I: Read, O: Write, E: Write>(
     let port = listener.local_addr()?.port();
     writeln!(streams.output, "listening on 127.0.0.1:{port}")?;
     streams.output.flush()?;
-    serve_connections(rt, &listener, service, bench, streams.complaints)
+    let mut log = Log::on_standard_error(&mut *streams.complaints);
+    let served = serve_connections(rt, &listener, service, bench, &mut log);
+    log.end(rt);
+    served
 }

@@ -7,4 +7,5 @@ pub mod Members
 pub mod Named
 pub mod OnRoutes
 pub mod Parts
+pub mod Senders
 pub mod Walks

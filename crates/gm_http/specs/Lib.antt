@@ -5,3 +5,4 @@ pub mod Input
 pub mod Requests
 pub mod Responses
 pub mod Routes
+pub mod Senders

@@ -4,11 +4,12 @@ use Rattle.http.specs.StatusCode.{reason_phrase}
 use Rattle.gm_http.specs.declared.status.Allowed.{Allowed}
 use Rattle.gm_http.specs.declared.status.Allowed.TheVariants.{Get, Post}
 use Rattle.gm_http.specs.declared.status.Status.{Status}
-use Rattle.gm_http.specs.declared.status.Status.TheVariants.{Ok, BadRequest, NotFound, NotAllowed, Conflict, TooLarge, Internal, Unavailable}
+use Rattle.gm_http.specs.declared.status.Status.TheVariants.{Ok, BadRequest, Forbidden, NotFound, NotAllowed, Conflict, TooLarge, Internal, Unavailable}
 
 abbrev pub code_of : Status → ℕ
 code_of Ok = 200
 code_of BadRequest = 400
+code_of Forbidden = 403
 code_of NotFound = 404
 code_of (NotAllowed method) = 405
 code_of Conflict = 409
@@ -33,6 +34,7 @@ abbrev pub allow_line : Status → List ℕ
 allow_line (NotAllowed method) = head_line (codes "Allow: " ++ method_name method)
 allow_line Ok = []
 allow_line BadRequest = []
+allow_line Forbidden = []
 allow_line NotFound = []
 allow_line Conflict = []
 allow_line TooLarge = []

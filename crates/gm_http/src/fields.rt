@@ -43,7 +43,8 @@ fn only_number(values: &[&[u8]]) -> Option<u64>
     }
 }
 
-fn is_named(given: &[u8], name: &[u8]) -> bool
+/// Whether a name is this one, in upper or in lower case.
+pub(crate) fn is_named(given: &[u8], name: &[u8]) -> bool
     ensures { result ≡ str_eq_ignore_ascii_case given.now name.now }
 {
     given.eq_ignore_ascii_case(name)

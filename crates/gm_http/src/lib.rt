@@ -2,7 +2,8 @@
 //!
 //! It knows no bench and no mirrors, only their labels. `request.rt` reads a request: `head.rt` its
 //! head, `routes.rt` its target, `fields.rt` the length of its body and `bodies.rt` what that
-//! holds. `specs/Requests.antt` says what all of it asks, and is what to read first. `status.rt`
+//! holds. `specs/Requests.antt` says what all of it asks, and is what to read first. `sender.rt`
+//! tells a web page from a program by the fields, and `specs/Senders.antt` says how. `status.rt`
 //! has the codes of responses, `responses.rt` writes one, and `specs/Responses.antt` has its bytes.
 //! `laws.rt` says what holds of all requests.
 #![tactic(auto)]
@@ -15,9 +16,11 @@ mod laws;
 mod request;
 mod responses;
 mod routes;
+mod sender;
 mod status;
 
 pub use laws::{one_request, targets};
-pub use request::{Request, RequestFault, read_request};
+pub use request::{Received, Request, RequestFault, read_request, receive_request};
 pub use responses::response;
+pub use sender::Sender;
 pub use status::{Allowed, Status};

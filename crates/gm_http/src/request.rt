@@ -8,12 +8,14 @@ ghost use Rattle.gm_http.specs.Input.{AsksAtHead, IsHead, Takes, TakesUpTo};
 ghost use Rattle.gm_http.specs.Requests.{Asks, asked_of, sent};
 ghost use Rattle.gm_http.specs.Responses.{method_name};
 ghost use Rattle.gm_http.specs.Routes.{target_of};
+ghost use Rattle.gm_http.specs.Senders.{Sends};
 
 use crate::bodies::call_of;
 use crate::fields::length_by;
 use crate::head::{MOST_FIELDS, read_head};
 use crate::input::fill;
 use crate::routes::{Target, target_of};
+use crate::sender::{Sender, sender_of};
 use crate::status::Allowed;
 use gm_metadata::Label;
 use httparse::spans::{EMPTY_HEADER_SPAN, HeaderSpan, RequestSpans};
@@ -165,19 +167,44 @@ fn read_rest<R: Read>(
     }
 }
 
-/// Reads one request. A request that is answered without its body isn't read to its end, and none
-/// waits for a byte past it; what the reader gives beyond is ignored. Fails where the reader does,
-/// or for want of memory.
+/// A request that was read, and who sent it.
+#[derive(Drop)]
+pub struct Received {
+    pub request: Request,
+    pub sender: Sender,
+}
+
+#[tactic(auto, using(crate::proofs::Senders::sendings))]
+/// Reads one request, and says who sent it. A request that is answered without its body isn't read
+/// to its end, and none waits for a byte past it; what the reader gives beyond is ignored. Fails
+/// where the reader does, or for want of memory. Bytes that are no request were sent by a program.
+pub fn receive_request<R: Read>(alloc: Global, reader: &mut R) -> Result<Received, RequestFault>
+    ensures asks { IfOk result (λ received. IfSome (R.remaining reader.old) (λ input.
+        Asks input (asked_of received.request))) }
+    ensures sends { IfOk result (λ received. IfSome (R.remaining reader.old) (λ input.
+        Sends input received.sender)) }
+    ensures front { OnOk result
+        (TakesUpTo (8192 + 131072) (R.remaining reader.old) (R.remaining reader.new)) }
+{
+    let mut bytes = Vec::new(alloc);
+    let mut headers = [EMPTY_HEADER_SPAN; MOST_FIELDS];
+    let Some(spans) = read_head(reader, &mut bytes, &mut headers)? else {
+        return Ok(Received {
+            request: Request::BadRequest,
+            sender: Sender::Program,
+        });
+    };
+    let sender = sender_of(&bytes, &headers[..spans.headers]);
+    let request = read_rest(alloc, reader, &mut bytes, &headers, &spans)?;
+    Ok(Received { request, sender })
+}
+
+/// Reads one request, as `receive_request` does, whoever sent it.
 pub fn read_request<R: Read>(alloc: Global, reader: &mut R) -> Result<Request, RequestFault>
     ensures asks { IfOk result (λ request. IfSome (R.remaining reader.old) (λ input.
         Asks input (asked_of request))) }
     ensures front { OnOk result
         (TakesUpTo (8192 + 131072) (R.remaining reader.old) (R.remaining reader.new)) }
 {
-    let mut bytes = Vec::new(alloc);
-    let mut headers = [EMPTY_HEADER_SPAN; MOST_FIELDS];
-    match read_head(reader, &mut bytes, &mut headers)? {
-        Some(spans) => read_rest(alloc, reader, &mut bytes, &headers, &spans),
-        None => Ok(Request::BadRequest),
-    }
+    Ok(receive_request(alloc, reader)?.request)
 }

@@ -28,6 +28,7 @@ impl Allowed {
 pub enum Status {
     Ok,
     BadRequest,
+    Forbidden,
     NotFound,
     /// The route exists with another method, this one.
     NotAllowed(Allowed),
@@ -44,6 +45,7 @@ impl Status {
         match self {
             Status::Ok => StatusCode::OK,
             Status::BadRequest => StatusCode::BAD_REQUEST,
+            Status::Forbidden => StatusCode::FORBIDDEN,
             Status::NotFound => StatusCode::NOT_FOUND,
             Status::NotAllowed(_) => StatusCode::METHOD_NOT_ALLOWED,
             Status::Conflict => StatusCode::CONFLICT,

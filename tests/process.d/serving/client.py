@@ -61,12 +61,16 @@ def post(body, *fields, length=None):
     return "\r\n".join(lines).encode() + body
 
 
+def shown(answer):
+    return repr(answer[:200] if isinstance(answer, bytes) else answer)
+
+
 def check(name, answer, wanted):
     """Prints whether an answer is the one that is wanted."""
     if answer == wanted:
         print(f"ok {name}")
     else:
-        print(f"failed {name}: {answer[:200]!r}, and not {wanted[:200]!r}")
+        print(f"failed {name}: {shown(answer)}, and not {shown(wanted)}")
 
 
 if __name__ == "__main__":

@@ -62,6 +62,16 @@ for name, connection in [("the silent client", silent), ("the one that stops", d
     connection.close()
 quick.close()
 
+# ---- clients that connect ahead of time, and send nothing
+ahead = [connect() for _ in range(3)]
+begun = time.monotonic()
+check("a request behind three that send nothing", ask(port, [status]), EMPTY)
+took = time.monotonic() - begun
+print("ok they had two seconds each" if 5 < took < 9 else f"failed they had two seconds each: {took:.1f} seconds")
+for connection in ahead:
+    check("each of them is told nothing", connection.recv(100), b"")
+    connection.close()
+
 # ---- clients that go on sending
 for name, first, wanted in [
     ("a length that is too large", post("", length=140_000), response(413)),

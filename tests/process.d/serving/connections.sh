@@ -40,6 +40,10 @@ TIME POST /commands 409 31
 TIME GET /?[2J? 400 23
 TIME - - 400 23"
 
+    # Into a pipe that nobody reads what fits is logged, and the server goes on.
+    fresh_bench log_unread
+    run_script serving/log_unread.py "$gmbench" "$registry" "$bench/images"
+
     if command -v curl >/dev/null; then
         fresh_bench curl
         head -c 10000000 /dev/zero >"$work/zeros"

@@ -2,6 +2,7 @@
 
 use gm_bench::{Bench, Phase};
 use gm_command_line::Service;
+use gm_connections::Log;
 use gm_handing_in::serve_connections;
 use gm_process::Status;
 use gm_shelf::Shelf;
@@ -62,12 +63,14 @@ fn serves<S: Alter, H: Shelf>(
         count,
         logs: false,
         audits: false,
+        any_origin: false,
     };
-    let mut log = Vec::new(rt.alloc());
+    let mut text = Vec::new(rt.alloc());
+    let mut log = Log::new(&mut text);
     match bench.phase() {
         Phase::Ready | Phase::Failed => {
             let status = serve_connections(rt, listener, service, bench, &mut log)?;
-            must(status == Status::Done && log.is_empty(), "another end")
+            must(status == Status::Done && text.is_empty(), "another end")
         }
         Phase::Pending | Phase::Applied => Err("another phase")?,
     }
