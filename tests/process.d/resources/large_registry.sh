@@ -2,7 +2,7 @@
 
 # ---- a large registry, looked at without an opening in little memory
 
-# 640 patches of 64 sectors are a registry of 20 MB. A batch that is killed behind 20 more leaves a log beside it.
+# 320 patches of 64 sectors are a registry of 20 MB. A batch that is killed behind 20 more leaves a log beside it.
 fresh_bench large
 truncate -s 102400 "$bench/images/a.img"
 data=$(head -c 65534 /dev/zero | tr '\0' 5)
@@ -15,11 +15,11 @@ patches_of() {
 }
 {
     printf "$label"
-    patches_of 0 640
+    patches_of 0 320
 } >"$work/lines"
 timeout 120 "$gmbench" batch --registry "$registry" --shelf "$bench/images" <"$work/lines" >"$work/output" 2>"$work/complaints"
 status=$?
-if [ "$status" = 0 ] && [ "$(grep -c ' ok ' "$work/output")" = 641 ] && [ "$(wc -c <"$registry")" -ge 20000000 ]; then
+if [ "$status" = 0 ] && [ "$(grep -c ' ok ' "$work/output")" = 321 ] && [ "$(wc -c <"$registry")" -ge 20000000 ]; then
     pass 'a registry of 20 MB'
 else
     fail 'a registry of 20 MB' "status $status, $(wc -c <"$registry") bytes, '$(head -n 1 "$work/complaints")'"
@@ -76,7 +76,7 @@ look_in_little 'a status of it in little memory' "$of_one" status --read-only
 look_in_little 'what is pending there' '' pending
 expect_registry 'nothing is changed'
 
-patches_of 640 660 >"$work/lines"
+patches_of 320 340 >"$work/lines"
 mkfifo "$bench/in"
 "$gmbench" batch --registry "$registry" --shelf "$bench/images" <"$bench/in" >"$bench/answers" 2>/dev/null &
 under_way=$!
