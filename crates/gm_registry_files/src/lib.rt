@@ -3,15 +3,15 @@
 //!
 //! `registry_files.rt` knows which files are a registry's: its own, and those that SQLite puts
 //! beside it, which `beside.rt` names. `unopened.rt` reads them by an overlay, so that nothing is
-//! written, and `store_cause.rt` says why a registry can't be opened.
+//! written, and `unusable.rt` says why a registry can't be opened.
 #![tactic(auto)]
 
 mod beside;
 mod registry_files;
-mod store_cause;
 mod unopened;
+mod unusable;
 
 pub use beside::without_beside;
 pub use registry_files::{is_there, leave_out_registry};
-pub use store_cause::{StoreCause, is_no_database, store_cause};
 pub use unopened::records_of;
+pub use unusable::{StoreCause, is_no_database, store_cause};

@@ -14,7 +14,7 @@ use gm_commands::Command;
 use gm_metadata::Label;
 use gm_refusals::CallRefusal;
 use gm_shelf::Shelf;
-use gm_state::{Component, Reply};
+use gm_state::{Component, Reply, State};
 use sqlite::Alter;
 use std::alloc::Global;
 

@@ -11,13 +11,13 @@ loop-init g c = record {
   fills = fills_none g.S.Store g.H.Shelf (IsAdvanceIn c.args.scope.now) _;
 }
 
-pub returns-in_default-clause-fills : goal.returns-in_default-clause-fills
-returns-in_default-clause-fills g c =
+pub returns-then-is_none-clause-fills : goal.returns-then-is_none-clause-fills
+returns-then-is_none-clause-fills g c =
     fills_looked g.S.Store g.H.Shelf (IsAdvanceIn c.args.scope.now) c.args.bench.now c.loop.bench
     c.view.new.self c.in_ok-state.state c.loop.invariant.fills c.in_ok-state.ensures.looks
 
-pub returns-in_default-clause-whole : goal.returns-in_default-clause-whole
-returns-in_default-clause-whole g c =
+pub returns-then-is_none-clause-whole : goal.returns-then-is_none-clause-whole
+returns-then-is_none-clause-whole g c =
     let looks = c.in_ok-state.ensures.looks in
     record {
       last = record {
@@ -44,8 +44,8 @@ returns-in_default-clause-whole g c =
           );
     }
 
-pub returns-in-Some-2-clause-fills : goal.returns-in-Some-2-clause-fills
-returns-in-Some-2-clause-fills g c =
+pub returns-in-Some-clause-fills : goal.returns-in-Some-clause-fills
+returns-in-Some-clause-fills g c =
     fills_then g.S.Store g.H.Shelf (IsAdvanceIn c.args.scope.now) c.args.bench.now c.view.new.self
     c.fill_each.new.bench
     (fills_looked g.S.Store g.H.Shelf (IsAdvanceIn c.args.scope.now) c.args.bench.now c.loop.bench
