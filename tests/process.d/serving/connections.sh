@@ -76,6 +76,7 @@ TIME - - 400 23"
     : >"$work/request"
     send_file "$work/request"
     end_server
+    rm -f "$bench/listening"
     timeout 20 "$gmbench" serve --registry "$registry" --shelf "$bench/images" --port "$first" --count 1 \
         >"$bench/listening" 2>"$bench/log" &
     under_way=$!

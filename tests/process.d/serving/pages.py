@@ -102,7 +102,7 @@ page("a body that is too long", post(origin, length=131073), response(413))
 page("chunks", post(origin, b"Transfer-Encoding: chunked"), response(400))
 page("a body that is cut", post(origin, body=COMMAND[:9]), response(400))
 page("no call", post(origin, body=b"text=" + COMMAND[5:]), response(400))
-refused = response(409, '{"answer":"refused","number":2}')
+refused = response(409, '{"answer":"refused","number":5}')
 page("a form of text/plain", post(b"Content-Type: text/plain", origin), refused)
 program("a command of a program", post(), refused)
 
