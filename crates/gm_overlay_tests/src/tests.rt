@@ -48,11 +48,15 @@ fn must(rt: &impl Abort, holds: bool, what: &str) {
     assert!(rt; holds, "{what}");
 }
 
-// No two bytes of a block are equal to those beside them, and no block begins as another.
+// The byte of a file at this place: unlike those beside it, and no block begins as another.
+fn byte_at(at: usize) -> u8 {
+    (at % 251) as u8 + 1
+}
+
 fn file_bytes<R: AllocGlobal>(rt: &R, len: usize) -> Result<Vec<u8>, AllocError> {
     let mut bytes = Vec::new(rt.alloc());
     for i in 0..len {
-        bytes.push((i % 251) as u8 + 1)?;
+        bytes.push(byte_at(i))?;
     }
     Ok(bytes)
 }
@@ -177,8 +181,8 @@ fn reads_at_once<R: Abort>(rt: &R, overlay: &mut Overlay) {
     let is_whole = matches!(overlay.read_under(1, 2, 3_900, &mut page), Ok(5_000));
     // Before what was written, it, and behind it, in the next block.
     let bytes = [page[0], page[100], page[189], page[190], page[4_999]];
-    let wanted = [3_900, 0, 0, 4_090, 8_899].map(|at| (at % 251) as u8 + 1);
-    let is_right = bytes == [wanted[0], 7, 7, wanted[3], wanted[4]];
+    let wanted = [byte_at(3_900), 7, 7, byte_at(4_090), byte_at(8_899)];
+    let is_right = bytes == wanted;
     must(rt, is_written && is_whole && is_right, "another page");
     must(
         rt,
