@@ -42,19 +42,22 @@ lines() {
     printf "$1"
 }
 
+# Leaves out of complaints that a new registry was made.
+made='a new registry was made at '
+leave_out_made() {
+    grep -av "^$made" "$1" >"$work/other-complaints"
+    mv "$work/other-complaints" "$1"
+}
+
 # Whether the last run ended so, and printed just these lines. That a new registry was made is looked for where the lines say
 # so; elsewhere a test may have begun with one or without.
-made='a new registry was made at '
 expect() {
     name=$1
     whole_lines "$3" >"$work/wanted-output"
     whole_lines "$4" >"$work/wanted-complaints"
     case $4 in
         *"$made"*) ;;
-        *)
-            grep -av "^$made" "$work/complaints" >"$work/other-complaints"
-            mv "$work/other-complaints" "$work/complaints"
-            ;;
+        *) leave_out_made "$work/complaints" ;;
     esac
     if [ "$status" != "$2" ]; then
         fail "$name" "status $status, and not $2"

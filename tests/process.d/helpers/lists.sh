@@ -36,6 +36,7 @@ expect_inputs() {
         printf '%b' "$input" >"$work/lines"
         printf '%b' "$told" >"$work/wanted-output"
         take_lines
+        leave_out_made "$work/complaints"
         if [ "$status" != "$2" ]; then
             wrong=${wrong:-"'$input': status $status, and not $2"}
         elif ! cmp -s "$work/output" "$work/wanted-output"; then

@@ -25,6 +25,7 @@ end_server() {
 stop_server() {
     kill "$under_way"
     wait "$under_way" 2>/dev/null
+    leave_out_made "$bench/log"
     if [ -s "$bench/log" ]; then
         fail "$1" "it complained '$(head -n 3 "$bench/log")'"
     else

@@ -36,8 +36,15 @@ def environment(**more):
     return {**os.environ, "LD_PRELOAD": preloaded, "REFUSED": mark, **more}
 
 
+def without_made(complaints):
+    """What is left of complaints but that a new registry was made."""
+    return re.sub(rb"\Aa new registry was made at [^\n]*\n", b"", complaints)
+
+
 def run(words, lines=b"", **more):
-    return subprocess.run([program, *words], input=lines, capture_output=True, timeout=30, env=environment(**more))
+    done = subprocess.run([program, *words], input=lines, capture_output=True, timeout=30, env=environment(**more))
+    done.stderr = without_made(done.stderr)
+    return done
 
 
 def keep():
@@ -219,7 +226,7 @@ def serve_one(**more):
                 # the server is gone: what came until then tells
                 pass
         rest, complaints = server.communicate(timeout=30)
-        return line + rest, answer, complaints, server.returncode
+        return line + rest, answer, without_made(complaints), server.returncode
 
 
 def is_served(told, answer, complaints, status):

@@ -27,6 +27,7 @@ while some := os.read(log, 65536):
     logged += some
 check("it ends as ever", server.wait(timeout=20), 0)
 lines = logged.decode().splitlines()
+check("the registry is new", lines.pop(0), f"a new registry was made at {registry}")
 lost = [int(line.split()[0]) for line in lines if line.endswith(" lines lost")]
 whole = [line for line in lines if re.fullmatch(r"\w{3}, \d\d \w{3} \d{4} [\d:]{8} GMT GET /status 200 14", line)]
 check("each line is whole, or says how many were lost", len(whole) + len(lost), len(lines))
