@@ -159,7 +159,7 @@ fn must_list_none<S: Alter, H: Shelf>(
 // gm0 of a.img and b.img, where something wrote zeros over the last sector of b.img.
 fn with_zeros_in_b(mut shelf: MemShelf) -> Result<MemShelf, Fail> {
     let b: Label = label("b.img")?;
-    let last = shelf.sectors(b).ok_or("no b.img")? - 1;
+    let last = shelf.sectors(b).ok_or("no b.img")?.saturating_sub(1);
     shelf.write(b, last, &[0; 512])?;
     Ok(shelf)
 }
