@@ -115,11 +115,11 @@ import fcntl, os, struct, sys, time
 file = os.open(sys.argv[1], os.O_RDWR)
 fcntl.fcntl(file, fcntl.F_OFD_SETLK, struct.pack("hhqqi4x", fcntl.F_WRLCK, 0, 1 << 30, 512, 0))
 open(sys.argv[1] + ".held", "w").close()
-time.sleep(3)
+time.sleep(60)
 END
     holder=$!
-    for _ in 1 2 3 4 5 6 7 8 9 10; do
-        [ -e "$registry.held" ] || sleep 0.2
+    for _ in 1 2 3 4 5 6 7 8 9 10 11 12 13 14 15 16 17 18 19 20; do
+        [ -e "$registry.held" ] || sleep 0.5
     done
     run pending --registry "$registry"
     expect 'a registry that another program has open' 3 '' 'gmbench: F2 store'
