@@ -4,10 +4,11 @@
 //! Begin with `standing.rt`, how an image can stand to what is registered; `specs/Standings.antt`
 //! says when each of these comes. `standings.rt` finds it out, by what a last sector says
 //! (`said.rt`). `unlike.rt` lists the components that aren't as registered, with how they stand
-//! (`specs/Unlikes.antt`), `audit.rt` their names (`specs/Audits.antt`), and `scrub.rt` those that hold other data than their mirror's source (`specs/Scrubs.antt`), and
-//! `tasting.rt` tells what images say without a state (`specs/Shown.antt`); `laws.rt` has what an
-//! audit and a tasting have to do with each other. `text.rt` has a line for each pending intent,
-//! and `text_on.rt` the same with how its images stand (`specs/Texts.antt`).
+//! (`specs/Unlikes.antt`), `audit.rt` their names (`specs/Audits.antt`), and `scrub.rt` those that
+//! hold other data than their mirror's source (`specs/Scrubs.antt`). `tasting.rt` tells what images
+//! say without a state (`specs/Shown.antt`); `laws.rt` has what an audit and a tasting have to do
+//! with each other. `text.rt` has a line for each pending intent, and `text_on.rt` the same with
+//! how its images stand (`specs/Texts.antt`).
 #![tactic(auto)]
 
 mod audit;

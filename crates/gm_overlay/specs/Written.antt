@@ -15,4 +15,5 @@ HasWithin block within bytes = take (length bytes) (drop within block) ≡ bytes
 
 -- the block at this place is in memory, and has these bytes
 abbrev pub HasOver : Layers → ℕ → ℕ → List ℕ → Type 0
-HasOver it place within bytes = IsSomeAnd (block_at it place) (λ block. HasWithin block within bytes)
+HasOver it place within bytes =
+    IsSomeAnd (block_at it place) (λ block. HasWithin block within bytes)

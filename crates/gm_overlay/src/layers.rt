@@ -111,7 +111,8 @@ impl Layers {
         requires { 0 < length out.old }
         ensures count { IfOk result (λ n. (0 < n) × (n ≤ length out.old) × (at < 2 ^ 63)) }
         // Of a block in memory, its bytes.
-        ensures back { IfOk result (λ n. (block : List ℕ) → block_at self.now (at / 4096) ≡ Some block
+        ensures back { IfOk result (λ n. (block : List ℕ)
+            → block_at self.now (at / 4096) ≡ Some block
             → take n out.new ≡ take n (drop (at % 4096) block)) }
     {
         if at >= self.len || at > MAX_LEN {
@@ -169,7 +170,8 @@ impl Layers {
     pub(crate) fn write(&mut self, at: usize, bytes: &[u8]) -> io::Result<usize>
         requires { 0 < length bytes.now }
         ensures count { IfOk result (λ n. (0 < n) × (n ≤ length bytes.now) × (at < 2 ^ 63)) }
-        ensures taken { IfOk result (λ n. HasOver self.new (at / 4096) (at % 4096) (take n bytes.now)) }
+        ensures taken { IfOk result (λ n.
+            HasOver self.new (at / 4096) (at % 4096) (take n bytes.now)) }
         ensures others { (q : ℕ) → q ≢ at / 4096 → block_at self.new q ≡ block_at self.old q }
     {
         if at > MAX_LEN - BLOCK {

@@ -23,7 +23,7 @@ enum Step {
 use Step::{Resize, Write};
 
 // Blocks of 4,096 bytes are taken into memory: parts of one, of two, and of one that is whole; past
-// the end with a gap; cuts within a block that was written and at its end, and what comes back then.
+// the end with a gap; cuts within a block that was written and at its end, and what comes back.
 const SCRIPT: [Step; 16] = [
     Write(100, 1, 10),
     Write(4_090, 2, 12),

@@ -28,7 +28,10 @@ use Rattle.gm_overlay.proofs.history.History.with.Code as code
 abbrev stayed : Stays f.ended.signature.params f.ended.kept
 stayed = (
   stay_none_ref (0 ∷ []) tt (plain (λ _. R)) yes,
-  (stay_none_ref (1 ∷ []) tt (plain (λ _. C)) yes, (stay_none_slice (2 ∷ []) tt (plain (λ _. u8)) yes, tt)),
+  (
+    stay_none_ref (1 ∷ []) tt (plain (λ _. C)) yes,
+    (stay_none_slice (2 ∷ []) tt (plain (λ _. u8)) yes, tt),
+  ),
 )
 
 pub with_spec : {M : Type 1} → statement M
@@ -36,17 +39,35 @@ with_spec 𝓤 𝓛 𝓜 𝓡 wired =
     let c = f.clauses 𝓛 𝓜.mem 𝓡.returns in let W = walk_of 𝓛 f.ended stayed c in
     proved 𝓛 f.ended stayed c 𝓜 𝓡 (
       Goes-none_ref 𝓛 3 (0 ∷ []) tt (plain (λ _. R)) yes,
-      (Goes-none_ref 𝓛 3 (1 ∷ []) tt (plain (λ _. C)) yes, (Goes-none_slice 𝓛 3 (2 ∷ []) tt (plain (λ _. u8)) yes, tt)),
+      (
+        Goes-none_ref 𝓛 3 (1 ∷ []) tt (plain (λ _. C)) yes,
+        (Goes-none_slice 𝓛 3 (2 ∷ []) tt (plain (λ _. u8)) yes, tt),
+      ),
     )
     f.Key.name code.function (code.unfolded 𝓤 𝓛.H 𝓜 𝓡 wired)
     (λ κs. (shr_vals, (shr_vals, (shr_slice_vals, tt))))
-    (λ κs. (shr_Tells (named 0) κs.0 R, (shr_Tells (named 1) κs.1.0 C, (shr_slice_Tells (named 2) κs.1.1.0 u8, tt)))) (λ κs qs bounds a n are.
-    let y : W.Ghost = ((κs, qs, bounds, a, (shr_vals a.0, (shr_vals a.1.0, (shr_slice_vals a.1.1.0, tt)))), n) in
+    (λ κs. (
+      shr_Tells (named 0) κs.0 R,
+      (shr_Tells (named 1) κs.1.0 C, (shr_slice_Tells (named 2) κs.1.1.0 u8, tt)),
+    )) (λ κs qs bounds a n are.
+    let y : W.Ghost = (
+      (κs, qs, bounds, a, (shr_vals a.0, (shr_vals a.1.0, (shr_slice_vals a.1.1.0, tt)))),
+      n,
+    ) in
     let made : History = record { events = event_of a.1.0.now a.1.1.0.now ∷ a.0.now.events } in
-    qed 𝓛 ((raw (alive 𝓛 f.signature κs qs) ⊛ ‵ (owns (types_at f.signature.params κs) a y.0.4)) ∷ ‵ ftrue ∷ []) ∵ split ! $ keep ! (0 ∷ 1 ∷ []) $
+    qed 𝓛 ((raw (alive 𝓛 f.signature κs qs)
+    ⊛ ‵ (owns (types_at f.signature.params κs) a y.0.4)) ∷ ‵ ftrue ∷ []) ∵
+    split ! $ keep ! (0 ∷ 1 ∷ []) $
     enter ! _ _ _ _ _ $
-    alloc_all ! (λ l. pass_all ! refl ((tt, tt), ((tt, tt), ((tt, (tt, (record { fits = are.1.1.0.0.1.0 }, tt))), tt))) $
+    alloc_all ! (λ l. pass_all ! refl (
+      (tt, tt),
+      (
+        (tt, tt),
+        ((tt, (tt, (record { fits = are.1.1.0.0.1.0 }, tt))), tt),
+      ),
+    ) $
     sets ! (agg ! (no_more !)) refl (tt, tt) $ returns ! (look_at ! 0 refl) $ free_all ! refl $
-    suffices ! _ (ends_at 𝓛 f.ended stayed c y (vstruct vnil) made (tt, (tt, (tt, tt))) (tt, (tt, (tt, tt)))) $ says ! refl $
+    suffices ! _ (ends_at 𝓛 f.ended stayed c y (vstruct vnil) made (tt, (tt, (tt, tt)))
+    (tt, (tt, (tt, tt)))) $ says ! refl $
     pure_i ! (R.own_val made (vstruct vnil ∷ [])) ((λ vss. (tt, tt)), tt) ((tt, (refl, tt)), tt) $
     move ! (1 ∷ 2 ∷ 0 ∷ []) $ done !))
