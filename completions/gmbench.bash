@@ -8,7 +8,7 @@ _gmbench_options() {
         recover) echo --registry --shelf --existing --explain --wait --without --key --help ;;
         status | list | audit) echo --registry --shelf --existing --explain --wait --json --read-only --help ;;
         scrub) echo --registry --shelf --explain --wait --json --quiet --help ;;
-        do) echo --registry --shelf --existing --explain --wait --help ;;
+        do) echo --registry --shelf --existing --explain --wait --unchecked --force --help ;;
         batch) echo --registry --shelf --existing --explain --wait --audit --stop --help ;;
         sync) echo --registry --shelf --explain --wait --unchecked --quiet --help ;;
         serve) echo --registry --shelf --existing --explain --wait --port --count --log --audit --any-origin --help ;;

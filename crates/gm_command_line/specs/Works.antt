@@ -14,7 +14,7 @@ registers (word ∷ _) = bytes_eq word.now (codes "label") || bytes_eq word.now 
 abbrev pub makes_registry : Work → Bool
 makes_registry (work.Sync filling) = false
 makes_registry (work.Scrub comparing) = false
-makes_registry (work.Do key words) = registers words.now
+makes_registry (work.Do key words checks) = registers words.now
 makes_registry work.Recover = true
 makes_registry (work.RecoverWithout provider key) = true
 makes_registry (work.Status form) = true

@@ -90,13 +90,26 @@ Each line is answered before the next is read:
                     `copied K of N`, so many sectors by now of all
   KEY repeated SEQ  it was done before
   KEY refused N     nothing was written
-  KEY fault N       a fault, which ends the batch";
+  KEY fault N       a fault, which ends the batch
+With --audit the images of the mirror that a line names are compared with the registry first. If
+one isn't as it is registered, the batch ends there with status 1:
+  KEY not done      nothing was written
+  PROV HOW          for each such image";
 
 /// What the help of `do` says below its options.
 pub(crate) const WORDS: &str =
-    "The options of gmbench itself stand before KEY. Behind it stands a command, as in a line of a
+    "The options of gmbench itself come before KEY. After it comes a command, as in a line of a
 batch (`gmbench batch --help`), and it is answered as there. A sentence on standard error says why
 it is refused.
+
+Before it is carried out, the images of the mirror that it names are compared with the registry. If
+one isn't as it is registered, nothing is done. This is printed, and the status is 1:
+  KEY not done
+  PROV HOW          for each such image: absent, another size, no metadata, damaged, another mirror,
+                    another component, older, newer or changed
+With --unchecked it is carried out all the same. Nor is it done if data are lost then that nobody
+said are to be lost: a sentence says which. At a terminal it asks, and goes on after `yes`; with
+--force it doesn't ask.
 
 Example:
   gmbench do --registry registry --shelf images k1 label --mid 7 --did 1 gm0 a.img";
@@ -105,8 +118,9 @@ Example:
 pub(crate) const FILLING: &str =
     "Without NAME it fills the components of all mirrors, without PROV all of the mirror's. It hands in
 `advance` under keys of its own, `sync-N`, so that it may be stopped at any time and be begun again.
-First it audits those mirrors: where an image isn't as it is registered it is named, nothing is
-written, and the status is 1. Behind it all a line for each component says how that stands:
+First it audits those mirrors. One with an image that isn't as it is registered is passed over: the
+image is named, nothing is written to the mirror, and the status is 1. At the end a line for each
+component says how that stands:
   NAME PROV STATE";
 
 /// What the help of `scrub` says below its options.

@@ -69,6 +69,15 @@ pub struct Comparing {
     pub is_quiet: bool,
 }
 
+/// What is looked at before one command is handed in.
+#[derive(Clone, Copy)]
+pub struct Checks {
+    /// Whether the images that it is about are to be as they are registered.
+    pub images: bool,
+    /// Whether it may take nothing away that is lost then.
+    pub losses: bool,
+}
+
 /// What is to be done at a bench whose opening carried out what was pending.
 #[derive(Clone, Copy)]
 pub enum Work<'a> {
@@ -76,7 +85,10 @@ pub enum Work<'a> {
     Recover,
     /// The same of a bench that is opened without a provider, which is given up under a key, any
     /// text: say as well what that is answered.
-    RecoverWithout { provider: Label, key: &'a str },
+    RecoverWithout {
+        provider: Label,
+        key: &'a str,
+    },
     /// Say how the mirrors stand.
     Status(Form),
     /// Say all that is known of the mirrors.
@@ -85,11 +97,19 @@ pub enum Work<'a> {
     Audit(Form),
     /// Compare the data of components.
     Scrub(Comparing),
-    /// Hand in one command, under a key.
-    Do { key: &'a str, words: &'a [&'a str] },
-    /// Hand in the commands of an input, and answer each; none of them where the images are to be
-    /// audited first and the audit lists any, and none behind a refused one where it stops there.
-    Batch { audits: bool, stops: bool },
+    /// Hand in one command, under a key, if these checks let it pass.
+    Do {
+        key: &'a str,
+        words: &'a [&'a str],
+        checks: Checks,
+    },
+    /// Hand in the commands of an input, and answer each. If it audits, the images that a command
+    /// is about are looked at before it, and it ends at the first command that one stands in the
+    /// way of; if it stops, it ends at the first that is refused.
+    Batch {
+        audits: bool,
+        stops: bool,
+    },
     /// Fill components.
     Sync(Filling),
     /// Serve requests over HTTP.

@@ -1,6 +1,8 @@
 //! What the program's own words ask for.
 
-use crate::job::{Asked, Comparing, Filling, Form, Job, Look, Manner, Scope, Service, Work};
+use crate::job::{
+    Asked, Checks, Comparing, Filling, Form, Job, Look, Manner, Scope, Service, Work,
+};
 use crate::settings::{REGISTRY, SHELF, Setting, Settings};
 use crate::table::{DUMP, RECOVER, SCRUB, SYNC, Subcommand, program, program_command};
 use clap::error::ErrorKind;
@@ -250,6 +252,10 @@ fn command_of<'a>(given: &ArgMatches<'a>, words: &'a [&'a str]) -> Work<'a> {
     Work::Do {
         key: given.get_str("key").unwrap_or(""),
         words: &words[words.len().saturating_sub(count)..],
+        checks: Checks {
+            images: !given.get_flag("unchecked"),
+            losses: !given.get_flag("force"),
+        },
     }
 }
 

@@ -88,7 +88,7 @@ fn origin_option<'a>(alloc: Global) -> Arg<'a> {
 }
 
 fn audit_option<'a>(alloc: Global) -> Arg<'a> {
-    let help = "Audits the images first, and carries out nothing where it lists any";
+    let help = "Carries out no command if an image of its mirror isn't as it is registered";
     flag(alloc, "audit", help)
 }
 
@@ -122,8 +122,13 @@ fn read_only_option<'a>(alloc: Global) -> Arg<'a> {
 }
 
 fn unchecked_option<'a>(alloc: Global) -> Arg<'a> {
-    let help = "Fills them also where images aren't as they are registered";
+    let help = "Doesn't look first whether the images are as they are registered";
     flag(alloc, "unchecked", help)
+}
+
+fn force_option<'a>(alloc: Global) -> Arg<'a> {
+    let help = "Carries it out even if data are lost then";
+    flag(alloc, "force", help)
 }
 
 fn quiet_option<'a>(alloc: Global) -> Arg<'a> {
@@ -334,7 +339,11 @@ fn with_loss<'a>(alloc: Global, command: Command<'a>) -> Result<Command<'a>, All
 }
 
 fn with_command<'a>(alloc: Global, command: Command<'a>) -> Result<Command<'a>, AllocError> {
-    command.arg(key_word(alloc))?.arg(command_words(alloc))
+    command
+        .arg(unchecked_option(alloc))?
+        .arg(force_option(alloc))?
+        .arg(key_word(alloc))?
+        .arg(command_words(alloc))
 }
 
 fn with_lines<'a>(alloc: Global, command: Command<'a>) -> Result<Command<'a>, AllocError> {

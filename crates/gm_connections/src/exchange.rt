@@ -1,5 +1,6 @@
 //! One connection: a request that is taken and a response that is written, each in its time.
 
+use crate::expectation::{GO_ON, waits_for_word};
 use std::io::{self, ErrorKind, Read, Write};
 use std::net::{Shutdown, TcpStream};
 use std::time::{Duration, Instant};
@@ -15,7 +16,10 @@ const LINGERING: u64 = 2;
 
 const LINGERING_BYTES: u64 = 16 << 20;
 
-// How many bytes of a request are kept for the log.
+// How many bytes of a request are kept: a head has no more.
+const HEAD_BYTES: usize = 8192;
+
+// How many of them the log sees.
 const LINE_BYTES: usize = 256;
 
 // A time by which something is to be done.
@@ -46,14 +50,16 @@ impl<'a> Deadline<'a> {
 }
 
 /// The side of a connection from which a request is read: its first byte in two seconds, and all of
-/// it in ten. It keeps the beginning of what was read, for the log.
+/// it in ten. It keeps the beginning of what was read, for the log and for a client that waits to
+/// be told to go on after its head, and tells it.
 #[derive(Drop)]
 pub struct Incoming<'a> {
     stream: &'a TcpStream,
     first: Deadline<'a>,
     deadline: Deadline<'a>,
-    line: [u8; LINE_BYTES],
+    head: [u8; HEAD_BYTES],
     kept: usize,
+    told: bool,
 }
 
 impl<'a> Incoming<'a> {
@@ -63,14 +69,15 @@ impl<'a> Incoming<'a> {
             stream,
             first: Deadline::within(rt, FIRST_PATIENCE)?,
             deadline: Deadline::within(rt, PATIENCE)?,
-            line: [0; LINE_BYTES],
+            head: [0; HEAD_BYTES],
             kept: 0,
+            told: false,
         })
     }
 
     /// The beginning of what was read.
     pub fn beginning(&self) -> &[u8] {
-        self.line.get(..self.kept).unwrap_or(&[])
+        self.head.get(..self.kept.min(LINE_BYTES)).unwrap_or(&[])
     }
 
     // What is left of the time for what is missing.
@@ -85,7 +92,7 @@ impl<'a> Incoming<'a> {
     // Keeps as much of the bytes as there is room for.
     fn keep(&mut self, bytes: &[u8]) {
         for byte in bytes {
-            let Some(place) = self.line.get_mut(self.kept) else {
+            let Some(place) = self.head.get_mut(self.kept) else {
                 return;
             };
             *place = *byte;
@@ -94,8 +101,22 @@ impl<'a> Incoming<'a> {
     }
 }
 
+impl Incoming<'_> {
+    // Tells a client to go on that waits for that, once.
+    fn tell_to_go_on(&mut self) -> io::Result<()> {
+        let head = self.head.get(..self.kept).unwrap_or(&[]);
+        if self.told || !waits_for_word(head) {
+            return Ok(());
+        }
+        self.told = true;
+        self.stream.set_write_timeout(Some(self.left()?))?;
+        (&mut &*self.stream).write_all(GO_ON)
+    }
+}
+
 impl Read for Incoming<'_> {
     fn read(&mut self, buf: &mut [u8]) -> io::Result<usize> {
+        self.tell_to_go_on()?;
         self.stream.set_read_timeout(Some(self.left()?))?;
         let count = (&mut &*self.stream).read(buf)?;
         self.keep(&buf[..count]);

@@ -1,9 +1,10 @@
 //! The command itself.
 
-ghost use Rattle.std.specs.Prelude.{◌≡◌, IfOk};
+ghost use Rattle.std.specs.Prelude.{◌≡◌, ◌<◌, IfOk, vec_len};
 ghost use Rattle.gm_bench.specs.Benches.{progress_of};
 ghost use Rattle.gm_bench.specs.Phases.{TakesCommands};
 ghost use Rattle.gm_process.specs.Statuses.{MayRefuse};
+ghost use Rattle.gm_process.specs.declared.status.Status.TheVariants.{Refused};
 
 use crate::needs::{name_room, name_stale, needed};
 use crate::standing::standing_text;
@@ -17,7 +18,7 @@ use gm_reports::{Report, WhyRefused, audit_report, no_component, no_mirror, refu
 use gm_sentences::{About, Image};
 use gm_shelf::Shelf;
 use gm_state::State;
-use gm_sync::{Progress, Scope, Synced, sync};
+use gm_sync::{Ending, PassedOver, Progress, Scope, Synced, sync};
 use sqlite::Alter;
 use std::alloc::{AllocError, Global};
 use std::io::Write;
@@ -68,8 +69,19 @@ fn about(provider: Option<Label>) -> About {
     }
 }
 
-// Says what a sync came to.
-fn synced_report<I, O, E: Write>(
+// Says which mirrors were passed over.
+fn name_passed_over<E: Write>(complaints: &mut E, passed_over: &PassedOver) {
+    for mirror in &passed_over.mirrors {
+        let name = mirror.as_str();
+        let _ = writeln!(
+            complaints,
+            "{name} is passed over: not all of its images are as they are registered"
+        );
+    }
+}
+
+// Says how a sync ended, of what it didn't pass over.
+fn ending_report<I, O, E: Write>(
     alloc: Global,
     streams: &mut Streams<'_, I, O, E>,
     synced: &Synced,
@@ -77,25 +89,42 @@ fn synced_report<I, O, E: Write>(
 ) -> Result<Report, AllocError>
     ensures { IfOk result (λ report. MayRefuse report.status) }
 {
-    match synced {
-        Synced::Whole(state) => Ok(Report {
+    match &synced.ending {
+        Ending::Whole(state) => Ok(Report {
             status: Status::Done,
-            text: standing_text(alloc, state, scope)?,
+            text: standing_text(alloc, state, scope, &synced.passed_over)?,
         }),
-        Synced::Amiss(names) => {
-            let _ = streams
-                .complaints
-                .write_all(b"these aren't as they are registered\n");
-            audit_report(alloc, names, Form::Text)
-        }
-        Synced::Refused { provider, why } => {
+        Ending::Refused { provider, why } => {
             let about = about(*provider);
             refused(alloc, streams, WhyRefused { why: *why, about })
         }
     }
 }
 
-/// Fills components, and says how they stand then.
+// Says what a sync came to: first the images because of which it passed mirrors over.
+fn synced_report<I, O, E: Write>(
+    alloc: Global,
+    streams: &mut Streams<'_, I, O, E>,
+    synced: &Synced,
+    scope: &Scope,
+) -> Result<Report, AllocError>
+    ensures ends { IfOk result (λ report. MayRefuse report.status) }
+    ensures passed { 0 < vec_len synced.now.passed_over.images
+        → IfOk result (λ report. report.status ≡ Refused) }
+{
+    let passed_over = &synced.passed_over;
+    name_passed_over(streams.complaints, passed_over);
+    let ending = ending_report(alloc, streams, synced, scope)?;
+    if passed_over.images.is_empty() {
+        return Ok(ending);
+    }
+    let mut report = audit_report(alloc, &passed_over.images, Form::Text)?;
+    report.text.push_str(&ending.text)?;
+    Ok(report)
+}
+
+/// Fills components, and says how they stand then. It is refused if a mirror is passed over,
+/// because an image of it isn't as it is registered, also if all others are filled.
 pub fn fill_components<S: Alter, H: Shelf, I, O, E: Write>(
     rt: &HostRuntime,
     filling: Filling,

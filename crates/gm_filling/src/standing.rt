@@ -1,7 +1,7 @@
 //! How components stand, in a line each.
 
 use gm_state::{Component, State, component_state};
-use gm_sync::Scope;
+use gm_sync::{PassedOver, Scope};
 use std::alloc::{AllocError, Global};
 
 // Adds the line of a component.
@@ -19,15 +19,16 @@ fn push_standing(
     writeln!(text, "{mirror} {provider} {standing}")
 }
 
-/// A line for each component that is meant.
+/// A line for each component that is meant, but for those of mirrors that are passed over.
 pub(crate) fn standing_text(
     alloc: Global,
     state: &State,
     scope: &Scope,
+    passed_over: &PassedOver,
 ) -> Result<String, AllocError> {
     let mut text = String::new(alloc);
     for component in state.components() {
-        if scope.has(component) {
+        if scope.has(component) && !passed_over.has(component.mirror) {
             push_standing(&mut text, state, component)?;
         }
     }

@@ -1,9 +1,11 @@
 pub mod BatchRuns
 pub mod Found
+pub mod ManyLooks
 pub mod Pages
 pub mod Requests
 pub mod RequestsServed
 pub mod ServedRuns
 pub mod TakenLines
 pub mod Turns
+pub mod Withholding
 pub mod WrittenBytes

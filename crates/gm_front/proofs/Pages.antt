@@ -1,10 +1,10 @@
 -- What a page is told, and what is owed of it.
-use Rattle.std.proofs.Common.{◌≡◌, ◌∙◌, ◌++◌, inl, inr, ℕ, List, [], refl, sym, ap, append-nil, Option, Some, None, Result, Ok, Err, IfSome}
+use Rattle.std.proofs.Common.{◌≡◌, ◌∙◌, ℕ, List, [], refl, sym, ap, append-nil, Option, Some, None, Result, Ok, Err, IfSome}
 use Rattle.std.specs.Prelude.{IfOk, IfErr, OnErr}
 use Rattle.std.specs.Io.KnownBytes.{Appends, Keeps}
 use Rattle.gm_http.specs.Responses.{code_of}
 use Rattle.gm_http.specs.Senders.{IsFromPage, Sends}
-use Rattle.gm_http.specs.declared.sender.Sender.TheVariants.{Page, Program}
+use Rattle.gm_http.specs.declared.sender.Sender.TheVariants.{Program}
 use Rattle.gm_front.specs.declared.answer_lines.FrontFault.{FrontFault}
 use Rattle.gm_front.specs.declared.answer_lines.FrontFault.TheVariants.{Memory, Read, Write}
 use Rattle.gm_front.specs.declared.service.Response.{Response}

@@ -1,5 +1,5 @@
 -- Demands, and what they come to at a bench, as the code holds them.
-use Rattle.std.specs.Prelude.{◌≡◌, ◌<◌, [], Option, Some, None, MatchOption}
+use Rattle.std.specs.Prelude.{◌≡◌, ◌<◌, List, [], Option, Some, None, MatchOption}
 use Rattle.std.specs.String.{string_bytes}
 use Rattle.sqlite_trees.specs.declared.store.Store.{Ghosts}
 use Rattle.sqlite.specs.Held.{Held}
@@ -8,6 +8,7 @@ use Rattle.gm_shelf.specs.Disk.{View}
 use Rattle.gm_state.specs.Rows.{Tables}
 use Rattle.gm_state.specs.World.{World}
 use Rattle.gm_registry.specs.Replies.{AreWrittenUnder}
+use Rattle.gm_looks.specs.declared.unlike.Unlike.{Unlike}
 use Rattle.gm_bench.specs.declared.fault.BenchFault.{BenchFault}
 use Rattle.gm_bench.specs.declared.fault.BenchFault.TheVariants.{Disk, Unreadable}
 use Rattle.gm_bench.specs.declared.phase.Progress.{Progress}
@@ -20,6 +21,7 @@ use Rattle.gm_front.specs.declared.demand.Demand.TheVariants as held
 use Rattle.gm_front.specs.declared.finding.Finding.{Finding}
 use Rattle.gm_front.specs.declared.finding.Finding.TheVariants as finding
 use Rattle.gm_front.specs.declared.finding.Told.{Told as Held_told}
+use Rattle.gm_front.specs.Guards.{withheld_message}
 use Rattle.gm_http.specs.declared.status.Status.TheVariants as status
 use Rattle.gm_json.specs.Answers.{error_json}
 use Rattle.gm_json.specs.Mirrors.{mirror_json, status_json}
@@ -38,6 +40,10 @@ demand_in (held.Carry key command) = Carry (string_bytes key) command
 abbrev pub told_in : Held_told → Told
 told_in told = told_as told.status (string_bytes told.body)
 
+-- that a command isn't done, because of these components
+abbrev pub withheld_told : List Unlike → Told
+withheld_told list = told_as status.Conflict (error_json (withheld_message list))
+
 -- what is told of a finding
 abbrev pub told_of : Finding → Told
 told_of (finding.TurnedDown status message) = told_as status (error_json message.now)
@@ -47,6 +53,7 @@ told_of (finding.LastSector found) = sector_told found
 told_of finding.NoCommand = refusal_told 1
 told_of (finding.Answered answer) = answer_told (answer_of answer)
 told_of (finding.Failed fault) = fault_told fault
+told_of (finding.Withheld list) = withheld_told list.items
 
 -- the fault of the bench, where it failed
 abbrev pub fault_of : Finding → Option BenchFault
@@ -57,6 +64,12 @@ fault_of (finding.OneMirror state name) = None
 fault_of (finding.LastSector found) = None
 fault_of finding.NoCommand = None
 fault_of (finding.Answered answer) = None
+fault_of (finding.Withheld list) = None
+
+-- the demand was put to the bench: it isn't a command that was withheld
+abbrev pub IsPut : Finding → Type 0
+IsPut (finding.Withheld list) = ⊥
+IsPut _ = Unit {0}
 
 -- a bench that failed stays so, any other is as it was
 abbrev pub progress_behind : Progress → Option BenchFault → Progress

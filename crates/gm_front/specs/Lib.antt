@@ -2,6 +2,8 @@ pub mod Batch
 pub mod BatchRuns
 pub mod Demands
 pub mod Findings
+pub mod GuardedServices
+pub mod Guards
 pub mod HandedIn
 pub mod Input
 pub mod Losses

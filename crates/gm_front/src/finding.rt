@@ -13,15 +13,17 @@ ghost use Rattle.gm_bench.specs.Phases.{TakesCommands};
 ghost use Rattle.gm_bench.specs.Recovering.{IsAt};
 ghost use Rattle.gm_bench.specs.Running.{answer_of};
 ghost use Rattle.gm_front.specs.Demands.{answer_told, decoded_told, fault_status, mirror_told, not_found};
-ghost use Rattle.gm_front.specs.Findings.{ComesToFinding, demand_in, fault_of, progress_behind, told_in, told_of};
+ghost use Rattle.gm_front.specs.Findings.{ComesToFinding, IsPut, demand_in, fault_of, progress_behind, told_in, told_of, withheld_told};
 
 use crate::demand::Demand;
+use crate::guard::withheld_message;
 use gm_bench::{Answer, Bench, BenchFault};
 use gm_http::Status;
 use gm_json::{
     decode_json, done_json, error_json, fault_json, metadata_json, mirror_json, refused_json,
     repeated_json, status_json,
 };
+use gm_looks::Unlike;
 use gm_metadata::{Label, decode};
 use gm_shelf::Shelf;
 use gm_state::State;
@@ -45,6 +47,8 @@ pub(crate) enum Finding {
     Answered(Answer),
     /// The bench failed.
     Failed(BenchFault),
+    /// The command wasn't handed in, because of these components.
+    Withheld(Vec<Unlike>),
 }
 
 /// What is told: a status, and a body.
@@ -129,6 +133,17 @@ fn fault_status(fault: BenchFault) -> Status
     }
 }
 
+// That a command isn't done, because of these components.
+fn withheld_told(alloc: Global, list: &[Unlike]) -> Result<Told, AllocError>
+    ensures { IfOk result (λ told. told_in told ≡ withheld_told list.now) }
+{
+    let message = withheld_message(alloc, list)?;
+    Ok(Told {
+        status: Status::Conflict,
+        body: error_json(alloc, message.as_str())?,
+    })
+}
+
 impl Finding {
     /// What is told of it.
     pub(crate) fn told(&self, alloc: Global) -> Result<Told, AllocError>
@@ -155,6 +170,7 @@ impl Finding {
                 status: fault_status(*fault),
                 body: fault_json(alloc, fault.number())?,
             }),
+            Finding::Withheld(list) => withheld_told(alloc, list),
         }
     }
 
@@ -181,6 +197,7 @@ pub(crate) fn find<S: Alter, H: Shelf>(
         → IsAt S.Store H.view H.size (registry_of bench.old) (shelf_of bench.old) away [] [] u u
         → ComesToFinding S.Store H.view H.size (registry_of bench.old) (registry_of bench.new)
         (shelf_of bench.old) (shelf_of bench.new) away u (demand_in demand.now) result }
+    ensures put { IsPut result }
     ensures progress { progress_of bench.new
         ≡ progress_behind (progress_of bench.old) (fault_of result) }
     ensures closed { progress_of bench.old ≡ Failed → bench.new ≡ bench.old }

@@ -5,11 +5,14 @@
 //! comes to and how that is told, and `answer_lines.rt` answers them in turn; `specs/Batch.antt`
 //! says what all of it comes to, and `laws.rt` that a batch is a part of a schedule of the bench.
 //! `outcome.rt` also has the line for a loss with which a bench is opened (`specs/Losses.antt`).
+//! `guard.rt` holds a command back if images that it is about aren't as they are registered
+//! (`specs/Guards.antt`).
 //!
 //! Of a request, which `gm_http` reads, `demand.rt` says what it demands of the bench, `finding.rt`
 //! what that comes to and what is told of it, and `service.rt` serves it; `specs/Demands.antt` says
 //! what is told in which world, `specs/Services.antt` what serving one owes, and `laws.rt` that it
-//! too is a part of a schedule.
+//! too is a part of a schedule. `guarded_service.rt` serves one whose command may be held back
+//! (`specs/GuardedServices.antt`).
 //!
 //! The words of commands and the texts of mirrors are those of `gm_words`, and can be taken from
 //! here.
@@ -18,6 +21,8 @@
 mod answer_lines;
 mod demand;
 mod finding;
+mod guard;
+mod guarded_service;
 mod laws;
 mod lines;
 mod outcome;
@@ -26,6 +31,8 @@ mod service;
 
 pub use answer_lines::{BatchEnd, FrontFault, Listener, batch, heard_batch};
 pub use gm_words::{WordsFault, dump_text, list_text, read_words, status_text};
+pub use guard::{Guarded, ask_guarded, in_the_way, withheld_text};
+pub use guarded_service::serve_request_guarded;
 pub use laws::{served_request_law, unless_page_law, whole_batch_law};
 pub use lines::{Line, MAX_LINE, next_line};
 pub use outcome::{Outcome, ask, loss_text};

@@ -45,8 +45,12 @@ pub struct Served {
     pub fault: Option<BenchFault>,
 }
 
-// Writes the response that tells a finding.
-fn tell<W: Write>(alloc: Global, writer: &mut W, finding: &Finding) -> Result<Response, FrontFault>
+/// Writes the response that tells a finding.
+pub(crate) fn tell<W: Write>(
+    alloc: Global,
+    writer: &mut W,
+    finding: &Finding,
+) -> Result<Response, FrontFault>
     ensures ok { IfOk result (λ response. (response.status ≡ (told_of finding.now).status)
         × Appends (W.contents writer.old) (W.contents writer.new)
         (bytes_of (told_of finding.now))) }
@@ -70,8 +74,8 @@ fn tell<W: Write>(alloc: Global, writer: &mut W, finding: &Finding) -> Result<Re
     }
 }
 
-// A request that wasn't put to the bench.
-fn unserved(fault: FrontFault) -> Served
+/// A request that wasn't put to the bench.
+pub(crate) fn unserved(fault: FrontFault) -> Served
     ensures response { result.response ≡ Err fault }
     ensures none { result.fault ≡ None }
 {
@@ -146,8 +150,8 @@ pub fn serve_request<R: Read, W: Write, S: Alter, H: Shelf>(
     }
 }
 
-// Tells a page that it isn't served.
-fn turn_away<W: Write>(alloc: Global, writer: &mut W) -> Served
+/// Tells a page that it isn't served.
+pub(crate) fn turn_away<W: Write>(alloc: Global, writer: &mut W) -> Served
     ensures response { TurnsAway (W.contents writer.old) (W.contents writer.new)
         (code_told result.response) }
     ensures none { result.fault ≡ None }

@@ -9,12 +9,16 @@ ghost use Rattle.gm_handing_in.specs.Ends.{fault_of_front, status_of_end};
 use crate::explainer::Explainer;
 use gm_bench::Bench;
 use gm_faults::Fault;
-use gm_front::{BatchEnd, FrontFault, Line, Listener, MAX_LINE, Outcome, heard_batch, next_line};
+use gm_front::{
+    BatchEnd, FrontFault, Guarded, Line, Listener, MAX_LINE, Outcome, ask_guarded, heard_batch,
+    next_line, pieces, request_of, withheld_text,
+};
 use gm_process::{Status, Streams};
 use gm_shelf::Shelf;
 use sqlite::Alter;
 use std::alloc::{AllocError, Global};
 use std::io::{BufRead, Write};
+use std::str;
 
 // What is told of a batch whose memory, input or output failed.
 fn fault_of_front(fault: FrontFault) -> Fault
@@ -54,27 +58,122 @@ pub fn hand_in<S: Alter, H: Shelf, I: BufRead, O: Write, E: Write>(
     status_of_end(heard_batch(alloc, input, output, bench, &mut explainer))
 }
 
+// How a batch goes on after a line.
+#[derive(Clone, Copy, Debug, PartialEq, Eq)]
+enum Told {
+    Done,
+    Refused,
+    // images stand in the way of its command, and it wasn't handed in
+    Withheld,
+}
+
+// What is told of a line by how the program would end after it.
+fn told_by(status: Status) -> Told {
+    match status {
+        Status::Done => Told::Done,
+        _ => Told::Refused,
+    }
+}
+
 // Answers one line that was found, before the next is read. One that is too long is refused without
 // the bench.
-fn hand_in_line<S: Alter, H: Shelf, O: Write, L: Listener>(
+fn hand_in_line<S: Alter, H: Shelf, O: Write, E: Write>(
     alloc: Global,
     line: Option<&[u8]>,
     output: &mut O,
     bench: &mut Bench<S, H>,
-    listener: &mut L,
-) -> Result<Status, Fault>
+    explainer: &mut Explainer<'_, E>,
+) -> Result<Told, Fault>
     requires { TakesCommands (progress_of bench.old) }
-    ensures ends { IfOk result MayRefuse }
-    ensures phase { TakesCommands (progress_of bench.new) }
+    ensures { TakesCommands (progress_of bench.new) }
 {
     if let Some(mut line) = line {
-        return status_of_end(heard_batch(alloc, &mut line, output, bench, listener));
+        let end = heard_batch(alloc, &mut line, output, bench, explainer);
+        return Ok(told_by(status_of_end(end)?));
     }
     let outcome = Outcome::Wrong("?");
     output.write_all(outcome.text(alloc)?.as_bytes())?;
     output.flush()?;
-    listener.answered(None, &outcome);
-    Ok(Status::Refused)
+    explainer.answered(None, &outcome);
+    Ok(Told::Refused)
+}
+
+// Tells what a line came to.
+fn tell<O: Write, E: Write>(
+    alloc: Global,
+    line: &[u8],
+    outcome: &Outcome<'_>,
+    output: &mut O,
+    explainer: &mut Explainer<'_, E>,
+) -> Result<Told, Fault> {
+    output.write_all(outcome.text(alloc)?.as_bytes())?;
+    output.flush()?;
+    explainer.answered(Some(line), outcome);
+    match *outcome {
+        Outcome::Failed(_, fault) => Err(Fault::Bench(fault)),
+        _ if outcome.is_refused() => Ok(Told::Refused),
+        _ => Ok(Told::Done),
+    }
+}
+
+// Answers a line whose command is handed in only if no image stands in its way.
+fn hand_in_guarded<S: Alter, H: Shelf, O: Write, E: Write>(
+    alloc: Global,
+    text: &str,
+    output: &mut O,
+    bench: &mut Bench<S, H>,
+    explainer: &mut Explainer<'_, E>,
+) -> Result<Told, Fault>
+    requires { TakesCommands (progress_of bench.old) }
+    ensures { TakesCommands (progress_of bench.new) }
+{
+    let line = text.as_bytes();
+    let request = request_of(alloc, &pieces(alloc, text)?)?;
+    match ask_guarded(alloc, bench, &request) {
+        Guarded::Through(outcome) => tell(alloc, line, &outcome, output, explainer),
+        Guarded::Unlooked(key, fault) => {
+            tell(alloc, line, &Outcome::Failed(key, fault), output, explainer)
+        }
+        Guarded::Withheld(key, list) => {
+            output.write_all(withheld_text(alloc, key, &list)?.as_bytes())?;
+            output.flush()?;
+            explainer.explain_withheld(
+                key,
+                &list,
+                "without --audit it is carried out all the same",
+            );
+            Ok(Told::Withheld)
+        }
+    }
+}
+
+/// How the lines of a batch are handed in.
+#[derive(Clone, Copy)]
+pub struct Lines {
+    /// Whether a command is handed in only if no image stands in its way; else the batch ends.
+    pub audits: bool,
+    /// Whether it ends at the first line that is refused.
+    pub stops: bool,
+}
+
+// The text of a line, if it is to be looked at before it is handed in. What isn't UTF-8 is no
+// command.
+fn looked_at(line: Option<&[u8]>, lines: Lines) -> Option<&str> {
+    if !lines.audits {
+        return None;
+    }
+    str::from_utf8(line?).ok()
+}
+
+// How the program ends where no line ends it before.
+fn status_of(refused: bool) -> Status
+    ensures { MayRefuse result }
+{
+    if refused {
+        Status::Refused
+    } else {
+        Status::Done
+    }
 }
 
 // So many zeros, as room for a line.
@@ -84,37 +183,44 @@ fn zeros(alloc: Global, count: usize) -> Result<Vec<u8>, AllocError>
     vec![in alloc; 0u8; count]
 }
 
-// Answers lines of the input until one is refused, with room for a line.
-fn hand_in_lines<S: Alter, H: Shelf, I: BufRead, O: Write, L: Listener>(
+// Answers lines of the input one by one, with room for a line.
+fn hand_in_lines<S: Alter, H: Shelf, I: BufRead, O: Write, E: Write>(
     alloc: Global,
     input: &mut I,
     output: &mut O,
     bench: &mut Bench<S, H>,
-    listener: &mut L,
+    explainer: &mut Explainer<'_, E>,
+    lines: Lines,
     room: &mut [u8],
 ) -> Result<Status, Fault>
     requires phase { TakesCommands (progress_of bench.old) }
     requires room { length room.old ≡ 131072 }
     ensures { IfOk result MayRefuse }
 {
+    let mut refused = false;
     for _ in 0..u64::MAX {
         let line = match next_line(input, room)? {
-            Line::End => return Ok(Status::Done),
+            Line::End => return Ok(status_of(refused)),
             Line::Long => None,
             Line::Whole(count) => room.get(..count),
         };
-        match hand_in_line(alloc, line, output, bench, listener)? {
-            Status::Done => {}
-            status => return Ok(status),
+        let told = match looked_at(line, lines) {
+            Some(text) => hand_in_guarded(alloc, text, output, bench, explainer)?,
+            None => hand_in_line(alloc, line, output, bench, explainer)?,
+        };
+        if told == Told::Withheld || (told == Told::Refused && lines.stops) {
+            return Ok(Status::Refused);
         }
+        refused |= told == Told::Refused;
     }
-    Ok(Status::Done)
+    Ok(status_of(refused))
 }
 
-/// The same, but ends at the first line that is refused: what follows it is neither read nor handed
-/// in.
-pub fn hand_in_until_refused<S: Alter, H: Shelf, I: BufRead, O: Write, E: Write>(
+/// Hands in the lines of the input one by one, and ends early if a line is one that ends it: what
+/// follows that is neither read nor handed in.
+pub fn hand_in_lines_of<S: Alter, H: Shelf, I: BufRead, O: Write, E: Write>(
     rt: &HostRuntime,
+    lines: Lines,
     bench: &mut Bench<S, H>,
     streams: &mut Streams<'_, I, O, E>,
 ) -> Result<Status, Fault>
@@ -126,5 +232,5 @@ pub fn hand_in_until_refused<S: Alter, H: Shelf, I: BufRead, O: Write, E: Write>
     let (input, output) = (&mut *streams.input, &mut *streams.output);
     let mut room = zeros(alloc, MAX_LINE)?;
     let room = room.as_mut_slice();
-    hand_in_lines(alloc, input, output, bench, &mut explainer, room)
+    hand_in_lines(alloc, input, output, bench, &mut explainer, lines, room)
 }

@@ -1,25 +1,31 @@
 //! Sentences on the complaints: why a command is refused.
 
+use crate::reason::Known;
+use crate::withheld::say_withheld;
 use gm_bench::Answer;
 use gm_commands::Command;
 use gm_front::{Listener, Outcome, pieces};
+use gm_looks::Unlike;
 use gm_metadata::Label;
 use gm_process::Explaining;
 use gm_refusals::{CallRefusal, Refusal};
 use gm_sentences::{About, Image, call_sentence, images_in_a_row};
 use gm_shelf::{FileShelf, Shelf};
+use gm_state::State;
 use gm_words::{read_words, words_complaint};
 use std::alloc::{AllocError, Global};
 use std::io::Write;
 use std::str;
 
-/// Explains refusals, where that is wanted. What can't be told isn't, and what it looks at it looks
-/// at by itself: the bench is asked nothing.
+/// Explains refusals, if that is wanted. What can't be told isn't, and what it looks at it looks at
+/// by itself: the bench is asked nothing.
 #[derive(Drop)]
 pub(crate) struct Explainer<'a, E> {
     rt: &'a HostRuntime,
     complaints: &'a mut E,
     explaining: &'a Explaining,
+    // the mirrors as they are now, if they are known
+    state: Option<&'a State>,
 }
 
 impl<'a, E: Write> Explainer<'a, E> {
@@ -32,6 +38,17 @@ impl<'a, E: Write> Explainer<'a, E> {
             rt,
             complaints,
             explaining,
+            state: None,
+        }
+    }
+
+    /// One that knows the mirrors as they are now, if they are given.
+    pub(crate) fn knowing(self, state: Option<&'a State>) -> Explainer<'a, E> {
+        Explainer {
+            rt: self.rt,
+            complaints: self.complaints,
+            explaining: self.explaining,
+            state,
         }
     }
 
@@ -77,11 +94,29 @@ impl<'a, E: Write> Explainer<'a, E> {
         about.with_image(image)
     }
 
+    // More of a refusal by the rules, if the mirrors are known.
+    fn by_state(&self, command: &Command, why: &CallRefusal) -> Result<Option<String>, AllocError> {
+        match (self.state, why) {
+            (Some(state), CallRefusal::ByRules(why)) => {
+                let known = Known {
+                    rt: self.rt,
+                    explaining: self.explaining,
+                    state,
+                };
+                known.sentence(command, *why)
+            }
+            _ => Ok(None),
+        }
+    }
+
     // Why these words are no command, or why the command is refused that they are.
     fn sentence(&self, words: &[&str], why: Option<CallRefusal>) -> Result<String, AllocError> {
         let alloc = self.rt.alloc();
         match (read_words(alloc, words)?, why) {
             (Ok(command), Some(why)) => {
+                if let Some(sentence) = self.by_state(&command, &why)? {
+                    return Ok(sentence);
+                }
                 let about = self.about(&command, &why);
                 about.sentence(alloc, call_sentence(why))
             }
@@ -91,6 +126,23 @@ impl<'a, E: Write> Explainer<'a, E> {
 
     fn say(&mut self, key: &str, number: u8, sentence: &str) {
         let _ = writeln!(self.complaints, "{key}: refused {number}: {sentence}");
+    }
+
+    /// Why a command is withheld under a key, and how it is carried out all the same.
+    pub(crate) fn explain_withheld(&mut self, key: &str, list: &[Unlike], all_the_same: &str) {
+        if self.explaining.wanted {
+            say_withheld(self.complaints, key, list, all_the_same);
+        }
+    }
+
+    /// When a command was done that is repeated.
+    pub(crate) fn explain_repeated(&mut self, outcome: &Outcome<'_>) {
+        if let Outcome::Answered(key, Answer::Repeated(number, _)) = *outcome {
+            let _ = writeln!(
+                self.complaints,
+                "{key}: done before, as number {number}; nothing is done now"
+            );
+        }
     }
 
     /// Why the command of these words is refused under a key, by what it came to.

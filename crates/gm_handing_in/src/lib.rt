@@ -3,14 +3,19 @@
 //!
 //! `single.rt` hands in one command (`do`), `batch.rt` those of an input, and `serving.rt` those
 //! that come over connections; each says how the program ends then (`specs/Ends.antt`).
-//! `explainer.rt` says in a sentence why a command is refused.
+//! `explainer.rt` says in a sentence why a command is refused, with `reason.rt` if the mirrors are
+//! known, and `withheld.rt` what is to be done if images stand in its way. `lost_by.rt` says what
+//! would be lost by a command, and asks whether it is carried out all the same.
 #![tactic(auto)]
 
 mod batch;
 mod explainer;
+mod lost_by;
+mod reason;
 mod serving;
 mod single;
+mod withheld;
 
-pub use batch::{hand_in, hand_in_until_refused};
+pub use batch::{Lines, hand_in, hand_in_lines_of};
 pub use serving::{serve, serve_connections};
 pub use single::hand_in_one;

@@ -9,7 +9,9 @@ use gm_bench::{Bench, BenchFault};
 use gm_command_line::Service;
 use gm_connections::{Incoming, Log, Outgoing, Told, end};
 use gm_faults::Fault;
-use gm_front::{FrontFault, Response, Served, serve_request, serve_request_unless_page};
+use gm_front::{
+    FrontFault, Response, Served, serve_request, serve_request_guarded, serve_request_unless_page,
+};
 use gm_process::{Status, Streams};
 use gm_shelf::Shelf;
 use sqlite::Alter;
@@ -41,18 +43,22 @@ fn told(response: Result<Response, FrontFault>) -> Option<Told> {
     }
 }
 
-// Serves a request, one that a web page sent only where those of any origin are wanted.
+// Serves a request: one that a web page sent only if those of any origin are wanted, and a command
+// only if no image stands in its way, if that is looked at.
 fn serve_from<R: Read, W: Write, S: Alter, H: Shelf>(
     alloc: Global,
     incoming: &mut R,
     outgoing: &mut W,
-    any_origin: bool,
+    service: Service,
     bench: &mut Bench<S, H>,
 ) -> Served
     requires { TakesCommands (progress_of bench.old) }
     ensures { TakesCommands (progress_of bench.new) }
 {
-    if any_origin {
+    let any_origin = service.any_origin;
+    if service.audits {
+        serve_request_guarded(alloc, incoming, outgoing, any_origin, bench)
+    } else if any_origin {
         serve_request(alloc, incoming, outgoing, bench)
     } else {
         serve_request_unless_page(alloc, incoming, outgoing, bench)
@@ -75,13 +81,7 @@ fn serve_connection<S: Alter, H: Shelf, E: Write>(
         return None;
     };
     let mut outgoing = Outgoing::new(rt, stream);
-    let served = serve_from(
-        rt.alloc(),
-        &mut incoming,
-        &mut outgoing,
-        service.any_origin,
-        bench,
-    );
+    let served = serve_from(rt.alloc(), &mut incoming, &mut outgoing, service, bench);
     if service.logs {
         log.tell(rt, incoming.beginning(), told(served.response));
     }

@@ -1,20 +1,25 @@
 //! The command `do`, which hands in one command.
 
-ghost use Rattle.std.specs.Prelude.{◌≡◌, IfOk};
+ghost use Rattle.std.specs.Prelude.{◌≡◌, IfOk, OnOk};
 ghost use Rattle.gm_bench.specs.Benches.{progress_of};
 ghost use Rattle.gm_bench.specs.Phases.{TakesCommands};
 ghost use Rattle.gm_front.specs.Outcomes.{is_refused};
 ghost use Rattle.gm_process.specs.Statuses.{MayRefuse, status_of_refused};
 
 use crate::explainer::Explainer;
+use crate::lost_by::lets_go;
 use gm_bench::Bench;
+use gm_command_line::Checks;
+use gm_commands::is_key;
 use gm_faults::Fault;
-use gm_front::{Outcome, ask, request_of};
+use gm_front::{
+    Guarded, Outcome, Request, ask, ask_guarded, in_the_way, request_of, withheld_text,
+};
 use gm_process::{Status, Streams};
 use gm_shelf::Shelf;
 use sqlite::Alter;
 use std::alloc::{AllocError, Global};
-use std::io::{Read, Write};
+use std::io::{BufRead, Write};
 
 // The key and the words, as the pieces of a line.
 fn pieces<'a>(alloc: Global, key: &'a str, words: &[&'a str]) -> Result<Vec<&'a str>, AllocError> {
@@ -38,11 +43,61 @@ fn status_of(outcome: &Outcome<'_>) -> Result<Status, Fault>
     }
 }
 
-/// Hands in the command of these words under a key, and prints its answer.
-pub fn hand_in_one<S: Alter, H: Shelf, I: Read, O: Write, E: Write>(
+// Whether a request may be handed in as far as losses go. One that is answered without being
+// carried out loses nothing, and neither does one that images stand in the way of.
+fn passes<S: Alter, H: Shelf, I: BufRead, O: Write, E: Write>(
+    rt: &HostRuntime,
+    request: &Request<'_>,
+    checks: Checks,
+    bench: &mut Bench<S, H>,
+    streams: &mut Streams<'_, I, O, E>,
+) -> Result<bool, Fault>
+    ensures { OnOk result (progress_of bench.new ≡ progress_of bench.old) }
+{
+    let Request::Call(key, ref command) = *request else {
+        return Ok(true);
+    };
+    if !checks.losses || !is_key(key) || bench.kept(key)?.is_some() {
+        return Ok(true);
+    }
+    if checks.images && !in_the_way(rt.alloc(), bench, key, command)?.is_empty() {
+        return Ok(true);
+    }
+    lets_go(rt, key, command, bench, streams)
+}
+
+// Prints what a command came to, and explains it.
+fn tell<S: Alter, H: Shelf, I, O: Write, E: Write>(
+    rt: &HostRuntime,
+    words: &[&str],
+    outcome: &Outcome<'_>,
+    bench: &mut Bench<S, H>,
+    streams: &mut Streams<'_, I, O, E>,
+) -> Result<Status, Fault>
+    ensures { IfOk result MayRefuse }
+{
+    let alloc = rt.alloc();
+    let text = outcome.text(alloc)?;
+    streams.output.write_all(text.as_bytes())?;
+    streams.output.flush()?;
+    let state = match outcome.is_refused() && streams.explaining.wanted {
+        true => bench.view(alloc).ok(),
+        false => None,
+    };
+    let explainer = Explainer::new(rt, streams.complaints, &streams.explaining);
+    let mut explainer = explainer.knowing(state.as_ref());
+    explainer.explain(words, outcome);
+    explainer.explain_repeated(outcome);
+    status_of(outcome)
+}
+
+/// Hands in the command of these words under a key, if the checks let it pass, and prints what it
+/// came to.
+pub fn hand_in_one<S: Alter, H: Shelf, I: BufRead, O: Write, E: Write>(
     rt: &HostRuntime,
     key: &str,
     words: &[&str],
+    checks: Checks,
     bench: &mut Bench<S, H>,
     streams: &mut Streams<'_, I, O, E>,
 ) -> Result<Status, Fault>
@@ -52,11 +107,32 @@ pub fn hand_in_one<S: Alter, H: Shelf, I: Read, O: Write, E: Write>(
     let alloc = rt.alloc();
     let pieces = pieces(alloc, key, words)?;
     let request = request_of(alloc, &pieces)?;
-    let outcome = ask(alloc, bench, &request);
-    let text = outcome.text(alloc)?;
-    streams.output.write_all(text.as_bytes())?;
-    streams.output.flush()?;
-    let mut explainer = Explainer::new(rt, streams.complaints, &streams.explaining);
-    explainer.explain(words, &outcome);
-    status_of(&outcome)
+    match passes(rt, &request, checks, bench, streams) {
+        Ok(true) => {}
+        Ok(false) => return Ok(Status::Refused),
+        Err(Fault::Bench(fault)) => {
+            return tell(rt, words, &Outcome::Failed(key, fault), bench, streams);
+        }
+        Err(fault) => return Err(fault),
+    }
+    let guarded = if checks.images {
+        ask_guarded(alloc, bench, &request)
+    } else {
+        Guarded::Through(ask(alloc, bench, &request))
+    };
+    match guarded {
+        Guarded::Through(outcome) => tell(rt, words, &outcome, bench, streams),
+        Guarded::Unlooked(key, fault) => {
+            tell(rt, words, &Outcome::Failed(key, fault), bench, streams)
+        }
+        Guarded::Withheld(key, list) => {
+            streams
+                .output
+                .write_all(withheld_text(alloc, key, &list)?.as_bytes())?;
+            streams.output.flush()?;
+            let mut explainer = Explainer::new(rt, streams.complaints, &streams.explaining);
+            explainer.explain_withheld(key, &list, "--unchecked carries it out all the same");
+            Ok(Status::Refused)
+        }
+    }
 }

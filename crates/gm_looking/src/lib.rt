@@ -2,16 +2,13 @@
 //! bench whose images are held against its records or each other.
 //!
 //! `taste.rt` says what the images of a folder tell, `read_only.rt` has the commands that show a
-//! registry as it stands (`specs/Looks.antt` says how they end), `comparing.rt` compares data, and
-//! `audit.rt` looks for damage before commands are carried out.
+//! registry as it stands (`specs/Looks.antt` says how they end), and `comparing.rt` compares data.
 #![tactic(auto)]
 
-mod audit;
 mod comparing;
 mod read_only;
 mod taste;
 
-pub use audit::damage;
 pub use comparing::scrub;
 pub use read_only::{look_at, show_pending, show_pending_at};
 pub use taste::taste_folder;

@@ -16,6 +16,8 @@ pub struct Explaining {
     pub wanted: bool,
     /// Whether the complaints go to a terminal.
     pub at_terminal: bool,
+    /// Whether whoever runs the program can be asked: the input comes from a terminal too.
+    pub asks: bool,
     /// The folder with the images.
     pub folder: String,
     /// Which file failed and why, where more is known of it: the folder, a stream or the registry.
@@ -25,11 +27,12 @@ pub struct Explaining {
 }
 
 impl Explaining {
-    /// Of no folder yet: it is wanted where the complaints go to a terminal.
+    /// Of no folder yet: it is wanted if the complaints go to a terminal, and nobody can be asked.
     pub fn new(alloc: Global, at_terminal: bool) -> Explaining {
         Explaining {
             wanted: at_terminal,
             at_terminal,
+            asks: false,
             folder: String::new(alloc),
             trouble: None,
             failure: None,

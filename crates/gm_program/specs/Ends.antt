@@ -1,15 +1,10 @@
 -- How work at a bench ends.
-use Rattle.std.specs.Prelude.{◌≡◌, Bool, true, false}
+use Rattle.std.specs.Prelude.{◌≡◌}
 use Rattle.gm_command_line.specs.declared.job.Work.{Work}
 use Rattle.gm_command_line.specs.declared.job.Work.TheVariants as work
 use Rattle.gm_process.specs.declared.status.Status.{Status}
 use Rattle.gm_process.specs.declared.status.Status.TheVariants.{Done}
 use Rattle.gm_process.specs.Statuses.{MayRefuse}
-
--- requests are served, unless an audit is asked for and lists images
-abbrev pub MayServe : Bool → Status → Type 0
-MayServe true status = MayRefuse status
-MayServe false status = status ≡ Done
 
 -- what shows mirrors or serves requests is done; what holds images against records or each other
 -- may find damage, and a command may be refused, as a recovery without a provider
@@ -20,7 +15,7 @@ MayEnd (work.Status form) status = status ≡ Done
 MayEnd (work.List form) status = status ≡ Done
 MayEnd (work.Audit form) status = MayRefuse status
 MayEnd (work.Scrub comparing) status = MayRefuse status
-MayEnd (work.Do key words) status = MayRefuse status
+MayEnd (work.Do key words checks) status = MayRefuse status
 MayEnd (work.Batch audits stops) status = MayRefuse status
 MayEnd (work.Sync filling) status = MayRefuse status
-MayEnd (work.Serve service) status = MayServe service.audits status
+MayEnd (work.Serve service) status = status ≡ Done

@@ -10,8 +10,8 @@ use gm_bench::Bench;
 use gm_command_line::Work;
 use gm_faults::Fault;
 use gm_filling::fill_components;
-use gm_handing_in::{hand_in, hand_in_one, hand_in_until_refused, serve};
-use gm_looking::{damage, scrub};
+use gm_handing_in::{Lines, hand_in, hand_in_lines_of, hand_in_one, serve};
+use gm_looking::scrub;
 use gm_process::{Status, Streams};
 use gm_reports::{Report, audit_report, list_report, status_report};
 use gm_shelf::Shelf;
@@ -30,8 +30,8 @@ fn told(alloc: Global, status: Status) -> Report
 }
 
 /// Does the work. A batch reads the input, and prints its answers at once; what serves requests
-/// takes them from connections. Neither is begun where an audit is asked for and lists images. A
-/// recovery without a provider is told by who opens its bench; here it tells no more than any.
+/// takes them from connections. A recovery without a provider is told by who opens its bench; here
+/// it tells no more than any.
 pub fn perform<S: Alter, H: Shelf, I: BufRead, O: Write, E: Write>(
     work: &Work<'_>,
     rt: &HostRuntime,
@@ -57,26 +57,23 @@ pub fn perform<S: Alter, H: Shelf, I: BufRead, O: Write, E: Write>(
             Ok(audit_report(alloc, &names, form)?)
         }
         Work::Scrub(comparing) => scrub(rt, comparing, bench, streams),
-        Work::Do { key, words } => {
-            let status = hand_in_one(rt, key, words, bench, streams)?;
+        Work::Do { key, words, checks } => {
+            let status = hand_in_one(rt, key, words, checks, bench, streams)?;
+            Ok(told(alloc, status))
+        }
+        Work::Batch {
+            audits: false,
+            stops: false,
+        } => {
+            let status = hand_in(rt, bench, streams)?;
             Ok(told(alloc, status))
         }
         Work::Batch { audits, stops } => {
-            if let Some(report) = damage(alloc, bench, audits)? {
-                return Ok(report);
-            }
-            let status = if stops {
-                hand_in_until_refused(rt, bench, streams)?
-            } else {
-                hand_in(rt, bench, streams)?
-            };
+            let status = hand_in_lines_of(rt, Lines { audits, stops }, bench, streams)?;
             Ok(told(alloc, status))
         }
         Work::Sync(filling) => fill_components(rt, filling, bench, streams),
         Work::Serve(service) => {
-            if let Some(report) = damage(alloc, bench, service.audits)? {
-                return Ok(report);
-            }
             let status = serve(rt, service, bench, streams)?;
             Ok(told(alloc, status))
         }

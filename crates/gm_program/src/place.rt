@@ -13,7 +13,9 @@ use gm_faults::{Fault, explain_loss};
 use gm_metadata::Label;
 use gm_process::{HeldFolder, Patience, Place, Status, Streams};
 use gm_registry::StoreFault;
-use gm_registry_files::{StoreCause, is_no_database, is_there, leave_out_registry, store_cause};
+use gm_registry_files::{
+    StoreCause, foreign_fault, is_no_database, is_there, leave_out_registry, store_cause,
+};
 use gm_reports::Report;
 use gm_shelf::FileShelf;
 use sqlite::{Alter, Connection, Error, ErrorCode, File, FileStore};
@@ -176,6 +178,10 @@ fn open_registry<I, O, E: Write>(
     if let Some(cause) = obstacle(rt, registry, was_there, terms.makes) {
         streams.explaining.trouble = cause.trouble(alloc, registry);
         return Err(StoreFault::Store);
+    }
+    if let Some(fault) = foreign_fault(rt, registry) {
+        streams.explaining.trouble = StoreCause::Foreign.trouble(alloc, registry);
+        return Err(fault);
     }
     match open_patiently(rt, registry, terms.patience) {
         Ok(store) => {

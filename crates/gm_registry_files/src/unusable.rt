@@ -33,6 +33,8 @@ pub enum StoreCause {
     Journal,
     /// No database begins as it does.
     NoDatabase,
+    /// It is a database with other tables.
+    Foreign,
 }
 
 impl StoreCause {
@@ -56,6 +58,7 @@ impl StoreCause {
             StoreCause::InUse => "another program has PATH open",
             StoreCause::Journal => "PATH has a rollback journal: open it with sqlite3 first",
             StoreCause::NoDatabase => "PATH isn't a registry: no database begins as it does",
+            StoreCause::Foreign => "PATH is a database of another program",
         }
     }
 }

@@ -11,7 +11,8 @@ fn refusal_sentence(why: Refusal) -> &'static str {
         Refusal::MidTaken => "another mirror has the same mid",
         Refusal::Absent => "IMAGE isn't on the shelf",
         Refusal::ProviderTaken => "IMAGE is a component of a mirror already",
-        Refusal::CarriesMetadata => "IMAGE carries metadata; clear takes it away",
+        Refusal::CarriesMetadata =>
+            "IMAGE carries metadata: see dump; adopt it or, if nobody needs it, clear it",
         Refusal::TooSmall => "IMAGE is too small for the data of MIRROR and one sector more",
         Refusal::NotMember => "IMAGE isn't a component of MIRROR, or is named twice",
         Refusal::DidTaken => "a component of MIRROR has the same did",
@@ -31,7 +32,8 @@ fn refusal_sentence(why: Refusal) -> &'static str {
             "these images don't tell of one mirror MIRROR; taste says what they tell",
         Refusal::WrongSize => "IMAGE has fewer than 2 or more than 1,048,576 sectors",
         Refusal::NoMetadata => "IMAGE carries no metadata",
-        Refusal::BeingFilled => "a component of MIRROR is SYNCHRONIZING or STALE; sync fills it",
+        Refusal::BeingFilled =>
+            "a component of MIRROR is SYNCHRONIZING: sync it; or STALE: rebuild it, then sync it",
         Refusal::BeyondEnd => "the data of MIRROR end before the last of these sectors",
     }
 }

@@ -1,8 +1,7 @@
 -- Which components of the mirrors that are meant aren't as they are registered.
 use Rattle.std.proofs.Common.{◌≡◌, ◌∙◌, inl, inr, ℕ, true, refl, sym, ap, subst, arith, List, [], ◌∷◌, Some, length, filter}
-use Rattle.gm_lists.specs.Ordered.{Has}
 use Rattle.gm_lists.proofs.Finding.{find_one}
-use Rattle.gm_lists.proofs.Lists.{Has-filter, filter-Has}
+use Rattle.gm_lists.proofs.Lists.{Ascends-filter, Has-filter, filter-Has}
 use Rattle.gm_metadata.specs.Images.{Image, Sizes, same_label}
 use Rattle.gm_state.specs.declared.records.Mirror.{Mirror}
 use Rattle.gm_state.specs.declared.records.Component.{Component}
@@ -11,14 +10,11 @@ use Rattle.gm_state.specs.Lookups.{component_of}
 use Rattle.gm_state.specs.Records.{Records, IsState, provider}
 use Rattle.gm_looks.specs.Audits.{IsAudit}
 use Rattle.gm_sync.specs.declared.scope.Scope.{Scope}
-use Rattle.gm_sync.specs.declared.synced.Synced.{Synced}
-use Rattle.gm_sync.specs.declared.synced.Synced.TheVariants.{Whole, Amiss, Refused}
-use Rattle.gm_sync.specs.Ends.{IfWhole, UnlessAmiss}
-use Rattle.gm_sync.specs.Filling.{AreAsRegistered, IsAmiss}
+use Rattle.gm_sync.specs.Filling.{IsAmiss}
 use Rattle.gm_sync.specs.Scopes.{is_beside, is_beside_at, is_named_beside}
 
 -- a component is found by its own name
-component_is : (s : Records) (m : Mirror) (k : Component) → IsState s → IsOf s m k
+pub component_is : (s : Records) (m : Mirror) (k : Component) → IsState s → IsOf s m k
     → component_of s k.provider ≡ Some k
 component_is s m k state of =
     find_one provider s.components state.components_in_order k
@@ -43,41 +39,11 @@ amiss_of scope s size seen names state audit = record {
     | inr has ↦ inr (filter-Has (λ (q : List ℕ). is_named_beside scope s q) names k.provider has
         (ap (is_beside_at scope) (component_is s m k state of) ∙ beside))
   ];
+  ascend = Ascends-filter (λ (q : List ℕ). is_named_beside scope s q) (λ (q : List ℕ). q) names
+      audit.ascend;
 }
-
--- where there is none, all are as they are registered
-pub none_amiss : (scope : Scope) (s : Records) (size : Sizes) (seen : Image)
-    (names : List (List ℕ)) → names ≡ [] → IsAmiss scope s size seen names
-    → AreAsRegistered scope s size seen
-none_amiss scope s size seen names none amiss m k of beside =
-    elim (amiss.others m k of beside) [
-      | inl is ↦ is
-      | inr has ↦ absurd (subst (λ (xs : List (List ℕ)). Has xs k.provider) none has)
-    ]
-
--- the same of the records that were seen, and of names as they are handed on
-pub amiss_told : (scope : Scope) (s state : Records) (size : Sizes) (seen : Image)
-    (names named found : List (List ℕ)) → state ≡ s → named ≡ names
-    → found ≡ filter (λ p. is_named_beside scope state p) named → IsState s
-    → IsAudit s size seen names → IsAmiss scope s size seen found
-amiss_told scope s state size seen names named found same given is keeps audit =
-    subst (λ (ns : List (List ℕ)). IsAmiss scope s size seen ns)
-    (sym (is ∙ ap (λ (ns : List (List ℕ)). filter (λ p. is_named_beside scope state p) ns) given
-    ∙ ap (λ (x : Records). filter (λ p. is_named_beside scope x p) names) same))
-    (amiss_of scope s size seen names keeps audit)
 
 -- no names are none
 pub no_names : (names : List (List ℕ)) → length names ≡ 0 → names ≡ []
 no_names [] none = refl
 no_names (name ∷ names) none = absurd (omega (arith, none))
-
-pub unless_amiss : (P : Type 0) (x : Synced) → P → UnlessAmiss P x
-unless_amiss P (Whole state) holds = holds
-unless_amiss P (Amiss names) holds = tt
-unless_amiss P (Refused provider why) holds = holds
-
-pub whole_too : (P Q : Records → Type 0) → ((state : Records) → P state → Q state) → (x : Synced)
-    → IfWhole P x → IfWhole Q x
-whole_too P Q then (Whole state) holds = then state holds
-whole_too P Q then (Amiss names) holds = tt
-whole_too P Q then (Refused provider why) holds = tt

@@ -22,7 +22,7 @@ use Rattle.gm_bench.specs.declared.fault.BenchFault.{BenchFault}
 use Rattle.gm_bench.specs.declared.bench.Bench.{Bench}
 use Rattle.gm_bench.proofs.Looks.{looked_at}
 use Rattle.gm_bench.proofs.GatheredFacts.{are_records}
-use Rattle.gm_sync.specs.declared.scope.Scope.{Scope}
+use Rattle.gm_sync.specs.declared.due.Due.{Due}
 use Rattle.gm_sync.specs.Filling.{Fills, IsFilledFrom, IsWhole}
 
 -- runs in turn
@@ -76,6 +76,11 @@ module _ {S H : Type 0} (g : StoreGhosts S) (h : ShelfGhosts H) where
       → IsLawful (h.view (shelf_of b)) → AreRecordsOf at.tables w.state
   tables_at_rest b away w at lawful =
       are_records g h.view h.size (registry_of b) (shelf_of b) away w at lawful
+
+  -- no look
+  pub look_none : (a : Bench S H)
+      → LookDoes g h.view h.size (registry_of a) (registry_of a) (shelf_of a) (shelf_of a)
+  look_none a = record { tables = λ t has. has; images = λ x may. may; sizes = refl }
 
   -- looks in turn
   pub look_then : (a b c : Bench S H)
@@ -213,13 +218,13 @@ module _ {S H : Type 0} (g : StoreGhosts S) (h : ShelfGhosts H) (Fit : Command �
   }
 
 -- What is whole by a call behind a look is whole by both.
-module _ {S H : Type 0} (g : StoreGhosts S) (h : ShelfGhosts H) (a b c : Bench S H) (scope : Scope)
+module _ {S H : Type 0} (g : StoreGhosts S) (h : ShelfGhosts H) (a b c : Bench S H) (due : Due)
     (state : Records) where
   pub whole_behind : Keep g h (registry_of a) (registry_of b) (shelf_of a) (shelf_of b)
       → Keep g h (registry_of b) (registry_of c) (shelf_of b) (shelf_of c)
       → (h.honest (shelf_of a) → DiskKept g (registry_of b)
       → LookDoes g h.view h.size (registry_of a) (registry_of b) (shelf_of a) (shelf_of b))
-      → IsWhole g h b c scope state → IsWhole g h a c scope state
+      → IsWhole g h b c due state → IsWhole g h a c due state
   whole_behind first then does whole = record {
     last = record {
       seen = whole.last.seen;

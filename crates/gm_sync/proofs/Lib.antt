@@ -1,4 +1,7 @@
 pub mod Amiss
+pub mod Ended
 pub mod Filled
-pub mod Meant
+pub mod Next
+pub mod Passing
 pub mod Phases
+pub mod Still

@@ -1,9 +1,9 @@
 -- What filling leaves of a bench, and what it is told to have come to.
-use Rattle.std.specs.Prelude.{◌≡◌, ◌⊎◌, ℕ, true, List, [], None}
+use Rattle.std.specs.Prelude.{◌≡◌, ◌⊎◌, ℕ, true, false, List, [], None}
 use Rattle.sqlite_trees.specs.declared.store.Store.{Ghosts as StoreGhosts}
 use Rattle.sqlite.specs.Held.{Held}
 use Rattle.gm_metadata.specs.Images.{Image, Sizes}
-use Rattle.gm_lists.specs.Ordered.{Has}
+use Rattle.gm_lists.specs.Ordered.{Has, Ascends}
 use Rattle.gm_shelf.specs.declared.shelf.Shelf.{Ghosts as ShelfGhosts}
 use Rattle.gm_commands.specs.declared.command.Command.{Command}
 use Rattle.gm_commands.specs.declared.command.Command.TheVariants.{Advance}
@@ -23,17 +23,19 @@ use Rattle.gm_bench.specs.Calls.{Keep}
 use Rattle.gm_bench.specs.Owed.{LookDoes}
 use Rattle.gm_bench.specs.Recovering.{IsAt}
 use Rattle.gm_bench.specs.declared.bench.Bench.{Bench}
+use Rattle.gm_sync.specs.declared.due.Due.{Due}
+use Rattle.gm_sync.specs.declared.passed_over.PassedOver.{PassedOver}
 use Rattle.gm_sync.specs.declared.scope.Scope.{Scope}
-use Rattle.gm_sync.specs.Scopes.{is_beside, is_meant, next_of}
+use Rattle.gm_sync.specs.Scopes.{but, is_beside, is_due, is_passed_over, next_of}
 
 -- the command fills this component
 abbrev pub IsAdvanceOf : Component → Command → Type 0
 IsAdvanceOf k c = c ≡ Advance k.mirror k.provider
 
--- the command fills a component that is meant
-abbrev pub IsAdvanceIn : Scope → Command → Type 0
-IsAdvanceIn scope c = (mirror : List ℕ) × (provider : List ℕ) × (c ≡ Advance mirror provider)
-    × (is_meant scope mirror provider ≡ true)
+-- the command fills a component that is due
+abbrev pub IsAdvanceIn : Due → Command → Type 0
+IsAdvanceIn due c = (mirror : List ℕ) × (provider : List ℕ) × (c ≡ Advance mirror provider)
+    × (is_due due mirror provider ≡ true)
 
 module _ {S H : Type 0} (g : StoreGhosts S) (h : ShelfGhosts H) (Fit : Command → Type 0) where
   -- From rest in u the bench came to rest again, by commands that fit and no others.
@@ -65,39 +67,66 @@ pub record AreLastSeen {S H : Type 0} (g : StoreGhosts S) (h : ShelfGhosts H) (o
   pub are : DiskKept g (registry_of new) → (t : Tables) (r : Records)
       → HasTables g seen t → AreRecordsOf t r → state ≡ r
 
--- from rest the bench was filled, as far as is meant, to rest in a world of these records
+-- from rest the bench was filled, as far as is due, to rest in a world of these records
 abbrev pub IsFilledTo : {S H : Type 0} → StoreGhosts S → ShelfGhosts H → Bench S H → Bench S H
-    → Scope → Records → Type 0
-IsFilledTo g h old new scope state =
+    → Due → Records → Type 0
+IsFilledTo g h old new due state =
     h.honest (shelf_of old) → DiskKept g (registry_of new) → (away : Image) (u : World)
     → IsAt g h.view h.size (registry_of old) (shelf_of old) away [] [] u u
-    → (filled : IsFilledFrom g h (IsAdvanceIn scope) new away u) × (state ≡ filled.world.state)
+    → (filled : IsFilledFrom g h (IsAdvanceIn due) new away u) × (state ≡ filled.world.state)
 
--- Nothing that is meant is left to be filled, by the records that the registry held at last. From
+-- Nothing that is due is left to be filled, by the records that the registry held at last. From
 -- rest they are those of the world that filling came to.
 pub record IsWhole {S H : Type 0} (g : StoreGhosts S) (h : ShelfGhosts H) (old new : Bench S H)
-    (scope : Scope) (state : Records) : Type 0 where
+    (due : Due) (state : Records) : Type 0 where
   pub last : AreLastSeen g h old new state
-  pub none : next_of scope state ≡ None
-  pub world : IsFilledTo g h old new scope state
+  pub none : next_of due state ≡ None
+  pub world : IsFilledTo g h old new due state
 
--- each component of the mirrors that are meant is shown as it is registered
-abbrev pub AreAsRegistered : Scope → Records → Sizes → Image → Type 0
-AreAsRegistered scope s size seen = (m : Mirror) (k : Component) → IsOf s m k
-    → is_beside scope k ≡ true → IsAsRegistered size seen m k
+-- if nothing that is due is SYNCHRONIZING, by what the registry holds, nothing is written
+abbrev pub IsStill : {S H : Type 0} → StoreGhosts S → ShelfGhosts H → Bench S H → Bench S H
+    → Due → Type 0
+IsStill g h old new due =
+    h.honest (shelf_of old) → DiskKept g (registry_of new) → (t : Tables) (s : Records)
+    → HasTables g (registry_of old) t → AreRecordsOf t s → next_of due s ≡ None
+    → LookDoes g h.view h.size (registry_of old) (registry_of new) (shelf_of old) (shelf_of new)
 
--- the names are those of just the components of the mirrors that are meant that aren't shown so
+-- each component of the mirrors that are meant, and aren't passed over, is shown as it is
+-- registered
+abbrev pub AreAsRegistered : Due → Records → Sizes → Image → Type 0
+AreAsRegistered due s size seen = (m : Mirror) (k : Component) → IsOf s m k
+    → is_beside due.scope k ≡ true → is_passed_over due.passed_over m.name ≡ false
+    → IsAsRegistered size seen m k
+
+-- the names are those of just the components of the mirrors that are meant that aren't shown as
+-- they are registered, in byte order
 pub record IsAmiss (scope : Scope) (s : Records) (size : Sizes) (seen : Image)
     (names : List (List ℕ)) : Type 0 where
   pub amiss : (p : List ℕ) → Has names p → (m : Mirror) × (k : Component) × IsOf s m k
       × (k.provider ≡ p) × (is_beside scope k ≡ true) × (IsAsRegistered size seen m k → ⊥)
   pub others : (m : Mirror) (k : Component) → IsOf s m k → is_beside scope k ≡ true
       → IsAsRegistered size seen m k ⊎ Has names k.provider
+  pub ascend : Ascends (λ p. p) names
 
--- these are amiss by what the registry and the shelf of a bench hold, and nothing is changed
-pub record IsAmissOver {S H : Type 0} (g : StoreGhosts S) (h : ShelfGhosts H) (old new : Bench S H)
-    (scope : Scope) (names : List (List ℕ)) : Type 0 where
-  pub are : (t : Tables) (s : Records) → HasTables g (registry_of old) t → AreRecordsOf t s
-      → IsAmiss scope s (h.size (shelf_of old)) (h.view (shelf_of old)).seen names
-  pub looked : LookDoes g h.view h.size (registry_of old) (registry_of new) (shelf_of old)
-      (shelf_of new)
+-- the names are those of just the mirrors of which one of the images is, in byte order
+pub record AreMirrorsOf (s : Records) (images names : List (List ℕ)) : Type 0 where
+  pub named : (n : List ℕ) → Has names n → (m : Mirror) × (k : Component) × IsOf s m k
+      × (m.name ≡ n) × Has images k.provider
+  pub others : (m : Mirror) (k : Component) → IsOf s m k → Has images k.provider
+      → Has names m.name
+  pub ascend : Ascends (λ n. n) names
+
+-- What is passed over is told by just the images that are amiss, and it is just their mirrors: the
+-- images of each other mirror that is meant are as they are registered.
+pub record IsPassedOver (scope : Scope) (s : Records) (size : Sizes) (seen : Image)
+    (passed : PassedOver) : Type 0 where
+  pub images : IsAmiss scope s size seen passed.images.items
+  pub mirrors : AreMirrorsOf s passed.images.items passed.mirrors.items
+  pub others : AreAsRegistered (but scope passed) s size seen
+
+-- the same by what the registry and the shelf of a bench hold
+abbrev pub IsPassedOverAt : {S H : Type 0} → StoreGhosts S → ShelfGhosts H → Bench S H → Scope
+    → PassedOver → Type 0
+IsPassedOverAt g h bench scope passed = (t : Tables) (s : Records)
+    → HasTables g (registry_of bench) t → AreRecordsOf t s
+    → IsPassedOver scope s (h.size (shelf_of bench)) (h.view (shelf_of bench)).seen passed

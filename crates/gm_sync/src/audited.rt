@@ -1,17 +1,16 @@
 //! An audit of the mirrors that are meant, and then the filling of what is SYNCHRONIZING.
 
-ghost use Rattle.std.specs.Prelude.{◌≡◌, true, IfOk, OnOk};
-ghost use Rattle.gm_state.specs.Records.{Records};
-ghost use Rattle.gm_state.specs.Rows.{Tables};
-ghost use Rattle.gm_rows.specs.ReadableTables.{AreRecordsOf};
-ghost use Rattle.gm_registry.specs.Registry.{DiskKept, HasTables};
+ghost use Rattle.std.specs.Prelude.{◌≡◌, true, false, IfOk};
+ghost use Rattle.gm_registry.specs.Registry.{DiskKept};
 ghost use Rattle.gm_bench.specs.Benches.{progress_of, registry_of, shelf_of};
 ghost use Rattle.gm_bench.specs.Calls.{Keep};
 ghost use Rattle.gm_bench.specs.Phases.{TakesCommands};
-ghost use Rattle.gm_sync.specs.Filling.{AreAsRegistered, Fills, IsAdvanceIn, IsAmissOver, IsWhole};
-ghost use Rattle.gm_sync.specs.Ends.{IfAmiss, IfWhole, UnlessAmiss};
+ghost use Rattle.gm_sync.specs.Filling.{Fills, IsAdvanceIn, IsPassedOverAt, IsStill, IsWhole};
+ghost use Rattle.gm_sync.specs.Ends.{IfWhole};
+ghost use Rattle.gm_sync.specs.Scopes.{PassesNone, but};
 
 use crate::audit::amiss;
+use crate::due::Due;
 use crate::fill::{Progress, fill};
 use crate::scope::Scope;
 use crate::synced::Synced;
@@ -20,9 +19,9 @@ use gm_shelf::Shelf;
 use sqlite::Alter;
 use std::alloc::Global;
 
-/// Fills whatever is meant and SYNCHRONIZING; where an audit is asked for, only if each image of
-/// the mirrors that are meant is as it is registered. The commands are handed in under the keys
-/// `sync-N`, each with the number that it would get, or with a greater one where that was taken.
+/// Fills whatever is meant and SYNCHRONIZING. If an audit is asked for, it passes over the mirrors
+/// of which an image isn't as it is registered. The commands are handed in under the keys `sync-N`,
+/// each with the number that it would get, or with a greater one if that was taken.
 pub fn sync<S: Alter, H: Shelf, P: Progress>(
     alloc: Global,
     bench: &mut Bench<S, H>,
@@ -34,26 +33,28 @@ pub fn sync<S: Alter, H: Shelf, P: Progress>(
     ensures phase { TakesCommands (progress_of bench.new) }
     ensures keep { Keep S.Store H.Shelf (registry_of bench.old) (registry_of bench.new)
         (shelf_of bench.old) (shelf_of bench.new) }
-    ensures fills { OnOk result
-        (Fills S.Store H.Shelf (IsAdvanceIn scope.now) bench.old bench.new) }
-    ensures whole { IfOk result
-        (IfWhole (IsWhole S.Store H.Shelf bench.old bench.new scope.now)) }
-    // Nothing is filled but where the images are as they are registered.
+    // It fills what is meant, but for what it passes over, and nothing else.
+    ensures fills { IfOk result (λ synced. Fills S.Store H.Shelf
+        (IsAdvanceIn (but scope.now synced.passed_over)) bench.old bench.new) }
+    // If nothing of that is to be filled, it writes nothing, whatever the images hold.
+    ensures still { IfOk result (λ synced. IsStill S.Store H.Shelf bench.old bench.new
+        (but scope.now synced.passed_over)) }
+    ensures whole { IfOk result (λ synced. IfWhole (IsWhole S.Store H.Shelf bench.old bench.new
+        (but scope.now synced.passed_over)) synced.ending) }
+    // What it passes over are just the mirrors of which an image isn't as it is registered.
     ensures audited { audits ≡ true → H.honest (shelf_of bench.old)
-        → DiskKept S.Store (registry_of bench.new) → IfOk result (UnlessAmiss
-        ((t : Tables) (s : Records) → HasTables S.Store (registry_of bench.old) t
-        → AreRecordsOf t s → AreAsRegistered scope.now s (H.size (shelf_of bench.old))
-        (H.view (shelf_of bench.old)).seen)) }
-    ensures amiss { H.honest (shelf_of bench.old) → DiskKept S.Store (registry_of bench.new)
-        → IfOk result (IfAmiss (IsAmissOver S.Store H.Shelf bench.old bench.new scope.now)) }
+        → DiskKept S.Store (registry_of bench.new) → IfOk result (λ synced.
+        IsPassedOverAt S.Store H.Shelf bench.old scope.now synced.passed_over) }
+    ensures unasked { audits ≡ false → IfOk result (λ synced. PassesNone synced.passed_over) }
 {
-    if !audits {
-        return fill(alloc, bench, scope, progress);
-    }
-    let names = amiss(alloc, bench, scope)?;
-    if !names.is_empty() {
-        return Ok(Synced::Amiss(names));
-    }
-    let synced = fill(alloc, bench, scope, progress)?;
-    Ok(synced)
+    let passed_over = amiss(alloc, bench, scope, audits)?;
+    let due = Due {
+        scope: *scope,
+        passed_over,
+    };
+    let ending = fill(alloc, bench, &due, progress)?;
+    Ok(Synced {
+        passed_over: due.passed_over,
+        ending,
+    })
 }

@@ -4,11 +4,11 @@ ghost use Rattle.std.specs.Prelude.{◌≡◌, IfOk, OnOk};
 ghost use Rattle.gm_bench.specs.Benches.{progress_of, registry_of, shelf_of};
 ghost use Rattle.gm_bench.specs.Calls.{Keep};
 ghost use Rattle.gm_bench.specs.Phases.{TakesCommands};
-ghost use Rattle.gm_sync.specs.Filling.{Fills, IsAdvanceIn, IsAdvanceOf, IsWhole};
-ghost use Rattle.gm_sync.specs.Ends.{IfAmiss, IfWhole};
+ghost use Rattle.gm_sync.specs.Filling.{Fills, IsAdvanceIn, IsAdvanceOf, IsStill, IsWhole};
+ghost use Rattle.gm_sync.specs.Ends.{IfWhole};
 
-use crate::scope::{Scope, is_next, next_of};
-use crate::synced::Synced;
+use crate::due::Due;
+use crate::synced::Ending;
 use gm_bench::{Answer, Bench, BenchFault};
 use gm_commands::Command;
 use gm_metadata::Label;
@@ -90,24 +90,24 @@ struct Unfilled {
     why: CallRefusal,
 }
 
-// Fills each component that is meant and SYNCHRONIZING by a state, in the state's order, or finds
+// Fills each component that is due and SYNCHRONIZING by a state, in the state's order, or finds
 // one that isn't filled.
 fn fill_each<S: Alter, H: Shelf, P: Progress>(
     alloc: Global,
     bench: &mut Bench<S, H>,
-    scope: &Scope,
+    due: &Due,
     state: &State,
     progress: &mut P,
 ) -> Result<Option<Unfilled>, BenchFault>
     requires { TakesCommands (progress_of bench.old) }
     ensures phase { TakesCommands (progress_of bench.new) }
     ensures fills { OnOk result
-        (Fills S.Store H.Shelf (IsAdvanceIn scope.now) bench.old bench.new) }
+        (Fills S.Store H.Shelf (IsAdvanceIn due.now) bench.old bench.new) }
     ensures keep { Keep S.Store H.Shelf (registry_of bench.old) (registry_of bench.new)
         (shelf_of bench.old) (shelf_of bench.new) }
 {
     for component in state.components() {
-        if !is_next(state, *scope, component) {
+        if !due.is_next(state, component) {
             continue;
         }
         let provider = component.provider;
@@ -118,37 +118,37 @@ fn fill_each<S: Alter, H: Shelf, P: Progress>(
     Ok(None)
 }
 
-/// Fills whatever is meant and SYNCHRONIZING, one component after the other. The mirrors are looked
+/// Fills whatever is due and SYNCHRONIZING, one component after the other. The mirrors are looked
 /// at whole before the first and after the last, and not in between.
 pub(crate) fn fill<S: Alter, H: Shelf, P: Progress>(
     alloc: Global,
     bench: &mut Bench<S, H>,
-    scope: &Scope,
+    due: &Due,
     progress: &mut P,
-) -> Result<Synced, BenchFault>
+) -> Result<Ending, BenchFault>
     requires { TakesCommands (progress_of bench.old) }
     ensures phase { TakesCommands (progress_of bench.new) }
     ensures keep { Keep S.Store H.Shelf (registry_of bench.old) (registry_of bench.new)
         (shelf_of bench.old) (shelf_of bench.new) }
     ensures fills { OnOk result
-        (Fills S.Store H.Shelf (IsAdvanceIn scope.now) bench.old bench.new) }
+        (Fills S.Store H.Shelf (IsAdvanceIn due.now) bench.old bench.new) }
     ensures whole { IfOk result
-        (IfWhole (IsWhole S.Store H.Shelf bench.old bench.new scope.now)) }
-    ensures filled { IfOk result (IfAmiss (λ _. ⊥)) }
+        (IfWhole (IsWhole S.Store H.Shelf bench.old bench.new due.now)) }
+    ensures still { OnOk result (IsStill S.Store H.Shelf bench.old bench.new due.now) }
 {
     for _ in 0..u64::MAX {
         let state = bench.view(alloc)?;
-        if next_of(&state, *scope).is_none() {
-            return Ok(Synced::Whole(state));
+        if due.next_of(&state).is_none() {
+            return Ok(Ending::Whole(state));
         }
-        if let Some(unfilled) = fill_each(alloc, bench, scope, &state, progress)? {
-            return Ok(Synced::Refused {
+        if let Some(unfilled) = fill_each(alloc, bench, due, &state, progress)? {
+            return Ok(Ending::Refused {
                 provider: Some(unfilled.provider),
                 why: unfilled.why,
             });
         }
     }
-    Ok(Synced::Refused {
+    Ok(Ending::Refused {
         provider: None,
         why: CallRefusal::NoRoom,
     })

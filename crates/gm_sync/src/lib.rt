@@ -1,18 +1,22 @@
 //! Fills components by itself: it hands in `advance` for whatever is SYNCHRONIZING, under keys of
 //! its own, until nothing is left.
 //!
-//! `scope.rt` says which components are meant, `audit.rt` which of their mirrors' images aren't as
-//! they are registered, and `fill.rt` fills them; `audited.rt` does both. `specs/Scopes.antt` says
-//! what is left to be filled, and `specs/Filling.antt` what a call leaves of a bench.
+//! `scope.rt` says which components are meant, and `audit.rt` which of their mirrors are passed
+//! over (`passed_over.rt`), because an image isn't as it is registered. The others' are due
+//! (`due.rt`), and `fill.rt` fills them; `audited.rt` does both. `specs/Scopes.antt` says what is
+//! left to be filled, and `specs/Filling.antt` what a call leaves of a bench.
 #![tactic(auto)]
 
 mod audit;
 mod audited;
+mod due;
 mod fill;
+mod passed_over;
 mod scope;
 mod synced;
 
 pub use audited::sync;
 pub use fill::Progress;
+pub use passed_over::PassedOver;
 pub use scope::Scope;
-pub use synced::Synced;
+pub use synced::{Ending, Synced};

@@ -1,10 +1,10 @@
 //! Which components are meant.
 
-ghost use Rattle.std.specs.Prelude.{◌≡◌, find};
-ghost use Rattle.gm_sync.specs.Scopes.{is_filling, is_in, is_beside, is_next, next_of};
+ghost use Rattle.std.specs.Prelude.{◌≡◌};
+ghost use Rattle.gm_sync.specs.Scopes.{is_beside, is_in};
 
 use gm_metadata::Label;
-use gm_state::{Component, ComponentState, State, component_state};
+use gm_state::Component;
 
 /// The components that are meant.
 #[derive(Clone, Copy, Debug, PartialEq, Eq)]
@@ -40,32 +40,4 @@ impl Scope {
             Scope::Mirror(mirror) | Scope::Member { mirror, .. } => component.mirror == mirror,
         }
     }
-}
-
-// Whether a component is SYNCHRONIZING.
-fn is_filling(state: &State, component: &Component) -> bool
-    ensures { result ≡ is_filling state.now component.now }
-{
-    match component_state(state, component.provider) {
-        Some(ComponentState::Synchronizing) => true,
-        _ => false,
-    }
-}
-
-/// Whether a component is meant and SYNCHRONIZING.
-pub(crate) fn is_next(state: &State, scope: Scope, component: &Component) -> bool
-    ensures { result ≡ is_next scope state.now component.now }
-{
-    scope.has(component) && is_filling(state, component)
-}
-
-/// The first such component.
-pub(crate) fn next_of(state: &State, scope: Scope) -> Option<Component>
-    ensures { result ≡ next_of scope state.now }
-{
-    state
-        .components()
-        .iter()
-        .copied()
-        .find(|component| is_next(state, scope, component))
 }

@@ -1,16 +1,24 @@
 //! What a sync comes to.
 
+use crate::passed_over::PassedOver;
 use gm_metadata::Label;
 use gm_refusals::CallRefusal;
 use gm_state::State;
 
 /// What a sync came to.
 #[derive(Drop)]
-pub enum Synced {
-    /// Nothing that is meant is left to be filled: the mirrors, as they are then.
+pub struct Synced {
+    /// The mirrors that it passed over, to which nothing was written.
+    pub passed_over: PassedOver,
+    /// How it ended, of what is meant of the others.
+    pub ending: Ending,
+}
+
+/// How a sync ends, of the components that are meant, but for those of mirrors that it passes over.
+#[derive(Drop)]
+pub enum Ending {
+    /// None is left to be filled: all mirrors, as they are then.
     Whole(State),
-    /// The images of these components aren't as they are registered, and nothing was written.
-    Amiss(Vec<Label>),
     /// An advance is refused, of this component. What was filled before stays so.
     Refused {
         provider: Option<Label>,

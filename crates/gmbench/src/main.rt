@@ -28,7 +28,8 @@ fn run(rt: &HostRuntime) -> Result<Status, Fault> {
         }
     };
     let words: Vec<&str> = given.iter().map(|word| word.as_str()).collect(alloc)?;
-    let explaining = Explaining::new(alloc, complaints.is_terminal());
+    let mut explaining = Explaining::new(alloc, complaints.is_terminal());
+    explaining.asks = explaining.at_terminal && rt.stdin().is_terminal();
     let mut input = BufReader::new(alloc, rt.stdin())?;
     let mut output = BufWriter::new(alloc, rt.stdout())?;
     let mut streams = Streams {

@@ -1,4 +1,5 @@
 . "$helpers/under_way.sh"
+. "$helpers/python.sh"
 
 # ---- a registry is made where there is none
 
@@ -41,9 +42,50 @@ for file in text database; do
         at_bench $command </dev/null
         expect "a $command over somebody's $file" 3 '' "$fault"
         expect_same "it leaves the $file" "$registry" "$work/kept-file"
-        [ $file = database ] || expect_none "it puts nothing beside the $file" "$registry-wal"
+        expect_none "it puts nothing beside the $file" "$registry-wal"
     done
 done
+
+# A database that another program has open and writes to: its log is left as well.
+if has_python 'a database that is written to'; then
+    registry=$bench/live
+    python3 - "$registry" "$work/live-ready" <<'END' &
+import os
+import sqlite3
+import sys
+import time
+
+path, ready = sys.argv[1:]
+store = sqlite3.connect(path)
+store.execute("PRAGMA journal_mode = WAL")
+store.execute("CREATE TABLE notes(text)")
+store.commit()
+store.execute("PRAGMA wal_checkpoint(TRUNCATE)")
+store.execute("INSERT INTO notes VALUES ('kept')")
+store.commit()
+open(ready, "w").close()
+while os.path.exists(ready):
+    time.sleep(0.05)
+END
+    writer=$!
+    for turn in $(seq 100); do
+        [ -e "$work/live-ready" ] && break
+        sleep 0.1
+    done
+    cp "$registry" "$work/kept-file"
+    cp "$registry-wal" "$work/kept-log"
+    [ -s "$work/kept-log" ] && pass 'its log has something' || fail 'its log has something' "$(ls -l "$bench")"
+    for command in recover status batch; do
+        at_bench $command --explain </dev/null
+        [ "$status" = 3 ] && pass "a $command over a live database is a fault" ||
+            fail "a $command over a live database is a fault" "status $status"
+        expect_same "a $command leaves the live database" "$registry" "$work/kept-file"
+        expect_same "a $command leaves its log" "$registry-wal" "$work/kept-log"
+    done
+    rm "$work/live-ready"
+    wait "$writer"
+    registry=$bench/registry
+fi
 
 # Bytes that no database begins with, at whatever place: the first, one in the middle, the last, and of a short file.
 for bytes in 'XQLite format 3\000' 'SQLite gormat 3\000' 'SQLite format 3\001' 'SQLX'; do

@@ -35,6 +35,7 @@ expect_same_data 'all data are copied' "$bench/images/a.img" "$bench/images/b.im
 
 # ---- images that are not as they are registered
 
+passed_over='is passed over: not all of its images are as they are registered'
 fresh_bench exchanged
 batch "$label$insert"
 mv "$bench/images/a.img" "$work/moved"
@@ -42,7 +43,7 @@ mv "$bench/images/b.img" "$bench/images/a.img"
 mv "$work/moved" "$bench/images/b.img"
 keep_bench
 at_bench sync
-expect 'names that were exchanged' 1 "$(lines 'a.img\nb.img')" "these aren't as they are registered"
+expect 'names that were exchanged' 1 "$(lines 'a.img\nb.img')" "gm0 $passed_over"
 expect_kept 'nothing was written'
 at_bench sync --unchecked
 expect 'unless it is not to look' 0 "$(lines 'gm0 a.img ACTIVE\ngm0 b.img ACTIVE')" 'b.img 100 %: 3 of 3'
@@ -55,7 +56,27 @@ damage "$bench/images/c.img" 1600 x
 at_bench sync gm0
 expect 'an image of another mirror' 0 "$(lines 'gm0 a.img ACTIVE\ngm0 b.img ACTIVE')" 'b.img 100 %: 3 of 3'
 at_bench sync
-expect 'all mirrors' 1 'c.img' "these aren't as they are registered"
+expect 'all mirrors' 1 "$(lines 'c.img\ngm0 a.img ACTIVE\ngm0 b.img ACTIVE')" "gm1 $passed_over"
+
+# A mirror with an image that was replaced is passed over, and the other is filled.
+fresh_bench replaced
+put_image "$bench/images/c.img" c bare
+put_image "$bench/images/d.img" d bare
+batch "$label${insert}k3 label --mid 8 --did 1 gm1 c.img\nk4 insert --did 2 gm1 d.img\n"
+head -c 2048 /dev/zero >"$work/zeros"
+cp "$work/zeros" "$bench/images/c.img"
+cp "$bench/images/d.img" "$work/d.img"
+at_bench sync
+expect 'a mirror with an image that was replaced' 1 "$(lines 'c.img\ngm0 a.img ACTIVE\ngm0 b.img ACTIVE')" \
+    "b.img 100 %: 3 of 3
+gm1 $passed_over"
+expect_same_data 'the other mirror is filled' "$bench/images/a.img" "$bench/images/b.img" 1536
+expect_same 'the image that was replaced stays' "$bench/images/c.img" "$work/zeros"
+expect_same 'so does the other image of its mirror' "$bench/images/d.img" "$work/d.img"
+at_bench sync gm1
+expect 'such a mirror alone' 1 'c.img' "gm1 $passed_over"
+at_bench sync gm1 d.img
+expect 'a component beside such an image' 1 'c.img' "gm1 $passed_over"
 
 # ---- one that waits for a rebuild
 
@@ -81,6 +102,15 @@ if command -v sqlite3 >/dev/null; then
 b.img 90 %: 256 of 257"
     at_bench status
     expect 'what was filled stays so' 0 "$(whole_lines "$of_two" | sed 's/0 of 3/256 of 257/')" ''
+    # What is passed over is told also if an advance of another mirror is refused.
+    fresh_bench full_beside
+    put_image "$bench/images/c.img" c bare
+    batch "$label${insert}k3 label --mid 8 --did 1 gm1 c.img\n"
+    damage "$bench/images/c.img" 1600 x
+    put_accepted 3 100000
+    at_bench sync
+    expect 'a refusal beside a mirror that is passed over' 1 "$(lines 'c.img\nrefused 4')" "this takes 1 commands, and the registry takes 0 more
+gm1 $passed_over"
 else
     skip 'a registry that is nearly full' 'there is no sqlite3 here'
 fi

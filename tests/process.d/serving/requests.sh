@@ -14,6 +14,7 @@ if has_python 'requests to a server'; then
     begin_server
     requests heads_and_bodies.py
     requests splits.py
+    requests expectations.py
     stop_server 'a server that was asked nothing right'
     at_bench status
     expect 'it accepted none of that' 0 'no mirrors' ''

@@ -1,31 +1,45 @@
-use Rattle.std.proofs.Common.{rules, arith, ◌≡◌, sym, subst}
-use Rattle.gm_looks.specs.Audits.{IsAudit}
+use Rattle.std.proofs.Common.{rules, arith, ◌≡◌, length}
 use Rattle.gm_bench.specs.Benches.{registry_of, shelf_of}
 use Rattle.gm_registry.specs.Registry.{DiskKept}
-use Rattle.gm_sync.proofs.Amiss.{amiss_told}
-use Rattle.gm_sync.proofs.Filled.{look_then}
+use Rattle.gm_sync.proofs.Amiss.{no_names}
+use Rattle.gm_sync.proofs.Filled.{look_none, look_then}
+use Rattle.gm_sync.proofs.Passing.{passed_none, passed_told}
 use Rattle.gm_sync.proofs.audit.amiss.Goals as goal
 
-pub returns-in-Ok-clause-told : goal.returns-in-Ok-clause-told
-returns-in-Ok-clause-told g c = λ honest kept.
-    let shown = c.in_ok-state.ensures in
+pub returns-then-not-audits-clause-looks : goal.returns-then-not-audits-clause-looks
+returns-then-not-audits-clause-looks g c = λ honest kept.
+    look_none g.S.Store g.H.Shelf c.args.bench.now
+
+pub returns-then-is_empty-clause-told : goal.returns-then-is_empty-clause-told
+returns-then-is_empty-clause-told g c = λ asked honest kept t s has are.
     let audited = c.in_ok-names.ensures in
-    let mid : DiskKept g.S.Store (registry_of c.view.new.self) =
-    omega (arith, audited.looks.store.clean, kept) in
-    let first = shown.looks.does honest mid in
-    let honest_mid = subst (λ (x : g.row.H.Denot). g.H.Shelf.honest x) (sym shown.shelf) honest in
-    let second = audited.looks.does honest_mid kept in
+    let zero : length c.in_ok-names.names.items ≡ 0 = search rules in
+    passed_none c.args.scope.now s (g.H.Shelf.size (shelf_of c.args.bench.now))
+    (g.H.Shelf.view (shelf_of c.args.bench.now)).seen c.in_ok-names.names.items
+    c.none-then-is_empty.result (no_names c.in_ok-names.names.items zero)
+    c.none-then-is_empty.ensures (audited.audits honest kept t s has are)
+
+pub returns-in-Ok-clause-looks : goal.returns-in-Ok-clause-looks
+returns-in-Ok-clause-looks g c = λ honest kept.
+    let audited = c.in_ok-names.ensures in
+    let shown = c.in_ok-state.ensures in
+    let mid : DiskKept g.S.Store (registry_of c.audit.new.self) =
+    omega (arith, shown.looks.store.clean, kept) in
+    look_then g.S.Store g.H.Shelf c.args.bench.now c.audit.new.self c.view.new.self
+    (audited.looks.does honest mid)
+    (shown.looks.does (audited.looks.only.keeps.honest honest) kept)
+
+pub returns-in-Ok-clause-told : goal.returns-in-Ok-clause-told
+returns-in-Ok-clause-told g c = λ asked honest kept t s has are.
+    let audited = c.in_ok-names.ensures in
+    let shown = c.in_ok-state.ensures in
+    let mid : DiskKept g.S.Store (registry_of c.audit.new.self) =
+    omega (arith, shown.looks.store.clean, kept) in
+    let looked = audited.looks.does honest mid in
     let given : c.deref.result.now ≡ c.in_ok-names.names.items = search rules in
-    record {
-      are = λ t s has are.
-          amiss_told c.args.scope.now s c.in_ok-state.state
-          (g.H.Shelf.size (shelf_of c.args.bench.now))
-          (g.H.Shelf.view (shelf_of c.args.bench.now)).seen c.in_ok-names.names.items
-          c.deref.result.now c.in-Ok.names.items (shown.shows mid t s has are) given
-          c.in-Ok.ensures are.state
-          (subst (λ (x : g.row.H.Denot). IsAudit s (g.H.Shelf.size x) (g.H.Shelf.view x).seen
-          c.in_ok-names.names.items) shown.shelf
-          (audited.audits honest_mid kept t s (first.tables t has) are));
-      looked = look_then g.S.Store g.H.Shelf c.args.bench.now c.view.new.self c.audit.new.self first
-          second;
-    }
+    passed_told c.args.scope.now s c.in_ok-state.state
+    (g.H.Shelf.size (shelf_of c.args.bench.now))
+    (g.H.Shelf.view (shelf_of c.args.bench.now)).seen c.in_ok-names.names.items
+    c.deref.result.now c.in-Ok.passed (shown.shows kept t s (looked.tables t has) are) given
+    c.in-Ok.ensures.images c.in-Ok.ensures.mirrors are.state
+    (audited.audits honest mid t s has are)

@@ -1,33 +1,40 @@
-use Rattle.std.proofs.Common.{rules, arith, ◌≡◌, length}
+use Rattle.std.proofs.Common.{arith}
 use Rattle.gm_bench.specs.Benches.{registry_of}
-use Rattle.gm_sync.specs.Filling.{IsAdvanceIn, IsWhole}
 use Rattle.gm_registry.specs.Registry.{DiskKept}
-use Rattle.gm_sync.proofs.Amiss.{no_names, none_amiss, unless_amiss, whole_too}
-use Rattle.gm_sync.proofs.Filled.{fills_look, whole_behind}
+use Rattle.gm_sync.specs.Filling.{IsAdvanceIn, IsWhole}
+use Rattle.gm_sync.specs.Scopes.{but}
+use Rattle.gm_sync.proofs.Ended.{whole_too}
+use Rattle.gm_sync.proofs.Filled.{fills_look, fills_then, whole_behind}
+use Rattle.gm_sync.proofs.Still.{still_then}
 use Rattle.gm_sync.proofs.audited.sync.Goals as goal
 
-pub returns-then-not-is_empty-clause-fills : goal.returns-then-not-is_empty-clause-fills
-returns-then-not-is_empty-clause-fills g c =
-    fills_look g.S.Store g.H.Shelf (IsAdvanceIn c.args.scope.now) c.args.bench.now
-    c.amiss.new.bench c.in_ok-names.ensures.keep
-    (λ honest kept. (c.in_ok-names.ensures.told honest kept).looked)
+pub returns-clause-fills : goal.returns-clause-fills
+returns-clause-fills g c =
+    let due = but c.args.scope.now c.in_ok-passed_over.passed_over in
+    fills_then g.S.Store g.H.Shelf (IsAdvanceIn due) c.args.bench.now c.amiss.new.bench
+    c.fill.new.bench
+    (fills_look g.S.Store g.H.Shelf (IsAdvanceIn due) c.args.bench.now c.amiss.new.bench
+    c.in_ok-passed_over.ensures.keep c.in_ok-passed_over.ensures.looks)
+    c.in_ok-ending.ensures.fills
+
+pub returns-clause-still : goal.returns-clause-still
+returns-clause-still g c =
+    still_then g.S.Store g.H.Shelf (but c.args.scope.now c.in_ok-passed_over.passed_over)
+    c.args.bench.now c.amiss.new.bench c.fill.new.bench c.in_ok-passed_over.ensures.keep
+    c.in_ok-ending.ensures.keep c.in_ok-passed_over.ensures.looks c.in_ok-ending.ensures.still
+
+pub returns-clause-whole : goal.returns-clause-whole
+returns-clause-whole g c =
+    let due = but c.args.scope.now c.in_ok-passed_over.passed_over in
+    whole_too (IsWhole g.S.Store g.H.Shelf c.amiss.new.bench c.fill.new.bench due)
+    (IsWhole g.S.Store g.H.Shelf c.args.bench.now c.fill.new.bench due)
+    (λ state whole.
+    whole_behind g.S.Store g.H.Shelf c.args.bench.now c.amiss.new.bench c.fill.new.bench due
+    state c.in_ok-passed_over.ensures.keep c.in_ok-ending.ensures.keep
+    c.in_ok-passed_over.ensures.looks whole) c.in_ok-ending.ending c.in_ok-ending.ensures.whole
 
 pub returns-clause-audited : goal.returns-clause-audited
 returns-clause-audited g c = λ asked honest kept.
     let mid : DiskKept g.S.Store (registry_of c.amiss.new.bench) =
-    omega (arith, c.in_ok-synced.ensures.keep.clean, kept) in
-    let zero : length c.in_ok-names.names.items ≡ 0 = search rules in
-    let told = c.in_ok-names.ensures.told honest mid in
-    unless_amiss _ c.in_ok-synced.synced (λ t s has are.
-    none_amiss c.args.scope.now s _ _ c.in_ok-names.names.items
-    (no_names c.in_ok-names.names.items zero) (told.are t s has are))
-
-pub returns-clause-whole : goal.returns-clause-whole
-returns-clause-whole g c =
-    whole_too (IsWhole g.S.Store g.H.Shelf c.amiss.new.bench c.fill-2.new.bench c.args.scope.now)
-    (IsWhole g.S.Store g.H.Shelf c.args.bench.now c.fill-2.new.bench c.args.scope.now)
-    (λ state whole.
-    whole_behind g.S.Store g.H.Shelf c.args.bench.now c.amiss.new.bench c.fill-2.new.bench
-    c.args.scope.now state c.in_ok-names.ensures.keep c.in_ok-synced.ensures.keep
-    (λ honest mid. (c.in_ok-names.ensures.told honest mid).looked) whole) c.in_ok-synced.synced
-    c.in_ok-synced.ensures.whole
+    omega (arith, c.in_ok-ending.ensures.keep.clean, kept) in
+    c.in_ok-passed_over.ensures.told asked honest mid

@@ -1,19 +1,22 @@
-use Rattle.std.proofs.Common.{arith, rules}
+use Rattle.std.proofs.Common.{◌≡◌, None, arith, rules}
 use Rattle.gm_bench.specs.Benches.{registry_of}
 use Rattle.gm_registry.specs.Registry.{DiskKept}
 use Rattle.gm_sync.specs.Filling.{IsAdvanceIn}
+use Rattle.gm_sync.specs.Scopes.{next_of}
 use Rattle.gm_sync.proofs.Filled.{fills_looked, fills_none, fills_then, filled_look, tables_at_rest}
+use Rattle.gm_sync.proofs.Still.{still_looked, still_none, still_shown}
 use Rattle.gm_sync.proofs.fill.fill.Goals as goal
 
 pub loop-init : goal.loop-init
 loop-init g c = record {
   phase = c.requires;
-  fills = fills_none g.S.Store g.H.Shelf (IsAdvanceIn c.args.scope.now) _;
+  fills = fills_none g.S.Store g.H.Shelf (IsAdvanceIn c.args.due.now) _;
+  still = still_none g.S.Store g.H.Shelf c.args.due.now c.args.bench.now;
 }
 
 pub returns-then-is_none-clause-fills : goal.returns-then-is_none-clause-fills
 returns-then-is_none-clause-fills g c =
-    fills_looked g.S.Store g.H.Shelf (IsAdvanceIn c.args.scope.now) c.args.bench.now c.loop.bench
+    fills_looked g.S.Store g.H.Shelf (IsAdvanceIn c.args.due.now) c.args.bench.now c.loop.bench
     c.view.new.self c.in_ok-state.state c.loop.invariant.fills c.in_ok-state.ensures.looks
 
 pub returns-then-is_none-clause-whole : goal.returns-then-is_none-clause-whole
@@ -36,7 +39,7 @@ returns-then-is_none-clause-whole g c =
           omega (arith, looks.store.clean, kept) in
           let filled = c.loop.invariant.fills.does honest mid away u at in
           let still = c.loop.invariant.fills.keep.shelf.honest honest in (
-            filled_look g.S.Store g.H.Shelf (IsAdvanceIn c.args.scope.now) c.loop.bench
+            filled_look g.S.Store g.H.Shelf (IsAdvanceIn c.args.due.now) c.loop.bench
                 c.view.new.self away u (looks.does still kept) filled,
             c.in_ok-state.ensures.shows kept filled.at.tables filled.world.state filled.at.has
                 (tables_at_rest g.S.Store g.H.Shelf c.loop.bench away filled.world
@@ -44,20 +47,39 @@ returns-then-is_none-clause-whole g c =
           );
     }
 
+pub returns-then-is_none-clause-still : goal.returns-then-is_none-clause-still
+returns-then-is_none-clause-still g c =
+    still_looked g.S.Store g.H.Shelf c.args.due.now c.args.bench.now c.loop.bench c.view.new.self
+    c.in_ok-state.state c.loop.invariant.fills.keep c.loop.invariant.still
+    c.in_ok-state.ensures.looks
+
+pub returns-in-Some-clause-still : goal.returns-in-Some-clause-still
+returns-in-Some-clause-still g c =
+    let some : next_of c.args.due.now c.in_ok-state.state ≡ None → ⊥ = search rules in
+    still_shown g.S.Store g.H.Shelf c.args.due.now c.args.bench.now c.loop.bench c.view.new.self
+    c.fill_each.new.bench c.in_ok-state.state c.loop.invariant.still c.in_ok-state.ensures.looks
+    c.in_ok-state.ensures.shows some c.in_ok-unfilled.ensures.keep
+
 pub returns-in-Some-clause-fills : goal.returns-in-Some-clause-fills
 returns-in-Some-clause-fills g c =
-    fills_then g.S.Store g.H.Shelf (IsAdvanceIn c.args.scope.now) c.args.bench.now c.view.new.self
+    fills_then g.S.Store g.H.Shelf (IsAdvanceIn c.args.due.now) c.args.bench.now c.view.new.self
     c.fill_each.new.bench
-    (fills_looked g.S.Store g.H.Shelf (IsAdvanceIn c.args.scope.now) c.args.bench.now c.loop.bench
+    (fills_looked g.S.Store g.H.Shelf (IsAdvanceIn c.args.due.now) c.args.bench.now c.loop.bench
     c.view.new.self c.in_ok-state.state c.loop.invariant.fills c.in_ok-state.ensures.looks)
     c.in_ok-unfilled.ensures.fills
 
 pub loop-preserved : goal.loop-preserved
-loop-preserved g c = record {
-  phase = c.in_ok-unfilled.ensures.phase;
-  fills = fills_then g.S.Store g.H.Shelf (IsAdvanceIn c.args.scope.now) c.args.bench.now
-      c.view.new.self c.fill_each.new.bench
-      (fills_looked g.S.Store g.H.Shelf (IsAdvanceIn c.args.scope.now) c.args.bench.now c.loop.bench
-      c.view.new.self c.in_ok-state.state c.loop.invariant.fills c.in_ok-state.ensures.looks)
-      c.in_ok-unfilled.ensures.fills;
-}
+loop-preserved g c =
+    let some : next_of c.args.due.now c.in_ok-state.state ≡ None → ⊥ = search rules in
+    let looked = fills_looked g.S.Store g.H.Shelf (IsAdvanceIn c.args.due.now) c.args.bench.now
+    c.loop.bench c.view.new.self c.in_ok-state.state c.loop.invariant.fills
+    c.in_ok-state.ensures.looks in
+    record {
+      phase = c.in_ok-unfilled.ensures.phase;
+      fills = fills_then g.S.Store g.H.Shelf (IsAdvanceIn c.args.due.now) c.args.bench.now
+          c.view.new.self c.fill_each.new.bench looked c.in_ok-unfilled.ensures.fills;
+      still = still_shown g.S.Store g.H.Shelf c.args.due.now c.args.bench.now c.loop.bench
+          c.view.new.self c.fill_each.new.bench c.in_ok-state.state c.loop.invariant.still
+          c.in_ok-state.ensures.looks c.in_ok-state.ensures.shows some
+          c.in_ok-unfilled.ensures.keep;
+    }

@@ -1,11 +1,12 @@
 use Rattle.gm_bench.specs.Benches.{progress_of}
 use Rattle.gm_bench.specs.Phases.{TakesCommands}
-use Rattle.gm_sync.specs.Filling.{Fills, IsAdvanceIn}
+use Rattle.gm_sync.specs.Filling.{Fills, IsAdvanceIn, IsStill}
 use Rattle.gm_sync.proofs.fill.fill.Given as goal
 
--- the bench may be asked, and was only filled
+-- the bench may be asked, and was only filled, and that only if something was to be filled
 abbrev pub invariant-loop : goal.invariant-loop
 invariant-loop g l = record {
   phase : TakesCommands (progress_of l.bench);
-  fills : Fills g.S.Store g.H.Shelf (IsAdvanceIn l.fn.scope) l.fn.bench l.bench;
+  fills : Fills g.S.Store g.H.Shelf (IsAdvanceIn l.fn.due) l.fn.bench l.bench;
+  still : IsStill g.S.Store g.H.Shelf l.fn.bench l.bench l.fn.due;
 }

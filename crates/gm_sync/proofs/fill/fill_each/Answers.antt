@@ -2,33 +2,33 @@ use Rattle.std.proofs.Common.{◌≡◌, ◌∙◌, true, sym}
 use Rattle.gm_sync.specs.Filling.{IsAdvanceIn}
 use Rattle.gm_sync.specs.Scopes.{is_next}
 use Rattle.gm_sync.proofs.Filled.{fills_none, fills_then}
-use Rattle.gm_sync.proofs.Meant.{fills_next}
+use Rattle.gm_sync.proofs.Next.{fills_next}
 use Rattle.gm_sync.proofs.fill.fill_each.Goals as goal
 
 pub loop-component-init : goal.loop-component-init
 loop-component-init g c = record {
   phase = c.requires;
-  fills = fills_none g.S.Store g.H.Shelf (IsAdvanceIn c.args.scope.now) _;
+  fills = fills_none g.S.Store g.H.Shelf (IsAdvanceIn c.args.due.now) _;
 }
 
 pub returns-in-Some-clause-fills : goal.returns-in-Some-clause-fills
 returns-in-Some-clause-fills g c =
-    let next : is_next c.args.scope.now c.args.state.now c.component-item.result ≡ true =
+    let next : is_next c.args.due.now c.args.state.now c.component-item.result ≡ true =
     sym c.is_next.ensures ∙ c.if-not-is_next.false in
-    fills_then g.S.Store g.H.Shelf (IsAdvanceIn c.args.scope.now) c.args.bench.now
+    fills_then g.S.Store g.H.Shelf (IsAdvanceIn c.args.due.now) c.args.bench.now
     c.loop-component.bench c.fill_one.new.bench c.loop-component.invariant.fills
-    (fills_next g.S.Store g.H.Shelf c.args.scope.now c.args.state.now c.component-item.result next
+    (fills_next g.S.Store g.H.Shelf c.args.due.now c.args.state.now c.component-item.result next
     c.loop-component.bench c.fill_one.new.bench c.in_ok-why.ensures.fills)
 
 pub loop-component-preserved : goal.loop-component-preserved
 loop-component-preserved g c =
-    let next : is_next c.args.scope.now c.args.state.now c.component-item.result ≡ true =
+    let next : is_next c.args.due.now c.args.state.now c.component-item.result ≡ true =
     sym c.is_next.ensures ∙ c.if-not-is_next.false in
     record {
       phase = c.in_ok-why.ensures.phase;
-      fills = fills_then g.S.Store g.H.Shelf (IsAdvanceIn c.args.scope.now) c.args.bench.now
+      fills = fills_then g.S.Store g.H.Shelf (IsAdvanceIn c.args.due.now) c.args.bench.now
           c.loop-component.bench c.fill_one.new.bench c.loop-component.invariant.fills
-          (fills_next g.S.Store g.H.Shelf c.args.scope.now c.args.state.now
+          (fills_next g.S.Store g.H.Shelf c.args.due.now c.args.state.now
           c.component-item.result next c.loop-component.bench c.fill_one.new.bench
           c.in_ok-why.ensures.fills);
     }

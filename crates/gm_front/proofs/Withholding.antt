@@ -1,0 +1,113 @@
+-- Commands that are withheld, and requests that are served so.
+use Rattle.std.proofs.Common.{◌≡◌, inl, inr, refl, ap, subst, ℕ, List, [], Option, Result, Ok, Err, IfSome}
+use Rattle.std.specs.Prelude.{IfOk, IfErr, OnErr}
+use Rattle.std.specs.Io.KnownBytes.{Appends}
+use Rattle.sqlite_trees.specs.declared.store.Store.{Ghosts}
+use Rattle.sqlite.specs.Held.{Held}
+use Rattle.gm_metadata.specs.Images.{Image, Sizes}
+use Rattle.gm_shelf.specs.Disk.{View}
+use Rattle.gm_shelf.specs.declared.shelf.Shelf.{Ghosts as ShelfGhosts}
+use Rattle.gm_commands.specs.declared.command.Command.{Command}
+use Rattle.gm_state.specs.World.{World}
+use Rattle.gm_http.specs.Requests.{Asked, Asks}
+use Rattle.gm_http.specs.Responses.{code_of}
+use Rattle.gm_bench.specs.Benches.{registry_of, shelf_of}
+use Rattle.gm_bench.specs.Owed.{LeavesRun}
+use Rattle.gm_bench.specs.Recovering.{LeavesOnly}
+use Rattle.gm_bench.specs.declared.bench.Bench.{Bench}
+use Rattle.gm_front.specs.declared.answer_lines.FrontFault.{FrontFault}
+use Rattle.gm_front.specs.declared.answer_lines.FrontFault.TheVariants.{Memory, Read, Write}
+use Rattle.gm_front.specs.declared.finding.Finding.{Finding}
+use Rattle.gm_front.specs.declared.finding.Finding.TheVariants as finding
+use Rattle.gm_front.specs.declared.service.Response.{Response}
+use Rattle.gm_front.specs.Batch.{AppendsFront}
+use Rattle.gm_front.specs.Demands.{Carry, Demand, Told, demand_of}
+use Rattle.gm_front.specs.Findings.{IsPut, told_of, withheld_told}
+use Rattle.gm_front.specs.GuardedServices.{FindsUnlessWithheld, FoundBehindLook, HadNothing, ServesGuarded, TellsOf}
+use Rattle.gm_front.specs.Guards.{StoodInTheWay}
+use Rattle.gm_front.specs.Services.{Serves, bytes_of, code_told}
+use Rattle.gm_front.proofs.ManyLooks.{looks_nothing}
+use Rattle.gm_front.proofs.RequestsServed.{served}
+
+-- what a look that failed leaves, a command may leave that isn't accepted
+pub run_of_look : {S H : Type 0} (g : Ghosts S) (view : H → View) (size : H → Sizes) (r s : Held S)
+    (h k : H) (away : Image) (u : World) (key : List ℕ) (c : Command)
+    → LeavesOnly g view size r s h k away u u → size k ≡ size h
+    → LeavesRun g view size r s h k away u key c
+run_of_look g view size r s h k away u key c left same = record {
+  registry = s;
+  shelf = k;
+  sizes = same;
+  accepting = record { within = left.within; end = λ db l. inl (left.end db l) };
+  carrying = inl (refl, refl);
+}
+
+-- what holds of a carried key and command holds of the same ones
+pub same_carried : (P : List ℕ → Command → Type 0) (k l : List ℕ) (c d : Command)
+    → Carry k c ≡ Carry l d → P k c → P l d
+same_carried P k l c d is holds =
+    let key : k ≡ l = cc in
+    let command : c ≡ d = cc in
+    subst (λ (x : Command). P l x) command (subst (λ (x : List ℕ). P x c) key holds)
+
+-- all of what is told was written, or a beginning of it
+tells_of : (told : Told) (before now : Option (List ℕ)) (response : Result Response FrontFault)
+    → IfOk response (λ it. (it.status ≡ told.status) × Appends before now (bytes_of told))
+    → OnErr response (AppendsFront before now (bytes_of told))
+    → IfErr response (λ e. e ≡ Read → ⊥)
+    → TellsOf told before now (code_told response)
+tells_of told before now (Ok response) wrote front fault = (ap code_of wrote.0, wrote.1)
+tells_of told before now (Err Read) wrote front fault = absurd (fault refl)
+tells_of told before now (Err Memory) wrote front fault = front
+tells_of told before now (Err Write) wrote front fault = front
+
+module _ {S H : Type 0} (s : Ghosts S) (h : ShelfGhosts H) (old new : Bench S H) where
+  pub unless_withheld : (away : Image) (u : World) (demand : Demand) (it : Finding)
+      → FoundBehindLook s h old new away u demand it
+      → FindsUnlessWithheld s h old new away u demand it
+  unless_withheld away u demand (finding.Withheld list) found = tt
+  unless_withheld away u demand it found = found
+
+  pub had_nothing : (demand : Demand) (it : Finding) → IsPut it
+      → ((key : List ℕ) (command : Command) → demand ≡ Carry key command
+      → StoodInTheWay s h old key command [])
+      → HadNothing s h old new demand it
+  had_nothing demand (finding.Withheld list) put none = absurd put
+  had_nothing demand (finding.Answered answer) put none = none
+  had_nothing demand it put none = tt
+
+  module _ (away : Image) (u : World) (input before now : Option (List ℕ)) where
+    -- a request that is served at once
+    pub serves_at_once : (result : Result ℕ FrontFault)
+        → Serves s h.view h.size input before now (registry_of old) (registry_of new)
+        (shelf_of old) (shelf_of new) away u result
+        → ServesGuarded s h old new away u input before now result
+    serves_at_once result serves =
+        inl (record { mid = old; looked = looks_nothing s h old; serves = serves })
+
+    -- one that is served by what its demand came to
+    pub guarded_served : (asked : Asked) → IfSome input (λ bytes. Asks bytes asked)
+        → (it : Finding) (told : Result Response FrontFault)
+        → FindsUnlessWithheld s h old new away u (demand_of asked) it
+        → HadNothing s h old new (demand_of asked) it
+        → IfOk told (λ response. (response.status ≡ (told_of it).status)
+        × Appends before now (bytes_of (told_of it)))
+        → OnErr told (AppendsFront before now (bytes_of (told_of it)))
+        → IfErr told (λ e. e ≡ Read → ⊥)
+        → ServesGuarded s h old new away u input before now (code_told told)
+    guarded_served asked asks (finding.Withheld list) told found had wrote front fault =
+        inr (inl (record {
+          asked = asked;
+          asks = asks;
+          list = list.items;
+          withheld = had;
+          told = tells_of (withheld_told list.items) before now told wrote front fault;
+        }))
+    guarded_served asked asks it told found had wrote front fault =
+        inl (record {
+          mid = found.mid;
+          looked = found.looked;
+          serves = served s h.view h.size input before now (registry_of found.mid)
+              (registry_of new) (shelf_of found.mid) (shelf_of new) away u asked asks it told
+              found.comes wrote front fault;
+        })

@@ -1,0 +1,66 @@
+use Rattle.std.proofs.Common.{rules, arith, ◌≡◌, ◌∙◌, sym, ap, subst, List, [], Err}
+use Rattle.gm_looks.specs.declared.unlike.Unlike.{Unlike}
+use Rattle.gm_registry.specs.Registry.{DiskKept}
+use Rattle.gm_bench.specs.Benches.{registry_of}
+use Rattle.gm_bench.proofs.Looks.{looked_at}
+use Rattle.gm_front.specs.Guards.{StoodInTheWay}
+use Rattle.gm_front.specs.Outcomes.{asked_of}
+use Rattle.gm_front.specs.Request.{Call}
+use Rattle.gm_front.proofs.Found.{records_shown}
+use Rattle.gm_front.proofs.ManyLooks.{looks_nothing, none_left, same_call}
+use Rattle.gm_front.proofs.guard.ask_guarded.Goals as goal
+
+pub returns-in_default : goal.returns-in_default
+returns-in_default g c = record {
+  comes = λ honest kept away u at. record {
+    mid = c.args.bench.now;
+    looked = looks_nothing g.S.Store g.H.Shelf c.args.bench.now;
+    comes = c.ask.ensures.comes honest kept away u at;
+  };
+  guarded = λ honest kept key command is t r has are. absurd (search rules);
+  progress = c.ask.ensures.progress;
+  closes = record {
+    closed = c.ask.ensures.closed;
+    reopen = search rules;
+    absent = search rules;
+    redone = c.ask.ensures.redone;
+  };
+  keep = c.ask.ensures.keep;
+}
+
+pub returns-in-Ok-clause-comes : goal.returns-in-Ok-clause-comes
+returns-in-Ok-clause-comes g c = λ honest kept away u at.
+    let looks = c.in-Ok.ensures.looks in
+    let mid : DiskKept g.S.Store (registry_of c.in_the_way.new.bench) =
+    omega (arith, c.ask-in-Ok.ensures.keep.clean, kept) in
+    record {
+      mid = c.in_the_way.new.bench;
+      looked = looks.does honest mid;
+      comes = c.ask-in-Ok.ensures.comes (looks.only.keeps.honest honest) kept away u
+          (looked_at g.S.Store g.H.Shelf.view g.H.Shelf.size _ _ _ _ away [] [] u u
+          (looks.does honest mid) at);
+    }
+
+pub returns-in-Ok-clause-guarded : goal.returns-in-Ok-clause-guarded
+returns-in-Ok-clause-guarded g c = λ honest kept key command is.
+    let mid : DiskKept g.S.Store (registry_of c.in_the_way.new.bench) =
+    omega (arith, c.ask-in-Ok.ensures.keep.clean, kept) in
+    let none = none_left c.in-Ok.list.items (search rules) in
+    let asks : Call c.in-Call.key.now c.in-Call.command ≡ Call key command =
+    ap asked_of (sym c.in-Call.is) ∙ is in
+    same_call (λ k x. StoodInTheWay g.S.Store g.H.Shelf c.args.bench.now k x [])
+    c.in-Call.key.now key c.in-Call.command command asks
+    (subst (λ (list : List Unlike). StoodInTheWay g.S.Store g.H.Shelf c.args.bench.now
+    c.in-Call.key.now c.in-Call.command list) none (c.in-Ok.ensures.stood honest mid))
+
+pub returns-in-Err-clause-comes : goal.returns-in-Err-clause-comes
+returns-in-Err-clause-comes g c = λ honest kept away u at.
+    let looks = c.in-Err.ensures.looks in
+    record {
+      left = looks.leaves honest kept away [] [] u u at;
+      disk = λ is. looks.disk (ap Err is);
+      readable = λ is found written.
+          c.in-Err.ensures.readable honest kept (ap Err is) found.tables u.state found.has
+          (records_shown g.S.Store g.H.Shelf.view g.H.Shelf.size _ _ away u found
+          (g.met.H.Shelf.lawful _ honest)) written;
+    }

@@ -1,0 +1,50 @@
+use Rattle.std.proofs.Common.{rules, arith, ◌≡◌, inl, sym, subst, Result, Err, None, Vec, Global}
+use Rattle.gm_refusals.specs.Applies.{is_about}
+use Rattle.gm_looks.specs.Unlikes.{IsUnlike}
+use Rattle.gm_looks.specs.declared.unlike.Unlike.{Unlike}
+use Rattle.gm_registry.specs.Registry.{DiskKept}
+use Rattle.gm_bench.specs.Benches.{registry_of}
+use Rattle.gm_bench.specs.KeptCommands.{TellsKept}
+use Rattle.gm_bench.specs.declared.fault.BenchFault.{BenchFault}
+use Rattle.gm_front.specs.Guards.{OnlyLooks}
+use Rattle.gm_front.proofs.ManyLooks.{looks_then}
+use Rattle.gm_front.proofs.guard.in_the_way.Goals as goal
+
+pub returns-in_err-list-clause-readable : goal.returns-in_err-list-clause-readable
+returns-in_err-list-clause-readable g c = λ honest kept is t s has are written.
+    let first = c.in_ok-kept.ensures in
+    let mid : DiskKept g.S.Store (registry_of c.kept.new.self) =
+    omega (arith, c.in_err-list.ensures.looks.store.clean, kept) in
+    c.in_err-list.ensures.records.unreadable kept (search rules) t s
+    ((first.looks.does honest mid).tables t has) are
+
+pub returns-in_err-list-clause-looks : goal.returns-in_err-list-clause-looks
+returns-in_err-list-clause-looks g c =
+    let is : c.from_residual-in_err-list.result ≡ Err c.in_err-list.field-0.0 = search rules in
+    subst (λ (r : Result (Vec Unlike Global) BenchFault). OnlyLooks g.S.Store g.H.Shelf
+    c.args.bench.now c.unlike.new.self r) (sym is)
+    (looks_then g.S.Store g.H.Shelf g.met.S.Store.settled c.args.bench.now c.kept.new.self
+    c.unlike.new.self (λ h. g.met.H.Shelf.lawful _ h) c.in_ok-kept.field-0
+    (Err c.in_err-list.field-0.0) c.in_ok-kept.ensures.looks c.in_err-list.ensures.looks)
+
+pub returns-clause-stood : goal.returns-clause-stood
+returns-clause-stood g c = λ honest kept t s has are.
+    let first = c.in_ok-kept.ensures in
+    let second = c.in_ok-list.ensures in
+    let mid : DiskKept g.S.Store (registry_of c.kept.new.self) =
+    omega (arith, second.looks.store.clean, kept) in
+    let none : c.in_ok-kept.field-0 ≡ None = search rules in
+    let free = subst (λ found. TellsKept t c.args.key.now found) none (first.shows mid t has) in
+    let there = subst (λ (x : g.row.H.Denot). g.H.Shelf.honest x) (sym first.shelf) honest in
+    inl (
+      free,
+      subst (λ (x : g.row.H.Denot). IsUnlike (is_about c.args.command.now) s
+          (g.H.Shelf.size x) (g.H.Shelf.view x).seen c.in_ok-list.list.items) first.shelf
+          (second.unlike there kept t s ((first.looks.does honest mid).tables t has) are),
+    )
+
+pub returns-clause-looks : goal.returns-clause-looks
+returns-clause-looks g c =
+    looks_then g.S.Store g.H.Shelf g.met.S.Store.settled c.args.bench.now c.kept.new.self
+    c.unlike.new.self (λ h. g.met.H.Shelf.lawful _ h) c.in_ok-kept.field-0 _
+    c.in_ok-kept.ensures.looks c.in_ok-list.ensures.looks

@@ -1,0 +1,114 @@
+//! More than a refusal's number says of it, by the mirrors and the folder as they are.
+
+use gm_commands::Command;
+use gm_metadata::Label;
+use gm_process::Explaining;
+use gm_refusals::{Refusal, providers_of};
+use gm_sentences::About;
+use gm_shelf::{FileShelf, Shelf};
+use gm_state::{Component, ComponentState, State, bytes_of, component_state};
+use std::alloc::{AllocError, Global};
+
+/// The mirrors and the folder, by which a refusal is explained.
+#[derive(Clone, Copy)]
+pub(crate) struct Known<'a> {
+    pub(crate) rt: &'a HostRuntime,
+    pub(crate) explaining: &'a Explaining,
+    pub(crate) state: &'a State,
+}
+
+impl Known<'_> {
+    // How many sectors an image has in the folder.
+    fn sectors(self, image: Label) -> Option<u64> {
+        let folder = self.explaining.folder.as_str();
+        let shelf = FileShelf::look_at(self.rt, folder, &[image]).ok()?;
+        shelf.sectors(image)
+    }
+
+    // The first component of a mirror whose image isn't there in its size.
+    fn absent_component(self, mirror: Label) -> Option<Component> {
+        for component in self.state.components() {
+            if component.mirror != mirror {
+                continue;
+            }
+            if self.sectors(component.provider) != Some(u64::from(component.sectors)) {
+                return Some(*component);
+            }
+        }
+        None
+    }
+
+    fn absent(self, about: &About) -> Result<Option<String>, AllocError> {
+        let alloc = self.rt.alloc();
+        let Some(component) = about
+            .mirror
+            .and_then(|mirror| self.absent_component(mirror))
+        else {
+            return Ok(None);
+        };
+        let provider = component.provider;
+        let mirror = component.mirror;
+        let sectors = component.sectors;
+        let text = format!(in alloc;
+            "{provider}, a component of {mirror}, isn't on the shelf with its {sectors} sectors"
+        )?;
+        Ok(Some(text))
+    }
+
+    fn too_small(self, about: &About, image: Label) -> Result<Option<String>, AllocError> {
+        let alloc = self.rt.alloc();
+        let mirror = about.mirror.and_then(|mirror| self.state.mirror(mirror));
+        let (Some(mirror), Some(sectors)) = (mirror, self.sectors(image)) else {
+            return Ok(None);
+        };
+        let name = mirror.name;
+        let has = sectors.saturating_mul(512);
+        let needs = bytes_of(mirror.data_sectors).saturating_add(512);
+        let text = format!(in alloc;
+            "{image} has {has} bytes; the data of {name} and one sector more need {needs}"
+        )?;
+        Ok(Some(text))
+    }
+
+    // The first component of a mirror that isn't filled, and the way on.
+    fn unfilled(self, mirror: Label) -> Result<Option<String>, AllocError> {
+        let alloc = self.rt.alloc();
+        for component in self.state.components() {
+            if component.mirror != mirror {
+                continue;
+            }
+            let provider = component.provider;
+            match component_state(self.state, provider) {
+                Some(ComponentState::Synchronizing) => {
+                    return Ok(Some(format!(in alloc;
+                        "{provider} is SYNCHRONIZING; sync fills it"
+                    )?));
+                }
+                Some(ComponentState::Stale) => {
+                    return Ok(Some(format!(in alloc;
+                        "{provider} is STALE; rebuild {mirror} {provider} lets sync fill it"
+                    )?));
+                }
+                _ => {}
+            }
+        }
+        Ok(None)
+    }
+
+    /// A sentence on a refused command, if more is known than the refusal's own sentence says.
+    pub(crate) fn sentence(
+        self,
+        command: &Command,
+        why: Refusal,
+    ) -> Result<Option<String>, AllocError> {
+        let about = About::command(command);
+        match (why, about.mirror, providers_of(command)) {
+            (Refusal::Absent, _, named) if named.iter().all(|it| self.sectors(*it).is_some()) => {
+                self.absent(&about)
+            }
+            (Refusal::TooSmall, _, [image]) => self.too_small(&about, *image),
+            (Refusal::BeingFilled, Some(mirror), _) => self.unfilled(mirror),
+            _ => Ok(None),
+        }
+    }
+}

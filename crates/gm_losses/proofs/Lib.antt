@@ -1,0 +1,6 @@
+pub mod FirstData
+pub mod FreeLost
+pub mod IntactFound
+pub mod LeavingLost
+pub mod LeftFound
+pub mod Listed

@@ -1,0 +1,5 @@
+pub mod Copies
+pub mod FreeImages
+pub mod LeftAmong
+pub mod LeftImages
+pub mod Losses

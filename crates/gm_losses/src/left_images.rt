@@ -1,0 +1,129 @@
+//! The images that a mirror would leave if it is adopted.
+
+ghost use Rattle.std.specs.Prelude.{◌≡◌, IfOk};
+ghost use Rattle.std.specs.List.{filter_map, list_all};
+ghost use Rattle.gm_shelf.specs.Keeping.{Looks};
+ghost use Rattle.gm_losses.specs.LeftImages.{is_newer};
+ghost use Rattle.gm_losses.specs.LeftAmong.{has_member, is_adopted, is_broken, is_named, is_newest, left_among, left_as};
+ghost use Rattle.gm_losses.specs.Losses.{AreLosses};
+
+use crate::loss::Loss;
+use gm_commands::{Command, Providers};
+use gm_looks::taste_shelf;
+use gm_metadata::{Label, Metadata};
+use gm_shelf::{Shelf, ShelfFault};
+use gm_state::State;
+use gm_taste::{Group, Member, MemberState};
+use std::alloc::{AllocError, Global};
+
+// Whether the one has a greater genid than the other, or the same and a greater syncid.
+fn is_newer(metadata: &Metadata, other: &Metadata) -> bool
+    ensures { result ≡ is_newer metadata.now other.now }
+{
+    other.genid < metadata.genid || other.genid == metadata.genid && other.syncid < metadata.syncid
+}
+
+fn is_broken(state: MemberState) -> bool
+    ensures { result ≡ is_broken state }
+{
+    matches!(state, MemberState::Broken)
+}
+
+// Whether the member is on one of these providers.
+fn is_named(providers: &[Label], member: &Member) -> bool
+    ensures { result ≡ is_named providers.now member.now }
+{
+    providers.iter().any(|p| member.provider == *p)
+}
+
+// Whether a member is on this provider.
+fn has_member(members: &[Member], provider: Label) -> bool
+    ensures { result ≡ has_member members.now provider }
+{
+    members.iter().any(|x| x.provider == provider)
+}
+
+// Whether there is one on each of these providers.
+fn has_all(members: &[Member], providers: &[Label]) -> bool
+    ensures { result ≡ list_all (has_member members.now) providers.now }
+{
+    providers.iter().all(|p| has_member(members, *p))
+}
+
+// Whether the group has this name, and all of these providers.
+fn is_adopted(name: Label, providers: &[Label], group: &Group) -> bool
+    ensures { result ≡ is_adopted name providers.now group.now }
+{
+    group.name == name && has_all(&group.members, providers)
+}
+
+// Whether the member is newer than each of those on these providers.
+fn is_newest(members: &[Member], providers: &[Label], member: &Member) -> bool
+    ensures { result ≡ is_newest members.now providers.now member.now }
+{
+    members
+        .iter()
+        .filter(|x| is_named(providers, x))
+        .all(|x| is_newer(&member.metadata, &x.metadata))
+}
+
+// What is said of a member, if it is left.
+fn left_as(members: &[Member], providers: &[Label], member: &Member) -> Option<Loss>
+    ensures { result ≡ left_as members.now providers.now member.now }
+{
+    if is_named(providers, member) || is_broken(member.state) {
+        return None;
+    }
+    Some(Loss::Left {
+        provider: member.provider,
+        newer: is_newest(members, providers, member),
+    })
+}
+
+// What is left of a group.
+fn left_in(alloc: Global, members: &[Member], providers: &[Label]) -> Result<Vec<Loss>, AllocError>
+    ensures { IfOk result (λ v. v.items ≡
+        filter_map (left_as members.now providers.now) members.now) }
+{
+    members
+        .iter()
+        .filter_map(|x| left_as(members, providers, x))
+        .collect(alloc)
+}
+
+// What is left of the first group that is adopted.
+fn left_among(
+    alloc: Global,
+    groups: &[Group],
+    name: Label,
+    providers: &[Label],
+) -> Result<Vec<Loss>, AllocError>
+    ensures { IfOk result (λ v. v.items ≡ left_among groups.now name providers.now) }
+{
+    for group in groups {
+        if is_adopted(name, providers, group) {
+            return left_in(alloc, &group.members, providers);
+        }
+    }
+    Ok(Vec::new(alloc))
+}
+
+/// What an `adopt` would leave. `Device` if a last sector can't be read, or `Memory`.
+pub(crate) fn losses_of_adopt<H: Shelf>(
+    alloc: Global,
+    shelf: &mut H,
+    state: &State,
+    name: Label,
+    providers: &Providers,
+) -> Result<Vec<Loss>, ShelfFault>
+    ensures losses { H.honest shelf.old → IfOk result (λ list. AreLosses state.now
+        (H.size shelf.old) (H.view shelf.old).seen (Command.Adopt name providers.now) list.items) }
+    ensures looks { Looks H.Shelf shelf.old shelf.new result }
+{
+    if state.mirror(name).is_some() {
+        return Ok(Vec::new(alloc));
+    }
+    let tasted = taste_shelf(alloc, shelf)?;
+    let list = left_among(alloc, &tasted.groups, name, providers.as_slice())?;
+    Ok(list)
+}
