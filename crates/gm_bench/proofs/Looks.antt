@@ -6,23 +6,27 @@ use Rattle.sqlite.specs.Held.{Held}
 use Rattle.gm_lists.specs.Ordered.{Has}
 use Rattle.gm_metadata.specs.Images.{Image, Sizes}
 use Rattle.gm_shelf.specs.Disk.{View, IsLawful, IsQuiet}
+use Rattle.gm_shelf.specs.Keeping.{Looks, ReadsOnly}
+use Rattle.gm_shelf.specs.declared.fault.ShelfFault.{ShelfFault}
+use Rattle.gm_shelf.specs.declared.fault.ShelfFault.TheVariants as shelf
 use Rattle.gm_shelf.specs.declared.shelf.Shelf.{Ghosts as ShelfGhosts}
 use Rattle.gm_shelf.proofs.InTurn.{quiet_itself, quiet_moment, reads_itself}
+use Rattle.gm_shelf.proofs.Keeping.{only_then}
 use Rattle.gm_state.specs.declared.intents.Intent.{Intent}
 use Rattle.gm_state.specs.Intents.{IsAtHand}
 use Rattle.gm_state.specs.Rows.{Tables}
 use Rattle.gm_state.specs.World.{World}
 use Rattle.gm_registry.specs.Registry.{DiskKept, HasTables, Reads}
 use Rattle.gm_registry.proofs.CallsLeave.{IsSettling, saved}
-use Rattle.gm_bench.specs.Benches.{media_of, progress_of, registry_of, shelf_of}
-use Rattle.gm_bench.specs.Calls.{LooksAt, LooksOn}
+use Rattle.gm_bench.specs.Benches.{progress_of, registry_of, shelf_of}
+use Rattle.gm_bench.specs.Calls.{LooksOn, TellsDisk}
 use Rattle.gm_bench.specs.Leading.{AllLead}
 use Rattle.gm_bench.specs.Owed.{LookDoes, LookLeaves}
 use Rattle.gm_bench.specs.Recovering.{IsAt}
 use Rattle.gm_bench.specs.declared.bench.Bench.{Bench}
 use Rattle.gm_bench.specs.declared.fault.BenchFault.{BenchFault}
-use Rattle.gm_bench.specs.declared.fault.BenchFault.TheVariants.{Closed, Disk}
-use Rattle.gm_bench.specs.declared.media.Media.{Media}
+use Rattle.gm_bench.specs.Faults.{of_shelf}
+use Rattle.gm_bench.specs.declared.fault.BenchFault.TheVariants.{Closed, Disk, Memory}
 use Rattle.gm_bench.proofs.DecidesOnly.{reads_none}
 use Rattle.gm_bench.proofs.RegistryLeaves.{read_only}
 
@@ -61,35 +65,85 @@ module _ {S H : Type 0} (g : Ghosts S) (view : H → View) (size : H → Sizes) 
 
 -- ---- a look of both media, as a call of the bench
 
+-- nothing is read
+only_itself : {H : Type 0} (h : ShelfGhosts H) (k : H) → ReadsOnly h k k
+only_itself h k = record {
+  keeps = record { honest = λ honest. honest; size = refl; count = omega arith };
+  reads = λ honest. reads_itself (h.view k);
+}
+
 on_ok : {T E A B : Type 0} (r : Result T E) → OnOk r A → (A → B) → OnOk r B
 on_ok (Ok x) a f = f a
 on_ok (Err e) a f = tt
 
 module _ {S H T : Type 0} (s : Ghosts S) (h : ShelfGhosts H) (settling : IsSettling s)
-    (old new : Bench S H) (result : Result T BenchFault)
-    (lawful : h.honest (shelf_of old) → IsLawful (h.view (shelf_of old))) where
-  looks_by : OnOk result (progress_of new ≡ progress_of old)
-      → LooksAt s h (media_of old) (media_of new) result → LooksOn s h old new result
-  looks_by stays at = record {
+    (a c : Bench S H) (result : Result T BenchFault)
+    (lawful : h.honest (shelf_of a) → IsLawful (h.view (shelf_of a))) where
+  looks_by : OnOk result (progress_of c ≡ progress_of a)
+      → Reads s (registry_of a) (registry_of c) → ReadsOnly h (shelf_of a) (shelf_of c)
+      → TellsDisk h (shelf_of a) (shelf_of c) result
+      → (h.honest (shelf_of a) → DiskKept s (registry_of c) → OnOk result ((t : Tables)
+      → HasTables s (registry_of a) t → HasTables s (registry_of c) t))
+      → LooksOn s h a c result
+  looks_by stays reads only disk tables = record {
     stays = stays;
-    does = λ honest clean. on_ok result (at.stays clean)
-        (λ tables. look_does s h.view h.size (registry_of old) (registry_of new) (shelf_of old)
-        (shelf_of new) (at.asks.only.reads honest).quiet tables at.asks.only.keeps.size);
-    leaves = λ honest clean. look_leaves s h.view h.size (registry_of old) (registry_of new)
-        (shelf_of old) (shelf_of new) (at.asks.only.reads honest).quiet settling
-        (lawful honest) clean at.asks.store;
-    store = at.asks.store;
-    only = at.asks.only;
-    disk = at.asks.disk;
+    does = λ honest clean. on_ok result (tables honest clean)
+        (λ tables. look_does s h.view h.size (registry_of a) (registry_of c) (shelf_of a)
+        (shelf_of c) (only.reads honest).quiet tables only.keeps.size);
+    leaves = λ honest clean. look_leaves s h.view h.size (registry_of a) (registry_of c)
+        (shelf_of a) (shelf_of c) (only.reads honest).quiet settling (lawful honest) clean
+        reads;
+    store = reads;
+    only = only;
+    disk = disk;
   }
 
-  -- whatever it was answered
-  pub looks_on : (mid : Media S H) (answer : Result T BenchFault)
-      → LooksAt s h (media_of old) mid answer → result ≡ answer → media_of new ≡ mid
-      → OnOk result (progress_of new ≡ progress_of old) → LooksOn s h old new result
-  looks_on mid answer at is media stays =
-      looks_by stays (subst (λ (m : Media S H). LooksAt s h (media_of old) m result) (sym media)
-      (subst (λ (r : Result T BenchFault). LooksAt s h (media_of old) mid r) (sym is) at))
+  -- at the registry alone
+  pub looks_at_registry : OnOk result (progress_of c ≡ progress_of a)
+      → Reads s (registry_of a) (registry_of c) → shelf_of c ≡ shelf_of a
+      → (IsErrOf result Disk → ⊥)
+      → (DiskKept s (registry_of c) → OnOk result ((t : Tables)
+      → HasTables s (registry_of a) t → HasTables s (registry_of c) t))
+      → LooksOn s h a c result
+  looks_at_registry stays reads same no_disk tables =
+      looks_by stays reads (subst (λ (k : H). ReadsOnly h (shelf_of a) k) (sym same)
+      (only_itself h (shelf_of a))) (λ is. absurd (no_disk is)) (λ honest clean. tables clean)
+
+  -- at the shelf alone
+  pub looks_at_shelf : OnOk result (progress_of c ≡ progress_of a)
+      → registry_of c ≡ registry_of a → ReadsOnly h (shelf_of a) (shelf_of c)
+      → TellsDisk h (shelf_of a) (shelf_of c) result → LooksOn s h a c result
+  looks_at_shelf stays same only disk =
+      looks_by stays (subst (λ (r : Held S). Reads s (registry_of a) r) (sym same)
+      (reads_none s settling (registry_of a))) only disk
+      (λ honest clean. on_ok result stays (λ e t has.
+      subst (λ (r : Held S). HasTables s r t) (sym same) has))
+
+  -- at the registry, and then at the shelf
+  pub looks_at_both : {U : Type 0} (b : Bench S H) (state : U) → LooksOn s h a b (Ok state)
+      → OnOk result (progress_of c ≡ progress_of b) → registry_of c ≡ registry_of b
+      → ReadsOnly h (shelf_of b) (shelf_of c) → TellsDisk h (shelf_of b) (shelf_of c) result
+      → LooksOn s h a c result
+  looks_at_both b state first stays same only disk =
+      let reads = subst (λ (r : Held S). Reads s (registry_of a) r) (sym same) first.store in
+      looks_by (on_ok result stays (λ e. e ∙ first.stays)) reads
+      (only_then h (shelf_of a) (shelf_of b) (shelf_of c) first.only only)
+      (λ is. omega (arith, first.only.keeps.count, disk is))
+      (λ honest clean. on_ok result stays (λ e t has.
+      subst (λ (r : Held S). HasTables s r t) (sym same)
+      ((first.does honest (subst (DiskKept s) same clean)).tables t has)))
+
+-- a fault of the disk is one of the device, which was counted
+module _ {H T U : Type 0} (h : ShelfGhosts H) (b c : H) (r : Result T ShelfFault)
+    (told : Result U BenchFault) where
+  pub shelf_disk : (fault : ShelfFault) → r ≡ Err fault → told ≡ Err (of_shelf fault)
+      → Looks h b c r → TellsDisk h b c told
+  shelf_disk shelf.Memory was e looks is =
+      let both : ◌≡◌ {A = Result U BenchFault} (Err Memory) (Err Disk) = sym e ∙ is in
+      absurd (let no : ⊥ = cc in no)
+  shelf_disk shelf.Absent was e looks is = absurd (looks.absent was)
+  shelf_disk shelf.Range was e looks is = absurd (looks.range was)
+  shelf_disk shelf.Device was e looks is = looks.device was
 
 -- ---- one at a closed bench
 
@@ -113,9 +167,6 @@ module _ {S H T : Type 0} (s : Ghosts S) (h : ShelfGhosts H) (settling : IsSettl
         (shelf_of b) (shelf_of b) (quiet_itself (h.view (shelf_of b))) settling (lawful honest)
         clean (reads_none s settling (registry_of b));
     store = reads_none s settling (registry_of b);
-    only = record {
-      keeps = record { honest = λ honest. honest; size = refl; count = omega arith };
-      reads = λ honest. reads_itself (h.view (shelf_of b));
-    };
+    only = only_itself h (shelf_of b);
     disk = λ disk. absurd (let no : Closed ≡ Disk = other_fault result Disk is disk in cc);
   }

@@ -71,12 +71,6 @@ module _ {S H T : Type 0} (s : StoreGhosts S) (h : ShelfGhosts H) (old new : Med
     pub disk : TellsDisk h old.shelf new.shelf result
     pub fault : IfErr result IsOfCall
 
-  -- one that looks: where it is answered the tables stay
-  pub record LooksAt : Type 0 where
-    pub asks : Asks
-    pub stays : DiskKept s new.registry → OnOk result ((t : Tables)
-        → HasTables s old.registry t → HasTables s new.registry t)
-
   -- A call that hands in a command: it reads the shelf, where an answer says that nothing was done
   -- it only read the registry too, and a failure of the disk comes before anything is written.
   pub record Accepts (is_undone : T → Type 0) : Type 0 where

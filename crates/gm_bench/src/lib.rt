@@ -7,8 +7,8 @@
 //! `specs/Calls.antt` and `specs/Opened.antt`, what all calls of a kind leave and tell beside that
 //! (`specs/Benches.antt` names what is in a bench), and `specs/Schedule.antt`, what a whole run is;
 //! then `bench` and `calls`, whose calls are those of `media` in turn. `laws` says what holds of
-//! every run. `views` has the calls that only look; `reading` has what they read of both media,
-//! which gm_looks tells of a state and a shelf.
+//! every run. `views` has the calls that only look; what they tell of a state and a shelf is
+//! gm_looks's.
 //!
 //! `open_without` opens a bench of which an image is gone for good: `specs/Losing.antt` says what
 //! is pending behind that, `specs/Without.antt` why it is refused, and `specs/GivingUp.antt` what
@@ -30,7 +30,6 @@ mod open_without;
 mod phase;
 mod plan;
 mod presence;
-mod reading;
 mod sectors;
 mod sizes;
 mod take_up;

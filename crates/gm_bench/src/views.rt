@@ -1,11 +1,11 @@
-//! What a bench shows of its media. It changes neither.
+//! What a bench shows of its media, mostly by the rows of mirrors and components alone. It changes
+//! neither.
 
 ghost use Rattle.std.specs.Prelude.{◌≡◌, ◌≢◌, ◌≤◌, IfOk, IfErr, OnOk, OnErr, IsErrOf};
 ghost use Rattle.gm_shelf.specs.LastSector.{last_sector};
 ghost use Rattle.gm_state.specs.Records.{Records};
 ghost use Rattle.gm_state.specs.Rows.{Tables};
 ghost use Rattle.gm_rows.specs.ReadableTables.{AreRecordsOf};
-ghost use Rattle.gm_registry.specs.Parts.{mirror_part};
 ghost use Rattle.gm_registry.specs.Registry.{DiskKept, HasTables};
 ghost use Rattle.gm_registry.specs.Replies.{AreWrittenUnder, count_of};
 ghost use Rattle.gm_looks.specs.Audits.{IsAudit};
@@ -22,9 +22,9 @@ use crate::fault::BenchFault;
 use crate::phase::Progress;
 use gm_apply::Watch;
 use gm_commands::Command;
-use gm_looks::{Scrubbed, Unlike};
+use gm_looks::{Meant, Scrubbed, Unlike, audit_shelf, scrub_shelf, unlike_shelf};
 use gm_metadata::Label;
-use gm_shelf::Shelf;
+use gm_shelf::{Shelf, read_last};
 use gm_state::State;
 use sqlite::Alter;
 use std::alloc::Global;
@@ -42,18 +42,15 @@ impl<S: Alter, H: Shelf> Bench<S, H> {
         }
     }
 
-    // Closes the bench if a look ended with a fault.
-    fn looked<T: Drop>(&mut self, answer: Result<T, BenchFault>) -> Result<T, BenchFault>
-        ensures answer { result ≡ answer }
-        ensures stays { OnOk result (progress_of self.new ≡ progress_of self.old) }
-        ensures closes { OnErr result (progress_of self.new ≡ Progress.Failed) }
+    // Closes the bench because of a fault.
+    fn close_on(&mut self, fault: BenchFault) -> BenchFault
+        ensures fault { result ≡ fault }
+        ensures closes { progress_of self.new ≡ Progress.Failed }
         ensures media { media_of self.new ≡ media_of self.old }
         ensures redone { redone_of self.new ≡ redone_of self.old }
     {
-        if answer.is_err() {
-            self.progress = Progress::Failed;
-        }
-        answer
+        self.progress = Progress::Failed;
+        fault
     }
 
     /// The mirrors and their components, as the registry has them: what is pending counts as
@@ -70,26 +67,10 @@ impl<S: Alter, H: Shelf> Bench<S, H> {
         ensures closes { ClosesOnFault self.old self.new result }
     {
         self.check_open()?;
-        let state = self.media.state(alloc);
-        self.looked(state)
-    }
-
-    /// The same of one mirror alone, by its name: the mirror with all its components, or no mirror
-    /// if none has this name. It reads the rows of mirrors, and of components by the key.
-    pub fn view_of(&mut self, alloc: Global, mirror: Label) -> Result<State, BenchFault>
-        ensures shows { DiskKept S.Store (registry_of self.new)
-            → IfOk result (λ state. (t : Tables) (s : Records)
-            → HasTables S.Store (registry_of self.old) t → AreRecordsOf t s
-            → state ≡ mirror_part s mirror) }
-        ensures records { TellsOfRecords S.Store (registry_of self.old) (registry_of self.new)
-            result }
-        ensures shelf { shelf_of self.new ≡ shelf_of self.old }
-        ensures looks { LooksOn S.Store H.Shelf self.old self.new result }
-        ensures closes { ClosesOnFault self.old self.new result }
-    {
-        self.check_open()?;
-        let state = self.media.mirror_state(alloc, mirror);
-        self.looked(state)
+        match self.media.registry.state(alloc) {
+            Ok(state) => Ok(state),
+            Err(fault) => Err(self.close_on(BenchFault::of_store(fault))),
+        }
     }
 
     /// The last sector of a provider; None if it is absent or has no sectors. `Closed` after an
@@ -105,8 +86,10 @@ impl<S: Alter, H: Shelf> Bench<S, H> {
         ensures closes { ClosesOnFault self.old self.new result }
     {
         self.check_open()?;
-        let last = self.media.last_sector(provider);
-        self.looked(last)
+        match read_last(&mut self.media.shelf, provider) {
+            Ok(last) => Ok(last),
+            Err(fault) => Err(self.close_on(BenchFault::of_shelf(fault))),
+        }
     }
 
     /// The components that the shelf shows otherwise than they are registered, by the names of
@@ -125,9 +108,11 @@ impl<S: Alter, H: Shelf> Bench<S, H> {
         ensures looks { LooksOn S.Store H.Shelf self.old self.new result }
         ensures closes { ClosesOnFault self.old self.new result }
     {
-        self.check_open()?;
-        let names = self.media.audit(alloc);
-        self.looked(names)
+        let state = self.view(alloc)?;
+        match audit_shelf(alloc, &mut self.media.shelf, &state) {
+            Ok(names) => Ok(names),
+            Err(fault) => Err(self.close_on(BenchFault::of_shelf(fault))),
+        }
     }
 
     /// The components that a command is about, and whose images aren't as they are registered, in
@@ -146,9 +131,11 @@ impl<S: Alter, H: Shelf> Bench<S, H> {
         ensures looks { LooksOn S.Store H.Shelf self.old self.new result }
         ensures closes { ClosesOnFault self.old self.new result }
     {
-        self.check_open()?;
-        let list = self.media.unlike(alloc, command);
-        self.looked(list)
+        let state = self.view(alloc)?;
+        match unlike_shelf(alloc, &mut self.media.shelf, &state, Meant::By(command)) {
+            Ok(list) => Ok(list),
+            Err(fault) => Err(self.close_on(BenchFault::of_shelf(fault))),
+        }
     }
 
     /// The ACTIVE components that hold other data than their mirror's source, in byte order of
@@ -173,9 +160,11 @@ impl<S: Alter, H: Shelf> Bench<S, H> {
         ensures looks { LooksOn S.Store H.Shelf self.old self.new result }
         ensures closes { ClosesOnFault self.old self.new result }
     {
-        self.check_open()?;
-        let list = self.media.scrub(alloc, mirror, watch);
-        self.looked(list)
+        let state = self.view(alloc)?;
+        match scrub_shelf(alloc, &mut self.media.shelf, &state, &mirror, watch) {
+            Ok(list) => Ok(list),
+            Err(fault) => Err(self.close_on(BenchFault::of_shelf(fault))),
+        }
     }
 
     /// The command that was accepted under a key, or `None`. `Closed` after an earlier fault; any
@@ -193,8 +182,17 @@ impl<S: Alter, H: Shelf> Bench<S, H> {
         ensures closes { ClosesOnFault self.old self.new result }
     {
         self.check_open()?;
-        let kept = self.media.kept(key);
-        self.looked(kept)
+        match self.media.registry.reply_of(key) {
+            Ok(Some((number, words, reply))) => {
+                Ok(Some(Kept {
+                    number,
+                    words,
+                    reply,
+                }))
+            }
+            Ok(None) => Ok(None),
+            Err(fault) => Err(self.close_on(BenchFault::of_store(fault))),
+        }
     }
 
     /// How many commands were accepted so far. `Closed` after an earlier fault; any other fault
@@ -211,7 +209,9 @@ impl<S: Alter, H: Shelf> Bench<S, H> {
         ensures closes { ClosesOnFault self.old self.new result }
     {
         self.check_open()?;
-        let count = self.media.accepted();
-        self.looked(count)
+        match self.media.accepted() {
+            Ok(count) => Ok(count),
+            Err(fault) => Err(self.close_on(fault)),
+        }
     }
 }

@@ -1,6 +1,6 @@
 //! The command itself.
 
-ghost use Rattle.std.specs.Prelude.{◌≡◌, ◌<◌, IfOk, vec_len};
+ghost use Rattle.std.specs.Prelude.{◌≡◌, ◌<◌, IfOk, OnOk, vec_len};
 ghost use Rattle.gm_bench.specs.Benches.{progress_of};
 ghost use Rattle.gm_bench.specs.Phases.{TakesCommands};
 ghost use Rattle.gm_process.specs.Statuses.{MayRefuse};
@@ -8,7 +8,7 @@ ghost use Rattle.gm_process.specs.declared.status.Status.TheVariants.{Refused};
 
 use crate::needs::{name_room, name_stale, needed};
 use crate::standing::standing_text;
-use gm_bench::Bench;
+use gm_bench::{Bench, BenchFault};
 use gm_command_line::{self, Filling, Form};
 use gm_faults::Fault;
 use gm_metadata::Label;
@@ -23,13 +23,24 @@ use sqlite::Alter;
 use std::alloc::{AllocError, Global};
 use std::io::Write;
 
-// Tells how far components are filled.
+// Tells what is needed to fill what is meant, and then how far that is.
 #[derive(Drop)]
 struct Filled<'a, E> {
     meter: Meter<'a, E>,
+    scope: Scope,
+    has_begun: bool,
 }
 
 impl<E: Write> Progress for Filled<'_, E> {
+    fn looked(&mut self, state: &State, accepted: u64) {
+        if self.has_begun {
+            return;
+        }
+        self.has_begun = true;
+        name_stale(self.meter.complaints, state, &self.scope);
+        name_room(self.meter.complaints, needed(state, &self.scope), accepted);
+    }
+
     fn filled(&mut self, provider: Label, held: u32, total: u32) {
         self.meter.show(provider, u64::from(held), u64::from(total));
     }
@@ -46,15 +57,28 @@ fn scope_of(scope: gm_command_line::Scope) -> Scope {
     }
 }
 
-// That a mirror or a component isn't there that is meant.
-fn not_there(state: &State, scope: Scope) -> Option<WhyRefused> {
+// That a mirror or a component isn't there that is meant. If all are, nothing is read.
+fn not_there<S: Alter, H: Shelf>(
+    alloc: Global,
+    bench: &mut Bench<S, H>,
+    scope: Scope,
+) -> Result<Option<WhyRefused>, BenchFault>
+    requires { TakesCommands (progress_of bench.old) }
+    ensures { OnOk result (TakesCommands (progress_of bench.new)) }
+{
     match scope {
-        Scope::All => None,
-        Scope::Mirror(mirror) => no_mirror(state, mirror),
-        Scope::Member { mirror, provider } => match no_mirror(state, mirror) {
-            Some(refused) => Some(refused),
-            None => no_component(state, mirror, provider),
-        },
+        Scope::All => Ok(None),
+        Scope::Mirror(mirror) => {
+            let state = bench.view(alloc)?;
+            Ok(no_mirror(&state, mirror))
+        }
+        Scope::Member { mirror, provider } => {
+            let state = bench.view(alloc)?;
+            match no_mirror(&state, mirror) {
+                Some(refused) => Ok(Some(refused)),
+                None => Ok(no_component(&state, mirror, provider)),
+            }
+        }
     }
 }
 
@@ -136,16 +160,15 @@ pub fn fill_components<S: Alter, H: Shelf, I, O, E: Write>(
 {
     let alloc = rt.alloc();
     let scope = scope_of(filling.scope);
-    let state = bench.view(alloc)?;
-    if let Some(why) = not_there(&state, scope) {
+    if let Some(why) = not_there(alloc, bench, scope)? {
         return Ok(refused(alloc, streams, why)?);
     }
-    name_stale(streams.complaints, &state, &scope);
-    let accepted = bench.accepted()?;
-    name_room(streams.complaints, needed(&state, &scope), accepted);
     let style = streams.explaining.style(filling.is_quiet);
-    let meter = Meter::new(rt, streams.complaints, style);
-    let mut filled = Filled { meter };
+    let mut filled = Filled {
+        meter: Meter::new(rt, streams.complaints, style),
+        scope,
+        has_begun: false,
+    };
     let synced = sync(alloc, bench, &scope, filling.audits, &mut filled);
     filled.meter.end();
     Ok(synced_report(alloc, streams, &synced?, &scope)?)

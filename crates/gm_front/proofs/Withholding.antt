@@ -23,7 +23,7 @@ use Rattle.gm_front.specs.declared.service.Response.{Response}
 use Rattle.gm_front.specs.Batch.{AppendsFront}
 use Rattle.gm_front.specs.Demands.{Carry, Demand, Told, demand_of}
 use Rattle.gm_front.specs.Findings.{IsPut, told_of, withheld_told}
-use Rattle.gm_front.specs.GuardedServices.{FindsUnlessWithheld, FoundBehindLook, HadNothing, ServesGuarded, TellsOf}
+use Rattle.gm_front.specs.GuardedServices.{FindsUnlessWithheld, FoundBehindLook, HadNothing, ServesOrWithholds, TellsOf}
 use Rattle.gm_front.specs.Guards.{StoodInTheWay}
 use Rattle.gm_front.specs.Services.{Serves, bytes_of, code_told}
 use Rattle.gm_front.proofs.ManyLooks.{looks_nothing}
@@ -81,7 +81,7 @@ module _ {S H : Type 0} (s : Ghosts S) (h : ShelfGhosts H) (old new : Bench S H)
     pub serves_at_once : (result : Result ℕ FrontFault)
         → Serves s h.view h.size input before now (registry_of old) (registry_of new)
         (shelf_of old) (shelf_of new) away u result
-        → ServesGuarded s h old new away u input before now result
+        → ServesOrWithholds s h old new away u input before now result
     serves_at_once result serves =
         inl (record { mid = old; looked = looks_nothing s h old; serves = serves })
 
@@ -94,15 +94,15 @@ module _ {S H : Type 0} (s : Ghosts S) (h : ShelfGhosts H) (old new : Bench S H)
         × Appends before now (bytes_of (told_of it)))
         → OnErr told (AppendsFront before now (bytes_of (told_of it)))
         → IfErr told (λ e. e ≡ Read → ⊥)
-        → ServesGuarded s h old new away u input before now (code_told told)
+        → ServesOrWithholds s h old new away u input before now (code_told told)
     guarded_served asked asks (finding.Withheld list) told found had wrote front fault =
-        inr (inl (record {
+        inr (record {
           asked = asked;
           asks = asks;
           list = list.items;
           withheld = had;
           told = tells_of (withheld_told list.items) before now told wrote front fault;
-        }))
+        })
     guarded_served asked asks it told found had wrote front fault =
         inl (record {
           mid = found.mid;

@@ -1,5 +1,5 @@
 -- What a request over HTTP comes to whose command is carried out only if nothing stands in its way.
-use Rattle.std.specs.Prelude.{◌≡◌, ◌≢◌, ◌⊎◌, ℕ, List, [], Option, Result, Ok, Err, IfSome}
+use Rattle.std.specs.Prelude.{◌≡◌, ◌≢◌, ◌⊎◌, ℕ, Bool, false, List, [], Option, Result, Ok, Err, IfSome}
 use Rattle.std.specs.Io.KnownBytes.{Appends}
 use Rattle.sqlite_trees.specs.declared.store.Store.{Ghosts as StoreGhosts}
 use Rattle.gm_metadata.specs.Images.{Image}
@@ -82,12 +82,16 @@ module _ {S H : Type 0} (s : StoreGhosts S) (h : ShelfGhosts H) (old new : Bench
     pub withheld : IsWithheld (demand_of asked) list
     pub told : TellsOf (withheld_told list) before now result
 
-  -- what serving a request comes to if a command is withheld that something stands in the way of,
-  -- and if pages are turned away
-  abbrev pub ServesGuarded : Image → World → Option (List ℕ) → Option (List ℕ) → Option (List ℕ)
-      → Result ℕ FrontFault → Type 0
-  ServesGuarded away u input before now result =
-      ServesBehindLook away u input before now result
-      ⊎ Withholds input before now result
-      ⊎ (IfSome input IsFromPage × (registry_of new ≡ registry_of old)
+  -- what serving a request comes to if a command is withheld that something stands in the way of
+  abbrev pub ServesOrWithholds : Image → World → Option (List ℕ) → Option (List ℕ)
+      → Option (List ℕ) → Result ℕ FrontFault → Type 0
+  ServesOrWithholds away u input before now result =
+      ServesBehindLook away u input before now result ⊎ Withholds input before now result
+
+  -- the same where a page's request is turned away, unless those of any origin are wanted
+  abbrev pub ServesGuarded : Bool → Image → World → Option (List ℕ) → Option (List ℕ)
+      → Option (List ℕ) → Result ℕ FrontFault → Type 0
+  ServesGuarded any_origin away u input before now result =
+      ServesOrWithholds away u input before now result
+      ⊎ ((any_origin ≡ false) × IfSome input IsFromPage × (registry_of new ≡ registry_of old)
       × (shelf_of new ≡ shelf_of old) × TurnsAway before now result)

@@ -13,7 +13,7 @@ ghost use Rattle.gm_bench.specs.declared.phase.Progress.TheVariants.{Failed};
 ghost use Rattle.gm_bench.specs.Phases.{TakesCommands};
 ghost use Rattle.gm_bench.specs.Recovering.{IsAt};
 ghost use Rattle.gm_front.specs.Findings.{demand_in, fault_of, progress_behind};
-ghost use Rattle.gm_front.specs.GuardedServices.{FindsUnlessWithheld, HadNothing, ServesGuarded};
+ghost use Rattle.gm_front.specs.GuardedServices.{FindsUnlessWithheld, HadNothing, ServesGuarded, ServesOrWithholds};
 ghost use Rattle.gm_front.specs.Services.{TurnsAway, code_told};
 
 use crate::answer_lines::FrontFault;
@@ -71,7 +71,7 @@ fn respond_guarded<W: Write, S: Alter, H: Shelf>(
         → (input : Option (List ℕ)) → IfSome input (λ bytes. Asks bytes (asked_of request))
         → (away : Image) (u : World)
         → IsAt S.Store H.view H.size (registry_of bench.old) (shelf_of bench.old) away [] [] u u
-        → ServesGuarded S.Store H.Shelf bench.old bench.new away u input
+        → ServesOrWithholds S.Store H.Shelf bench.old bench.new away u input
         (W.contents writer.old) (W.contents writer.new) (code_told result.response) }
     ensures progress { progress_of bench.new
         ≡ progress_behind (progress_of bench.old) result.fault }
@@ -109,8 +109,9 @@ pub fn serve_request_guarded<R: Read, W: Write, S: Alter, H: Shelf>(
     ensures serves { H.honest (shelf_of bench.old) → DiskKept S.Store (registry_of bench.new)
         → (away : Image) (u : World)
         → IsAt S.Store H.view H.size (registry_of bench.old) (shelf_of bench.old) away [] [] u u
-        → ServesGuarded S.Store H.Shelf bench.old bench.new away u (R.remaining reader.old)
-        (W.contents writer.old) (W.contents writer.new) (code_told result.response) }
+        → ServesGuarded S.Store H.Shelf bench.old bench.new any_origin away u
+        (R.remaining reader.old) (W.contents writer.old) (W.contents writer.new)
+        (code_told result.response) }
     ensures progress { progress_of bench.new
         ≡ progress_behind (progress_of bench.old) result.fault }
     ensures phase { TakesCommands (progress_of bench.new) }

@@ -13,9 +13,12 @@ use gm_sentences::{About, Image, call_sentence, images_in_a_row};
 use gm_shelf::{FileShelf, Shelf};
 use gm_state::State;
 use gm_words::{read_words, words_complaint};
-use std::alloc::{AllocError, Global};
+use std::alloc::AllocError;
 use std::io::Write;
 use std::str;
+
+// Why a command is refused if the images that it names are there.
+const COMPONENT_AWAY: &str = "IMAGE isn't on the shelf; audit names it";
 
 /// Explains refusals, if that is wanted. What can't be told isn't, and what it looks at it looks at
 /// by itself: the bench is asked nothing.
@@ -118,7 +121,12 @@ impl<'a, E: Write> Explainer<'a, E> {
                     return Ok(sentence);
                 }
                 let about = self.about(&command, &why);
-                about.sentence(alloc, call_sentence(why))
+                match (why, &about.image) {
+                    (CallRefusal::ByRules(Refusal::Absent), Image::Unnamed) => {
+                        about.sentence(alloc, COMPONENT_AWAY)
+                    }
+                    _ => about.sentence(alloc, call_sentence(why)),
+                }
             }
             _ => words_complaint(alloc, words),
         }

@@ -35,7 +35,8 @@ struct UnderWay {
 #[derive(Drop)]
 pub struct Meter<'a, E> {
     rt: &'a HostRuntime,
-    complaints: &'a mut E,
+    /// What it is told on, which also takes lines of whoever has the meter.
+    pub complaints: &'a mut E,
     style: Style,
     under_way: Option<UnderWay>,
     shown: Option<Instant>,

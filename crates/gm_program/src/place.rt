@@ -100,9 +100,23 @@ fn at_bench<S: Alter + Drop, I: BufRead, O: Write, E: Write>(
     }
 }
 
+// Keeps why the registry failed while it was open, if that isn't known yet.
+fn heed_failure<I, O, E>(
+    rt: &HostRuntime,
+    registry: &str,
+    fault: &Fault,
+    streams: &mut Streams<'_, I, O, E>,
+) {
+    if *fault == Fault::Bench(BenchFault::Store) && streams.explaining.trouble.is_none() {
+        let cause = store_cause(rt, registry).unwrap_or(StoreCause::Failed);
+        streams.explaining.trouble = cause.trouble(rt.alloc(), registry);
+    }
+}
+
 // Has the work done at a store of two files, and closes it. Of two faults the first is told.
 fn at_files<D: Disk + Drop, I: BufRead, O: Write, E: Write>(
     rt: &HostRuntime,
+    registry: &str,
     store: Connection<FileStore<D>>,
     shelf: FileShelf<HostRuntime>,
     work: &Work<'_>,
@@ -111,9 +125,13 @@ fn at_files<D: Disk + Drop, I: BufRead, O: Write, E: Write>(
     ensures { IfOk result (λ report. MayEnd work.now report.status) }
 {
     let (report, store) = at_bench(rt, store, shelf, work, streams)?;
-    let closed = store.close().map_err(StoreFault::from);
+    let closed = store.close();
+    if let Err(error) = closed {
+        let cause = cause_of(rt, registry, error);
+        streams.explaining.trouble = cause.and_then(|cause| cause.trouble(rt.alloc(), registry));
+    }
     let report = report?;
-    closed?;
+    closed.map_err(StoreFault::from)?;
     Ok(report)
 }
 
@@ -211,7 +229,11 @@ fn report_of<I: BufRead, O: Write, E: Write>(
 {
     let store = open_registry(rt, registry, terms, streams)?;
     leave_out_registry(rt, registry, &mut shelf)?;
-    at_files(rt, store, shelf, work, streams)
+    let done = at_files(rt, registry, store, shelf, work, streams);
+    if let Err(fault) = &done {
+        heed_failure(rt, registry, fault, streams);
+    }
+    done
 }
 
 // The images of a folder, which is held. One that can't be listed is told before the registry is

@@ -1,3 +1,4 @@
-//! The tests: requests over loopback.
+//! The tests: the program over streams, and requests over loopback.
 
+mod by_itself;
 mod loopback;

@@ -27,7 +27,6 @@ pub mod Keys
 pub mod LastCommand
 pub mod MadeTables
 pub mod MakingFails
-pub mod MirrorPart
 pub mod NumberQueries
 pub mod NumberedSteps
 pub mod OneReading

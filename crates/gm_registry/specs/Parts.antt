@@ -27,14 +27,6 @@ pub record IsPartFor (s : Records) (c : Command) (mids : List ℕ) (p : Part) : 
   pub state : p.state ≡ part_of s c mids
   pub mirrors : p.mirrors ≡ length s.mirrors
 
-abbrev pub has_name : List ℕ → Mirror → Bool
-has_name label m = same_label m.name label
-
--- the mirror of this name, if there is one, and all its components
-abbrev pub mirror_part : Records → List ℕ → Records
-mirror_part s label =
-    record { mirrors = filter (has_name label) s.mirrors; components = members s.components label }
-
 -- ---- over whatever rows the tables hold
 
 -- the mirror is called for, or one of these components, which are on named providers, is its own
@@ -72,22 +64,6 @@ pub record AreValues {db : Trees} {c : Command} {mids : List ℕ} {asked : List 
 -- the rows say no part that is a state
 abbrev pub SaysNoPart : Trees → Command → List ℕ → Type 0
 SaysNoPart db c mids = (p : Part) → (said : IsSaidFor db c mids p) → AreValues said.1 → ⊥
-
--- The records are a state, and what the rows say that are read for a name: of the mirrors, which
--- the whole table says, the one of this name, and all components under it.
-pub record IsSaidOf (db : Trees) (label : List ℕ) (s : Records) : Type 0 where
-  pub state : IsState s
-  pub mirrors : List Mirror
-  pub mirrors_are : IsPermutation (map (columns_at (shown_places Mirrors)) (db 1))
-      (map mirror_shown mirrors)
-  pub named_are : IsPermutation (filter (has_name label) mirrors) s.mirrors
-  pub owned_are : IsPermutation (shown_under db OfMirror label) (map component_shown s.components)
-
--- the rows say no such state, with each mirror of the table one that the code can be
-abbrev pub SaysNoMirror : Trees → List ℕ → Type 0
-SaysNoMirror db label =
-    (s : Records) → (said : IsSaidOf db label s)
-    → ((m : Mirror) → Has said.mirrors m → IsMirrorValue m) → ⊥
 
 -- ---- the form that code goes by
 

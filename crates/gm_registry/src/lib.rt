@@ -17,7 +17,6 @@ mod edition;
 mod intents;
 mod laws;
 mod load;
-mod mirror_records;
 mod mirrors;
 mod open_store;
 mod part;

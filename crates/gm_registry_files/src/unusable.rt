@@ -35,6 +35,8 @@ pub enum StoreCause {
     NoDatabase,
     /// It is a database with other tables.
     Foreign,
+    /// It failed while it was open, and nothing more is known.
+    Failed,
 }
 
 impl StoreCause {
@@ -59,6 +61,8 @@ impl StoreCause {
             StoreCause::Journal => "PATH has a rollback journal: open it with sqlite3 first",
             StoreCause::NoDatabase => "PATH isn't a registry: no database begins as it does",
             StoreCause::Foreign => "PATH is a database of another program",
+            StoreCause::Failed =>
+                "PATH can't be read or written: its medium may be full; or it is no registry",
         }
     }
 }

@@ -13,7 +13,8 @@ fn refusal_sentence(why: Refusal) -> &'static str {
         Refusal::ProviderTaken => "IMAGE is a component of a mirror already",
         Refusal::CarriesMetadata =>
             "IMAGE carries metadata: see dump; adopt it or, if nobody needs it, clear it",
-        Refusal::TooSmall => "IMAGE is too small for the data of MIRROR and one sector more",
+        Refusal::TooSmall =>
+            "IMAGE is too small: it needs a sector more than the Mediasize of MIRROR, see list",
         Refusal::NotMember => "IMAGE isn't a component of MIRROR, or is named twice",
         Refusal::DidTaken => "a component of MIRROR has the same did",
         Refusal::Full => "MIRROR counts 16 components, and takes no more",

@@ -33,10 +33,10 @@ module _ {S H : Type 0} (g : StoreGhosts S) (h : ShelfGhosts H) (due : Due) wher
       (still (first.shelf.honest honest) kept t s (looked.tables t has) are none)
 
   -- a call that is still, and then a look
-  pub still_looked : (a b c : Bench S H) (state : Records)
+  pub still_looked : (a b c : Bench S H) {T : Type 0} (x : T)
       → Keep g h (registry_of a) (registry_of b) (shelf_of a) (shelf_of b) → IsStill g h a b due
-      → LooksOn g h b c (Ok state) → IsStill g h a c due
-  still_looked a b c state first still looks honest kept t s has are none =
+      → LooksOn g h b c (Ok x) → IsStill g h a c due
+  still_looked a b c x first still looks honest kept t s has are none =
       let mid : DiskKept g (registry_of b) = omega (arith, looks.store.clean, kept) in
       look_then g h a b c (still honest mid t s has are none)
       (looks.does (first.shelf.honest honest) kept)

@@ -1,6 +1,6 @@
 //! Fills what is SYNCHRONIZING.
 
-ghost use Rattle.std.specs.Prelude.{◌≡◌, IfOk, OnOk};
+ghost use Rattle.std.specs.Prelude.{IfOk, OnOk};
 ghost use Rattle.gm_bench.specs.Benches.{progress_of, registry_of, shelf_of};
 ghost use Rattle.gm_bench.specs.Calls.{Keep};
 ghost use Rattle.gm_bench.specs.Phases.{TakesCommands};
@@ -18,8 +18,11 @@ use gm_state::{Component, Reply, State};
 use sqlite::Alter;
 use std::alloc::Global;
 
-/// Is told how far a component is filled.
+/// Is told what is filled.
 pub trait Progress {
+    /// The mirrors, and how many commands were accepted until then: before the first component is
+    /// filled, and after the last.
+    fn looked(&mut self, state: &State, accepted: u64);
     /// A component has so many data sectors, of so many in all.
     fn filled(&mut self, provider: Label, held: u32, total: u32);
 }
@@ -51,11 +54,13 @@ fn advance<S: Alter, H: Shelf>(
     }
 }
 
-// Fills one component, or finds why that is refused. Keys that were taken before are gone round.
+// Fills one component, or finds why that is refused. The number is that of the last key; keys that
+// were taken before are gone round.
 fn fill_one<S: Alter, H: Shelf, P: Progress>(
     alloc: Global,
     bench: &mut Bench<S, H>,
     component: &Component,
+    number: &mut u64,
     progress: &mut P,
 ) -> Result<Option<CallRefusal>, BenchFault>
     requires { TakesCommands (progress_of bench.old) }
@@ -65,10 +70,9 @@ fn fill_one<S: Alter, H: Shelf, P: Progress>(
     ensures fills { OnOk result
         (Fills S.Store H.Shelf (IsAdvanceOf component.now) bench.old bench.new) }
 {
-    let mut number = bench.accepted()?;
     for _ in 0..u64::MAX {
-        number = number.saturating_add(1);
-        match advance(alloc, bench, component, number)? {
+        *number = number.saturating_add(1);
+        match advance(alloc, bench, component, *number)? {
             Answer::Done(_, Reply::Copied { held, total }) => {
                 progress.filled(component.provider, held, total);
                 if held == total {
@@ -91,12 +95,13 @@ struct Unfilled {
 }
 
 // Fills each component that is due and SYNCHRONIZING by a state, in the state's order, or finds
-// one that isn't filled.
+// one that isn't filled. So many commands were accepted before.
 fn fill_each<S: Alter, H: Shelf, P: Progress>(
     alloc: Global,
     bench: &mut Bench<S, H>,
     due: &Due,
     state: &State,
+    accepted: u64,
     progress: &mut P,
 ) -> Result<Option<Unfilled>, BenchFault>
     requires { TakesCommands (progress_of bench.old) }
@@ -106,12 +111,13 @@ fn fill_each<S: Alter, H: Shelf, P: Progress>(
     ensures keep { Keep S.Store H.Shelf (registry_of bench.old) (registry_of bench.new)
         (shelf_of bench.old) (shelf_of bench.new) }
 {
+    let mut number = accepted;
     for component in state.components() {
         if !due.is_next(state, component) {
             continue;
         }
         let provider = component.provider;
-        if let Some(why) = fill_one(alloc, bench, component, progress)? {
+        if let Some(why) = fill_one(alloc, bench, component, &mut number, progress)? {
             return Ok(Some(Unfilled { provider, why }));
         }
     }
@@ -137,11 +143,13 @@ pub(crate) fn fill<S: Alter, H: Shelf, P: Progress>(
     ensures still { OnOk result (IsStill S.Store H.Shelf bench.old bench.new due.now) }
 {
     for _ in 0..u64::MAX {
+        let accepted = bench.accepted()?;
         let state = bench.view(alloc)?;
+        progress.looked(&state, accepted);
         if due.next_of(&state).is_none() {
             return Ok(Ending::Whole(state));
         }
-        if let Some(unfilled) = fill_each(alloc, bench, due, &state, progress)? {
+        if let Some(unfilled) = fill_each(alloc, bench, due, &state, accepted, progress)? {
             return Ok(Ending::Refused {
                 provider: Some(unfilled.provider),
                 why: unfilled.why,

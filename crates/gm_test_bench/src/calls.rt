@@ -199,14 +199,6 @@ pub fn try_view<S: Alter, H: Shelf>(
     bench.view(alloc)
 }
 
-pub fn try_view_of<S: Alter, H: Shelf>(
-    alloc: Global,
-    bench: &mut Bench<S, H>,
-    mirror: Label,
-) -> Result<State, BenchFault> {
-    bench.view_of(alloc, mirror)
-}
-
 pub fn try_audit<S: Alter, H: Shelf>(
     alloc: Global,
     bench: &mut Bench<S, H>,

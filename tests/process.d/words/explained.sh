@@ -38,6 +38,23 @@ printf 'k2 destroy gm9\n' >"$work/lines"
 at_bench batch <"$work/lines"
 expect 'without the option nothing is said' 1 'k2 refused 5' ''
 
+# ---- a refusal names the image, and what comes next
+
+fresh_bench next
+truncate -s 1024 "$bench/images/c.img"
+data=$(head -c 512 /dev/zero | od -An -v -tx1 | tr -d ' \n')
+printf "${label}${insert}k3 insert --did 3 gm0 c.img\nk4 patch --first 0 --data $data gm0\n" >"$work/lines"
+at_bench batch --explain <"$work/lines"
+expect 'images that are small or not filled' 1 "$(lines 'k1 ok 1\nk2 ok 2\nk3 refused 11\nk4 refused 30')" \
+    "a new registry was made at $registry
+k3: refused 11: c.img is too small: it needs a sector more than the Mediasize of gm0, see list
+k4: refused 30: a component of gm0 is SYNCHRONIZING: sync it; or STALE: rebuild it, then sync it"
+rm "$bench/images/b.img"
+printf 'k5 configure --slice 8192 gm0\n' >"$work/lines"
+at_bench batch --explain <"$work/lines"
+expect 'a component whose image is away' 1 'k5 refused 8' \
+    "k5: refused 8: a component of gm0 in its size isn't on the shelf; audit names it"
+
 # ---- which image failed, and why
 
 # Whether a fault at an image is told with the image and its cause, once that was done to b.img.
@@ -80,6 +97,20 @@ F3: b.img is longer than the system lets this process write a file"
 )
 [ -s "$work/counted" ] && read -r passed failed <"$work/counted"
 at_bench recover
+fresh_bench full
+batch "$label"
+(
+    # The registry has more than that already, and can't grow.
+    trap '' XFSZ
+    ulimit -f 40
+    at_bench do k2 configure --slice 8192 gm0
+    expect 'a registry that may not grow' 3 'k2 fault 2' "gmbench: F2 store
+F2: $registry can't be read or written: its medium may be full; or it is no registry"
+    echo "$passed $failed" >"$work/counted"
+)
+[ -s "$work/counted" ] && read -r passed failed <"$work/counted"
+at_bench status
+expect 'it is as it was' 0 "$(lines 'gm0             COMPLETE 1/1\n  a.img           ACTIVE')" ''
 if has_another_user; then
     fresh_bench forbidden
     batch "$label$insert"

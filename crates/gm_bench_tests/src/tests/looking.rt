@@ -5,7 +5,7 @@ use gm_looks::{Standing, Unlike, taste_shelf};
 use gm_metadata::Label;
 use gm_shelf::{FaultShelf, MemShelf, Shelf, ShelfFault};
 use gm_state::Reply;
-use gm_test_bench::{INSERT, of_two, open, try_audit, try_kept, try_unlike, try_view_of};
+use gm_test_bench::{INSERT, of_two, open, try_audit, try_kept, try_unlike};
 use gm_test_media::{add, label, memory, must, shelf};
 use gm_words::tasting_text;
 use sqlite::{Alter, Connection};
@@ -89,29 +89,6 @@ fn a_shelf_tells_of_its_mirrors(rt: HostRuntime) -> Result<(), Fail> {
         shelf = tell_at(alloc, shelf, nth)?;
     }
     must_tell(alloc, &mut MemShelf::new(alloc), "no mirrors\n")
-}
-
-// How many mirrors and components are seen of one by its name.
-fn seen_of<S: Alter, H: Shelf>(
-    alloc: Global,
-    bench: &mut Bench<S, H>,
-    name: &str,
-) -> Result<[usize; 2], Fail> {
-    let state = try_view_of(alloc, bench, label(name)?)?;
-    Ok([state.mirrors().len(), state.components().len()])
-}
-
-#[test]
-fn one_mirror_is_seen_by_its_name(rt: HostRuntime) -> Result<(), Fail> {
-    let alloc = rt.alloc();
-    let (store, shelf) = of_two(alloc, memory(alloc)?, shelf(alloc)?, INSERT)?;
-    let mut bench = open(alloc, store, shelf)?;
-    must(seen_of(alloc, &mut bench, "gm0")? == [1, 2], "another part")?;
-    must(
-        seen_of(alloc, &mut bench, "gm9")? == [0, 0],
-        "a mirror that isn't there",
-    )?;
-    Ok(())
 }
 
 // Of the images that a command is about, how the only one stands that isn't as registered; none, if

@@ -6,7 +6,7 @@ use super::writers::with_room;
 use super::{images, in_memory, must, open};
 use gm_bench::{Bench, Phase};
 use gm_front::{FrontFault, serve_one};
-use gm_shelf::Shelf;
+use gm_shelf::{FaultShelf, Shelf};
 use sqlite::{Alter, Connection};
 use std::io::{Read, Write};
 use std::process::Abort;
@@ -23,6 +23,15 @@ const REPEATED: &str = "HTTP/1.1 200 OK\r\nContent-Type: application/json\r\n\
 
 const BAD: &str = "HTTP/1.1 400 Bad Request\r\nContent-Type: application/json\r\n\
     Content-Length: 23\r\nConnection: close\r\n\r\n{\"error\":\"bad request\"}";
+
+const STATUS: &str = "GET /status HTTP/1.1\r\n\r\n";
+
+// What is answered where the shelf fails, and from then on.
+const FAILED: &str = "HTTP/1.1 500 Internal Server Error\r\nContent-Type: application/json\r\n\
+    Content-Length: 11\r\nConnection: close\r\n\r\n{\"fault\":3}";
+
+const CLOSED: &str = "HTTP/1.1 503 Service Unavailable\r\nContent-Type: application/json\r\n\
+    Content-Length: 11\r\nConnection: close\r\n\r\n{\"fault\":4}";
 
 fn try_serve<R: Read, W: Write, S: Alter, H: Shelf>(
     rt: &(impl Abort + AllocGlobal),
@@ -109,4 +118,21 @@ fn is_full<S: Alter + Drop, H: Shelf + Drop>(
 #[test]
 fn a_response_that_is_cut_is_of_a_command_that_stays(rt: HostRuntime) {
     is_full(&rt, in_memory(&rt), images(&rt));
+}
+
+// The fault of a bench is told once as what it is, and then that the bench is closed.
+fn fails<S: Alter + Drop, H: Shelf + Drop>(
+    rt: &(impl Abort + AllocGlobal),
+    store: Connection<S>,
+    shelf: H,
+) {
+    let mut bench = open(rt, store, FaultShelf::stop_from(shelf, 1));
+    serves(rt, &mut bench, &mut REQUEST.as_bytes(), Ok(500), FAILED);
+    serves(rt, &mut bench, &mut REQUEST.as_bytes(), Ok(503), CLOSED);
+    serves(rt, &mut bench, &mut STATUS.as_bytes(), Ok(503), CLOSED);
+}
+
+#[test]
+fn a_fault_is_told_and_then_that_the_bench_is_closed(rt: HostRuntime) {
+    fails(&rt, in_memory(&rt), images(&rt));
 }

@@ -2,8 +2,9 @@
 
 use super::loading::{OTHER_EDITS, RECORD_EDITS, edited, must_be_gm0, must_be_the_records};
 use super::{in_memory, label, must};
+use gm_commands::Command;
 use gm_metadata::Label;
-use gm_registry::Registry;
+use gm_registry::{Part, Registry};
 use gm_rows::StoreFault;
 use gm_state::State;
 use sqlite::{Alter, Connection};
@@ -69,40 +70,40 @@ const EDITS_OF_GM0: [&str; 5] = [
 ];
 
 // This has no clause either.
-fn mirror_state<S: Alter>(
+fn part_of<S: Alter>(
     alloc: Global,
     registry: &mut Registry<S>,
     mirror: Label,
-) -> Result<State, StoreFault> {
-    registry.mirror_state(alloc, mirror)
+) -> Result<Part, StoreFault> {
+    registry.part(alloc, &Command::Destroy { name: mirror }, &[])
 }
 
-// What is read for gm0 after an edit.
-fn gm0_state<S: Alter + Drop>(
+// The part that a command on gm0 asks for, after an edit.
+fn gm0_part<S: Alter + Drop>(
     rt: &(impl Abort + AllocGlobal),
     store: Connection<S>,
     edit: &str,
-) -> Result<State, StoreFault> {
+) -> Result<Part, StoreFault> {
     let mut registry = edited(rt, store, edit);
-    mirror_state(rt.alloc(), &mut registry, label(rt, "gm0"))
+    part_of(rt.alloc(), &mut registry, label(rt, "gm0"))
 }
 
 #[test]
 fn one_mirror_is_read_without_the_others(rt: HostRuntime) {
-    let whole = gm0_state(&rt, in_memory(&rt), "").expect(&rt, "no state");
-    must_be_gm0(&rt, &whole);
-    must(&rt, whole.mirrors().len() == 1, "mirrors");
-    must(&rt, whole.components().len() == 3, "components");
+    let whole = gm0_part(&rt, in_memory(&rt), "").expect(&rt, "no state");
+    must_be_gm0(&rt, &whole.state);
+    must(&rt, whole.state.mirrors().len() == 1, "mirrors");
+    must(&rt, whole.state.components().len() == 3, "components");
     for edit in EDITS_OF_OTHERS {
-        let read = gm0_state(&rt, in_memory(&rt), edit).expect(&rt, edit);
-        must_be_gm0(&rt, &read);
+        let read = gm0_part(&rt, in_memory(&rt), edit).expect(&rt, edit);
+        must_be_gm0(&rt, &read.state);
     }
 }
 
 #[test]
 fn an_edited_mirror_says_none(rt: HostRuntime) {
     for edit in EDITS_OF_GM0 {
-        let fault = gm0_state(&rt, in_memory(&rt), edit).err();
+        let fault = gm0_part(&rt, in_memory(&rt), edit).err();
         must(&rt, fault == Some(StoreFault::Unreadable), edit);
     }
 }
@@ -110,7 +111,7 @@ fn an_edited_mirror_says_none(rt: HostRuntime) {
 #[test]
 fn a_name_without_a_mirror_has_no_records(rt: HostRuntime) {
     let mut registry = edited(&rt, in_memory(&rt), "");
-    let read = mirror_state(rt.alloc(), &mut registry, label(&rt, "gm3")).expect(&rt, "no state");
-    must(&rt, read.mirrors().is_empty(), "mirrors");
-    must(&rt, read.components().is_empty(), "components");
+    let read = part_of(rt.alloc(), &mut registry, label(&rt, "gm3")).expect(&rt, "no part");
+    must(&rt, read.state.mirrors().is_empty(), "mirrors");
+    must(&rt, read.state.components().is_empty(), "components");
 }

@@ -36,6 +36,22 @@ const STOPS: [Stop; 4] = [
     Stop::OnceBehind,
 ];
 
+// At which calls of its shelf a script is stopped: each of these is a test's share.
+#[derive(Clone, Copy)]
+enum Turns {
+    Odd,
+    Even,
+}
+
+impl Turns {
+    fn has(self, nth: u64) -> bool {
+        match self {
+            Turns::Odd => nth % 2 == 1,
+            Turns::Even => nth % 2 == 0,
+        }
+    }
+}
+
 /// A shelf that stops so.
 pub(super) fn stopping<H: Shelf>(stop: Stop, shelf: H, nth: u64) -> FaultShelf<H> {
     match stop {
@@ -195,12 +211,13 @@ fn stop_openings(rt: &(impl Abort + AllocGlobal), left: &Media, script: Script, 
     states
 }
 
-// Stops a script so at each call of its shelf in turn, until a run ends, and the openings behind it
-// where that is wanted; how many states those are.
+// Stops a script so at each of these calls of its shelf, until a run ends, and the openings after
+// it if that is wanted; how many states those are.
 fn stop_script(
     rt: &(impl Abort + AllocGlobal),
     script: Script,
     stop: Stop,
+    turns: Turns,
     and_openings: bool,
 ) -> u64 {
     let start = fresh(rt, script);
@@ -213,7 +230,7 @@ fn stop_script(
     let mut states: u64 = 0;
     let mut ended = false;
     for nth in 1..MANY {
-        if !ended {
+        if !ended && turns.has(nth) {
             let (told, left) = stop_shelf(rt, &start.store, &start.shelf, job, stop, nth);
             ended = told.fault.is_none();
             if ended {
@@ -231,62 +248,106 @@ fn stop_script(
     states
 }
 
-// Stops a script in a way that lasts, and the openings behind it, of which there are at least so
+// Stops a script in a way that lasts, and the openings after it, of which there are at least so
 // many states. A bench that met a fault asks nothing more, so that what fails once leaves the same
-// behind it: that is visited, and its openings aren't stopped again.
+// after it: that is visited, and its openings aren't stopped again.
 fn stop_twice(
     rt: &(impl Abort + AllocGlobal + Print),
     script: Script,
-    lasting: Stop,
-    once: Stop,
+    [lasting, once]: [Stop; 2],
+    turns: Turns,
     least: u64,
 ) {
-    let mut states = stop_script(rt, script, lasting, true);
-    states = states.saturating_add(stop_script(rt, script, once, false));
+    let mut states = stop_script(rt, script, lasting, turns, true);
+    states = states.saturating_add(stop_script(rt, script, once, turns, false));
     println!(rt; "{states} states behind stops of the shelf").expect(rt, "no output");
     must(rt, states >= least, "fewer states than there were");
 }
 
+const BEFORE: [Stop; 2] = [Stop::Before, Stop::OnceBefore];
+
+const BEHIND: [Stop; 2] = [Stop::Behind, Stop::OnceBehind];
+
 // A label, an insert, an advance, a deactivate and an activate.
 #[test]
-fn a_shelf_that_stops_while_a_mirror_is_filled(rt: HostRuntime) {
-    stop_twice(&rt, FILLED, Stop::Before, Stop::OnceBefore, 1500);
+fn a_shelf_that_stops_at_odd_calls_while_a_mirror_is_filled(rt: HostRuntime) {
+    stop_twice(&rt, FILLED, BEFORE, Turns::Odd, 400);
 }
 
 #[test]
-fn a_shelf_that_acts_and_stops_while_a_mirror_is_filled(rt: HostRuntime) {
-    stop_twice(&rt, FILLED, Stop::Behind, Stop::OnceBehind, 1500);
+fn a_shelf_that_stops_at_even_calls_while_a_mirror_is_filled(rt: HostRuntime) {
+    stop_twice(&rt, FILLED, BEFORE, Turns::Even, 400);
+}
+
+#[test]
+fn a_shelf_that_acts_and_stops_at_odd_calls_while_a_mirror_is_filled(rt: HostRuntime) {
+    stop_twice(&rt, FILLED, BEHIND, Turns::Odd, 400);
+}
+
+#[test]
+fn a_shelf_that_acts_and_stops_at_even_calls_while_a_mirror_is_filled(rt: HostRuntime) {
+    stop_twice(&rt, FILLED, BEHIND, Turns::Even, 400);
 }
 
 // A label, an insert, an advance, a lost and a forget.
 #[test]
-fn a_shelf_that_stops_while_a_component_is_lost(rt: HostRuntime) {
-    stop_twice(&rt, LOST, Stop::Before, Stop::OnceBefore, 1500);
+fn a_shelf_that_stops_at_odd_calls_while_a_component_is_lost(rt: HostRuntime) {
+    stop_twice(&rt, LOST, BEFORE, Turns::Odd, 400);
 }
 
 #[test]
-fn a_shelf_that_acts_and_stops_while_a_component_is_lost(rt: HostRuntime) {
-    stop_twice(&rt, LOST, Stop::Behind, Stop::OnceBehind, 1500);
+fn a_shelf_that_stops_at_even_calls_while_a_component_is_lost(rt: HostRuntime) {
+    stop_twice(&rt, LOST, BEFORE, Turns::Even, 400);
+}
+
+#[test]
+fn a_shelf_that_acts_and_stops_at_odd_calls_while_a_component_is_lost(rt: HostRuntime) {
+    stop_twice(&rt, LOST, BEHIND, Turns::Odd, 400);
+}
+
+#[test]
+fn a_shelf_that_acts_and_stops_at_even_calls_while_a_component_is_lost(rt: HostRuntime) {
+    stop_twice(&rt, LOST, BEHIND, Turns::Even, 400);
 }
 
 // An adopt, a configure, a rebuild, an advance, a remove, a clear and a destroy.
 #[test]
-fn a_shelf_that_stops_while_a_mirror_is_taken_apart(rt: HostRuntime) {
-    stop_twice(&rt, ADOPTED, Stop::Before, Stop::OnceBefore, 500);
+fn a_shelf_that_stops_at_odd_calls_while_a_mirror_is_taken_apart(rt: HostRuntime) {
+    stop_twice(&rt, ADOPTED, BEFORE, Turns::Odd, 120);
 }
 
 #[test]
-fn a_shelf_that_acts_and_stops_while_a_mirror_is_taken_apart(rt: HostRuntime) {
-    stop_twice(&rt, ADOPTED, Stop::Behind, Stop::OnceBehind, 500);
+fn a_shelf_that_stops_at_even_calls_while_a_mirror_is_taken_apart(rt: HostRuntime) {
+    stop_twice(&rt, ADOPTED, BEFORE, Turns::Even, 120);
+}
+
+#[test]
+fn a_shelf_that_acts_and_stops_at_odd_calls_while_a_mirror_is_taken_apart(rt: HostRuntime) {
+    stop_twice(&rt, ADOPTED, BEHIND, Turns::Odd, 120);
+}
+
+#[test]
+fn a_shelf_that_acts_and_stops_at_even_calls_while_a_mirror_is_taken_apart(rt: HostRuntime) {
+    stop_twice(&rt, ADOPTED, BEHIND, Turns::Even, 120);
 }
 
 // A label, an insert, an advance, a patch, a deactivate and a patch.
 #[test]
-fn a_shelf_that_stops_while_a_mirror_is_patched(rt: HostRuntime) {
-    stop_twice(&rt, PATCHED, Stop::Before, Stop::OnceBefore, 1500);
+fn a_shelf_that_stops_at_odd_calls_while_a_mirror_is_patched(rt: HostRuntime) {
+    stop_twice(&rt, PATCHED, BEFORE, Turns::Odd, 400);
 }
 
 #[test]
-fn a_shelf_that_acts_and_stops_while_a_mirror_is_patched(rt: HostRuntime) {
-    stop_twice(&rt, PATCHED, Stop::Behind, Stop::OnceBehind, 1500);
+fn a_shelf_that_stops_at_even_calls_while_a_mirror_is_patched(rt: HostRuntime) {
+    stop_twice(&rt, PATCHED, BEFORE, Turns::Even, 400);
+}
+
+#[test]
+fn a_shelf_that_acts_and_stops_at_odd_calls_while_a_mirror_is_patched(rt: HostRuntime) {
+    stop_twice(&rt, PATCHED, BEHIND, Turns::Odd, 400);
+}
+
+#[test]
+fn a_shelf_that_acts_and_stops_at_even_calls_while_a_mirror_is_patched(rt: HostRuntime) {
+    stop_twice(&rt, PATCHED, BEHIND, Turns::Even, 400);
 }

@@ -6,12 +6,12 @@ use Rattle.gm_front.proofs.guarded_service.serve_request_guarded.Goals as goal
 
 pub returns-in-Err-Memory-clause-serves : goal.returns-in-Err-Memory-clause-serves
 returns-in-Err-Memory-clause-serves g c = λ honest kept away u at.
-    serves_at_once g.S.Store g.H.Shelf c.args.bench.now c.args.bench.now away u _ _ _
+    inl (serves_at_once g.S.Store g.H.Shelf c.args.bench.now c.args.bench.now away u _ _ _
     (code_told c.unserved.result.response)
-    (rw c.unserved.ensures.response (inl (refl, refl, Keeps-refl _)))
+    (rw c.unserved.ensures.response (inl (refl, refl, Keeps-refl _))))
 
 pub returns-in-Err-Read-clause-serves : goal.returns-in-Err-Read-clause-serves
 returns-in-Err-Read-clause-serves g c = λ honest kept away u at.
-    serves_at_once g.S.Store g.H.Shelf c.args.bench.now c.args.bench.now away u _ _ _
+    inl (serves_at_once g.S.Store g.H.Shelf c.args.bench.now c.args.bench.now away u _ _ _
     (code_told c.unserved-in-Err-Read.result.response)
-    (rw c.unserved-in-Err-Read.ensures.response (refl, refl, Keeps-refl _))
+    (rw c.unserved-in-Err-Read.ensures.response (refl, refl, Keeps-refl _)))

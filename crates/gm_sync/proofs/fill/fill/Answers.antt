@@ -16,70 +16,95 @@ loop-init g c = record {
 
 pub returns-then-is_none-clause-fills : goal.returns-then-is_none-clause-fills
 returns-then-is_none-clause-fills g c =
-    fills_looked g.S.Store g.H.Shelf (IsAdvanceIn c.args.due.now) c.args.bench.now c.loop.bench
-    c.view.new.self c.in_ok-state.state c.loop.invariant.fills c.in_ok-state.ensures.looks
+    fills_looked g.S.Store g.H.Shelf (IsAdvanceIn c.args.due.now) c.args.bench.now
+    c.accepted.new.self c.view.new.self c.in_ok-state.state
+    (fills_looked g.S.Store g.H.Shelf (IsAdvanceIn c.args.due.now) c.args.bench.now c.loop.bench
+    c.accepted.new.self c.in_ok-accepted.accepted c.loop.invariant.fills
+    c.in_ok-accepted.ensures.looks)
+    c.in_ok-state.ensures.looks
 
 pub returns-then-is_none-clause-whole : goal.returns-then-is_none-clause-whole
 returns-then-is_none-clause-whole g c =
     let looks = c.in_ok-state.ensures.looks in
+    let fills = fills_looked g.S.Store g.H.Shelf (IsAdvanceIn c.args.due.now) c.args.bench.now
+    c.loop.bench c.accepted.new.self c.in_ok-accepted.accepted c.loop.invariant.fills
+    c.in_ok-accepted.ensures.looks in
     record {
       last = record {
-        seen = c.loop.bench.media.registry;
+        seen = c.accepted.new.self.media.registry;
         looked = looks.store;
         has = λ honest kept away u at.
-            let mid : DiskKept g.S.Store (registry_of c.loop.bench) =
+            let mid : DiskKept g.S.Store (registry_of c.accepted.new.self) =
             omega (arith, looks.store.clean, kept) in
-            let filled = c.loop.invariant.fills.does honest mid away u at in
+            let filled = fills.does honest mid away u at in
             (filled.at.tables, filled.at.has);
         are = λ kept t r has are. c.in_ok-state.ensures.shows kept t r has are;
       };
       none = search rules;
       world = λ honest kept away u at.
-          let mid : DiskKept g.S.Store (registry_of c.loop.bench) =
+          let mid : DiskKept g.S.Store (registry_of c.accepted.new.self) =
           omega (arith, looks.store.clean, kept) in
-          let filled = c.loop.invariant.fills.does honest mid away u at in
-          let still = c.loop.invariant.fills.keep.shelf.honest honest in (
-            filled_look g.S.Store g.H.Shelf (IsAdvanceIn c.args.due.now) c.loop.bench
+          let filled = fills.does honest mid away u at in
+          let still = fills.keep.shelf.honest honest in (
+            filled_look g.S.Store g.H.Shelf (IsAdvanceIn c.args.due.now) c.accepted.new.self
                 c.view.new.self away u (looks.does still kept) filled,
             c.in_ok-state.ensures.shows kept filled.at.tables filled.world.state filled.at.has
-                (tables_at_rest g.S.Store g.H.Shelf c.loop.bench away filled.world
+                (tables_at_rest g.S.Store g.H.Shelf c.accepted.new.self away filled.world
                 filled.at (g.met.H.Shelf.lawful _ still)),
           );
     }
 
 pub returns-then-is_none-clause-still : goal.returns-then-is_none-clause-still
 returns-then-is_none-clause-still g c =
-    still_looked g.S.Store g.H.Shelf c.args.due.now c.args.bench.now c.loop.bench c.view.new.self
-    c.in_ok-state.state c.loop.invariant.fills.keep c.loop.invariant.still
+    let counted = c.in_ok-accepted.ensures.looks in
+    let fills = fills_looked g.S.Store g.H.Shelf (IsAdvanceIn c.args.due.now) c.args.bench.now
+    c.loop.bench c.accepted.new.self c.in_ok-accepted.accepted c.loop.invariant.fills counted in
+    still_looked g.S.Store g.H.Shelf c.args.due.now c.args.bench.now c.accepted.new.self
+    c.view.new.self c.in_ok-state.state fills.keep
+    (still_looked g.S.Store g.H.Shelf c.args.due.now c.args.bench.now c.loop.bench
+    c.accepted.new.self c.in_ok-accepted.accepted c.loop.invariant.fills.keep
+    c.loop.invariant.still counted)
     c.in_ok-state.ensures.looks
 
 pub returns-in-Some-clause-still : goal.returns-in-Some-clause-still
 returns-in-Some-clause-still g c =
     let some : next_of c.args.due.now c.in_ok-state.state ≡ None → ⊥ = search rules in
-    still_shown g.S.Store g.H.Shelf c.args.due.now c.args.bench.now c.loop.bench c.view.new.self
-    c.fill_each.new.bench c.in_ok-state.state c.loop.invariant.still c.in_ok-state.ensures.looks
-    c.in_ok-state.ensures.shows some c.in_ok-unfilled.ensures.keep
+    still_shown g.S.Store g.H.Shelf c.args.due.now c.args.bench.now c.accepted.new.self
+    c.view.new.self c.fill_each.new.bench c.in_ok-state.state
+    (still_looked g.S.Store g.H.Shelf c.args.due.now c.args.bench.now c.loop.bench
+    c.accepted.new.self c.in_ok-accepted.accepted c.loop.invariant.fills.keep
+    c.loop.invariant.still c.in_ok-accepted.ensures.looks)
+    c.in_ok-state.ensures.looks c.in_ok-state.ensures.shows some c.in_ok-unfilled.ensures.keep
 
 pub returns-in-Some-clause-fills : goal.returns-in-Some-clause-fills
 returns-in-Some-clause-fills g c =
     fills_then g.S.Store g.H.Shelf (IsAdvanceIn c.args.due.now) c.args.bench.now c.view.new.self
     c.fill_each.new.bench
+    (fills_looked g.S.Store g.H.Shelf (IsAdvanceIn c.args.due.now) c.args.bench.now
+    c.accepted.new.self c.view.new.self c.in_ok-state.state
     (fills_looked g.S.Store g.H.Shelf (IsAdvanceIn c.args.due.now) c.args.bench.now c.loop.bench
-    c.view.new.self c.in_ok-state.state c.loop.invariant.fills c.in_ok-state.ensures.looks)
+    c.accepted.new.self c.in_ok-accepted.accepted c.loop.invariant.fills
+    c.in_ok-accepted.ensures.looks)
+    c.in_ok-state.ensures.looks)
     c.in_ok-unfilled.ensures.fills
 
 pub loop-preserved : goal.loop-preserved
 loop-preserved g c =
     let some : next_of c.args.due.now c.in_ok-state.state ≡ None → ⊥ = search rules in
+    let counted = c.in_ok-accepted.ensures.looks in
+    let fills = fills_looked g.S.Store g.H.Shelf (IsAdvanceIn c.args.due.now) c.args.bench.now
+    c.loop.bench c.accepted.new.self c.in_ok-accepted.accepted c.loop.invariant.fills counted in
+    let still = still_looked g.S.Store g.H.Shelf c.args.due.now c.args.bench.now c.loop.bench
+    c.accepted.new.self c.in_ok-accepted.accepted c.loop.invariant.fills.keep
+    c.loop.invariant.still counted in
     let looked = fills_looked g.S.Store g.H.Shelf (IsAdvanceIn c.args.due.now) c.args.bench.now
-    c.loop.bench c.view.new.self c.in_ok-state.state c.loop.invariant.fills
-    c.in_ok-state.ensures.looks in
+    c.accepted.new.self c.view.new.self c.in_ok-state.state fills c.in_ok-state.ensures.looks in
     record {
       phase = c.in_ok-unfilled.ensures.phase;
       fills = fills_then g.S.Store g.H.Shelf (IsAdvanceIn c.args.due.now) c.args.bench.now
           c.view.new.self c.fill_each.new.bench looked c.in_ok-unfilled.ensures.fills;
-      still = still_shown g.S.Store g.H.Shelf c.args.due.now c.args.bench.now c.loop.bench
-          c.view.new.self c.fill_each.new.bench c.in_ok-state.state c.loop.invariant.still
+      still = still_shown g.S.Store g.H.Shelf c.args.due.now c.args.bench.now
+          c.accepted.new.self c.view.new.self c.fill_each.new.bench c.in_ok-state.state still
           c.in_ok-state.ensures.looks c.in_ok-state.ensures.shows some
           c.in_ok-unfilled.ensures.keep;
     }

@@ -1,18 +1,12 @@
 use Rattle.gm_sync.specs.Filling.{IsAdvanceOf}
-use Rattle.gm_sync.proofs.Filled.{fills_looked, fills_none, fills_then}
-use Rattle.gm_sync.proofs.Phases.{stays}
+use Rattle.gm_sync.proofs.Filled.{fills_none, fills_then}
 use Rattle.gm_sync.proofs.fill.fill_one.Goals as goal
 
 pub loop-init : goal.loop-init
-loop-init g c =
-    let looked = c.in_ok-number.ensures in
-    record {
-      phase = stays _ _ looked.looks.stays c.requires;
-      fills = fills_looked g.S.Store g.H.Shelf (IsAdvanceOf c.args.component.now) c.args.bench.now
-          c.args.bench.now c.accepted.new.self c.in_ok-number.number
-          (fills_none g.S.Store g.H.Shelf (IsAdvanceOf c.args.component.now) c.args.bench.now)
-          looked.looks;
-    }
+loop-init g c = record {
+  phase = c.requires;
+  fills = fills_none g.S.Store g.H.Shelf (IsAdvanceOf c.args.component.now) c.args.bench.now;
+}
 
 pub returns-then-held-total-clause-fills : goal.returns-then-held-total-clause-fills
 returns-then-held-total-clause-fills g c =

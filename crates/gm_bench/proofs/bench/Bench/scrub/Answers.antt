@@ -1,15 +1,35 @@
-use Rattle.std.proofs.Common.{rules}
-use Rattle.gm_bench.proofs.Looks.{closed_looks, looks_on}
+use Rattle.std.proofs.Common.{◌∙◌, refl, sym, ap, subst, Err, rules}
+use Rattle.gm_state.specs.Records.{Records}
+use Rattle.gm_looks.specs.Scrubs.{IsScrub}
+use Rattle.gm_bench.specs.Benches.{shelf_of}
+use Rattle.gm_bench.proofs.Looks.{looks_at_both, shelf_disk}
 use Rattle.gm_bench.proofs.bench.Bench.scrub.Goals as goal
 
-pub returns-in_err-check_open-clause-looks : goal.returns-in_err-check_open-clause-looks
-returns-in_err-check_open-clause-looks g c =
-    closed_looks g.S.Store g.H.Shelf g.met.S.Store.settled c.args.self.now _ (search rules)
-    (λ h. g.met.H.Shelf.lawful _ h)
+pub returns-in-Ok-clause-scrubs : goal.returns-in-Ok-clause-scrubs
+returns-in-Ok-clause-scrubs g c h clean t s has are =
+    let size = g.H.Shelf.size in
+    let view = g.H.Shelf.view in
+    let shelf = shelf_of c.args.self.now in
+    let here : g.H.Shelf.honest (shelf_of c.view.new.self) =
+    subst g.H.Shelf.honest (sym c.in_ok-state.ensures.shelf) h in
+    subst (λ (x : Records). IsScrub x (size shelf) (view shelf).seen c.args.mirror
+    c.in-Ok.list.items)
+    (c.in_ok-state.ensures.shows clean t s has are)
+    (subst (λ (x : g.row.H.Denot). IsScrub c.in_ok-state.state (size x) (view x).seen c.args.mirror
+    c.in-Ok.list.items)
+    c.in_ok-state.ensures.shelf (c.in-Ok.ensures.scrub here))
+
+pub returns-in-Ok-clause-looks : goal.returns-in-Ok-clause-looks
+returns-in-Ok-clause-looks g c =
+    looks_at_both g.S.Store g.H.Shelf g.met.S.Store.settled c.args.self.now _ _
+    (λ h. g.met.H.Shelf.lawful _ h) c.view.new.self c.in_ok-state.state
+    c.in_ok-state.ensures.looks refl refl c.in-Ok.ensures.looks.only (search rules)
 
 pub returns-clause-looks : goal.returns-clause-looks
 returns-clause-looks g c =
-    looks_on g.S.Store g.H.Shelf g.met.S.Store.settled c.args.self.now c.looked.new.self _
-    (λ h. g.met.H.Shelf.lawful _ h) c.scrub-list.new.self c.scrub-list.result
-    c.scrub-list.ensures.looks c.looked.ensures.answer c.looked.ensures.media
-    c.looked.ensures.stays
+    looks_at_both g.S.Store g.H.Shelf g.met.S.Store.settled c.args.self.now _ _
+    (λ h. g.met.H.Shelf.lawful _ h) c.view.new.self c.in_ok-state.state
+    c.in_ok-state.ensures.looks (search rules) (search rules)
+    (rw c.close_on.ensures.media c.in-Err.ensures.looks.only)
+    (rw c.close_on.ensures.media (shelf_disk g.H.Shelf _ _ c.scrub_shelf.result _ c.in-Err.fault c.in-Err.is
+    (ap Err (c.close_on.ensures.fault ∙ c.of_shelf.ensures.value)) c.scrub_shelf.ensures.looks))

@@ -1,5 +1,5 @@
-use Rattle.std.proofs.Common.{rules}
-use Rattle.gm_bench.proofs.Looks.{closed_looks, looks_on}
+use Rattle.std.proofs.Common.{refl, rules}
+use Rattle.gm_bench.proofs.Looks.{closed_looks, looks_at_registry}
 use Rattle.gm_bench.proofs.bench.Bench.view.Goals as goal
 
 pub returns-in_err-check_open-clause-looks : goal.returns-in_err-check_open-clause-looks
@@ -7,9 +7,17 @@ returns-in_err-check_open-clause-looks g c =
     closed_looks g.S.Store g.H.Shelf g.met.S.Store.settled c.args.self.now _ (search rules)
     (λ h. g.met.H.Shelf.lawful _ h)
 
-pub returns-clause-looks : goal.returns-clause-looks
-returns-clause-looks g c =
-    looks_on g.S.Store g.H.Shelf g.met.S.Store.settled c.args.self.now c.looked.new.self _
-    (λ h. g.met.H.Shelf.lawful _ h) c.state-state.new.self c.state-state.result
-    c.state-state.ensures.looks c.looked.ensures.answer c.looked.ensures.media
-    c.looked.ensures.stays
+pub returns-in-Ok-clause-shows : goal.returns-in-Ok-clause-shows
+returns-in-Ok-clause-shows g c clean t s has are = (c.in-Ok.ensures.state clean t has).0 s are
+
+pub returns-in-Ok-clause-looks : goal.returns-in-Ok-clause-looks
+returns-in-Ok-clause-looks g c =
+    looks_at_registry g.S.Store g.H.Shelf g.met.S.Store.settled c.args.self.now _ _
+    (λ h. g.met.H.Shelf.lawful _ h) refl c.in-Ok.ensures.reads refl (search rules)
+    (λ clean t has. (c.in-Ok.ensures.state clean t has).1.tables)
+
+pub returns-in-Err-clause-looks : goal.returns-in-Err-clause-looks
+returns-in-Err-clause-looks g c =
+    looks_at_registry g.S.Store g.H.Shelf g.met.S.Store.settled c.args.self.now _ _
+    (λ h. g.met.H.Shelf.lawful _ h) (search rules) (search rules) (search rules) (search rules)
+    (search rules)
