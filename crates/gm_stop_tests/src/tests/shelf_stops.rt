@@ -212,14 +212,8 @@ fn stop_openings(rt: &(impl Abort + AllocGlobal), left: &Media, script: Script, 
 }
 
 // Stops a script so at each of these calls of its shelf, until a run ends, and the openings after
-// it if that is wanted; how many states those are.
-fn stop_script(
-    rt: &(impl Abort + AllocGlobal),
-    script: Script,
-    stop: Stop,
-    turns: Turns,
-    and_openings: bool,
-) -> u64 {
+// it; how many states those are.
+fn stop_script(rt: &(impl Abort + AllocGlobal), script: Script, stop: Stop, turns: Turns) -> u64 {
     let start = fresh(rt, script);
     let job = Job {
         script,
@@ -238,9 +232,7 @@ fn stop_script(
                 must(rt, came, "a stop didn't come");
             } else {
                 states = states.saturating_add(visit_each(rt, &left, script, told.done));
-                if and_openings {
-                    states = states.saturating_add(stop_openings(rt, &left, script, told.done));
-                }
+                states = states.saturating_add(stop_openings(rt, &left, script, told.done));
             }
         }
     }
@@ -248,106 +240,179 @@ fn stop_script(
     states
 }
 
-// Stops a script in a way that lasts, and the openings after it, of which there are at least so
-// many states. A bench that met a fault asks nothing more, so that what fails once leaves the same
-// after it: that is visited, and its openings aren't stopped again.
-fn stop_twice(
+// Stops a script so, of which there are at least so many states.
+fn stop_turns(
     rt: &(impl Abort + AllocGlobal + Print),
     script: Script,
-    [lasting, once]: [Stop; 2],
+    stop: Stop,
     turns: Turns,
     least: u64,
 ) {
-    let mut states = stop_script(rt, script, lasting, turns, true);
-    states = states.saturating_add(stop_script(rt, script, once, turns, false));
+    let states = stop_script(rt, script, stop, turns);
     println!(rt; "{states} states behind stops of the shelf").expect(rt, "no output");
     must(rt, states >= least, "fewer states than there were");
 }
 
-const BEFORE: [Stop; 2] = [Stop::Before, Stop::OnceBefore];
-
-const BEHIND: [Stop; 2] = [Stop::Behind, Stop::OnceBehind];
-
 // A label, an insert, an advance, a deactivate and an activate.
 #[test]
 fn a_shelf_that_stops_at_odd_calls_while_a_mirror_is_filled(rt: HostRuntime) {
-    stop_twice(&rt, FILLED, BEFORE, Turns::Odd, 400);
+    stop_turns(&rt, FILLED, Stop::Before, Turns::Odd, 400);
 }
 
 #[test]
 fn a_shelf_that_stops_at_even_calls_while_a_mirror_is_filled(rt: HostRuntime) {
-    stop_twice(&rt, FILLED, BEFORE, Turns::Even, 400);
+    stop_turns(&rt, FILLED, Stop::Before, Turns::Even, 400);
 }
 
 #[test]
 fn a_shelf_that_acts_and_stops_at_odd_calls_while_a_mirror_is_filled(rt: HostRuntime) {
-    stop_twice(&rt, FILLED, BEHIND, Turns::Odd, 400);
+    stop_turns(&rt, FILLED, Stop::Behind, Turns::Odd, 400);
 }
 
 #[test]
 fn a_shelf_that_acts_and_stops_at_even_calls_while_a_mirror_is_filled(rt: HostRuntime) {
-    stop_twice(&rt, FILLED, BEHIND, Turns::Even, 400);
+    stop_turns(&rt, FILLED, Stop::Behind, Turns::Even, 400);
+}
+
+#[test]
+fn a_shelf_that_fails_once_at_odd_calls_while_a_mirror_is_filled(rt: HostRuntime) {
+    stop_turns(&rt, FILLED, Stop::OnceBefore, Turns::Odd, 400);
+}
+
+#[test]
+fn a_shelf_that_fails_once_at_even_calls_while_a_mirror_is_filled(rt: HostRuntime) {
+    stop_turns(&rt, FILLED, Stop::OnceBefore, Turns::Even, 400);
+}
+
+#[test]
+fn a_shelf_that_acts_and_fails_once_at_odd_calls_while_a_mirror_is_filled(rt: HostRuntime) {
+    stop_turns(&rt, FILLED, Stop::OnceBehind, Turns::Odd, 400);
+}
+
+#[test]
+fn a_shelf_that_acts_and_fails_once_at_even_calls_while_a_mirror_is_filled(rt: HostRuntime) {
+    stop_turns(&rt, FILLED, Stop::OnceBehind, Turns::Even, 400);
 }
 
 // A label, an insert, an advance, a lost and a forget.
 #[test]
 fn a_shelf_that_stops_at_odd_calls_while_a_component_is_lost(rt: HostRuntime) {
-    stop_twice(&rt, LOST, BEFORE, Turns::Odd, 400);
+    stop_turns(&rt, LOST, Stop::Before, Turns::Odd, 400);
 }
 
 #[test]
 fn a_shelf_that_stops_at_even_calls_while_a_component_is_lost(rt: HostRuntime) {
-    stop_twice(&rt, LOST, BEFORE, Turns::Even, 400);
+    stop_turns(&rt, LOST, Stop::Before, Turns::Even, 400);
 }
 
 #[test]
 fn a_shelf_that_acts_and_stops_at_odd_calls_while_a_component_is_lost(rt: HostRuntime) {
-    stop_twice(&rt, LOST, BEHIND, Turns::Odd, 400);
+    stop_turns(&rt, LOST, Stop::Behind, Turns::Odd, 400);
 }
 
 #[test]
 fn a_shelf_that_acts_and_stops_at_even_calls_while_a_component_is_lost(rt: HostRuntime) {
-    stop_twice(&rt, LOST, BEHIND, Turns::Even, 400);
+    stop_turns(&rt, LOST, Stop::Behind, Turns::Even, 400);
+}
+
+#[test]
+fn a_shelf_that_fails_once_at_odd_calls_while_a_component_is_lost(rt: HostRuntime) {
+    stop_turns(&rt, LOST, Stop::OnceBefore, Turns::Odd, 400);
+}
+
+#[test]
+fn a_shelf_that_fails_once_at_even_calls_while_a_component_is_lost(rt: HostRuntime) {
+    stop_turns(&rt, LOST, Stop::OnceBefore, Turns::Even, 400);
+}
+
+#[test]
+fn a_shelf_that_acts_and_fails_once_at_odd_calls_while_a_component_is_lost(rt: HostRuntime) {
+    stop_turns(&rt, LOST, Stop::OnceBehind, Turns::Odd, 400);
+}
+
+#[test]
+fn a_shelf_that_acts_and_fails_once_at_even_calls_while_a_component_is_lost(rt: HostRuntime) {
+    stop_turns(&rt, LOST, Stop::OnceBehind, Turns::Even, 400);
 }
 
 // An adopt, a configure, a rebuild, an advance, a remove, a clear and a destroy.
 #[test]
 fn a_shelf_that_stops_at_odd_calls_while_a_mirror_is_taken_apart(rt: HostRuntime) {
-    stop_twice(&rt, ADOPTED, BEFORE, Turns::Odd, 120);
+    stop_turns(&rt, ADOPTED, Stop::Before, Turns::Odd, 120);
 }
 
 #[test]
 fn a_shelf_that_stops_at_even_calls_while_a_mirror_is_taken_apart(rt: HostRuntime) {
-    stop_twice(&rt, ADOPTED, BEFORE, Turns::Even, 120);
+    stop_turns(&rt, ADOPTED, Stop::Before, Turns::Even, 120);
 }
 
 #[test]
 fn a_shelf_that_acts_and_stops_at_odd_calls_while_a_mirror_is_taken_apart(rt: HostRuntime) {
-    stop_twice(&rt, ADOPTED, BEHIND, Turns::Odd, 120);
+    stop_turns(&rt, ADOPTED, Stop::Behind, Turns::Odd, 120);
 }
 
 #[test]
 fn a_shelf_that_acts_and_stops_at_even_calls_while_a_mirror_is_taken_apart(rt: HostRuntime) {
-    stop_twice(&rt, ADOPTED, BEHIND, Turns::Even, 120);
+    stop_turns(&rt, ADOPTED, Stop::Behind, Turns::Even, 120);
+}
+
+#[test]
+fn a_shelf_that_fails_once_at_odd_calls_while_a_mirror_is_taken_apart(rt: HostRuntime) {
+    stop_turns(&rt, ADOPTED, Stop::OnceBefore, Turns::Odd, 120);
+}
+
+#[test]
+fn a_shelf_that_fails_once_at_even_calls_while_a_mirror_is_taken_apart(rt: HostRuntime) {
+    stop_turns(&rt, ADOPTED, Stop::OnceBefore, Turns::Even, 120);
+}
+
+#[test]
+fn a_shelf_that_acts_and_fails_once_at_odd_calls_while_a_mirror_is_taken_apart(rt: HostRuntime) {
+    stop_turns(&rt, ADOPTED, Stop::OnceBehind, Turns::Odd, 120);
+}
+
+#[test]
+fn a_shelf_that_acts_and_fails_once_at_even_calls_while_a_mirror_is_taken_apart(rt: HostRuntime) {
+    stop_turns(&rt, ADOPTED, Stop::OnceBehind, Turns::Even, 120);
 }
 
 // A label, an insert, an advance, a patch, a deactivate and a patch.
 #[test]
 fn a_shelf_that_stops_at_odd_calls_while_a_mirror_is_patched(rt: HostRuntime) {
-    stop_twice(&rt, PATCHED, BEFORE, Turns::Odd, 400);
+    stop_turns(&rt, PATCHED, Stop::Before, Turns::Odd, 400);
 }
 
 #[test]
 fn a_shelf_that_stops_at_even_calls_while_a_mirror_is_patched(rt: HostRuntime) {
-    stop_twice(&rt, PATCHED, BEFORE, Turns::Even, 400);
+    stop_turns(&rt, PATCHED, Stop::Before, Turns::Even, 400);
 }
 
 #[test]
 fn a_shelf_that_acts_and_stops_at_odd_calls_while_a_mirror_is_patched(rt: HostRuntime) {
-    stop_twice(&rt, PATCHED, BEHIND, Turns::Odd, 400);
+    stop_turns(&rt, PATCHED, Stop::Behind, Turns::Odd, 400);
 }
 
 #[test]
 fn a_shelf_that_acts_and_stops_at_even_calls_while_a_mirror_is_patched(rt: HostRuntime) {
-    stop_twice(&rt, PATCHED, BEHIND, Turns::Even, 400);
+    stop_turns(&rt, PATCHED, Stop::Behind, Turns::Even, 400);
+}
+
+#[test]
+fn a_shelf_that_fails_once_at_odd_calls_while_a_mirror_is_patched(rt: HostRuntime) {
+    stop_turns(&rt, PATCHED, Stop::OnceBefore, Turns::Odd, 400);
+}
+
+#[test]
+fn a_shelf_that_fails_once_at_even_calls_while_a_mirror_is_patched(rt: HostRuntime) {
+    stop_turns(&rt, PATCHED, Stop::OnceBefore, Turns::Even, 400);
+}
+
+#[test]
+fn a_shelf_that_acts_and_fails_once_at_odd_calls_while_a_mirror_is_patched(rt: HostRuntime) {
+    stop_turns(&rt, PATCHED, Stop::OnceBehind, Turns::Odd, 400);
+}
+
+#[test]
+fn a_shelf_that_acts_and_fails_once_at_even_calls_while_a_mirror_is_patched(rt: HostRuntime) {
+    stop_turns(&rt, PATCHED, Stop::OnceBehind, Turns::Even, 400);
 }
