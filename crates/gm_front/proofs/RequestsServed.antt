@@ -1,5 +1,5 @@
 -- What serving a request comes to, by what was found and what was written of it.
-use Rattle.std.proofs.Common.{◌≡◌, inl, inr, ℕ, List, refl, ap, Option, Result, Ok, Err, IfSome}
+use Rattle.std.proofs.Common.{◌≡◌, inr, ℕ, List, refl, ap, Option, Result, Ok, Err, IfSome}
 use Rattle.std.specs.Prelude.{IfOk, IfErr, OnErr}
 use Rattle.std.specs.Io.KnownBytes.{Appends}
 use Rattle.sqlite_trees.specs.declared.store.Store.{Ghosts}
@@ -16,7 +16,7 @@ use Rattle.gm_front.specs.declared.finding.Finding.TheVariants.{Failed}
 use Rattle.gm_front.specs.declared.service.Response.{Response}
 use Rattle.gm_front.specs.Batch.{AppendsFront}
 use Rattle.gm_front.specs.Demands.{demand_of}
-use Rattle.gm_front.specs.Findings.{ComesToFinding, told_of}
+use Rattle.gm_front.specs.Findings.{ComesToFinding, fault_of, told_of}
 use Rattle.gm_front.specs.Services.{Serves, Tells, bytes_of, code_told}
 
 module _ {S H : Type 0} (g : Ghosts S) (view : H → View) (size : H → Sizes)
@@ -26,15 +26,14 @@ module _ {S H : Type 0} (g : Ghosts S) (view : H → View) (size : H → Sizes)
   tells : (Wrote : List ℕ → Type 0) (IsCode : ℕ → Type 0) (finding : Finding)
       → ComesToFinding g view size r s h k away u (demand_of asked) finding
       → Wrote (bytes_of (told_of finding)) → IsCode (code_of (told_of finding).status)
-      → Tells g view size input Wrote r s h k away u IsCode
+      → Tells g view size input Wrote r s h k away u IsCode (fault_of finding)
   tells Wrote IsCode (Failed fault) comes wrote code =
-      inr (fault, code, record { asked = asked; asks = asks; failed = comes; wrote = wrote })
-  tells Wrote IsCode finding comes wrote code =
-      inl (
-        told_of finding,
-        code,
-        record { asked = asked; asks = asks; found = comes; wrote = wrote },
-      )
+      (code, record { asked = asked; asks = asks; failed = comes; wrote = wrote })
+  tells Wrote IsCode finding comes wrote code = (
+    told_of finding,
+    code,
+    record { asked = asked; asks = asks; found = comes; wrote = wrote },
+  )
 
   pub served : (finding : Finding) (told : Result Response FrontFault)
       → ComesToFinding g view size r s h k away u (demand_of asked) finding
@@ -42,7 +41,7 @@ module _ {S H : Type 0} (g : Ghosts S) (view : H → View) (size : H → Sizes)
       × Appends before now (bytes_of (told_of finding)))
       → OnErr told (AppendsFront before now (bytes_of (told_of finding)))
       → IfErr told (λ e. e ≡ Read → ⊥)
-      → Serves g view size input before now r s h k away u (code_told told)
+      → Serves g view size input before now r s h k away u (code_told told) (fault_of finding)
   served finding (Ok response) comes wrote front fault =
       tells (Appends before now) (λ n. code_of response.status ≡ n) finding comes wrote.1
       (ap code_of wrote.0)

@@ -1,5 +1,5 @@
 -- A request as a part of a schedule.
-use Rattle.std.proofs.Common.{◌≡◌, inl, inr, ℕ, List, [], Option, Result, Ok, Err, sym, subst}
+use Rattle.std.proofs.Common.{◌≡◌, inl, inr, ℕ, List, [], Option, Some, None, Result, Ok, Err, sym, subst}
 use Rattle.std.specs.Io.KnownBytes.{Appends}
 use Rattle.sqlite_trees.specs.declared.store.Store.{Ghosts}
 use Rattle.sqlite.specs.Held.{Held}
@@ -82,14 +82,15 @@ module _ {S H : Type 0} (g : Ghosts S) (view : H → View) (size : H → Sizes) 
       f.left
 
   served : (input : Option (List ℕ)) (Wrote : List ℕ → Type 0) (IsCode : ℕ → Type 0)
-      → Tells g view size input Wrote r s h k away rest.world IsCode
+      (fault : Option BenchFault)
+      → Tells g view size input Wrote r s h k away rest.world IsCode fault
       → IsServed g view size all input r s h k away acc ack rest
-  served input Wrote IsCode (inl (told, code, it)) = record {
+  served input Wrote IsCode None (told, code, it) = record {
     asked = it.asked;
     asks = it.asks;
     leaves = inl (rests (demand_of it.asked) it.found.world told it.found.responds it.found.at);
   }
-  served input Wrote IsCode (inr (fault, code, it)) = record {
+  served input Wrote IsCode (Some fault) (code, it) = record {
     asked = it.asked;
     asks = it.asks;
     leaves = inr (fails (demand_of it.asked) fault it.failed);
@@ -102,19 +103,22 @@ module _ {S H : Type 0} (g : Ghosts S) (view : H → View) (size : H → Sizes) 
       (subst (λ (q : H). AtRest g view size all r q away acc ack) (sym there) rest)
 
   pub served_leaves : (input before now : Option (List ℕ)) (end : Result ℕ FrontFault)
-      → Serves g view size input before now r s h k away rest.world end
+      (fault : Option BenchFault)
+      → Serves g view size input before now r s h k away rest.world end fault
       → ServedLeaves g view size all input r s h k away acc ack rest end
-  served_leaves input before now (Ok code) it =
-      served input (Appends before now) (λ n. code ≡ n) it
-  served_leaves input before now (Err Read) it = untouched it.0 it.1
-  served_leaves input before now (Err Memory) (inl it) = inl (untouched it.0 it.1)
-  served_leaves input before now (Err Memory) (inr it) =
-      inr (served input (AppendsFront before now) (λ n. Unit {0}) it)
-  served_leaves input before now (Err Write) it =
-      served input (AppendsFront before now) (λ n. Unit {0}) it
+  served_leaves input before now (Ok code) fault it =
+      served input (Appends before now) (λ n. code ≡ n) fault it
+  served_leaves input before now (Err Read) fault it = untouched it.0 it.1
+  served_leaves input before now (Err Memory) fault (inl it) = inl (untouched it.0 it.1)
+  served_leaves input before now (Err Memory) fault (inr it) =
+      inr (served input (AppendsFront before now) (λ n. Unit {0}) fault it)
+  served_leaves input before now (Err Write) fault it =
+      served input (AppendsFront before now) (λ n. Unit {0}) fault it
 
   pub served_unless_page : (input before now : Option (List ℕ)) (end : Result ℕ FrontFault)
-      → ServesUnlessPage g view size input before now r s h k away rest.world end
+      (fault : Option BenchFault)
+      → ServesUnlessPage g view size input before now r s h k away rest.world end fault
       → ServedUnlessPage g view size all input r s h k away acc ack rest end
-  served_unless_page input before now end (inl it) = inl (served_leaves input before now end it)
-  served_unless_page input before now end (inr it) = inr (it.0, untouched it.1 it.2)
+  served_unless_page input before now end fault (inl it) =
+      inl (served_leaves input before now end fault it)
+  served_unless_page input before now end fault (inr it) = inr (it.0, untouched it.1 it.2)

@@ -354,6 +354,7 @@ module _ {S H : Type 0} (g : Ghosts S) (view : H → View) (size : H → Sizes) 
           told = told;
           left = came.2.left;
           disk = came.2.disk;
+          store = came.2.store;
           readable = λ is written. came.2.readable is so.answered.at written;
         }
 

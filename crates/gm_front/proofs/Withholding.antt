@@ -15,6 +15,7 @@ use Rattle.gm_bench.specs.Benches.{registry_of, shelf_of}
 use Rattle.gm_bench.specs.Owed.{LeavesRun}
 use Rattle.gm_bench.specs.Recovering.{LeavesOnly}
 use Rattle.gm_bench.specs.declared.bench.Bench.{Bench}
+use Rattle.gm_bench.specs.declared.fault.BenchFault.{BenchFault}
 use Rattle.gm_front.specs.declared.answer_lines.FrontFault.{FrontFault}
 use Rattle.gm_front.specs.declared.answer_lines.FrontFault.TheVariants.{Memory, Read, Write}
 use Rattle.gm_front.specs.declared.finding.Finding.{Finding}
@@ -22,7 +23,7 @@ use Rattle.gm_front.specs.declared.finding.Finding.TheVariants as finding
 use Rattle.gm_front.specs.declared.service.Response.{Response}
 use Rattle.gm_front.specs.Batch.{AppendsFront}
 use Rattle.gm_front.specs.Demands.{Carry, Demand, Told, demand_of}
-use Rattle.gm_front.specs.Findings.{IsPut, told_of, withheld_told}
+use Rattle.gm_front.specs.Findings.{IsPut, fault_of, told_of, withheld_told}
 use Rattle.gm_front.specs.GuardedServices.{FindsUnlessWithheld, FoundBehindLook, HadNothing, ServesOrWithholds, TellsOf}
 use Rattle.gm_front.specs.Guards.{StoodInTheWay}
 use Rattle.gm_front.specs.Services.{Serves, bytes_of, code_told}
@@ -78,11 +79,11 @@ module _ {S H : Type 0} (s : Ghosts S) (h : ShelfGhosts H) (old new : Bench S H)
 
   module _ (away : Image) (u : World) (input before now : Option (List ℕ)) where
     -- a request that is served at once
-    pub serves_at_once : (result : Result ℕ FrontFault)
+    pub serves_at_once : (result : Result ℕ FrontFault) (fault : Option BenchFault)
         → Serves s h.view h.size input before now (registry_of old) (registry_of new)
-        (shelf_of old) (shelf_of new) away u result
-        → ServesOrWithholds s h old new away u input before now result
-    serves_at_once result serves =
+        (shelf_of old) (shelf_of new) away u result fault
+        → ServesOrWithholds s h old new away u input before now result fault
+    serves_at_once result fault serves =
         inl (record { mid = old; looked = looks_nothing s h old; serves = serves })
 
     -- one that is served by what its demand came to
@@ -94,7 +95,7 @@ module _ {S H : Type 0} (s : Ghosts S) (h : ShelfGhosts H) (old new : Bench S H)
         × Appends before now (bytes_of (told_of it)))
         → OnErr told (AppendsFront before now (bytes_of (told_of it)))
         → IfErr told (λ e. e ≡ Read → ⊥)
-        → ServesOrWithholds s h old new away u input before now (code_told told)
+        → ServesOrWithholds s h old new away u input before now (code_told told) (fault_of it)
     guarded_served asked asks (finding.Withheld list) told found had wrote front fault =
         inr (record {
           asked = asked;
@@ -102,6 +103,7 @@ module _ {S H : Type 0} (s : Ghosts S) (h : ShelfGhosts H) (old new : Bench S H)
           list = list.items;
           withheld = had;
           told = tells_of (withheld_told list.items) before now told wrote front fault;
+          none = refl;
         })
     guarded_served asked asks it told found had wrote front fault =
         inl (record {

@@ -9,14 +9,15 @@ use Rattle.gm_shelf.specs.declared.shelf.Shelf.{Ghosts as ShelfGhosts}
 use Rattle.gm_commands.specs.declared.command.Command.{Command}
 use Rattle.gm_state.specs.World.{World}
 use Rattle.gm_rules.specs.AbstractCalls as run
-use Rattle.gm_registry.specs.Registry.{DiskKept}
+use Rattle.gm_registry.specs.Fitting.{HasRoom}
+use Rattle.gm_registry.specs.Registry.{DiskKept, StoreFailed, seen}
 use Rattle.gm_registry.specs.Replies.{AreWrittenUnder}
 use Rattle.gm_bench.specs.Benches.{progress_of, redone_of, registry_of, shelf_of}
-use Rattle.gm_bench.specs.Calls.{Keep}
+use Rattle.gm_bench.specs.Calls.{Keep, most_rows}
 use Rattle.gm_bench.specs.Phases.{TakesCommands}
 use Rattle.gm_bench.specs.declared.bench.Bench.{Bench}
 use Rattle.gm_bench.specs.declared.fault.BenchFault.{BenchFault}
-use Rattle.gm_bench.specs.declared.fault.BenchFault.TheVariants.{Absent, Closed, Disk, Unreadable}
+use Rattle.gm_bench.specs.declared.fault.BenchFault.TheVariants.{Absent, Closed, Disk, Store, Unreadable}
 use Rattle.gm_bench.specs.declared.phase.Progress.{Progress}
 use Rattle.gm_bench.specs.declared.phase.Progress.TheVariants.{Failed}
 use Rattle.gm_bench.specs.Recovering.{IsAt}
@@ -132,6 +133,7 @@ module _ {S H : Type 0} (g : Ghosts S) (view : H → View) (size : H → Sizes) 
     pub told : Told (text ++ fault_line key fault)
     pub left : LeavesRun g view size registry s shelf k away answered.world key command
     pub disk : fault ≡ Disk → (view shelf).faults < (view k).faults
+    pub store : fault ≡ Store → HasRoom most_rows (seen g registry) → StoreFailed g registry s
     pub readable : fault ≡ Unreadable → AreWrittenUnder key answered.at.tables → ⊥
 
   -- what a batch owes where it ended, where the bench failed, and where the answers weren't all

@@ -5,12 +5,18 @@ use Rattle.sqlite_trees.specs.declared.store.Store.{Ghosts}
 use Rattle.sqlite.specs.Held.{Held}
 use Rattle.gm_metadata.specs.Images.{Image, Sizes}
 use Rattle.gm_shelf.specs.Disk.{View}
+use Rattle.gm_shelf.specs.declared.shelf.Shelf.{Ghosts as ShelfGhosts}
 use Rattle.gm_state.specs.Rows.{Tables}
 use Rattle.gm_state.specs.World.{World}
+use Rattle.gm_registry.specs.Fitting.{HasRoom}
+use Rattle.gm_registry.specs.Registry.{DiskKept, StoreFailed, seen}
 use Rattle.gm_registry.specs.Replies.{AreWrittenUnder}
 use Rattle.gm_looks.specs.declared.unlike.Unlike.{Unlike}
 use Rattle.gm_bench.specs.declared.fault.BenchFault.{BenchFault}
-use Rattle.gm_bench.specs.declared.fault.BenchFault.TheVariants.{Disk, Unreadable}
+use Rattle.gm_bench.specs.declared.fault.BenchFault.TheVariants.{Disk, Store, Unreadable}
+use Rattle.gm_bench.specs.Benches.{registry_of, shelf_of}
+use Rattle.gm_bench.specs.Calls.{most_rows}
+use Rattle.gm_bench.specs.declared.bench.Bench.{Bench}
 use Rattle.gm_bench.specs.declared.phase.Progress.{Progress}
 use Rattle.gm_bench.specs.declared.phase.Progress.TheVariants as progress
 use Rattle.gm_bench.specs.Recovering.{IsAt, LeavesOnly}
@@ -80,6 +86,15 @@ progress_behind before (Some fault) = progress.Failed
 abbrev pub AreWrittenFor : Demand → Tables → Type 0
 AreWrittenFor (Carry key command) t = AreWrittenUnder key t
 AreWrittenFor _ t = Unit {0}
+
+-- `Store` is told at rest only if the store failed, if it can number the rows of a command.
+abbrev pub TellsStoreAt : {S H : Type 0} → Ghosts S → ShelfGhosts H → Bench S H → Bench S H
+    → Option BenchFault → Type 0
+TellsStoreAt s h old new fault = h.honest (shelf_of old) → DiskKept s (registry_of new)
+    → (away : Image) (u : World)
+    → IsAt s h.view h.size (registry_of old) (shelf_of old) away [] [] u u
+    → fault ≡ Some Store → HasRoom most_rows (seen s (registry_of old))
+    → StoreFailed s (registry_of old) (registry_of new)
 
 -- What stands between the start, with the registry r and the shelf h, and the end, with s and k.
 module _ {S H : Type 0} (g : Ghosts S) (view : H → View) (size : H → Sizes) where

@@ -1,5 +1,5 @@
 -- What a request over HTTP comes to whose command is carried out only if nothing stands in its way.
-use Rattle.std.specs.Prelude.{◌≡◌, ◌≢◌, ◌⊎◌, ℕ, Bool, false, List, [], Option, Result, Ok, Err, IfSome}
+use Rattle.std.specs.Prelude.{◌≡◌, ◌≢◌, ◌⊎◌, ℕ, Bool, false, List, [], Option, None, Result, Ok, Err, IfSome}
 use Rattle.std.specs.Io.KnownBytes.{Appends}
 use Rattle.sqlite_trees.specs.declared.store.Store.{Ghosts as StoreGhosts}
 use Rattle.gm_metadata.specs.Images.{Image}
@@ -10,6 +10,7 @@ use Rattle.gm_looks.specs.declared.unlike.Unlike.{Unlike}
 use Rattle.gm_bench.specs.Benches.{registry_of, shelf_of}
 use Rattle.gm_bench.specs.Owed.{LookDoes}
 use Rattle.gm_bench.specs.declared.bench.Bench.{Bench}
+use Rattle.gm_bench.specs.declared.fault.BenchFault.{BenchFault}
 use Rattle.gm_http.specs.Requests.{Asked, Asks}
 use Rattle.gm_http.specs.Responses.{code_of}
 use Rattle.gm_http.specs.Senders.{IsFromPage}
@@ -66,32 +67,34 @@ module _ {S H : Type 0} (s : StoreGhosts S) (h : ShelfGhosts H) (old new : Bench
 
     -- After a look the request was served.
     pub record ServesBehindLook (input before now : Option (List ℕ))
-        (result : Result ℕ FrontFault) : Type 0 where
+        (result : Result ℕ FrontFault) (fault : Option BenchFault) : Type 0 where
       pub mid : Bench S H
       pub looked : LookDoes s h.view h.size (registry_of old) (registry_of mid) (shelf_of old)
           (shelf_of mid)
       pub serves : Serves s h.view h.size input before now (registry_of mid) (registry_of new)
-          (shelf_of mid) (shelf_of new) away u result
+          (shelf_of mid) (shelf_of new) away u result fault
 
   -- The request asks for a command that isn't handed in, and that is told.
   pub record Withholds (input before now : Option (List ℕ))
-      (result : Result ℕ FrontFault) : Type 0 where
+      (result : Result ℕ FrontFault) (fault : Option BenchFault) : Type 0 where
     pub asked : Asked
     pub asks : IfSome input (λ bytes. Asks bytes asked)
     pub list : List Unlike
     pub withheld : IsWithheld (demand_of asked) list
     pub told : TellsOf (withheld_told list) before now result
+    pub none : fault ≡ None
 
   -- what serving a request comes to if a command is withheld that something stands in the way of
   abbrev pub ServesOrWithholds : Image → World → Option (List ℕ) → Option (List ℕ)
-      → Option (List ℕ) → Result ℕ FrontFault → Type 0
-  ServesOrWithholds away u input before now result =
-      ServesBehindLook away u input before now result ⊎ Withholds input before now result
+      → Option (List ℕ) → Result ℕ FrontFault → Option BenchFault → Type 0
+  ServesOrWithholds away u input before now result fault =
+      ServesBehindLook away u input before now result fault
+      ⊎ Withholds input before now result fault
 
   -- the same where a page's request is turned away, unless those of any origin are wanted
   abbrev pub ServesGuarded : Bool → Image → World → Option (List ℕ) → Option (List ℕ)
-      → Option (List ℕ) → Result ℕ FrontFault → Type 0
-  ServesGuarded any_origin away u input before now result =
-      ServesOrWithholds away u input before now result
+      → Option (List ℕ) → Result ℕ FrontFault → Option BenchFault → Type 0
+  ServesGuarded any_origin away u input before now result fault =
+      ServesOrWithholds away u input before now result fault
       ⊎ ((any_origin ≡ false) × IfSome input IsFromPage × (registry_of new ≡ registry_of old)
-      × (shelf_of new ≡ shelf_of old) × TurnsAway before now result)
+      × (shelf_of new ≡ shelf_of old) × (fault ≡ None) × TurnsAway before now result)

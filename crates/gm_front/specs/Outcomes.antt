@@ -6,9 +6,12 @@ use Rattle.gm_metadata.specs.Images.{Image, Sizes}
 use Rattle.gm_shelf.specs.Disk.{View}
 use Rattle.gm_commands.specs.declared.command.Command.{Command}
 use Rattle.gm_state.specs.World.{World}
+use Rattle.gm_registry.specs.Fitting.{HasRoom}
+use Rattle.gm_registry.specs.Registry.{StoreFailed, seen}
 use Rattle.gm_registry.specs.Replies.{AreWrittenUnder}
+use Rattle.gm_bench.specs.Calls.{most_rows}
 use Rattle.gm_bench.specs.declared.fault.BenchFault.{BenchFault}
-use Rattle.gm_bench.specs.declared.fault.BenchFault.TheVariants.{Disk, Unreadable}
+use Rattle.gm_bench.specs.declared.fault.BenchFault.TheVariants.{Disk, Store, Unreadable}
 use Rattle.gm_bench.specs.declared.phase.Progress.{Progress}
 use Rattle.gm_bench.specs.declared.phase.Progress.TheVariants.{Failed}
 use Rattle.gm_bench.specs.Recovering.{IsAt}
@@ -49,12 +52,13 @@ is_refused (outcome.Answered key answer) = is_refusal (answer_of answer)
 is_refused (outcome.Failed key fault) = false
 
 module _ {S H : Type 0} (g : Ghosts S) (view : H → View) (size : H → Sizes) where
-  -- a command that failed: what it may have left, that a failure of the disk was counted, and that
-  -- what this program wrote was read
+  -- A command that failed: what it may have left, that a failure of the disk was counted, that the
+  -- store failed if it is told, and that what this program wrote was read.
   pub record FailsAt (r s : Held S) (h k : H) (away : Image) (u : World) (key : List ℕ)
       (command : Command) (fault : BenchFault) : Type 0 where
     pub left : LeavesRun g view size r s h k away u key command
     pub disk : fault ≡ Disk → (view h).faults < (view k).faults
+    pub store : fault ≡ Store → HasRoom most_rows (seen g r) → StoreFailed g r s
     pub readable : fault ≡ Unreadable → (at : IsAt g view size r h away [] [] u u)
         → AreWrittenUnder key at.tables → ⊥
 

@@ -1,11 +1,16 @@
 -- What serving a request owes: what it asks, what is told of that, and where it leaves the bench.
-use Rattle.std.specs.Prelude.{◌≡◌, ◌⊎◌, ℕ, List, Option, Result, Ok, Err, IfSome, codes}
+use Rattle.std.specs.Prelude.{◌≡◌, ◌⊎◌, ℕ, List, [], Option, Some, None, Result, Ok, Err, IfSome, codes}
 use Rattle.std.specs.Io.KnownBytes.{Appends, Keeps}
 use Rattle.sqlite_trees.specs.declared.store.Store.{Ghosts}
 use Rattle.sqlite.specs.Held.{Held}
 use Rattle.gm_metadata.specs.Images.{Image, Sizes}
 use Rattle.gm_shelf.specs.Disk.{View}
+use Rattle.gm_shelf.specs.declared.shelf.Shelf.{Ghosts as ShelfGhosts}
 use Rattle.gm_state.specs.World.{World}
+use Rattle.gm_registry.specs.Registry.{DiskKept}
+use Rattle.gm_bench.specs.Benches.{progress_of, registry_of, shelf_of}
+use Rattle.gm_bench.specs.Recovering.{IsAt}
+use Rattle.gm_bench.specs.declared.bench.Bench.{Bench}
 use Rattle.gm_bench.specs.declared.fault.BenchFault.{BenchFault}
 use Rattle.gm_http.specs.Requests.{Asked, Asks}
 use Rattle.gm_http.specs.Responses.{code_of, response_bytes}
@@ -17,7 +22,8 @@ use Rattle.gm_front.specs.declared.service.Response.{Response}
 use Rattle.gm_front.specs.declared.answer_lines.FrontFault.TheVariants.{Memory, Read, Write}
 use Rattle.gm_front.specs.Batch.{AppendsFront}
 use Rattle.gm_front.specs.Demands.{Told, demand_of, fault_status, fault_told, told_as}
-use Rattle.gm_front.specs.Findings.{Fails, IsFound}
+use Rattle.gm_front.specs.Findings.{Fails, IsFound, TellsStoreAt, progress_behind}
+use Rattle.gm_front.specs.Guards.{KeepsClosed}
 
 -- the bytes of a response
 abbrev pub bytes_of : Told → List ℕ
@@ -57,31 +63,52 @@ module _ {S H : Type 0} (g : Ghosts S) (view : H → View) (size : H → Sizes) 
     pub failed : Fails g view size r s h k away u (demand_of asked) fault
     pub wrote : Wrote (bytes_of (fault_told fault))
 
-  -- one of both
+  -- what is told: a response if the bench didn't fail, else the fault at which it did
   abbrev pub Tells : Option (List ℕ) → (List ℕ → Type 0) → Held S → Held S → H → H → Image → World
-      → (ℕ → Type 0) → Type 0
-  Tells input Wrote r s h k away u IsCode =
-      ((told : Told) × IsCode (code_of told.status) × Responded input Wrote s k away u told)
-      ⊎ ((fault : BenchFault) × IsCode (code_of (fault_status fault))
-      × FailedAt input Wrote r s h k away u fault)
+      → (ℕ → Type 0) → Option BenchFault → Type 0
+  Tells input Wrote r s h k away u IsCode None =
+      (told : Told) × IsCode (code_of told.status) × Responded input Wrote s k away u told
+  Tells input Wrote r s h k away u IsCode (Some fault) =
+      IsCode (code_of (fault_status fault)) × FailedAt input Wrote r s h k away u fault
 
-  -- What serving a request comes to: all of a response was written, or a beginning of it, or
-  -- neither anything was written nor the bench asked.
+  -- nothing was written, and the bench wasn't asked
+  abbrev pub LeavesAll : Option (List ℕ) → Option (List ℕ) → Held S → Held S → H → H
+      → Option BenchFault → Type 0
+  LeavesAll before now r s h k fault =
+      (s ≡ r) × (k ≡ h) × Keeps before now × (fault ≡ None)
+
+  -- What serving a request comes to if the bench failed at this fault, or didn't fail: all of a
+  -- response was written, or a beginning of it, or nothing was done.
   abbrev pub Serves : Option (List ℕ) → Option (List ℕ) → Option (List ℕ) → Held S → Held S → H → H
-      → Image → World → Result ℕ FrontFault → Type 0
-  Serves input before now r s h k away u (Ok code) =
-      Tells input (Appends before now) r s h k away u (λ n. code ≡ n)
-  Serves input before now r s h k away u (Err Read) =
-      (s ≡ r) × (k ≡ h) × Keeps before now
-  Serves input before now r s h k away u (Err Memory) =
-      ((s ≡ r) × (k ≡ h) × Keeps before now)
-      ⊎ Tells input (AppendsFront before now) r s h k away u (λ n. Unit {0})
-  Serves input before now r s h k away u (Err Write) =
-      Tells input (AppendsFront before now) r s h k away u (λ n. Unit {0})
+      → Image → World → Result ℕ FrontFault → Option BenchFault → Type 0
+  Serves input before now r s h k away u (Ok code) fault =
+      Tells input (Appends before now) r s h k away u (λ n. code ≡ n) fault
+  Serves input before now r s h k away u (Err Read) fault =
+      LeavesAll before now r s h k fault
+  Serves input before now r s h k away u (Err Memory) fault =
+      LeavesAll before now r s h k fault
+      ⊎ Tells input (AppendsFront before now) r s h k away u (λ n. Unit {0}) fault
+  Serves input before now r s h k away u (Err Write) fault =
+      Tells input (AppendsFront before now) r s h k away u (λ n. Unit {0}) fault
 
   -- what serving a request comes to where pages are turned away, for which the bench isn't asked
   abbrev pub ServesUnlessPage : Option (List ℕ) → Option (List ℕ) → Option (List ℕ) → Held S
-      → Held S → H → H → Image → World → Result ℕ FrontFault → Type 0
-  ServesUnlessPage input before now r s h k away u result =
-      Serves input before now r s h k away u result
-      ⊎ (IfSome input IsFromPage × (s ≡ r) × (k ≡ h) × TurnsAway before now result)
+      → Held S → H → H → Image → World → Result ℕ FrontFault → Option BenchFault → Type 0
+  ServesUnlessPage input before now r s h k away u result fault =
+      Serves input before now r s h k away u result fault
+      ⊎ (IfSome input IsFromPage × (s ≡ r) × (k ≡ h) × (fault ≡ None)
+      × TurnsAway before now result)
+
+-- What serving one request owes: with what the bench failed, if it did, and that this is told; it
+-- says `Closed` only if it was so before.
+pub record ServesOne {S H : Type 0} (s : Ghosts S) (h : ShelfGhosts H)
+    (input before now : Option (List ℕ)) (old new : Bench S H)
+    (result : Result ℕ FrontFault) : Type 0 where
+  pub fault : Option BenchFault
+  pub does : h.honest (shelf_of old) → DiskKept s (registry_of new) → (away : Image) (u : World)
+      → IsAt s h.view h.size (registry_of old) (shelf_of old) away [] [] u u
+      → Serves s h.view h.size input before now (registry_of old) (registry_of new)
+      (shelf_of old) (shelf_of new) away u result fault
+  pub progress : progress_of new ≡ progress_behind (progress_of old) fault
+  pub closes : KeepsClosed old new fault
+  pub store : TellsStoreAt s h old new fault

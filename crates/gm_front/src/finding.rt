@@ -6,14 +6,14 @@ ghost use Rattle.gm_metadata.specs.Reading.{decode_of};
 ghost use Rattle.gm_state.specs.World.{World};
 ghost use Rattle.gm_registry.specs.Registry.{DiskKept};
 ghost use Rattle.gm_json.specs.Mirrors.{mirror_json};
-ghost use Rattle.gm_bench.specs.Benches.{progress_of, redone_of, registry_of, shelf_of};
+ghost use Rattle.gm_bench.specs.Benches.{progress_of, registry_of, shelf_of};
 ghost use Rattle.gm_bench.specs.Calls.{Keep};
-ghost use Rattle.gm_bench.specs.declared.phase.Progress.TheVariants.{Failed};
 ghost use Rattle.gm_bench.specs.Phases.{TakesCommands};
 ghost use Rattle.gm_bench.specs.Recovering.{IsAt};
 ghost use Rattle.gm_bench.specs.Running.{answer_of};
 ghost use Rattle.gm_front.specs.Demands.{answer_told, decoded_told, fault_status, mirror_told, not_found};
-ghost use Rattle.gm_front.specs.Findings.{ComesToFinding, IsPut, demand_in, fault_of, progress_behind, told_in, told_of, withheld_told};
+ghost use Rattle.gm_front.specs.Findings.{ComesToFinding, IsPut, TellsStoreAt, demand_in, fault_of, progress_behind, told_in, told_of, withheld_told};
+ghost use Rattle.gm_front.specs.Guards.{KeepsClosed};
 
 use crate::demand::Demand;
 use crate::guard::withheld_message;
@@ -200,8 +200,8 @@ pub(crate) fn find<S: Alter, H: Shelf>(
     ensures put { IsPut result }
     ensures progress { progress_of bench.new
         ≡ progress_behind (progress_of bench.old) (fault_of result) }
-    ensures closed { progress_of bench.old ≡ Failed → bench.new ≡ bench.old }
-    ensures redone { redone_of bench.new ≡ redone_of bench.old }
+    ensures closes { KeepsClosed bench.old bench.new (fault_of result) }
+    ensures store { TellsStoreAt S.Store H.Shelf bench.old bench.new (fault_of result) }
     ensures keep { Keep S.Store H.Shelf (registry_of bench.old) (registry_of bench.new)
         (shelf_of bench.old) (shelf_of bench.new) }
 {

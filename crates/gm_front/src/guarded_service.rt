@@ -7,13 +7,13 @@ ghost use Rattle.gm_state.specs.World.{World};
 ghost use Rattle.gm_registry.specs.Registry.{DiskKept};
 ghost use Rattle.gm_http.specs.Requests.{Asks, asked_of};
 ghost use Rattle.gm_http.specs.Senders.{IsFromPage};
-ghost use Rattle.gm_bench.specs.Benches.{progress_of, redone_of, registry_of, shelf_of};
+ghost use Rattle.gm_bench.specs.Benches.{progress_of, registry_of, shelf_of};
 ghost use Rattle.gm_bench.specs.Calls.{Keep};
-ghost use Rattle.gm_bench.specs.declared.phase.Progress.TheVariants.{Failed};
 ghost use Rattle.gm_bench.specs.Phases.{TakesCommands};
 ghost use Rattle.gm_bench.specs.Recovering.{IsAt};
 ghost use Rattle.gm_front.specs.Findings.{demand_in, fault_of, progress_behind};
 ghost use Rattle.gm_front.specs.GuardedServices.{FindsUnlessWithheld, HadNothing, ServesGuarded, ServesOrWithholds};
+ghost use Rattle.gm_front.specs.Guards.{KeepsClosed};
 ghost use Rattle.gm_front.specs.Services.{TurnsAway, code_told};
 
 use crate::answer_lines::FrontFault;
@@ -44,8 +44,7 @@ fn find_guarded<S: Alter, H: Shelf>(
         → HadNothing S.Store H.Shelf bench.old bench.new (demand_in demand.now) result }
     ensures progress { progress_of bench.new
         ≡ progress_behind (progress_of bench.old) (fault_of result) }
-    ensures closed { progress_of bench.old ≡ Failed → bench.new ≡ bench.old }
-    ensures redone { redone_of bench.new ≡ redone_of bench.old }
+    ensures closes { KeepsClosed bench.old bench.new (fault_of result) }
     ensures keep { Keep S.Store H.Shelf (registry_of bench.old) (registry_of bench.new)
         (shelf_of bench.old) (shelf_of bench.new) }
 {
@@ -72,12 +71,12 @@ fn respond_guarded<W: Write, S: Alter, H: Shelf>(
         → (away : Image) (u : World)
         → IsAt S.Store H.view H.size (registry_of bench.old) (shelf_of bench.old) away [] [] u u
         → ServesOrWithholds S.Store H.Shelf bench.old bench.new away u input
-        (W.contents writer.old) (W.contents writer.new) (code_told result.response) }
+        (W.contents writer.old) (W.contents writer.new) (code_told result.response)
+        result.fault }
     ensures progress { progress_of bench.new
         ≡ progress_behind (progress_of bench.old) result.fault }
     ensures phase { TakesCommands (progress_of bench.new) }
-    ensures closed { progress_of bench.old ≡ Failed → bench.new ≡ bench.old }
-    ensures redone { redone_of bench.new ≡ redone_of bench.old }
+    ensures closes { KeepsClosed bench.old bench.new result.fault }
     ensures keep { Keep S.Store H.Shelf (registry_of bench.old) (registry_of bench.new)
         (shelf_of bench.old) (shelf_of bench.new) }
 {
@@ -111,12 +110,11 @@ pub fn serve_request_guarded<R: Read, W: Write, S: Alter, H: Shelf>(
         → IsAt S.Store H.view H.size (registry_of bench.old) (shelf_of bench.old) away [] [] u u
         → ServesGuarded S.Store H.Shelf bench.old bench.new any_origin away u
         (R.remaining reader.old) (W.contents writer.old) (W.contents writer.new)
-        (code_told result.response) }
+        (code_told result.response) result.fault }
     ensures progress { progress_of bench.new
         ≡ progress_behind (progress_of bench.old) result.fault }
     ensures phase { TakesCommands (progress_of bench.new) }
-    ensures closed { progress_of bench.old ≡ Failed → bench.new ≡ bench.old }
-    ensures redone { redone_of bench.new ≡ redone_of bench.old }
+    ensures closes { KeepsClosed bench.old bench.new result.fault }
     ensures keep { Keep S.Store H.Shelf (registry_of bench.old) (registry_of bench.new)
         (shelf_of bench.old) (shelf_of bench.new) }
 {

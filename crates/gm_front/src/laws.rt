@@ -4,6 +4,7 @@ ghost use Rattle.std.specs.Prelude.{ℕ, List, Option, Result};
 ghost use Rattle.sqlite.specs.Held.{Held};
 ghost use Rattle.gm_metadata.specs.Images.{Image, Sizes};
 ghost use Rattle.gm_bench.specs.Schedule.{AtRest, Entry};
+ghost use Rattle.gm_bench.specs.declared.fault.BenchFault.{BenchFault};
 ghost use Rattle.gm_front.specs.declared.answer_lines.BatchEnd.{BatchEnd};
 ghost use Rattle.gm_front.specs.declared.answer_lines.FrontFault.{FrontFault};
 ghost use Rattle.gm_front.specs.Batch.{Batches};
@@ -33,8 +34,9 @@ pub fn whole_batch_law<S: Alter, H: Shelf>()
 pub fn served_request_law<S: Alter, H: Shelf>()
     ensures { (all : Sizes) (r s : Held S) (h k : H) (away : Image) (acc ack : List Entry)
         (input before now : Option (List ℕ)) (end : Result ℕ FrontFault)
+        (fault : Option BenchFault)
         → (rest : AtRest S.Store H.view H.size all r h away acc ack)
-        → Serves S.Store H.view H.size input before now r s h k away rest.world end
+        → Serves S.Store H.view H.size input before now r s h k away rest.world end fault
         → ServedLeaves S.Store H.view H.size all input r s h k away acc ack rest end }
 {}
 
@@ -43,7 +45,9 @@ pub fn served_request_law<S: Alter, H: Shelf>()
 pub fn unless_page_law<S: Alter, H: Shelf>()
     ensures { (all : Sizes) (r s : Held S) (h k : H) (away : Image) (acc ack : List Entry)
         (input before now : Option (List ℕ)) (end : Result ℕ FrontFault)
+        (fault : Option BenchFault)
         → (rest : AtRest S.Store H.view H.size all r h away acc ack)
         → ServesUnlessPage S.Store H.view H.size input before now r s h k away rest.world end
+        fault
         → ServedUnlessPage S.Store H.view H.size all input r s h k away acc ack rest end }
 {}

@@ -8,15 +8,15 @@ ghost use Rattle.gm_registry.specs.Registry.{DiskKept};
 ghost use Rattle.gm_http.specs.Requests.{Asks, asked_of};
 ghost use Rattle.gm_http.specs.Responses.{code_of};
 ghost use Rattle.gm_http.specs.Senders.{IsFromPage};
-ghost use Rattle.gm_bench.specs.Benches.{progress_of, redone_of, registry_of, shelf_of};
+ghost use Rattle.gm_bench.specs.Benches.{progress_of, registry_of, shelf_of};
 ghost use Rattle.gm_bench.specs.Calls.{Keep};
-ghost use Rattle.gm_bench.specs.declared.phase.Progress.TheVariants.{Failed};
 ghost use Rattle.gm_bench.specs.Phases.{TakesCommands};
 ghost use Rattle.gm_bench.specs.Recovering.{IsAt};
 ghost use Rattle.gm_front.specs.Batch.{AppendsFront};
 ghost use Rattle.gm_front.specs.Demands.{fault_told};
-ghost use Rattle.gm_front.specs.Findings.{progress_behind, told_of};
-ghost use Rattle.gm_front.specs.Services.{Serves, ServesUnlessPage, TurnsAway, bytes_of, code_told};
+ghost use Rattle.gm_front.specs.Findings.{TellsStoreAt, progress_behind, told_of};
+ghost use Rattle.gm_front.specs.Guards.{KeepsClosed};
+ghost use Rattle.gm_front.specs.Services.{Serves, ServesOne, ServesUnlessPage, TurnsAway, bytes_of, code_told};
 
 use crate::answer_lines::{FrontFault, write_whole};
 use crate::demand::demand_of;
@@ -99,12 +99,13 @@ fn respond<W: Write, S: Alter, H: Shelf>(
         → IsAt S.Store H.view H.size (registry_of bench.old) (shelf_of bench.old) away [] [] u u
         → Serves S.Store H.view H.size input (W.contents writer.old) (W.contents writer.new)
         (registry_of bench.old) (registry_of bench.new)
-        (shelf_of bench.old) (shelf_of bench.new) away u (code_told result.response) }
+        (shelf_of bench.old) (shelf_of bench.new) away u (code_told result.response)
+        result.fault }
     ensures progress { progress_of bench.new
         ≡ progress_behind (progress_of bench.old) result.fault }
     ensures phase { TakesCommands (progress_of bench.new) }
-    ensures closed { progress_of bench.old ≡ Failed → bench.new ≡ bench.old }
-    ensures redone { redone_of bench.new ≡ redone_of bench.old }
+    ensures closes { KeepsClosed bench.old bench.new result.fault }
+    ensures store { TellsStoreAt S.Store H.Shelf bench.old bench.new result.fault }
     ensures keep { Keep S.Store H.Shelf (registry_of bench.old) (registry_of bench.new)
         (shelf_of bench.old) (shelf_of bench.new) }
 {
@@ -134,12 +135,13 @@ pub fn serve_request<R: Read, W: Write, S: Alter, H: Shelf>(
         → Serves S.Store H.view H.size (R.remaining reader.old)
         (W.contents writer.old) (W.contents writer.new)
         (registry_of bench.old) (registry_of bench.new)
-        (shelf_of bench.old) (shelf_of bench.new) away u (code_told result.response) }
+        (shelf_of bench.old) (shelf_of bench.new) away u (code_told result.response)
+        result.fault }
     ensures progress { progress_of bench.new
         ≡ progress_behind (progress_of bench.old) result.fault }
     ensures phase { TakesCommands (progress_of bench.new) }
-    ensures closed { progress_of bench.old ≡ Failed → bench.new ≡ bench.old }
-    ensures redone { redone_of bench.new ≡ redone_of bench.old }
+    ensures closes { KeepsClosed bench.old bench.new result.fault }
+    ensures store { TellsStoreAt S.Store H.Shelf bench.old bench.new result.fault }
     ensures keep { Keep S.Store H.Shelf (registry_of bench.old) (registry_of bench.new)
         (shelf_of bench.old) (shelf_of bench.new) }
 {
@@ -181,12 +183,13 @@ pub fn serve_request_unless_page<R: Read, W: Write, S: Alter, H: Shelf>(
         → ServesUnlessPage S.Store H.view H.size (R.remaining reader.old)
         (W.contents writer.old) (W.contents writer.new)
         (registry_of bench.old) (registry_of bench.new)
-        (shelf_of bench.old) (shelf_of bench.new) away u (code_told result.response) }
+        (shelf_of bench.old) (shelf_of bench.new) away u (code_told result.response)
+        result.fault }
     ensures progress { progress_of bench.new
         ≡ progress_behind (progress_of bench.old) result.fault }
     ensures phase { TakesCommands (progress_of bench.new) }
-    ensures closed { progress_of bench.old ≡ Failed → bench.new ≡ bench.old }
-    ensures redone { redone_of bench.new ≡ redone_of bench.old }
+    ensures closes { KeepsClosed bench.old bench.new result.fault }
+    ensures store { TellsStoreAt S.Store H.Shelf bench.old bench.new result.fault }
     ensures keep { Keep S.Store H.Shelf (registry_of bench.old) (registry_of bench.new)
         (shelf_of bench.old) (shelf_of bench.new) }
 {
@@ -211,16 +214,9 @@ pub fn serve_one<R: Read, W: Write, S: Alter, H: Shelf>(
     bench: &mut Bench<S, H>,
 ) -> Result<u16, FrontFault>
     requires { TakesCommands (progress_of bench.old) }
-    ensures serves { H.honest (shelf_of bench.old) → DiskKept S.Store (registry_of bench.new)
-        → (away : Image) (u : World)
-        → IsAt S.Store H.view H.size (registry_of bench.old) (shelf_of bench.old) away [] [] u u
-        → Serves S.Store H.view H.size (R.remaining reader.old)
-        (W.contents writer.old) (W.contents writer.new)
-        (registry_of bench.old) (registry_of bench.new)
-        (shelf_of bench.old) (shelf_of bench.new) away u result }
+    ensures serves { ServesOne S.Store H.Shelf (R.remaining reader.old)
+        (W.contents writer.old) (W.contents writer.new) bench.old bench.new result }
     ensures phase { TakesCommands (progress_of bench.new) }
-    ensures closed { progress_of bench.old ≡ Failed → bench.new ≡ bench.old }
-    ensures redone { redone_of bench.new ≡ redone_of bench.old }
     ensures keep { Keep S.Store H.Shelf (registry_of bench.old) (registry_of bench.new)
         (shelf_of bench.old) (shelf_of bench.new) }
 {

@@ -4,7 +4,8 @@ use Rattle.gm_bench.proofs.FactsLookedUp.{honest_to_adopt}
 use Rattle.gm_http.specs.declared.status.Status.TheVariants as status
 use Rattle.gm_json.specs.Mirrors.{mirror_json, status_json}
 use Rattle.gm_front.specs.Demands.{mirror_told, told_as}
-use Rattle.gm_front.proofs.Found.{look_fails, records_shown, stays_at_rest, tables_shown}
+use Rattle.gm_registry.proofs.ReadsInTurn.{sees_registry}
+use Rattle.gm_front.proofs.Found.{look_fails, pending_none, records_shown, stays_at_rest, store_of, tables_shown}
 use Rattle.gm_front.proofs.finding.find.Goals as goal
 
 pub returns-in-Ok-clause-comes : goal.returns-in-Ok-clause-comes
@@ -90,3 +91,25 @@ returns-in-Err-run-clause-comes g c = λ honest kept away u at.
           (records_shown g.S.Store g.H.Shelf.view g.H.Shelf.size _ shelf away u found lawful)
           all.count written (honest_to_adopt g.H.Shelf shelf honest c.in-Carry.command);
     })
+
+pub returns-in-Err-clause-store : goal.returns-in-Err-clause-store
+returns-in-Err-clause-store g c = λ honest kept away u at is room.
+    c.in-Err.ensures.records.store kept (store_of _ is) (sees_registry _ at.tables at.has)
+
+pub returns-in-Err-view-clause-store : goal.returns-in-Err-view-clause-store
+returns-in-Err-view-clause-store g c = λ honest kept away u at is room.
+    c.in-Err-view.ensures.records.store kept (store_of _ is) (sees_registry _ at.tables at.has)
+
+pub returns-in-Err-last_sector-clause-store : goal.returns-in-Err-last_sector-clause-store
+returns-in-Err-last_sector-clause-store g c = λ honest kept away u at is room.
+    absurd (c.in-Err-last_sector.ensures.not_store (store_of _ is))
+
+pub returns-in-Err-run-clause-store : goal.returns-in-Err-run-clause-store
+returns-in-Err-run-clause-store g c = λ honest kept away u at is room.
+    let shelf = c.args.bench.now.media.shelf in
+    let lawful = g.met.H.Shelf.lawful shelf honest in
+    c.in-Err-run.ensures.store kept (store_of _ is) at.tables u.state at.has
+    (records_shown g.S.Store g.H.Shelf.view g.H.Shelf.size _ shelf away u at lawful)
+    (pending_none at.tables u.state (tables_shown g.S.Store g.H.Shelf.view g.H.Shelf.size _ shelf
+    away u at lawful))
+    room (honest_to_adopt g.H.Shelf shelf honest c.in-Carry.command)

@@ -25,8 +25,7 @@ returns-in_default g c = record {
       (demand_in c.args.demand.now) c.find.result c.find.ensures.put
       (λ key command is t r has are. absurd (search rules));
   progress = c.find.ensures.progress;
-  closed = c.find.ensures.closed;
-  redone = c.find.ensures.redone;
+  closes = c.find.ensures.closes;
   keep = c.find.ensures.keep;
 }
 

@@ -4,6 +4,7 @@ use Rattle.gm_bench.specs.Leading.{whole}
 use Rattle.gm_bench.proofs.FactsLookedUp.{honest_to_adopt}
 use Rattle.gm_bench.proofs.ReadTables.{tables_of}
 use Rattle.gm_front.specs.Outcomes.{asked_of}
+use Rattle.gm_front.proofs.Found.{pending_none}
 use Rattle.gm_front.proofs.outcome.ask.Goals as goal
 
 pub returns-in-Err-clause-comes : goal.returns-in-Err-clause-comes
@@ -22,6 +23,9 @@ returns-in-Err-clause-comes g c = λ honest kept away u at. (
       record {
         left = c.in-Err.ensures.leaves honest kept away u at;
         disk = λ is. c.in-Err.ensures.runs.disk kept at.tables u.state at.has records (ap Err is);
+        store = λ is room. c.in-Err.ensures.store kept (ap Err is) at.tables u.state at.has records
+            (pending_none at.tables u.state tables) room
+            (honest_to_adopt g.H.Shelf shelf honest c.in-Call.command);
         readable = λ is found written.
             (let all : AreTablesOf found.tables u.state [] [] =
             tables_of found.tables [] [] (whole (g.H.Shelf.size shelf) away seen) u

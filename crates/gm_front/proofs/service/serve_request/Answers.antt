@@ -8,8 +8,9 @@ returns-in-Ok-clause-serves g c = λ honest kept away u at.
 
 pub returns-in-Err-Memory-clause-serves : goal.returns-in-Err-Memory-clause-serves
 returns-in-Err-Memory-clause-serves g c = λ honest kept away u at.
-    rw c.unserved.ensures.response (inl (refl, refl, Keeps-refl _))
+    rw c.unserved.ensures.response (inl (refl, refl, Keeps-refl _, c.unserved.ensures.none))
 
 pub returns-in-Err-Read-clause-serves : goal.returns-in-Err-Read-clause-serves
 returns-in-Err-Read-clause-serves g c = λ honest kept away u at.
-    rw c.unserved-in-Err-Read.ensures.response (refl, refl, Keeps-refl _)
+    rw c.unserved-in-Err-Read.ensures.response
+    (refl, refl, Keeps-refl _, c.unserved-in-Err-Read.ensures.none)

@@ -9,7 +9,8 @@ returns-in-Err-Memory-clause-page g c =
 
 pub returns-in-Err-Memory-clause-serves : goal.returns-in-Err-Memory-clause-serves
 returns-in-Err-Memory-clause-serves g c = λ honest kept away u at.
-    inl (rw c.unserved.ensures.response (inl (refl, refl, Keeps-refl _)))
+    inl (rw c.unserved.ensures.response
+    (inl (refl, refl, Keeps-refl _, c.unserved.ensures.none)))
 
 pub returns-in-Err-Read-clause-page : goal.returns-in-Err-Read-clause-page
 returns-in-Err-Read-clause-page g c =
@@ -17,14 +18,21 @@ returns-in-Err-Read-clause-page g c =
 
 pub returns-in-Err-Read-clause-serves : goal.returns-in-Err-Read-clause-serves
 returns-in-Err-Read-clause-serves g c = λ honest kept away u at.
-    inl (rw c.unserved-in-Err-Read.ensures.response (refl, refl, Keeps-refl _))
+    inl (rw c.unserved-in-Err-Read.ensures.response
+    (refl, refl, Keeps-refl _, c.unserved-in-Err-Read.ensures.none))
 
 pub returns-in-Page-clause-page : goal.returns-in-Page-clause-page
 returns-in-Page-clause-page g c = sent_anyhow _ _ (refl, c.turn_away.ensures.response)
 
 pub returns-in-Page-clause-serves : goal.returns-in-Page-clause-serves
 returns-in-Page-clause-serves g c = λ honest kept away u at.
-    inr (rw c.in-Page.is at c.in-Ok.ensures.sends, refl, refl, c.turn_away.ensures.response)
+    inr (
+      rw c.in-Page.is at c.in-Ok.ensures.sends,
+      refl,
+      refl,
+      c.turn_away.ensures.none,
+      c.turn_away.ensures.response,
+    )
 
 pub returns-in-Program-clause-page : goal.returns-in-Program-clause-page
 returns-in-Program-clause-page g c =
