@@ -32,5 +32,24 @@ if has_python 'requests that web pages send'; then
     expect 'what is logged of pages' 0 '' 'TIME POST /commands 403 27
 TIME GET /status 403 27
 TIME POST /commands 200 23'
+
+    # The same by a real browser, where there is one.
+    browser=$(command -v chromium || command -v chromium-browser || command -v google-chrome)
+    if [ -n "$browser" ]; then
+        fresh_bench in_a_browser
+        begin_server --log
+        run_script serving/browser.py "$port" "$browser" "$work"
+        kill "$under_way"
+        wait "$under_way" 2>/dev/null
+        sent=$(grep -c ' POST /commands \| GET /status \| GET /mirrors/gm0 ' "$bench/log")
+        turned_away=$(grep -c ' \(POST /commands\|GET /status\|GET /mirrors/gm0\) 403 27$' "$bench/log")
+        [ "$sent" -ge 5 ] && [ "$sent" = "$turned_away" ] && pass 'a server turns away what a browser sends for a page' ||
+            fail 'a server turns away what a browser sends for a page' "$(cat "$bench/log")"
+        at_bench status
+        expect 'a page in a browser makes nothing' 0 'no mirrors' ''
+        expect_images 'and writes to no image' bare bare
+    else
+        skip 'a page in a browser' 'there is no chromium here'
+    fi
 fi
 finish
