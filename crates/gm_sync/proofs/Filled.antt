@@ -1,5 +1,5 @@
 -- Calls that fill, one after the other.
-use Rattle.std.proofs.Common.{◌∙◌, ◌⊎◌, inl, inr, ℕ, refl, subst, arith, List, [], ◌∷◌, ◌++◌, Result, Ok}
+use Rattle.std.proofs.Common.{◌≡◌, ◌∙◌, ◌⊎◌, inl, inr, ℕ, refl, subst, arith, List, [], ◌∷◌, ◌++◌, Result, Ok}
 use Rattle.sqlite_trees.specs.declared.store.Store.{Ghosts as StoreGhosts}
 use Rattle.gm_metadata.specs.Images.{Image}
 use Rattle.gm_lists.specs.Ordered.{Has}
@@ -13,7 +13,7 @@ use Rattle.gm_rules.specs.AbstractCalls.{Call, Run}
 use Rattle.gm_rules.specs.AbstractCalls as run
 use Rattle.gm_rows.specs.ReadableTables.{AreRecordsOf}
 use Rattle.gm_registry.specs.Registry.{DiskKept}
-use Rattle.gm_bench.specs.Benches.{registry_of, shelf_of}
+use Rattle.gm_bench.specs.Benches.{progress_of, registry_of, shelf_of}
 use Rattle.gm_bench.specs.Calls.{Keep, LooksOn}
 use Rattle.gm_bench.specs.Owed.{LookDoes, RunAnswers}
 use Rattle.gm_bench.specs.Recovering.{IsAt}
@@ -97,6 +97,7 @@ module _ {S H : Type 0} (g : StoreGhosts S) (h : ShelfGhosts H) where
 module _ {S H : Type 0} (g : StoreGhosts S) (h : ShelfGhosts H) (Fit : Command → Type 0) where
   pub fills_none : (a : Bench S H) → Fills g h Fit a a
   fills_none a = record {
+    stays = refl;
     keep = keep_none g h a;
     does = λ honest kept away u at. record {
       calls = [];
@@ -117,6 +118,7 @@ module _ {S H : Type 0} (g : StoreGhosts S) (h : ShelfGhosts H) (Fit : Command �
 
   pub fills_then : (a b c : Bench S H) → Fills g h Fit a b → Fills g h Fit b c → Fills g h Fit a c
   fills_then a b c first then = record {
+    stays = then.stays ∙ first.stays;
     keep = keep_then g h a b c first.keep then.keep;
     does = λ honest kept away u at.
         let clean : DiskKept g (registry_of b) = omega (arith, then.keep.clean, kept) in
@@ -135,12 +137,13 @@ module _ {S H : Type 0} (g : StoreGhosts S) (h : ShelfGhosts H) (Fit : Command �
   }
 
   -- a look runs nothing
-  pub fills_look : (a b : Bench S H)
+  pub fills_look : (a b : Bench S H) → progress_of b ≡ progress_of a
       → Keep g h (registry_of a) (registry_of b) (shelf_of a) (shelf_of b)
       → (h.honest (shelf_of a) → DiskKept g (registry_of b)
       → LookDoes g h.view h.size (registry_of a) (registry_of b) (shelf_of a) (shelf_of b))
       → Fills g h Fit a b
-  fills_look a b keep does = record {
+  fills_look a b stays keep does = record {
+    stays = stays;
     keep = keep;
     does = λ honest kept away u at. record {
       calls = [];
@@ -157,7 +160,7 @@ module _ {S H : Type 0} (g : StoreGhosts S) (h : ShelfGhosts H) (Fit : Command �
   pub fills_looked : (a b c : Bench S H) {T : Type 0} (x : T) → Fills g h Fit a b
       → LooksOn g h b c (Ok x) → Fills g h Fit a c
   fills_looked a b c x fills looks = fills_then a b c fills
-      (fills_look b c (look_keeps g h b c looks) looks.does)
+      (fills_look b c looks.stays (look_keeps g h b c looks) looks.does)
 
   -- behind a look the bench has come from rest as it had before it
   abbrev pub filled_look : (b c : Bench S H) (away : Image) (u : World)
@@ -180,13 +183,14 @@ module _ {S H : Type 0} (g : StoreGhosts S) (h : ShelfGhosts H) (Fit : Command �
 
   -- a command that fits and is run
   pub fills_run : (a b : Bench S H) (key : List ℕ) (command : Command) (answer : Answer)
-      → Fit command
+      → Fit command → progress_of b ≡ progress_of a
       → Keep g h (registry_of a) (registry_of b) (shelf_of a) (shelf_of b)
       → (h.honest (shelf_of a) → DiskKept g (registry_of b)
       → RunAnswers g h.view h.size (registry_of a) (registry_of b) (shelf_of a) (shelf_of b) key
       command answer)
       → Fills g h Fit a b
-  fills_run a b key command answer is keep answers = record {
+  fills_run a b key command answer is stays keep answers = record {
+    stays = stays;
     keep = keep;
     does = λ honest kept away u at.
         let ran = answers honest kept away u at in
@@ -204,6 +208,7 @@ module _ {S H : Type 0} (g : StoreGhosts S) (h : ShelfGhosts H) (Fit : Command �
   pub fills_too : (More : Command → Type 0) → ((c : Command) → Fit c → More c) → (a b : Bench S H)
       → Fills g h Fit a b → Fills g h More a b
   fills_too More then a b fills = record {
+    stays = fills.stays;
     keep = fills.keep;
     does = λ honest kept away u at.
         let filled = fills.does honest kept away u at in

@@ -1,5 +1,6 @@
 pub mod Amiss
 pub mod Ended
+pub mod Faults
 pub mod Filled
 pub mod Next
 pub mod Passing

@@ -1,5 +1,5 @@
 -- What filling leaves of a bench, and what it is told to have come to.
-use Rattle.std.specs.Prelude.{◌≡◌, ◌⊎◌, ℕ, true, false, List, [], None}
+use Rattle.std.specs.Prelude.{◌≡◌, ◌<◌, ◌⊎◌, ℕ, Bool, true, false, List, [], None, Result, IfOk}
 use Rattle.sqlite_trees.specs.declared.store.Store.{Ghosts as StoreGhosts}
 use Rattle.sqlite.specs.Held.{Held}
 use Rattle.gm_metadata.specs.Images.{Image, Sizes}
@@ -18,15 +18,19 @@ use Rattle.gm_rules.specs.AbstractCalls as run
 use Rattle.gm_rows.specs.ReadableTables.{AreRecordsOf}
 use Rattle.gm_registry.specs.Registry.{DiskKept, HasTables, Reads}
 use Rattle.gm_looks.specs.Audits.{IsAsRegistered}
-use Rattle.gm_bench.specs.Benches.{registry_of, shelf_of}
+use Rattle.gm_bench.specs.Benches.{progress_of, registry_of, shelf_of}
 use Rattle.gm_bench.specs.Calls.{Keep}
 use Rattle.gm_bench.specs.Owed.{LookDoes}
 use Rattle.gm_bench.specs.Recovering.{IsAt}
 use Rattle.gm_bench.specs.declared.bench.Bench.{Bench}
+use Rattle.gm_bench.specs.declared.fault.BenchFault.{BenchFault}
+use Rattle.gm_bench.specs.declared.fault.BenchFault.TheVariants.{Absent, Closed, Disk}
+use Rattle.gm_bench.specs.declared.phase.Progress.TheVariants.{Failed}
 use Rattle.gm_sync.specs.declared.due.Due.{Due}
 use Rattle.gm_sync.specs.declared.passed_over.PassedOver.{PassedOver}
 use Rattle.gm_sync.specs.declared.scope.Scope.{Scope}
-use Rattle.gm_sync.specs.Scopes.{but, is_beside, is_due, is_passed_over, next_of}
+use Rattle.gm_sync.specs.declared.synced.Synced.{Synced}
+use Rattle.gm_sync.specs.Scopes.{PassesNone, but, is_beside, is_due, is_passed_over, next_of}
 
 -- the command fills this component
 abbrev pub IsAdvanceOf : Component → Command → Type 0
@@ -50,10 +54,21 @@ module _ {S H : Type 0} (g : StoreGhosts S) (h : ShelfGhosts H) (Fit : Command �
   -- A call that fills: both media are kept, and of an honest shelf and a disk that keeps what is
   -- written it does nothing but run commands that fit, from rest to rest.
   pub record Fills (old new : Bench S H) : Type 0 where
+    pub stays : progress_of new ≡ progress_of old
     pub keep : Keep g h (registry_of old) (registry_of new) (shelf_of old) (shelf_of new)
     pub does : h.honest (shelf_of old) → DiskKept g (registry_of new) → (away : Image) (u : World)
         → IsAt g h.view h.size (registry_of old) (shelf_of old) away [] [] u u
         → IsFilledFrom new away u
+
+-- A fault of several calls is told as the bench's own calls tell it: `Closed` only of a bench that
+-- was so, no image is told to be absent, and at rest `Disk` comes only where a failure was counted.
+pub record FailsAsCalls {S H : Type 0} (g : StoreGhosts S) (h : ShelfGhosts H) (old new : Bench S H)
+    (fault : BenchFault) : Type 0 where
+  pub reopen : fault ≡ Closed → progress_of old ≡ Failed
+  pub absent : (p : List ℕ) → fault ≡ Absent p → ⊥
+  pub disk : h.honest (shelf_of old) → DiskKept g (registry_of new) → (away : Image) (u : World)
+      → IsAt g h.view h.size (registry_of old) (shelf_of old) away [] [] u u
+      → fault ≡ Disk → (h.view (shelf_of old)).faults < (h.view (shelf_of new)).faults
 
 -- The records are those that the registry held when it was looked at last; where the bench was at
 -- rest before, it held some.
@@ -130,3 +145,12 @@ abbrev pub IsPassedOverAt : {S H : Type 0} → StoreGhosts S → ShelfGhosts H �
 IsPassedOverAt g h bench scope passed = (t : Tables) (s : Records)
     → HasTables g (registry_of bench) t → AreRecordsOf t s
     → IsPassedOver scope s (h.size (shelf_of bench)) (h.view (shelf_of bench)).seen passed
+
+-- with an audit a sync passes over just the mirrors of which an image is amiss, without one over
+-- none
+abbrev pub PassesByAudit : {S H : Type 0} → StoreGhosts S → ShelfGhosts H → Bench S H → Bench S H
+    → Scope → Bool → Result Synced BenchFault → Type 0
+PassesByAudit g h old new scope true result = h.honest (shelf_of old) → DiskKept g (registry_of new)
+    → IfOk result (λ synced. IsPassedOverAt g h old scope synced.passed_over)
+PassesByAudit g h old new scope false result =
+    IfOk result (λ synced. PassesNone synced.passed_over)

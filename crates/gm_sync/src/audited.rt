@@ -1,13 +1,12 @@
 //! An audit of the mirrors that are meant, and then the filling of what is SYNCHRONIZING.
 
-ghost use Rattle.std.specs.Prelude.{◌≡◌, true, false, IfOk};
-ghost use Rattle.gm_registry.specs.Registry.{DiskKept};
+ghost use Rattle.std.specs.Prelude.{IfErr, IfOk};
 ghost use Rattle.gm_bench.specs.Benches.{progress_of, registry_of, shelf_of};
 ghost use Rattle.gm_bench.specs.Calls.{Keep};
 ghost use Rattle.gm_bench.specs.Phases.{TakesCommands};
-ghost use Rattle.gm_sync.specs.Filling.{Fills, IsAdvanceIn, IsPassedOverAt, IsStill, IsWhole};
+ghost use Rattle.gm_sync.specs.Filling.{FailsAsCalls, Fills, IsAdvanceIn, IsStill, IsWhole, PassesByAudit};
 ghost use Rattle.gm_sync.specs.Ends.{IfWhole};
-ghost use Rattle.gm_sync.specs.Scopes.{PassesNone, but};
+ghost use Rattle.gm_sync.specs.Scopes.{but};
 
 use crate::audit::amiss;
 use crate::due::Due;
@@ -42,10 +41,8 @@ pub fn sync<S: Alter, H: Shelf, P: Progress>(
     ensures whole { IfOk result (λ synced. IfWhole (IsWhole S.Store H.Shelf bench.old bench.new
         (but scope.now synced.passed_over)) synced.ending) }
     // What it passes over are just the mirrors of which an image isn't as it is registered.
-    ensures audited { audits ≡ true → H.honest (shelf_of bench.old)
-        → DiskKept S.Store (registry_of bench.new) → IfOk result (λ synced.
-        IsPassedOverAt S.Store H.Shelf bench.old scope.now synced.passed_over) }
-    ensures unasked { audits ≡ false → IfOk result (λ synced. PassesNone synced.passed_over) }
+    ensures audited { PassesByAudit S.Store H.Shelf bench.old bench.new scope.now audits result }
+    ensures faults { IfErr result (FailsAsCalls S.Store H.Shelf bench.old bench.new) }
 {
     let passed_over = amiss(alloc, bench, scope, audits)?;
     let due = Due {

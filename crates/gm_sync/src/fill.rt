@@ -1,10 +1,10 @@
 //! Fills what is SYNCHRONIZING.
 
-ghost use Rattle.std.specs.Prelude.{IfOk, OnOk};
+ghost use Rattle.std.specs.Prelude.{IfErr, IfOk, OnOk};
 ghost use Rattle.gm_bench.specs.Benches.{progress_of, registry_of, shelf_of};
 ghost use Rattle.gm_bench.specs.Calls.{Keep};
 ghost use Rattle.gm_bench.specs.Phases.{TakesCommands};
-ghost use Rattle.gm_sync.specs.Filling.{Fills, IsAdvanceIn, IsAdvanceOf, IsStill, IsWhole};
+ghost use Rattle.gm_sync.specs.Filling.{FailsAsCalls, Fills, IsAdvanceIn, IsAdvanceOf, IsStill, IsWhole};
 ghost use Rattle.gm_sync.specs.Ends.{IfWhole};
 
 use crate::due::Due;
@@ -40,6 +40,7 @@ fn advance<S: Alter, H: Shelf>(
         (shelf_of bench.old) (shelf_of bench.new) }
     ensures fills { OnOk result
         (Fills S.Store H.Shelf (IsAdvanceOf component.now) bench.old bench.new) }
+    ensures faults { IfErr result (FailsAsCalls S.Store H.Shelf bench.old bench.new) }
 {
     let command = Command::Advance {
         name: component.mirror,
@@ -69,6 +70,7 @@ fn fill_one<S: Alter, H: Shelf, P: Progress>(
         (shelf_of bench.old) (shelf_of bench.new) }
     ensures fills { OnOk result
         (Fills S.Store H.Shelf (IsAdvanceOf component.now) bench.old bench.new) }
+    ensures faults { IfErr result (FailsAsCalls S.Store H.Shelf bench.old bench.new) }
 {
     for _ in 0..u64::MAX {
         *number = number.saturating_add(1);
@@ -110,6 +112,7 @@ fn fill_each<S: Alter, H: Shelf, P: Progress>(
         (Fills S.Store H.Shelf (IsAdvanceIn due.now) bench.old bench.new) }
     ensures keep { Keep S.Store H.Shelf (registry_of bench.old) (registry_of bench.new)
         (shelf_of bench.old) (shelf_of bench.new) }
+    ensures faults { IfErr result (FailsAsCalls S.Store H.Shelf bench.old bench.new) }
 {
     let mut number = accepted;
     for component in state.components() {
@@ -141,6 +144,7 @@ pub(crate) fn fill<S: Alter, H: Shelf, P: Progress>(
     ensures whole { IfOk result
         (IfWhole (IsWhole S.Store H.Shelf bench.old bench.new due.now)) }
     ensures still { OnOk result (IsStill S.Store H.Shelf bench.old bench.new due.now) }
+    ensures faults { IfErr result (FailsAsCalls S.Store H.Shelf bench.old bench.new) }
 {
     for _ in 0..u64::MAX {
         let accepted = bench.accepted()?;

@@ -1,8 +1,9 @@
-use Rattle.std.proofs.Common.{rules, arith, ◌≡◌, length}
+use Rattle.std.proofs.Common.{rules, arith, ◌≡◌, refl, length}
 use Rattle.gm_bench.specs.Benches.{registry_of, shelf_of}
 use Rattle.gm_registry.specs.Registry.{DiskKept}
 use Rattle.gm_sync.proofs.Amiss.{no_names}
-use Rattle.gm_sync.proofs.Filled.{look_none, look_then}
+use Rattle.gm_sync.proofs.Faults.{fails_then, look_fails, memory_fails, told}
+use Rattle.gm_sync.proofs.Filled.{fills_looked, fills_none, look_keeps, look_none, look_then}
 use Rattle.gm_sync.proofs.Passing.{passed_none, passed_told}
 use Rattle.gm_sync.proofs.audit.amiss.Goals as goal
 
@@ -43,3 +44,25 @@ returns-in-Ok-clause-told g c = λ asked honest kept t s has are.
     c.deref.result.now c.in-Ok.passed (shown.shows kept t s (looked.tables t has) are) given
     c.in-Ok.ensures.images c.in-Ok.ensures.mirrors are.state
     (audited.audits honest mid t s has are)
+
+pub returns-in_err-names-clause-faults : goal.returns-in_err-names-clause-faults
+returns-in_err-names-clause-faults g c =
+    told g.S.Store g.H.Shelf c.args.bench.now c.audit.new.self _
+    c.in_err-names.field-0.0 (search rules)
+    (look_fails g.S.Store g.H.Shelf c.args.bench.now c.audit.new.self _ _ refl
+    c.in_err-names.ensures.looks c.in_err-names.ensures.closes)
+
+pub returns-in_err-state-clause-faults : goal.returns-in_err-state-clause-faults
+returns-in_err-state-clause-faults g c =
+    told g.S.Store g.H.Shelf c.args.bench.now c.view.new.self _
+    c.in_err-state.field-0.0 (search rules)
+    (fails_then g.S.Store g.H.Shelf (λ x. ⊥) c.args.bench.now c.audit.new.self c.view.new.self _
+    (fills_looked g.S.Store g.H.Shelf (λ x. ⊥) c.args.bench.now c.args.bench.now c.audit.new.self
+    c.in_ok-names.names (fills_none g.S.Store g.H.Shelf (λ x. ⊥) c.args.bench.now)
+    c.in_ok-names.ensures.looks)
+    (look_keeps g.S.Store g.H.Shelf c.audit.new.self c.view.new.self c.in_err-state.ensures.looks)
+    (look_fails g.S.Store g.H.Shelf c.audit.new.self c.view.new.self _ _ refl
+    c.in_err-state.ensures.looks c.in_err-state.ensures.closes))
+
+pub returns-clause-faults : goal.returns-clause-faults
+returns-clause-faults g c = memory_fails g.S.Store g.H.Shelf c.args.bench.now c.view.new.self

@@ -1,9 +1,10 @@
-use Rattle.std.proofs.Common.{arith}
+use Rattle.std.proofs.Common.{arith, rules}
 use Rattle.gm_bench.specs.Benches.{registry_of}
 use Rattle.gm_registry.specs.Registry.{DiskKept}
 use Rattle.gm_sync.specs.Filling.{IsAdvanceIn, IsWhole}
 use Rattle.gm_sync.specs.Scopes.{but}
 use Rattle.gm_sync.proofs.Ended.{whole_too}
+use Rattle.gm_sync.proofs.Faults.{by_audit, fails_then, told}
 use Rattle.gm_sync.proofs.Filled.{fills_look, fills_then, whole_behind}
 use Rattle.gm_sync.proofs.Still.{still_then}
 use Rattle.gm_sync.proofs.audited.sync.Goals as goal
@@ -14,7 +15,8 @@ returns-clause-fills g c =
     fills_then g.S.Store g.H.Shelf (IsAdvanceIn due) c.args.bench.now c.amiss.new.bench
     c.fill.new.bench
     (fills_look g.S.Store g.H.Shelf (IsAdvanceIn due) c.args.bench.now c.amiss.new.bench
-    c.in_ok-passed_over.ensures.keep c.in_ok-passed_over.ensures.looks)
+    c.in_ok-passed_over.ensures.stays c.in_ok-passed_over.ensures.keep
+    c.in_ok-passed_over.ensures.looks)
     c.in_ok-ending.ensures.fills
 
 pub returns-clause-still : goal.returns-clause-still
@@ -34,7 +36,21 @@ returns-clause-whole g c =
     c.in_ok-passed_over.ensures.looks whole) c.in_ok-ending.ending c.in_ok-ending.ensures.whole
 
 pub returns-clause-audited : goal.returns-clause-audited
-returns-clause-audited g c = λ asked honest kept.
+returns-clause-audited g c =
+    by_audit g.S.Store g.H.Shelf c.args.bench.now c.fill.new.bench c.args.scope.now _ c.args.audits
+    (λ asked honest kept.
     let mid : DiskKept g.S.Store (registry_of c.amiss.new.bench) =
     omega (arith, c.in_ok-ending.ensures.keep.clean, kept) in
-    c.in_ok-passed_over.ensures.told asked honest mid
+    c.in_ok-passed_over.ensures.told asked honest mid) c.in_ok-passed_over.ensures.unasked
+
+pub returns-in_err-ending-clause-faults : goal.returns-in_err-ending-clause-faults
+returns-in_err-ending-clause-faults g c =
+    let due = but c.args.scope.now c.in_ok-passed_over.passed_over in
+    told g.S.Store g.H.Shelf c.args.bench.now c.fill.new.bench _
+    c.in_err-ending.field-0.0 (search rules)
+    (fails_then g.S.Store g.H.Shelf (IsAdvanceIn due) c.args.bench.now c.amiss.new.bench
+    c.fill.new.bench _
+    (fills_look g.S.Store g.H.Shelf (IsAdvanceIn due) c.args.bench.now c.amiss.new.bench
+    c.in_ok-passed_over.ensures.stays c.in_ok-passed_over.ensures.keep
+    c.in_ok-passed_over.ensures.looks)
+    c.in_err-ending.ensures.keep c.in_err-ending.ensures.faults)

@@ -1,9 +1,10 @@
-use Rattle.std.proofs.Common.{◌≡◌, None, arith, rules}
+use Rattle.std.proofs.Common.{◌≡◌, None, refl, arith, rules}
 use Rattle.gm_bench.specs.Benches.{registry_of}
 use Rattle.gm_registry.specs.Registry.{DiskKept}
 use Rattle.gm_sync.specs.Filling.{IsAdvanceIn}
 use Rattle.gm_sync.specs.Scopes.{next_of}
-use Rattle.gm_sync.proofs.Filled.{fills_looked, fills_none, fills_then, filled_look, tables_at_rest}
+use Rattle.gm_sync.proofs.Faults.{fails_then, look_fails, told}
+use Rattle.gm_sync.proofs.Filled.{fills_looked, fills_none, fills_then, filled_look, look_keeps, tables_at_rest}
 use Rattle.gm_sync.proofs.Still.{still_looked, still_none, still_shown}
 use Rattle.gm_sync.proofs.fill.fill.Goals as goal
 
@@ -108,3 +109,42 @@ loop-preserved g c =
           c.in_ok-state.ensures.looks c.in_ok-state.ensures.shows some
           c.in_ok-unfilled.ensures.keep;
     }
+
+pub returns-in_err-accepted-clause-faults : goal.returns-in_err-accepted-clause-faults
+returns-in_err-accepted-clause-faults g c =
+    told g.S.Store g.H.Shelf c.args.bench.now c.accepted.new.self _
+    c.in_err-accepted.field-0.0 (search rules)
+    (fails_then g.S.Store g.H.Shelf (IsAdvanceIn c.args.due.now) c.args.bench.now c.loop.bench
+    c.accepted.new.self _ c.loop.invariant.fills
+    (look_keeps g.S.Store g.H.Shelf c.loop.bench c.accepted.new.self
+    c.in_err-accepted.ensures.looks)
+    (look_fails g.S.Store g.H.Shelf c.loop.bench c.accepted.new.self _ _ refl
+    c.in_err-accepted.ensures.looks c.in_err-accepted.ensures.closes))
+
+pub returns-in_err-state-clause-faults : goal.returns-in_err-state-clause-faults
+returns-in_err-state-clause-faults g c =
+    told g.S.Store g.H.Shelf c.args.bench.now c.view.new.self _
+    c.in_err-state.field-0.0 (search rules)
+    (fails_then g.S.Store g.H.Shelf (IsAdvanceIn c.args.due.now) c.args.bench.now
+    c.accepted.new.self c.view.new.self _
+    (fills_looked g.S.Store g.H.Shelf (IsAdvanceIn c.args.due.now) c.args.bench.now c.loop.bench
+    c.accepted.new.self c.in_ok-accepted.accepted c.loop.invariant.fills
+    c.in_ok-accepted.ensures.looks)
+    (look_keeps g.S.Store g.H.Shelf c.accepted.new.self c.view.new.self
+    c.in_err-state.ensures.looks)
+    (look_fails g.S.Store g.H.Shelf c.accepted.new.self c.view.new.self _ _ refl
+    c.in_err-state.ensures.looks c.in_err-state.ensures.closes))
+
+pub returns-in_err-unfilled-clause-faults : goal.returns-in_err-unfilled-clause-faults
+returns-in_err-unfilled-clause-faults g c =
+    told g.S.Store g.H.Shelf c.args.bench.now c.fill_each.new.bench _
+    c.in_err-unfilled.field-0.0 (search rules)
+    (fails_then g.S.Store g.H.Shelf (IsAdvanceIn c.args.due.now) c.args.bench.now c.view.new.self
+    c.fill_each.new.bench _
+    (fills_looked g.S.Store g.H.Shelf (IsAdvanceIn c.args.due.now) c.args.bench.now
+    c.accepted.new.self c.view.new.self c.in_ok-state.state
+    (fills_looked g.S.Store g.H.Shelf (IsAdvanceIn c.args.due.now) c.args.bench.now c.loop.bench
+    c.accepted.new.self c.in_ok-accepted.accepted c.loop.invariant.fills
+    c.in_ok-accepted.ensures.looks)
+    c.in_ok-state.ensures.looks)
+    c.in_err-unfilled.ensures.keep c.in_err-unfilled.ensures.faults)

@@ -1,6 +1,7 @@
-use Rattle.std.proofs.Common.{◌≡◌, ◌∙◌, true, sym}
+use Rattle.std.proofs.Common.{◌≡◌, ◌∙◌, true, sym, rules}
 use Rattle.gm_sync.specs.Filling.{IsAdvanceIn}
 use Rattle.gm_sync.specs.Scopes.{is_next}
+use Rattle.gm_sync.proofs.Faults.{fails_then, told}
 use Rattle.gm_sync.proofs.Filled.{fills_none, fills_then}
 use Rattle.gm_sync.proofs.Next.{fills_next}
 use Rattle.gm_sync.proofs.fill.fill_each.Goals as goal
@@ -32,3 +33,11 @@ loop-component-preserved g c =
           c.component-item.result next c.loop-component.bench c.fill_one.new.bench
           c.in_ok-why.ensures.fills);
     }
+
+pub returns-in_err-why-clause-faults : goal.returns-in_err-why-clause-faults
+returns-in_err-why-clause-faults g c =
+    told g.S.Store g.H.Shelf c.args.bench.now c.fill_one.new.bench _
+    c.in_err-why.field-0.0 (search rules)
+    (fails_then g.S.Store g.H.Shelf (IsAdvanceIn c.args.due.now) c.args.bench.now
+    c.loop-component.bench c.fill_one.new.bench _ c.loop-component.invariant.fills
+    c.in_err-why.ensures.keep c.in_err-why.ensures.faults)

@@ -1,4 +1,6 @@
+use Rattle.std.proofs.Common.{rules}
 use Rattle.gm_sync.specs.Filling.{IsAdvanceOf}
+use Rattle.gm_sync.proofs.Faults.{fails_then, told}
 use Rattle.gm_sync.proofs.Filled.{fills_none, fills_then}
 use Rattle.gm_sync.proofs.fill.fill_one.Goals as goal
 
@@ -17,7 +19,12 @@ pub returns-in-Refused : goal.returns-in-Refused
 returns-in-Refused g c =
     let filled = fills_then g.S.Store g.H.Shelf (IsAdvanceOf c.args.component.now) c.args.bench.now
     c.loop.bench c.advance.new.bench c.loop.invariant.fills c.in_ok-held.ensures.fills in
-    record { phase = c.in_ok-held.ensures.phase; keep = filled.keep; fills = filled }
+    record {
+      phase = c.in_ok-held.ensures.phase;
+      keep = filled.keep;
+      fills = filled;
+      faults = tt;
+    }
 
 pub loop-preserved : goal.loop-preserved
 loop-preserved g c = record {
@@ -25,3 +32,11 @@ loop-preserved g c = record {
   fills = fills_then g.S.Store g.H.Shelf (IsAdvanceOf c.args.component.now) c.args.bench.now
       c.loop.bench c.advance.new.bench c.loop.invariant.fills c.in_ok-held.ensures.fills;
 }
+
+pub returns-in_err-held-clause-faults : goal.returns-in_err-held-clause-faults
+returns-in_err-held-clause-faults g c =
+    told g.S.Store g.H.Shelf c.args.bench.now c.advance.new.bench _
+    c.in_err-held.field-0.0 (search rules)
+    (fails_then g.S.Store g.H.Shelf (IsAdvanceOf c.args.component.now) c.args.bench.now c.loop.bench
+    c.advance.new.bench _ c.loop.invariant.fills c.in_err-held.ensures.keep
+    c.in_err-held.ensures.faults)

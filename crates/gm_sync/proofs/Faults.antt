@@ -1,0 +1,60 @@
+-- The faults of calls in turn are those of the call that failed.
+use Rattle.std.proofs.Common.{◌≡◌, ◌∙◌, Bool, true, false, refl, sym, ap, arith, Result, Err}
+use Rattle.std.specs.Prelude.{IfErr}
+use Rattle.sqlite_trees.specs.declared.store.Store.{Ghosts as StoreGhosts}
+use Rattle.gm_shelf.specs.declared.shelf.Shelf.{Ghosts as ShelfGhosts}
+use Rattle.gm_commands.specs.declared.command.Command.{Command}
+use Rattle.gm_registry.specs.Registry.{DiskKept}
+use Rattle.gm_bench.specs.Benches.{registry_of, shelf_of}
+use Rattle.gm_bench.specs.Calls.{ClosesOnFault, Keep, LooksOn}
+use Rattle.gm_bench.specs.declared.bench.Bench.{Bench}
+use Rattle.gm_bench.specs.declared.fault.BenchFault.{BenchFault}
+use Rattle.gm_bench.specs.declared.fault.BenchFault.TheVariants.{Absent, Closed, Disk, Memory}
+use Rattle.gm_sync.specs.Filling.{FailsAsCalls, Fills, PassesByAudit}
+use Rattle.gm_sync.specs.declared.scope.Scope.{Scope}
+use Rattle.gm_sync.specs.declared.synced.Synced.{Synced}
+
+module _ {S H : Type 0} (g : StoreGhosts S) (h : ShelfGhosts H) where
+  -- a look that failed
+  pub look_fails : (a b : Bench S H) {T : Type 0} (r : Result T BenchFault) (fault : BenchFault)
+      → r ≡ Err fault → LooksOn g h a b r → ClosesOnFault a b r → FailsAsCalls g h a b fault
+  look_fails a b r fault is looks closes = record {
+    reopen = λ e. closes.reopen (is ∙ ap Err e);
+    absent = λ p e. closes.absent p (is ∙ ap Err e);
+    disk = λ honest kept away u at e. looks.disk (is ∙ ap Err e);
+  }
+
+  -- want of memory closes nothing
+  pub memory_fails : (a b : Bench S H) → FailsAsCalls g h a b Memory
+  memory_fails a b = record {
+    reopen = λ e. absurd (let no : Memory ≡ Closed = e in cc);
+    absent = λ p e. absurd (let no : Memory ≡ Absent p = e in cc);
+    disk = λ honest kept away u at e. absurd (let no : Memory ≡ Disk = e in cc);
+  }
+
+  -- a call that failed after others that filled
+  pub fails_then : (Fit : Command → Type 0) (a b c : Bench S H) (fault : BenchFault)
+      → Fills g h Fit a b → Keep g h (registry_of b) (registry_of c) (shelf_of b) (shelf_of c)
+      → FailsAsCalls g h b c fault → FailsAsCalls g h a c fault
+  fails_then Fit a b c fault first keep then = record {
+    reopen = λ e. sym first.stays ∙ then.reopen e;
+    absent = then.absent;
+    disk = λ honest kept away u at e.
+        let mid : DiskKept g (registry_of b) = omega (arith, keep.clean, kept) in
+        let filled = first.does honest mid away u at in
+        let more = then.disk (first.keep.shelf.honest honest) kept away filled.world filled.at e in
+        omega (arith, first.keep.shelf.count, more);
+  }
+
+  -- the fault of a result that failed
+  pub told : (a b : Bench S H) {U : Type 0} (r : Result U BenchFault) (fault : BenchFault)
+      → r ≡ Err fault → FailsAsCalls g h a b fault → IfErr r (FailsAsCalls g h a b)
+  told a b r fault is holds = rw is holds
+
+  -- what is owed with an audit and without one
+  pub by_audit : (a b : Bench S H) (scope : Scope) (r : Result Synced BenchFault) (audits : Bool)
+      → (audits ≡ true → PassesByAudit g h a b scope true r)
+      → (audits ≡ false → PassesByAudit g h a b scope false r)
+      → PassesByAudit g h a b scope audits r
+  by_audit a b scope r true asked unasked = asked refl
+  by_audit a b scope r false asked unasked = unasked refl
