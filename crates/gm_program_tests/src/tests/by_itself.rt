@@ -3,10 +3,8 @@
 
 use gm_program::{Explaining, Status, Streams, program};
 use std::alloc::Global;
-use std::env;
-use std::fs;
-use std::process;
 use std::test::Fail;
+use std::{env, fs, process};
 
 const LABEL: &str = "k1 label --mid 7 --did 1 gm0 a.img\n";
 
