@@ -49,7 +49,7 @@ fn made(rt: &HostRuntime) -> Result<Place, Fail> {
     let alloc = rt.alloc();
     let temp = env::temp_dir(rt)?;
     let base = temp.as_str();
-    let id = process::id(rt);
+    let id = process::id(rt.process());
     let folder = format!(in alloc; "{base}/gm_program-{id}")?;
     let at = folder.as_str();
     let images = format!(in alloc; "{at}/images")?;
@@ -113,7 +113,7 @@ fn dumps(rt: &HostRuntime, place: &Place, status: Status, printed: &str) -> Resu
 fn damage(rt: &HostRuntime, place: &Place, whole: &[u8], byte: usize) -> Result<(), Fail> {
     let mut bytes = Vec::new(rt.alloc());
     bytes.extend_from_slice(whole)?;
-    match bytes.get_mut(1536 + byte) {
+    match bytes.get_mut(1536usize.saturating_add(byte)) {
         Some(changed) => *changed ^= 1,
         None => return Err(Fail::from("a short image")),
     }
