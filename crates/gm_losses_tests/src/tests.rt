@@ -201,31 +201,72 @@ fn adopted(rt: &(impl Abort + AllocGlobal), name: &str, names: &[&str]) -> Comma
     }
 }
 
+// What is told of a command on an image of so many sectors, which holds these.
+fn tells_on(
+    rt: &(impl Abort + AllocGlobal),
+    state: &State,
+    command: &Command,
+    count: usize,
+    held: &[(usize, [u8; 512])],
+    expected: &[Loss],
+) {
+    let mut shelf = shelf_of(rt, "d.img", count, held);
+    assert!(rt;
+        are_told(rt, &mut shelf, state, command, expected),
+        "of {count}"
+    );
+}
+
 #[test]
 fn a_label_writes_over_a_last_sector(rt: HostRuntime) {
     let state = state(&rt);
     let provider = label(&rt, "d.img");
-    let last = Loss::LastSector { provider };
-    let base = Loss::Database { provider };
     let says = registered(&rt, "d.img", 4, Disk::InSync);
     let command = labelled(&rt, "gm1", "d.img");
-    for (count, held, expected) in [
-        (4, [(0, ZEROS), (3, ZEROS)], [].as_slice()),
-        (4, [(0, ZEROS), (2, [9; 512])], [].as_slice()),
-        (4, [(0, ZEROS), (3, one_byte())], [last].as_slice()),
-        (4, [(0, database()), (3, ZEROS)], [base].as_slice()),
-        (4, [(0, database()), (3, [9; 512])], [base, last].as_slice()),
-        (4, [(1, database()), (3, ZEROS)], [].as_slice()),
-        (4, [(0, database()), (3, says)], [].as_slice()),
-        (1, [(0, one_byte()), (0, one_byte())], [].as_slice()),
-        (0, [(0, ZEROS), (0, ZEROS)], [].as_slice()),
-    ] {
-        let mut shelf = shelf_of(&rt, "d.img", count, &held);
-        assert!(rt;
-            are_told(&rt, &mut shelf, &state, &command, expected),
-            "of {count}"
-        );
-    }
+    tells_on(&rt, &state, &command, 4, &[(0, ZEROS), (3, ZEROS)], &[]);
+    tells_on(&rt, &state, &command, 4, &[(0, ZEROS), (2, [9; 512])], &[]);
+    tells_on(
+        &rt,
+        &state,
+        &command,
+        4,
+        &[(0, ZEROS), (3, one_byte())],
+        &[Loss::LastSector { provider }],
+    );
+    tells_on(
+        &rt,
+        &state,
+        &command,
+        4,
+        &[(0, database()), (3, ZEROS)],
+        &[Loss::Database { provider }],
+    );
+    tells_on(
+        &rt,
+        &state,
+        &command,
+        4,
+        &[(0, database()), (3, [9; 512])],
+        &[Loss::Database { provider }, Loss::LastSector { provider }],
+    );
+    tells_on(
+        &rt,
+        &state,
+        &command,
+        4,
+        &[(1, database()), (3, ZEROS)],
+        &[],
+    );
+    tells_on(&rt, &state, &command, 4, &[(0, database()), (3, says)], &[]);
+    tells_on(
+        &rt,
+        &state,
+        &command,
+        1,
+        &[(0, one_byte()), (0, one_byte())],
+        &[],
+    );
+    tells_on(&rt, &state, &command, 0, &[(0, ZEROS), (0, ZEROS)], &[]);
 }
 
 // The rules refuse each of these: a name that is registered, an image that isn't there, and one of
@@ -251,61 +292,77 @@ fn nothing_is_told_of_a_label_that_is_refused(rt: HostRuntime) {
 fn an_insert_writes_over_data(rt: HostRuntime) {
     let state = state(&rt);
     let provider = label(&rt, "d.img");
-    let base = Loss::Database { provider };
     let command = inserted(&rt, "gm0", "d.img");
     let says = registered(&rt, "d.img", 4, Disk::InSync);
-    for (count, held, expected) in [
-        (300, [(0, ZEROS), (0, ZEROS)], [].as_slice()),
-        (
-            300,
-            [(200, one_byte()), (299, [9; 512])],
-            [Loss::Data {
-                provider,
-                place: 200,
-            }]
-            .as_slice(),
-        ),
-        (
-            300,
-            [(298, one_byte()), (299, ZEROS)],
-            [Loss::Data {
-                provider,
-                place: 298,
-            }]
-            .as_slice(),
-        ),
-        (
-            300,
-            [(0, ZEROS), (299, one_byte())],
-            [Loss::Data {
-                provider,
-                place: 299,
-            }]
-            .as_slice(),
-        ),
-        (
-            300,
-            [(0, one_byte()), (299, ZEROS)],
-            [Loss::Data { provider, place: 0 }].as_slice(),
-        ),
-        (
-            300,
-            [(127, one_byte()), (128, ZEROS)],
-            [Loss::Data {
-                provider,
-                place: 127,
-            }]
-            .as_slice(),
-        ),
-        (300, [(0, database()), (9, [9; 512])], [base].as_slice()),
-        (300, [(9, [9; 512]), (299, says)], [].as_slice()),
-    ] {
-        let mut shelf = shelf_of(&rt, "d.img", count, &held);
-        assert!(rt;
-            are_told(&rt, &mut shelf, &state, &command, expected),
-            "of {count}"
-        );
-    }
+    tells_on(&rt, &state, &command, 300, &[(0, ZEROS), (0, ZEROS)], &[]);
+    tells_on(
+        &rt,
+        &state,
+        &command,
+        300,
+        &[(200, one_byte()), (299, [9; 512])],
+        &[Loss::Data {
+            provider,
+            place: 200,
+        }],
+    );
+    tells_on(
+        &rt,
+        &state,
+        &command,
+        300,
+        &[(298, one_byte()), (299, ZEROS)],
+        &[Loss::Data {
+            provider,
+            place: 298,
+        }],
+    );
+    tells_on(
+        &rt,
+        &state,
+        &command,
+        300,
+        &[(0, ZEROS), (299, one_byte())],
+        &[Loss::Data {
+            provider,
+            place: 299,
+        }],
+    );
+    tells_on(
+        &rt,
+        &state,
+        &command,
+        300,
+        &[(0, one_byte()), (299, ZEROS)],
+        &[Loss::Data { provider, place: 0 }],
+    );
+    tells_on(
+        &rt,
+        &state,
+        &command,
+        300,
+        &[(127, one_byte()), (128, ZEROS)],
+        &[Loss::Data {
+            provider,
+            place: 127,
+        }],
+    );
+    tells_on(
+        &rt,
+        &state,
+        &command,
+        300,
+        &[(0, database()), (9, [9; 512])],
+        &[Loss::Database { provider }],
+    );
+    tells_on(
+        &rt,
+        &state,
+        &command,
+        300,
+        &[(9, [9; 512]), (299, says)],
+        &[],
+    );
 }
 
 #[test]
@@ -322,6 +379,21 @@ fn a_watch_is_told_of_each_run_of_zeros(rt: HostRuntime) {
             "of {place}"
         );
     }
+}
+
+// What is told of images that are given up as lost.
+fn tells_of_lost(
+    rt: &(impl Abort + AllocGlobal),
+    shelf: &mut MemShelf,
+    name: &str,
+    names: &[&str],
+    expected: &[Loss],
+) {
+    let command = lost(rt, name, names);
+    assert!(rt;
+        are_told(rt, shelf, &state(rt), &command, expected),
+        "of {name}"
+    );
 }
 
 #[test]
@@ -349,19 +421,17 @@ fn a_lost_image_may_be_intact(rt: HostRuntime) {
         4,
         &[(3, registered(&rt, "c.img", 3, Disk::InSync))],
     );
-    for (name, names, expected) in [
-        ("gm0", ["b.img", "a.img"].as_slice(), intact.as_slice()),
-        ("gm0", ["b.img", "c.img"].as_slice(), [intact[1]].as_slice()),
-        ("gm0", ["c.img"].as_slice(), [].as_slice()),
-        ("gm0", ["d.img"].as_slice(), [].as_slice()),
-        ("gm1", ["a.img"].as_slice(), [].as_slice()),
-    ] {
-        let command = lost(&rt, name, names);
-        assert!(rt;
-            are_told(&rt, &mut shelf, &state, &command, expected),
-            "of {name}"
-        );
-    }
+    tells_of_lost(&rt, &mut shelf, "gm0", &["b.img", "a.img"], &intact);
+    tells_of_lost(
+        &rt,
+        &mut shelf,
+        "gm0",
+        &["b.img", "c.img"],
+        &[Loss::Intact { provider: b }],
+    );
+    tells_of_lost(&rt, &mut shelf, "gm0", &["c.img"], &[]);
+    tells_of_lost(&rt, &mut shelf, "gm0", &["d.img"], &[]);
+    tells_of_lost(&rt, &mut shelf, "gm1", &["a.img"], &[]);
     let mut shelf = shelf_of(
         &rt,
         "a.img",
@@ -421,45 +491,59 @@ fn left(provider: Label, newer: bool) -> Loss {
     Loss::Left { provider, newer }
 }
 
+// What is told of images that are adopted.
+fn tells_of_adopted(
+    rt: &(impl Abort + AllocGlobal),
+    shelf: &mut MemShelf,
+    name: &str,
+    names: &[&str],
+    expected: &[Loss],
+) {
+    let command = adopted(rt, name, names);
+    assert!(rt;
+        are_told(rt, shelf, &state(rt), &command, expected),
+        "of {name}"
+    );
+}
+
 #[test]
 fn an_adoption_leaves_images(rt: HostRuntime) {
-    let state = state(&rt);
     let [d, e, h] = ["d.img", "e.img", "h.img"].map(|name| label(&rt, name));
     let mut shelf = found(&rt);
-    for (name, names, expected) in [
-        (
-            "gm1",
-            ["d.img"].as_slice(),
-            [left(e, true), left(h, false)].as_slice(),
-        ),
-        (
-            "gm1",
-            ["e.img"].as_slice(),
-            [left(d, false), left(h, false)].as_slice(),
-        ),
-        ("gm1", ["d.img", "e.img", "h.img"].as_slice(), [].as_slice()),
-        (
-            "gm1",
-            ["f.img"].as_slice(),
-            [left(d, true), left(e, true), left(h, false)].as_slice(),
-        ),
-        (
-            "gm1",
-            ["f.img", "d.img"].as_slice(),
-            [left(e, true), left(h, false)].as_slice(),
-        ),
-        ("gm1", ["g.img"].as_slice(), [].as_slice()),
-        ("gm1", ["d.img", "g.img"].as_slice(), [].as_slice()),
-        ("gm1", ["d.img", "i.img"].as_slice(), [].as_slice()),
-        ("gm2", ["d.img"].as_slice(), [].as_slice()),
-        ("gm0", ["d.img"].as_slice(), [].as_slice()),
-    ] {
-        let command = adopted(&rt, name, names);
-        assert!(rt;
-            are_told(&rt, &mut shelf, &state, &command, expected),
-            "of {name}"
-        );
-    }
+    tells_of_adopted(
+        &rt,
+        &mut shelf,
+        "gm1",
+        &["d.img"],
+        &[left(e, true), left(h, false)],
+    );
+    tells_of_adopted(
+        &rt,
+        &mut shelf,
+        "gm1",
+        &["e.img"],
+        &[left(d, false), left(h, false)],
+    );
+    tells_of_adopted(&rt, &mut shelf, "gm1", &["d.img", "e.img", "h.img"], &[]);
+    tells_of_adopted(
+        &rt,
+        &mut shelf,
+        "gm1",
+        &["f.img"],
+        &[left(d, true), left(e, true), left(h, false)],
+    );
+    tells_of_adopted(
+        &rt,
+        &mut shelf,
+        "gm1",
+        &["f.img", "d.img"],
+        &[left(e, true), left(h, false)],
+    );
+    tells_of_adopted(&rt, &mut shelf, "gm1", &["g.img"], &[]);
+    tells_of_adopted(&rt, &mut shelf, "gm1", &["d.img", "g.img"], &[]);
+    tells_of_adopted(&rt, &mut shelf, "gm1", &["d.img", "i.img"], &[]);
+    tells_of_adopted(&rt, &mut shelf, "gm2", &["d.img"], &[]);
+    tells_of_adopted(&rt, &mut shelf, "gm0", &["d.img"], &[]);
 }
 
 fn removed(rt: &impl Abort, name: &str, provider: &str) -> [Command; 2] {
@@ -471,6 +555,24 @@ fn removed(rt: &impl Abort, name: &str, provider: &str) -> [Command; 2] {
     ]
 }
 
+// What is told of a component that is taken out, of gm0 whose components stand so.
+fn tells_of_removed(
+    rt: &(impl Abort + AllocGlobal),
+    disks: [Disk; 3],
+    name: &str,
+    provider: &str,
+    expected: &[Loss],
+) {
+    let mut shelf = MemShelf::new(rt.alloc());
+    let state = state_of(rt, disks);
+    for command in removed(rt, name, provider) {
+        assert!(rt;
+            are_told(rt, &mut shelf, &state, &command, expected),
+            "of {provider}"
+        );
+    }
+}
+
 #[test]
 fn a_component_may_leave_one_copy(rt: HostRuntime) {
     let a = Loss::OnlyCopy {
@@ -479,87 +581,76 @@ fn a_component_may_leave_one_copy(rt: HostRuntime) {
     let b = Loss::OnlyCopy {
         provider: label(&rt, "b.img"),
     };
+    tells_of_removed(
+        &rt,
+        [Disk::InSync, Disk::InSync, FILLED],
+        "gm0",
+        "a.img",
+        &[b],
+    );
+    tells_of_removed(
+        &rt,
+        [Disk::InSync, Disk::InSync, FILLED],
+        "gm0",
+        "b.img",
+        &[a],
+    );
+    tells_of_removed(
+        &rt,
+        [Disk::InSync, Disk::InSync, FILLED],
+        "gm0",
+        "c.img",
+        &[],
+    );
+    tells_of_removed(
+        &rt,
+        [Disk::InSync, Disk::InSync, FILLED],
+        "gm1",
+        "a.img",
+        &[],
+    );
+    tells_of_removed(
+        &rt,
+        [Disk::InSync, Disk::InSync, FILLED],
+        "gm0",
+        "d.img",
+        &[],
+    );
+    tells_of_removed(
+        &rt,
+        [Disk::InSync, Disk::InSync, Disk::InSync],
+        "gm0",
+        "a.img",
+        &[],
+    );
+    tells_of_removed(
+        &rt,
+        [Disk::InSync, Disk::InSync, Disk::Inactive],
+        "gm0",
+        "a.img",
+        &[],
+    );
+    tells_of_removed(&rt, [Disk::InSync, FILLED, FILLED], "gm0", "a.img", &[]);
+    tells_of_removed(&rt, [Disk::InSync, FILLED, FILLED], "gm0", "b.img", &[]);
+}
+
+// What is told of a mirror that is destroyed.
+fn tells_of_destroyed(rt: &(impl Abort + AllocGlobal), name: &str, expected: &[Loss]) {
     let mut shelf = MemShelf::new(rt.alloc());
-    for (disks, name, provider, expected) in [
-        (
-            [Disk::InSync, Disk::InSync, FILLED],
-            "gm0",
-            "a.img",
-            [b].as_slice(),
-        ),
-        (
-            [Disk::InSync, Disk::InSync, FILLED],
-            "gm0",
-            "b.img",
-            [a].as_slice(),
-        ),
-        (
-            [Disk::InSync, Disk::InSync, FILLED],
-            "gm0",
-            "c.img",
-            [].as_slice(),
-        ),
-        (
-            [Disk::InSync, Disk::InSync, FILLED],
-            "gm1",
-            "a.img",
-            [].as_slice(),
-        ),
-        (
-            [Disk::InSync, Disk::InSync, FILLED],
-            "gm0",
-            "d.img",
-            [].as_slice(),
-        ),
-        (
-            [Disk::InSync, Disk::InSync, Disk::InSync],
-            "gm0",
-            "a.img",
-            [].as_slice(),
-        ),
-        (
-            [Disk::InSync, Disk::InSync, Disk::Inactive],
-            "gm0",
-            "a.img",
-            [].as_slice(),
-        ),
-        (
-            [Disk::InSync, FILLED, FILLED],
-            "gm0",
-            "a.img",
-            [].as_slice(),
-        ),
-        (
-            [Disk::InSync, FILLED, FILLED],
-            "gm0",
-            "b.img",
-            [].as_slice(),
-        ),
-    ] {
-        let state = state_of(&rt, disks);
-        for command in removed(&rt, name, provider) {
-            assert!(rt;
-                are_told(&rt, &mut shelf, &state, &command, expected),
-                "of {provider}"
-            );
-        }
-    }
+    let command = Command::Destroy {
+        name: label(rt, name),
+    };
+    assert!(rt;
+        are_told(rt, &mut shelf, &state(rt), &command, expected),
+        "of {name}"
+    );
 }
 
 #[test]
 fn a_mirror_is_destroyed_with_its_components(rt: HostRuntime) {
-    let state = state(&rt);
-    let mut shelf = MemShelf::new(rt.alloc());
     let all = Loss::Mirror { components: 3 };
-    for (name, expected) in [("gm0", [all].as_slice()), ("gm1", [].as_slice())] {
-        let command = Command::Destroy {
-            name: label(&rt, name),
-        };
-        assert!(rt;
-            are_told(&rt, &mut shelf, &state, &command, expected),
-            "of {name}"
-        );
-    }
+    tells_of_destroyed(&rt, "gm0", &[all]);
+    tells_of_destroyed(&rt, "gm1", &[]);
 }
 
 #[test]

@@ -2,7 +2,7 @@
 //! of its own. The digest of the sector is worked out beside the program.
 
 use gm_program::{Explaining, Status, Streams, program};
-use std::alloc::Global;
+use std::io::BufRead;
 use std::test::Fail;
 use std::{env, fs, process};
 
@@ -66,6 +66,25 @@ fn made(rt: &HostRuntime) -> Result<Place, Fail> {
     })
 }
 
+// How the program ends on these words and this input, and what it prints. This goes over any input,
+// so that the streams name one lifetime.
+fn run<I: BufRead>(
+    rt: &HostRuntime,
+    words: &[&str],
+    input: &mut I,
+    output: &mut Vec<u8>,
+) -> Status {
+    let alloc = rt.alloc();
+    let mut complaints = Vec::new(alloc);
+    let mut streams = Streams {
+        input,
+        output,
+        complaints: &mut complaints,
+        explaining: Explaining::new(alloc, false),
+    };
+    program(rt, words, &mut streams)
+}
+
 // Whether the program ends so on these words and this input, and prints just this.
 fn ends(
     rt: &HostRuntime,
@@ -74,17 +93,9 @@ fn ends(
     status: Status,
     printed: &str,
 ) -> Result<(), Fail> {
-    let alloc: Global = rt.alloc();
     let mut input = input.as_bytes();
-    let mut output = Vec::new(alloc);
-    let mut complaints = Vec::new(alloc);
-    let mut streams = Streams {
-        input: &mut input,
-        output: &mut output,
-        complaints: &mut complaints,
-        explaining: Explaining::new(alloc, false),
-    };
-    let ended = program(rt, words, &mut streams);
+    let mut output = Vec::new(rt.alloc());
+    let ended = run(rt, words, &mut input, &mut output);
     if ended != status || output.as_slice() != printed.as_bytes() {
         return Err(Fail::from("another end"));
     }
