@@ -1,5 +1,5 @@
 -- Commands that are withheld, and requests that are served so.
-use Rattle.std.proofs.Common.{◌≡◌, inl, inr, refl, ap, subst, ℕ, List, [], Option, Result, Ok, Err, IfSome}
+use Rattle.std.proofs.Common.{◌≡◌, inl, inr, refl, ap, subst, ℕ, List, Option, Result, Ok, Err, IfSome}
 use Rattle.std.specs.Prelude.{IfOk, IfErr, OnErr}
 use Rattle.std.specs.Io.KnownBytes.{Appends}
 use Rattle.sqlite_trees.specs.declared.store.Store.{Ghosts}
@@ -15,7 +15,6 @@ use Rattle.gm_bench.specs.Benches.{registry_of, shelf_of}
 use Rattle.gm_bench.specs.Owed.{LeavesRun}
 use Rattle.gm_bench.specs.Recovering.{LeavesOnly}
 use Rattle.gm_bench.specs.declared.bench.Bench.{Bench}
-use Rattle.gm_bench.specs.declared.fault.BenchFault.{BenchFault}
 use Rattle.gm_front.specs.declared.answer_lines.FrontFault.{FrontFault}
 use Rattle.gm_front.specs.declared.answer_lines.FrontFault.TheVariants.{Memory, Read, Write}
 use Rattle.gm_front.specs.declared.finding.Finding.{Finding}
@@ -24,10 +23,8 @@ use Rattle.gm_front.specs.declared.service.Response.{Response}
 use Rattle.gm_front.specs.Batch.{AppendsFront}
 use Rattle.gm_front.specs.Demands.{Carry, Demand, Told, demand_of}
 use Rattle.gm_front.specs.Findings.{IsPut, fault_of, told_of, withheld_told}
-use Rattle.gm_front.specs.GuardedServices.{FindsUnlessWithheld, FoundBehindLook, HadNothing, ServesOrWithholds, TellsOf}
-use Rattle.gm_front.specs.Guards.{StoodInTheWay}
-use Rattle.gm_front.specs.Services.{Serves, bytes_of, code_told}
-use Rattle.gm_front.proofs.ManyLooks.{looks_nothing}
+use Rattle.gm_front.specs.GuardedServices.{FindsUnlessWithheld, FoundBehindLook, HadNothing, HasNothingInTheWay, ServesOrWithholds, TellsOf}
+use Rattle.gm_front.specs.Services.{bytes_of, code_told}
 use Rattle.gm_front.proofs.RequestsServed.{served}
 
 -- what a look that failed leaves, a command may leave that isn't accepted
@@ -70,23 +67,13 @@ module _ {S H : Type 0} (s : Ghosts S) (h : ShelfGhosts H) (old new : Bench S H)
   unless_withheld away u demand it found = found
 
   pub had_nothing : (demand : Demand) (it : Finding) → IsPut it
-      → ((key : List ℕ) (command : Command) → demand ≡ Carry key command
-      → StoodInTheWay s h old key command [])
-      → HadNothing s h old new demand it
+      → HasNothingInTheWay s h old new demand → HadNothing s h old new demand it
   had_nothing demand (finding.Withheld list) put none = absurd put
-  had_nothing demand (finding.Answered answer) put none = none
-  had_nothing demand it put none = tt
+  had_nothing demand (finding.Failed fault) put none = tt
+  had_nothing demand it put none = none
 
   module _ (away : Image) (u : World) (input before now : Option (List ℕ)) where
-    -- a request that is served at once
-    pub serves_at_once : (result : Result ℕ FrontFault) (fault : Option BenchFault)
-        → Serves s h.view h.size input before now (registry_of old) (registry_of new)
-        (shelf_of old) (shelf_of new) away u result fault
-        → ServesOrWithholds s h old new away u input before now result fault
-    serves_at_once result fault serves =
-        inl (record { mid = old; looked = looks_nothing s h old; serves = serves })
-
-    -- one that is served by what its demand came to
+    -- a request that is served by what its demand came to
     pub guarded_served : (asked : Asked) → IfSome input (λ bytes. Asks bytes asked)
         → (it : Finding) (told : Result Response FrontFault)
         → FindsUnlessWithheld s h old new away u (demand_of asked) it
@@ -97,19 +84,33 @@ module _ {S H : Type 0} (s : Ghosts S) (h : ShelfGhosts H) (old new : Bench S H)
         → IfErr told (λ e. e ≡ Read → ⊥)
         → ServesOrWithholds s h old new away u input before now (code_told told) (fault_of it)
     guarded_served asked asks (finding.Withheld list) told found had wrote front fault =
-        inr (record {
+        inr (inr (record {
           asked = asked;
           asks = asks;
           list = list.items;
           withheld = had;
           told = tells_of (withheld_told list.items) before now told wrote front fault;
           none = refl;
-        })
+        }))
+    guarded_served asked asks (finding.Failed failed) told found had wrote front fault =
+        inr (inl (record {
+          asked = asked;
+          asks = asks;
+          nothing = λ e. absurd (let no : ⊥ = cc in no);
+          mid = found.mid;
+          looked = found.looked;
+          serves = served s h.view h.size input before now (registry_of found.mid)
+              (registry_of new) (shelf_of found.mid) (shelf_of new) away u asked asks
+              (finding.Failed failed) told found.comes wrote front fault;
+        }))
     guarded_served asked asks it told found had wrote front fault =
-        inl (record {
+        inr (inl (record {
+          asked = asked;
+          asks = asks;
+          nothing = λ e. had;
           mid = found.mid;
           looked = found.looked;
           serves = served s h.view h.size input before now (registry_of found.mid)
               (registry_of new) (shelf_of found.mid) (shelf_of new) away u asked asks it told
               found.comes wrote front fault;
-        })
+        }))

@@ -18,7 +18,7 @@ use Rattle.gm_front.specs.Batch.{AppendsFront}
 use Rattle.gm_front.specs.Demands.{Demand, Carry, Told, demand_of}
 use Rattle.gm_front.specs.Findings.{ComesToFinding, withheld_told}
 use Rattle.gm_front.specs.Guards.{StoodInTheWay}
-use Rattle.gm_front.specs.Services.{Serves, TurnsAway, bytes_of}
+use Rattle.gm_front.specs.Services.{LeavesAll, Serves, TurnsAway, bytes_of}
 use Rattle.gm_front.specs.declared.answer_lines.FrontFault.{FrontFault}
 use Rattle.gm_front.specs.declared.answer_lines.FrontFault.TheVariants.{Memory, Read, Write}
 use Rattle.gm_front.specs.declared.finding.Finding.{Finding}
@@ -44,12 +44,26 @@ module _ {S H : Type 0} (s : StoreGhosts S) (h : ShelfGhosts H) (old new : Bench
     pub looked : LookDoes s h.view h.size (registry_of old) (registry_of new) (shelf_of old)
         (shelf_of new)
 
-  -- a command that was answered had nothing in its way
-  abbrev pub HadNothing : Demand → Finding → Type 0
-  HadNothing demand (finding.Answered answer) = (key : List ℕ) (command : Command)
+  -- the command that is demanded, if one is, had nothing in its way
+  abbrev pub HasNothingInTheWay : Demand → Type 0
+  HasNothingInTheWay demand = (key : List ℕ) (command : Command)
       → demand ≡ Carry key command → StoodInTheWay s h old key command []
+
+  -- a command that was withheld had something in its way, and one that came to its end nothing
+  abbrev pub HadNothing : Demand → Finding → Type 0
   HadNothing demand (finding.Withheld list) = IsWithheld demand list.items
-  HadNothing demand _ = Unit {0}
+  HadNothing demand (finding.Failed fault) = Unit {0}
+  HadNothing demand _ = HasNothingInTheWay demand
+
+  -- the request couldn't be read, so that nothing was asked of the bench
+  abbrev pub IsUnserved : Option (List ℕ) → Option (List ℕ) → Result ℕ FrontFault
+      → Option BenchFault → Type 0
+  IsUnserved before now (Ok code) fault = ⊥
+  IsUnserved before now (Err Write) fault = ⊥
+  IsUnserved before now (Err Read) fault = LeavesAll s h.view h.size before now
+      (registry_of old) (registry_of new) (shelf_of old) (shelf_of new) fault
+  IsUnserved before now (Err Memory) fault = LeavesAll s h.view h.size before now
+      (registry_of old) (registry_of new) (shelf_of old) (shelf_of new) fault
 
   module _ (away : Image) (u : World) where
     -- After a look the demand came to this.
@@ -65,9 +79,13 @@ module _ {S H : Type 0} (s : StoreGhosts S) (h : ShelfGhosts H) (old new : Bench
     FindsUnlessWithheld demand (finding.Withheld list) = Unit {0}
     FindsUnlessWithheld demand finding = FoundBehindLook demand finding
 
-    -- After a look the request was served.
+    -- After a look the request was served. Unless the bench failed, a command that it asks for had
+    -- nothing in its way.
     pub record ServesBehindLook (input before now : Option (List ℕ))
         (result : Result ℕ FrontFault) (fault : Option BenchFault) : Type 0 where
+      pub asked : Asked
+      pub asks : IfSome input (λ bytes. Asks bytes asked)
+      pub nothing : fault ≡ None → HasNothingInTheWay (demand_of asked)
       pub mid : Bench S H
       pub looked : LookDoes s h.view h.size (registry_of old) (registry_of mid) (shelf_of old)
           (shelf_of mid)
@@ -88,7 +106,8 @@ module _ {S H : Type 0} (s : StoreGhosts S) (h : ShelfGhosts H) (old new : Bench
   abbrev pub ServesOrWithholds : Image → World → Option (List ℕ) → Option (List ℕ)
       → Option (List ℕ) → Result ℕ FrontFault → Option BenchFault → Type 0
   ServesOrWithholds away u input before now result fault =
-      ServesBehindLook away u input before now result fault
+      IsUnserved before now result fault
+      ⊎ ServesBehindLook away u input before now result fault
       ⊎ Withholds input before now result fault
 
   -- the same where a page's request is turned away, unless those of any origin are wanted

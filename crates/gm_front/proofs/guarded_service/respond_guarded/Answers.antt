@@ -3,21 +3,18 @@ use Rattle.std.proofs.KnownBytes.{Keeps-refl}
 use Rattle.gm_http.specs.Requests.{asked_of}
 use Rattle.gm_front.specs.Demands.{Demand}
 use Rattle.gm_front.specs.GuardedServices.{FindsUnlessWithheld, HadNothing}
-use Rattle.gm_front.specs.Services.{code_told}
-use Rattle.gm_front.proofs.Withholding.{guarded_served, serves_at_once}
+use Rattle.gm_front.proofs.Withholding.{guarded_served}
 use Rattle.gm_front.proofs.guarded_service.respond_guarded.Goals as goal
 
 pub returns-in_default-clause-serves : goal.returns-in_default-clause-serves
 returns-in_default-clause-serves g c = λ honest kept input asks away u at.
-    serves_at_once g.S.Store g.H.Shelf c.args.bench.now c.args.bench.now away u input _ _
-    (code_told c.unserved.result.response) c.unserved.result.fault
-    (rw c.unserved.ensures.response
-    (inl (refl, refl, Keeps-refl _, c.unserved.ensures.none)))
+    rw c.unserved.ensures.response (inl (refl, refl, Keeps-refl _, c.unserved.ensures.none))
 
 pub returns-clause-serves : goal.returns-clause-serves
 returns-clause-serves g c = λ honest kept input asks away u at.
     let found = c.find_guarded-finding in
-    rw c.fault.ensures (guarded_served g.S.Store g.H.Shelf c.args.bench.now found.new.bench away u input _ _
+    rw c.fault.ensures
+    (guarded_served g.S.Store g.H.Shelf c.args.bench.now found.new.bench away u input _ _
     (asked_of c.args.request) asks found.result c.tell-response.result
     (subst (λ (demand : Demand). FindsUnlessWithheld g.S.Store g.H.Shelf c.args.bench.now
     found.new.bench away u demand found.result) c.in-Ok.ensures

@@ -14,7 +14,8 @@ returns-in-Ok-clause-audits g c h clean t s has are =
     subst g.H.Shelf.honest (sym c.in_ok-state.ensures.shelf) h in
     subst (λ (x : Records). IsAudit x (size shelf) (view shelf).seen c.in-Ok.names.items)
     (c.in_ok-state.ensures.shows clean t s has are)
-    (subst (λ (x : g.row.H.Denot). IsAudit c.in_ok-state.state (size x) (view x).seen c.in-Ok.names.items)
+    (subst (λ (x : g.row.H.Denot). IsAudit c.in_ok-state.state (size x) (view x).seen
+    c.in-Ok.names.items)
     c.in_ok-state.ensures.shelf (c.in-Ok.ensures.audit here))
 
 pub returns-in-Ok-clause-looks : goal.returns-in-Ok-clause-looks
@@ -29,5 +30,6 @@ returns-clause-looks g c =
     (λ h. g.met.H.Shelf.lawful _ h) c.view.new.self c.in_ok-state.state
     c.in_ok-state.ensures.looks (search rules) (search rules)
     (rw c.close_on.ensures.media c.in-Err.ensures.looks.only)
-    (rw c.close_on.ensures.media (shelf_disk g.H.Shelf _ _ c.audit_shelf.result _ c.in-Err.fault c.in-Err.is
+    (rw c.close_on.ensures.media
+    (shelf_disk g.H.Shelf _ _ c.audit_shelf.result _ c.in-Err.fault c.in-Err.is
     (ap Err (c.close_on.ensures.fault ∙ c.of_shelf.ensures.value)) c.audit_shelf.ensures.looks))

@@ -17,5 +17,6 @@ returns-in-Err-clause-looks g c =
     looks_at_shelf g.S.Store g.H.Shelf g.met.S.Store.settled c.args.self.now _ _
     (λ h. g.met.H.Shelf.lawful _ h) (search rules) (search rules)
     (rw c.close_on.ensures.media c.in-Err.ensures.looks.only)
-    (rw c.close_on.ensures.media (shelf_disk g.H.Shelf _ _ c.read_last.result _ c.in-Err.fault c.in-Err.is
+    (rw c.close_on.ensures.media
+    (shelf_disk g.H.Shelf _ _ c.read_last.result _ c.in-Err.fault c.in-Err.is
     (ap Err (c.close_on.ensures.fault ∙ c.of_shelf.ensures.value)) c.read_last.ensures.looks))

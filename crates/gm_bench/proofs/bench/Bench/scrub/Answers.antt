@@ -31,5 +31,6 @@ returns-clause-looks g c =
     (λ h. g.met.H.Shelf.lawful _ h) c.view.new.self c.in_ok-state.state
     c.in_ok-state.ensures.looks (search rules) (search rules)
     (rw c.close_on.ensures.media c.in-Err.ensures.looks.only)
-    (rw c.close_on.ensures.media (shelf_disk g.H.Shelf _ _ c.scrub_shelf.result _ c.in-Err.fault c.in-Err.is
+    (rw c.close_on.ensures.media
+    (shelf_disk g.H.Shelf _ _ c.scrub_shelf.result _ c.in-Err.fault c.in-Err.is
     (ap Err (c.close_on.ensures.fault ∙ c.of_shelf.ensures.value)) c.scrub_shelf.ensures.looks))

@@ -16,7 +16,8 @@ returns-in-Ok-clause-unlike g c h clean t s has are =
     subst (λ (x : Records). IsUnlike (is_about c.args.command.now) x (size shelf) (view shelf).seen
     c.in-Ok.list.items)
     (c.in_ok-state.ensures.shows clean t s has are)
-    (subst (λ (x : g.row.H.Denot). IsUnlike (is_about c.args.command.now) c.in_ok-state.state (size x) (view x).seen
+    (subst (λ (x : g.row.H.Denot). IsUnlike (is_about c.args.command.now) c.in_ok-state.state
+    (size x) (view x).seen
     c.in-Ok.list.items)
     c.in_ok-state.ensures.shelf (c.in-Ok.ensures.unlike here))
 
@@ -32,5 +33,6 @@ returns-clause-looks g c =
     (λ h. g.met.H.Shelf.lawful _ h) c.view.new.self c.in_ok-state.state
     c.in_ok-state.ensures.looks (search rules) (search rules)
     (rw c.close_on.ensures.media c.in-Err.ensures.looks.only)
-    (rw c.close_on.ensures.media (shelf_disk g.H.Shelf _ _ c.unlike_shelf.result _ c.in-Err.fault c.in-Err.is
+    (rw c.close_on.ensures.media
+    (shelf_disk g.H.Shelf _ _ c.unlike_shelf.result _ c.in-Err.fault c.in-Err.is
     (ap Err (c.close_on.ensures.fault ∙ c.of_shelf.ensures.value)) c.unlike_shelf.ensures.looks))
