@@ -9,7 +9,7 @@ use Rattle.gm_metadata.specs.Images.{same_label}
 use Rattle.gm_commands.specs.declared.command.Command.{Command}
 use Rattle.gm_state.specs.declared.records.Component.{Component}
 use Rattle.gm_state.specs.declared.records.Mirror.{Mirror}
-use Rattle.gm_state.specs.Records.{Records, IsState, name, members}
+use Rattle.gm_state.specs.Records.{Records, IsState, name}
 use Rattle.gm_refusals.specs.Applies.{providers_of}
 use Rattle.gm_refusals.specs.PartOf.{is_called, part_of}
 use Rattle.gm_rows.specs.Queries.{shown_places}

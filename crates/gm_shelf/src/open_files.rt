@@ -115,21 +115,23 @@ impl<R: Files<File = File> + AllocGlobal + Clone + Drop> OpenFiles<R> {
         })
     }
 
-    // The name of an open file that holds nothing to be synced.
-    fn synced(&self) -> Option<Label> {
-        let mut synced = self.opened.iter().filter(|(_, open)| !open.is_unsynced);
-        synced.next().map(|(name, _)| *name)
+    // Which file to close before this one is opened: the next after it that holds nothing to be
+    // synced, or else the first that does. Images are mostly visited in the order of their names,
+    // so that what was opened last is closed last.
+    fn to_close(&self, opening: Label) -> Option<Label> {
+        let synced = self.opened.iter().filter(|(_, open)| !open.is_unsynced);
+        synced.map(|(name, _)| *name).min_by_key(|name| *name < opening)
     }
 
-    // Where as many are open as may be, closes one: rather one that holds nothing to be synced,
-    // since an error in writing it through would be told to nobody behind that.
-    fn make_room(&mut self) -> io::Result<()>
+    // If as many are open as may be, closes one before this one is opened: rather one that holds
+    // nothing to be synced, because nobody would hear of an error in syncing it.
+    fn make_room(&mut self, opening: Label) -> io::Result<()>
         ensures { self.new.folder ≡ self.old.folder }
     {
         if self.opened.len() < OPEN_FILES {
             return Ok(());
         }
-        if let Some(name) = self.synced() {
+        if let Some(name) = self.to_close(opening) {
             self.opened.remove(&name);
             return Ok(());
         }
@@ -156,7 +158,7 @@ impl<R: Files<File = File> + AllocGlobal + Clone + Drop> OpenFiles<R> {
             return Ok(act(file)?);
         }
         let file = self.open(name, image)?;
-        self.make_room()?;
+        self.make_room(name)?;
         Ok(act(self.opened.entry(name)?.or_insert(file))?)
     }
 }
