@@ -120,7 +120,9 @@ impl<R: Files<File = File> + AllocGlobal + Clone + Drop> OpenFiles<R> {
     // so that what was opened last is closed last.
     fn to_close(&self, opening: Label) -> Option<Label> {
         let synced = self.opened.iter().filter(|(_, open)| !open.is_unsynced);
-        synced.map(|(name, _)| *name).min_by_key(|name| *name < opening)
+        synced
+            .map(|(name, _)| *name)
+            .min_by_key(|name| *name < opening)
     }
 
     // If as many are open as may be, closes one before this one is opened: rather one that holds
