@@ -1,12 +1,15 @@
 -- The tables that a bench has are readable, and say what it stands for.
-use Rattle.std.proofs.Common.{◌≡◌, ◌≤◌, ℕ, List, map, length, arith}
+use Rattle.std.proofs.Common.{◌≡◌, ◌≤◌, ℕ, List, [], map, length, arith}
 use Rattle.std.proofs.lemmas.List.{length-map}
 use Rattle.std.proofs.lemmas.List.Sorted.{length_permutation}
 use Rattle.gm_metadata.specs.Images.{Image}
 use Rattle.gm_state.specs.declared.intents.Intent.{Intent}
-use Rattle.gm_state.specs.Rows.{Tables, answer_row}
+use Rattle.gm_state.specs.Records.{Records}
+use Rattle.gm_state.specs.Rows.{Tables, answer_row, intent_rows}
 use Rattle.gm_state.specs.World.{World}
+use Rattle.gm_state.proofs.Suffixes.{none_left}
 use Rattle.gm_rows.specs.ReadableTables.{AreTablesOf}
+use Rattle.gm_bench.specs.Calls.{HasNothingPending}
 use Rattle.gm_bench.specs.Leading.{Leads}
 
 pub tables_of : (t : Tables) (ts : List Intent) (bytes : List (List ℕ)) (x : Image) (w : World)
@@ -24,3 +27,10 @@ tables_of t ts bytes x w l = record {
       length-map w.answered answer_row in
       let g : length w.answered ≤ 100000 = l.sound.answers.count in omega (arith, e, f));
 }
+
+-- at rest nothing is pending
+pub pending_none : (t : Tables) (s : Records) → AreTablesOf t s [] [] → HasNothingPending t
+pending_none t s are =
+    let same : length t.intents ≡ 0 =
+    length_permutation (intent_rows 1 []) t.intents are.intents in
+    (none_left t.intents 0 (omega (arith, same)), are.patches)

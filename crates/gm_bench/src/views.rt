@@ -204,6 +204,7 @@ impl<S: Alter, H: Shelf> Bench<S, H> {
         ensures unreadable { DiskKept S.Store (registry_of self.new)
             → IsErrOf result BenchFault.Unreadable → (t : Tables)
             → HasTables S.Store (registry_of self.old) t → count_of t ≤ 100000 → ⊥ }
+        ensures store { TellsStore S.Store (registry_of self.old) (registry_of self.new) result }
         ensures shelf { shelf_of self.new ≡ shelf_of self.old }
         ensures looks { LooksOn S.Store H.Shelf self.old self.new result }
         ensures closes { ClosesOnFault self.old self.new result }

@@ -1,5 +1,4 @@
 -- What a bench at rest shows is the world's.
-use Rattle.std.proofs.lemmas.List.Sorted.{length_permutation}
 use Rattle.std.proofs.Common.{◌≡◌, ◌∙◌, ◌-◌, ◌==◌, ℕ, List, [], refl, sym, ap, subst, Option, Some, None, Result, Ok, Err}
 use Rattle.std.specs.Result.{OnOk}
 use Rattle.std.specs.Prelude.{if◌then◌else◌}
@@ -10,8 +9,6 @@ use Rattle.sqlite.specs.Held.{Held}
 use Rattle.gm_metadata.specs.Images.{Image, Sizes, SameThere}
 use Rattle.gm_shelf.specs.Disk.{View, IsLawful}
 use Rattle.gm_shelf.specs.declared.shelf.Shelf.{Ghosts as ShelfGhosts}
-use Rattle.gm_state.specs.Records.{Records}
-use Rattle.gm_state.specs.Rows.{Tables, intent_rows}
 use Rattle.gm_state.specs.World.{World, present}
 use Rattle.gm_rows.specs.ReadableTables.{AreRecordsOf, AreTablesOf}
 use Rattle.gm_registry.specs.Registry.{DiskKept}
@@ -19,7 +16,7 @@ use Rattle.gm_bench.specs.declared.bench.Bench.{Bench}
 use Rattle.gm_bench.specs.declared.fault.BenchFault.{BenchFault}
 use Rattle.gm_bench.specs.declared.fault.BenchFault.TheVariants.{Store, Unreadable}
 use Rattle.gm_bench.specs.Benches.{registry_of, shelf_of}
-use Rattle.gm_bench.specs.Calls.{HasNothingPending, LooksOn}
+use Rattle.gm_bench.specs.Calls.{LooksOn}
 use Rattle.gm_bench.specs.Leading.{whole}
 use Rattle.gm_bench.specs.Owed.{LookDoes}
 use Rattle.gm_bench.specs.Recovering.{IsAt, LeavesOnly}
@@ -31,7 +28,6 @@ use Rattle.gm_bench.proofs.ShelfProviders.{masked, there_full, whole_there}
 use Rattle.gm_bench.proofs.WorldAtRest.{at_rest}
 use Rattle.gm_front.specs.Demands.{Demand}
 use Rattle.gm_front.specs.Findings.{Fails, LeavesDemand}
-use Rattle.gm_front.proofs.ManyLooks.{none_left}
 
 -- images that are the same on what is there have the same last sectors
 by_size : (size : Sizes) (x y : Image) (p : List ℕ) → SameThere size x y
@@ -77,13 +73,6 @@ pub store_of : {T : Type 0} (fault : BenchFault)
     → ◌≡◌ {A = Option BenchFault} (Some fault) (Some Store)
     → ◌≡◌ {A = Result T BenchFault} (Err fault) (Err Store)
 store_of fault is = let same : fault ≡ Store = cc in ap Err same
-
--- at rest nothing is pending
-pub pending_none : (t : Tables) (s : Records) → AreTablesOf t s [] [] → HasNothingPending t
-pending_none t s are = (
-  none_left t.intents (length_permutation (intent_rows 1 []) t.intents are.intents),
-  are.patches,
-)
 
 -- A look at a bench at rest: the bench stays so, and where it failed what it left leads on.
 module _ {S H T : Type 0} (s : StoreGhosts S) (h : ShelfGhosts H) (old new : Bench S H)

@@ -5,6 +5,7 @@ pub mod Pages
 pub mod Requests
 pub mod RequestsServed
 pub mod ServedRuns
+pub mod StoreTold
 pub mod TakenLines
 pub mod Turns
 pub mod Withholding

@@ -51,6 +51,17 @@ module _ {S H T U : Type 0} (s : Ghosts S) (h : ShelfGhosts H) (settling : IsSet
         (λ y l. at.leads y (quiet_moment (h.view (shelf_of a)) (h.view (shelf_of c))
         (lawful honest) quiet y l))
         (λ y l. at.leads y (quiet.crash y l));
+    read = λ honest clean. on_ok r (second.does (first.only.keeps.honest honest) clean) (λ then t has.
+        let one = (first.does honest (mid clean)).tables t has in
+        let two = then.tables t one in
+        let before = first.store.left t has in
+        let behind = second.store.left t one in
+        record {
+          rows = second.store.same clean t one two.is_open
+              ∙ first.store.same (mid clean) t has one.is_open;
+          counts = omega (arith, before.counts, behind.counts);
+          limit = behind.limit ∙ before.limit;
+        });
     only = only;
     clean = omega (arith, first.store.clean, second.store.clean);
     disk = λ is. omega (arith, first.only.keeps.count, second.disk is);
@@ -73,8 +84,3 @@ same_call P k l c d is holds =
     let key : k ≡ l = cc in
     let command : c ≡ d = cc in
     subst (λ (x : Command). P l x) command (subst (λ (x : List ℕ). P x c) key holds)
-
--- a list without items
-pub none_left : {X : Type 0} (xs : List X) → length xs ≡ 0 → xs ≡ []
-none_left [] e = refl
-none_left (x ∷ xs) e = absurd (let no : ⊥ = omega (arith, e) in no)

@@ -1,7 +1,8 @@
 -- What stands in the way of a command, and what a command comes to that is handed in only if
 -- nothing does.
-use Rattle.std.specs.Prelude.{◌≡◌, ◌≢◌, ◌⊎◌, ◌<◌, ℕ, List, [], ◌++◌, Option, Some, None, Result, OnOk, codes, flat_map}
+use Rattle.std.specs.Prelude.{◌≡◌, ◌≢◌, ◌⊎◌, ◌≤◌, ◌<◌, ℕ, List, [], ◌++◌, Option, Some, None, Result, OnOk, codes, flat_map}
 use Rattle.sqlite_trees.specs.declared.store.Store.{Ghosts as StoreGhosts}
+use Rattle.sqlite.specs.Held.{Held, state}
 use Rattle.gm_metadata.specs.Images.{Image, Sizes}
 use Rattle.gm_shelf.specs.Keeping.{ReadsOnly}
 use Rattle.gm_shelf.specs.declared.shelf.Shelf.{Ghosts as ShelfGhosts}
@@ -14,7 +15,7 @@ use Rattle.gm_refusals.specs.Applies.{is_about}
 use Rattle.gm_looks.specs.Unlikes.{IsUnlike}
 use Rattle.gm_looks.specs.declared.unlike.Unlike.{Unlike}
 use Rattle.gm_rows.specs.ReadableTables.{AreRecordsOf}
-use Rattle.gm_registry.specs.Registry.{DiskKept, HasTables, WasClean}
+use Rattle.gm_registry.specs.Registry.{DiskKept, HasTables, WasClean, seen}
 use Rattle.gm_registry.specs.Replies.{AreWrittenUnder, IsFree, IsKept}
 use Rattle.gm_bench.specs.Benches.{progress_of, redone_of, registry_of, shelf_of}
 use Rattle.gm_bench.specs.Calls.{TellsDisk}
@@ -75,6 +76,13 @@ progress_guarded before (Through outcome) = progress_after before outcome
 progress_guarded before (Withheld key list) = before
 progress_guarded before (Unlooked key fault) = Failed
 
+-- A registry that was only looked at: it shows the rows that it showed, and its store forgot no
+-- fault, and has the limit on steps that it had.
+pub record WasRead {S : Type 0} (s : StoreGhosts S) (old new : Held S) : Type 0 where
+  pub rows : seen s new ≡ seen s old
+  pub counts : (state s old).faults ≤ (state s new).faults
+  pub limit : (state s new).step_limit ≡ (state s old).step_limit
+
 module _ {S H : Type 0} (s : StoreGhosts S) (h : ShelfGhosts H) (old new : Bench S H) where
   -- A call that only looks, though more than once: it changes neither medium, and a stop within it
   -- leaves what leads on as before.
@@ -86,6 +94,9 @@ module _ {S H : Type 0} (s : StoreGhosts S) (h : ShelfGhosts H) (old new : Bench
     pub leaves : h.honest (shelf_of old) → DiskKept s (registry_of new)
         → LookLeaves s h.view h.size (registry_of old) (registry_of new)
         (shelf_of old) (shelf_of new)
+    pub read : h.honest (shelf_of old) → DiskKept s (registry_of new)
+        → OnOk result ((t : Tables) → HasTables s (registry_of old) t
+        → WasRead s (registry_of old) (registry_of new))
     pub only : ReadsOnly h (shelf_of old) (shelf_of new)
     pub clean : WasClean s (registry_of old) (registry_of new)
     pub disk : TellsDisk h (shelf_of old) (shelf_of new) result

@@ -11,9 +11,10 @@ ghost use Rattle.gm_rows.specs.ReadableTables.{AreRecordsOf};
 ghost use Rattle.gm_registry.specs.Registry.{DiskKept, HasTables};
 ghost use Rattle.gm_registry.specs.Replies.{AreWrittenUnder};
 ghost use Rattle.gm_bench.specs.Benches.{progress_of, registry_of, shelf_of};
-ghost use Rattle.gm_bench.specs.Calls.{ClosesOnFault, Keep};
+ghost use Rattle.gm_bench.specs.Calls.{ClosesOnFault, Keep, TellsStore};
 ghost use Rattle.gm_bench.specs.Phases.{TakesCommands};
 ghost use Rattle.gm_bench.specs.Recovering.{IsAt};
+ghost use Rattle.gm_front.specs.Findings.{TellsStoreAt};
 ghost use Rattle.gm_front.specs.Guards.{ComesToGuarded, IsGuarded, KeepsClosed, OnlyLooks, StoodInTheWay, guarded_fault, progress_guarded, withheld_message, withheld_text};
 ghost use Rattle.gm_front.specs.Outcomes.{asked_of};
 
@@ -55,6 +56,8 @@ pub fn in_the_way<S: Alter, H: Shelf>(
         → IsErrOf result BenchFault.Unreadable → (t : Tables) (s : Records)
         → HasTables S.Store (registry_of bench.old) t → AreRecordsOf t s
         → AreWrittenUnder key.now t → ⊥ }
+    ensures store { H.honest (shelf_of bench.old)
+        → TellsStore S.Store (registry_of bench.old) (registry_of bench.new) result }
     ensures looks { OnlyLooks S.Store H.Shelf bench.old bench.new result }
     ensures closes { ClosesOnFault bench.old bench.new result }
 {
@@ -83,6 +86,7 @@ pub fn ask_guarded<'a, S: Alter, H: Shelf>(
     ensures progress { progress_of bench.new
         ≡ progress_guarded (progress_of bench.old) result }
     ensures closes { KeepsClosed bench.old bench.new (guarded_fault result) }
+    ensures store { TellsStoreAt S.Store H.Shelf bench.old bench.new (guarded_fault result) }
     ensures keep { Keep S.Store H.Shelf (registry_of bench.old) (registry_of bench.new)
         (shelf_of bench.old) (shelf_of bench.new) }
 {

@@ -11,7 +11,7 @@ ghost use Rattle.gm_bench.specs.Benches.{progress_of, registry_of, shelf_of};
 ghost use Rattle.gm_bench.specs.Calls.{Keep};
 ghost use Rattle.gm_bench.specs.Phases.{TakesCommands};
 ghost use Rattle.gm_bench.specs.Recovering.{IsAt};
-ghost use Rattle.gm_front.specs.Findings.{demand_in, fault_of, progress_behind};
+ghost use Rattle.gm_front.specs.Findings.{TellsStoreAt, demand_in, fault_of, progress_behind};
 ghost use Rattle.gm_front.specs.GuardedServices.{FindsUnlessWithheld, HadNothing, ServesGuarded, ServesOrWithholds};
 ghost use Rattle.gm_front.specs.Guards.{KeepsClosed};
 ghost use Rattle.gm_front.specs.Services.{TurnsAway, code_told};
@@ -45,6 +45,7 @@ fn find_guarded<S: Alter, H: Shelf>(
     ensures progress { progress_of bench.new
         ≡ progress_behind (progress_of bench.old) (fault_of result) }
     ensures closes { KeepsClosed bench.old bench.new (fault_of result) }
+    ensures store { TellsStoreAt S.Store H.Shelf bench.old bench.new (fault_of result) }
     ensures keep { Keep S.Store H.Shelf (registry_of bench.old) (registry_of bench.new)
         (shelf_of bench.old) (shelf_of bench.new) }
 {
@@ -77,6 +78,7 @@ fn respond_guarded<W: Write, S: Alter, H: Shelf>(
         ≡ progress_behind (progress_of bench.old) result.fault }
     ensures phase { TakesCommands (progress_of bench.new) }
     ensures closes { KeepsClosed bench.old bench.new result.fault }
+    ensures store { TellsStoreAt S.Store H.Shelf bench.old bench.new result.fault }
     ensures keep { Keep S.Store H.Shelf (registry_of bench.old) (registry_of bench.new)
         (shelf_of bench.old) (shelf_of bench.new) }
 {
@@ -115,6 +117,7 @@ pub fn serve_request_guarded<R: Read, W: Write, S: Alter, H: Shelf>(
         ≡ progress_behind (progress_of bench.old) result.fault }
     ensures phase { TakesCommands (progress_of bench.new) }
     ensures closes { KeepsClosed bench.old bench.new result.fault }
+    ensures store { TellsStoreAt S.Store H.Shelf bench.old bench.new result.fault }
     ensures keep { Keep S.Store H.Shelf (registry_of bench.old) (registry_of bench.new)
         (shelf_of bench.old) (shelf_of bench.new) }
 {

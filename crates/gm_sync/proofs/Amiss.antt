@@ -42,8 +42,3 @@ amiss_of scope s size seen names state audit = record {
   ascend = Ascends-filter (λ (q : List ℕ). is_named_beside scope s q) (λ (q : List ℕ). q) names
       audit.ascend;
 }
-
--- no names are none
-pub no_names : (names : List (List ℕ)) → length names ≡ 0 → names ≡ []
-no_names [] none = refl
-no_names (name ∷ names) none = absurd (omega (arith, none))

@@ -2,14 +2,16 @@
 use Rattle.std.proofs.Common.{◌≡◌, ◌∙◌, Bool, true, false, refl, sym, ap, arith, Result, Err}
 use Rattle.std.specs.Prelude.{IfErr}
 use Rattle.sqlite_trees.specs.declared.store.Store.{Ghosts as StoreGhosts}
+use Rattle.sqlite.specs.Held.{Held, state}
 use Rattle.gm_shelf.specs.declared.shelf.Shelf.{Ghosts as ShelfGhosts}
 use Rattle.gm_commands.specs.declared.command.Command.{Command}
 use Rattle.gm_registry.specs.Registry.{DiskKept}
+use Rattle.gm_registry.proofs.ReadsInTurn.{sees_registry}
 use Rattle.gm_bench.specs.Benches.{registry_of, shelf_of}
-use Rattle.gm_bench.specs.Calls.{ClosesOnFault, Keep, LooksOn}
+use Rattle.gm_bench.specs.Calls.{ClosesOnFault, Keep, LooksOn, TellsOfRecords, TellsStore}
 use Rattle.gm_bench.specs.declared.bench.Bench.{Bench}
 use Rattle.gm_bench.specs.declared.fault.BenchFault.{BenchFault}
-use Rattle.gm_bench.specs.declared.fault.BenchFault.TheVariants.{Absent, Closed, Disk, Memory}
+use Rattle.gm_bench.specs.declared.fault.BenchFault.TheVariants.{Absent, Closed, Disk, Memory, Store}
 use Rattle.gm_sync.specs.Filling.{FailsAsCalls, Fills, PassesByAudit}
 use Rattle.gm_sync.specs.declared.scope.Scope.{Scope}
 use Rattle.gm_sync.specs.declared.synced.Synced.{Synced}
@@ -17,12 +19,25 @@ use Rattle.gm_sync.specs.declared.synced.Synced.{Synced}
 module _ {S H : Type 0} (g : StoreGhosts S) (h : ShelfGhosts H) where
   -- a look that failed
   pub look_fails : (a b : Bench S H) {T : Type 0} (r : Result T BenchFault) (fault : BenchFault)
-      → r ≡ Err fault → LooksOn g h a b r → ClosesOnFault a b r → FailsAsCalls g h a b fault
-  look_fails a b r fault is looks closes = record {
+      → r ≡ Err fault → LooksOn g h a b r → ClosesOnFault a b r
+      → TellsStore g (registry_of a) (registry_of b) r → FailsAsCalls g h a b fault
+  look_fails a b r fault is looks closes store = record {
     reopen = λ e. closes.reopen (is ∙ ap Err e);
     absent = λ p e. closes.absent p (is ∙ ap Err e);
     disk = λ honest kept away u at e. looks.disk (is ∙ ap Err e);
+    store = λ honest kept away u at e. record {
+      before = a;
+      world = u;
+      at = at;
+      failed = λ room. store kept (is ∙ ap Err e) at.tables at.has;
+    };
   }
+
+  -- what is told by the rows of records is told by tables
+  pub store_of_records : (r s : Held S) {T : Type 0} (result : Result T BenchFault)
+      → TellsOfRecords g r s result → TellsStore g r s result
+  store_of_records r s result told = λ kept is t has.
+      told.store kept is (sees_registry (state g r) t has)
 
   -- want of memory closes nothing
   pub memory_fails : (a b : Bench S H) → FailsAsCalls g h a b Memory
@@ -30,6 +45,7 @@ module _ {S H : Type 0} (g : StoreGhosts S) (h : ShelfGhosts H) where
     reopen = λ e. absurd (let no : Memory ≡ Closed = e in cc);
     absent = λ p e. absurd (let no : Memory ≡ Absent p = e in cc);
     disk = λ honest kept away u at e. absurd (let no : Memory ≡ Disk = e in cc);
+    store = λ honest kept away u at e. absurd (let no : Memory ≡ Store = e in cc);
   }
 
   -- a call that failed after others that filled
@@ -44,6 +60,10 @@ module _ {S H : Type 0} (g : StoreGhosts S) (h : ShelfGhosts H) where
         let filled = first.does honest mid away u at in
         let more = then.disk (first.keep.shelf.honest honest) kept away filled.world filled.at e in
         omega (arith, first.keep.shelf.count, more);
+    store = λ honest kept away u at e.
+        let mid : DiskKept g (registry_of b) = omega (arith, keep.clean, kept) in
+        let filled = first.does honest mid away u at in
+        then.store (first.keep.shelf.honest honest) kept away filled.world filled.at e;
   }
 
   -- the fault of a result that failed

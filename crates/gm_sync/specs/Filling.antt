@@ -16,15 +16,16 @@ use Rattle.gm_state.specs.World.{World}
 use Rattle.gm_rules.specs.AbstractCalls.{Call, Run}
 use Rattle.gm_rules.specs.AbstractCalls as run
 use Rattle.gm_rows.specs.ReadableTables.{AreRecordsOf}
-use Rattle.gm_registry.specs.Registry.{DiskKept, HasTables, Reads}
+use Rattle.gm_registry.specs.Fitting.{HasRoom}
+use Rattle.gm_registry.specs.Registry.{DiskKept, HasTables, Reads, StoreFailed, seen}
 use Rattle.gm_looks.specs.Audits.{IsAsRegistered}
 use Rattle.gm_bench.specs.Benches.{progress_of, registry_of, shelf_of}
-use Rattle.gm_bench.specs.Calls.{Keep}
+use Rattle.gm_bench.specs.Calls.{Keep, most_rows}
 use Rattle.gm_bench.specs.Owed.{LookDoes}
 use Rattle.gm_bench.specs.Recovering.{IsAt}
 use Rattle.gm_bench.specs.declared.bench.Bench.{Bench}
 use Rattle.gm_bench.specs.declared.fault.BenchFault.{BenchFault}
-use Rattle.gm_bench.specs.declared.fault.BenchFault.TheVariants.{Absent, Closed, Disk}
+use Rattle.gm_bench.specs.declared.fault.BenchFault.TheVariants.{Absent, Closed, Disk, Store}
 use Rattle.gm_bench.specs.declared.phase.Progress.TheVariants.{Failed}
 use Rattle.gm_sync.specs.declared.due.Due.{Due}
 use Rattle.gm_sync.specs.declared.passed_over.PassedOver.{PassedOver}
@@ -60,15 +61,28 @@ module _ {S H : Type 0} (g : StoreGhosts S) (h : ShelfGhosts H) (Fit : Command �
         → IsAt g h.view h.size (registry_of old) (shelf_of old) away [] [] u u
         → IsFilledFrom new away u
 
--- A fault of several calls is told as the bench's own calls tell it: `Closed` only of a bench that
--- was so, no image is told to be absent, and at rest `Disk` comes only where a failure was counted.
-pub record FailsAsCalls {S H : Type 0} (g : StoreGhosts S) (h : ShelfGhosts H) (old new : Bench S H)
-    (fault : BenchFault) : Type 0 where
-  pub reopen : fault ≡ Closed → progress_of old ≡ Failed
-  pub absent : (p : List ℕ) → fault ≡ Absent p → ⊥
-  pub disk : h.honest (shelf_of old) → DiskKept g (registry_of new) → (away : Image) (u : World)
-      → IsAt g h.view h.size (registry_of old) (shelf_of old) away [] [] u u
-      → fault ≡ Disk → (h.view (shelf_of old)).faults < (h.view (shelf_of new)).faults
+module _ {S H : Type 0} (g : StoreGhosts S) (h : ShelfGhosts H) where
+  -- The store failed at the last call, if it could number the rows of a command when that was made.
+  -- The bench was at rest then.
+  pub record StoreFailedLast (new : Bench S H) (away : Image) : Type 0 where
+    pub before : Bench S H
+    pub world : World
+    pub at : IsAt g h.view h.size (registry_of before) (shelf_of before) away [] [] world world
+    pub failed : HasRoom most_rows (seen g (registry_of before))
+        → StoreFailed g (registry_of before) (registry_of new)
+
+  -- A fault of several calls is told as the bench's own calls tell it: `Closed` only of a bench
+  -- that was so, no image is told to be absent, and at rest `Disk` comes only if a failure was
+  -- counted, and `Store` only if the store failed.
+  pub record FailsAsCalls (old new : Bench S H) (fault : BenchFault) : Type 0 where
+    pub reopen : fault ≡ Closed → progress_of old ≡ Failed
+    pub absent : (p : List ℕ) → fault ≡ Absent p → ⊥
+    pub disk : h.honest (shelf_of old) → DiskKept g (registry_of new) → (away : Image)
+        (u : World) → IsAt g h.view h.size (registry_of old) (shelf_of old) away [] [] u u
+        → fault ≡ Disk → (h.view (shelf_of old)).faults < (h.view (shelf_of new)).faults
+    pub store : h.honest (shelf_of old) → DiskKept g (registry_of new) → (away : Image)
+        (u : World) → IsAt g h.view h.size (registry_of old) (shelf_of old) away [] [] u u
+        → fault ≡ Store → StoreFailedLast new away
 
 -- The records are those that the registry held when it was looked at last; where the bench was at
 -- rest before, it held some.

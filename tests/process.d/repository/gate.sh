@@ -77,10 +77,10 @@ packages=$(sed -n "s/^packages='\(.*\)'/\1/p" "$top/tools/test-needs")
 # ---- the pages agree on how many wrong bodies are tried, and by which kit
 
 edits=$(find "$top/crates" -path '*/must-fail/*.edit' | wc -l)
-[ "$edits" -le 140 ] && pass 'there are 140 edits at most' || fail 'there are 140 edits at most' "there are $edits"
+[ "$edits" -le 120 ] && pass 'there are 120 edits at most' || fail 'there are 120 edits at most' "there are $edits"
 for page in docs/PROOF.md docs/GATE.md CONTRIBUTING.md; do
     tr '\n' ' ' <"$top/$page" >"$work/page"
-    grep -q '140 at most' "$work/page" && pass "$page has the bound of edits" || fail "$page has the bound of edits" 'it has not'
+    grep -q '120 at most' "$work/page" && pass "$page has the bound of edits" || fail "$page has the bound of edits" 'it has not'
     kits=$(grep -o 'rattle-kit-[0-9a-z]*' "$work/page" | LC_ALL=C sort -u | tr '\n' ' ')
     [ "$kits" = 'rattle-kit-13f ' ] && pass "$page has the kit" || fail "$page has the kit" "it has '$kits'"
 done

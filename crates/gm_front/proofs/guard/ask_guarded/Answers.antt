@@ -1,13 +1,18 @@
-use Rattle.std.proofs.Common.{rules, arith, ◌≡◌, ◌∙◌, sym, ap, subst, List, [], Err}
+use Rattle.std.proofs.Common.{rules, arith, ◌≡◌, ◌∙◌, sym, ap, subst, List, [], Err, length}
+use Rattle.gm_state.proofs.Suffixes.{none_left}
 use Rattle.gm_looks.specs.declared.unlike.Unlike.{Unlike}
+use Rattle.gm_registry.specs.Fitting.{HasRoom}
 use Rattle.gm_registry.specs.Registry.{DiskKept}
 use Rattle.gm_bench.specs.Benches.{registry_of}
+use Rattle.gm_bench.specs.Calls.{most_rows}
 use Rattle.gm_bench.proofs.Looks.{looked_at}
+use Rattle.gm_bench.proofs.StoreFails.{failed_behind}
 use Rattle.gm_front.specs.Guards.{StoodInTheWay}
 use Rattle.gm_front.specs.Outcomes.{asked_of}
 use Rattle.gm_front.specs.Request.{Call}
-use Rattle.gm_front.proofs.Found.{records_shown}
-use Rattle.gm_front.proofs.ManyLooks.{looks_nothing, none_left, same_call}
+use Rattle.gm_front.proofs.Found.{records_shown, store_of}
+use Rattle.gm_front.proofs.ManyLooks.{looks_nothing, same_call}
+use Rattle.gm_front.proofs.StoreTold.{store_told}
 use Rattle.gm_front.proofs.guard.ask_guarded.Goals as goal
 
 pub returns-in_default : goal.returns-in_default
@@ -25,6 +30,9 @@ returns-in_default g c = record {
     absent = search rules;
     redone = c.ask.ensures.redone;
   };
+  store = λ honest kept away u at.
+      store_told g.S.Store g.H.Shelf.view g.H.Shelf.size _ _ _ _ away u
+      (asked_of c.args.request.now) c.ask.result (c.ask.ensures.comes honest kept away u at);
   keep = c.ask.ensures.keep;
 }
 
@@ -45,7 +53,8 @@ pub returns-in-Ok-clause-guarded : goal.returns-in-Ok-clause-guarded
 returns-in-Ok-clause-guarded g c = λ honest kept key command is.
     let mid : DiskKept g.S.Store (registry_of c.in_the_way.new.bench) =
     omega (arith, c.ask-in-Ok.ensures.keep.clean, kept) in
-    let none = none_left c.in-Ok.list.items (search rules) in
+    let zero : length c.in-Ok.list.items ≡ 0 = search rules in
+    let none = none_left c.in-Ok.list.items 0 (omega (arith, zero)) in
     let asks : Call c.in-Call.key.now c.in-Call.command ≡ Call key command =
     ap asked_of (sym c.in-Call.is) ∙ is in
     same_call (λ k x. StoodInTheWay g.S.Store g.H.Shelf c.args.bench.now k x [])
@@ -64,3 +73,21 @@ returns-in-Err-clause-comes g c = λ honest kept away u at.
           (records_shown g.S.Store g.H.Shelf.view g.H.Shelf.size _ _ away u found
           (g.met.H.Shelf.lawful _ honest)) written;
     }
+
+pub returns-in-Ok-clause-store : goal.returns-in-Ok-clause-store
+returns-in-Ok-clause-store g c = λ honest kept away u at is room.
+    let looks = c.in-Ok.ensures.looks in
+    let mid : DiskKept g.S.Store (registry_of c.in_the_way.new.bench) =
+    omega (arith, c.ask-in-Ok.ensures.keep.clean, kept) in
+    let read = looks.read honest mid at.tables at.has in
+    failed_behind g.S.Store (registry_of c.args.bench.now) (registry_of c.in_the_way.new.bench)
+    read.counts read.limit (registry_of c.ask-in-Ok.new.bench)
+    (store_told g.S.Store g.H.Shelf.view g.H.Shelf.size _ _ _ _ away u
+    (asked_of c.args.request.now) c.ask-in-Ok.result
+    (c.ask-in-Ok.ensures.comes (looks.only.keeps.honest honest) kept away u
+    (looked_at g.S.Store g.H.Shelf.view g.H.Shelf.size _ _ _ _ away [] [] u u
+    (looks.does honest mid) at)) is (subst (HasRoom most_rows) (sym read.rows) room))
+
+pub returns-in-Err-clause-store : goal.returns-in-Err-clause-store
+returns-in-Err-clause-store g c = λ honest kept away u at is room.
+    c.in-Err.ensures.store honest kept (store_of _ is) at.tables at.has

@@ -3,9 +3,11 @@ use Rattle.gm_refusals.specs.Applies.{is_about}
 use Rattle.gm_looks.specs.Unlikes.{IsUnlike}
 use Rattle.gm_looks.specs.declared.unlike.Unlike.{Unlike}
 use Rattle.gm_registry.specs.Registry.{DiskKept}
+use Rattle.gm_registry.proofs.ReadsInTurn.{sees_registry}
 use Rattle.gm_bench.specs.Benches.{registry_of}
 use Rattle.gm_bench.specs.KeptCommands.{TellsKept}
 use Rattle.gm_bench.specs.declared.fault.BenchFault.{BenchFault}
+use Rattle.gm_bench.proofs.StoreFails.{failed_behind}
 use Rattle.gm_front.specs.Guards.{OnlyLooks}
 use Rattle.gm_front.proofs.ManyLooks.{looks_then}
 use Rattle.gm_front.proofs.guard.in_the_way.Goals as goal
@@ -17,6 +19,17 @@ returns-in_err-list-clause-readable g c = λ honest kept is t s has are written.
     omega (arith, c.in_err-list.ensures.looks.store.clean, kept) in
     c.in_err-list.ensures.records.unreadable kept (search rules) t s
     ((first.looks.does honest mid).tables t has) are
+
+pub returns-in_err-list-clause-store : goal.returns-in_err-list-clause-store
+returns-in_err-list-clause-store g c = λ honest kept is t has.
+    let first = c.in_ok-kept.ensures in
+    let mid : DiskKept g.S.Store (registry_of c.kept.new.self) =
+    omega (arith, c.in_err-list.ensures.looks.store.clean, kept) in
+    let there = (first.looks.does honest mid).tables t has in
+    let before = first.looks.store.left t has in
+    failed_behind g.S.Store (registry_of c.args.bench.now) (registry_of c.kept.new.self)
+    before.counts before.limit (registry_of c.unlike.new.self)
+    (c.in_err-list.ensures.records.store kept (search rules) (sees_registry _ t there))
 
 pub returns-in_err-list-clause-looks : goal.returns-in_err-list-clause-looks
 returns-in_err-list-clause-looks g c =

@@ -1,13 +1,17 @@
-use Rattle.std.proofs.Common.{rules, arith, ◌∙◌, sym, ap, subst, ℕ, List, [], Err}
+use Rattle.std.proofs.Common.{rules, arith, ◌≡◌, ◌∙◌, sym, ap, subst, ℕ, List, [], Err, length}
+use Rattle.gm_state.proofs.Suffixes.{none_left}
 use Rattle.gm_looks.specs.declared.unlike.Unlike.{Unlike}
+use Rattle.gm_registry.specs.Fitting.{HasRoom}
 use Rattle.gm_registry.specs.Registry.{DiskKept}
 use Rattle.gm_bench.specs.Benches.{registry_of}
+use Rattle.gm_bench.specs.Calls.{most_rows}
 use Rattle.gm_bench.proofs.Looks.{looked_at}
+use Rattle.gm_bench.proofs.StoreFails.{failed_behind}
 use Rattle.gm_front.specs.Demands.{Carry}
 use Rattle.gm_front.specs.Findings.{demand_in}
 use Rattle.gm_front.specs.Guards.{StoodInTheWay}
-use Rattle.gm_front.proofs.Found.{records_shown}
-use Rattle.gm_front.proofs.ManyLooks.{looks_nothing, none_left}
+use Rattle.gm_front.proofs.Found.{records_shown, store_of}
+use Rattle.gm_front.proofs.ManyLooks.{looks_nothing}
 use Rattle.gm_front.proofs.Withholding.{had_nothing, run_of_look, same_carried, unless_withheld}
 use Rattle.gm_front.proofs.guarded_service.find_guarded.Goals as goal
 
@@ -26,6 +30,7 @@ returns-in_default g c = record {
       (λ key command is t r has are. absurd (search rules));
   progress = c.find.ensures.progress;
   closes = c.find.ensures.closes;
+  store = c.find.ensures.store;
   keep = c.find.ensures.keep;
 }
 
@@ -47,7 +52,8 @@ pub returns-in-Ok-clause-guarded : goal.returns-in-Ok-clause-guarded
 returns-in-Ok-clause-guarded g c = λ honest kept.
     let mid : DiskKept g.S.Store (registry_of c.in_the_way.new.bench) =
     omega (arith, c.find-in-Ok.ensures.keep.clean, kept) in
-    let none = none_left c.in-Ok.list.items (search rules) in
+    let zero : length c.in-Ok.list.items ≡ 0 = search rules in
+    let none = none_left c.in-Ok.list.items 0 (omega (arith, zero)) in
     had_nothing g.S.Store g.H.Shelf c.args.bench.now c.find-in-Ok.new.bench
     (demand_in c.args.demand.now) c.find-in-Ok.result c.find-in-Ok.ensures.put
     (λ key command is.
@@ -86,3 +92,19 @@ returns-in-Err-clause-finds g c = λ honest kept away u at.
             (g.met.H.Shelf.lawful _ honest)) written;
       });
     }
+
+pub returns-in-Ok-clause-store : goal.returns-in-Ok-clause-store
+returns-in-Ok-clause-store g c = λ honest kept away u at is room.
+    let looks = c.in-Ok.ensures.looks in
+    let mid : DiskKept g.S.Store (registry_of c.in_the_way.new.bench) =
+    omega (arith, c.find-in-Ok.ensures.keep.clean, kept) in
+    let read = looks.read honest mid at.tables at.has in
+    failed_behind g.S.Store (registry_of c.args.bench.now) (registry_of c.in_the_way.new.bench)
+    read.counts read.limit (registry_of c.find-in-Ok.new.bench)
+    (c.find-in-Ok.ensures.store (looks.only.keeps.honest honest) kept away u
+    (looked_at g.S.Store g.H.Shelf.view g.H.Shelf.size _ _ _ _ away [] [] u u
+    (looks.does honest mid) at) is (subst (HasRoom most_rows) (sym read.rows) room))
+
+pub returns-in-Err-clause-store : goal.returns-in-Err-clause-store
+returns-in-Err-clause-store g c = λ honest kept away u at is room.
+    c.in-Err.ensures.store honest kept (store_of _ is) at.tables at.has

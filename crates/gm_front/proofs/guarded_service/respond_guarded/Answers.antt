@@ -23,3 +23,6 @@ returns-clause-serves g c = λ honest kept input asks away u at.
     found.new.bench demand found.result) c.in-Ok.ensures
     (found.ensures.guarded honest kept))
     c.tell-response.ensures.ok c.tell-response.ensures.front c.tell-response.ensures.fault)
+
+pub returns-clause-store : goal.returns-clause-store
+returns-clause-store g c = rw c.fault.ensures c.find_guarded-finding.ensures.store

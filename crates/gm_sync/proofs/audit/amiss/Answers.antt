@@ -1,8 +1,8 @@
 use Rattle.std.proofs.Common.{rules, arith, ◌≡◌, refl, length}
+use Rattle.gm_state.proofs.Suffixes.{none_left}
 use Rattle.gm_bench.specs.Benches.{registry_of, shelf_of}
 use Rattle.gm_registry.specs.Registry.{DiskKept}
-use Rattle.gm_sync.proofs.Amiss.{no_names}
-use Rattle.gm_sync.proofs.Faults.{fails_then, look_fails, memory_fails, told}
+use Rattle.gm_sync.proofs.Faults.{fails_then, look_fails, memory_fails, store_of_records, told}
 use Rattle.gm_sync.proofs.Filled.{fills_looked, fills_none, look_keeps, look_none, look_then}
 use Rattle.gm_sync.proofs.Passing.{passed_none, passed_told}
 use Rattle.gm_sync.proofs.audit.amiss.Goals as goal
@@ -17,7 +17,7 @@ returns-then-is_empty-clause-told g c = λ asked honest kept t s has are.
     let zero : length c.in_ok-names.names.items ≡ 0 = search rules in
     passed_none c.args.scope.now s (g.H.Shelf.size (shelf_of c.args.bench.now))
     (g.H.Shelf.view (shelf_of c.args.bench.now)).seen c.in_ok-names.names.items
-    c.none-then-is_empty.result (no_names c.in_ok-names.names.items zero)
+    c.none-then-is_empty.result (none_left c.in_ok-names.names.items 0 (omega (arith, zero)))
     c.none-then-is_empty.ensures (audited.audits honest kept t s has are)
 
 pub returns-in-Ok-clause-looks : goal.returns-in-Ok-clause-looks
@@ -50,7 +50,8 @@ returns-in_err-names-clause-faults g c =
     told g.S.Store g.H.Shelf c.args.bench.now c.audit.new.self _
     c.in_err-names.field-0.0 (search rules)
     (look_fails g.S.Store g.H.Shelf c.args.bench.now c.audit.new.self _ _ refl
-    c.in_err-names.ensures.looks c.in_err-names.ensures.closes)
+    c.in_err-names.ensures.looks c.in_err-names.ensures.closes
+    (store_of_records g.S.Store _ _ _ c.in_err-names.ensures.records))
 
 pub returns-in_err-state-clause-faults : goal.returns-in_err-state-clause-faults
 returns-in_err-state-clause-faults g c =
@@ -62,7 +63,8 @@ returns-in_err-state-clause-faults g c =
     c.in_ok-names.ensures.looks)
     (look_keeps g.S.Store g.H.Shelf c.audit.new.self c.view.new.self c.in_err-state.ensures.looks)
     (look_fails g.S.Store g.H.Shelf c.audit.new.self c.view.new.self _ _ refl
-    c.in_err-state.ensures.looks c.in_err-state.ensures.closes))
+    c.in_err-state.ensures.looks c.in_err-state.ensures.closes
+    (store_of_records g.S.Store _ _ _ c.in_err-state.ensures.records)))
 
 pub returns-clause-faults : goal.returns-clause-faults
 returns-clause-faults g c = memory_fails g.S.Store g.H.Shelf c.args.bench.now c.view.new.self

@@ -1,4 +1,7 @@
-use Rattle.std.proofs.Common.{◌∙◌, refl, sym, ap, Err, rules}
+use Rattle.std.proofs.Common.{◌∙◌, refl, sym, ap, [], Err, rules}
+use Rattle.gm_bench.specs.Leading.{whole}
+use Rattle.gm_bench.proofs.FactsLookedUp.{honest_to_adopt}
+use Rattle.gm_bench.proofs.ReadTables.{pending_none, tables_of}
 use Rattle.gm_sync.specs.Filling.{IsAdvanceOf}
 use Rattle.gm_sync.proofs.Faults.{memory_fails, told}
 use Rattle.gm_sync.proofs.Filled.{fills_run, tables_at_rest}
@@ -24,6 +27,21 @@ returns-in_err-answer-in-Ok-clause-faults g c =
           (tables_at_rest g.S.Store g.H.Shelf c.args.bench.now away u at
           (g.met.H.Shelf.lawful _ honest))
           (ap Err e);
+      store = λ honest kept away u at e.
+          let shelf = c.args.bench.now.media.shelf in
+          let lawful = g.met.H.Shelf.lawful shelf honest in
+          record {
+            before = c.args.bench.now;
+            world = u;
+            at = at;
+            failed = λ room.
+                ran.store kept (ap Err e) at.tables u.state at.has
+                (tables_at_rest g.S.Store g.H.Shelf c.args.bench.now away u at lawful)
+                (pending_none at.tables u.state (tables_of at.tables [] []
+                (whole (g.H.Shelf.size shelf) away (g.H.Shelf.view shelf).seen) u
+                (at.leads (g.H.Shelf.view shelf).seen lawful.holds_now).0))
+                room (honest_to_adopt g.H.Shelf shelf honest _);
+          };
     })
 
 pub returns-clause-faults : goal.returns-clause-faults

@@ -3,7 +3,7 @@ use Rattle.gm_bench.specs.Benches.{registry_of}
 use Rattle.gm_registry.specs.Registry.{DiskKept}
 use Rattle.gm_sync.specs.Filling.{IsAdvanceIn}
 use Rattle.gm_sync.specs.Scopes.{next_of}
-use Rattle.gm_sync.proofs.Faults.{fails_then, look_fails, told}
+use Rattle.gm_sync.proofs.Faults.{fails_then, look_fails, store_of_records, told}
 use Rattle.gm_sync.proofs.Filled.{fills_looked, fills_none, fills_then, filled_look, look_keeps, tables_at_rest}
 use Rattle.gm_sync.proofs.Still.{still_looked, still_none, still_shown}
 use Rattle.gm_sync.proofs.fill.fill.Goals as goal
@@ -119,7 +119,8 @@ returns-in_err-accepted-clause-faults g c =
     (look_keeps g.S.Store g.H.Shelf c.loop.bench c.accepted.new.self
     c.in_err-accepted.ensures.looks)
     (look_fails g.S.Store g.H.Shelf c.loop.bench c.accepted.new.self _ _ refl
-    c.in_err-accepted.ensures.looks c.in_err-accepted.ensures.closes))
+    c.in_err-accepted.ensures.looks c.in_err-accepted.ensures.closes
+    c.in_err-accepted.ensures.store))
 
 pub returns-in_err-state-clause-faults : goal.returns-in_err-state-clause-faults
 returns-in_err-state-clause-faults g c =
@@ -133,7 +134,8 @@ returns-in_err-state-clause-faults g c =
     (look_keeps g.S.Store g.H.Shelf c.accepted.new.self c.view.new.self
     c.in_err-state.ensures.looks)
     (look_fails g.S.Store g.H.Shelf c.accepted.new.self c.view.new.self _ _ refl
-    c.in_err-state.ensures.looks c.in_err-state.ensures.closes))
+    c.in_err-state.ensures.looks c.in_err-state.ensures.closes
+    (store_of_records g.S.Store _ _ _ c.in_err-state.ensures.records)))
 
 pub returns-in_err-unfilled-clause-faults : goal.returns-in_err-unfilled-clause-faults
 returns-in_err-unfilled-clause-faults g c =
