@@ -34,9 +34,9 @@ module _ {S H : Type 0} (g : StoreGhosts S) (h : ShelfGhosts H) where
   }
 
   -- what is told by the rows of records is told by tables
-  pub store_of_records : (r s : Held S) {T : Type 0} (result : Result T BenchFault)
+  pub store_of_records : (r s : Held S) {T : Type 0} {result : Result T BenchFault}
       → TellsOfRecords g r s result → TellsStore g r s result
-  store_of_records r s result told = λ kept is t has.
+  store_of_records r s told = λ kept is t has.
       told.store kept is (sees_registry (state g r) t has)
 
   -- want of memory closes nothing

@@ -51,7 +51,7 @@ returns-in_err-names-clause-faults g c =
     c.in_err-names.field-0.0 (search rules)
     (look_fails g.S.Store g.H.Shelf c.args.bench.now c.audit.new.self _ _ refl
     c.in_err-names.ensures.looks c.in_err-names.ensures.closes
-    (store_of_records g.S.Store _ _ _ c.in_err-names.ensures.records))
+    (store_of_records g.S.Store g.H.Shelf _ _ c.in_err-names.ensures.records))
 
 pub returns-in_err-state-clause-faults : goal.returns-in_err-state-clause-faults
 returns-in_err-state-clause-faults g c =
@@ -64,7 +64,7 @@ returns-in_err-state-clause-faults g c =
     (look_keeps g.S.Store g.H.Shelf c.audit.new.self c.view.new.self c.in_err-state.ensures.looks)
     (look_fails g.S.Store g.H.Shelf c.audit.new.self c.view.new.self _ _ refl
     c.in_err-state.ensures.looks c.in_err-state.ensures.closes
-    (store_of_records g.S.Store _ _ _ c.in_err-state.ensures.records)))
+    (store_of_records g.S.Store g.H.Shelf _ _ c.in_err-state.ensures.records)))
 
 pub returns-clause-faults : goal.returns-clause-faults
 returns-clause-faults g c = memory_fails g.S.Store g.H.Shelf c.args.bench.now c.view.new.self

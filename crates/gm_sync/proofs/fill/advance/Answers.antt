@@ -1,6 +1,5 @@
 use Rattle.std.proofs.Common.{◌∙◌, refl, sym, ap, [], Err, rules}
 use Rattle.gm_bench.specs.Leading.{whole}
-use Rattle.gm_bench.proofs.FactsLookedUp.{honest_to_adopt}
 use Rattle.gm_bench.proofs.ReadTables.{pending_none, tables_of}
 use Rattle.gm_sync.specs.Filling.{IsAdvanceOf}
 use Rattle.gm_sync.proofs.Faults.{memory_fails, told}
@@ -40,7 +39,7 @@ returns-in_err-answer-in-Ok-clause-faults g c =
                 (pending_none at.tables u.state (tables_of at.tables [] []
                 (whole (g.H.Shelf.size shelf) away (g.H.Shelf.view shelf).seen) u
                 (at.leads (g.H.Shelf.view shelf).seen lawful.holds_now).0))
-                room (honest_to_adopt g.H.Shelf shelf honest _);
+                room tt;
           };
     })
 

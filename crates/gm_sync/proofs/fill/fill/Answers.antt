@@ -135,7 +135,7 @@ returns-in_err-state-clause-faults g c =
     c.in_err-state.ensures.looks)
     (look_fails g.S.Store g.H.Shelf c.accepted.new.self c.view.new.self _ _ refl
     c.in_err-state.ensures.looks c.in_err-state.ensures.closes
-    (store_of_records g.S.Store _ _ _ c.in_err-state.ensures.records)))
+    (store_of_records g.S.Store g.H.Shelf _ _ c.in_err-state.ensures.records)))
 
 pub returns-in_err-unfilled-clause-faults : goal.returns-in_err-unfilled-clause-faults
 returns-in_err-unfilled-clause-faults g c =
