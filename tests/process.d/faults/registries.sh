@@ -107,6 +107,46 @@ for registry in "$bench/nowhere/registry" "$bench/images" '' :memory:; do
 done
 expect_images 'no fault of a registry touches an image' bare bare
 
+# ---- registries with something beside their tables
+
+# Whether a registry to which this adds something isn't opened, says that fault and keeps each byte, and is opened again after
+# that was dropped.
+expect_more() {
+    put_back
+    sqlite3 "$registry" "$3"
+    cp "$registry" "$work/kept-file"
+    for command in recover status; do
+        at_bench $command
+        expect "a $command with $1" 3 '' "gmbench: $2"
+        expect_same "it leaves the registry with $1" "$registry" "$work/kept-file"
+    done
+    sqlite3 "$registry" "$4"
+    at_bench status
+    expect "a status after $1 is gone" 0 "$of_one" ''
+}
+
+# What SQLite keeps in the file is F6 if the program's own SQLite reads it, and F2 if that refuses the file: a window function is
+# outside its grammar, and a table with a trigger isn't read, so that a row which refers to it refers to none.
+if command -v sqlite3 >/dev/null; then
+    fresh_bench more
+    batch "$label"
+    keep_bench
+    unreadable='F6 registry unreadable'
+    expect_more 'a view' "$unreadable" 'CREATE VIEW who AS SELECT prov, mirror FROM components' 'DROP VIEW who'
+    expect_more 'statistics' "$unreadable" 'ANALYZE' 'DROP TABLE sqlite_stat1; DROP TABLE IF EXISTS sqlite_stat4'
+    expect_more 'an index' "$unreadable" 'CREATE INDEX by_total ON mirrors(total)' 'DROP INDEX by_total'
+    expect_more 'a table' "$unreadable" 'CREATE TABLE notes(text)' 'DROP TABLE notes'
+    expect_more 'a trigger on writes' "$unreadable" \
+        'CREATE TRIGGER cut AFTER INSERT ON intents BEGIN DELETE FROM commands; END' 'DROP TRIGGER cut'
+    expect_more 'a trigger on mirrors' 'F2 store' \
+        'CREATE TRIGGER cut AFTER INSERT ON mirrors BEGIN DELETE FROM commands; END' 'DROP TRIGGER cut'
+    expect_more 'a view of another grammar' 'F2 store' \
+        'CREATE VIEW ranked AS SELECT row_number() OVER (ORDER BY prov) FROM components' 'DROP VIEW ranked'
+    expect_images 'none of them touches an image' fresh bare
+else
+    skip 'something beside the tables of a registry' 'there is no sqlite3'
+fi
+
 # ---- folders that are none
 
 fresh_bench no-folder
