@@ -11,8 +11,8 @@ import shutil
 import subprocess
 import sys
 
-import formats
-from plain_bench import GREATEST, Records
+from plain_bench import Records
+from worked_rows import answered, images_of, refuses, told, worked_rows
 
 program, preloaded, work, stride = sys.argv[1], sys.argv[2], sys.argv[3], int(sys.argv[5])
 rng = random.Random(11)
@@ -24,54 +24,10 @@ counts = {"cuts": 0, "reads": 0, "writes": 0}
 wrong = []
 
 
-def plain(sectors, other=None):
-    """Data of which the sector at place i has the byte i + 1 throughout, but for the last byte of one."""
-    parts = [bytearray([(place + 1) % 256]) * 512 for place in range(sectors)]
-    if other is not None:
-        parts[other][511] ^= 1
-    return b"".join(parts)
-
-
-def claiming(did, genid, syncid, version=4, all=2):
-    """The last sector of a component of gm0 in sync, whose mirror has two or so many."""
-    return formats.encode({
-        "magic": formats.MAGIC, "version": version, "name": formats.padded(b"gm0"), "mid": 7, "did": did, "all": all,
-        "genid": genid, "syncid": syncid, "priority": 0, "slice": 4096, "balance": 2, "mediasize": 1536,
-        "sectorsize": 512, "sync_offset": 0, "mflags": 0, "dflags": 0, "provider": bytes(16), "provsize": 2048,
-    })
-
-
-BARE, LAST = bytes(512), GREATEST
-IMAGES = {
-    "a": ("a.img", plain(3) + BARE), "b": ("b.img", bytes([200]) * 1536 + BARE), "c": ("c.img", plain(1) + BARE),
-    "short-c": ("c.img", BARE), "d": ("d.img", bytes(2048)), "long-a": ("a.img", plain(257) + BARE),
-    "long-b": ("b.img", plain(257, 256) + BARE), "last-a": ("a.img", plain(3) + claiming(1, 0, LAST)),
-    "last-b": ("b.img", plain(3) + claiming(2, 0, LAST)), "claiming-a": ("a.img", plain(3) + claiming(1, 0, 1)),
-    "unequal-b": ("b.img", plain(3, 2) + claiming(2, 0, 1)), "left-a": ("a.img", plain(3) + claiming(1, 1, 1)),
-    "lost-b": ("b.img", plain(3) + claiming(2, 0, 1)), "claiming-b": ("b.img", plain(3) + claiming(2, 0, 1)),
-    "second-a": ("a.img", plain(3) + claiming(1, 0, 1, version=2)),
-    "second-alone": ("a.img", plain(3) + claiming(1, 0, 1, version=2, all=1)),
-    "third-b": ("b.img", plain(3, 2) + claiming(2, 0, 1, version=3)),
-}
-
-
-def rows():
-    """What each row shows, its images, its lines, and what they are answered."""
-    with open(sys.argv[4], encoding="utf-8") as file:
-        table = file.read().split('pub(super) const ROWS: &str = "', 1)[1].rsplit('";', 1)[0]
-    # a line that goes on in the next
-    table = table.replace("\\\n", "")
-    for row in table.split("\n= "):
-        shows, words, lines, found = [part.strip() for part in row.removeprefix("= ").split("|")]
-        answers = found.split("\nwith")[0].split("\n") if not found.startswith("with") else []
-        yield shows, [word for word in words.split() if word != "taste"], lines, answers
-
-
 def put(words):
     shutil.rmtree(bench, ignore_errors=True)
     os.makedirs(images)
-    for word in words:
-        name, content = IMAGES[word]
+    for name, content in images_of(words).items():
         with open(os.path.join(images, name), "wb") as file:
             file.write(content)
 
@@ -92,19 +48,6 @@ def state():
         with open(os.path.join(images, name), "rb") as file:
             found[name] = file.read()
     return Records(registry, scratch).rows() if os.path.exists(registry) else None, found
-
-
-def told(answers):
-    return "".join(f"{answer}\n" for answer in answers)
-
-
-def answered(lines):
-    """Of these lines those that are answered."""
-    return [line for line in lines if line.split()]
-
-
-def refuses(answers):
-    return int(any(" refused " in answer for answer in answers))
 
 
 def check(title, found, wanted):
@@ -174,7 +117,7 @@ def fail(title, words, text, answers):
         rest(f"{title}, write {number} fails", text, answers, number - 1, True)
 
 
-for row, (shows, words, lines, answers) in enumerate(rows()):
+for row, (shows, words, lines, answers) in enumerate(worked_rows(sys.argv[4])):
     text = f"{lines}\n" if lines else ""
     put(words)
     check(shows, run(text), (refuses(answers), told(answers), ""))
