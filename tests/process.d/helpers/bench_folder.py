@@ -14,9 +14,9 @@ class Bench:
         self.images, self.registry = os.path.join(self.folder, "images"), os.path.join(self.folder, "registry")
         self.count_file = os.path.join(work, "count")
 
-    def run(self, words, lines=b"", shelf=True, **environment):
+    def run(self, words, lines=b"", shelf=True, registry=True, **environment):
         """Runs a command with these variables: its status, what it prints and what it complains of."""
-        place = ["--registry", self.registry, *(["--shelf", self.images] if shelf else [])]
+        place = [*(["--registry", self.registry] if registry else []), *(["--shelf", self.images] if shelf else [])]
         done = subprocess.run(
             [self.program, words[0], *place, *words[1:]], input=lines, capture_output=True, timeout=30,
             env={**os.environ, **environment},
@@ -30,13 +30,17 @@ class Bench:
         with open(self.count_file, encoding="ascii") as file:
             return int(file.read())
 
-    def make(self, names, sectors):
-        """An empty bench with images of so many sectors, each of its own letter but for the last sector, which is zeros."""
+    def begin(self, images):
+        """A bench without a registry, with these images: their bytes by their names."""
         shutil.rmtree(self.folder, ignore_errors=True)
         os.makedirs(self.images)
-        for name in names:
+        for name, content in images.items():
             with open(os.path.join(self.images, name), "wb") as file:
-                file.write(name[:1].encode() * (sectors - 1) * 512 + bytes(512))
+                file.write(content)
+
+    def make(self, names, sectors):
+        """The same with images of so many sectors, each of its own letter but for the last sector, which is zeros."""
+        self.begin({name: name[:1].encode() * (sectors - 1) * 512 + bytes(512) for name in names})
 
     def hand_in(self, commands, **environment):
         """Has commands carried out, each under a key of its own."""
