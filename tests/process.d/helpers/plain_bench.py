@@ -25,10 +25,13 @@ class Records:
                 shutil.copyfile(registry + end, scratch + end)
         connection = sqlite3.connect(scratch)
         connection.row_factory = sqlite3.Row
+        # without tables, or without a file, nothing is registered yet
+        is_made = connection.execute("SELECT * FROM sqlite_master").fetchone()
         rows = {}
         for table, order in [("mirrors", "name"), ("components", "prov"), ("intents", "ord"), ("commands", "seq")]:
-            rows[table] = [dict(row) for row in connection.execute(f"SELECT * FROM {table} ORDER BY {order}")]
-        self.patches = [row["bytes"] for row in connection.execute("SELECT bytes FROM patches")]
+            found = connection.execute(f"SELECT * FROM {table} ORDER BY {order}") if is_made else []
+            rows[table] = [dict(row) for row in found]
+        self.patches = [row["bytes"] for row in connection.execute("SELECT bytes FROM patches")] if is_made else []
         connection.close()
         for end in ("", "-wal", "-shm"):
             if os.path.exists(scratch + end):
