@@ -9,8 +9,7 @@ import subprocess
 import sys
 
 import client
-from bodies import EMPTY, LABEL, MIRROR, SECTOR, STATUS
-from client import post, response
+from four_requests import AGAIN, ASKED, BAD, DONE, LOOKS, NONE, get
 
 program, preloaded, work = sys.argv[1:4]
 bench = os.path.join(work, "bench")
@@ -18,21 +17,6 @@ images, registry = os.path.join(bench, "images"), os.path.join(bench, "registry"
 count_file = os.path.join(work, "count")
 counts = {"cuts": 0, "reads": 0, "writes": 0}
 wrong = []
-
-
-def get(target):
-    return f"GET {target} HTTP/1.1\r\nHost: here\r\n\r\n".encode()
-
-
-ASKED = post(LABEL)
-DONE, AGAIN = response(200, '{"answer":"ok","seq":1}'), response(200, '{"answer":"repeated","seq":1}')
-BAD, NONE = response(400), response(200, EMPTY)
-# What the mirror is asked for, and what it is answered.
-LOOKS = [
-    (get("/status"), response(200, STATUS)),
-    (get("/mirrors/gm0"), response(200, MIRROR)),
-    (get("/providers/a.img/metadata"), response(200, SECTOR)),
-]
 
 
 def put(labelled):
