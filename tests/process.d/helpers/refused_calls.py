@@ -14,8 +14,8 @@ def shown(ended):
 
 
 def lines_before_fault(ended, lines, complained=""):
-    """How many of these lines a run printed before want of memory ended it; None if it ended otherwise. The next line may be the
-    fault's own."""
+    """How many of these lines a run printed before want of memory ended it; None if it ended otherwise. The next line may be
+    the fault's own."""
     if ended[0] != 3 or ended[2] not in (MEMORY, complained + MEMORY):
         return None
     for count in range(len(lines) + 1):

@@ -3,8 +3,8 @@ refused, each in turn.
 
     refused_in_rows.py PROGRAM PRELOADED FOLDER ROWS MOST
 
-ROWS is the file of the rows. Of each batch all calls are refused, or MOST, which are chosen by a fixed seed. With PART=K/N in the
-environment it is each Nth of these, from the Kth on.
+ROWS is the file of the rows. Of each batch all calls are refused, or MOST, which are chosen by a fixed seed. With PART=K/N in
+the environment it is each Nth of these, from the Kth on.
 """
 
 import os

@@ -2,8 +2,8 @@
 
     refused_memory.py PROGRAM PRELOADED FOLDER MOST
 
-A line says how many calls were refused, and how many the run with ample memory makes: all of them are refused, or MOST, which are
-chosen by a fixed seed. With PART=K/N in the environment it is each Nth of these, from the Kth on.
+A line says how many calls were refused, and how many the run with ample memory makes: all of them are refused, or MOST, which
+are chosen by a fixed seed. With PART=K/N in the environment it is each Nth of these, from the Kth on.
 """
 
 import os
@@ -50,7 +50,7 @@ def answered_again(lines, answers, wanted):
 
 
 def look(name, words, keeps_registry=False, **place):
-    """A command that only looks tells the same or a fault, and changes no image; nor a file of the registry, if that is said."""
+    """A command that only looks tells the same or a fault, and changes no image; nor the registry, if it is to keep that."""
 
     def run(**more):
         return calls.run(words, **place, **more)
