@@ -51,7 +51,8 @@ module _ {S H T U : Type 0} (s : Ghosts S) (h : ShelfGhosts H) (settling : IsSet
         (λ y l. at.leads y (quiet_moment (h.view (shelf_of a)) (h.view (shelf_of c))
         (lawful honest) quiet y l))
         (λ y l. at.leads y (quiet.crash y l));
-    read = λ honest clean. on_ok r (second.does (first.only.keeps.honest honest) clean) (λ then t has.
+    read = λ honest clean.
+        on_ok r (second.does (first.only.keeps.honest honest) clean) (λ then t has.
         let one = (first.does honest (mid clean)).tables t has in
         let two = then.tables t one in
         let before = first.store.left t has in
