@@ -1,5 +1,5 @@
--- What a command that is run is answered, from what its parts do.
-use Rattle.std.proofs.Common.{◌≡◌, ◌∙◌, inr, ℕ, List, [], sym, subst}
+-- What a command that is handed in is answered, from what its parts do.
+use Rattle.std.proofs.Common.{◌≡◌, ◌∙◌, inl, inr, ℕ, List, [], refl, sym, ap, subst, subst₂}
 use Rattle.sqlite_trees.specs.declared.store.Store.{Ghosts}
 use Rattle.sqlite.specs.Held.{Held}
 use Rattle.gm_metadata.specs.Images.{Image, Sizes}
@@ -10,79 +10,190 @@ use Rattle.gm_state.specs.World.{World}
 use Rattle.gm_bench.specs.declared.answer.Accepted.{Accepted}
 use Rattle.gm_bench.specs.declared.answer.Accepted.TheVariants as accepted
 use Rattle.gm_bench.specs.declared.answer.Answer.{Answer}
+use Rattle.gm_bench.specs.declared.answer.Answer.TheVariants.{Done, Repeated, Refused}
 use Rattle.gm_bench.specs.declared.answer.Work.{Work}
 use Rattle.gm_bench.specs.declared.phase.Progress.{Progress}
-use Rattle.gm_bench.specs.declared.phase.Progress.TheVariants.{Ready, Pending}
+use Rattle.gm_bench.specs.declared.phase.Progress.TheVariants.{Ready, Pending, Applied}
 use Rattle.gm_bench.specs.declared.phase.Phase.TheVariants as phase
 use Rattle.gm_bench.specs.Accepting.{LeavesStep, IsAnswered, IsDone}
-use Rattle.gm_bench.specs.Owed.{AcceptAnswers, RunAnswers, RunLeaves}
-use Rattle.gm_bench.specs.Phases.{answer_of, phase_of, progress_after}
-use Rattle.gm_bench.specs.Recovering.{IsAt, IsAtWork, LeavesOnly}
+use Rattle.gm_bench.specs.Owed.{AcceptAnswers, AcceptLeaves, ApplyDoes, ApplyLeaves, LeavesRun}
+use Rattle.gm_bench.specs.Phases.{answer_of, phase_carried, phase_of, progress_after, waiting_of}
+use Rattle.gm_bench.specs.Recovering.{IsAt, LeavesOnly}
 use Rattle.gm_bench.specs.Running.{IsRun}
-use Rattle.gm_bench.proofs.Phases.{was_done}
+use Rattle.gm_bench.specs.Standing.{Carries, IsHandedIn, Stands}
+use Rattle.gm_bench.proofs.Phases.{is_ready, was_done}
+use Rattle.gm_bench.proofs.RegistryLeaves.{then_only}
+use Rattle.gm_bench.proofs.Standing.{carried_so, stands_still}
 
--- an answer that leaves nothing to be carried out
-rests : {S H : Type 0} (g : Ghosts S) (view : H → View) (size : H
-    → Sizes) (s : Held S) (k : H) (away : Image) (u : World) (key : List ℕ) (c : Command)
-    (it : Accepted) → progress_after it ≡ Ready → IsAnswered g view size s k away u key c it
-    → IsRun g view size s k away u key c (answer_of it)
-rests g view size s k away u key c (accepted.Done n reply work) is a = cc
-rests g view size s k away u key c (accepted.Repeated n reply) is a =
-    record { world = u; calls = a.0; at = a.1 }
-rests g view size s k away u key c (accepted.Refused why) is a =
-    record { world = u; calls = a.0; at = a.1 }
+-- what is told of a command that is handed in to a bench that was so far before
+abbrev pub Told : {S H : Type 0} → Ghosts S → (H → View) → (H → Sizes) → Held S → Held S → H → H
+    → List ℕ → Command → Answer → Progress → Progress → Type 0
+Told g view size r s h k key c a p before =
+    (it : Accepted) × (a ≡ answer_of it) × (p ≡ progress_after before it)
+    × AcceptAnswers g view size (waiting_of before) r s h k key c it
 
--- accepted with r and h before and s and k after
-module _ {S H : Type 0} (g : Ghosts S) (view : H → View) (size : H
-    → Sizes) (r s : Held S) (h k : H) (key : List ℕ) (c : Command) (a : Answer) (p : Progress)
-    (told : (it : Accepted) × (a ≡ answer_of it) × (p ≡ progress_after it)
-    × AcceptAnswers g view size r s h k key c it) where
-  pub rest_answers : p ≡ Ready → RunAnswers g view size r s h k key c a
-  rest_answers is away u at =
-      subst (λ (x : Answer). IsRun g view size s k away u key c x) (sym told.1)
-      (rests g view size s k away u key c told.0 (sym told.2 ∙ is) (told.3 away u at))
+-- accepted with r and h before and s and k after, by a bench that was so far before
+module _ {S H : Type 0} (g : Ghosts S) (view : H → View) (size : H → Sizes) (r s : Held S) (h k : H)
+    (key : List ℕ) (c : Command) (before : Progress)
+    (leaves : AcceptLeaves g view size (waiting_of before) r s h k key c) where
+  left_step : (away : Image) (v u : World) → Stands g view size before r h away v u
+      → LeavesStep g view size r s h k away v u key c
+  left_step away v u stands =
+      let was = carried_so g view size before r h away v u stands in
+      leaves away was.intents was.bytes v u was.at was.waits
 
-  module _ (pending : phase_of p ≡ phase.Pending) where
-    abbrev pub work : Work
-    work = (was_done told.0 p told.2 pending).2
+  -- it was stopped before it was accepted
+  pub unaccepted : size k ≡ size h → (away : Image) (v u : World)
+      → Stands g view size before r h away v u → LeavesRun g view size r s h k away v u key c
+  unaccepted sizes away v u stands = record {
+    registry = s;
+    shelf = k;
+    sizes = sizes;
+    accepting = left_step away v u stands;
+    carrying = inl (refl, refl);
+  }
 
-    pub is_work : p ≡ Pending work
-    is_work = (was_done told.0 p told.2 pending).4
+  module _ (a : Answer) (p : Progress) (never : phase_of before ≡ phase.Pending → ⊥)
+      (told : Told g view size r s h k key c a p before) where
+    -- an answer that leaves nothing to be carried out
+    rests : (it : Accepted) → p ≡ progress_after before it
+        → (phase_of p ≡ phase.Pending → ⊥)
+        → AcceptAnswers g view size (waiting_of before) r s h k key c it
+        → (away : Image) (v u : World) → Stands g view size before r h away v u
+        → IsHandedIn g view size p r s h k away v u key c (answer_of it)
+    rests (accepted.Done n reply work) is other answers away v u stands =
+        absurd (other (ap phase_of is))
+    rests (accepted.Repeated n reply) is other answers away v u stands =
+        let was = carried_so g view size before r h away v u stands in
+        let it = answers away was.intents was.bytes v u was.at was.waits in (
+          it.0,
+          left_step away v u stands,
+          subst (λ (q : Progress). Stands g view size q s k away v u) (sym is)
+              (stands_still g view size before r s h k away v u stands it.1),
+        )
+    rests (accepted.Refused why) is other answers away v u stands =
+        let was = carried_so g view size before r h away v u stands in
+        let it = answers away was.intents was.bytes v u was.at was.waits in (
+          it.0,
+          left_step away v u stands,
+          subst (λ (q : Progress). Stands g view size q s k away v u) (sym is)
+              (stands_still g view size before r s h k away v u stands it.1),
+        )
 
-    abbrev number : ℕ
-    number = (was_done told.0 p told.2 pending).0
+    pub rest_handed : (phase_of p ≡ phase.Pending → ⊥) → (away : Image) (v u : World)
+        → Stands g view size before r h away v u
+        → IsHandedIn g view size p r s h k away v u key c a
+    rest_handed other away v u stands =
+        subst (λ (x : Answer). IsHandedIn g view size p r s h k away v u key c x) (sym told.1)
+        (rests told.0 told.2 other told.3 away v u stands)
 
-    abbrev reply : Reply
-    reply = (was_done told.0 p told.2 pending).1
+    module _ (pending : phase_of p ≡ phase.Pending) where
+      abbrev pub work : Work
+      work = (was_done before told.0 p never told.2 pending).2
 
-    is_done : told.0 ≡ accepted.Done number reply work
-    is_done = (was_done told.0 p told.2 pending).3
+      pub is_work : p ≡ Pending work
+      is_work = (was_done before told.0 p never told.2 pending).4
 
-    pub done : (away : Image) (u : World) → IsAt g view size r h away [] [] u u
-        → IsDone g view size s k away u key c number reply work
-    done away u at = subst (λ (x : Accepted). IsAnswered g view size s k away u key c x) is_done
-        (told.3 away u at)
+      abbrev number : ℕ
+      number = (was_done before told.0 p never told.2 pending).0
 
-    pub carried_answers : (end : Held S) (l : H)
-        → ((away : Image) (u w : World) → IsAtWork g view size s k away work u w
-        → IsAt g view size end l away [] [] w w) → RunAnswers g view size r end h l key c a
-    carried_answers end l does away u at =
-        let d = done away u at in
-        subst (λ (x : Answer). IsRun g view size end l away u key c x)
-        (sym (told.1 ∙ (λ i. answer_of (is_done i))))
-        (record { world = d.world; calls = d.calls; at = does away u d.world d.at })
+      abbrev reply : Reply
+      reply = (was_done before told.0 p never told.2 pending).1
 
-    pub carried_leaves : (end : Held S) (l : H) → size k ≡ size h
-        → ((away : Image) (u : World) → IsAt g view size r h away [] [] u u
-        → LeavesStep g view size r s h k away u key c)
-        → ((away : Image) (u w : World) → IsAtWork g view size s k away work u w
-        → LeavesOnly g view size s end k l away u w) → RunLeaves g view size r end h l key c
-    carried_leaves end l sizes accepting leaves away u at =
-        let d = done away u at in
-        record {
-          registry = s;
-          shelf = k;
-          sizes = sizes;
-          accepting = accepting away u at;
-          carrying = inr (d.world, reply, d.calls.3, leaves away u d.world d.at);
-        }
+      is_done : told.0 ≡ accepted.Done number reply work
+      is_done = (was_done before told.0 p never told.2 pending).3
+
+      done : (away : Image) (v u : World) → Stands g view size before r h away v u
+          → IsDone g view size s k away u key c number reply work
+      done away v u stands =
+          let was = carried_so g view size before r h away v u stands in
+          subst (λ (x : Accepted).
+          IsAnswered g view size s k away was.intents was.bytes v u key c x) is_done
+          (told.3 away was.intents was.bytes v u was.at was.waits)
+
+      pub carried_handed : (end : Held S) (l : H) (q : Progress) → end ≡ s → size k ≡ size h
+          → q ≡ Applied work → ApplyDoes g view size s k l work → ApplyLeaves g view size s k l work
+          → (away : Image) (v u : World) → Stands g view size before r h away v u
+          → IsHandedIn g view size q r end h l away v u key c a
+      carried_handed end l q same sizes is does goes away v u stands =
+          let d = done away v u stands in
+          let carries : Carries g view size r s h l away v u d.world key c = record {
+            registry = s;
+            shelf = k;
+            sizes = sizes;
+            accepting = left_step away v u stands;
+            carrying = goes away u d.world d.at;
+          } in
+          let standing : Stands g view size q s l away u d.world =
+          subst (λ (x : Progress). Stands g view size x s l away u d.world) (sym is)
+          (does away u d.world d.at) in
+          subst (λ (x : Answer). IsHandedIn g view size q r end h l away v u key c x)
+          (sym (told.1 ∙ (λ i. answer_of (is_done i))))
+          (subst (λ (x : Held S). IsHandedIn g view size q r x h l away v u key c
+          (Done number reply)) (sym same) (d.world, d.calls, carries, standing))
+
+      pub uncarried : (end : Held S) (l : H) → end ≡ s → size k ≡ size h
+          → ApplyLeaves g view size s k l work
+          → (away : Image) (v u : World) → Stands g view size before r h away v u
+          → LeavesRun g view size r end h l away v u key c
+      uncarried end l same sizes goes away v u stands =
+          let d = done away v u stands in
+          subst (λ (x : Held S). LeavesRun g view size r x h l away v u key c) (sym same)
+          (record {
+            registry = s;
+            shelf = k;
+            sizes = sizes;
+            accepting = left_step away v u stands;
+            carrying = inr (d.world, reply, d.calls.3, goes away u d.world d.at);
+          })
+
+-- a command that was handed in to a bench at rest, and what is settled then
+module _ {S H : Type 0} (g : Ghosts S) (view : H → View) (size : H → Sizes) (r mid s : Held S)
+    (h k l : H) (key : List ℕ) (c : Command) (p : Progress) (away : Image) (u : World) where
+  pub run_answers : (a : Answer) → IsHandedIn g view size p r mid h k away u u key c a
+      → ((v w : World) → Stands g view size p mid k away v w
+      → IsAt g view size s l away [] [] w w) → IsRun g view size s l away u key c a
+  run_answers (Done n told) it settles =
+      record { world = it.0; calls = it.1; at = settles u it.0 it.3 }
+  run_answers (Repeated n told) it settles =
+      record { world = u; calls = it.0; at = settles u u it.2 }
+  run_answers (Refused why) it settles =
+      record { world = u; calls = it.0; at = settles u u it.2 }
+
+  undone_leaves : s ≡ mid → l ≡ k → size k ≡ size h
+      → LeavesStep g view size r mid h k away u u key c
+      → LeavesRun g view size r s h l away u u key c
+  undone_leaves same there sizes step =
+      subst₂ (λ (x : Held S) (y : H). LeavesRun g view size r x h y away u u key c) (sym same)
+      (sym there) (record {
+        registry = mid;
+        shelf = k;
+        sizes = sizes;
+        accepting = step;
+        carrying = inl (refl, refl);
+      })
+
+  pub run_leaves : (a : Answer) → IsHandedIn g view size p r mid h k away u u key c a
+      → phase_of p ≡ phase_carried phase.Ready a → (p ≡ Ready → (s ≡ mid) × (l ≡ k))
+      → size k ≡ size h → l ≡ k
+      → ((v w : World) → Stands g view size p mid k away v w
+      → LeavesOnly g view size mid s k l away v w) → LeavesRun g view size r s h l away u u key c
+  run_leaves (Done n told) it is still sizes same settling = record {
+    registry = it.2.registry;
+    shelf = it.2.shelf;
+    sizes = it.2.sizes;
+    accepting = it.2.accepting;
+    carrying = inr (
+      it.0,
+      told,
+      it.1.3,
+      then_only g view size it.2.registry mid s it.2.shelf k l away u it.0 same
+          (sizes ∙ sym it.2.sizes) it.2.carrying (settling u it.0 it.3),
+    );
+  }
+  run_leaves (Repeated n told) it is still sizes same settling =
+      let none = still (is_ready p is) in
+      undone_leaves none.0 none.1 sizes it.1
+  run_leaves (Refused why) it is still sizes same settling =
+      let none = still (is_ready p is) in
+      undone_leaves none.0 none.1 sizes it.1

@@ -26,7 +26,7 @@ use Rattle.gm_bench.proofs.ShelfProviders.{at_hand_up, masked}
 use Rattle.gm_bench.proofs.ClaimsBefore.{claims_before}
 use Rattle.gm_bench.proofs.WorldAtRest.{at_rest}
 
-no_rows : (t : Tables) → IsPermutation (intent_rows 1 []) t.intents → t.intents ≡ []
+pub no_rows : (t : Tables) → IsPermutation (intent_rows 1 []) t.intents → t.intents ≡ []
 no_rows t p = by t.intents (length_permutation (intent_rows 1 []) t.intents p)
   where
     by : {X : Type 0} (xs : List X) → length xs ≡ 0 → xs ≡ []

@@ -17,29 +17,37 @@ use Rattle.gm_changes.specs.Decides.{Changed}
 use Rattle.gm_rules.specs.Step.{Plan, CanAnswer, HasPlan}
 use Rattle.gm_rules.specs.AbstractCalls as run
 use Rattle.gm_rules.proofs.EveryPlan.{every_plan}
-use Rattle.gm_registry.specs.Changes.{with_accepted}
+use Rattle.gm_registry.specs.Changes.{settled, with_accepted}
 use Rattle.gm_registry.specs.Registry.{CrashLeavesOnly, DiskKept, HasSaved, MayLeave}
 use Rattle.gm_registry.specs.Replies.{count_of}
 use Rattle.gm_bench.specs.declared.plan.Planned.{Planned}
 use Rattle.gm_bench.specs.Accepting.{LeavesStep, IsDone}
 use Rattle.gm_bench.specs.Leading.{whole, Leads, AllLead}
 use Rattle.gm_bench.specs.Planning.{IsPlanned}
-use Rattle.gm_bench.specs.Recovering.{Cover, IsAt}
+use Rattle.gm_bench.specs.Recovering.{Cover, IsAt, IsCarriedOut}
 use Rattle.gm_bench.proofs.CallAnswers.{stepped}
+use Rattle.gm_bench.proofs.CarriedOut.{settled_leads}
 use Rattle.gm_bench.proofs.CommitLeadsOn.{commit_leads, commit_claims}
 use Rattle.gm_bench.proofs.PartCovers.{covers_after}
 use Rattle.gm_bench.proofs.RegistryLeaves.{leads_in}
 
 module _ {S H : Type 0} (g : Ghosts S) (view : H → View) (size : H → Sizes) (r s : Held S) (h : H)
-    (away : Image) (u : World) (key : List ℕ) (c : Command) (p : Planned) (words : List ℕ)
-    (words_is : words ≡ words_of c) (lawful : IsLawful (view h))
-    (at : IsAt g view size r h away [] [] u u) (planned : IsPlanned u c p)
-    (can : CanAnswer u key c) where
+    (away : Image) (ts : List Intent) (bytes : List (List ℕ)) (v u : World) (key : List ℕ)
+    (c : Command) (p : Planned) (words : List ℕ) (words_is : words ≡ words_of c)
+    (lawful : IsLawful (view h)) (at : IsCarriedOut g view size r h away ts bytes v u)
+    (planned : IsPlanned u c p) (can : CanAnswer u key c) where
   abbrev ch : Changed
   ch = p.change
 
-  first_leads : Leads at.tables [] [] (whole (size h) away (view h).seen) u
-  first_leads = (at.leads (view h).seen lawful.holds_now).0
+  -- the tables that it is accepted on
+  abbrev rest : Tables
+  rest = settled at.tables
+
+  rest_leads : (x : Image) → (view h).may_leave x → Leads rest [] [] (whole (size h) away x) u
+  rest_leads = settled_leads g view size r h away ts bytes v u at lawful
+
+  first_leads : Leads rest [] [] (whole (size h) away (view h).seen) u
+  first_leads = rest_leads (view h).seen lawful.holds_now
 
   abbrev has_plan : HasPlan u key c
   has_plan = every_plan u key c first_leads.sound can planned.makes.good
@@ -55,25 +63,25 @@ module _ {S H : Type 0} (g : Ghosts S) (view : H → View) (size : H → Sizes) 
       (sym planned.makes.bytes) has_plan.1
 
   abbrev t : Tables
-  t = with_accepted p.change key words at.tables
+  t = with_accepted p.change key words rest
 
   leads : AllLead t p.change.intents p.change.bytes (size h) away (view h).may_leave u w
   leads x left = (
-    subst (λ (text : List ℕ). Leads (with_accepted p.change key text at.tables) p.change.intents
+    subst (λ (text : List ℕ). Leads (with_accepted p.change key text rest) p.change.intents
         p.change.bytes (whole (size h) away x) w) (sym words_is)
-        (commit_leads u w key c p.change at.tables (whole (size h) away x) planned.makes plan
-        (at.leads x left).0),
-    commit_claims u w key c p.change at.tables (whole (size h) away x) planned.makes plan
-        (at.leads x left).0,
+        (commit_leads u w key c p.change rest (whole (size h) away x) planned.makes plan
+        (rest_leads x left)),
+    commit_claims u w key c p.change rest (whole (size h) away x) planned.makes plan
+        (rest_leads x left),
   )
 
   pub commit_leaves : CrashLeavesOnly g r at.tables → DiskKept g s → MayLeave g r s t
-      → LeavesStep g view size r s h h away u key c
+      → LeavesStep g view size r s h h away v u key c
   commit_leaves only clean may = record {
-    within = leads_in g view size r h away at.tables [] [] u u only
+    within = leads_in g view size r h away at.tables ts bytes v u only
         ((view h).left_since (view h).moment) (λ x left. at.leads x (lawful.only_now x left));
     end = λ db left. elim (may.crash clean db left) [
-      | inl was ↦ inl (leads_in g view size r h away at.tables [] [] u u only
+      | inl was ↦ inl (leads_in g view size r h away at.tables ts bytes v u only
           (view h).may_leave at.leads db was)
       | inr is ↦ inr (
         w,
@@ -105,11 +113,11 @@ module _ {S H : Type 0} (g : Ghosts S) (view : H → View) (size : H → Sizes) 
     world = w;
     calls = subst (λ (a : Reply). run.Calls u (record { key = key; command = c }) w (run.Done n a))
         (sym (reply_is ∙ planned.makes.reply))
-        (stepped u at.tables first_leads.sound first_leads.records key c can.key_ok can.free
+        (stepped u rest first_leads.sound first_leads.records key c can.key_ok can.free
         can.room w (reply_to c u.state) n plan.step number_is);
     at = record {
-      at = subst₂ (λ (ts : List Intent) (bytes : List (List ℕ)).
-          IsAt g view size s h away ts bytes u w) (sym planned.intents) (sym planned.bytes)
+      at = subst₂ (λ (is : List Intent) (bs : List (List ℕ)).
+          IsAt g view size s h away is bs u w) (sym planned.intents) (sym planned.bytes)
           (record {
             tables = t;
             has = saved.tables;
@@ -117,7 +125,7 @@ module _ {S H : Type 0} (g : Ghosts S) (view : H → View) (size : H → Sizes) 
             at_hand = λ i k. subst (λ (z : Sizes). IsAtHand z i) at.sizes (plan.at_hand i k);
             leads = leads;
           });
-      cover = subst (λ (ts : List Intent). Cover p.work.part w.state ts)
+      cover = subst (λ (is : List Intent). Cover p.work.part w.state is)
           (sym planned.intents) cover;
     };
     is_new = can.free;

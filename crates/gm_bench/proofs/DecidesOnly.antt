@@ -1,5 +1,5 @@
 -- What a call leaves that asks the rules, and writes nothing.
-use Rattle.std.proofs.Common.{◌≡◌, ◌∙◌, inl, inr, ℕ, ◌≤◌, ◌<◌, Bool, true, false, List, [], subst, sym, nat_le, arith, refl}
+use Rattle.std.proofs.Common.{◌≡◌, ◌∙◌, inl, inr, ℕ, ◌≤◌, ◌<◌, Bool, true, false, List, subst, sym, nat_le, arith, refl}
 use Rattle.std.specs.Prelude.{Result, Ok, Err, IfOk}
 use Rattle.std.proofs.lemmas.Bool.Decides.{nat_tests}
 use Rattle.sqlite_trees.specs.declared.store.Store.{Ghosts}
@@ -18,7 +18,7 @@ use Rattle.sqlite.specs.Held.{state}
 use Rattle.sqlite.proofs.StateLemmas.{survives_then}
 use Rattle.gm_bench.specs.Accepting.{OrStep, LeavesStep}
 use Rattle.gm_bench.specs.Leading.{AllLead}
-use Rattle.gm_bench.specs.Recovering.{IsFound, IsAt, Recovers}
+use Rattle.gm_bench.specs.Recovering.{IsAt, IsCarriedOut, IsFound, IsShelfOf, Recovers}
 use Rattle.gm_bench.proofs.RegistryLeaves.{leads_in}
 use Rattle.gm_registry.proofs.CallsLeave.{IsSettling, saved}
 use Rattle.gm_state.specs.Rows.{Tables}
@@ -51,41 +51,46 @@ module _ {S H : Type 0} (g : Ghosts S) (view : H → View) (size : H → Sizes) 
 pub quiet_same : {H : Type 0} (view : H → View) (h k : H) → k ≡ h → IsQuiet (view h) (view k)
 quiet_same view h k same = subst (λ x. IsQuiet (view h) (view x)) (sym same) (quiet_itself (view h))
 
--- a bench at rest, whose shelf was only read
+-- a bench whose intents are done, and whose shelf was only read
 module _ {S H : Type 0} (g : Ghosts S) (view : H → View) (size : H → Sizes) (r : Held S) (h k : H)
-    (away : Image) (u : World) (at : IsAt g view size r h away [] [] u u)
+    (away : Image) (ts : List Intent) (bytes : List (List ℕ)) (v u : World)
+    (at : IsCarriedOut g view size r h away ts bytes v u)
     (lawful : IsLawful (view h))
     (quiet : IsQuiet (view h) (view k)) (same : size k ≡ size h) where
-  abbrev moments : AllLead at.tables [] [] (size h) away ((view k).left_since (view h).moment) u u
+  abbrev moments : AllLead at.tables ts bytes (size h) away ((view k).left_since (view h).moment) v
+      u
   moments x left = at.leads x (quiet_moment (view h) (view k) lawful quiet x left)
 
-  abbrev now : AllLead at.tables [] [] (size h) away (view k).may_leave u u
+  abbrev now : AllLead at.tables ts bytes (size h) away (view k).may_leave v u
   now x left = at.leads x (quiet.crash x left)
 
   -- the same tables
-  abbrev pub still : (s : Held S) → HasTables g s at.tables → IsAt g view size s k away [] [] u u
+  abbrev pub still : (s : Held S) → HasTables g s at.tables → IsCarriedOut g view size s k away ts
+      bytes v u
   still s has = record {
     tables = at.tables;
     has = has;
     sizes = at.sizes ∙ sym same;
-    at_hand = λ t none. absurd none;
-    leads = subst (λ (z : Sizes). AllLead at.tables [] [] z away (view k).may_leave u u)
+    at_hand = subst (λ (z : Sizes). (t : Intent) → Has ts t → IsAtHand z t) (sym same) at.at_hand;
+    leads = subst (λ (z : Sizes). AllLead at.tables ts bytes z away (view k).may_leave v u)
         (sym same) now;
+    shelf = subst (λ (z : Sizes). IsShelfOf (view k) u z) (sym same)
+        (λ x left. at.shelf x (quiet.crash x left));
   }
 
   before_step : CrashLeavesOnly g r at.tables → (db : Trees) → CrashLeaves g r db
-      → Recovers db (size h) away ((view k).left_since (view h).moment) u u
+      → Recovers db (size h) away ((view k).left_since (view h).moment) v u
   before_step only =
-      leads_in g view size r h away at.tables [] [] u u only
+      leads_in g view size r h away at.tables ts bytes v u only
       ((view k).left_since (view h).moment) moments
 
   -- a registry that was only read
   pub unstepped : (s : Held S) (key : List ℕ) (c : Command) → CrashLeavesOnly g r at.tables
-      → DiskKept g s → LeavesNothingNew g r s → LeavesStep g view size r s h k away u key c
+      → DiskKept g s → LeavesNothingNew g r s → LeavesStep g view size r s h k away v u key c
   unstepped s key c only clean nothing = record {
     within = before_step only;
     end = λ db left. elim (nothing.crash clean db left) [
-      | inl was ↦ inl (leads_in g view size r h away at.tables [] [] u u only
+      | inl was ↦ inl (leads_in g view size r h away at.tables ts bytes v u only
           (view k).may_leave now db was)
       | inr none ↦ absurd none
     ];
@@ -93,28 +98,30 @@ module _ {S H : Type 0} (g : Ghosts S) (view : H → View) (size : H → Sizes) 
 
   -- reads, and then more reads and a commit
   pub then_step : (mid s : Held S) (l : H) (key : List ℕ) (c : Command) → IsQuiet (view h) (view l)
-      → CrashLeavesOnly g r at.tables → LeavesStep g view size mid s k l away u key c
-      → LeavesStep g view size r s h l away u key c
+      → CrashLeavesOnly g r at.tables → LeavesStep g view size mid s k l away v u key c
+      → LeavesStep g view size r s h l away v u key c
   then_step mid s l key c all only leaves = record {
-    within = leads_in g view size r h away at.tables [] [] u u only
+    within = leads_in g view size r h away at.tables ts bytes v u only
         ((view l).left_since (view h).moment)
         (λ x left. at.leads x (quiet_moment (view h) (view l) lawful all x left));
     end = λ db left.
-        subst (λ (z : Sizes). OrStep u key c (λ w. Recovers db z away (view l).may_leave u w)) same
+        subst (λ (z : Sizes). OrStep v u key c (λ x w. Recovers db z away (view l).may_leave x w))
+        same
         (leaves.end db left);
   }
 
 -- nothing was asked
 pub unstepped_same : {S H : Type 0} (g : Ghosts S) (view : H → View) (size : H
-    → Sizes) (r : Held S) (h : H) (away : Image) (u : World)
-    (at : IsAt g view size r h away [] [] u u)
+    → Sizes) (r : Held S) (h : H) (away : Image)
+    (ts : List Intent) (bytes : List (List ℕ)) (v u : World)
+    (at : IsCarriedOut g view size r h away ts bytes v u)
     (lawful : IsLawful (view h)) (key : List ℕ) (c : Command) → CrashLeavesOnly g r at.tables
-    → LeavesStep g view size r r h h away u key c
-unstepped_same g view size r h away u at lawful key c only = record {
-  within = leads_in g view size r h away at.tables [] [] u u only
+    → LeavesStep g view size r r h h away v u key c
+unstepped_same g view size r h away ts bytes v u at lawful key c only = record {
+  within = leads_in g view size r h away at.tables ts bytes v u only
       ((view h).left_since (view h).moment)
       (λ x left. at.leads x (lawful.only_now x left));
-  end = λ db left. inl (leads_in g view size r h away at.tables [] [] u u only
+  end = λ db left. inl (leads_in g view size r h away at.tables ts bytes v u only
       (view h).may_leave at.leads db left);
 }
 

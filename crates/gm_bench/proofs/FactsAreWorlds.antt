@@ -15,7 +15,6 @@ use Rattle.gm_bench.specs.declared.adopt_scope.Compared.{Compared}
 use Rattle.gm_bench.specs.ShelfFacts.{AreEqual, IsFact, Tell, TellSizes}
 use Rattle.gm_shelf.specs.LastSector.{last_of}
 use Rattle.gm_lists.proofs.Lists.{Has-push}
-use Rattle.gm_looks.proofs.Pushed.{has_left, has_last}
 
 -- the provider is absent, or there is an entry for it
 abbrev pub IsCovered : List Fact → Sizes → List ℕ → Type 0

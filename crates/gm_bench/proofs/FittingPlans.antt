@@ -1,5 +1,5 @@
 -- What the rules decide on a state fits the tables of that state.
-use Rattle.std.proofs.Common.{◌≡◌, ◌≢◌, ◌≤◌, inr, ℕ, ◌<◌, ◌^◌, true, sym, subst, arith, List, length, IfOk, Result, Ok, Err}
+use Rattle.std.proofs.Common.{◌≡◌, ◌≢◌, ◌≤◌, inr, ℕ, ◌<◌, ◌^◌, true, refl, sym, subst, arith, List, length, IfOk, Result, Ok, Err}
 use Rattle.std.specs.List.{AllByRecursion}
 use Rattle.gm_commands.specs.declared.command.Command.{Command}
 use Rattle.gm_commands.specs.Commands.{CommandFits, is_key, words_of}
@@ -16,10 +16,13 @@ use Rattle.gm_changes.proofs.FewWritten.{few_intents, few_put}
 use Rattle.gm_rules.specs.Itself.{IsItself}
 use Rattle.gm_rules.proofs.StandIn.{reply_told}
 use Rattle.gm_rows.specs.ReadableTables.{AreRecordsOf}
-use Rattle.gm_registry.specs.Changes.{with_pending}
+use Rattle.gm_registry.specs.Changes.{settled, with_pending}
 use Rattle.gm_registry.specs.FittingChanges.{FitsTables}
 use Rattle.gm_registry.specs.Replies.{IsFree}
 use Rattle.gm_registry.proofs.ChangesFit.{records_fit}
+use Rattle.gm_bench.specs.declared.phase.Waiting.{Waiting}
+use Rattle.gm_bench.specs.declared.phase.Waiting.TheVariants.{Nothing, Done}
+use Rattle.gm_bench.specs.Accepting.{HasNothingElse, left_by}
 use Rattle.gm_bench.specs.Calls.{HasNothingPending}
 use Rattle.gm_bench.specs.Planning.{IsFitting}
 use Rattle.gm_bench.proofs.FewBytes.{few_laid}
@@ -73,3 +76,20 @@ fits_with ch ts bytes key words t fits few laid none is free =
       key_free = free;
       short = omega (arith, low, short);
     }
+
+-- so do the tables on which a command is accepted that settles what waits
+pub fits_left : (waiting : Waiting) (ch : Changed) (key words : List ℕ) (t : Tables)
+    → IsFitting ch words (left_by waiting t) → HasNothingElse waiting t → is_key key ≡ true
+    → IsFree t key → FitsTables ch key words (left_by waiting t)
+fits_left waiting ch key words t fits none is free =
+    let written : length ch.intents ≤ 48 = fits.few_written in
+    let laid : length (joined ch.bytes) ≤ 32768 = fits.few_laid in
+    by waiting fits none (omega (arith, written)) (omega (arith, laid))
+  where
+    by : (waiting : Waiting) → IsFitting ch words (left_by waiting t) → HasNothingElse waiting t
+        → length ch.intents < 2 ^ 32 → length (joined ch.bytes) ≤ 536870912
+        → FitsTables ch key words (left_by waiting t)
+    by Nothing fits none few laid =
+        fits_with ch ch.intents ch.bytes key words t fits few laid none is free
+    by Done fits none few laid =
+        fits_with ch ch.intents ch.bytes key words (settled t) fits few laid (refl, refl) is free

@@ -7,6 +7,7 @@ use Rattle.gm_shelf.specs.Disk.{View, IsLawful}
 use Rattle.gm_shelf.specs.declared.shelf.Shelf.{Ghosts as ShelfGhosts}
 use Rattle.gm_commands.specs.declared.command.Command.{Command}
 use Rattle.gm_commands.specs.declared.command.Command.TheVariants.{Adopt}
+use Rattle.gm_state.specs.declared.intents.Intent.{Intent}
 use Rattle.gm_state.specs.declared.records.Mirror.{Mirror}
 use Rattle.gm_state.specs.Records.{Records, IsState, provider}
 use Rattle.gm_lists.specs.Ordered.{Has}
@@ -19,12 +20,14 @@ use Rattle.gm_refusals.specs.PartOf.{IsPartOf, IsPartToDecide, part_of}
 use Rattle.gm_refusals.specs.Seen.{seen_in}
 use Rattle.gm_refusals.specs.WorldFacts.{AreFacts, needed_by}
 use Rattle.gm_rows.specs.ReadableTables.{AreRecordsOf}
+use Rattle.gm_registry.specs.Changes.{settled}
 use Rattle.gm_bench.specs.declared.adopt_scope.Compared.{Compared}
 use Rattle.gm_bench.specs.AdoptScope.{adopted_from, compared_with}
 use Rattle.gm_bench.specs.Leading.{whole, Leads}
-use Rattle.gm_bench.specs.Recovering.{IsAt}
+use Rattle.gm_bench.specs.Recovering.{IsCarriedOut}
 use Rattle.gm_bench.specs.ShelfFacts.{IsHonestToAdopt, Tell}
 use Rattle.gm_bench.proofs.Asked.{serves, takes_alike}
+use Rattle.gm_bench.proofs.CarriedOut.{settled_leads}
 use Rattle.gm_bench.proofs.FactsLookedUp.{are_facts}
 
 -- a command needs the providers that it adopts from
@@ -34,10 +37,11 @@ adopted_needed s (Adopt n ps) p h = Has-append_left ps (map provider (awaited s 
 adopted_needed s _ p h = absurd h
 
 module _ {S H : Type 0} (g : Ghosts S) (view : H → View) (size : H → Sizes) (r : Held S) (h : H)
-    (away : Image) (u : World) (at : IsAt g view size r h away [] [] u u)
-    (lawful : IsLawful (view h)) where
-  leads : Leads at.tables [] [] (whole (size h) away (view h).seen) u
-  leads = (at.leads (view h).seen lawful.holds_now).0
+    (away : Image) (ts : List Intent) (bytes : List (List ℕ)) (v u : World)
+    (at : IsCarriedOut g view size r h away ts bytes v u) (lawful : IsLawful (view h)) where
+  leads : Leads (settled at.tables) [] [] (whole (size h) away (view h).seen) u
+  leads =
+      settled_leads g view size r h away ts bytes v u at lawful (view h).seen lawful.holds_now
 
   pub are_records : AreRecordsOf at.tables u.state
   are_records = record {
@@ -63,7 +67,8 @@ module _ {S H : Type 0} (g : Ghosts S) (view : H → View) (size : H → Sizes) 
         serves u.state part c (seen_in first) (seen_in facts) leads.sound.state read
             (takes_alike (seen_in facts) (seen_in first) c
             (λ p h. (now p (adopted_needed u.state c p h)).last_is ∙ sym (before p h).last_is)),
-        are_facts at.tables u (size h) away (view h).seen at.sizes leads facts first c against is
+        are_facts (settled at.tables) u (size h) away (view h).seen at.sizes leads facts first c
+            against is
             before now,
       )
 

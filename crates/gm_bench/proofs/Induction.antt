@@ -1,9 +1,7 @@
 -- The induction over a schedule.
-use Rattle.std.proofs.Common.{◌≡◌, ◌∙◌, ◌⊎◌, inl, inr, ℕ, Bool, suc, ◌+◌, Option, Some, None, List, [], ◌∷◌, length, map, refl, sym, ap, subst, arith, if◌then◌else◌}
+use Rattle.std.proofs.Common.{◌≡◌, ◌∙◌, ◌⊎◌, inl, inr, ℕ, Bool, suc, ◌+◌, None, List, [], ◌∷◌, length, map, refl, sym, ap, subst, arith, if◌then◌else◌}
 use Rattle.std.proofs.lemmas.List.{length-map}
-use Rattle.std.proofs.lemmas.List.Sorted.{IsPermutation-refl, length_permutation}
-use Rattle.std.specs.List.Sorted.{IsPermutation}
-use Rattle.std.specs.Prelude.{is_some}
+use Rattle.std.proofs.lemmas.List.Sorted.{length_permutation}
 use Rattle.sqlite_trees.specs.declared.store.Store.{Ghosts}
 use Rattle.sqlite.specs.Tree.{Trees}
 use Rattle.sqlite.specs.Held.{Held}
@@ -12,12 +10,8 @@ use Rattle.gm_shelf.specs.Disk.{View}
 use Rattle.gm_commands.specs.declared.command.Command.{Command}
 use Rattle.gm_state.specs.declared.intents.Intent.{Intent}
 use Rattle.gm_state.specs.declared.intents.Reply.{Reply}
-use Rattle.gm_state.specs.declared.records.Mirror.{Mirror}
-use Rattle.gm_state.specs.declared.records.Component.{Component}
-use Rattle.gm_state.specs.Records.{IsState, name, provider}
-use Rattle.gm_state.specs.Rows.{Tables, HoldRecords, mirror_row, component_row, answer_row}
-use Rattle.gm_lists.specs.Ordered.{Has, Ascends}
-use Rattle.gm_state.specs.World.{World, Answered, Sound, AreAnswers, AreNumbered, present}
+use Rattle.gm_state.specs.Rows.{answer_row}
+use Rattle.gm_state.specs.World.{World, present}
 use Rattle.gm_rules.specs.Step.{Step}
 use Rattle.gm_rules.specs.AbstractCalls.{Call}
 use Rattle.gm_registry.specs.Registry.{stored}
@@ -28,62 +22,17 @@ use Rattle.gm_bench.specs.declared.answer.Answer.{Answer}
 use Rattle.gm_bench.specs.declared.answer.Answer.TheVariants as run
 use Rattle.gm_bench.specs.declared.answer.Work.{Work}
 use Rattle.gm_bench.specs.Owed.{AcceptAnswers, IsLeft, LeavesRun, LookDoes, LookLeaves, RunAnswers}
-use Rattle.gm_bench.specs.Leading.{AreAmong, whole, Leads, KeepsClaims, AllLead}
-use Rattle.gm_bench.specs.Recovering.{Recovers, IsShelfOf, LeavesOnly}
-use Rattle.gm_bench.specs.Accepting.{LeavesStep, OrStep}
-use Rattle.gm_bench.specs.Schedule.{Phase, Event, Accept_returned, Accept_stopped, Apply_returned, Apply_stopped, Settle_returned, Settle_stopped, Run_returned, Run_stopped, Look_returned, Look_stopped, Open_returned, Open_stopped, Now, none, skips, keeps, Moved, Without_returned, Without_stopped, Without_carrying, Entry, Handed_in, Without, IsNew, IsButMoved, IsStepTo, IsStepWithout, Reached, IsLastStep, ArePending, LeavesCommit, IsMove, HasCount, IsLeftIn, IsStop, IsRunStop, IsOpenOver, after_answer, after_run, with_media, Happens, IsStart, Runs, AtRest, OnTheWay, Stopped, Headline, Within}
+use Rattle.gm_bench.specs.Leading.{whole, Leads, KeepsClaims, AllLead}
+use Rattle.gm_bench.specs.Recovering.{Recovers, IsCarriedOut, IsShelfOf, LeavesOnly}
+use Rattle.gm_bench.specs.declared.phase.Waiting.{Waiting}
+use Rattle.gm_bench.specs.declared.phase.Waiting.TheVariants as waiting
+use Rattle.gm_bench.specs.Accepting.{LeavesStep, OrStep, WaitsFor}
+use Rattle.gm_bench.specs.Schedule.{Phase, Event, Accept_returned, Accept_stopped, Apply_returned, Apply_stopped, Settle_returned, Settle_stopped, Run_returned, Run_stopped, Look_returned, Look_stopped, Open_returned, Open_stopped, Now, none, skips, keeps, Moved, Without_returned, Without_stopped, Without_carrying, Entry, Handed_in, Without, IsButMoved, IsStepWithout, Reached, ArePending, LeavesCommit, IsMove, HasCount, IsLeftIn, IsStop, IsRunStop, IsDoneOver, IsOpenOver, after_answer, after_run, with_media, Happens, IsStart, Runs, AtRest, OnTheWay, Stopped, Headline, Within}
 use Rattle.gm_bench.proofs.Looks.{looked_at}
+use Rattle.gm_bench.proofs.CarriedOut.{at_of, carried_out, done_at_rest}
+use Rattle.gm_bench.proofs.MovedWorlds.{with_there, stays, moved_from, one_step, moved_reached, moved_last, last_pending, moved_leads, moved_keeps, reached_sizes, there_of, moved_present}
+use Rattle.gm_bench.proofs.NewWorlds.{new_records, new_sound}
 use Rattle.gm_bench.proofs.WorldAtRest.{rest_leads, rest_claims}
-
--- ---- the world that a schedule starts in
-
-no_mirror : (all : Sizes) (w : World) → IsNew all w → (m : Mirror) → Has w.state.mirrors m → ⊥
-no_mirror all w new m h = subst (λ (ms : List Mirror). Has ms m) new.mirrors h
-
-no_component : (all : Sizes) (w : World) → IsNew all w → (k : Component) → Has w.state.components k
-    → ⊥
-no_component all w new k h = subst (λ (ks : List Component). Has ks k) new.components h
-
-no_answer : (all : Sizes) (w : World) → IsNew all w → (a : Answered) → Has w.answered a → ⊥
-no_answer all w new a h = subst (λ (l : List Answered). Has l a) new.answered h
-
-new_state : (all : Sizes) (w : World) → IsNew all w → IsState w.state
-new_state all w new = record {
-  mirrors_in_order = subst (λ (ms : List Mirror). Ascends name ms) (sym new.mirrors) tt;
-  components_in_order =
-      subst (λ (ks : List Component). Ascends provider ks) (sym new.components) tt;
-  count = (let e : length w.state.mirrors ≡ 0 = ap length new.mirrors in omega (arith, e));
-  each = λ m h. absurd (no_mirror all w new m h);
-  mids = λ a b h k e. absurd (no_mirror all w new a h);
-  homes = λ k h. absurd (no_component all w new k h);
-}
-
-new_answers : (all : Sizes) (w : World) → IsNew all w → AreAnswers w.answered
-new_answers all w new = record {
-  count = (let e : length w.answered ≡ 0 = ap length new.answered in omega (arith, e));
-  fit = λ a h. absurd (no_answer all w new a h);
-  numbers = subst AreNumbered (sym new.answered) tt;
-  keys = λ a b h k e. absurd (no_answer all w new a h);
-}
-
-new_sound : (all : Sizes) (w : World) → IsNew all w → Sound w
-new_sound all w new = record {
-  state = new_state all w new;
-  answers = new_answers all w new;
-  sizes = λ m k o. absurd (no_mirror all w new m o.mirror);
-  full = λ m k o. absurd (no_mirror all w new m o.mirror);
-  whole = λ m k o. absurd (no_mirror all w new m o.mirror);
-}
-
-new_records : (all : Sizes) (w : World) → IsNew all w → HoldRecords w no_tables
-new_records all w new = record {
-  mirrors = subst (λ (ms : List Mirror). IsPermutation (map mirror_row ms) []) (sym new.mirrors)
-      (IsPermutation-refl []);
-  components = subst (λ (ks : List Component). IsPermutation (map component_row ks) [])
-      (sym new.components) (IsPermutation-refl []);
-  commands = subst (λ (l : List Answered). IsPermutation (map answer_row l) []) (sym new.answered)
-      (IsPermutation-refl []);
-}
 
 -- ---- counts of commands
 
@@ -129,153 +78,6 @@ step_present : (u w : World) (key : List ℕ) (c : Command) (r : Reply) → Step
     → present w ≡ present u
 step_present u w key c r step = λ i q. if step.there q i then step.sizes q i else None
 
--- ---- providers that go away or come back
-
--- the world where these providers are there
-abbrev with_there : World → (List ℕ → Bool) → World
-with_there w there = record w { there = there }
-
-pub stays : (w : World) → IsButMoved w w
-stays w = record { state = refl; holds = refl; answered = refl; shelf = refl; size = refl }
-
-moved_on : (u w : World) (there : List ℕ → Bool) → IsButMoved w u
-    → IsButMoved (with_there w there) u
-moved_on u w there m = record {
-  state = m.state;
-  holds = m.holds;
-  answered = m.answered;
-  shelf = m.shelf;
-  size = m.size;
-}
-
-moved_from : (u w : World) (there : List ℕ → Bool) → IsButMoved u w
-    → IsButMoved u (with_there w there)
-moved_from u w there m = record {
-  state = m.state;
-  holds = m.holds;
-  answered = m.answered;
-  shelf = m.shelf;
-  size = m.size;
-}
-
-pub one_step : (u w : World) (call : Call) (r : Reply) → Step u call.key call.command w r
-    → IsStepTo u call w
-one_step u w call r step = record { stepped = w; reply = r; step = step; moved = stays w }
-
-moved_step : (u w : World) (call : Call) (there : List ℕ → Bool) → IsStepTo u call w
-    → IsStepTo u call (with_there w there)
-moved_step u w call there s = record {
-  stepped = s.stepped;
-  reply = s.reply;
-  step = s.step;
-  moved = moved_on s.stepped w there s.moved;
-}
-
-moved_without : (u w : World) (call : Call) (p : List ℕ) (gone : List Intent) (there : List ℕ
-    → Bool) → IsStepWithout u call p gone w → IsStepWithout u call p gone (with_there w there)
-moved_without u w call p gone there s = record {
-  stepped = s.stepped;
-  reply = s.reply;
-  step = s.step;
-  mirror = s.mirror;
-  command = s.command;
-  state = s.state;
-  holds = s.holds;
-  answered = s.answered;
-  size = s.size;
-  shelf = s.shelf;
-}
-
-moved_reached : (all : Sizes) (acc : List Entry) (w : World) (there : List ℕ → Bool)
-    → Reached all acc w → Reached all acc (with_there w there)
-moved_reached all [] w there new =
-    record {
-      mirrors = new.mirrors;
-      components = new.components;
-      answered = new.answered;
-      sizes = new.sizes;
-    }
-moved_reached all (Handed_in call ∷ older) w there (u, reached, s) =
-    (u, reached, moved_step u w call there s)
-moved_reached all (Without call p gone ∷ older) w there (u, reached, s) =
-    (u, reached, moved_without u w call p gone there s)
-
-moved_last : (all : Sizes) (acc : List Entry) (u w : World) (there : List ℕ → Bool)
-    → ArePending all acc u w → ArePending all acc u (with_there w there)
-moved_last all [] u w there last = absurd last
-moved_last all (Handed_in call ∷ older) u w there (reached, s) =
-    (reached, moved_step u w call there s)
-moved_last all (Without call p gone ∷ older) u w there (v, reached, s, first) =
-    (v, reached, moved_without v w call p gone there s, first)
-
--- a command that was handed in is the first that is pending
-last_pending : (all : Sizes) (acc : List Entry) (u w : World) → IsLastStep all acc u w
-    → ArePending all acc u w
-last_pending all [] u w last = absurd last
-last_pending all (Handed_in call ∷ older) u w last = last
-last_pending all (Without call p gone ∷ older) u w last = absurd last
-
-moved_leads : (t : Tables) (ts : List Intent) (bytes : List (List ℕ)) (x : Image) (w : World)
-    (there : List ℕ → Bool)
-    → Leads t ts bytes x w → Leads t ts bytes x (with_there w there)
-moved_leads t ts bytes x w there l = record {
-  sound = record {
-    state = l.sound.state;
-    answers = l.sound.answers;
-    sizes = l.sound.sizes;
-    full = l.sound.full;
-    whole = l.sound.whole;
-  };
-  records = record {
-    mirrors = l.records.mirrors;
-    components = l.records.components;
-    commands = l.records.commands;
-  };
-  intents = l.intents;
-  patches = l.patches;
-  readable = l.readable;
-  at_hand = l.at_hand;
-  redo = l.redo;
-}
-
-moved_keeps : (ts : List Intent) (x : Image) (u w : World) (there : List ℕ → Bool)
-    → KeepsClaims ts x u w → KeepsClaims ts x u (with_there w there)
-moved_keeps ts x u w there k = record {
-  sound = k.sound;
-  sizes = k.sizes;
-  after = k.after;
-  copies = k.copies;
-  old = k.old;
-  new = k.new;
-}
-
--- the providers have their sizes for ever
-reached_sizes : (all : Sizes) (acc : List Entry) (w : World) → Reached all acc w → w.size ≡ all
-reached_sizes all [] w new = new.sizes
-reached_sizes all (Without call p gone ∷ older) w (u, reached, s) =
-    let same : s.stepped.size ≡ u.size = λ i q. s.step.sizes q i in
-    s.size ∙ (same ∙ reached_sizes all older u reached)
-reached_sizes all (Handed_in call ∷ older) w (u, reached, s) =
-    let same : s.stepped.size ≡ u.size = λ i q. s.step.sizes q i in
-    s.moved.size ∙ (same ∙ reached_sizes all older u reached)
-
-seen_through : (o full : Option ℕ) → (o ≡ None) ⊎ (o ≡ full)
-    → (if is_some o then full else None) ≡ o
-seen_through None full e = refl
-seen_through (Some n) full (inl e) = absurd (let no : ⊥ = cc in no)
-seen_through (Some n) full (inr e) = sym e
-
-abbrev there_of : Sizes → List ℕ → Bool
-there_of size q = is_some (size q)
-
-moved_present : (all : Sizes) (w : World) (size : Sizes) → w.size ≡ all → AreAmong size all
-    → present (with_there w (there_of size)) ≡ size
-moved_present all w size is among =
-    let each : (q : List ℕ) → (if is_some (size q) then w.size q else None) ≡ size q =
-    λ q. seen_through (size q) (w.size q)
-    (subst (λ (z : Sizes). (size q ≡ None) ⊎ (size q ≡ z q)) (sym is) (among q)) in
-    λ i q. each q i
-
 module _ {S H : Type 0} (g : Ghosts S) (view : H → View) (size : H → Sizes) (all : Sizes) where
   abbrev At : Now (Held S) H → Type 0
   At n = Headline g view size all n.phase n.away n.accepted n.acknowledged
@@ -312,59 +114,150 @@ module _ {S H : Type 0} (g : Ghosts S) (view : H → View) (size : H → Sizes) 
     told = told;
   }
 
-  answered : (call : Call) (a : Accepted) (r s : Held S) (h k : H) (m n : Now (Held S) H)
-      → AtRest g view size all r h m.away m.accepted m.acknowledged → n ≡ after_answer m call a s k
-      → AcceptAnswers g view size r s h k call.key call.command a → At n
-  answered call (Done i reply work) r s h k m n was is clause =
-      let it = clause m.away was.world was.at in
-      let step : Step was.world call.key call.command it.world reply = it.calls.3 in
+  -- ---- a command that is handed in
+
+  -- the world after the accepted calls is reached, and all that is pending is done
+  pub record IsReached (waiting : Waiting) (r : Held S) (h : H) (away : Image)
+      (acc ack : List Entry) : Type 0 where
+    pub intents : List Intent
+    pub bytes : List (List ℕ)
+    pub before : World
+    pub world : World
+    pub reached : Reached all acc world
+    pub last : IsButMoved before world ⊎ ArePending all acc before world
+    pub at : IsCarriedOut g view size r h away intents bytes before world
+    pub waits : WaitsFor waiting intents bytes
+    pub told : Within ack acc
+
+  abbrev pub at_rest : (r : Held S) (h : H) (away : Image) (acc ack : List Entry)
+      → AtRest g view size all r h away acc ack → IsReached waiting.Nothing r h away acc ack
+  at_rest r h away acc ack o = record {
+    intents = [];
+    bytes = [];
+    before = o.world;
+    world = o.world;
+    reached = o.reached;
+    last = inl (stays o.world);
+    at = done_at_rest g view size r h away o.world o.at;
+    waits = (refl, refl);
+    told = o.told;
+  }
+
+  -- so it is, whatever is still to be settled
+  abbrev pub reached_done : (r : Held S) (h : H) (away : Image) (acc ack : List Entry)
+      (intents : List Intent) (bytes : List (List ℕ)) (before world : World)
+      → Reached all acc world → IsButMoved before world ⊎ ArePending all acc before world
+      → IsCarriedOut g view size r h away intents bytes before world → Within ack acc
+      → IsReached waiting.Done r h away acc ack
+  reached_done r h away acc ack intents bytes before world reached last at told = record {
+    intents = intents;
+    bytes = bytes;
+    before = before;
+    world = world;
+    reached = reached;
+    last = last;
+    at = at;
+    waits = tt;
+    told = told;
+  }
+
+  abbrev reached_by : (m : Now (Held S) H) (r : Held S) (h : H) (waiting : Waiting)
+      → IsDoneOver m.phase r h waiting → At m
+      → IsReached waiting r h m.away m.accepted m.acknowledged
+  reached_by m r h waiting.Nothing is was =
+      at_rest r h m.away m.accepted m.acknowledged (subst (AtPhase m) is was)
+  reached_by m r h waiting.Done (work, is) was =
+      let it : (o : OnTheWay g view size all r h m.away work m.accepted m.acknowledged)
+      × IsShelfOf (view h) o.world (size h) = subst (AtPhase m) is was in
+      let o = it.0 in
+      reached_done r h m.away m.accepted m.acknowledged work.intents.items work.bytes.items o.before
+      o.world o.reached (inr (last_pending all m.accepted o.before o.world o.last))
+      (carried_out g view size r h m.away work.intents.items work.bytes.items o.before o.world
+      o.at.at it.1) o.told
+
+  -- nothing was done: the bench is as far as before
+  undone : (m : Now (Held S) H) (r s : Held S) (h k : H) (waiting : Waiting)
+      (over : IsDoneOver m.phase r h waiting) (was : At m)
+      → (let it = reached_by m r h waiting over was in
+      IsCarriedOut g view size s k m.away it.intents it.bytes it.before it.world)
+      → AtPhase m (with_media m.phase s k)
+  undone m r s h k waiting.Nothing is was after =
+      let o : AtRest g view size all r h m.away m.accepted m.acknowledged =
+      subst (AtPhase m) is was in
+      let rest : AtRest g view size all s k m.away m.accepted m.acknowledged = record {
+        world = o.world;
+        reached = o.reached;
+        at = at_of g view size s k m.away [] [] o.world o.world after;
+        told = o.told;
+      } in
+      subst (λ (p : Phase (Held S) H). AtPhase m (with_media p s k)) (sym is) rest
+  undone m r s h k waiting.Done (work, is) was after =
+      let it : (o : OnTheWay g view size all r h m.away work m.accepted m.acknowledged)
+      × IsShelfOf (view h) o.world (size h) = subst (AtPhase m) is was in
+      let o = it.0 in
+      let way : OnTheWay g view size all s k m.away work m.accepted m.acknowledged = record {
+        world = o.world;
+        before = o.before;
+        reached = o.reached;
+        last = o.last;
+        at = record {
+          at = at_of g view size s k m.away work.intents.items work.bytes.items o.before o.world
+              after;
+          cover = o.at.cover;
+        };
+        told = o.told;
+      } in
+      subst (λ (p : Phase (Held S) H). AtPhase m (with_media p s k)) (sym is) (way, after.shelf)
+
+  answered : (call : Call) (a : Accepted) (r s : Held S) (h k : H) (waiting : Waiting)
+      (m n : Now (Held S) H) → IsDoneOver m.phase r h waiting → At m
+      → n ≡ after_answer m call a s k
+      → AcceptAnswers g view size waiting r s h k call.key call.command a → At n
+  answered call (Done i reply work) r s h k waiting m n over was is clause =
+      let o = reached_by m r h waiting over was in
+      let it = clause m.away o.intents o.bytes o.before o.world o.at o.waits in
+      let step : Step o.world call.key call.command it.world reply = it.calls.3 in
       subst At (sym is) (record {
         world = it.world;
-        before = was.world;
-        reached = (was.world, was.reached, one_step was.world it.world call reply step);
-        last = (was.reached, one_step was.world it.world call reply step);
+        before = o.world;
+        reached = (o.world, o.reached, one_step o.world it.world call reply step);
+        last = (o.reached, one_step o.world it.world call reply step);
         at = it.at;
-        told = keeps was.told;
+        told = keeps o.told;
       })
-  answered call (Repeated i reply) r s h k m n was is clause =
-      subst At (sym is) (record {
-        world = was.world;
-        reached = was.reached;
-        at = (clause m.away was.world was.at).1;
-        told = was.told;
-      })
-  answered call (Refused why) r s h k m n was is clause =
-      subst At (sym is) (record {
-        world = was.world;
-        reached = was.reached;
-        at = (clause m.away was.world was.at).1;
-        told = was.told;
-      })
+  answered call (Repeated i reply) r s h k waiting m n over was is clause =
+      let o = reached_by m r h waiting over was in
+      subst At (sym is) (undone m r s h k waiting over was
+      (clause m.away o.intents o.bytes o.before o.world o.at o.waits).1)
+  answered call (Refused why) r s h k waiting m n over was is clause =
+      let o = reached_by m r h waiting over was in
+      subst At (sym is) (undone m r s h k waiting over was
+      (clause m.away o.intents o.bytes o.before o.world o.at o.waits).1)
 
   -- a commit that was stopped stands, or not
-  left_by : (call : Call) (r : Held S) (h : H) (db : Trees) (l : H) (away : Image)
-      (acc ack after : List Entry) (was : AtRest g view size all r h away acc ack)
+  left_in : (call : Call) (waiting : Waiting) (r : Held S) (h : H) (db : Trees) (l : H)
+      (away : Image) (acc ack after : List Entry) (was : IsReached waiting r h away acc ack)
       → IsLeftIn db (Handed_in call) acc after → size l ≡ size h → (view l).may_leave (view l).seen
-      → OrStep was.world call.key call.command
-      (λ w. Recovers db (size h) away (view l).may_leave was.world w)
+      → OrStep was.before was.world call.key call.command
+      (λ x w. Recovers db (size h) away (view l).may_leave x w)
       → Stopped g view size all db l away after ack
-  left_by call r h db l away acc ack after was left same there either =
+  left_in call waiting r h db l away acc ack after was left same there either =
       let u : World = was.world in
       let many : length u.answered ≡ length acc = answered_many all acc u was.reached in
-      let resized : (w : World) → Recovers db (size h) away (view l).may_leave u w
-      → Recovers db (size l) away (view l).may_leave u w =
-      λ w. subst (λ (z : Sizes). Recovers db z away (view l).may_leave u w) (sym same) in
+      let resized : (x w : World) → Recovers db (size h) away (view l).may_leave x w
+      → Recovers db (size l) away (view l).may_leave x w =
+      λ x w. subst (λ (z : Sizes). Recovers db z away (view l).may_leave x w) (sym same) in
       elim left [
         | inl before ↦
             subst (λ (list : List Entry). Stopped g view size all db l away list ack) (sym before.0)
             (elim either [
               | inl r ↦ record {
                 world = u;
-                before = u;
+                before = was.before;
                 reached = was.reached;
-                last = inl (stays u);
+                last = was.last;
                 sizes = was.at.sizes ∙ sym same;
-                recovers = resized u r;
+                recovers = resized was.before u r;
                 told = was.told;
               }
               | inr r ↦
@@ -376,8 +269,9 @@ module _ {S H : Type 0} (g : Ghosts S) (view : H → View) (size : H → Sizes) 
         | inr stands ↦
             subst (λ (list : List Entry). Stopped g view size all db l away list ack) (sym stands.0)
             (elim either [
-              | inl r ↦ (let n = counts db (size h) away (view l).may_leave (view l).seen u u
-                  (length acc + 1) there r stands.1 in absurd (omega (arith, n, many)))
+              | inl r ↦ (let n = counts db (size h) away (view l).may_leave (view l).seen
+                  was.before u (length acc + 1) there r stands.1 in
+                  absurd (omega (arith, n, many)))
               | inr r ↦ record {
                 world = r.0;
                 before = u;
@@ -385,25 +279,27 @@ module _ {S H : Type 0} (g : Ghosts S) (view : H → View) (size : H → Sizes) 
                 last = inr (was.reached, one_step u r.0 call r.1 r.2);
                 sizes = step_present u r.0 call.key call.command r.1 r.2
                     ∙ (was.at.sizes ∙ sym same);
-                recovers = resized r.0 r.3;
+                recovers = resized u r.0 r.3;
                 told = skips was.told;
               }
             ])
       ]
 
-  accept_stopped : (call : Call) (r s : Held S) (h k : H) (db : Trees) (l : H) (away : Image)
-      (acc ack after : List Entry) (was : AtRest g view size all r h away acc ack)
+  pub accept_stopped : (call : Call) (waiting : Waiting) (r s : Held S) (h k : H) (db : Trees) (l :
+      H)
+      (away : Image) (acc ack after : List Entry) (was : IsReached waiting r h away acc ack)
       → IsLeftIn db (Handed_in call) acc after
-      → LeavesStep g view size r s h k away was.world call.key call.command
+      → LeavesStep g view size r s h k away was.before was.world call.key call.command
       → IsStop g view size r s h k db l → Stopped g view size all db l away after ack
-  accept_stopped call r s h k db l away acc ack after was left clause stop =
+  accept_stopped call waiting r s h k db l away acc ack after was left clause stop =
+      let v : World = was.before in
       let u : World = was.world in
-      left_by call r h db l away acc ack after was left stop.0 stop.1 (elim stop.2 [
+      left_in call waiting r h db l away acc ack after was left stop.0 stop.1 (elim stop.2 [
         | inl within
             ↦ inl (fewer db (size h) away ((view k).left_since (view h).moment)
-            (view l).may_leave u u (clause.within db within.0) within.1)
+            (view l).may_leave v u (clause.within db within.0) within.1)
         | inr end ↦ elim (clause.end db end.0) [
-          | inl r ↦ inl (fewer db (size h) away (view k).may_leave (view l).may_leave u u r end.1)
+          | inl r ↦ inl (fewer db (size h) away (view k).may_leave (view l).may_leave v u r end.1)
           | inr r ↦ inr (
             r.0,
             r.1,
@@ -413,22 +309,36 @@ module _ {S H : Type 0} (g : Ghosts S) (view : H → View) (size : H → Sizes) 
         ]
       ])
 
+  -- the settling of the last command was stopped, after the next was found repeated or refused: the
+  -- commit of that doesn't stand
+  pub settling_stopped : (call : Call) (waiting : Waiting) (r mid s : Held S) (h k end : H)
+      (db : Trees) (l : H) (away : Image) (acc ack after : List Entry)
+      (was : IsReached waiting r h away acc ack) → IsLeftIn db (Handed_in call) acc after
+      → size k ≡ size h → LeavesOnly g view size mid s k end away was.before was.world
+      → IsStop g view size mid s k end db l → Stopped g view size all db l away after ack
+  settling_stopped call waiting r mid s h k end db l away acc ack after was left sizes only stop =
+      let same : size l ≡ size h = stop.0 ∙ sizes in
+      let led_on = subst (λ (z : Sizes). Recovers db z away (view l).may_leave was.before was.world)
+      same (led mid s k end db l away was.before was.world only stop) in
+      left_in call waiting r h db l away acc ack after was left same stop.1 (inl led_on)
+
   -- a run was stopped within its accepting, or behind that
-  pub run_stopped : (call : Call) (r s : Held S) (h k : H) (db : Trees) (l : H) (away : Image)
-      (acc ack after : List Entry) (was : AtRest g view size all r h away acc ack)
+  pub run_stopped : (call : Call) (waiting : Waiting) (r s : Held S) (h k : H) (db : Trees) (l : H)
+      (away : Image) (acc ack after : List Entry) (was : IsReached waiting r h away acc ack)
       → IsLeftIn db (Handed_in call) acc after
-      → (it : LeavesRun g view size r s h k away was.world call.key call.command)
-      → IsRunStop g view size r s h k away was.world call it db l
+      → (it : LeavesRun g view size r s h k away was.before was.world call.key call.command)
+      → IsRunStop g view size r s h k away was.before was.world call it db l
       → Stopped g view size all db l away after ack
-  run_stopped call r s h k db l away acc ack after was left it (inl stop) =
-      accept_stopped call r it.registry h it.shelf db l away acc ack after was left it.accepting
-      stop
-  run_stopped call r s h k db l away acc ack after was left it
+  run_stopped call waiting r s h k db l away acc ack after was left it (inl stop) =
+      accept_stopped call waiting r it.registry h it.shelf db l away acc ack after was left
+      it.accepting stop
+  run_stopped call waiting r s h k db l away acc ack after was left it
       (inr (w, reply, step, leaves, stop)) =
       let same : size l ≡ size h = stop.0 ∙ it.sizes in
       let led_on = subst (λ (z : Sizes). Recovers db z away (view l).may_leave was.world w) same
       (led it.registry s it.shelf k db l away was.world w leaves stop) in
-      left_by call r h db l away acc ack after was left same stop.1 (inr (w, reply, step, led_on))
+      left_in call waiting r h db l away acc ack after was left same stop.1
+      (inr (w, reply, step, led_on))
 
   run_answered : (call : Call) (a : Answer) (r s : Held S) (h k : H) (m n : Now (Held S) H)
       → AtRest g view size all r h m.away m.accepted m.acknowledged → n ≡ after_run m call a s k
@@ -637,13 +547,12 @@ module _ {S H : Type 0} (g : Ghosts S) (view : H → View) (size : H → Sizes) 
 
   next : (m : Now (Held S) H) (e : Event (Held S) H) (n : Now (Held S) H) → At m
       → Happens g view size all m e n → At n
-  next m (Accept_returned call a s k) n was (r, h, phase, is, clause) =
-      answered call a r s h k m n (subst (AtPhase m) phase was) is clause
-  next m (Accept_stopped call s k db l) n was (r, h, phase, after, is, left, clause, stop) =
-      let rest : AtRest g view size all r h m.away m.accepted m.acknowledged =
-      subst (AtPhase m) phase was in
-      subst At (sym is) (accept_stopped call r s h k db l m.away m.accepted m.acknowledged after
-      rest left (clause m.away rest.world rest.at) stop)
+  next m (Accept_returned call a s k) n was (r, h, waiting, over, is, clause) =
+      answered call a r s h k waiting m n over was is clause
+  next m (Accept_stopped call s k db l) n was (r, h, waiting, over, after, is, left, clause, stop) =
+      let o = reached_by m r h waiting over was in
+      subst At (sym is) (accept_stopped call waiting r s h k db l m.away m.accepted m.acknowledged
+      after o left (clause m.away o.intents o.bytes o.before o.world o.at o.waits) stop)
   next m (Apply_returned k) n was (r, h, work, phase, is, clause) =
       let o : OnTheWay g view size all r h m.away work m.accepted m.acknowledged =
       subst (AtPhase m) phase was in
@@ -685,8 +594,9 @@ module _ {S H : Type 0} (g : Ghosts S) (view : H → View) (size : H → Sizes) 
   next m (Run_stopped call s k db l) n was (r, h, phase, after, is, left, leaves, stop) =
       let rest : AtRest g view size all r h m.away m.accepted m.acknowledged =
       subst (AtPhase m) phase was in
-      subst At (sym is) (run_stopped call r s h k db l m.away m.accepted m.acknowledged after rest
-      left (leaves m.away rest.world rest.at) (stop m.away rest.world rest.at))
+      subst At (sym is) (run_stopped call waiting.Nothing r s h k db l m.away m.accepted
+      m.acknowledged after (at_rest r h m.away m.accepted m.acknowledged rest) left
+      (leaves m.away rest.world rest.at) (stop m.away rest.world rest.at))
   next m (Look_returned s k) n was (r, h, over, is, does) =
       subst At (sym is) (looked r s h k m over does was)
   next m (Look_stopped s k db l) n was (r, h, over, is, leaves, stop) =

@@ -1,6 +1,7 @@
 pub mod Asked
 pub mod CallAnswers
 pub mod Carried
+pub mod CarriedOut
 pub mod CarriedIntents
 pub mod Causes
 pub mod ClaimsBefore
@@ -27,6 +28,8 @@ pub mod LossRemaining
 pub mod LossRules
 pub mod LossSources
 pub mod Losses
+pub mod MovedWorlds
+pub mod NewWorlds
 pub mod OpenedRoom
 pub mod PartCovers
 pub mod Phases
@@ -39,6 +42,7 @@ pub mod ReopenedLoss
 pub mod ReopenedStore
 pub mod ShelfProviders
 pub mod ShortWords
+pub mod Standing
 pub mod StoreFails
 pub mod TakenUp
 pub mod WorldAtRest

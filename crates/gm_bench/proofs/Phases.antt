@@ -1,5 +1,6 @@
 -- Which phase a bench is in that may be asked something, and isn't in the phase for it.
 use Rattle.std.proofs.Common.{◌≡◌, ◌∙◌, inl, inr, ℕ, refl, sym, ap, subst}
+use Rattle.std.specs.Prelude.{Result, Ok, Err, IsErrOf, OnErr, OnOk}
 use Rattle.gm_state.specs.declared.intents.Reply.{Reply}
 use Rattle.gm_bench.specs.declared.answer.Work.{Work}
 use Rattle.gm_bench.specs.declared.phase.Progress.{Progress}
@@ -12,15 +13,47 @@ use Rattle.gm_bench.specs.declared.phase.Phase.TheVariants as phase
 use Rattle.gm_metadata.specs.Images.{Sizes}
 use Rattle.gm_bench.specs.Planning.{IsWith, IsWorkAtHand}
 use Rattle.gm_bench.specs.Presence.{AreAtHand}
-use Rattle.gm_bench.specs.Phases.{IsUndone, TakesCommands, HasWork, HasDone, answer_of, phase_after, phase_of, progress_after}
+use Rattle.gm_bench.specs.Phases.{IsUndone, TakesCommands, TakesNext, HasWork, HasDone, answer_of, phase_after, phase_carried, phase_of, progress_after}
 
-pub takes_failed : (p : Progress) → TakesCommands p → (p ≡ Ready → ⊥) → p ≡ Failed
-takes_failed Ready t other = absurd (other refl)
-takes_failed (Pending work) (inl t) other = cc
-takes_failed (Pending work) (inr t) other = cc
-takes_failed (Applied work) (inl t) other = cc
-takes_failed (Applied work) (inr t) other = cc
-takes_failed Failed t other = refl
+-- a bench that takes a command and didn't fail is at rest
+pub takes_ready : (p : Progress) → TakesCommands p → (p ≡ Failed → ⊥) → p ≡ Ready
+takes_ready Ready t other = refl
+takes_ready (Pending work) (inl t) other = cc
+takes_ready (Pending work) (inr t) other = cc
+takes_ready (Applied work) (inl t) other = cc
+takes_ready (Applied work) (inr t) other = cc
+takes_ready Failed t other = absurd (other refl)
+
+is_failed : (p : Progress) → phase_of p ≡ phase.Failed → p ≡ Failed
+is_failed Ready is = cc
+is_failed (Pending work) is = cc
+is_failed (Applied work) is = cc
+is_failed Failed is = refl
+
+pub is_ready : (p : Progress) → phase_of p ≡ phase.Ready → p ≡ Ready
+is_ready Ready is = refl
+is_ready (Pending work) is = cc
+is_ready (Applied work) is = cc
+is_ready Failed is = cc
+
+-- what fails doesn't succeed
+pub not_ok : {T E : Type 0} {e : E} (r : Result T E) → IsErrOf r e → OnOk r ⊥
+not_ok (Ok x) is = let no : ⊥ = cc in no
+not_ok (Err e) is = tt
+
+-- what holds anyway holds of a call that fails
+pub in_fault : {T E : Type 0} {P : Type 0} (r : Result T E) → P → OnErr r P
+in_fault (Ok x) p = tt
+in_fault (Err e) p = p
+
+-- nothing is to be carried out if a command may be handed in
+pub never_pending : (p : Progress) → TakesNext p → phase_of p ≡ phase.Pending → ⊥
+never_pending Ready takes is = cc
+never_pending (Pending work) (inl (inl t)) is = let no : ⊥ = cc in no
+never_pending (Pending work) (inl (inr t)) is = let no : ⊥ = cc in no
+never_pending (Pending work) (inr t) is = let no : ⊥ = cc in no
+never_pending (Applied work) takes is = cc
+never_pending Failed takes is = cc
 
 pub work_failed : (p : Progress) → HasWork p → ((work : Work) → p ≡ Pending work → ⊥) → p ≡ Failed
 work_failed Ready (inl t) other = cc
@@ -45,41 +78,44 @@ pub applied_work : (a b : Work) → Applied a ≡ Applied b → a ≡ b
 applied_work a b e = cc
 
 -- what is told is the phase that a caller sees
-pub phase_told : (it : Accepted) → phase_of (progress_after it) ≡ phase_after (answer_of it)
-phase_told (accepted.Done n reply work) = refl
-phase_told (accepted.Repeated n reply) = refl
-phase_told (accepted.Refused why) = refl
+pub phase_told : (before : Progress) (it : Accepted)
+    → phase_of (progress_after before it) ≡ phase_after (phase_of before) (answer_of it)
+phase_told before (accepted.Done n reply work) = refl
+phase_told before (accepted.Repeated n reply) = refl
+phase_told before (accepted.Refused why) = refl
 
--- an answer that leaves nothing pending
-pub not_pending : (a : Answer) (p : Progress) → phase_of p ≡ phase_after a
-    → (phase_of p ≡ phase.Pending → ⊥) → p ≡ Ready
-not_pending (Done n reply) p is other = absurd (other is)
-not_pending (Repeated n reply) Ready is other = refl
-not_pending (Repeated n reply) (Pending work) is other = cc
-not_pending (Repeated n reply) (Applied work) is other = cc
-not_pending (Repeated n reply) Failed is other = cc
-not_pending (Refused why) Ready is other = refl
-not_pending (Refused why) (Pending work) is other = cc
-not_pending (Refused why) (Applied work) is other = cc
-not_pending (Refused why) Failed is other = cc
+-- a bench that didn't fail hasn't failed after an answer
+pub carried_open : (p q : Progress) (a : Answer) → (p ≡ Failed → ⊥)
+    → phase_of q ≡ phase_carried (phase_of p) a → q ≡ Failed → ⊥
+carried_open p q (Done n reply) other is failed =
+    let e : phase.Failed ≡ phase.Applied = sym (ap phase_of failed) ∙ is in
+    let no : ⊥ = cc in no
+carried_open p q (Repeated n reply) other is failed =
+    other (is_failed p (sym is ∙ ap phase_of failed))
+carried_open p q (Refused why) other is failed =
+    other (is_failed p (sym is ∙ ap phase_of failed))
 
 -- what is pending was accepted
-pub was_done : (it : Accepted) (p : Progress) → p ≡ progress_after it → phase_of p ≡ phase.Pending
+pub was_done : (before : Progress) (it : Accepted) (p : Progress)
+    → (phase_of before ≡ phase.Pending → ⊥) → p ≡ progress_after before it
+    → phase_of p ≡ phase.Pending
     → (n : ℕ) × (reply : Reply) × (work : Work) × (it ≡ accepted.Done n reply work)
     × (p ≡ Pending work)
-was_done (accepted.Done n reply work) p is pending = (n, reply, work, refl, is)
-was_done (accepted.Repeated n reply) p is pending =
-    let e : phase.Ready ≡ phase.Pending = sym (ap phase_of is) ∙ pending in cc
-was_done (accepted.Refused why) p is pending =
-    let e : phase.Ready ≡ phase.Pending = sym (ap phase_of is) ∙ pending in cc
+was_done before (accepted.Done n reply work) p none is pending = (n, reply, work, refl, is)
+was_done before (accepted.Repeated n reply) p none is pending =
+    absurd (none (sym (ap phase_of is) ∙ pending))
+was_done before (accepted.Refused why) p none is pending =
+    absurd (none (sym (ap phase_of is) ∙ pending))
 
 -- it is what is to be carried out of that
-pub work_hand : (size : Sizes) (it : Accepted) (work : Work) → progress_after it ≡ Pending work
+pub work_hand : (size : Sizes) (before : Progress) (it : Accepted) (work : Work)
+    → (phase_of before ≡ phase.Pending → ⊥) → progress_after before it ≡ Pending work
     → IsWorkAtHand size it → AreAtHand size work.intents.items
-work_hand size (accepted.Done n reply mine) work is handy =
+work_hand size before (accepted.Done n reply mine) work none is handy =
     subst (λ (w : Work). AreAtHand size w.intents.items) (pending_work mine work is) handy
-work_hand size (accepted.Repeated n reply) work is handy = absurd (let no : ⊥ = cc in no)
-work_hand size (accepted.Refused why) work is handy = absurd (let no : ⊥ = cc in no)
+work_hand size before (accepted.Repeated n reply) work none is handy =
+    absurd (none (ap phase_of is))
+work_hand size before (accepted.Refused why) work none is handy = absurd (none (ap phase_of is))
 
 -- what is pending, by the phase that a caller sees
 pub has_pending : (p : Progress) → phase_of p ≡ phase.Pending → (work : Work) × (p ≡ Pending work)

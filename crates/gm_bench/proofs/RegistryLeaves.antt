@@ -1,26 +1,20 @@
 -- What a registry leaves, from what its calls promise.
-use Rattle.std.proofs.Common.{◌≡◌, inl, inr, ℕ, List, [], refl, sym, subst}
+use Rattle.std.proofs.Common.{◌≡◌, inl, inr, ℕ, List, [], sym, subst}
 use Rattle.sqlite_trees.specs.declared.store.Store.{Ghosts}
 use Rattle.sqlite.specs.Tree.{Trees}
 use Rattle.sqlite.specs.Held.{Held}
 use Rattle.gm_metadata.specs.Images.{Image, Sizes}
 use Rattle.gm_shelf.specs.Disk.{View, IsLawful}
 use Rattle.gm_state.specs.declared.intents.Intent.{Intent}
-use Rattle.gm_state.specs.Rows.{Tables, HoldRecords}
+use Rattle.gm_state.specs.Rows.{Tables}
 use Rattle.gm_state.specs.World.{World}
 use Rattle.gm_registry.specs.Changes.{settled}
 use Rattle.gm_registry.specs.Registry.{CrashLeaves, CrashLeavesOnly, DiskKept, HasTables, LeavesNothingNew, MayLeave}
 use Rattle.gm_bench.specs.Leading.{AreAmong, whole, Leads, AllLead}
 use Rattle.gm_bench.specs.Recovering.{Recovers, IsAt, IsShelfOf, LeavesOnly}
 use Rattle.gm_bench.proofs.ShelfProviders.{masked}
-use Rattle.gm_bench.proofs.WorldAtRest.{rest_leads, rest_claims, settled_claims, whole_rest}
-
-settled_records : (w : World) (t : Tables) → HoldRecords w t → HoldRecords w (settled t)
-settled_records w t r = record {
-  mirrors = r.mirrors;
-  components = r.components;
-  commands = r.commands;
-}
+use Rattle.gm_bench.proofs.CarriedOut.{carried_out, settled_leads}
+use Rattle.gm_bench.proofs.WorldAtRest.{rest_claims, settled_claims, whole_rest}
 
 module _ {S H : Type 0} (g : Ghosts S) (view : H → View) (size : H → Sizes) where
   -- a store that a crash leaves of a registry with these tables
@@ -57,13 +51,11 @@ module _ {S H : Type 0} (g : Ghosts S) (view : H → View) (size : H → Sizes) 
     first = (at.leads before.seen lawful.holds_now).0
 
     -- tables that are settled, with the shelf of the world
-    pub settled_leads : IsShelfOf before w (size h) → (x : Image) → before.may_leave x
+    leads_settled : IsShelfOf before w (size h) → (x : Image) → before.may_leave x
         → Leads (settled at.tables) [] [] (whole (size h) away x) w
-    settled_leads shelf x left =
-        rest_leads (settled at.tables) (whole (size h) away x) w first.sound
-        (settled_records w at.tables first.records) refl refl
-        (whole_rest at.tables ts bytes (size h) away before.seen x w mask at.at_hand first
-        (shelf x left))
+    leads_settled shelf =
+        settled_leads g view size r h away ts bytes u w
+        (carried_out g view size r h away ts bytes u w at shelf) lawful
 
     -- the settling, which leaves the shelf
     pub settle_leaves : (s : Held S) → DiskKept g s → MayLeave g r s (settled at.tables)
@@ -79,7 +71,7 @@ module _ {S H : Type 0} (g : Ghosts S) (view : H → View) (size : H → Sizes) 
           bytes = [];
           stored = inl is;
           leads = λ x l. (
-            settled_leads shelf x l,
+            leads_settled shelf x l,
             settled_claims ts (whole (size h) away x) u w (at.leads x l).1,
           );
         }
@@ -94,7 +86,7 @@ module _ {S H : Type 0} (g : Ghosts S) (view : H → View) (size : H → Sizes) 
       sizes = at.sizes;
       at_hand = λ t none. absurd none;
       leads = λ x left. (
-        settled_leads shelf x left,
+        leads_settled shelf x left,
         rest_claims (whole (size h) away x) w first.sound
             (whole_rest at.tables ts bytes (size h) away before.seen x w mask at.at_hand first
             (shelf x left)),

@@ -1,6 +1,6 @@
 -- What a call leaves of the media and of the phase of a bench, and which faults it tells, beside
 -- what is particular to it.
-use Rattle.std.specs.Prelude.{◌≡◌, ◌≤◌, ◌<◌, ℕ, List, [], Result, IfOk, IfErr, OnOk, OnErr, IsErrOf}
+use Rattle.std.specs.Prelude.{◌≡◌, ◌≤◌, ◌<◌, ℕ, List, Result, IfOk, IfErr, OnOk, OnErr, IsErrOf}
 use Rattle.sqlite_trees.specs.declared.store.Store.{Ghosts as StoreGhosts}
 use Rattle.sqlite.specs.Held.{Held, state}
 use Rattle.gm_shelf.specs.declared.shelf.Shelf.{Ghosts as ShelfGhosts}
@@ -23,7 +23,9 @@ use Rattle.gm_bench.specs.declared.media.Media.{Media}
 use Rattle.gm_bench.specs.declared.phase.Progress.TheVariants.{Failed, Pending}
 use Rattle.gm_bench.specs.Faults.{IsOfCall, IsOfMedia}
 use Rattle.gm_bench.specs.Owed.{LookDoes, LookLeaves}
-use Rattle.gm_bench.specs.Phases.{IsUndone}
+use Rattle.gm_bench.specs.declared.phase.Waiting.TheVariants.{Nothing}
+use Rattle.gm_bench.specs.Accepting.{HasNothingElse}
+use Rattle.gm_bench.specs.Phases.{IsUndone, waiting_of}
 use Rattle.gm_bench.specs.Presence.{AreAtHand}
 
 -- Disk is told only where the shelf's count of failures rose.
@@ -39,7 +41,7 @@ TellsStore s old new result =
 
 -- no intent is pending, and no bytes are to be laid
 abbrev pub HasNothingPending : Tables → Type 0
-HasNothingPending t = (t.intents ≡ []) × (t.patches ≡ [])
+HasNothingPending = HasNothingElse Nothing
 
 -- so many rows the store is to number for a command at most: those of the components of a mirror,
 -- of the mirror and of the command
@@ -170,15 +172,26 @@ module _ {S H T : Type 0} (s : StoreGhosts S) (h : ShelfGhosts H) (old new : Ben
         → TellsDisk h (shelf_of old) (shelf_of new) result
 
 -- A command that is handed in, by the registry's rows and the shelf's sizes alone: what is then
--- pending is at hand, where it fails the tables stay, and else the registry goes on. `Store` comes
--- only where the store failed.
+-- pending is at hand, if it fails the tables stay, and else the registry goes on. `Store` comes
+-- only if the store failed, wherever nothing is pending but what this call settles.
 pub record TellsOfRows {S H : Type 0} (s : StoreGhosts S) (h : ShelfGhosts H) (old new : Bench S H)
     (result : Result Answer BenchFault) (key : List ℕ) (c : Command) : Type 0 where
   pub readable : TellsUnreadable s h (media_of old) (media_of new) result key c
   pub at_hand : TellsAtHand s h (media_of old) (media_of new) result (λ a. (work : Work)
       → progress_of new ≡ Pending work → AreAtHand (h.size (shelf_of old)) work.intents.items)
   pub refused : RefusesCall s h (media_of old) (media_of new) result
-  pub store : TellsStoreOf s h (media_of old) (media_of new) result c
+  pub store : TellsStoreWhere s h (media_of old) (media_of new) result
+      (HasNothingElse (waiting_of (progress_of old))) c
+  pub goes_on : StaysRegistry s h (media_of old) (media_of new) result
+
+-- A command that is handed in and carried out, by the registry's rows and the shelf's sizes alone:
+-- `Store` comes only if the store failed, wherever nothing is pending but what this call settles.
+pub record HandsInByRows {S H : Type 0} (s : StoreGhosts S) (h : ShelfGhosts H) (old new : Bench S
+    H)
+    (result : Result Answer BenchFault) (key : List ℕ) (c : Command) : Type 0 where
+  pub readable : TellsUnreadable s h (media_of old) (media_of new) result key c
+  pub store : TellsStoreWhere s h (media_of old) (media_of new) result
+      (HasNothingElse (waiting_of (progress_of old))) c
   pub goes_on : StaysRegistry s h (media_of old) (media_of new) result
 
 -- A command that is run: where an answer says that nothing was done it only read the registry, and

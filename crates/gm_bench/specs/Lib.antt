@@ -16,4 +16,5 @@ pub mod Recovering
 pub mod Running
 pub mod Schedule
 pub mod ShelfFacts
+pub mod Standing
 pub mod Without

@@ -13,8 +13,9 @@ use Rattle.gm_registry.specs.Registry.{stored, HasTables}
 use Rattle.gm_bench.specs.declared.answer.Accepted.{Accepted}
 use Rattle.gm_bench.specs.declared.answer.Answer.{Answer}
 use Rattle.gm_bench.specs.declared.answer.Work.{Work}
-use Rattle.gm_bench.specs.Recovering.{Recovers, IsAt, IsAtWork, IsShelfOf, LeavesOnly}
-use Rattle.gm_bench.specs.Accepting.{LeavesStep, IsAnswered}
+use Rattle.gm_bench.specs.Recovering.{Recovers, IsAt, IsAtWork, IsCarriedOut, IsShelfOf, LeavesOnly}
+use Rattle.gm_bench.specs.Accepting.{LeavesStep, IsAnswered, WaitsFor}
+use Rattle.gm_bench.specs.declared.phase.Waiting.{Waiting}
 use Rattle.gm_bench.specs.Running.{IsRun}
 use Rattle.gm_state.specs.declared.intents.Intent.{Intent}
 use Rattle.gm_state.specs.Rows.{Tables}
@@ -22,16 +23,20 @@ use Rattle.gm_state.specs.Rows.{Tables}
 -- What stands between a call's start, with the registry r and the shelf h, and its end, with s and
 -- k.
 module _ {S H : Type 0} (g : Ghosts S) (view : H → View) (size : H → Sizes) where
-  -- a command that is handed in at rest: what a stop leaves, and what it is answered
-  abbrev pub AcceptLeaves : Held S → Held S → H → H → List ℕ → Command → Type 0
-  AcceptLeaves r s h k key c =
-      (away : Image) (u : World) → IsAt g view size r h away [] [] u u
-      → LeavesStep g view size r s h k away u key c
+  -- a command that is handed in at rest, or after one that was carried out: what a stop leaves, and
+  -- what it is answered
+  abbrev pub AcceptLeaves : Waiting → Held S → Held S → H → H → List ℕ → Command → Type 0
+  AcceptLeaves waiting r s h k key c =
+      (away : Image) (ts : List Intent) (bytes : List (List ℕ)) (v u : World)
+      → IsCarriedOut g view size r h away ts bytes v u → WaitsFor waiting ts bytes
+      → LeavesStep g view size r s h k away v u key c
 
-  abbrev pub AcceptAnswers : Held S → Held S → H → H → List ℕ → Command → Accepted → Type 0
-  AcceptAnswers r s h k key c a =
-      (away : Image) (u : World) → IsAt g view size r h away [] [] u u
-      → IsAnswered g view size s k away u key c a
+  abbrev pub AcceptAnswers : Waiting → Held S → Held S → H → H → List ℕ → Command → Accepted
+      → Type 0
+  AcceptAnswers waiting r s h k key c a =
+      (away : Image) (ts : List Intent) (bytes : List (List ℕ)) (v u : World)
+      → IsCarriedOut g view size r h away ts bytes v u → WaitsFor waiting ts bytes
+      → IsAnswered g view size s k away ts bytes v u key c a
 
   -- work that is carried out: what a stop leaves, and that the shelf is then the world's
   abbrev pub ApplyLeaves : Held S → H → H → Work → Type 0
@@ -57,14 +62,15 @@ module _ {S H : Type 0} (g : Ghosts S) (view : H → View) (size : H → Sizes) 
       → IsShelfOf (view h) w (size h)
       → IsAt g view size s h away [] [] w w
 
-  -- A stop within a command that is run: it is accepted at some point, before which the world stays
-  -- or becomes that of the command's step; and what is left behind that point leads to the step.
-  pub record LeavesRun (r s : Held S) (h k : H) (away : Image) (u : World) (key : List ℕ)
+  -- A stop within a command that is carried out: it is accepted at some point, until which what led
+  -- from v to u still does, or the world becomes that of the command's step; and what is left after
+  -- that point leads to the step.
+  pub record LeavesRun (r s : Held S) (h k : H) (away : Image) (v u : World) (key : List ℕ)
       (c : Command) : Type 0 where
     pub registry : Held S
     pub shelf : H
     pub sizes : size shelf ≡ size h
-    pub accepting : LeavesStep g view size r registry h shelf away u key c
+    pub accepting : LeavesStep g view size r registry h shelf away v u key c
     pub carrying :
         ((registry ≡ s) × (shelf ≡ k))
         ⊎ ((w : World) × (reply : Reply) × Step u key c w reply
@@ -74,7 +80,7 @@ module _ {S H : Type 0} (g : Ghosts S) (view : H → View) (size : H → Sizes) 
   abbrev pub RunLeaves : Held S → Held S → H → H → List ℕ → Command → Type 0
   RunLeaves r s h k key c =
       (away : Image) (u : World) → IsAt g view size r h away [] [] u u
-      → LeavesRun r s h k away u key c
+      → LeavesRun r s h k away u u key c
 
   abbrev pub RunAnswers : Held S → Held S → H → H → List ℕ → Command → Answer → Type 0
   RunAnswers r s h k key c a =

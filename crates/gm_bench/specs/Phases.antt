@@ -8,6 +8,8 @@ use Rattle.gm_bench.specs.declared.phase.Phase.{Phase}
 use Rattle.gm_bench.specs.declared.phase.Phase.TheVariants as phase
 use Rattle.gm_bench.specs.declared.phase.Progress.{Progress}
 use Rattle.gm_bench.specs.declared.phase.Progress.TheVariants.{Ready, Pending, Applied, Failed}
+use Rattle.gm_bench.specs.declared.phase.Waiting.{Waiting}
+use Rattle.gm_bench.specs.declared.phase.Waiting.TheVariants as waiting
 
 -- the phase that a caller sees
 abbrev pub phase_of : Progress → Phase
@@ -22,25 +24,40 @@ answer_of (accepted.Done n reply work) = Done n reply
 answer_of (accepted.Repeated n reply) = Repeated n reply
 answer_of (accepted.Refused why) = Refused why
 
--- where the answer leaves the bench
-abbrev pub progress_after : Accepted → Progress
-progress_after (accepted.Done n reply work) = Pending work
-progress_after (accepted.Repeated n reply) = Ready
-progress_after (accepted.Refused why) = Ready
+-- how far a bench is after an answer that was so far before
+abbrev pub progress_after : Progress → Accepted → Progress
+progress_after before (accepted.Done n reply work) = Pending work
+progress_after before (accepted.Repeated n reply) = before
+progress_after before (accepted.Refused why) = before
 
 -- the phase that a caller sees then
-abbrev pub phase_after : Answer → Phase
-phase_after (Done n reply) = phase.Pending
-phase_after (Repeated n reply) = phase.Ready
-phase_after (Refused why) = phase.Ready
+abbrev pub phase_after : Phase → Answer → Phase
+phase_after before (Done n reply) = phase.Pending
+phase_after before (Repeated n reply) = before
+phase_after before (Refused why) = before
+
+-- the phase after it is carried out
+abbrev pub phase_carried : Phase → Answer → Phase
+phase_carried before (Done n reply) = phase.Applied
+phase_carried before (Repeated n reply) = before
+phase_carried before (Refused why) = before
 
 -- Nothing was done: the command was repeated or refused.
 abbrev pub IsUndone : Answer → Type 0
-IsUndone a = phase_after a ≡ phase.Ready
+IsUndone a = phase_after phase.Ready a ≡ phase.Ready
+
+-- what waits to be settled, of a bench that takes a command
+abbrev pub waiting_of : Progress → Waiting
+waiting_of (Applied work) = waiting.Done
+waiting_of _ = waiting.Nothing
 
 -- a command may be handed in
 abbrev pub TakesCommands : Progress → Type 0
 TakesCommands p = (phase_of p ≡ phase.Ready) ⊎ (phase_of p ≡ phase.Failed)
+
+-- a command may be handed in that settles the last one as well
+abbrev pub TakesNext : Progress → Type 0
+TakesNext p = TakesCommands p ⊎ (phase_of p ≡ phase.Applied)
 
 -- it may be asked to carry out what it accepted
 abbrev pub HasWork : Progress → Type 0

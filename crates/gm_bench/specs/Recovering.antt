@@ -63,6 +63,17 @@ module _ {S H : Type 0} (g : Ghosts S) (view : H → View) (size : H → Sizes) 
     pub at_hand : (t : Intent) → Has ts t → IsAtHand (size h) t
     pub leads : AllLead tables ts bytes (size h) away (view h).may_leave u w
 
+  -- The same, and the images hold what the intents say already: these alone are still to be taken
+  -- out. A bench at rest is one of these, without any intent.
+  pub record IsCarriedOut (r : Held S) (h : H) (away : Image) (ts : List Intent)
+      (bytes : List (List ℕ)) (u w : World) : Type 0 where
+    pub tables : Tables
+    pub has : HasTables g r tables
+    pub sizes : present w ≡ size h
+    pub at_hand : (t : Intent) → Has ts t → IsAtHand (size h) t
+    pub leads : AllLead tables ts bytes (size h) away (view h).may_leave u w
+    pub shelf : IsShelfOf (view h) w (size h)
+
   -- The bench is at a world to which this work leads, and the work's part of the records says what
   -- its intents need.
   pub record IsAtWork (r : Held S) (h : H) (away : Image) (work : Work) (u w : World) : Type 0 where

@@ -23,12 +23,14 @@ use Rattle.gm_bench.specs.declared.answer.Work.{Work}
 use Rattle.gm_bench.specs.declared.answer.Accepted.{Accepted}
 use Rattle.gm_bench.specs.declared.answer.Accepted.TheVariants.{Done, Repeated, Refused}
 use Rattle.gm_bench.specs.declared.answer.Answer.TheVariants as run
+use Rattle.gm_bench.specs.declared.phase.Waiting.{Waiting}
+use Rattle.gm_bench.specs.declared.phase.Waiting.TheVariants as waiting
 use Rattle.gm_bench.specs.Recovering.{IsStored, Recovers, IsAt, IsAtWork, IsShelfOf, LeavesOnly}
 use Rattle.gm_bench.specs.Owed.{AcceptLeaves, AcceptAnswers, ApplyLeaves, ApplyDoes, SettleLeaves, SettleDoes, OpenLeaves, OpenDoes, IsLeft, RunAnswers, RunLeaves, LeavesRun, LookDoes, LookLeaves}
 use Rattle.gm_bench.specs.declared.answer.Answer.{Answer}
 
--- How a command was accepted: handed in to a bench at rest; or by an opening without a provider, of
--- which these intents of earlier commands were taken out.
+-- How a command was accepted: handed in to a bench at rest or after a command that was carried out;
+-- or by an opening without a provider, of which these intents of earlier commands were taken out.
 pub data Entry : Type 0 where
   Handed_in : (call : Call) → Entry
   Without : (call : Call) (provider : List ℕ) (gone : List Intent) → Entry
@@ -73,6 +75,13 @@ pub record Now (R H : Type 0) : Type 0 where
   pub accepted : List Entry
   pub acknowledged : List Entry
 
+-- an open bench over other media, as far with its command as before
+abbrev pub with_media : {R H : Type 0} → Phase R H → R → H → Phase R H
+with_media (Ready r h) s k = Ready s k
+with_media (Pending r h work) s k = Pending s k work
+with_media (Applied r h work) s k = Applied s k work
+with_media (Down db h) s k = Down db h
+
 -- a command that is done is pending, accepted and acknowledged; after another answer nothing has
 -- changed
 abbrev pub after_answer : {R H : Type 0} → Now R H → Call → Accepted → R → H → Now R H
@@ -82,8 +91,8 @@ after_answer m call (Done n reply work) s k =
       accepted = Handed_in call ∷ m.accepted;
       acknowledged = Handed_in call ∷ m.acknowledged;
     }
-after_answer m call (Repeated n reply) s k = record m { phase = Ready s k }
-after_answer m call (Refused why) s k = record m { phase = Ready s k }
+after_answer m call (Repeated n reply) s k = record m { phase = with_media m.phase s k }
+after_answer m call (Refused why) s k = record m { phase = with_media m.phase s k }
 
 -- a command that is run is accepted and acknowledged where it is done; after another answer nothing
 -- has changed
@@ -102,12 +111,10 @@ abbrev pub IsOpenOver : {R H : Type 0} → Phase R H → R → H → Type 0
 IsOpenOver p r h =
     (p ≡ Ready r h) ⊎ ((work : Work) × ((p ≡ Pending r h work) ⊎ (p ≡ Applied r h work)))
 
--- an open bench over other media, as far with its command as before
-abbrev pub with_media : {R H : Type 0} → Phase R H → R → H → Phase R H
-with_media (Ready r h) s k = Ready s k
-with_media (Pending r h work) s k = Pending s k work
-with_media (Applied r h work) s k = Applied s k work
-with_media (Down db h) s k = Down db h
+-- the bench is open over these media, and this is what waits to be settled
+abbrev pub IsDoneOver : {R H : Type 0} → Phase R H → R → H → Waiting → Type 0
+IsDoneOver p r h waiting.Nothing = p ≡ Ready r h
+IsDoneOver p r h waiting.Done = (work : Work) × (p ≡ Applied r h work)
 
 -- in order, some left out
 pub data Within {A : Type 0} : List A → List A → Type 0 where
@@ -200,9 +207,9 @@ module _ {S H : Type 0} (g : Ghosts S) (view : H → View) (size : H → Sizes) 
 
   -- one store and one shelf that a stop within a run leaves: within the accepting, or behind it,
   -- while the step is carried out
-  abbrev pub IsRunStop : (r s : Held S) (h k : H) (away : Image) (u : World) (call : Call)
-      → LeavesRun g view size r s h k away u call.key call.command → Trees → H → Type 0
-  IsRunStop r s h k away u call it db l =
+  abbrev pub IsRunStop : (r s : Held S) (h k : H) (away : Image) (v u : World) (call : Call)
+      → LeavesRun g view size r s h k away v u call.key call.command → Trees → H → Type 0
+  IsRunStop r s h k away v u call it db l =
       IsStop r it.registry h it.shelf db l
       ⊎ ((w : World) × (reply : Reply) × Step u call.key call.command w reply
       × LeavesOnly g view size it.registry s it.shelf k away u w
@@ -255,13 +262,14 @@ module _ {S H : Type 0} (g : Ghosts S) (view : H → View) (size : H → Sizes) 
     -- what is written
     abbrev pub Happens : Now (Held S) H → Event (Held S) H → Now (Held S) H → Type 0
     Happens m (Accept_returned call answer s k) n =
-        (r : Held S) × (h : H) × (m.phase ≡ Ready r h) × (n ≡ after_answer m call answer s k)
-        × AcceptAnswers g view size r s h k call.key call.command answer
+        (r : Held S) × (h : H) × (waiting : Waiting) × IsDoneOver m.phase r h waiting
+        × (n ≡ after_answer m call answer s k)
+        × AcceptAnswers g view size waiting r s h k call.key call.command answer
     Happens m (Accept_stopped call s k db l) n =
-        (r : Held S) × (h : H) × (m.phase ≡ Ready r h)
+        (r : Held S) × (h : H) × (waiting : Waiting) × IsDoneOver m.phase r h waiting
         × (left : List Entry) × (n ≡ record m { phase = Down db l; accepted = left })
         × IsLeftIn db (Handed_in call) m.accepted left
-        × AcceptLeaves g view size r s h k call.key call.command × IsStop r s h k db l
+        × AcceptLeaves g view size waiting r s h k call.key call.command × IsStop r s h k db l
     Happens m (Apply_returned k) n =
         (r : Held S) × (h : H) × (work : Work) × (m.phase ≡ Pending r h work)
         × (n ≡ record m { phase = Applied r k work }) × ApplyDoes g view size r h k work
@@ -285,7 +293,7 @@ module _ {S H : Type 0} (g : Ghosts S) (view : H → View) (size : H → Sizes) 
         × IsLeftIn db (Handed_in call) m.accepted left
         × (leaves : RunLeaves g view size r s h k call.key call.command)
         × ((away : Image) (u : World) (at : IsAt g view size r h away [] [] u u)
-        → IsRunStop r s h k away u call (leaves away u at) db l)
+        → IsRunStop r s h k away u u call (leaves away u at) db l)
     Happens m (Look_returned s k) n =
         (r : Held S) × (h : H) × IsOpenOver m.phase r h
         × (n ≡ record m { phase = with_media m.phase s k })

@@ -1,55 +1,92 @@
 //! Commands that are handed in.
 
-ghost use Rattle.std.specs.Prelude.{◌≡◌, ◌<◌, ◌≤◌, true, List, [], IfOk, IfErr, OnOk, IsErrOf};
+ghost use Rattle.std.specs.Prelude.{◌≡◌, ◌<◌, ◌≤◌, ℕ, true, List, IfOk, IfErr, OnOk, IsErrOf};
 ghost use Rattle.gm_metadata.specs.Images.{Image};
-ghost use Rattle.gm_shelf.specs.Disk.{AreReads};
 ghost use Rattle.gm_commands.specs.declared.command.Command.{Command};
+ghost use Rattle.gm_state.specs.declared.intents.Intent.{Intent};
 ghost use Rattle.gm_commands.specs.Commands.{CommandFits, words_of};
 ghost use Rattle.gm_state.specs.World.{World};
 ghost use Rattle.gm_commands.specs.Commands.{is_key};
 ghost use Rattle.gm_rules.specs.Step.{CanAnswer};
 ghost use Rattle.gm_state.specs.Rows.{Tables};
-ghost use Rattle.gm_registry.specs.Registry.{DiskKept, HasTables, LeavesNothingNew, Refuses, StoreFailed, WasClean, Reads, seen};
+ghost use Rattle.gm_registry.specs.Accepting.{Accepts as WritesAccepted};
+ghost use Rattle.gm_registry.specs.Changes.{with_accepted};
+ghost use Rattle.gm_registry.specs.Registry.{DiskKept, HasTables, Refuses, StoreFailed, WasClean, Writes, seen};
 ghost use Rattle.gm_registry.specs.Fitting.{HasRoom};
 ghost use Rattle.gm_registry.specs.Replies.{IsFree, count_of};
-ghost use Rattle.gm_bench.specs.Accepting.{LeavesStep, IsAnswered};
+ghost use Rattle.gm_bench.specs.Accepting.{HasNothingElse, IsAnswered, LeavesStep, WaitsFor, left_by};
 ghost use Rattle.gm_bench.specs.Faults.{IsOfCall};
 ghost use Rattle.gm_bench.specs.Planning.{IsFitting, IsPlanned, IsWith, IsWorkAtHand};
-ghost use Rattle.gm_bench.specs.Recovering.{IsAt};
+ghost use Rattle.gm_bench.specs.Recovering.{IsCarriedOut};
 ghost use Rattle.gm_bench.specs.Phases.{IsUndone, answer_of};
-ghost use Rattle.gm_bench.specs.Calls.{Accepts, GoesOn, HasNothingPending, RefusesCall, StaysRegistry, TellsAtHand, TellsStoreOf, TellsStoreWhere, TellsUnreadable, most_rows};
+ghost use Rattle.gm_bench.specs.Calls.{Accepts, GoesOn, RefusesCall, StaysRegistry, TellsAtHand, TellsStoreWhere, TellsUnreadable, most_rows};
 
 use crate::answer::Accepted;
 use crate::fault::BenchFault;
 use crate::media::Media;
+use crate::phase::Waiting;
 use crate::plan::Planned;
+use gm_changes::Change;
 use gm_commands::{Command, is_key, words_of};
 use gm_refusals::CallRefusal;
+use gm_rows::StoreFault;
 use gm_shelf::Shelf;
 use sqlite::Alter;
 use std::alloc::Global;
 
 impl<S: Alter, H: Shelf> Media<S, H> {
+    // Writes a change and its key in one transaction, which takes out what waits.
+    fn write(
+        &mut self,
+        waiting: Waiting,
+        change: &Change,
+        key: &str,
+        words: &str,
+    ) -> Result<u64, StoreFault>
+        ensures accepts { WritesAccepted S.Store self.old.registry self.new.registry result
+            change.now (left_by waiting) key.now words.now }
+        ensures writes { Writes S.Store self.old.registry self.new.registry result
+            (λ t. with_accepted change.now key.now words.now (left_by waiting t)) }
+        ensures shelf { self.new.shelf ≡ self.old.shelf }
+    {
+        match waiting {
+            Waiting::Nothing => self.registry.accept(change, key, words),
+            Waiting::Done => {
+                let (intents, bytes) = (change.intents(), change.bytes());
+                self.registry
+                    .accept_instead(change, intents, bytes, key, words)
+            }
+        }
+    }
+
     // Writes what a command makes.
-    fn commit(&mut self, planned: Planned, key: &str, words: &str) -> Result<Accepted, BenchFault>
+    fn commit(
+        &mut self,
+        waiting: Waiting,
+        planned: Planned,
+        key: &str,
+        words: &str,
+    ) -> Result<Accepted, BenchFault>
         ensures leaves { H.honest self.old.shelf → DiskKept S.Store self.new.registry
-            → (away : Image) (c : Command) (u : World) → words.now ≡ words_of c
-            → IsAt S.Store H.view H.size self.old.registry self.old.shelf away [] [] u u
-            → IsPlanned u c planned → CanAnswer u key.now c
+            → (away : Image) (ts : List Intent)
+            (bytes : List (List ℕ)) (c : Command) (v u : World) → words.now ≡ words_of c
+            → IsCarriedOut S.Store H.view H.size self.old.registry self.old.shelf away ts bytes v u
+            → WaitsFor waiting ts bytes → IsPlanned u c planned → CanAnswer u key.now c
             → LeavesStep S.Store H.view H.size self.old.registry self.new.registry
-            self.old.shelf self.old.shelf away u key.now c }
+            self.old.shelf self.old.shelf away v u key.now c }
         ensures done { H.honest self.old.shelf → DiskKept S.Store self.new.registry
-            → IfOk result (λ a. (away : Image) (c : Command) (u : World) → words.now ≡ words_of c
-            → IsAt S.Store H.view H.size self.old.registry self.old.shelf away [] [] u u
-            → IsPlanned u c planned → CanAnswer u key.now c
+            → IfOk result (λ a. (away : Image) (ts : List Intent)
+            (bytes : List (List ℕ)) (c : Command) (v u : World) → words.now ≡ words_of c
+            → IsCarriedOut S.Store H.view H.size self.old.registry self.old.shelf away ts bytes v u
+            → WaitsFor waiting ts bytes → IsPlanned u c planned → CanAnswer u key.now c
             → IsAnswered S.Store H.view H.size self.new.registry self.old.shelf away
-            u key.now c a) }
+            ts bytes v u key.now c a) }
         ensures refused { Refuses S.Store self.old.registry self.new.registry result }
         // Of a change that fits the tables, `Store` comes only where the store failed.
         ensures store { DiskKept S.Store self.new.registry → IsErrOf result BenchFault.Store
             → (t : Tables) → HasTables S.Store self.old.registry t → count_of t < 100000
-            → is_key key.now ≡ true → IsFree t key.now → HasNothingPending t
-            → IsFitting planned.change words.now t
+            → is_key key.now ≡ true → IsFree t key.now → HasNothingElse waiting t
+            → IsFitting planned.change words.now (left_by waiting t)
             → HasRoom most_rows (seen S.Store self.old.registry)
             → StoreFailed S.Store self.old.registry self.new.registry }
         ensures goes_on { DiskKept S.Store self.new.registry → OnOk result ((t : Tables)
@@ -64,7 +101,7 @@ impl<S: Alter, H: Shelf> Media<S, H> {
         ensures shelf { self.new.shelf ≡ self.old.shelf }
         ensures clean { WasClean S.Store self.old.registry self.new.registry }
     {
-        match self.registry.accept(&planned.change, key, words) {
+        match self.write(waiting, &planned.change, key, words) {
             Ok(number) => Ok(Accepted::Done {
                 number,
                 reply: planned.change.reply(),
@@ -78,22 +115,27 @@ impl<S: Alter, H: Shelf> Media<S, H> {
     fn choose(
         &mut self,
         alloc: Global,
+        waiting: Waiting,
         key: &str,
         words: &str,
         command: &Command,
     ) -> Result<Accepted, BenchFault>
         ensures leaves { H.honest self.old.shelf → DiskKept S.Store self.new.registry
-            → (away : Image) (u : World) → words.now ≡ words_of command.now
-            → IsAt S.Store H.view H.size self.old.registry self.old.shelf away [] [] u u
+            → (away : Image) (ts : List Intent)
+            (bytes : List (List ℕ)) (v u : World) → words.now ≡ words_of command.now
+            → IsCarriedOut S.Store H.view H.size self.old.registry self.old.shelf away ts bytes v u
+            → WaitsFor waiting ts bytes
             → CanAnswer u key.now command.now
             → LeavesStep S.Store H.view H.size self.old.registry self.new.registry
-            self.old.shelf self.new.shelf away u key.now command.now }
+            self.old.shelf self.new.shelf away v u key.now command.now }
         ensures done { H.honest self.old.shelf → DiskKept S.Store self.new.registry
-            → IfOk result (λ a. (away : Image) (u : World) → words.now ≡ words_of command.now
-            → IsAt S.Store H.view H.size self.old.registry self.old.shelf away [] [] u u
+            → IfOk result (λ a. (away : Image) (ts : List Intent)
+            (bytes : List (List ℕ)) (v u : World) → words.now ≡ words_of command.now
+            → IsCarriedOut S.Store H.view H.size self.old.registry self.old.shelf away ts bytes v u
+            → WaitsFor waiting ts bytes
             → CanAnswer u key.now command.now
             → IsAnswered S.Store H.view H.size self.new.registry self.new.shelf away
-            u key.now command.now a) }
+            ts bytes v u key.now command.now a) }
         ensures fault { IfErr result IsOfCall }
         ensures readable { CommandFits command.now → TellsUnreadable S.Store H.Shelf
             self.old self.new result key.now command.now }
@@ -102,13 +144,13 @@ impl<S: Alter, H: Shelf> Media<S, H> {
         ensures refused { RefusesCall S.Store H.Shelf self.old self.new result }
         ensures store { words.now ≡ words_of command.now → is_key key.now ≡ true
             → CommandFits command.now → TellsStoreWhere S.Store H.Shelf self.old self.new result
-            (λ t. HasNothingPending t × (count_of t < 100000) × IsFree t key.now) command.now }
+            (λ t. HasNothingElse waiting t × (count_of t < 100000) × IsFree t key.now) command.now }
         ensures goes_on { StaysRegistry S.Store H.Shelf self.old self.new result }
         ensures accepts { Accepts S.Store H.Shelf self.old self.new result
             (λ a. IsUndone (answer_of a)) }
     {
         match self.ask(alloc, command)? {
-            Ok(planned) => self.commit(planned, key, words),
+            Ok(planned) => self.commit(waiting, planned, key, words),
             Err(refusal) => Ok(Accepted::Refused(CallRefusal::ByRules(refusal))),
         }
     }
@@ -117,24 +159,29 @@ impl<S: Alter, H: Shelf> Media<S, H> {
     fn decide(
         &mut self,
         alloc: Global,
+        waiting: Waiting,
         key: &str,
         words: &str,
         command: &Command,
     ) -> Result<Accepted, BenchFault>
         ensures leaves { H.honest self.old.shelf → DiskKept S.Store self.new.registry
-            → (away : Image) (u : World) → words.now ≡ words_of command.now
+            → (away : Image) (ts : List Intent)
+            (bytes : List (List ℕ)) (v u : World) → words.now ≡ words_of command.now
             → is_key key.now ≡ true → CommandFits command.now
-            → (at : IsAt S.Store H.view H.size self.old.registry self.old.shelf away [] [] u u)
-            → IsFree at.tables key.now
+            → (at : IsCarriedOut S.Store H.view H.size self.old.registry self.old.shelf away
+            ts bytes v u)
+            → WaitsFor waiting ts bytes → IsFree at.tables key.now
             → LeavesStep S.Store H.view H.size self.old.registry self.new.registry
-            self.old.shelf self.new.shelf away u key.now command.now }
+            self.old.shelf self.new.shelf away v u key.now command.now }
         ensures done { H.honest self.old.shelf → DiskKept S.Store self.new.registry
-            → IfOk result (λ a. (away : Image) (u : World) → words.now ≡ words_of command.now
+            → IfOk result (λ a. (away : Image) (ts : List Intent)
+            (bytes : List (List ℕ)) (v u : World) → words.now ≡ words_of command.now
             → is_key key.now ≡ true → CommandFits command.now
-            → (at : IsAt S.Store H.view H.size self.old.registry self.old.shelf away [] [] u u)
-            → IsFree at.tables key.now
+            → (at : IsCarriedOut S.Store H.view H.size self.old.registry self.old.shelf away
+            ts bytes v u)
+            → WaitsFor waiting ts bytes → IsFree at.tables key.now
             → IsAnswered S.Store H.view H.size self.new.registry self.new.shelf away
-            u key.now command.now a) }
+            ts bytes v u key.now command.now a) }
         ensures fault { IfErr result IsOfCall }
         ensures readable { CommandFits command.now → TellsUnreadable S.Store H.Shelf
             self.old self.new result key.now command.now }
@@ -143,7 +190,7 @@ impl<S: Alter, H: Shelf> Media<S, H> {
         ensures refused { RefusesCall S.Store H.Shelf self.old self.new result }
         ensures store { words.now ≡ words_of command.now → is_key key.now ≡ true
             → CommandFits command.now → TellsStoreWhere S.Store H.Shelf self.old self.new result
-            (λ t. HasNothingPending t × IsFree t key.now) command.now }
+            (λ t. HasNothingElse waiting t × IsFree t key.now) command.now }
         ensures goes_on { StaysRegistry S.Store H.Shelf self.old self.new result }
         ensures accepts { Accepts S.Store H.Shelf self.old self.new result
             (λ a. IsUndone (answer_of a)) }
@@ -151,29 +198,34 @@ impl<S: Alter, H: Shelf> Media<S, H> {
         if self.is_full()? {
             return Ok(Accepted::Refused(CallRefusal::NoRoom));
         }
-        self.choose(alloc, key, words, command)
+        self.choose(alloc, waiting, key, words, command)
     }
 
     // Answers a command whose key has the form of one.
     fn answer(
         &mut self,
         alloc: Global,
+        waiting: Waiting,
         key: &str,
         words: &str,
         command: &Command,
     ) -> Result<Accepted, BenchFault>
         ensures leaves { H.honest self.old.shelf → DiskKept S.Store self.new.registry
-            → (away : Image) (u : World) → words.now ≡ words_of command.now
+            → (away : Image) (ts : List Intent)
+            (bytes : List (List ℕ)) (v u : World) → words.now ≡ words_of command.now
             → is_key key.now ≡ true → CommandFits command.now
-            → IsAt S.Store H.view H.size self.old.registry self.old.shelf away [] [] u u
+            → IsCarriedOut S.Store H.view H.size self.old.registry self.old.shelf away ts bytes v u
+            → WaitsFor waiting ts bytes
             → LeavesStep S.Store H.view H.size self.old.registry self.new.registry
-            self.old.shelf self.new.shelf away u key.now command.now }
+            self.old.shelf self.new.shelf away v u key.now command.now }
         ensures done { H.honest self.old.shelf → DiskKept S.Store self.new.registry
-            → IfOk result (λ a. (away : Image) (u : World) → words.now ≡ words_of command.now
+            → IfOk result (λ a. (away : Image) (ts : List Intent)
+            (bytes : List (List ℕ)) (v u : World) → words.now ≡ words_of command.now
             → is_key key.now ≡ true → CommandFits command.now
-            → IsAt S.Store H.view H.size self.old.registry self.old.shelf away [] [] u u
+            → IsCarriedOut S.Store H.view H.size self.old.registry self.old.shelf away ts bytes v u
+            → WaitsFor waiting ts bytes
             → IsAnswered S.Store H.view H.size self.new.registry self.new.shelf away
-            u key.now command.now a) }
+            ts bytes v u key.now command.now a) }
         ensures fault { IfErr result IsOfCall }
         ensures readable { CommandFits command.now → TellsUnreadable S.Store H.Shelf
             self.old self.new result key.now command.now }
@@ -182,13 +234,14 @@ impl<S: Alter, H: Shelf> Media<S, H> {
         ensures refused { RefusesCall S.Store H.Shelf self.old self.new result }
         ensures store { words.now ≡ words_of command.now → is_key key.now ≡ true
             → CommandFits command.now
-            → TellsStoreOf S.Store H.Shelf self.old self.new result command.now }
+            → TellsStoreWhere S.Store H.Shelf
+            self.old self.new result (HasNothingElse waiting) command.now }
         ensures goes_on { StaysRegistry S.Store H.Shelf self.old self.new result }
         ensures accepts { Accepts S.Store H.Shelf self.old self.new result
             (λ a. IsUndone (answer_of a)) }
     {
         match self.registry.reply_of(key) {
-            Ok(None) => self.decide(alloc, key, words, command),
+            Ok(None) => self.decide(alloc, waiting, key, words, command),
             Ok(Some((number, kept, reply))) => {
                 if kept.as_str() == words {
                     Ok(Accepted::Repeated(number, reply))
@@ -200,30 +253,37 @@ impl<S: Alter, H: Shelf> Media<S, H> {
         }
     }
 
-    /// Hands in a command under a key. It reads the shelf, and writes the registry alone.
+    /// Hands in a command under a key. It reads the shelf, and writes the registry alone: the
+    /// transaction that accepts the command settles what waits.
     pub(crate) fn accept(
         &mut self,
         alloc: Global,
+        waiting: Waiting,
         key: &str,
         command: &Command,
     ) -> Result<Accepted, BenchFault>
         ensures leaves { H.honest self.old.shelf → DiskKept S.Store self.new.registry
-            → (away : Image) (u : World)
-            → IsAt S.Store H.view H.size self.old.registry self.old.shelf away [] [] u u
+            → (away : Image) (ts : List Intent)
+            (bytes : List (List ℕ)) (v u : World)
+            → IsCarriedOut S.Store H.view H.size self.old.registry self.old.shelf away ts bytes v u
+            → WaitsFor waiting ts bytes
             → LeavesStep S.Store H.view H.size self.old.registry self.new.registry
-            self.old.shelf self.new.shelf away u key.now command.now }
+            self.old.shelf self.new.shelf away v u key.now command.now }
         ensures done { H.honest self.old.shelf → DiskKept S.Store self.new.registry
-            → IfOk result (λ a. (away : Image) (u : World)
-            → IsAt S.Store H.view H.size self.old.registry self.old.shelf away [] [] u u
+            → IfOk result (λ a. (away : Image) (ts : List Intent)
+            (bytes : List (List ℕ)) (v u : World)
+            → IsCarriedOut S.Store H.view H.size self.old.registry self.old.shelf away ts bytes v u
+            → WaitsFor waiting ts bytes
             → IsAnswered S.Store H.view H.size self.new.registry self.new.shelf away
-            u key.now command.now a) }
+            ts bytes v u key.now command.now a) }
         ensures fault { IfErr result IsOfCall }
         ensures readable { TellsUnreadable S.Store H.Shelf
             self.old self.new result key.now command.now }
         ensures at_hand { TellsAtHand S.Store H.Shelf
             self.old self.new result (IsWorkAtHand (H.size self.old.shelf)) }
         ensures refused { RefusesCall S.Store H.Shelf self.old self.new result }
-        ensures store { TellsStoreOf S.Store H.Shelf self.old self.new result command.now }
+        ensures store { TellsStoreWhere S.Store H.Shelf
+            self.old self.new result (HasNothingElse waiting) command.now }
         ensures goes_on { StaysRegistry S.Store H.Shelf self.old self.new result }
         ensures accepts { Accepts S.Store H.Shelf self.old self.new result
             (λ a. IsUndone (answer_of a)) }
@@ -232,7 +292,7 @@ impl<S: Alter, H: Shelf> Media<S, H> {
             return Ok(Accepted::Refused(CallRefusal::NoKey));
         }
         match words_of(alloc, command) {
-            Ok(words) => self.answer(alloc, key, &words, command),
+            Ok(words) => self.answer(alloc, waiting, key, &words, command),
             Err(_) => Err(BenchFault::Memory),
         }
     }

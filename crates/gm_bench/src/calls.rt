@@ -1,18 +1,12 @@
 //! Commands: handed in, carried out and settled, one call each or in one.
 
-ghost use Rattle.std.specs.Prelude.{◌≡◌, ◌<◌, ◌≤◌, ℕ, List, [], IfOk, OnOk, OnErr, IsErrOf};
-ghost use Rattle.gm_metadata.specs.Images.{Image};
-ghost use Rattle.gm_shelf.specs.Disk.{AreReads};
-ghost use Rattle.gm_state.specs.Rows.{Tables};
-ghost use Rattle.gm_state.specs.World.{World};
-ghost use Rattle.gm_registry.specs.Registry.{DiskKept, HasTables, LeavesNothingNew, Refuses, WasClean, Reads};
+ghost use Rattle.std.specs.Prelude.{◌≡◌, ◌≢◌, ◌<◌, IfOk, OnOk, IsErrOf};
+ghost use Rattle.gm_registry.specs.Registry.{DiskKept, Refuses};
 ghost use Rattle.gm_bench.specs.Benches.{media_of, progress_of, registry_of, shelf_of};
 ghost use Rattle.gm_bench.specs.declared.answer.Accepted.{Accepted};
 ghost use Rattle.gm_bench.specs.declared.answer.Work.{Work};
 ghost use Rattle.gm_bench.specs.Owed.{AcceptAnswers, AcceptLeaves, ApplyDoes, ApplyLeaves, SettleDoes, SettleLeaves, RunAnswers, RunLeaves};
-ghost use Rattle.gm_bench.specs.Phases.{TakesCommands, HasWork, HasDone, answer_of, phase_after, phase_of, progress_after, IsUndone};
-ghost use Rattle.gm_bench.specs.Recovering.{IsAt, IsAtWork, LeavesOnly};
-ghost use Rattle.gm_bench.specs.Presence.{AreAtHand};
+ghost use Rattle.gm_bench.specs.Phases.{TakesCommands, TakesNext, HasWork, HasDone, answer_of, phase_after, phase_of, progress_after, waiting_of, IsUndone};
 ghost use Rattle.gm_bench.specs.Calls.{Accepts, ClosesOnFault, CarriesOut, RunsOnce, Settles, TellsOfRows, TellsStore, TellsStoreOf, TellsUnreadable};
 
 use crate::answer::Answer;
@@ -26,48 +20,45 @@ use std::alloc::Global;
 use std::mem;
 
 impl<S: Alter, H: Shelf> Bench<S, H> {
-    /// Hands in a command under a key, in phase Ready. It reads the shelf, and writes the registry
-    /// alone; what is done is then pending. `Closed` after an earlier fault, before anything is
-    /// read or written; any other fault closes the bench.
+    /// Hands in a command under a key, in phase Ready or Applied. It reads the shelf, and writes
+    /// the registry alone; what is done is then pending. In phase Applied the transaction that
+    /// accepts it settles the last one too; if it is repeated or refused, nothing is written and
+    /// that stays to be settled. `Closed` after an earlier fault, before anything is read or
+    /// written; any other fault closes the bench.
     pub fn accept(
         &mut self,
         alloc: Global,
         key: &str,
         command: &Command,
     ) -> Result<Answer, BenchFault>
-        requires { TakesCommands (progress_of self.old) }
+        requires { TakesNext (progress_of self.old) }
         ensures answers { H.honest (shelf_of self.old) → DiskKept S.Store (registry_of self.new)
             → IfOk result (λ a. (it : Accepted) × (a ≡ answer_of it)
-            × (progress_of self.new ≡ progress_after it)
-            × AcceptAnswers S.Store H.view H.size
+            × (progress_of self.new ≡ progress_after (progress_of self.old) it)
+            × AcceptAnswers S.Store H.view H.size (waiting_of (progress_of self.old))
             (registry_of self.old) (registry_of self.new)
             (shelf_of self.old) (shelf_of self.new) key.now command.now it) }
         ensures leaves { H.honest (shelf_of self.old) → DiskKept S.Store (registry_of self.new)
-            → AcceptLeaves S.Store H.view H.size (registry_of self.old) (registry_of self.new)
+            → AcceptLeaves S.Store H.view H.size (waiting_of (progress_of self.old))
+            (registry_of self.old) (registry_of self.new)
             (shelf_of self.old) (shelf_of self.new) key.now command.now }
-        ensures ready { OnOk result (progress_of self.old ≡ Progress.Ready) }
-        ensures phase { IfOk result (λ a. phase_of (progress_of self.new) ≡ phase_after a) }
+        ensures not_failed { OnOk result (progress_of self.old ≢ Progress.Failed) }
+        ensures phase { IfOk result (λ a. phase_of (progress_of self.new)
+            ≡ phase_after (phase_of (progress_of self.old)) a) }
         // Also of files: by the registry's rows and the sizes alone.
         ensures rows { TellsOfRows S.Store H.Shelf self.old self.new result key.now command.now }
         ensures accepts { Accepts S.Store H.Shelf (media_of self.old) (media_of self.new) result
             IsUndone }
         ensures closes { ClosesOnFault self.old self.new result }
     {
-        match self.progress {
-            Progress::Ready => {}
-            _ => return Err(BenchFault::Closed),
-        }
-        match self.media.accept(alloc, key, command) {
-            Ok(accepted) => {
-                let (answer, progress) = accepted.tell();
-                self.progress = progress;
-                Ok(answer)
-            }
-            Err(fault) => {
-                self.progress = Progress::Failed;
-                Err(fault)
-            }
-        }
+        let Some(waiting) = self.progress.waiting() else {
+            return Err(BenchFault::Closed);
+        };
+        let before = mem::replace(&mut self.progress, Progress::Failed);
+        let accepted = self.media.accept(alloc, waiting, key, command)?;
+        let (answer, progress) = accepted.tell(before);
+        self.progress = progress;
+        Ok(answer)
     }
 
     /// Carries out what is pending. It writes the shelf alone.
@@ -127,33 +118,6 @@ impl<S: Alter, H: Shelf> Bench<S, H> {
         }
     }
 
-    // `apply` and `settle` in turn.
-    fn carry_out(&mut self) -> Result<(), BenchFault>
-        requires { HasWork (progress_of self.old) }
-        ensures does { H.honest (shelf_of self.old) → DiskKept S.Store (registry_of self.new)
-            → (work : Work) → progress_of self.old ≡ Progress.Pending work
-            → OnOk result ((away : Image) (u w : World)
-            → IsAtWork S.Store H.view H.size (registry_of self.old) (shelf_of self.old) away
-            work u w
-            → IsAt S.Store H.view H.size (registry_of self.new) (shelf_of self.new) away
-            [] [] w w) }
-        ensures leaves { H.honest (shelf_of self.old) → DiskKept S.Store (registry_of self.new)
-            → (work : Work) → progress_of self.old ≡ Progress.Pending work
-            → (away : Image) (u w : World)
-            → IsAtWork S.Store H.view H.size (registry_of self.old) (shelf_of self.old) away
-            work u w
-            → LeavesOnly S.Store H.view H.size
-            (registry_of self.old) (registry_of self.new)
-            (shelf_of self.old) (shelf_of self.new) away u w }
-        ensures phase { OnOk result (progress_of self.new ≡ Progress.Ready) }
-        ensures store { TellsStore S.Store (registry_of self.old) (registry_of self.new) result }
-        ensures carries { CarriesOut S.Store H.Shelf self.old self.new result }
-        ensures closes { ClosesOnFault self.old self.new result }
-    {
-        self.apply()?;
-        self.settle()
-    }
-
     /// `accept`, `apply` and `settle` in turn. What was accepted before a fault is carried out by
     /// the next opening.
     pub fn run(&mut self, alloc: Global, key: &str, command: &Command) -> Result<Answer, BenchFault>
@@ -175,13 +139,8 @@ impl<S: Alter, H: Shelf> Bench<S, H> {
         ensures runs { RunsOnce S.Store H.Shelf self.old self.new result }
         ensures closes { ClosesOnFault self.old self.new result }
     {
-        let answer = self.accept(alloc, key, command)?;
-        match self.phase() {
-            Phase::Pending => {
-                self.carry_out()?;
-                Ok(answer)
-            }
-            _ => Ok(answer),
-        }
+        let answer = self.hand_in(alloc, key, command)?;
+        self.settle_waiting()?;
+        Ok(answer)
     }
 }

@@ -6,9 +6,10 @@
 //! and `specs/Accepting.antt`, what a call may leave, `specs/Owed.antt`, what each call owes,
 //! `specs/Calls.antt` and `specs/Opened.antt`, what all calls of a kind leave and tell beside that
 //! (`specs/Benches.antt` names what is in a bench), and `specs/Schedule.antt`, what a whole run is;
-//! then `bench` and `calls`, whose calls are those of `media` in turn. `laws` says what holds of
-//! every run. `views` has the calls that only look; what they tell of a state and a shelf is
-//! gm_looks's.
+//! then `bench` and `calls`, whose calls are those of `media` in turn. `hand_in` hands in one
+//! command after another, each of which settles the one before it (`specs/Standing.antt`). `laws`
+//! says what holds of every run. `views` has the calls that only look; what they tell of a state
+//! and a shelf is gm_looks's.
 //!
 //! `open_without` opens a bench of which an image is gone for good: `specs/Losing.antt` says what
 //! is pending behind that, `specs/Without.antt` why it is refused, and `specs/GivingUp.antt` what
@@ -22,6 +23,7 @@ mod bench;
 mod calls;
 mod facts;
 mod fault;
+mod hand_in;
 mod laws;
 mod lose;
 mod loss;

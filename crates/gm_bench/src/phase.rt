@@ -1,7 +1,7 @@
 //! How far a bench is with a command.
 
-ghost use Rattle.std.specs.Prelude.{◌≡◌};
-ghost use Rattle.gm_bench.specs.Phases.{phase_of, answer_of, progress_after};
+ghost use Rattle.std.specs.Prelude.{◌≡◌, ◌≢◌, Option};
+ghost use Rattle.gm_bench.specs.Phases.{TakesNext, answer_of, phase_of, progress_after, waiting_of};
 
 use crate::answer::{Accepted, Answer, Work};
 
@@ -12,7 +12,7 @@ pub enum Phase {
     Ready,
     /// A command was accepted: `apply`.
     Pending,
-    /// It is carried out on the images: `settle`.
+    /// It is carried out on the images: `settle`, or `accept` of the next.
     Applied,
     /// A fault closed the bench: it is opened again.
     Failed,
@@ -27,7 +27,28 @@ pub(crate) enum Progress {
     Failed,
 }
 
+/// What a command that is accepted settles as well.
+#[derive(Clone, Copy, Debug, PartialEq, Eq)]
+pub(crate) enum Waiting {
+    Nothing,
+    /// The last command, which was carried out.
+    Done,
+}
+
 impl Progress {
+    /// What the next command settles, in phase Ready or Applied.
+    pub(crate) fn waiting(&self) -> Option<Waiting>
+        ensures some { (w : Waiting) → result ≡ Option.Some w
+            → (w ≡ waiting_of self.now) × (self.now ≢ Progress.Failed) }
+        ensures none { result ≡ Option.None → TakesNext self.now → self.now ≡ Progress.Failed }
+    {
+        match self {
+            Progress::Ready => Some(Waiting::Nothing),
+            Progress::Applied(_) => Some(Waiting::Done),
+            _ => None,
+        }
+    }
+
     pub(crate) fn phase(&self) -> Phase
         ensures { result ≡ phase_of self.now }
     {
@@ -41,9 +62,9 @@ impl Progress {
 }
 
 impl Accepted {
-    /// The answer, and where it leaves the bench.
-    pub(crate) fn tell(self) -> (Answer, Progress)
-        ensures { (result.0 ≡ answer_of self) × (result.1 ≡ progress_after self) }
+    /// The answer, and how far a bench is then that was so far before.
+    pub(crate) fn tell(self, before: Progress) -> (Answer, Progress)
+        ensures { (result.0 ≡ answer_of self) × (result.1 ≡ progress_after before self) }
     {
         match self {
             Accepted::Done {
@@ -51,8 +72,8 @@ impl Accepted {
                 reply,
                 work,
             } => (Answer::Done(number, reply), Progress::Pending(work)),
-            Accepted::Repeated(number, reply) => (Answer::Repeated(number, reply), Progress::Ready),
-            Accepted::Refused(refusal) => (Answer::Refused(refusal), Progress::Ready),
+            Accepted::Repeated(number, reply) => (Answer::Repeated(number, reply), before),
+            Accepted::Refused(refusal) => (Answer::Refused(refusal), before),
         }
     }
 }

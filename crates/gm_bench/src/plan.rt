@@ -1,8 +1,7 @@
 //! What the rules answer to a command.
 
-ghost use Rattle.std.specs.Prelude.{◌≡◌, ◌<◌, ◌≤◌, ℕ, List, [], length, IfOk, IfErr, IsErrOf, nat_le};
+ghost use Rattle.std.specs.Prelude.{◌≡◌, ◌<◌, ◌≤◌, ℕ, List, length, IfOk, IfErr, IsErrOf, nat_le};
 ghost use Rattle.gm_metadata.specs.Images.{Image, Sizes};
-ghost use Rattle.gm_shelf.specs.Disk.{AreReads};
 ghost use Rattle.gm_state.specs.Rows.{Tables};
 ghost use Rattle.gm_state.specs.Records.{Records, IsState};
 ghost use Rattle.gm_state.specs.World.{World};
@@ -16,8 +15,11 @@ ghost use Rattle.gm_refusals.specs.WorldFacts.{AreFacts, needed_by};
 ghost use Rattle.gm_rows.specs.ReadableTables.{AreRecordsOf};
 ghost use Rattle.gm_registry.specs.Registry.{DiskKept, HasTables, Reads};
 ghost use Rattle.gm_registry.specs.Replies.{count_of};
-ghost use Rattle.gm_bench.specs.Faults.{IsOfCall, IsOfMedia};
-ghost use Rattle.gm_bench.specs.Recovering.{IsAt};
+ghost use Rattle.gm_bench.specs.Faults.{IsOfCall};
+ghost use Rattle.gm_bench.specs.Recovering.{IsCarriedOut};
+ghost use Rattle.gm_bench.specs.Accepting.{left_by};
+ghost use Rattle.gm_bench.specs.declared.phase.Waiting.{Waiting};
+ghost use Rattle.gm_state.specs.declared.intents.Intent.{Intent};
 ghost use Rattle.gm_bench.specs.Planning.{IsDecided, IsKnown, IsPartKnown, IsPlanAtHand, IsPlanFitting, IsToDecide};
 ghost use Rattle.gm_bench.specs.ShelfFacts.{IsHonestToAdopt, Tell, TellSizes};
 ghost use Rattle.gm_lists.specs.Ordered.{Has};
@@ -231,8 +233,9 @@ impl<S: Alter, H: Shelf> Media<S, H> {
     // its part has, and which data are to be compared.
     fn gather(&mut self, alloc: Global, command: &Command) -> Result<Gathered, BenchFault>
         ensures known { H.honest self.old.shelf → DiskKept S.Store self.new.registry
-            → IfOk result (λ r. (away : Image) (u : World)
-            → (at : IsAt S.Store H.view H.size self.old.registry self.old.shelf away [] [] u u)
+            → IfOk result (λ r. (away : Image) (ts : List Intent) (bytes : List (List ℕ))
+            (v u : World) → (at : IsCarriedOut S.Store H.view H.size self.old.registry
+            self.old.shelf away ts bytes v u)
             → IsKnown u command.now r × HasTables S.Store self.new.registry at.tables) }
         ensures serves { DiskKept S.Store self.new.registry
             → IfOk result (λ r. (t : Tables) (s : Records)
@@ -266,8 +269,9 @@ impl<S: Alter, H: Shelf> Media<S, H> {
         command: &Command,
     ) -> Result<Result<Planned, Refusal>, BenchFault>
         ensures decides { H.honest self.old.shelf → DiskKept S.Store self.new.registry
-            → IfOk result (λ r. (away : Image) (u : World)
-            → (at : IsAt S.Store H.view H.size self.old.registry self.old.shelf away [] [] u u)
+            → IfOk result (λ r. (away : Image) (ts : List Intent) (bytes : List (List ℕ))
+            (v u : World) → (at : IsCarriedOut S.Store H.view H.size self.old.registry
+            self.old.shelf away ts bytes v u)
             → IsDecided u command.now r × HasTables S.Store self.new.registry at.tables) }
         ensures at_hand { DiskKept S.Store self.new.registry
             → IfOk result (λ r. (t : Tables) (s : Records)
@@ -277,8 +281,8 @@ impl<S: Alter, H: Shelf> Media<S, H> {
         ensures fits { DiskKept S.Store self.new.registry
             → IfOk result (λ r. (t : Tables) (s : Records)
             → HasTables S.Store self.old.registry t → AreRecordsOf t s → CommandFits command.now
-            → IsHonestToAdopt H.Shelf self.old.shelf command.now
-            → IsPlanFitting command.now t r) }
+            → IsHonestToAdopt H.Shelf self.old.shelf command.now → (waiting : Waiting)
+            → IsPlanFitting command.now (left_by waiting t) r) }
         ensures store { TellsStore S.Store self.old.registry self.new.registry result }
         ensures readable { DiskKept S.Store self.new.registry
             → IsErrOf result BenchFault.Unreadable → (t : Tables) (s : Records)

@@ -1,22 +1,62 @@
 -- A batch as a part of a schedule, by induction over its lines.
-use Rattle.std.proofs.Common.{inl, inr, ℕ, Bool, List, [], ◌∷◌, Option, Result, Ok, Err, sym, subst}
+use Rattle.std.proofs.Common.{◌≡◌, ◌∙◌, ◌⊎◌, inl, inr, ℕ, Bool, List, [], ◌∷◌, ◌++◌, Option, Result, Ok, Err, refl, sym, ap, subst, subst₂}
 use Rattle.sqlite_trees.specs.declared.store.Store.{Ghosts}
 use Rattle.sqlite.specs.Held.{Held}
+use Rattle.sqlite.specs.Tree.{Trees}
 use Rattle.gm_metadata.specs.Images.{Image, Sizes}
 use Rattle.gm_shelf.specs.Disk.{View}
+use Rattle.gm_commands.specs.declared.command.Command.{Command}
 use Rattle.gm_state.specs.World.{World}
 use Rattle.gm_rules.specs.AbstractCalls as run
 use Rattle.gm_rules.specs.Step.{Step}
 use Rattle.gm_bench.specs.Owed.{LeavesRun}
-use Rattle.gm_bench.specs.Schedule.{Entry, Handed_in, Within, none, skips, keeps, Reached, AtRest}
-use Rattle.gm_bench.proofs.Induction.{one_step, run_stopped}
+use Rattle.gm_bench.specs.Schedule.{ArePending, AtRest, Entry, Handed_in, IsButMoved, IsLeftIn, Reached, Stopped, Within, keeps, none, skips}
+use Rattle.gm_bench.specs.Standing.{LeavesNext}
+use Rattle.gm_bench.proofs.Induction.{accept_stopped, at_rest as reached_at_rest, reached_done, run_stopped, settling_stopped, stopped}
+use Rattle.gm_bench.proofs.MovedWorlds.{one_step, stays}
 use Rattle.gm_front.specs.declared.answer_lines.BatchEnd.{BatchEnd}
 use Rattle.gm_front.specs.declared.answer_lines.BatchEnd.TheVariants as end
 use Rattle.gm_front.specs.declared.answer_lines.FrontFault.{FrontFault}
-use Rattle.gm_front.specs.Batch.{Replies, Answers, AreAnswered, Stops, Batches}
+use Rattle.gm_front.specs.Batch.{Answers, AreAnswered, AreCarriedOut, AreUnsettled, Batches, IsLast, Replies, Stops}
 use Rattle.gm_front.specs.BatchRuns.{with_asked, calls_of, StopsAtLine, BatchLeaves}
-use Rattle.gm_front.specs.HandedIn.{with_calls, IsAtRestBehind, IsStoppedAt}
+use Rattle.gm_front.specs.HandedIn.{AreCarriedBehind, IsAtRestBehind, IsNextStop, IsStoppedAt, IsStoppedSettling, with_calls}
 use Rattle.gm_front.specs.Request.{Asked, Nothing, Wrong, Call, asked}
+
+-- one more call, handed in last
+with_last : (calls : List run.Call) (call : run.Call) (entries : List Entry)
+    → with_calls (calls ++ call ∷ []) entries ≡ Handed_in call ∷ with_calls calls entries
+with_last [] call entries = refl
+with_last (first ∷ calls) call entries = with_last calls call (Handed_in first ∷ entries)
+
+none_within : {A : Type 0} (xs : List A) → Within [] xs
+none_within [] = none
+none_within (x ∷ xs) = skips (none_within xs)
+
+-- some of these, one more, and others that are left out
+within_and : {A : Type 0} {xs ys : List A} (a : A) (more : List A) → Within xs ys
+    → Within (xs ++ a ∷ []) (ys ++ a ∷ more)
+within_and a more none = keeps (none_within more)
+within_and a more (skips it) = skips (within_and a more it)
+within_and a more (keeps it) = keeps (within_and a more it)
+
+-- the calls of lines, and of a call's line and others after them
+calls_and : (older newer : List (List ℕ)) (line key : List ℕ) (command : Command)
+    → asked line ≡ Call key command
+    → calls_of (older ++ line ∷ newer)
+    ≡ calls_of older ++ record { key = key; command = command } ∷ calls_of newer
+calls_and [] newer line key command asks =
+    ap (λ (q : Asked). with_asked q (calls_of newer)) asks
+calls_and (first ∷ older) newer line key command asks =
+    asked_and (asked first) (calls_of (older ++ line ∷ newer)) (calls_of older)
+    (record { key = key; command = command } ∷ calls_of newer)
+    (calls_and older newer line key command asks)
+  where
+    asked_and : (q : Asked) (xs ys zs : List run.Call) → xs ≡ ys ++ zs
+        → with_asked q xs ≡ with_asked q ys ++ zs
+    asked_and Nothing xs ys zs same = same
+    asked_and (Wrong k) xs ys zs same = same
+    asked_and (Call k c) xs ys zs same =
+        ap (λ (cs : List run.Call). record { key = k; command = c } ∷ cs) same
 
 module _ (all : Sizes) where
   -- some of these calls lead to the world w, accepted and acknowledged
@@ -79,6 +119,41 @@ module _ (all : Sizes) where
       a.rest reached1 told1)
       reached told
 
+  -- the same, with the world before the last that is perhaps still to be settled
+  record LeadsLast (asks : List run.Call) (acc ack : List Entry) (v w : World) : Type 0 where
+    pub calls : List run.Call
+    pub among : Within calls asks
+    pub reached : Reached all (with_calls calls acc) w
+    pub told : Within (with_calls calls ack) (with_calls calls acc)
+    pub last : IsButMoved v w ⊎ ArePending all (with_calls calls acc) v w
+
+  last_of_lines : (lines : List (List ℕ)) (u v w : World) (text : List ℕ) (refused : Bool)
+      (acc ack : List Entry) → Answers u lines w text refused → IsLast u lines v w
+      → Reached all acc u → Within ack acc → LeadsLast (calls_of lines) acc ack v w
+  last_of_lines lines u v w text refused acc ack answers (inl same) reached told =
+      let l = all_lines lines u w text refused acc ack answers reached told in record {
+        calls = l.calls;
+        among = l.among;
+        reached = l.reached;
+        told = l.told;
+        last = inl (subst (λ (x : World). IsButMoved x w) (sym same) (stays w));
+      }
+  last_of_lines lines u v w text refused acc ack answers (inr done) reached told =
+      let call : run.Call = record { key = done.key; command = done.command } in
+      let l = all_lines done.older u v done.text done.refused acc ack done.answers reached told in
+      let step = one_step v w call done.reply done.step in
+      let same = with_last l.calls call acc in
+      record {
+        calls = l.calls ++ call ∷ [];
+        among = subst (Within (l.calls ++ call ∷ [])) (sym (ap calls_of done.all
+            ∙ calls_and done.older done.newer done.line done.key done.command done.asks))
+            (within_and call (calls_of done.newer) l.among);
+        reached = subst (λ (es : List Entry). Reached all es w) (sym same) (v, l.reached, step);
+        told = subst₂ Within (sym (with_last l.calls call ack)) (sym same) (keeps l.told);
+        last = inr (subst (λ (es : List Entry). ArePending all es v w) (sym same)
+            (l.reached, step));
+      }
+
   module _ {S H : Type 0} (g : Ghosts S) (view : H → View) (size : H → Sizes) where
     at_rest : (r s : Held S) (h k : H) (away : Image) (acc ack : List Entry) (lines : List (List ℕ))
         (text : List ℕ) (refused : Bool)
@@ -97,13 +172,61 @@ module _ (all : Sizes) where
     -- a bench that was at rest failed at this call
     pub stopped_at : (call : run.Call) (r s : Held S) (h k : H) (away : Image)
         (acc ack : List Entry) → (rest : AtRest g view size all r h away acc ack)
-        → LeavesRun g view size r s h k away rest.world call.key call.command
+        → LeavesRun g view size r s h k away rest.world rest.world call.key call.command
         → IsStoppedAt g view size all call r s h k away acc ack rest
     stopped_at call r s h k away acc ack rest left = record {
       left = left;
-      leads = λ db later after found stop. run_stopped g view size all call r s h k db later away
-          acc ack after rest found left stop;
+      leads = λ db later after found stop. run_stopped g view size all call _ r s h k db later
+          away acc ack after (reached_at_rest g view size all r h away acc ack rest) found
+          left stop;
     }
+
+    -- the lines were carried out, from a bench that was at rest
+    abbrev carried_behind : (r s : Held S) (h k : H) (away : Image) (acc ack : List Entry)
+        (lines : List (List ℕ)) (text : List ℕ) (refused : Bool)
+        (rest : AtRest g view size all r h away acc ack)
+        (a : AreCarriedOut g view size s k away rest.world lines text refused)
+        → AreCarriedBehind g view size all (calls_of lines) s k away acc ack
+    carried_behind r s h k away acc ack lines text refused rest a =
+        let l = last_of_lines lines rest.world a.before a.world text refused acc ack a.answers
+        a.last rest.reached rest.told in record {
+          calls = l.calls;
+          among = l.among;
+          world = a.world;
+          before = a.before;
+          reached = l.reached;
+          last = l.last;
+          intents = a.intents;
+          bytes = a.bytes;
+          at = a.at;
+          told = l.told;
+        }
+
+    -- what a stop leaves within the next call
+    next_leads : (handed : List run.Call) (call : run.Call) (r s : Held S) (h k : H) (away : Image)
+        (acc ack : List Entry) (it : AreCarriedBehind g view size all handed r h away acc ack)
+        (left : LeavesNext g view size r s h k away it.before it.world call.key call.command)
+        (db : Trees) (l : H) (after : List Entry)
+        → IsLeftIn db (Handed_in call) (with_calls it.calls acc) after
+        → IsNextStop g view size all r s h k away it.before it.world call left db l
+        → Stopped g view size all db l away after (with_calls it.calls ack)
+    next_leads handed call r s h k away acc ack it (inl left) db l after found stop =
+        run_stopped g view size all call _ r s h k db l away (with_calls it.calls acc)
+        (with_calls it.calls ack) after (reached_done g view size all r h away
+        (with_calls it.calls acc) (with_calls it.calls ack) it.intents it.bytes it.before it.world
+        it.reached it.last it.at it.told) found left stop
+    next_leads handed call r s h k away acc ack it (inr left) db l after found (inl stop) =
+        accept_stopped g view size all call _ r left.registry h left.shelf db l away
+        (with_calls it.calls acc) (with_calls it.calls ack) after
+        (reached_done g view size all r h away
+        (with_calls it.calls acc) (with_calls it.calls ack) it.intents it.bytes it.before it.world
+        it.reached it.last it.at it.told) found left.accepting stop
+    next_leads handed call r s h k away acc ack it (inr left) db l after found (inr stop) =
+        settling_stopped g view size all call _ r left.registry s h left.shelf k db l
+        away (with_calls it.calls acc) (with_calls it.calls ack) after
+        (reached_done g view size all r h away
+        (with_calls it.calls acc) (with_calls it.calls ack) it.intents it.bytes it.before it.world
+        it.reached it.last it.at it.told) found left.sizes left.settling stop
 
     stops : (r s : Held S) (h k : H) (away : Image) (acc ack : List Entry) (input : Option (List ℕ))
         (Told : List ℕ → Type 0) (fault : _)
@@ -111,27 +234,42 @@ module _ (all : Sizes) where
         → Stops g view size input Told s k away rest.world fault
         → StopsAtLine g view size all input s k away acc ack
     stops r s h k away acc ack input Told fault rest it =
-        let l = all_lines it.lines rest.world it.answered.world it.text it.refused acc ack
-        it.answered.answers rest.reached rest.told in
-        let behind : AtRest g view size all it.registry it.shelf away (with_calls l.calls acc)
-        (with_calls l.calls ack) =
-        record {
-          world = it.answered.world;
-          reached = l.reached;
-          at = it.answered.at;
-          told = l.told;
-        } in
+        let behind = carried_behind r it.registry h it.shelf away acc ack it.lines it.text
+        it.refused rest it.answered in
+        let call : run.Call = record { key = it.key; command = it.command } in
         record {
           lines = it.lines;
           line = it.line;
-          call = record { key = it.key; command = it.command };
+          call = call;
           read = it.read;
           asks = it.asks;
           registry = it.registry;
           shelf = it.shelf;
-          behind = record { calls = l.calls; among = l.among; rest = behind };
-          stopped = stopped_at (record { key = it.key; command = it.command }) it.registry s
-              it.shelf k away (with_calls l.calls acc) (with_calls l.calls ack) behind it.left;
+          behind = behind;
+          stopped = record {
+            left = it.left;
+            leads = next_leads (calls_of it.lines) call it.registry s it.shelf k away acc ack
+                behind it.left;
+          };
+        }
+
+    -- the bench failed as it settled the last command
+    unsettled : (r s : Held S) (h k : H) (away : Image) (acc ack : List Entry)
+        (lines : List (List ℕ)) (text : List ℕ) (refused : Bool)
+        → (rest : AtRest g view size all r h away acc ack)
+        → AreUnsettled g view size s k away rest.world lines text refused
+        → IsStoppedSettling g view size all (calls_of lines) s k away acc ack
+    unsettled r s h k away acc ack lines text refused rest it =
+        let behind = carried_behind r it.registry h it.shelf away acc ack lines text refused rest
+        it.carried in
+        record {
+          registry = it.registry;
+          shelf = it.shelf;
+          behind = behind;
+          leads = λ db l stop. stopped g view size all it.registry s it.shelf k db l away
+              behind.before behind.world (with_calls behind.calls acc)
+              (with_calls behind.calls ack) behind.reached behind.last behind.at.sizes behind.told
+              it.left stop;
         }
 
     pub batch_leaves : (r : Held S) (h : H) (away : Image) (acc ack : List Entry)
@@ -146,5 +284,11 @@ module _ (all : Sizes) where
         stops r s h k away acc ack input _ fault rest b
     batch_leaves r h away acc ack input before now s k (Err fault) rest (inl b) =
         inl (b.lines, b.read, at_rest r s h k away acc ack b.lines b.text b.refused rest b.answered)
-    batch_leaves r h away acc ack input before now s k (Err fault) rest (inr b) =
-        inr (stops r s h k away acc ack input _ b.0 rest b.1)
+    batch_leaves r h away acc ack input before now s k (Err fault) rest (inr (inl b)) =
+        inr (inl (stops r s h k away acc ack input _ b.0 rest b.1))
+    batch_leaves r h away acc ack input before now s k (Err fault) rest (inr (inr b)) =
+        inr (inr (
+          b.lines,
+          b.read,
+          unsettled r s h k away acc ack b.lines b.text b.refused rest b.answered,
+        ))

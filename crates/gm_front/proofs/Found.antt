@@ -21,6 +21,7 @@ use Rattle.gm_bench.specs.Leading.{whole}
 use Rattle.gm_bench.specs.Owed.{LookDoes}
 use Rattle.gm_bench.specs.Recovering.{IsAt, LeavesOnly}
 use Rattle.gm_shelf.specs.LastSector.{last_sector}
+use Rattle.gm_bench.proofs.CarriedOut.{done_at_rest}
 use Rattle.gm_bench.proofs.GatheredFacts.{are_records}
 use Rattle.gm_bench.proofs.Looks.{looked_at}
 use Rattle.gm_bench.proofs.ReadTables.{tables_of}
@@ -61,7 +62,9 @@ module _ {S H : Type 0} (g : Ghosts S) (view : H → View) (size : H → Sizes) 
 
   -- what the tables of mirrors and components say are the records
   pub records_shown : AreRecordsOf at.tables u.state
-  records_shown = are_records g view size r h away u at lawful
+  records_shown = are_records g view size r h away [] [] u u (done_at_rest g view size r h away u
+      at)
+      lawful
 
   -- and nothing is pending
   pub tables_shown : AreTablesOf at.tables u.state [] []

@@ -1,5 +1,5 @@
 -- Looks one after another, as one look.
-use Rattle.std.proofs.Common.{◌≡◌, ◌∙◌, ℕ, List, [], ◌∷◌, length, Result, Ok, Err, arith, refl, subst}
+use Rattle.std.proofs.Common.{◌≡◌, ◌∙◌, ℕ, List, Result, Ok, Err, arith, refl, subst}
 use Rattle.std.specs.Result.{OnOk}
 use Rattle.sqlite_trees.specs.declared.store.Store.{Ghosts}
 use Rattle.gm_shelf.specs.Disk.{IsLawful}

@@ -10,7 +10,8 @@ use Rattle.gm_state.specs.World.{World}
 use Rattle.gm_bench.specs.declared.fault.BenchFault.{BenchFault}
 use Rattle.gm_bench.specs.Recovering.{IsAt, LeavesOnly}
 use Rattle.gm_bench.specs.Schedule.{Entry, IsStop, none, AtRest, Stopped}
-use Rattle.gm_bench.proofs.Induction.{stays, stopped}
+use Rattle.gm_bench.proofs.Induction.{stopped}
+use Rattle.gm_bench.proofs.MovedWorlds.{stays}
 use Rattle.gm_front.specs.declared.answer_lines.FrontFault.{FrontFault}
 use Rattle.gm_front.specs.declared.answer_lines.FrontFault.TheVariants.{Memory, Read, Write}
 use Rattle.gm_front.specs.Batch.{AppendsFront}

@@ -1,5 +1,5 @@
 -- One line of a batch after the other.
-use Rattle.std.proofs.Common.{◌≡◌, ◌≢◌, ◌∙◌, ◌⊎◌, inl, inr, ◌<◌, ◌≤◌, ◌||◌, ◌+◌, nat_lt, ℕ, Bool, true, false, refl, sym, ap, subst, arith, List, [], ◌∷◌, ◌++◌, codes, length, take, replicate, Option, Some, None, IfSome, append-nil}
+use Rattle.std.proofs.Common.{◌≡◌, ◌≢◌, ◌∙◌, ◌⊎◌, inl, inr, ◌<◌, ◌≤◌, ◌||◌, ◌+◌, nat_lt, ℕ, Bool, true, false, refl, sym, ap, subst, subst₂, arith, List, [], ◌∷◌, ◌++◌, codes, length, take, replicate, Option, Some, None, IfSome, append-nil}
 use Rattle.std.proofs.lemmas.List.{append_assoc, length-replicate}
 use Rattle.std.proofs.lemmas.Bool.Decides.{nat_tests}
 use Rattle.std.specs.Borrow.{Bor}
@@ -10,10 +10,21 @@ use Rattle.sqlite_trees.specs.declared.store.Store.{Ghosts}
 use Rattle.sqlite.specs.Held.{Held}
 use Rattle.gm_metadata.specs.Images.{Image, Sizes}
 use Rattle.gm_shelf.specs.Disk.{View}
+use Rattle.gm_commands.specs.declared.command.Command.{Command}
+use Rattle.gm_state.specs.declared.intents.Reply.{Reply}
 use Rattle.gm_state.specs.World.{World}
+use Rattle.gm_rules.specs.AbstractCalls as run
+use Rattle.gm_rules.specs.Step.{Step}
 use Rattle.gm_registry.specs.Registry.{DiskKept, WasClean}
 use Rattle.gm_bench.specs.declared.fault.BenchFault.{BenchFault}
+use Rattle.gm_bench.specs.declared.answer.Answer.{Answer}
+use Rattle.gm_bench.specs.declared.answer.Answer.TheVariants as bench
 use Rattle.gm_bench.specs.declared.phase.Progress.{Progress}
+use Rattle.gm_bench.specs.declared.phase.Progress.TheVariants as progress
+use Rattle.gm_bench.specs.Phases.{TakesCommands, TakesNext, phase_of}
+use Rattle.gm_bench.specs.Running.{answer_of}
+use Rattle.gm_bench.specs.Standing.{Stands}
+use Rattle.gm_bench.proofs.Standing.{carried_so, stands_rest}
 use Rattle.gm_bench.specs.Recovering.{IsAt}
 use Rattle.gm_front.specs.declared.answer_lines.FrontFault.{FrontFault}
 use Rattle.gm_front.specs.declared.answer_lines.FrontFault.TheVariants.{Memory, Read, Write}
@@ -24,8 +35,8 @@ use Rattle.gm_front.specs.declared.outcome.Outcome.TheVariants.{Nothing, Wrong, 
 use Rattle.gm_front.specs.Request as asking
 use Rattle.gm_front.specs.Request.{Asked, asked}
 use Rattle.gm_front.specs.Input.{IsLine, line_at, lines_of}
-use Rattle.gm_front.specs.Batch.{Replies, Answers, AppendsFront, AreLines, AreFirst, Tells, AreAnswered, Ends, Breaks, Stops}
-use Rattle.gm_front.specs.Outcomes.{ComesTo, asked_at, is_refused, progress_after, text_of}
+use Rattle.gm_front.specs.Batch.{Replies, Answers, AppendsFront, AreCarriedOut, AreFirst, AreLines, AreStanding, Breaks, Ends, IsLast, Stops, Tells}
+use Rattle.gm_front.specs.Outcomes.{IsFarAfter, IsWaiting, NextComesTo, asked_at, is_refused, text_of}
 use Rattle.gm_front.proofs.TakenLines.{lines_first}
 
 or_false : (b : Bool) → (b || false) ≡ b
@@ -182,11 +193,26 @@ goes_on (Wrong key) not = tt
 goes_on (Answered key answer) not = tt
 goes_on (Failed key fault) not = not key fault refl
 
-pub stays_at : (before : Progress) (o : Outcome) → GoesOn o → progress_after before o ≡ before
-stays_at before Nothing on = refl
-stays_at before (Wrong key) on = refl
-stays_at before (Answered key answer) on = refl
-stays_at before (Failed key fault) on = absurd on
+-- it failed if it is told so
+pub far_failed : (p q : Progress) (follows : Bool) (o : Outcome) → IsFarAfter p q follows o
+    → (key : Bor (List ℕ)) (f : BenchFault) → o ≡ Failed key f → q ≡ progress.Failed
+far_failed p q follows o far key f is = subst (λ (x : Outcome). IsFarAfter p q follows x) is far
+
+-- it takes the next command then, or failed
+pub takes_after : (p q : Progress) (follows : Bool) (o : Outcome) → TakesNext p
+    → IsFarAfter p q follows o → TakesNext q
+takes_after p q follows Nothing takes far = subst TakesNext (sym far) takes
+takes_after p q follows (Wrong key) takes far = subst TakesNext (sym far) takes
+takes_after p q follows (Answered key answer) takes far = far.2
+takes_after p q follows (Failed key fault) takes far = inl (inr (ap phase_of far))
+
+-- only a bench that failed has failed after a line that was answered
+pub far_on : (p q : Progress) (follows : Bool) (o : Outcome) → IsFarAfter p q follows o → GoesOn o
+    → (p ≡ progress.Failed → ⊥) → q ≡ progress.Failed → ⊥
+far_on p q follows Nothing far on other is = other (sym far ∙ is)
+far_on p q follows (Wrong key) far on other is = other (sym far ∙ is)
+far_on p q follows (Answered key answer) far on other is = far.1 is
+far_on p q follows (Failed key fault) far on other is = absurd on
 
 pub tells_front : (e : FrontFault) (before now : Option (List ℕ)) (text : List ℕ) → (e ≡ Read → ⊥)
     → AppendsFront before now text → Tells e before now text
@@ -194,108 +220,196 @@ tells_front Read before now text not front = absurd (not refl)
 tells_front Memory before now text not front = front
 tells_front Write before now text not front = front
 
+-- where a line leads whose bench stood for w, and v was before: nothing is still to be settled; or
+-- what it was before; or the line's command
+abbrev pub IsFrom : World → World → World → World → Asked → Type 0
+IsFrom v w before world asks =
+    (before ≡ world) ⊎ (((before ≡ v) × (world ≡ w)) ⊎ ((before ≡ w) × (key : List ℕ)
+    × (command : Command) × (reply : Reply) × (asks ≡ asking.Call key command)
+    × Step w key command world reply))
+
+answered_from : (v u before world : World) (key : List ℕ) (command : Command) (answer : Answer)
+    → run.Calls u (record { key = key; command = command }) world (answer_of answer)
+    → (before ≡ world) ⊎ IsWaiting v u before answer
+    → IsFrom v u before world (asking.Call key command)
+answered_from v u before world key command answer calls (inl same) = inl same
+answered_from v u before world key command (bench.Done n reply) calls (inr is) =
+    inr (inr (is, key, command, reply, refl, calls.3))
+answered_from v u before world key command (bench.Repeated n reply) calls (inr is) =
+    inr (inl (is, calls.0))
+answered_from v u before world key command (bench.Refused why) calls (inr is) =
+    inr (inl (is, calls.0))
+
+-- the last command that was done, after one more line
+last_more : (u : World) (lines : List (List ℕ)) (line text : List ℕ) (refused : Bool)
+    (v w before world : World) → IsLast u lines v w → Answers u lines w text refused
+    → IsFrom v w before world (asked line) → IsLast u (lines ++ line ∷ []) before world
+last_more u lines line text refused v w before world last answers (inl same) = inl same
+last_more u lines line text refused v w before world (inl none) answers (inr (inl same)) =
+    inl (same.0 ∙ none ∙ sym same.1)
+last_more u lines line text refused v w before world (inr done) answers (inr (inl same)) =
+    subst₂ (λ (x y : World). IsLast u (lines ++ line ∷ []) x y) (sym same.0) (sym same.1)
+    (inr (record {
+      older = done.older;
+      line = done.line;
+      newer = done.newer ++ line ∷ [];
+      all = ap (λ (ls : List (List ℕ)). ls ++ line ∷ []) done.all
+          ∙ append_assoc done.older (done.line ∷ done.newer) (line ∷ []);
+      text = done.text;
+      refused = done.refused;
+      answers = done.answers;
+      key = done.key;
+      command = done.command;
+      reply = done.reply;
+      asks = done.asks;
+      step = done.step;
+    }))
+last_more u lines line text refused v w before world last answers
+    (inr (inr (is, key, command, reply, asks, step))) =
+    subst (λ (x : World). IsLast u (lines ++ line ∷ []) x world) (sym is) (inr (record {
+      older = lines;
+      line = line;
+      newer = [];
+      all = refl;
+      text = text;
+      refused = refused;
+      answers = answers;
+      key = key;
+      command = command;
+      reply = reply;
+      asks = asks;
+      step = step;
+    }))
+
 module _ {S H : Type 0} (g : Ghosts S) (view : H → View) (size : H → Sizes) where
   -- a line's answer, and where it leaves the bench
-  replied : (r s : Held S) (h k : H) (away : Image) (v : World) (asks : Asked) (o : Outcome)
-      → IsAt g view size r h away [] [] v v → ComesTo g view size r s h k away v asks o → GoesOn o
-      → (w : World) × Replies v asks w (text_of o) (is_refused o)
-      × IsAt g view size s k away [] [] w w
-  replied r s h k away v asks Nothing at comes on = (
-    v,
-    subst (λ (q : Asked). Replies v q v [] false) (sym comes.0) (refl, refl, refl),
-    subst (λ (x : Held S). IsAt g view size x k away [] [] v v) (sym comes.1)
-        (subst (λ (y : H). IsAt g view size r y away [] [] v v) (sym comes.2) at),
-  )
-  replied r s h k away v asks (Wrong key) at comes on = (
-    v,
-    subst (λ (q : Asked). Replies v q v (asking.refusal_line key.now 1) true) (sym comes.0) (
-      refl,
-      refl,
-      refl,
-    ),
-    subst (λ (x : Held S). IsAt g view size x k away [] [] v v) (sym comes.1)
-        (subst (λ (y : H). IsAt g view size r y away [] [] v v) (sym comes.2) at),
-  )
-  replied r s h k away v asks (Answered key answer) at comes on =
-      let run = comes.2 in (
-        run.world,
-        subst (λ (q : Asked). Replies v q run.world (text_of (Answered key answer))
-            (is_refused (Answered key answer))) (sym comes.1) (_, run.calls, refl, refl),
-        run.at,
-      )
-  replied r s h k away v asks (Failed key fault) at comes on = absurd on
+  record Replied (q : Progress) (s : Held S) (k : H) (away : Image) (v u : World) (asks : Asked)
+      (o : Outcome) : Type 0 where
+    pub world : World
+    pub before : World
+    pub replies : Replies u asks world (text_of o) (is_refused o)
+    pub from : IsFrom v u before world asks
+    pub stands : Stands g view size q s k away before world
 
-  -- what a request comes to, whatever the world
-  abbrev pub Comes : Held S → Held S → H → H → Image → Asked → Outcome → Type 0
-  Comes r s h k away asks o = (v : World) → IsAt g view size r h away [] [] v v
-      → ComesTo g view size r s h k away v asks o
+  replied : (q : Progress) (r s : Held S) (h k : H) (away : Image) (v u : World) (asks : Asked)
+      (o : Outcome) → NextComesTo g view size q r s h k away v u asks o → GoesOn o
+      → Replied q s k away v u asks o
+  replied q r s h k away v u asks Nothing comes on = record {
+    world = u;
+    before = v;
+    replies = subst (λ (x : Asked). Replies u x u [] false) (sym comes.0) (refl, refl, refl);
+    from = inr (inl (refl, refl));
+    stands = comes.1;
+  }
+  replied q r s h k away v u asks (Wrong key) comes on = record {
+    world = u;
+    before = v;
+    replies = subst (λ (x : Asked). Replies u x u (asking.refusal_line key.now 1) true)
+        (sym comes.0) (refl, refl, refl);
+    from = inr (inl (refl, refl));
+    stands = comes.1;
+  }
+  replied q r s h k away v u asks (Answered key answer) comes on =
+      let it = comes.2 in record {
+        world = it.world;
+        before = it.before;
+        replies = subst (λ (x : Asked). Replies u x it.world (text_of (Answered key answer))
+            (is_refused (Answered key answer))) (sym comes.1) (_, it.calls, refl, refl);
+        from = subst (λ (x : Asked). IsFrom v u it.before it.world x) (sym comes.1)
+            (answered_from v u it.before it.world key.now comes.0 answer it.calls it.waits);
+        stands = it.stands;
+      }
+  replied q r s h k away v u asks (Failed key fault) comes on = absurd on
 
-  pub comes_so : (r s : Held S) (h k : H) (away : Image) (asks q : Asked) (o : Outcome) → asks ≡ q
-      → Comes r s h k away asks o → Comes r s h k away q o
-  comes_so r s h k away asks q o e comes = subst (λ (x : Asked). Comes r s h k away x o) e comes
+  -- what a request comes to, wherever the bench stands
+  abbrev pub Comes : Progress → Progress → Held S → Held S → H → H → Image → Asked → Outcome → Type
+      0
+  Comes p q r s h k away asks o = (v u : World) → Stands g view size p r h away v u
+      → NextComesTo g view size q r s h k away v u asks o
 
-  pub comes_to : (r s : Held S) (h k : H) (away : Image) (q : Asked) (o p : Outcome) → o ≡ p
-      → Comes r s h k away q o → Comes r s h k away q p
-  comes_to r s h k away q o p e comes = subst (λ (x : Outcome). Comes r s h k away q x) e comes
+  pub comes_so : (p q : Progress) (r s : Held S) (h k : H) (away : Image) (asks x : Asked)
+      (o : Outcome) → asks ≡ x → Comes p q r s h k away asks o → Comes p q r s h k away x o
+  comes_so p q r s h k away asks x o e comes =
+      subst (λ (y : Asked). Comes p q r s h k away y o) e comes
+
+  pub comes_to : (p q : Progress) (r s : Held S) (h k : H) (away : Image) (x : Asked)
+      (o y : Outcome) → o ≡ y → Comes p q r s h k away x o → Comes p q r s h k away x y
+  comes_to p q r s h k away x o y e comes =
+      subst (λ (z : Outcome). Comes p q r s h k away x z) e comes
 
   -- the lines that were taken so far, what they are told, and where the bench is
-  pub record Answering (input rest before now : Option (List ℕ)) (s : Held S) (k : H) (away : Image)
-      (u : World) (refused : Bool) : Type 0 where
+  pub record Answering (p : Progress) (input rest before now : Option (List ℕ)) (s : Held S) (k : H)
+      (away : Image) (u : World) (refused : Bool) : Type 0 where
     pub lines : List (List ℕ)
     pub text : List ℕ
     pub left : IsLeft input rest lines
     pub told : Appends before now text
-    pub answered : AreAnswered g view size s k away u lines text refused
+    pub answered : AreStanding g view size p s k away u lines text refused
 
   none_taken : (input : Option (List ℕ)) → IsLeft input input []
   none_taken None = tt
   none_taken (Some i) = (i, refl, refl)
 
-  pub begun : (input before : Option (List ℕ)) (s : Held S) (k : H) (away : Image) (u : World)
-      → IsAt g view size s k away [] [] u u → Answering input input before before s k away u false
-  begun input before s k away u at =
+  pub begun : (p : Progress) (input before : Option (List ℕ)) (s : Held S) (k : H) (away : Image)
+      (u : World) → TakesCommands p → IsAt g view size s k away [] [] u u
+      → Answering p input input before before s k away u false
+  begun p input before s k away u takes at =
       record {
         lines = [];
         text = [];
         left = none_taken input;
         told = Appends-nil before;
-        answered = record { world = u; answers = (refl, refl, refl); at = at };
+        answered = record {
+          world = u;
+          before = u;
+          answers = (refl, refl, refl);
+          last = inl refl;
+          stands = stands_rest g view size p s k away u takes at;
+        };
       }
 
   -- a line more is answered, but perhaps not told
-  pub record Next (input new : Option (List ℕ)) (lines : List (List ℕ)) (text : List ℕ) (s : Held S)
-      (k : H) (away : Image) (u : World) (refused : Bool) (o : Outcome) : Type 0 where
+  pub record Next (q : Progress) (input new : Option (List ℕ)) (lines : List (List ℕ))
+      (text : List ℕ) (s : Held S) (k : H) (away : Image) (u : World) (refused : Bool)
+      (o : Outcome) : Type 0 where
     pub more : List (List ℕ)
     pub left : IsLeft input new more
-    pub answered : AreAnswered g view size s k away u more (text ++ text_of o)
+    pub answered : AreStanding g view size q s k away u more (text ++ text_of o)
         (refused || is_refused o)
 
-  module _ (input rest new before mid : Option (List ℕ)) (r s : Held S) (h k : H) (away : Image)
-      (u : World) (refused : Bool) (buffer : List ℕ) (found : Line) (o : Outcome)
-      (so : Answering input rest before mid r h away u refused)
+  module _ (p q : Progress) (input rest new before mid : Option (List ℕ)) (r s : Held S) (h k : H)
+      (away : Image) (u : World) (refused : Bool) (buffer : List ℕ) (found : Line) (o : Outcome)
+      (so : Answering p input rest before mid r h away u refused)
       (is : IfSome rest (λ bytes. IsLine bytes new buffer found)) (some : found ≢ End)
-      (comes : Comes r s h k away (asked_at buffer found) o) where
-    next_answered : GoesOn o → Next input new so.lines so.text s k away u refused o
+      (comes : Comes p q r s h k away (asked_at buffer found) o) where
+    next_answered : GoesOn o → Next q input new so.lines so.text s k away u refused o
     next_answered on =
         let line = taken input rest new so.lines buffer found so.left is some in
-        let v = so.answered.world in
-        let reply = replied r s h k away v (asked_at buffer found) o so.answered.at
-        (comes v so.answered.at) on in
-        let replies = subst (λ (q : Asked). Replies v q reply.0 (text_of o) (is_refused o))
-        (sym line.asks) reply.1 in
+        let v = so.answered.before in
+        let w = so.answered.world in
+        let reply = replied q r s h k away v w (asked_at buffer found) o
+        (comes v w so.answered.stands) on in
+        let replies = subst (λ (x : Asked). Replies w x reply.world (text_of o) (is_refused o))
+        (sym line.asks) reply.replies in
+        let from = subst (λ (x : Asked). IsFrom v w reply.before reply.world x) (sym line.asks)
+        reply.from in
         record {
           more = so.lines ++ line.line ∷ [];
           left = line.left;
           answered = record {
-            world = reply.0;
-            answers = answers_more u so.lines v reply.0 line.line so.text (text_of o) refused
+            world = reply.world;
+            before = reply.before;
+            answers = answers_more u so.lines w reply.world line.line so.text (text_of o) refused
                 (is_refused o) so.answered.answers replies;
-            at = reply.2;
+            last = last_more u so.lines line.line so.text refused v w reply.before reply.world
+                so.answered.last so.answered.answers from;
+            stands = reply.stands;
           };
         }
 
     pub one_more : (now : Option (List ℕ)) (either : Bool) → either ≡ (refused || is_refused o)
-        → GoesOn o → Appends mid now (text_of o) → Answering input new before now s k away u either
+        → GoesOn o → Appends mid now (text_of o)
+        → Answering q input new before now s k away u either
     one_more now either is_either on wrote =
         let next = next_answered on in
         rw is_either (record {
@@ -303,13 +417,12 @@ module _ {S H : Type 0} (g : Ghosts S) (view : H → View) (size : H → Sizes) 
           text = so.text ++ text_of o;
           left = next.left;
           told = Appends-trans before mid now so.text (text_of o) so.told wrote;
-          answered =
-              next.answered;
+          answered = next.answered;
         })
 
     -- it isn't told, or not all of it
     pub untold : (Told : List ℕ → Type 0) → GoesOn o → Told (so.text ++ text_of o)
-        → Breaks g view size input Told s k away u
+        → Breaks input Told (AreStanding g view size q s k away u)
     untold Told on told =
         let next = next_answered on in
         record {
@@ -318,16 +431,32 @@ module _ {S H : Type 0} (g : Ghosts S) (view : H → View) (size : H → Sizes) 
           refused = refused || is_refused o;
           read = first_of_left input new next.more next.left;
           told = told;
-          answered =
-              next.answered;
+          answered = next.answered;
         }
 
+  -- what waits is carried out
+  abbrev pub carried : (p : Progress) (s : Held S) (k : H) (away : Image) (u : World)
+      (lines : List (List ℕ)) (text : List ℕ) (refused : Bool)
+      → AreStanding g view size p s k away u lines text refused
+      → AreCarriedOut g view size s k away u lines text refused
+  carried p s k away u lines text refused it =
+      let was = carried_so g view size p s k away it.before it.world it.stands in record {
+        world = it.world;
+        before = it.before;
+        answers = it.answers;
+        last = it.last;
+        intents = was.intents;
+        bytes = was.bytes;
+        at = was.at;
+      }
+
   -- the bench failed at the line
-  module _ (input rest new before mid : Option (List ℕ)) (r s : Held S) (h k : H) (away : Image)
-      (u : World) (refused : Bool) (buffer : List ℕ) (found : Line) (key : Bor (List ℕ))
-      (fault : BenchFault) (so : Answering input rest before mid r h away u refused)
+  module _ (p q : Progress) (input rest new before mid : Option (List ℕ)) (r s : Held S) (h k : H)
+      (away : Image) (u : World) (refused : Bool) (buffer : List ℕ) (found : Line)
+      (key : Bor (List ℕ)) (fault : BenchFault)
+      (so : Answering p input rest before mid r h away u refused)
       (is : IfSome rest (λ bytes. IsLine bytes new buffer found)) (some : found ≢ End)
-      (comes : Comes r s h k away (asked_at buffer found) (Failed key fault)) where
+      (comes : Comes p q r s h k away (asked_at buffer found) (Failed key fault)) where
     pub told_wholly : (now : Option (List ℕ)) (o : Outcome) → o ≡ Failed key fault
         → Appends mid now (text_of o) → Appends before now (so.text ++ text_of (Failed key fault))
     told_wholly now o e wrote =
@@ -338,7 +467,9 @@ module _ {S H : Type 0} (g : Ghosts S) (view : H → View) (size : H → Sizes) 
         → Stops g view size input Told s k away u fault
     stopped Told told =
         let line = taken input rest new so.lines buffer found so.left is some in
-        let came = comes so.answered.world so.answered.at in
+        let came = comes so.answered.before so.answered.world so.answered.stands in
+        let was = carried_so g view size p r h away so.answered.before so.answered.world
+        so.answered.stands in
         record {
           lines = so.lines;
           line = line.line;
@@ -350,20 +481,28 @@ module _ {S H : Type 0} (g : Ghosts S) (view : H → View) (size : H → Sizes) 
           shelf = h;
           read = first_of_left input new (so.lines ++ line.line ∷ []) line.left;
           asks = line.asks ∙ came.1;
-          answered = so.answered;
+          answered = record {
+            world = so.answered.world;
+            before = so.answered.before;
+            answers = so.answered.answers;
+            last = so.answered.last;
+            intents = was.intents;
+            bytes = was.bytes;
+            at = was.at;
+          };
           told = told;
           left = came.2.left;
           disk = came.2.disk;
           store = came.2.store;
-          readable = λ is written. came.2.readable is so.answered.at written;
+          readable = λ is written. came.2.readable is was.intents was.bytes was.at written;
         }
 
   -- at a fault: what was told, and what wasn't
-  pub broken : (input rest before now : Option (List ℕ)) (s : Held S) (k : H) (away : Image)
-      (u : World) (refused : Bool) (Told : List ℕ
-      → Type 0) (so : Answering input rest before now s k away u refused) → Told so.text
-      → Breaks g view size input Told s k away u
-  broken input rest before now s k away u refused Told so told =
+  pub broken : (p : Progress) (input rest before now : Option (List ℕ)) (s : Held S) (k : H)
+      (away : Image) (u : World) (refused : Bool) (Told : List ℕ → Type 0)
+      (so : Answering p input rest before now s k away u refused) → Told so.text
+      → Breaks input Told (AreStanding g view size p s k away u)
+  broken p input rest before now s k away u refused Told so told =
       record {
         lines = so.lines;
         text = so.text;
@@ -373,51 +512,55 @@ module _ {S H : Type 0} (g : Ghosts S) (view : H → View) (size : H → Sizes) 
         answered = so.answered;
       }
 
-  pub finished : (input rest new before now : Option (List ℕ)) (s : Held S) (k : H) (away : Image)
-      (u : World) (refused : Bool) (buffer : List ℕ)
-      → Answering input rest before now s k away u refused
+  pub finished : (p : Progress) (input rest new before now : Option (List ℕ)) (s : Held S) (k : H)
+      (away : Image) (u : World) (refused : Bool) (buffer : List ℕ)
+      → Answering p input rest before now s k away u refused
       → IfSome rest (λ bytes. IsLine bytes new buffer End)
-      → Ends g view size input before now s k away u refused
-  finished input rest new before now s k away u refused buffer so is =
+      → Ends input before now (AreStanding g view size p s k away u) refused
+  finished p input rest new before now s k away u refused buffer so is =
       record {
         lines = so.lines;
         text = so.text;
         read = all_taken input rest new so.lines buffer so.left is;
         told = so.told;
-        answered =
-            so.answered;
+        answered = so.answered;
       }
 
-  pub told_in_part : (input rest new before mid now : Option (List ℕ)) (r s : Held S) (h k : H)
-      (away : Image) (u : World) (refused : Bool) (buffer : List ℕ) (found : Line) (o : Outcome)
-      (e : FrontFault) → Answering input rest before mid r h away u refused
+  pub told_in_part : (p q : Progress) (input rest new before mid now : Option (List ℕ))
+      (r s : Held S) (h k : H) (away : Image) (u : World) (refused : Bool) (buffer : List ℕ)
+      (found : Line) (o : Outcome) (e : FrontFault)
+      → Answering p input rest before mid r h away u refused
       → IfSome rest (λ bytes. IsLine bytes new buffer found) → found ≢ End
-      → Comes r s h k away (asked_at buffer found) o → (e ≡ Read → ⊥)
+      → Comes p q r s h k away (asked_at buffer found) o
+      → ((key : Bor (List ℕ)) (f : BenchFault) → o ≡ Failed key f → q ≡ progress.Failed)
+      → (e ≡ Read → ⊥)
       → AppendsFront mid now (text_of o)
-      → Breaks g view size input (Tells e before now) s k away u
-      ⊎ ((f : BenchFault) × Stops g view size input (AppendsFront before now) s k away u f)
-  told_in_part input rest new before mid now r s h k away u refused buffer found Nothing e so is
-      some comes not_read wrote =
-      inl (untold input rest new before mid r s h k away u refused buffer found Nothing so is some
-      comes (Tells e before now) tt (tells_front e before now _ not_read
+      → Breaks input (Tells e before now) (AreStanding g view size q s k away u)
+      ⊎ ((f : BenchFault) × (q ≡ progress.Failed)
+      × Stops g view size input (AppendsFront before now) s k away u f)
+  told_in_part p q input rest new before mid now r s h k away u refused buffer found Nothing e so is
+      some comes far not_read wrote =
+      inl (untold p q input rest new before mid r s h k away u refused buffer found Nothing so is
+      some comes (Tells e before now) tt (tells_front e before now _ not_read
       (front_after before mid now so.text _ so.told wrote)))
-  told_in_part input rest new before mid now r s h k away u refused buffer found
-      (Wrong key) e so is some comes not_read wrote =
-      inl (untold input rest new before mid r s h k away u refused buffer found
+  told_in_part p q input rest new before mid now r s h k away u refused buffer found
+      (Wrong key) e so is some comes far not_read wrote =
+      inl (untold p q input rest new before mid r s h k away u refused buffer found
       (Wrong key) so is some comes (Tells e before now) tt
       (tells_front e before now _ not_read
       (front_after before mid now so.text _ so.told wrote)))
-  told_in_part input rest new before mid now r s h k away u refused buffer found
-      (Answered key answer) e so is some comes not_read wrote =
-      inl (untold input rest new before mid r s h k away u refused buffer found
+  told_in_part p q input rest new before mid now r s h k away u refused buffer found
+      (Answered key answer) e so is some comes far not_read wrote =
+      inl (untold p q input rest new before mid r s h k away u refused buffer found
       (Answered key answer) so is some comes (Tells e before now) tt
       (tells_front e before now _ not_read
       (front_after before mid now so.text _ so.told wrote)))
-  told_in_part input rest new before mid now r s h k away u refused buffer found
-      (Failed key fault) e so is some comes not_read wrote =
+  told_in_part p q input rest new before mid now r s h k away u refused buffer found
+      (Failed key fault) e so is some comes far not_read wrote =
       inr (
         fault,
-        stopped input rest new before mid r s h k away u refused buffer found key fault so
+        far key fault refl,
+        stopped p q input rest new before mid r s h k away u refused buffer found key fault so
             is some comes (AppendsFront before now)
             (front_after before mid now so.text _ so.told wrote),
       )
@@ -426,11 +569,12 @@ module _ {S H : Type 0} (g : Ghosts S) (view : H → View) (size : H → Sizes) 
   kept_before r s clean kept = omega (arith, clean, kept)
 
   -- a batch so far, of a shelf that keeps to its law and a disk that keeps what is written
-  pub record Going (honest : H → Type 0) (input rest before now : Option (List ℕ)) (r s : Held S)
-      (h k : H) (refused : Bool) : Type 0 where
+  pub record Going (honest : H → Type 0) (p : Progress) (input rest before now : Option (List ℕ))
+      (r s : Held S) (h k : H) (refused : Bool) : Type 0 where
     pub clean : WasClean g r s
     pub stays : honest h → honest k
     pub sizes : size k ≡ size h
     pub count : (view h).faults ≤ (view k).faults
     pub does : honest h → DiskKept g s → (away : Image) (u : World)
-        → IsAt g view size r h away [] [] u u → Answering input rest before now s k away u refused
+        → IsAt g view size r h away [] [] u u
+        → Answering p input rest before now s k away u refused

@@ -31,7 +31,7 @@ use Rattle.gm_front.proofs.RequestsServed.{served}
 pub run_of_look : {S H : Type 0} (g : Ghosts S) (view : H → View) (size : H → Sizes) (r s : Held S)
     (h k : H) (away : Image) (u : World) (key : List ℕ) (c : Command)
     → LeavesOnly g view size r s h k away u u → size k ≡ size h
-    → LeavesRun g view size r s h k away u key c
+    → LeavesRun g view size r s h k away u u key c
 run_of_look g view size r s h k away u key c left same = record {
   registry = s;
   shelf = k;

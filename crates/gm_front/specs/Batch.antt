@@ -1,5 +1,5 @@
 -- What a batch answers, and where it leaves the bench.
-use Rattle.std.specs.Prelude.{◌≡◌, ◌⊎◌, ◌<◌, ◌||◌, ℕ, Bool, true, false, List, [], ◌∷◌, ◌++◌, Option, Some, None, Result, Ok, Err, IfOk, IfSome}
+use Rattle.std.specs.Prelude.{◌≡◌, ◌≢◌, ◌⊎◌, ◌<◌, ◌||◌, ℕ, Bool, true, false, List, [], ◌∷◌, ◌++◌, Option, Some, None, Result, Ok, Err, IfOk, IfSome}
 use Rattle.std.specs.Io.KnownBytes.{Appends}
 use Rattle.sqlite_trees.specs.declared.store.Store.{Ghosts}
 use Rattle.sqlite.specs.Held.{Held}
@@ -7,7 +7,10 @@ use Rattle.gm_metadata.specs.Images.{Image, Sizes}
 use Rattle.gm_shelf.specs.Disk.{View}
 use Rattle.gm_shelf.specs.declared.shelf.Shelf.{Ghosts as ShelfGhosts}
 use Rattle.gm_commands.specs.declared.command.Command.{Command}
+use Rattle.gm_state.specs.declared.intents.Intent.{Intent}
+use Rattle.gm_state.specs.declared.intents.Reply.{Reply}
 use Rattle.gm_state.specs.World.{World}
+use Rattle.gm_rules.specs.Step.{Step}
 use Rattle.gm_rules.specs.AbstractCalls as run
 use Rattle.gm_registry.specs.Fitting.{HasRoom}
 use Rattle.gm_registry.specs.Registry.{DiskKept, StoreFailed, seen}
@@ -20,8 +23,8 @@ use Rattle.gm_bench.specs.declared.fault.BenchFault.{BenchFault}
 use Rattle.gm_bench.specs.declared.fault.BenchFault.TheVariants.{Absent, Closed, Disk, Store, Unreadable}
 use Rattle.gm_bench.specs.declared.phase.Progress.{Progress}
 use Rattle.gm_bench.specs.declared.phase.Progress.TheVariants.{Failed}
-use Rattle.gm_bench.specs.Recovering.{IsAt}
-use Rattle.gm_bench.specs.Owed.{LeavesRun}
+use Rattle.gm_bench.specs.Recovering.{IsAt, IsCarriedOut, LeavesOnly}
+use Rattle.gm_bench.specs.Standing.{LeavesNext, Stands}
 use Rattle.gm_front.specs.declared.answer_lines.BatchEnd.{BatchEnd}
 use Rattle.gm_front.specs.declared.answer_lines.BatchEnd.TheVariants.{Ended, Stopped}
 use Rattle.gm_front.specs.declared.answer_lines.FrontFault.{FrontFault}
@@ -80,6 +83,17 @@ abbrev pub progress_at : Progress → BatchEnd → Progress
 progress_at before (Ended refused) = before
 progress_at before (Stopped fault) = Failed
 
+-- how far a bench is at the end of the lines, before what waits is settled: only a bench that
+-- failed has failed
+abbrev pub IsFarAtEnd : Progress → Progress → BatchEnd → Type 0
+IsFarAtEnd before now (Ended refused) = before ≢ Failed → now ≢ Failed
+IsFarAtEnd before now (Stopped fault) = now ≡ Failed
+
+-- the fault of a batch whose last command couldn't be settled
+abbrev pub unsettled_fault : Result BatchEnd FrontFault → FrontFault
+unsettled_fault (Ok end) = Read
+unsettled_fault (Err fault) = fault
+
 -- these are the lines of the input, where that is known, or its first ones
 abbrev pub AreLines : Option (List ℕ) → List (List ℕ) → Type 0
 AreLines input lines = IfSome input (λ bytes. lines_of bytes ≡ lines)
@@ -87,6 +101,44 @@ AreLines input lines = IfSome input (λ bytes. lines_of bytes ≡ lines)
 abbrev pub AreFirst : Option (List ℕ) → List (List ℕ) → Type 0
 AreFirst input lines =
     IfSome input (λ bytes. (more : List (List ℕ)) × (lines_of bytes ≡ lines ++ more))
+
+-- The last command of these lines that was done led from v to w; the lines after it did nothing.
+pub record IsLastDone (u : World) (lines : List (List ℕ)) (v w : World) : Type 0 where
+  pub older : List (List ℕ)
+  pub line : List ℕ
+  pub newer : List (List ℕ)
+  pub all : lines ≡ older ++ line ∷ newer
+  pub text : List ℕ
+  pub refused : Bool
+  pub answers : Answers u older v text refused
+  pub key : List ℕ
+  pub command : Command
+  pub reply : Reply
+  pub asks : asked line ≡ Call key command
+  pub step : Step v key command w reply
+
+-- so it did, or no command is still to be settled
+abbrev pub IsLast : World → List (List ℕ) → World → World → Type 0
+IsLast u lines v w = (v ≡ w) ⊎ IsLastDone u lines v w
+
+-- All lines were answered, and told what they are answered.
+pub record Ends (input before now : Option (List ℕ))
+    (Answered : List (List ℕ) → List ℕ → Bool → Type 0) (refused : Bool) : Type 0 where
+  pub lines : List (List ℕ)
+  pub text : List ℕ
+  pub read : AreLines input lines
+  pub told : Appends before now text
+  pub answered : Answered lines text refused
+
+-- Some of the lines were answered, and told so.
+pub record Breaks (input : Option (List ℕ)) (Told : List ℕ → Type 0)
+    (Answered : List (List ℕ) → List ℕ → Bool → Type 0) : Type 0 where
+  pub lines : List (List ℕ)
+  pub text : List ℕ
+  pub refused : Bool
+  pub read : AreFirst input lines
+  pub told : Told text
+  pub answered : Answered lines text refused
 
 module _ {S H : Type 0} (g : Ghosts S) (view : H → View) (size : H → Sizes) where
   -- The lines were answered in turn from the world u on, and the bench is at rest in the world that
@@ -97,24 +149,34 @@ module _ {S H : Type 0} (g : Ghosts S) (view : H → View) (size : H → Sizes) 
     pub answers : Answers u lines world text refused
     pub at : IsAt g view size s k away [] [] world world
 
-  -- All lines were answered, and told what they are answered.
-  pub record Ends (input before now : Option (List ℕ)) (s : Held S) (k : H) (away : Image)
-      (u : World) (refused : Bool) : Type 0 where
-    pub lines : List (List ℕ)
-    pub text : List ℕ
-    pub read : AreLines input lines
-    pub told : Appends before now text
-    pub answered : AreAnswered s k away u lines text refused
+  -- The lines were answered in turn from the world u on, and carried out; the last command of them
+  -- that was done is perhaps still to be settled.
+  pub record AreCarriedOut (s : Held S) (k : H) (away : Image) (u : World) (lines : List (List ℕ))
+      (text : List ℕ) (refused : Bool) : Type 0 where
+    pub world : World
+    pub before : World
+    pub answers : Answers u lines world text refused
+    pub last : IsLast u lines before world
+    pub intents : List Intent
+    pub bytes : List (List ℕ)
+    pub at : IsCarriedOut g view size s k away intents bytes before world
 
-  -- Some of the lines were answered, and told so.
-  pub record Breaks (input : Option (List ℕ)) (Told : List ℕ → Type 0) (s : Held S) (k : H)
-      (away : Image) (u : World) : Type 0 where
-    pub lines : List (List ℕ)
-    pub text : List ℕ
-    pub refused : Bool
-    pub read : AreFirst input lines
-    pub told : Told text
-    pub answered : AreAnswered s k away u lines text refused
+  -- So they were, and the bench, which is so far, stands for the world that they reach.
+  pub record AreStanding (p : Progress) (s : Held S) (k : H) (away : Image) (u : World)
+      (lines : List (List ℕ)) (text : List ℕ) (refused : Bool) : Type 0 where
+    pub world : World
+    pub before : World
+    pub answers : Answers u lines world text refused
+    pub last : IsLast u lines before world
+    pub stands : Stands g view size p s k away before world
+
+  -- So they were, and the bench failed as it settled the last command.
+  pub record AreUnsettled (s : Held S) (k : H) (away : Image) (u : World) (lines : List (List ℕ))
+      (text : List ℕ) (refused : Bool) : Type 0 where
+    pub registry : Held S
+    pub shelf : H
+    pub carried : AreCarriedOut registry shelf away u lines text refused
+    pub left : LeavesOnly g view size registry s shelf k away carried.before carried.world
 
   -- The bench failed at the command of a line, after those before it were answered.
   pub record Stops (input : Option (List ℕ)) (Told : List ℕ → Type 0) (s : Held S) (k : H)
@@ -129,24 +191,38 @@ module _ {S H : Type 0} (g : Ghosts S) (view : H → View) (size : H → Sizes) 
     pub shelf : H
     pub read : AreFirst input (lines ++ line ∷ [])
     pub asks : asked line ≡ Call key command
-    pub answered : AreAnswered registry shelf away u lines text refused
+    pub answered : AreCarriedOut registry shelf away u lines text refused
     pub told : Told (text ++ fault_line key fault)
-    pub left : LeavesRun g view size registry s shelf k away answered.world key command
+    pub left : LeavesNext g view size registry s shelf k away answered.before answered.world key
+        command
     pub disk : fault ≡ Disk → (view shelf).faults < (view k).faults
     pub store : fault ≡ Store → HasRoom most_rows (seen g registry) → StoreFailed g registry s
     pub readable : fault ≡ Unreadable → AreWrittenUnder key answered.at.tables → ⊥
 
-  -- what a batch owes where it ended, where the bench failed, and where the answers weren't all
-  -- told
+  -- what is owed of lines that are answered, where they ended, where the bench failed, and where
+  -- the answers weren't all told
+  abbrev pub HandsIn : Progress → Option (List ℕ) → Option (List ℕ) → Option (List ℕ) → Held S → H
+      → Image → World → Result BatchEnd FrontFault → Type 0
+  HandsIn p input before now s k away u (Ok (Ended refused)) =
+      Ends input before now (AreStanding p s k away u) refused
+  HandsIn p input before now s k away u (Ok (Stopped fault)) =
+      (p ≡ Failed) × Stops input (Appends before now) s k away u fault
+  HandsIn p input before now s k away u (Err fault) =
+      Breaks input (Tells fault before now) (AreStanding p s k away u)
+      ⊎ ((f : BenchFault) × (p ≡ Failed) × Stops input (AppendsFront before now) s k away u f)
+
+  -- What a batch owes, after which nothing is still to be settled. Where the answers weren't all
+  -- told, the bench may also have failed as it settled the last command.
   abbrev pub Batches : Option (List ℕ) → Option (List ℕ) → Option (List ℕ) → Held S → H → Image
       → World → Result BatchEnd FrontFault → Type 0
   Batches input before now s k away u (Ok (Ended refused)) =
-      Ends input before now s k away u refused
+      Ends input before now (AreAnswered s k away u) refused
   Batches input before now s k away u (Ok (Stopped fault)) =
       Stops input (Appends before now) s k away u fault
   Batches input before now s k away u (Err fault) =
-      Breaks input (Tells fault before now) s k away u
-      ⊎ ((f : BenchFault) × Stops input (AppendsFront before now) s k away u f)
+      Breaks input (Tells fault before now) (AreAnswered s k away u)
+      ⊎ (((f : BenchFault) × Stops input (AppendsFront before now) s k away u f)
+      ⊎ Breaks input (Tells fault before now) (AreUnsettled s k away u))
 
 -- What a batch owes of a bench, where its input was known so, and its output before and now.
 pub record AnswersBatch {S H : Type 0} (s : Ghosts S) (h : ShelfGhosts H)

@@ -11,7 +11,7 @@ use Rattle.gm_front.specs.declared.answer_lines.BatchEnd.{BatchEnd}
 use Rattle.gm_front.specs.declared.answer_lines.BatchEnd.TheVariants as end
 use Rattle.gm_front.specs.declared.answer_lines.FrontFault.{FrontFault}
 use Rattle.gm_front.specs.Batch.{AreLines, AreFirst}
-use Rattle.gm_front.specs.HandedIn.{with_calls, IsAtRestBehind, IsStoppedAt}
+use Rattle.gm_front.specs.HandedIn.{AreCarriedBehind, IsAtRestBehind, IsStoppedNext, IsStoppedSettling, with_calls}
 use Rattle.gm_front.specs.Request.{Asked, Nothing, Wrong, Call, asked}
 
 -- what a line asks for, and then these calls
@@ -26,7 +26,7 @@ calls_of [] = []
 calls_of (line ∷ lines) = with_asked (asked line) (calls_of lines)
 
 module _ {S H : Type 0} (g : Ghosts S) (view : H → View) (size : H → Sizes) (all : Sizes) where
-  -- The bench failed at the call of some line, behind those of the lines before it.
+  -- The bench failed at the call of some line, after those of the lines before it.
   pub record StopsAtLine (input : Option (List ℕ)) (s : Held S) (k : H) (away : Image)
       (acc ack : List Entry) : Type 0 where
     pub lines : List (List ℕ)
@@ -36,9 +36,9 @@ module _ {S H : Type 0} (g : Ghosts S) (view : H → View) (size : H → Sizes) 
     pub asks : asked line ≡ Call call.key call.command
     pub registry : Held S
     pub shelf : H
-    pub behind : IsAtRestBehind g view size all (calls_of lines) registry shelf away acc ack
-    pub stopped : IsStoppedAt g view size all call registry s shelf k away
-        (with_calls behind.calls acc) (with_calls behind.calls ack) behind.rest
+    pub behind : AreCarriedBehind g view size all (calls_of lines) registry shelf away acc ack
+    pub stopped : IsStoppedNext g view size all call registry s shelf k away behind.before
+        behind.world (with_calls behind.calls acc) (with_calls behind.calls ack)
 
   -- what a batch leaves of a bench that was at rest behind these entries
   abbrev pub BatchLeaves : Option (List ℕ) → Held S → H → Image → List Entry → List Entry
@@ -49,4 +49,5 @@ module _ {S H : Type 0} (g : Ghosts S) (view : H → View) (size : H → Sizes) 
   BatchLeaves input s k away acc ack (Err fault) =
       ((lines : List (List ℕ)) × AreFirst input lines
       × IsAtRestBehind g view size all (calls_of lines) s k away acc ack)
-      ⊎ StopsAtLine input s k away acc ack
+      ⊎ (StopsAtLine input s k away acc ack ⊎ ((lines : List (List ℕ)) × AreFirst input lines
+      × IsStoppedSettling g view size all (calls_of lines) s k away acc ack))

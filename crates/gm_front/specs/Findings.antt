@@ -102,7 +102,7 @@ module _ {S H : Type 0} (g : Ghosts S) (view : H → View) (size : H → Sizes) 
   -- what leads on as before
   abbrev pub LeavesDemand : Held S → Held S → H → H → Image → World → Demand → Type 0
   LeavesDemand r s h k away u (Carry key command) =
-      LeavesRun g view size r s h k away u key command
+      LeavesRun g view size r s h k away u u key command
   LeavesDemand r s h k away u _ = LeavesOnly g view size r s h k away u u
 
   -- The bench failed at the demand: what that may have left, that a failure of the disk was

@@ -1,5 +1,5 @@
 -- Requests and outcomes, as the code holds them.
-use Rattle.std.specs.Prelude.{◌≡◌, ◌<◌, ℕ, Bool, true, false, List, [], codes, take}
+use Rattle.std.specs.Prelude.{◌≡◌, ◌≢◌, ◌⊎◌, ◌<◌, ℕ, Bool, true, false, List, [], codes, take}
 use Rattle.sqlite_trees.specs.declared.store.Store.{Ghosts}
 use Rattle.sqlite.specs.Held.{Held}
 use Rattle.gm_metadata.specs.Images.{Image, Sizes}
@@ -13,10 +13,16 @@ use Rattle.gm_bench.specs.Calls.{most_rows}
 use Rattle.gm_bench.specs.declared.fault.BenchFault.{BenchFault}
 use Rattle.gm_bench.specs.declared.fault.BenchFault.TheVariants.{Disk, Store, Unreadable}
 use Rattle.gm_bench.specs.declared.phase.Progress.{Progress}
-use Rattle.gm_bench.specs.declared.phase.Progress.TheVariants.{Failed}
-use Rattle.gm_bench.specs.Recovering.{IsAt}
+use Rattle.gm_bench.specs.declared.phase.Progress.TheVariants.{Failed, Ready}
+use Rattle.gm_bench.specs.Phases.{TakesNext}
+use Rattle.gm_bench.specs.Recovering.{IsAt, IsCarriedOut}
 use Rattle.gm_bench.specs.Owed.{LeavesRun}
 use Rattle.gm_bench.specs.Running.{IsRun, answer_of}
+use Rattle.gm_bench.specs.Standing.{LeavesNext, Stands}
+use Rattle.gm_bench.specs.declared.answer.Answer.{Answer}
+use Rattle.gm_bench.specs.declared.answer.Answer.TheVariants.{Done, Repeated, Refused}
+use Rattle.gm_rules.specs.AbstractCalls as run
+use Rattle.gm_state.specs.declared.intents.Intent.{Intent}
 use Rattle.gm_front.specs.declared.request.Request.{Request}
 use Rattle.gm_front.specs.declared.request.Request.TheVariants as request
 use Rattle.gm_front.specs.declared.lines.Line.{Line}
@@ -51,12 +57,18 @@ is_refused (outcome.Wrong key) = true
 is_refused (outcome.Answered key answer) = is_refusal (answer_of answer)
 is_refused (outcome.Failed key fault) = false
 
+-- what is still to be settled after an answer: the command that was done, or what it was before
+abbrev pub IsWaiting : World → World → World → Answer → Type 0
+IsWaiting v u before (Done n reply) = before ≡ u
+IsWaiting v u before (Repeated n reply) = before ≡ v
+IsWaiting v u before (Refused why) = before ≡ v
+
 module _ {S H : Type 0} (g : Ghosts S) (view : H → View) (size : H → Sizes) where
   -- A command that failed: what it may have left, that a failure of the disk was counted, that the
   -- store failed if it is told, and that what this program wrote was read.
   pub record FailsAt (r s : Held S) (h k : H) (away : Image) (u : World) (key : List ℕ)
       (command : Command) (fault : BenchFault) : Type 0 where
-    pub left : LeavesRun g view size r s h k away u key command
+    pub left : LeavesRun g view size r s h k away u u key command
     pub disk : fault ≡ Disk → (view h).faults < (view k).faults
     pub store : fault ≡ Store → HasRoom most_rows (seen g r) → StoreFailed g r s
     pub readable : fault ≡ Unreadable → (at : IsAt g view size r h away [] [] u u)
@@ -72,6 +84,50 @@ module _ {S H : Type 0} (g : Ghosts S) (view : H → View) (size : H → Sizes) 
   ComesTo r s h k away u asks (outcome.Failed key fault) =
       (command : Command) × (asks ≡ Call key.now command)
       × FailsAt r s h k away u key.now command fault
+
+  -- A command that was answered where a bench stood for u, and v was before: the bench, which is
+  -- now so far, stands for the world that the answer reaches, and either nothing is still to be
+  -- settled or that.
+  pub record IsAnsweredNext (p : Progress) (s : Held S) (k : H) (away : Image) (v u : World)
+      (key : List ℕ) (command : Command) (answer : Answer) : Type 0 where
+    pub world : World
+    pub before : World
+    pub calls : run.Calls u (record { key = key; command = command }) world (answer_of answer)
+    pub waits : (before ≡ world) ⊎ IsWaiting v u before answer
+    pub stands : Stands g view size p s k away before world
+
+  -- A command that failed where a bench stood for u, and v was before.
+  pub record FailsNext (r s : Held S) (h k : H) (away : Image) (v u : World) (key : List ℕ)
+      (command : Command) (fault : BenchFault) : Type 0 where
+    pub left : LeavesNext g view size r s h k away v u key command
+    pub disk : fault ≡ Disk → (view h).faults < (view k).faults
+    pub store : fault ≡ Store → HasRoom most_rows (seen g r) → StoreFailed g r s
+    pub readable : fault ≡ Unreadable → (ts : List Intent) (bytes : List (List ℕ))
+        → (at : IsCarriedOut g view size r h away ts bytes v u) → AreWrittenUnder key at.tables → ⊥
+
+  -- what a request comes to where a bench stands for u and v was before, from the registry r and
+  -- the shelf h to s and k, where the bench is so far
+  abbrev pub NextComesTo : Progress → Held S → Held S → H → H → Image → World → World → Asked
+      → Outcome → Type 0
+  NextComesTo p r s h k away v u asks outcome.Nothing =
+      (asks ≡ Nothing) × Stands g view size p s k away v u
+  NextComesTo p r s h k away v u asks (outcome.Wrong key) =
+      (asks ≡ Wrong key.now) × Stands g view size p s k away v u
+  NextComesTo p r s h k away v u asks (outcome.Answered key answer) =
+      (command : Command) × (asks ≡ Call key.now command)
+      × IsAnsweredNext p s k away v u key.now command answer
+  NextComesTo p r s h k away v u asks (outcome.Failed key fault) =
+      (command : Command) × (asks ≡ Call key.now command)
+      × FailsNext r s h k away v u key.now command fault
+
+-- how far a bench is after a request: one that answered a command hasn't failed, takes the next,
+-- and unless a command follows has nothing to settle
+abbrev pub IsFarAfter : Progress → Progress → Bool → Outcome → Type 0
+IsFarAfter p q follows outcome.Nothing = q ≡ p
+IsFarAfter p q follows (outcome.Wrong key) = q ≡ p
+IsFarAfter p q follows (outcome.Answered key answer) =
+    (p ≢ Failed) × (q ≢ Failed) × TakesNext q × (follows ≡ false → q ≡ Ready)
+IsFarAfter p q follows (outcome.Failed key fault) = q ≡ Failed
 
 -- a bench that failed stays so, any other goes on
 abbrev pub progress_after : Progress → Outcome → Progress

@@ -1,22 +1,23 @@
 //! Batches: the lines of an input, each answered before the next is read.
 
-ghost use Rattle.std.specs.Prelude.{◌≡◌, ◌<◌, ◌≤◌, ℕ, List, [], IfSome, IfNone, IfOk, IfErr, OnOk, OnErr, length, take, vec_len};
+ghost use Rattle.std.specs.Prelude.{◌≡◌, ◌≢◌, ◌<◌, ◌≤◌, ℕ, List, Option, [], IfSome, IfNone, IfOk, IfErr, OnOk, OnErr, length, take, vec_len};
 ghost use Rattle.std.specs.Io.KnownBytes.{Appends, Keeps};
 ghost use Rattle.gm_metadata.specs.Images.{Image};
 ghost use Rattle.gm_state.specs.World.{World};
 ghost use Rattle.gm_registry.specs.Registry.{DiskKept};
 ghost use Rattle.gm_bench.specs.Benches.{progress_of, redone_of, registry_of, shelf_of};
 ghost use Rattle.gm_bench.specs.Calls.{Keep};
-ghost use Rattle.gm_bench.specs.declared.phase.Progress.TheVariants.{Failed};
-ghost use Rattle.gm_bench.specs.Phases.{TakesCommands};
+ghost use Rattle.gm_bench.specs.declared.phase.Progress.TheVariants.{Failed, Ready};
+ghost use Rattle.gm_bench.specs.Phases.{TakesCommands, TakesNext};
 ghost use Rattle.gm_bench.specs.Recovering.{IsAt};
-ghost use Rattle.gm_front.specs.Batch.{AnswersBatch, AppendsFront, Batches, front_fault_number, progress_at};
+ghost use Rattle.gm_front.specs.Batch.{AnswersBatch, AppendsFront, Batches, HandsIn, IsFarAtEnd, front_fault_number, unsettled_fault};
 ghost use Rattle.gm_front.specs.Outcomes.{text_of};
 
-use crate::lines::{Line, MAX_LINE, next_line};
-use crate::outcome::{Outcome, ask};
+use crate::lines::{Line, MAX_LINE, take_line};
+use crate::next::ask_next;
+use crate::outcome::Outcome;
 use crate::request::request_at;
-use gm_bench::{Bench, BenchFault};
+use gm_bench::{Bench, BenchFault, Phase};
 use gm_shelf::Shelf;
 use sqlite::Alter;
 use std::alloc::{AllocError, Global};
@@ -155,7 +156,8 @@ fn zeros(alloc: Global, count: usize) -> Result<Vec<u8>, AllocError>
     vec![in alloc; 0u8; count]
 }
 
-// What `batch` does, with a buffer for a line.
+// Answers the lines in turn, with a buffer for a line. The last command that was done may still be
+// to be settled then.
 fn answer_lines<R: BufRead, W: Write, S: Alter, H: Shelf, L: Listener>(
     alloc: Global,
     reader: &mut R,
@@ -169,12 +171,11 @@ fn answer_lines<R: BufRead, W: Write, S: Alter, H: Shelf, L: Listener>(
     ensures does { H.honest (shelf_of bench.old) → DiskKept S.Store (registry_of bench.new)
         → (away : Image) (u : World)
         → IsAt S.Store H.view H.size (registry_of bench.old) (shelf_of bench.old) away [] [] u u
-        → Batches S.Store H.view H.size (R.remaining reader.old)
+        → HandsIn S.Store H.view H.size (progress_of bench.new) (R.remaining reader.old)
         (W.contents writer.old) (W.contents writer.new)
         (registry_of bench.new) (shelf_of bench.new) away u result }
-    ensures progress { IfOk result (λ end. progress_of bench.new
-        ≡ progress_at (progress_of bench.old) end) }
-    ensures phase { TakesCommands (progress_of bench.new) }
+    ensures progress { IfOk result (IsFarAtEnd (progress_of bench.old) (progress_of bench.new)) }
+    ensures phase { TakesNext (progress_of bench.new) }
     ensures closed { progress_of bench.old ≡ Failed → bench.new ≡ bench.old }
     ensures reopen { result ≡ Ok (BatchEnd.Stopped BenchFault.Closed)
         → progress_of bench.old ≡ Failed }
@@ -185,16 +186,17 @@ fn answer_lines<R: BufRead, W: Write, S: Alter, H: Shelf, L: Listener>(
 {
     let mut refused = false;
     for _ in 0..u64::MAX {
-        let Ok(found) = next_line(reader, line) else {
+        let Ok(taken) = take_line(Some(alloc), reader, line) else {
             return Err(FrontFault::Read);
         };
+        let found = taken.found;
         if found == Line::End {
             return Ok(BatchEnd::Ended { refused });
         }
         let Ok(request) = request_at(alloc, line, found) else {
             return Err(FrontFault::Memory);
         };
-        let outcome = ask(alloc, bench, &request);
+        let outcome = ask_next(alloc, bench, &request, taken.follows);
         if let Err(fault) = tell(alloc, writer, &outcome) {
             return Err(fault);
         }
@@ -205,6 +207,47 @@ fn answer_lines<R: BufRead, W: Write, S: Alter, H: Shelf, L: Listener>(
         refused = outcome.is_refused_after(refused);
     }
     Err(FrontFault::Read)
+}
+
+// How a batch ends whose last command couldn't be settled: the input had a command ready, and then
+// hadn't, or the batch ended early anyhow.
+fn unsettled(end: Result<BatchEnd, FrontFault>) -> FrontFault
+    ensures { result ≡ unsettled_fault end }
+{
+    match end {
+        Ok(_) => FrontFault::Read,
+        Err(fault) => fault,
+    }
+}
+
+// Settles the last command of a batch, if it is still to be settled.
+fn settled<S: Alter, H: Shelf>(
+    bench: &mut Bench<S, H>,
+    end: Result<BatchEnd, FrontFault>,
+) -> Result<BatchEnd, FrontFault>
+    requires { TakesNext (progress_of bench.old) }
+    ensures does { H.honest (shelf_of bench.old) → DiskKept S.Store (registry_of bench.new)
+        → (input before now : Option (List ℕ)) (away : Image) (u : World)
+        → HandsIn S.Store H.view H.size (progress_of bench.old) input before now
+        (registry_of bench.old) (shelf_of bench.old) away u end
+        → Batches S.Store H.view H.size input before now
+        (registry_of bench.new) (shelf_of bench.new) away u result }
+    ensures phase { TakesCommands (progress_of bench.new) }
+    ensures ended { IfOk result (λ b. end ≡ Ok b) }
+    ensures rested { OnOk result (progress_of bench.old ≢ Failed
+        → progress_of bench.new ≡ Ready) }
+    ensures closed { progress_of bench.old ≡ Failed → bench.new ≡ bench.old }
+    ensures redone { redone_of bench.new ≡ redone_of bench.old }
+    ensures keep { Keep S.Store H.Shelf (registry_of bench.old) (registry_of bench.new)
+        (shelf_of bench.old) (shelf_of bench.new) }
+{
+    match bench.phase() {
+        Phase::Applied => match bench.settle() {
+            Ok(()) => end,
+            Err(_) => Err(unsettled(end)),
+        },
+        _ => end,
+    }
 }
 
 /// A batch of which a listener hears, line by line. What is owed of it is
@@ -223,5 +266,6 @@ pub fn heard_batch<R: BufRead, W: Write, S: Alter, H: Shelf, L: Listener>(
     let Ok(mut line) = zeros(alloc, MAX_LINE) else {
         return Err(FrontFault::Memory);
     };
-    answer_lines(alloc, reader, writer, bench, listener, line.as_mut_slice())
+    let end = answer_lines(alloc, reader, writer, bench, listener, line.as_mut_slice());
+    settled(bench, end)
 }

@@ -2,8 +2,9 @@
 //! read, and a request over HTTP.
 //!
 //! `lines.rt` takes the lines of a batch, `request.rt` says what each asks, `outcome.rt` what it
-//! comes to and how that is told, and `answer_lines.rt` answers them in turn; `specs/Batch.antt`
-//! says what all of it comes to, and `laws.rt` that a batch is a part of a schedule of the bench.
+//! comes to and how that is told, `next.rt` asks it of a bench whose last command is perhaps still
+//! to be settled, and `answer_lines.rt` answers them in turn; `specs/Batch.antt` says what all of
+//! it comes to, and `laws.rt` that a batch is a part of a schedule of the bench.
 //! `outcome.rt` also has the line for a loss with which a bench is opened (`specs/Losses.antt`).
 //! `guard.rt` holds a command back if images that it is about aren't as they are registered
 //! (`specs/Guards.antt`).
@@ -25,6 +26,7 @@ mod guard;
 mod guarded_service;
 mod laws;
 mod lines;
+mod next;
 mod outcome;
 mod request;
 mod service;

@@ -3,7 +3,9 @@
 ghost use Rattle.std.specs.Prelude.{◌≡◌, ◌<◌, ◌≤◌, ◌++◌, ℕ, true, List, length, take, slice_index, IfSome, IfOk, nat_lt, if◌then◌else◌};
 ghost use Rattle.gm_front.specs.Input.{is_one_line, Fits, IsCopied, IsLine, IsPiece, IsTaken, TakesPiece};
 
+use crate::request::spells_command;
 use memchr::memchr;
+use std::alloc::Global;
 use std::io::{self, BufRead, ErrorKind};
 
 /// The most bytes of a line, without its line feed.
@@ -18,6 +20,14 @@ pub enum Line {
     Whole(usize),
     /// A line of more than 131,072 bytes.
     Long,
+}
+
+/// A line that was taken, and whether the reader had another one ready that spells a command under
+/// a key.
+#[derive(Clone, Copy, Debug, PartialEq, Eq)]
+pub(crate) struct TakenLine {
+    pub(crate) found: Line,
+    pub(crate) follows: bool,
 }
 
 /// What a reader had ready of a line.
@@ -82,21 +92,37 @@ fn taken(line: &mut [u8], count: usize, piece: &[u8]) -> Piece
     }
 }
 
-// Takes the next piece to a line of which `count` bytes are there: what the reader has ready.
-fn next_piece<R: BufRead>(reader: &mut R, line: &mut [u8], count: usize) -> io::Result<Piece>
+// Whether a command follows a line feed, by what the reader has ready after it. Without memory for
+// that it isn't looked for.
+fn command_follows(ahead: Option<Global>, piece: Piece, behind: &[u8]) -> bool {
+    match (piece, ahead) {
+        (Piece::Feed, Some(alloc)) => spells_command(alloc, behind),
+        _ => false,
+    }
+}
+
+// Takes the next piece to a line of which `count` bytes are there: what the reader has ready. Tells
+// also whether a command follows.
+fn next_piece<R: BufRead>(
+    ahead: Option<Global>,
+    reader: &mut R,
+    line: &mut [u8],
+    count: usize,
+) -> io::Result<(Piece, bool)>
     requires { length line.old ≡ 131072 }
-    ensures { IfOk result (TakesPiece (R.remaining reader.old) (R.remaining reader.new)
-        line.old line.new count) }
+    ensures { IfOk result (λ it. TakesPiece (R.remaining reader.old) (R.remaining reader.new)
+        line.old line.new count it.0) }
 {
     let ready = match reader.fill_buf() {
         Ok(ready) => ready,
-        Err(e) if e.kind() == ErrorKind::Interrupted => return Ok(Piece::Bytes(count)),
+        Err(e) if e.kind() == ErrorKind::Interrupted => return Ok((Piece::Bytes(count), false)),
         Err(e) => return Err(e),
     };
     let length = piece_length(ready);
     let piece = taken(line, count, &ready[..length]);
+    let follows = command_follows(ahead, piece, &ready[length..]);
     reader.consume(length);
-    Ok(piece)
+    Ok((piece, follows))
 }
 
 // A line of which so many bytes were counted, up to 131,073.
@@ -118,6 +144,36 @@ fn ended(count: usize) -> Line
     if count > 0 { found(count) } else { Line::End }
 }
 
+/// Takes the next line as `next_line` does. With memory to look ahead, it also tells whether a
+/// command follows: the reader isn't asked for more than it has ready.
+pub(crate) fn take_line<R: BufRead>(
+    ahead: Option<Global>,
+    reader: &mut R,
+    line: &mut [u8],
+) -> io::Result<TakenLine>
+    requires { length line.old ≡ 131072 }
+    ensures line { IfOk result (λ it. IfSome (R.remaining reader.old) (λ bytes.
+        IsLine bytes (R.remaining reader.new) line.new it.found)) }
+    ensures fits { IfOk result (λ it. Fits it.found) }
+{
+    let mut count = 0usize;
+    for _ in 0..u64::MAX {
+        let (piece, follows) = next_piece(ahead, reader, line, count)?;
+        match piece {
+            Piece::Nothing => return Ok(TakenLine {
+                found: ended(count),
+                follows: false,
+            }),
+            Piece::Feed => return Ok(TakenLine {
+                found: found(count),
+                follows,
+            }),
+            Piece::Bytes(counted) => count = counted,
+        }
+    }
+    Err(io::Error::from(ErrorKind::Other))
+}
+
 /// Takes the next line, with its line feed, into a buffer of `MAX_LINE` bytes; a longer line is
 /// taken whole too, and tells only that it is longer. The last line may lack its line feed. Fails
 /// where the reader does; what was read of a line is then gone.
@@ -127,13 +183,6 @@ pub fn next_line<R: BufRead>(reader: &mut R, line: &mut [u8]) -> io::Result<Line
         IsLine bytes (R.remaining reader.new) line.new found)) }
     ensures fits { IfOk result Fits }
 {
-    let mut count = 0usize;
-    for _ in 0..u64::MAX {
-        match next_piece(reader, line, count)? {
-            Piece::Nothing => return Ok(ended(count)),
-            Piece::Feed => return Ok(found(count)),
-            Piece::Bytes(counted) => count = counted,
-        }
-    }
-    Err(io::Error::from(ErrorKind::Other))
+    let taken = take_line(None, reader, line)?;
+    Ok(taken.found)
 }

@@ -1,14 +1,15 @@
 //! What a line of a batch asks.
 
-ghost use Rattle.std.specs.Prelude.{◌≡◌, IfOk, length};
-ghost use Rattle.gm_front.specs.Request.{asked_by, pieces, shown};
+ghost use Rattle.std.specs.Prelude.{◌≡◌, ◌≤◌, IfOk, length};
+ghost use Rattle.gm_front.specs.Request.{asked, asked_by, pieces, shown};
 ghost use Rattle.gm_front.specs.Input.{Fits};
 ghost use Rattle.gm_words.specs.Lines.{texts};
 ghost use Rattle.gm_front.specs.Outcomes.{asked_at, asked_of};
 
-use crate::lines::Line;
+use crate::lines::{Line, MAX_LINE};
 use gm_commands::{Command, is_key};
 use gm_words::read_words;
+use memchr::memchr;
 use std::alloc::{AllocError, Global};
 use std::str;
 
@@ -52,6 +53,28 @@ pub fn request_of<'a>(alloc: Global, pieces: &[&'a str]) -> Result<Request<'a>, 
     }
 }
 
+// What a line of at most 131,072 bytes asks.
+fn request_in<'a>(alloc: Global, line: &'a [u8]) -> Result<Request<'a>, AllocError>
+    requires { length line.now ≤ 131072 }
+    ensures { IfOk result (λ request. asked_of request ≡ asked line.now) }
+{
+    match str::from_utf8(line) {
+        Ok(text) => request_of(alloc, &pieces(alloc, text)?),
+        Err(_) => Ok(Request::Wrong("?")),
+    }
+}
+
+/// Whether the bytes begin with a whole line that spells a command under a key. Not if it is too
+/// long to be looked at, or memory is refused.
+pub(crate) fn spells_command(alloc: Global, bytes: &[u8]) -> bool {
+    match memchr(b'\n', bytes) {
+        Some(end) if end <= MAX_LINE => {
+            matches!(request_in(alloc, &bytes[..end]), Ok(Request::Call(_, _)))
+        }
+        _ => false,
+    }
+}
+
 /// What the line asks that was found at the front of an input.
 pub(crate) fn request_at<'a>(
     alloc: Global,
@@ -65,9 +88,6 @@ pub(crate) fn request_at<'a>(
     match found {
         Line::End => Ok(Request::Nothing),
         Line::Long => Ok(Request::Wrong("?")),
-        Line::Whole(count) => match str::from_utf8(&line[..count]) {
-            Ok(text) => request_of(alloc, &pieces(alloc, text)?),
-            Err(_) => Ok(Request::Wrong("?")),
-        },
+        Line::Whole(count) => request_in(alloc, &line[..count]),
     }
 }

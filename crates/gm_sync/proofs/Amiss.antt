@@ -1,5 +1,5 @@
 -- Which components of the mirrors that are meant aren't as they are registered.
-use Rattle.std.proofs.Common.{◌≡◌, ◌∙◌, inl, inr, ℕ, true, refl, sym, ap, subst, arith, List, [], ◌∷◌, Some, length, filter}
+use Rattle.std.proofs.Common.{◌≡◌, ◌∙◌, inl, inr, ℕ, true, sym, ap, subst, List, Some, filter}
 use Rattle.gm_lists.proofs.Finding.{find_one}
 use Rattle.gm_lists.proofs.Lists.{Ascends-filter, Has-filter, filter-Has}
 use Rattle.gm_metadata.specs.Images.{Image, Sizes, same_label}

@@ -1,5 +1,5 @@
 -- The faults of calls in turn are those of the call that failed.
-use Rattle.std.proofs.Common.{◌≡◌, ◌∙◌, Bool, true, false, refl, sym, ap, arith, Result, Err}
+use Rattle.std.proofs.Common.{◌≡◌, ◌∙◌, Bool, true, false, refl, sym, ap, arith, [], Result, Err}
 use Rattle.std.specs.Prelude.{IfErr}
 use Rattle.sqlite_trees.specs.declared.store.Store.{Ghosts as StoreGhosts}
 use Rattle.sqlite.specs.Held.{Held, state}
@@ -12,6 +12,7 @@ use Rattle.gm_bench.specs.Calls.{ClosesOnFault, Keep, LooksOn, TellsOfRecords, T
 use Rattle.gm_bench.specs.declared.bench.Bench.{Bench}
 use Rattle.gm_bench.specs.declared.fault.BenchFault.{BenchFault}
 use Rattle.gm_bench.specs.declared.fault.BenchFault.TheVariants.{Absent, Closed, Disk, Memory, Store}
+use Rattle.gm_bench.proofs.CarriedOut.{done_at_rest}
 use Rattle.gm_sync.specs.Filling.{FailsAsCalls, Fills, PassesByAudit}
 use Rattle.gm_sync.specs.declared.scope.Scope.{Scope}
 use Rattle.gm_sync.specs.declared.synced.Synced.{Synced}
@@ -27,8 +28,11 @@ module _ {S H : Type 0} (g : StoreGhosts S) (h : ShelfGhosts H) where
     disk = λ honest kept away u at e. looks.disk (is ∙ ap Err e);
     store = λ honest kept away u at e. record {
       before = a;
+      earlier = u;
       world = u;
-      at = at;
+      intents = [];
+      bytes = [];
+      at = done_at_rest g h.view h.size (registry_of a) (shelf_of a) away u at;
       failed = λ room. store kept (is ∙ ap Err e) at.tables at.has;
     };
   }

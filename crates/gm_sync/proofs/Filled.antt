@@ -21,6 +21,7 @@ use Rattle.gm_bench.specs.declared.answer.Answer.{Answer}
 use Rattle.gm_bench.specs.declared.fault.BenchFault.{BenchFault}
 use Rattle.gm_bench.specs.declared.bench.Bench.{Bench}
 use Rattle.gm_bench.proofs.Looks.{looked_at}
+use Rattle.gm_bench.proofs.CarriedOut.{done_at_rest}
 use Rattle.gm_bench.proofs.GatheredFacts.{are_records}
 use Rattle.gm_sync.specs.declared.due.Due.{Due}
 use Rattle.gm_sync.specs.Filling.{Fills, IsFilledFrom, IsWhole}
@@ -39,7 +40,7 @@ run_then u (call ∷ calls) v (answer ∷ answers) more w others first then = (
 run_then u [] v (answer ∷ answers) more w others first then = absurd first
 run_then u (call ∷ calls) v [] more w others first then = absurd first
 
-has_either : {X : Type 0} (xs ys : List X) (x : X) → Has (xs ++ ys) x → Has xs x ⊎ Has ys x
+pub has_either : {X : Type 0} (xs ys : List X) (x : X) → Has (xs ++ ys) x → Has xs x ⊎ Has ys x
 has_either [] ys x h = inr h
 has_either (y ∷ xs) ys x (inl is) = inl (inl is)
 has_either {X} (y ∷ xs) ys x (inr h) = placed (has_either xs ys x h) where
@@ -75,7 +76,8 @@ module _ {S H : Type 0} (g : StoreGhosts S) (h : ShelfGhosts H) where
       (at : IsAt g h.view h.size (registry_of b) (shelf_of b) away [] [] w w)
       → IsLawful (h.view (shelf_of b)) → AreRecordsOf at.tables w.state
   tables_at_rest b away w at lawful =
-      are_records g h.view h.size (registry_of b) (shelf_of b) away w at lawful
+      are_records g h.view h.size (registry_of b) (shelf_of b) away [] [] w w
+      (done_at_rest g h.view h.size (registry_of b) (shelf_of b) away w at) lawful
 
   -- no look
   pub look_none : (a : Bench S H)

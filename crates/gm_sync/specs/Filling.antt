@@ -7,6 +7,7 @@ use Rattle.gm_lists.specs.Ordered.{Has, Ascends}
 use Rattle.gm_shelf.specs.declared.shelf.Shelf.{Ghosts as ShelfGhosts}
 use Rattle.gm_commands.specs.declared.command.Command.{Command}
 use Rattle.gm_commands.specs.declared.command.Command.TheVariants.{Advance}
+use Rattle.gm_state.specs.declared.intents.Intent.{Intent}
 use Rattle.gm_state.specs.declared.records.Mirror.{Mirror}
 use Rattle.gm_state.specs.declared.records.Component.{Component}
 use Rattle.gm_state.specs.Intents.{IsOf}
@@ -22,10 +23,11 @@ use Rattle.gm_looks.specs.Audits.{IsAsRegistered}
 use Rattle.gm_bench.specs.Benches.{progress_of, registry_of, shelf_of}
 use Rattle.gm_bench.specs.Calls.{Keep, most_rows}
 use Rattle.gm_bench.specs.Owed.{LookDoes}
-use Rattle.gm_bench.specs.Recovering.{IsAt}
+use Rattle.gm_bench.specs.Recovering.{IsAt, IsCarriedOut}
+use Rattle.gm_bench.specs.Standing.{Stands}
 use Rattle.gm_bench.specs.declared.bench.Bench.{Bench}
 use Rattle.gm_bench.specs.declared.fault.BenchFault.{BenchFault}
-use Rattle.gm_bench.specs.declared.fault.BenchFault.TheVariants.{Absent, Closed, Disk, Store}
+use Rattle.gm_bench.specs.declared.fault.BenchFault.TheVariants.{Absent, Closed, Disk, Memory, Store}
 use Rattle.gm_bench.specs.declared.phase.Progress.TheVariants.{Failed}
 use Rattle.gm_sync.specs.declared.due.Due.{Due}
 use Rattle.gm_sync.specs.declared.passed_over.PassedOver.{PassedOver}
@@ -61,13 +63,38 @@ module _ {S H : Type 0} (g : StoreGhosts S) (h : ShelfGhosts H) (Fit : Command �
         → IsAt g h.view h.size (registry_of old) (shelf_of old) away [] [] u u
         → IsFilledFrom new away u
 
+  -- Where the bench stood for u it stands for another world, by commands that fit and no others.
+  pub record IsFilledOn (b : Bench S H) (away : Image) (u : World) : Type 0 where
+    pub calls : List Call
+    pub answers : List run.Answer
+    pub world : World
+    pub before : World
+    pub run : Run u calls world answers
+    pub fill : (call : Call) → Has calls call → Fit call.command
+    pub stands : Stands g h.view h.size (progress_of b) (registry_of b) (shelf_of b) away before
+        world
+
+  -- A call that fills, of which the last command may still be to be settled.
+  pub record FillsOn (old new : Bench S H) : Type 0 where
+    pub failed : progress_of old ≡ Failed → progress_of new ≡ Failed
+    pub goes_on : progress_of new ≡ Failed → progress_of old ≡ Failed
+    pub keep : Keep g h (registry_of old) (registry_of new) (shelf_of old) (shelf_of new)
+    pub does : h.honest (shelf_of old) → DiskKept g (registry_of new) → (away : Image)
+        (v u : World)
+        → Stands g h.view h.size (progress_of old) (registry_of old) (shelf_of old) away v u
+        → IsFilledOn new away u
+
 module _ {S H : Type 0} (g : StoreGhosts S) (h : ShelfGhosts H) where
   -- The store failed at the last call, if it could number the rows of a command when that was made.
-  -- The bench was at rest then.
+  -- What was still to be settled then was carried out.
   pub record StoreFailedLast (new : Bench S H) (away : Image) : Type 0 where
     pub before : Bench S H
+    pub earlier : World
     pub world : World
-    pub at : IsAt g h.view h.size (registry_of before) (shelf_of before) away [] [] world world
+    pub intents : List Intent
+    pub bytes : List (List ℕ)
+    pub at : IsCarriedOut g h.view h.size (registry_of before) (shelf_of before) away intents bytes
+        earlier world
     pub failed : HasRoom most_rows (seen g (registry_of before))
         → StoreFailed g (registry_of before) (registry_of new)
 
@@ -83,6 +110,23 @@ module _ {S H : Type 0} (g : StoreGhosts S) (h : ShelfGhosts H) where
     pub store : h.honest (shelf_of old) → DiskKept g (registry_of new) → (away : Image)
         (u : World) → IsAt g h.view h.size (registry_of old) (shelf_of old) away [] [] u u
         → fault ≡ Store → StoreFailedLast new away
+
+  -- The same of a bench that stands for a world, whatever is still to be settled.
+  pub record FailsOn (old new : Bench S H) (fault : BenchFault) : Type 0 where
+    pub reopen : fault ≡ Closed → progress_of old ≡ Failed
+    pub absent : (p : List ℕ) → fault ≡ Absent p → ⊥
+    pub disk : h.honest (shelf_of old) → DiskKept g (registry_of new) → (away : Image)
+        (v u : World)
+        → Stands g h.view h.size (progress_of old) (registry_of old) (shelf_of old) away v u
+        → fault ≡ Disk → (h.view (shelf_of old)).faults < (h.view (shelf_of new)).faults
+    pub store : h.honest (shelf_of old) → DiskKept g (registry_of new) → (away : Image)
+        (v u : World)
+        → Stands g h.view h.size (progress_of old) (registry_of old) (shelf_of old) away v u
+        → fault ≡ Store → StoreFailedLast new away
+
+-- but for want of memory a fault closes the bench
+abbrev pub IsClosedBut : {S H : Type 0} → Bench S H → BenchFault → Type 0
+IsClosedBut b fault = (fault ≡ Memory) ⊎ (progress_of b ≡ Failed)
 
 -- The records are those that the registry held when it was looked at last; where the bench was at
 -- rest before, it held some.

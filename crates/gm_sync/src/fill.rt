@@ -3,8 +3,8 @@
 ghost use Rattle.std.specs.Prelude.{IfErr, IfOk, OnOk};
 ghost use Rattle.gm_bench.specs.Benches.{progress_of, registry_of, shelf_of};
 ghost use Rattle.gm_bench.specs.Calls.{Keep};
-ghost use Rattle.gm_bench.specs.Phases.{TakesCommands};
-ghost use Rattle.gm_sync.specs.Filling.{FailsAsCalls, Fills, IsAdvanceIn, IsAdvanceOf, IsStill, IsWhole};
+ghost use Rattle.gm_bench.specs.Phases.{TakesCommands, TakesNext};
+ghost use Rattle.gm_sync.specs.Filling.{FailsAsCalls, FailsOn, Fills, FillsOn, IsAdvanceIn, IsAdvanceOf, IsClosedBut, IsStill, IsWhole};
 ghost use Rattle.gm_sync.specs.Ends.{IfWhole};
 
 use crate::due::Due;
@@ -27,20 +27,22 @@ pub trait Progress {
     fn filled(&mut self, provider: Label, held: u32, total: u32);
 }
 
-// One stretch of a component, and how it is answered under a key that is made from a number.
+// One stretch of a component, and how it is answered under a key that is made from a number. It
+// settles the stretch before, and is still to be settled.
 fn advance<S: Alter, H: Shelf>(
     alloc: Global,
     bench: &mut Bench<S, H>,
     component: &Component,
     number: u64,
 ) -> Result<Answer, BenchFault>
-    requires { TakesCommands (progress_of bench.old) }
-    ensures phase { TakesCommands (progress_of bench.new) }
+    requires { TakesNext (progress_of bench.old) }
+    ensures phase { TakesNext (progress_of bench.new) }
     ensures keep { Keep S.Store H.Shelf (registry_of bench.old) (registry_of bench.new)
         (shelf_of bench.old) (shelf_of bench.new) }
     ensures fills { OnOk result
-        (Fills S.Store H.Shelf (IsAdvanceOf component.now) bench.old bench.new) }
-    ensures faults { IfErr result (FailsAsCalls S.Store H.Shelf bench.old bench.new) }
+        (FillsOn S.Store H.Shelf (IsAdvanceOf component.now) bench.old bench.new) }
+    ensures faults { IfErr result (FailsOn S.Store H.Shelf bench.old bench.new) }
+    ensures closed { IfErr result (IsClosedBut bench.new) }
 {
     let command = Command::Advance {
         name: component.mirror,
@@ -48,7 +50,7 @@ fn advance<S: Alter, H: Shelf>(
     };
     match format!(in alloc; "sync-{number}") {
         Ok(key) => {
-            let answer = bench.run(alloc, key.as_str(), &command)?;
+            let answer = bench.hand_in(alloc, key.as_str(), &command)?;
             Ok(answer)
         }
         Err(_) => Err(BenchFault::Memory),
@@ -56,21 +58,22 @@ fn advance<S: Alter, H: Shelf>(
 }
 
 // Fills one component, or finds why that is refused. The number is that of the last key; keys that
-// were taken before are gone round.
-fn fill_one<S: Alter, H: Shelf, P: Progress>(
+// were taken before are gone round. The last stretch is still to be settled.
+fn fill_stretches<S: Alter, H: Shelf, P: Progress>(
     alloc: Global,
     bench: &mut Bench<S, H>,
     component: &Component,
     number: &mut u64,
     progress: &mut P,
 ) -> Result<Option<CallRefusal>, BenchFault>
-    requires { TakesCommands (progress_of bench.old) }
-    ensures phase { TakesCommands (progress_of bench.new) }
+    requires { TakesNext (progress_of bench.old) }
+    ensures phase { TakesNext (progress_of bench.new) }
     ensures keep { Keep S.Store H.Shelf (registry_of bench.old) (registry_of bench.new)
         (shelf_of bench.old) (shelf_of bench.new) }
     ensures fills { OnOk result
-        (Fills S.Store H.Shelf (IsAdvanceOf component.now) bench.old bench.new) }
-    ensures faults { IfErr result (FailsAsCalls S.Store H.Shelf bench.old bench.new) }
+        (FillsOn S.Store H.Shelf (IsAdvanceOf component.now) bench.old bench.new) }
+    ensures faults { IfErr result (FailsOn S.Store H.Shelf bench.old bench.new) }
+    ensures closed { IfErr result (IsClosedBut bench.new) }
 {
     for _ in 0..u64::MAX {
         *number = number.saturating_add(1);
@@ -87,6 +90,29 @@ fn fill_one<S: Alter, H: Shelf, P: Progress>(
         }
     }
     Ok(Some(CallRefusal::NoRoom))
+}
+
+// The same, and settles the last stretch.
+fn fill_one<S: Alter, H: Shelf, P: Progress>(
+    alloc: Global,
+    bench: &mut Bench<S, H>,
+    component: &Component,
+    number: &mut u64,
+    progress: &mut P,
+) -> Result<Option<CallRefusal>, BenchFault>
+    requires { TakesCommands (progress_of bench.old) }
+    ensures phase { TakesCommands (progress_of bench.new) }
+    ensures keep { Keep S.Store H.Shelf (registry_of bench.old) (registry_of bench.new)
+        (shelf_of bench.old) (shelf_of bench.new) }
+    ensures fills { OnOk result
+        (Fills S.Store H.Shelf (IsAdvanceOf component.now) bench.old bench.new) }
+    ensures faults { IfErr result (FailsAsCalls S.Store H.Shelf bench.old bench.new) }
+{
+    let filled = fill_stretches(alloc, bench, component, number, progress);
+    let settled = bench.settle_waiting();
+    let unfilled = filled?;
+    settled?;
+    Ok(unfilled)
 }
 
 // A component that isn't filled, because an advance of it is refused.

@@ -169,8 +169,8 @@ pub fn try_accept<S: Alter, H: Shelf>(
 ) -> Result<Result<Answer, BenchFault>, Fail> {
     let command = command(alloc, words)?;
     match bench.phase() {
-        Phase::Ready | Phase::Failed => Ok(bench.accept(alloc, key, &command)),
-        Phase::Pending | Phase::Applied => Err("an accepting in another phase")?,
+        Phase::Ready | Phase::Applied | Phase::Failed => Ok(bench.accept(alloc, key, &command)),
+        Phase::Pending => Err("an accepting in another phase")?,
     }
 }
 

@@ -13,6 +13,10 @@ use std::io::{BufReader, BufWriter, ErrorKind, IsTerminal, Write};
 use std::process::ExitCode;
 use streams::StandardStreams;
 
+// Two lines of a batch as long as they may be, with their line feeds: a command is settled by the
+// next one only if that is read as well.
+const INPUT_BYTES: usize = 2 * (131_072 + 1);
+
 // Runs the program over the real streams.
 fn run(rt: &HostRuntime) -> Result<Status, Fault> {
     take_stack(rt)?;
@@ -30,7 +34,7 @@ fn run(rt: &HostRuntime) -> Result<Status, Fault> {
     let words: Vec<&str> = given.iter().map(|word| word.as_str()).collect(alloc)?;
     let mut explaining = Explaining::new(alloc, complaints.is_terminal());
     explaining.asks = explaining.at_terminal && rt.stdin().is_terminal();
-    let mut input = BufReader::new(alloc, rt.stdin())?;
+    let mut input = BufReader::with_capacity(alloc, INPUT_BYTES, rt.stdin())?;
     let mut output = BufWriter::new(alloc, rt.stdout())?;
     let mut streams = Streams {
         input: &mut input,

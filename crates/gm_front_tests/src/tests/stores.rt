@@ -2,8 +2,9 @@
 //! store stops at each of its calls in turn.
 
 use super::faults::{goes_on, plays};
-use super::{DONE, LABEL, REFUSED, answers, got, images, must, try_open};
+use super::{DONE, LABEL, REFUSED, answers, got, images, must, tell, try_open};
 use gm_bench::{Bench, BenchFault};
+use gm_front::BatchEnd;
 use gm_shelf::{MemShelf, Shelf};
 use gm_test_media::{ALL, Calls, StoreBytes, must_be_alike};
 use sqlite::{Alter, Connection, Files, Options};
@@ -31,6 +32,8 @@ enum Job {
     Label,
     // Lines that write nothing, after the label.
     Idle,
+    // These lines, which may fail.
+    Try { lines: &'static str },
 }
 
 // Lines that repeat a command, and lines that are refused.
@@ -65,6 +68,13 @@ fn serves<S: Alter, H: Shelf>(
         Job::GoOn { done } => goes_on(rt, bench, done),
         Job::Label => answers(rt, bench, LABEL.as_bytes(), "k1 ok 1\n", DONE),
         Job::Idle => answers(rt, bench, IDLE.as_bytes(), IDLE_TOLD, REFUSED),
+        Job::Try { lines } => {
+            let ended = matches!(
+                tell(rt, bench, lines.as_bytes()).end,
+                Ok(BatchEnd::Ended { .. })
+            );
+            return if ended { 4 } else { 0 };
+        }
     }
     4
 }
@@ -188,7 +198,7 @@ fn a_store_that_stops_ends_a_batch(rt: HostRuntime) {
 }
 
 // How many calls of the log are served in a run that fails at some command.
-const SOME: Calls = Calls { log: 60, ..ALL };
+const SOME: Calls = Calls { log: 40, ..ALL };
 
 // What the further batches are handed to leaves the same bytes as one that is handed none.
 #[test]
@@ -198,4 +208,39 @@ fn a_bench_that_has_failed_changes_no_byte(rt: HostRuntime) {
     let (again, mut more) = run(&rt, &from, SOME, Job::Play { and_more: true });
     must(&rt, done == again && done < 4, "another run");
     must_be_the_same(&rt, &mut plain, &mut more);
+}
+
+// Two commands that follow each other, and with something between them that isn't a command.
+const TWO: &str = "k1 label --mid 7 --did 1 gm0 a.img\nk2 label --mid 8 --did 2 gm1 b.img\n";
+
+const BLANK_BETWEEN: &str =
+    "k1 label --mid 7 --did 1 gm0 a.img\n\nk2 label --mid 8 --did 2 gm1 b.img\n";
+
+const WRONG_BETWEEN: &str =
+    "k1 label --mid 7 --did 1 gm0 a.img\nk3 labels\nk2 label --mid 8 --did 2 gm1 b.img\n";
+
+// The second line isn't whole yet.
+const NOT_WHOLE: &str = "k1 label --mid 7 --did 1 gm0 a.img\nk2 label --mid 8 --did 2 gm1 b.img";
+
+// How many calls of the log these lines ask for.
+fn calls_of(rt: &(impl Abort + AllocGlobal), from: &Media, lines: &'static str) -> u64 {
+    for log in 0..MANY {
+        let (done, _) = run(rt, from, Calls { log, ..ALL }, Job::Try { lines });
+        if done == 4 {
+            return log;
+        }
+    }
+    panic!(rt; "no run ended")
+}
+
+// What was done is settled by the next command, if that is the next line and whole; else by itself,
+// before it is told.
+#[test]
+fn only_a_command_that_follows_settles_the_one_before(rt: HostRuntime) {
+    let from = fresh(&rt);
+    let two = calls_of(&rt, &from, TWO);
+    for lines in [BLANK_BETWEEN, WRONG_BETWEEN, NOT_WHOLE] {
+        let more = calls_of(&rt, &from, lines);
+        must(&rt, more > two, "settled by a command that didn't follow");
+    }
 }

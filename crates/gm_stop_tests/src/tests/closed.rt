@@ -1,7 +1,7 @@
 //! A bench that its shelf closed, since its device failed or memory is wanting: each later call
 //! does nothing, and both media stay. And one that was closed between two calls.
 
-use super::media::{Job, Media, Told, fresh, look};
+use super::media::{Job, Media, Settles, Told, fresh, look};
 use super::scripts::{ADOPTED, FILLED, LOST, PATCHED, Script};
 use super::shelf_stops::{MANY, Stop, fault_of, stop_shelf, stopping};
 use super::{got, must};
@@ -53,6 +53,7 @@ fn run_to_stop(
         before: 0,
         calls: CALLS,
         asks_again,
+        settles: Settles::Itself,
     };
     stop_shelf(rt, &start.store, &start.shelf, job, stop, nth)
 }
@@ -131,6 +132,7 @@ fn closes_after(rt: &(impl Abort + AllocGlobal), script: Script, calls: u64) {
         before: 0,
         calls,
         asks_again: false,
+        settles: Settles::Itself,
     };
     let (told, left) = stop_shelf(rt, &start.store, &start.shelf, job, Stop::Before, MANY);
     let well = told.fault.is_none() && told.done == calls.div_ceil(3);

@@ -5,6 +5,7 @@ use super::found::{accepted, mirrors, with_images};
 use super::scripts::{Script, key_at, reply_to};
 use super::{got, must};
 use gm_bench::{Answer, Bench, BenchFault, Phase};
+use gm_refusals::{CallRefusal, Refusal};
 use gm_shelf::{MemShelf, Shelf};
 use gm_test_bench::{try_accept, try_apply, try_open, try_settle};
 use gm_test_media::{ALL, StoreBytes};
@@ -22,15 +23,43 @@ pub(super) struct Media {
     pub(super) shelf: MemShelf,
 }
 
+/// When a command is settled that is carried out.
+#[derive(Clone, Copy, PartialEq, Eq)]
+pub(super) enum Settles {
+    /// By a call of its own.
+    Itself,
+    /// By the accepting of the next command, and the last one of a job by a call of its own.
+    ByTheNext,
+}
+
 /// So many calls of a script, each an accepting, a carrying out or a settling, after so many
-/// commands of it that were done before; of none only the opening is asked. Where a fault closes
-/// the bench, it may be asked each call once more.
+/// commands of it that were done before; of none only the opening is asked. If a fault closes the
+/// bench, it may be asked each call once more.
 #[derive(Clone, Copy)]
 pub(super) struct Job {
     pub(super) script: Script,
     pub(super) before: u64,
     pub(super) calls: u64,
     pub(super) asks_again: bool,
+    pub(super) settles: Settles,
+}
+
+impl Job {
+    /// One that hands in so many commands more, each of which settles the one before it.
+    pub(super) fn of_commands_in_turn(script: Script, before: u64, commands: u64) -> Job {
+        Job {
+            script,
+            before,
+            calls: commands.saturating_mul(2).saturating_add(1),
+            asks_again: true,
+            settles: Settles::ByTheNext,
+        }
+    }
+
+    // After how many commands of the script it ends.
+    fn end(self) -> u64 {
+        self.before.saturating_add(self.calls / 2)
+    }
 }
 
 /// How many commands of a script were answered as done when a job ended, and why it ended early.
@@ -74,16 +103,48 @@ fn accept_next<S: Alter, H: Shelf>(
     Ok(true)
 }
 
-// The next call of a script; whether it accepted a command.
-fn next_call<S: Alter, H: Shelf>(
+// Hands in the last command again, and one that is refused: what waits to be settled goes on to
+// wait.
+fn ask_between<S: Alter, H: Shelf>(
+    rt: &(impl Abort + AllocGlobal),
+    bench: &mut Bench<S, H>,
+    script: Script,
+    done: u64,
+) -> Result<(), BenchFault> {
+    let words = script.station(rt, done).words;
+    let key = key_at(rt, done.saturating_sub(1));
+    let repeated = got(rt, try_accept(rt.alloc(), bench, key, words))?;
+    let is_repeated = repeated == Answer::Repeated(done, reply_to(words));
+    let refused = got(rt, try_accept(rt.alloc(), bench, "between", "destroy none"))?;
+    let no_mirror = Answer::Refused(CallRefusal::ByRules(Refusal::NoMirror));
+    must(rt, is_repeated && refused == no_mirror, "another answer");
+    must(rt, bench.phase() == Phase::Applied, "settled between");
+    Ok(())
+}
+
+// The next command, over one that is carried out.
+fn accept_over<S: Alter, H: Shelf>(
     rt: &(impl Abort + AllocGlobal),
     bench: &mut Bench<S, H>,
     script: Script,
     done: u64,
 ) -> Result<bool, BenchFault> {
+    ask_between(rt, bench, script, done)?;
+    accept_next(rt, bench, script, done)
+}
+
+// The next call of a script; whether it accepted a command.
+fn next_call<S: Alter, H: Shelf>(
+    rt: &(impl Abort + AllocGlobal),
+    bench: &mut Bench<S, H>,
+    job: Job,
+    done: u64,
+) -> Result<bool, BenchFault> {
+    let settles_it = job.settles == Settles::ByTheNext && done < job.end();
     match bench.phase() {
-        Phase::Ready => accept_next(rt, bench, script, done),
+        Phase::Ready => accept_next(rt, bench, job.script, done),
         Phase::Pending => got(rt, try_apply(bench)).map(|()| false),
+        Phase::Applied if settles_it => accept_over(rt, bench, job.script, done),
         Phase::Applied => got(rt, try_settle(bench)).map(|()| false),
         Phase::Failed => panic!(rt; "closed without a fault"),
     }
@@ -101,7 +162,7 @@ fn play<S: Alter, H: Shelf>(
     };
     for _ in 0..job.calls {
         if told.fault.is_none() {
-            match next_call(rt, bench, job.script, told.done) {
+            match next_call(rt, bench, job, told.done) {
                 Ok(accepted) => told.done = told.done.saturating_add(u64::from(accepted)),
                 Err(fault) => told.fault = Some(fault),
             }

@@ -2,7 +2,9 @@
 //! that, which stop so too: whatever a crash then leaves is found to be a station of the script.
 
 use super::found::must_claim_truly;
-use super::media::{Job, Left, Media, Told, copy_of, crash_image, fresh, look, perform_on_files};
+use super::media::{
+    Job, Left, Media, Settles, Told, copy_of, crash_image, fresh, look, perform_on_files,
+};
 use super::scripts::{ADOPTED, FILLED, LOST, PATCHED, Script};
 use super::{got, must};
 use gm_bench::BenchFault;
@@ -197,6 +199,7 @@ fn stop_openings(rt: &(impl Abort + AllocGlobal), left: &Media, script: Script, 
         before: done,
         calls: 0,
         asks_again: false,
+        settles: Settles::Itself,
     };
     let mut states: u64 = 0;
     for mut image in crash_images(rt, &left.shelf) {
@@ -211,16 +214,25 @@ fn stop_openings(rt: &(impl Abort + AllocGlobal), left: &Media, script: Script, 
     states
 }
 
-// Stops a script so at each of these calls of its shelf, until a run ends, and the openings after
-// it; how many states those are.
-fn stop_script(rt: &(impl Abort + AllocGlobal), script: Script, stop: Stop, turns: Turns) -> u64 {
+// A whole script, of which each command is settled so.
+fn whole(script: Script, settles: Settles) -> Job {
+    match settles {
+        Settles::Itself => Job {
+            script,
+            before: 0,
+            calls: script.length().saturating_mul(3),
+            asks_again: true,
+            settles,
+        },
+        Settles::ByTheNext => Job::of_commands_in_turn(script, 0, script.length()),
+    }
+}
+
+// Stops a job of a whole script so at each of these calls of its shelf, until a run ends, and the
+// openings after it; how many states those are.
+fn stop_job(rt: &(impl Abort + AllocGlobal), job: Job, stop: Stop, turns: Turns) -> u64 {
+    let script = job.script;
     let start = fresh(rt, script);
-    let job = Job {
-        script,
-        before: 0,
-        calls: script.length().saturating_mul(3),
-        asks_again: true,
-    };
     let mut states: u64 = 0;
     let mut ended = false;
     for nth in 1..MANY {
@@ -240,7 +252,20 @@ fn stop_script(rt: &(impl Abort + AllocGlobal), script: Script, stop: Stop, turn
     states
 }
 
-// Stops a script so, of which there are at least so many states.
+// Stops a job so, of which there are at least so many states.
+fn stop_turns_of(
+    rt: &(impl Abort + AllocGlobal + Print),
+    job: Job,
+    stop: Stop,
+    turns: Turns,
+    least: u64,
+) {
+    let states = stop_job(rt, job, stop, turns);
+    println!(rt; "{states} states behind stops of the shelf").expect(rt, "no output");
+    must(rt, states >= least, "fewer states than there were");
+}
+
+// The same of a script whose commands are each settled by a call of their own.
 fn stop_turns(
     rt: &(impl Abort + AllocGlobal + Print),
     script: Script,
@@ -248,9 +273,24 @@ fn stop_turns(
     turns: Turns,
     least: u64,
 ) {
-    let states = stop_script(rt, script, stop, turns);
-    println!(rt; "{states} states behind stops of the shelf").expect(rt, "no output");
-    must(rt, states >= least, "fewer states than there were");
+    stop_turns_of(rt, whole(script, Settles::Itself), stop, turns, least);
+}
+
+// The same of a script each command of which settles the one before it, that one asked again and
+// a refused one between them.
+fn stop_turns_in_turn(
+    rt: &(impl Abort + AllocGlobal + Print),
+    script: Script,
+    turns: Turns,
+    least: u64,
+) {
+    stop_turns_of(
+        rt,
+        whole(script, Settles::ByTheNext),
+        Stop::Behind,
+        turns,
+        least,
+    );
 }
 
 // A label, an insert, an advance, a deactivate and an activate.
@@ -415,4 +455,24 @@ fn a_shelf_that_acts_and_fails_once_at_odd_calls_while_a_mirror_is_patched(rt: H
 #[test]
 fn a_shelf_that_acts_and_fails_once_at_even_calls_while_a_mirror_is_patched(rt: HostRuntime) {
     stop_turns(&rt, PATCHED, Stop::OnceBehind, Turns::Even, 400);
+}
+
+#[test]
+fn a_shelf_that_stops_at_odd_calls_while_commands_settle_those_before(rt: HostRuntime) {
+    stop_turns_in_turn(&rt, FILLED, Turns::Odd, 400);
+}
+
+#[test]
+fn a_shelf_that_stops_at_even_calls_while_commands_settle_those_before(rt: HostRuntime) {
+    stop_turns_in_turn(&rt, FILLED, Turns::Even, 400);
+}
+
+#[test]
+fn a_shelf_that_stops_at_odd_calls_while_patches_settle_those_before(rt: HostRuntime) {
+    stop_turns_in_turn(&rt, PATCHED, Turns::Odd, 400);
+}
+
+#[test]
+fn a_shelf_that_stops_at_even_calls_while_patches_settle_those_before(rt: HostRuntime) {
+    stop_turns_in_turn(&rt, PATCHED, Turns::Even, 400);
 }

@@ -1,7 +1,9 @@
 //! Scripts over a store of two files, of which one stops at each of its calls in turn, and what is
 //! found when both media are opened again, also by an opening whose shelf stops.
 
-use super::media::{Job, Left, Media, copy_of, crash_image, fresh, look, perform_on_files};
+use super::media::{
+    Job, Left, Media, Settles, copy_of, crash_image, fresh, look, perform_on_files,
+};
 use super::scripts::{ADOPTED, FILLED, LOST, PATCHED, Script};
 use super::shelf_stops::{Stop, stop_opening};
 use super::{got, must};
@@ -86,6 +88,7 @@ fn visit(rt: &(impl Abort + AllocGlobal), left: &Media, job: Job, done: u64) -> 
     let opening = Job {
         before: done,
         calls: 0,
+        settles: Settles::Itself,
         ..job
     };
     stop_opening(rt, &left.store, &left.shelf, opening, Stop::Behind, pending).saturating_add(1)
@@ -144,6 +147,7 @@ fn stop_commands(rt: &(impl Abort + AllocGlobal + Print), script: Script, least:
             before,
             calls: 3,
             asks_again: true,
+            settles: Settles::Itself,
         };
         let accepted = run(
             rt,
@@ -184,4 +188,38 @@ fn a_stop_of_the_store_while_a_mirror_is_taken_apart(rt: HostRuntime) {
 #[test]
 fn a_stop_of_the_store_while_a_mirror_is_patched(rt: HostRuntime) {
     stop_commands(&rt, PATCHED, 1000);
+}
+
+// Each two commands of a script that follow each other, of which the second settles the first, from
+// the opening of the files to their close.
+fn stop_pairs(rt: &(impl Abort + AllocGlobal + Print), script: Script, least: u64) {
+    let mut media = fresh(rt, script);
+    let mut states: u64 = 0;
+    for before in 0..script.length().saturating_sub(1) {
+        let pair = Job::of_commands_in_turn(script, before, 2);
+        states = states.saturating_add(stop_each_file(rt, &media, pair));
+        media = run(rt, &media, Job::of_commands_in_turn(script, before, 1));
+    }
+    println!(rt; "{states} states behind stops of the store").expect(rt, "no output");
+    must(rt, states >= least, "fewer states than there were");
+}
+
+#[test]
+fn a_stop_of_the_store_while_commands_settle_those_before(rt: HostRuntime) {
+    stop_pairs(&rt, FILLED, 1000);
+}
+
+#[test]
+fn a_stop_of_the_store_while_a_loss_settles_what_was_before(rt: HostRuntime) {
+    stop_pairs(&rt, LOST, 1000);
+}
+
+#[test]
+fn a_stop_of_the_store_while_commands_that_take_apart_settle_those_before(rt: HostRuntime) {
+    stop_pairs(&rt, ADOPTED, 1000);
+}
+
+#[test]
+fn a_stop_of_the_store_while_patches_settle_those_before(rt: HostRuntime) {
+    stop_pairs(&rt, PATCHED, 1000);
 }

@@ -1,4 +1,4 @@
-use Rattle.std.proofs.Common.{◌≡◌, ◌∙◌, ap}
+use Rattle.std.proofs.Common.{◌∙◌, ap}
 use Rattle.std.specs.Option.{unwrap_or}
 use Rattle.gm_metadata.specs.Images.{zeros}
 use Rattle.gm_shelf.proofs.LastRead.{last_read}

@@ -1,9 +1,9 @@
-use Rattle.std.proofs.Common.{rules, arith, ◌≡◌, ◌≢◌, ◌∙◌, refl, inl}
+use Rattle.std.proofs.Common.{rules, arith, ◌≡◌, ◌≢◌, ◌∙◌, ap, refl, inl}
 use Rattle.std.specs.Io.KnownBytes.{Appends}
 use Rattle.gm_front.specs.declared.lines.Line.TheVariants.{End}
 use Rattle.gm_front.specs.Batch.{AppendsFront}
 use Rattle.gm_front.specs.Outcomes.{asked_at, asked_of}
-use Rattle.gm_front.proofs.Turns.{begun, broken, comes_so, comes_to, finished, front_all, goes_on, kept_before, one_more, stays_at, stopped, told_in_part, told_wholly}
+use Rattle.gm_front.proofs.Turns.{begun, broken, comes_so, comes_to, far_failed, far_on, finished, front_all, goes_on, kept_before, one_more, stopped, takes_after, told_in_part, told_wholly}
 use Rattle.gm_front.proofs.answer_lines.answer_lines.Goals as goal
 
 pub loop-init : goal.loop-init
@@ -13,9 +13,11 @@ loop-init g c = record {
     stays = λ h. h;
     sizes = refl;
     count = omega arith;
-    does = λ honest kept away u at. begun g.S.Store g.H.Shelf.view g.H.Shelf.size _ _ _ _ away u at;
+    does = λ honest kept away u at. begun g.S.Store g.H.Shelf.view g.H.Shelf.size _ _ _ _ _ away u
+        c.requires.phase at;
   };
-  progress = refl;
+  takes = inl c.requires.phase;
+  goes_on = λ other. other;
   redone = refl;
   closed = λ _. refl;
 }
@@ -23,74 +25,90 @@ loop-init g c = record {
 pub returns-in_default-clause-does : goal.returns-in_default-clause-does
 returns-in_default-clause-does g c = λ honest kept away u at.
     let so = c.loop.invariant.going.does honest kept away u at in
-    inl (broken g.S.Store g.H.Shelf.view g.H.Shelf.size _ _ _ _ _ _ away u _ _ so so.told)
+    inl (broken g.S.Store g.H.Shelf.view g.H.Shelf.size _ _ _ _ _ _ _ away u _ _ so so.told)
 
 pub returns-then-eq-clause-does : goal.returns-then-eq-clause-does
 returns-then-eq-clause-does g c = λ honest kept away u at.
-    let is_end : c.in-Ok.found ≡ End = search rules in
+    let is_end : c.in-Ok.taken.found ≡ End = search rules in
     let so = c.loop.invariant.going.does honest kept away u at in
-    finished g.S.Store g.H.Shelf.view g.H.Shelf.size _ _ _ _ _ _ _ away u _ c.next_line.new.line so
-    (rw is_end at c.in-Ok.ensures.line)
+    finished g.S.Store g.H.Shelf.view g.H.Shelf.size _ _ _ _ _ _ _ _ away u _ c.take_line.new.line
+    so (rw is_end at c.in-Ok.ensures.line)
 
 pub returns-in_default-request_at-clause-does : goal.returns-in_default-request_at-clause-does
 returns-in_default-request_at-clause-does g c = λ honest kept away u at.
     let so = c.loop.invariant.going.does honest kept away u at in
-    inl (broken g.S.Store g.H.Shelf.view g.H.Shelf.size _ _ _ _ _ _ away u _ (AppendsFront _ _) so
-    (front_all _ _ _ so.told))
+    inl (broken g.S.Store g.H.Shelf.view g.H.Shelf.size _ _ _ _ _ _ _ away u _ (AppendsFront _ _)
+    so (front_all _ _ _ so.told))
 
 pub returns-clause-does : goal.returns-clause-does
 returns-clause-does g c = λ honest kept away u at.
     let so = c.loop.invariant.going.does honest kept away u at in
-    inl (broken g.S.Store g.H.Shelf.view g.H.Shelf.size _ _ _ _ _ _ away u _ _ so so.told)
+    inl (broken g.S.Store g.H.Shelf.view g.H.Shelf.size _ _ _ _ _ _ _ away u _ _ so so.told)
 
 pub returns-in-Err-clause-does : goal.returns-in-Err-clause-does
 returns-in-Err-clause-does g c = λ honest kept away u at.
-    let some : c.in-Ok.found ≢ End = search rules in
+    let some : c.in-Ok.taken.found ≢ End = search rules in
     let going = c.loop.invariant.going in
     let so = going.does honest
     (kept_before g.S.Store g.H.Shelf.view g.H.Shelf.size c.loop.bench.media.registry
-    c.ask-outcome.new.bench.media.registry c.ask-outcome.ensures.keep.clean kept) away u at in
-    let comes = comes_so g.S.Store g.H.Shelf.view g.H.Shelf.size c.loop.bench.media.registry
-    c.ask-outcome.new.bench.media.registry c.loop.bench.media.shelf
-    c.ask-outcome.new.bench.media.shelf away (asked_of c.in-Ok-request_at.request)
-    (asked_at c.next_line.new.line c.in-Ok.found)
-    c.ask-outcome.result c.in-Ok-request_at.ensures
-    (c.ask-outcome.ensures.comes (going.stays honest) kept away) in
-    told_in_part g.S.Store g.H.Shelf.view g.H.Shelf.size _ _ _ _ _ _ _ _ _ _ away u _
-    c.next_line.new.line c.in-Ok.found c.ask-outcome.result _ so c.in-Ok.ensures.line some comes
+    c.ask_next-outcome.new.bench.media.registry c.ask_next-outcome.ensures.keep.clean kept) away u
+    at in
+    let comes = comes_so g.S.Store g.H.Shelf.view g.H.Shelf.size c.loop.bench.progress
+    c.ask_next-outcome.new.bench.progress c.loop.bench.media.registry
+    c.ask_next-outcome.new.bench.media.registry c.loop.bench.media.shelf
+    c.ask_next-outcome.new.bench.media.shelf away (asked_of c.in-Ok-request_at.request)
+    (asked_at c.take_line.new.line c.in-Ok.taken.found)
+    c.ask_next-outcome.result c.in-Ok-request_at.ensures
+    (c.ask_next-outcome.ensures.comes (going.stays honest) kept away) in
+    told_in_part g.S.Store g.H.Shelf.view g.H.Shelf.size _ _ _ _ _ _ _ _ _ _ _ _ away u _
+    c.take_line.new.line c.in-Ok.taken.found c.ask_next-outcome.result _ so c.in-Ok.ensures.line
+    some comes (far_failed c.loop.bench.progress c.ask_next-outcome.new.bench.progress
+    c.in-Ok.taken.follows c.ask_next-outcome.result c.ask_next-outcome.ensures.far)
     c.in-Err.ensures.fault c.in-Err.ensures.front
 
 pub returns-in-Failed-clause-does : goal.returns-in-Failed-clause-does
 returns-in-Failed-clause-does g c = λ honest kept away u at.
-    let some : c.in-Ok.found ≢ End = search rules in
+    let some : c.in-Ok.taken.found ≢ End = search rules in
     let going = c.loop.invariant.going in
     let so = going.does honest
     (kept_before g.S.Store g.H.Shelf.view g.H.Shelf.size c.loop.bench.media.registry
-    c.ask-outcome.new.bench.media.registry c.ask-outcome.ensures.keep.clean kept) away u at in
-    let comes = comes_so g.S.Store g.H.Shelf.view g.H.Shelf.size c.loop.bench.media.registry
-    c.ask-outcome.new.bench.media.registry c.loop.bench.media.shelf
-    c.ask-outcome.new.bench.media.shelf away (asked_of c.in-Ok-request_at.request)
-    (asked_at c.next_line.new.line c.in-Ok.found)
-    c.ask-outcome.result c.in-Ok-request_at.ensures
-    (c.ask-outcome.ensures.comes (going.stays honest) kept away) in
-    let failed = comes_to g.S.Store g.H.Shelf.view g.H.Shelf.size c.loop.bench.media.registry
-    c.ask-outcome.new.bench.media.registry c.loop.bench.media.shelf
-    c.ask-outcome.new.bench.media.shelf away (asked_at c.next_line.new.line c.in-Ok.found)
-    c.ask-outcome.result _ c.in-Failed.is comes in
-    let told = told_wholly g.S.Store g.H.Shelf.view g.H.Shelf.size _ _ _ _ _ _ _ _ _ away u _
-    c.next_line.new.line c.in-Ok.found c.in-Failed.field-0 c.in-Failed.fault so
+    c.ask_next-outcome.new.bench.media.registry c.ask_next-outcome.ensures.keep.clean kept) away u
+    at in
+    let comes = comes_so g.S.Store g.H.Shelf.view g.H.Shelf.size c.loop.bench.progress
+    c.ask_next-outcome.new.bench.progress c.loop.bench.media.registry
+    c.ask_next-outcome.new.bench.media.registry c.loop.bench.media.shelf
+    c.ask_next-outcome.new.bench.media.shelf away (asked_of c.in-Ok-request_at.request)
+    (asked_at c.take_line.new.line c.in-Ok.taken.found)
+    c.ask_next-outcome.result c.in-Ok-request_at.ensures
+    (c.ask_next-outcome.ensures.comes (going.stays honest) kept away) in
+    let failed = comes_to g.S.Store g.H.Shelf.view g.H.Shelf.size c.loop.bench.progress
+    c.ask_next-outcome.new.bench.progress c.loop.bench.media.registry
+    c.ask_next-outcome.new.bench.media.registry c.loop.bench.media.shelf
+    c.ask_next-outcome.new.bench.media.shelf away
+    (asked_at c.take_line.new.line c.in-Ok.taken.found)
+    c.ask_next-outcome.result _ c.in-Failed.is comes in
+    let told = told_wholly g.S.Store g.H.Shelf.view g.H.Shelf.size c.loop.bench.progress
+    c.ask_next-outcome.new.bench.progress _ _ _ _ _ _ _ _ _ away u _
+    c.take_line.new.line c.in-Ok.taken.found c.in-Failed.field-0 c.in-Failed.fault so
     c.in-Ok.ensures.line some failed
-    _ c.ask-outcome.result c.in-Failed.is c.in_default-tell.ensures.ok in
-    stopped g.S.Store g.H.Shelf.view g.H.Shelf.size _ _ _ _ _ _ _ _ _ away u _ c.next_line.new.line
-    c.in-Ok.found c.in-Failed.field-0 c.in-Failed.fault so c.in-Ok.ensures.line some failed
-    (Appends (g.W.Write.contents c.args.writer.now) (g.W.Write.contents c.tell.new.writer)) told
+    _ c.ask_next-outcome.result c.in-Failed.is c.in_default-tell.ensures.ok in (
+      far_failed c.loop.bench.progress c.ask_next-outcome.new.bench.progress
+          c.in-Ok.taken.follows c.ask_next-outcome.result c.ask_next-outcome.ensures.far
+          c.in-Failed.field-0 c.in-Failed.fault c.in-Failed.is,
+      stopped g.S.Store g.H.Shelf.view g.H.Shelf.size c.loop.bench.progress
+          c.ask_next-outcome.new.bench.progress _ _ _ _ _ _ _ _ _ away u _
+          c.take_line.new.line c.in-Ok.taken.found c.in-Failed.field-0 c.in-Failed.fault so
+          c.in-Ok.ensures.line some failed
+          (Appends (g.W.Write.contents c.args.writer.now) (g.W.Write.contents c.tell.new.writer))
+          told,
+    )
 
 pub loop-preserved : goal.loop-preserved
 loop-preserved g c =
-    let some : c.in-Ok.found ≢ End = search rules in
+    let some : c.in-Ok.taken.found ≢ End = search rules in
     let going = c.loop.invariant.going in
-    let asked = c.ask-outcome.ensures in
-    let on = goes_on c.ask-outcome.result c.in_default-outcome.not-Failed in
+    let asked = c.ask_next-outcome.ensures in
+    let on = goes_on c.ask_next-outcome.result c.in_default-outcome.not-Failed in
     record {
       going = record {
         clean = omega (arith, going.clean, asked.keep.clean);
@@ -100,20 +118,37 @@ loop-preserved g c =
         does = λ honest kept away u at.
             let so = going.does honest
             (kept_before g.S.Store g.H.Shelf.view g.H.Shelf.size c.loop.bench.media.registry
-            c.ask-outcome.new.bench.media.registry asked.keep.clean kept) away u at in
-            let comes = comes_so g.S.Store g.H.Shelf.view g.H.Shelf.size c.loop.bench.media.registry
-            c.ask-outcome.new.bench.media.registry c.loop.bench.media.shelf
-            c.ask-outcome.new.bench.media.shelf away (asked_of c.in-Ok-request_at.request)
-            (asked_at c.next_line.new.line c.in-Ok.found)
-            c.ask-outcome.result c.in-Ok-request_at.ensures
+            c.ask_next-outcome.new.bench.media.registry asked.keep.clean kept) away u at in
+            let comes = comes_so g.S.Store g.H.Shelf.view g.H.Shelf.size c.loop.bench.progress
+            c.ask_next-outcome.new.bench.progress c.loop.bench.media.registry
+            c.ask_next-outcome.new.bench.media.registry c.loop.bench.media.shelf
+            c.ask_next-outcome.new.bench.media.shelf away (asked_of c.in-Ok-request_at.request)
+            (asked_at c.take_line.new.line c.in-Ok.taken.found)
+            c.ask_next-outcome.result c.in-Ok-request_at.ensures
             (asked.comes (going.stays honest) kept away) in
-            one_more g.S.Store g.H.Shelf.view g.H.Shelf.size _ _ _ _ _ _ _ _ _ away u _
-            c.next_line.new.line c.in-Ok.found c.ask-outcome.result so c.in-Ok.ensures.line some
-            comes
+            one_more g.S.Store g.H.Shelf.view g.H.Shelf.size _ _ _ _ _ _ _ _ _ _ _ away u _
+            c.take_line.new.line c.in-Ok.taken.found c.ask_next-outcome.result so
+            c.in-Ok.ensures.line some comes
             _ _ c.is_refused_after-refused.ensures on c.in_default-tell.ensures.ok;
       };
-      progress = asked.progress ∙ (stays_at _ c.ask-outcome.result on ∙ c.loop.invariant.progress);
+      takes = takes_after c.loop.bench.progress c.ask_next-outcome.new.bench.progress
+          c.in-Ok.taken.follows c.ask_next-outcome.result c.loop.invariant.takes asked.far;
+      goes_on = λ other. far_on c.loop.bench.progress c.ask_next-outcome.new.bench.progress
+          c.in-Ok.taken.follows c.ask_next-outcome.result asked.far on
+          (c.loop.invariant.goes_on other);
       redone = asked.redone ∙ c.loop.invariant.redone;
-      closed = λ failed. asked.closed (c.loop.invariant.progress ∙ failed)
-          ∙ c.loop.invariant.closed failed;
+      closed = λ failed. asked.closed (ap (λ b. b.progress) (c.loop.invariant.closed failed)
+          ∙ failed) ∙ c.loop.invariant.closed failed;
     }
+
+pub returns-in-Err-clause-phase : goal.returns-in-Err-clause-phase
+returns-in-Err-clause-phase g c =
+    takes_after c.loop.bench.progress c.ask_next-outcome.new.bench.progress
+    c.in-Ok.taken.follows c.ask_next-outcome.result c.loop.invariant.takes
+    c.ask_next-outcome.ensures.far
+
+pub returns-in-Failed-clause-phase : goal.returns-in-Failed-clause-phase
+returns-in-Failed-clause-phase g c =
+    takes_after c.loop.bench.progress c.ask_next-outcome.new.bench.progress
+    c.in-Ok.taken.follows c.ask_next-outcome.result c.loop.invariant.takes
+    c.ask_next-outcome.ensures.far

@@ -1,15 +1,17 @@
-use Rattle.std.proofs.Common.{◌≡◌}
+use Rattle.std.proofs.Common.{◌≡◌, ◌≢◌}
 use Rattle.gm_bench.specs.declared.phase.Progress.TheVariants.{Failed}
+use Rattle.gm_bench.specs.Phases.{TakesNext}
 use Rattle.gm_front.proofs.Turns.{Going}
 use Rattle.gm_front.proofs.answer_lines.answer_lines.Given as goal
 
 abbrev pub invariant-loop : goal.invariant-loop
 invariant-loop g l = record {
-  going : Going g.S.Store g.H.Shelf.view g.H.Shelf.size g.H.Shelf.honest
+  going : Going g.S.Store g.H.Shelf.view g.H.Shelf.size g.H.Shelf.honest l.bench.progress
       (g.R.Read.remaining l.fn.reader) (g.R.Read.remaining l.reader)
       (g.W.Write.contents l.fn.writer) (g.W.Write.contents l.writer) l.fn.bench.media.registry
       l.bench.media.registry l.fn.bench.media.shelf l.bench.media.shelf l.refused;
-  progress : l.bench.progress ≡ l.fn.bench.progress;
+  takes : TakesNext l.bench.progress;
+  goes_on : l.fn.bench.progress ≢ Failed → l.bench.progress ≢ Failed;
   redone : l.bench.redone ≡ l.fn.bench.redone;
   closed : l.fn.bench.progress ≡ Failed → l.bench ≡ l.fn.bench;
 }

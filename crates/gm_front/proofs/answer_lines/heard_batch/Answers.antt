@@ -1,15 +1,21 @@
-use Rattle.std.proofs.Common.{rules, arith, refl, inl}
+use Rattle.std.proofs.Common.{rules, arith, ◌∙◌, Err, ap, refl, inl}
+use Rattle.gm_registry.specs.Registry.{DiskKept}
+use Rattle.gm_front.specs.declared.answer_lines.FrontFault.TheVariants.{Memory}
 use Rattle.gm_front.specs.Batch.{AppendsFront}
+use Rattle.gm_front.proofs.Settled.{ended_progress, ends_rest, same_end}
 use Rattle.gm_front.proofs.Turns.{begun, broken, front_all}
 use Rattle.gm_front.proofs.answer_lines.heard_batch.Goals as goal
 
 pub returns-in_default : goal.returns-in_default
 returns-in_default g c = record {
   does = λ honest kept away u at.
-      let so = begun g.S.Store g.H.Shelf.view g.H.Shelf.size
-      (g.R.Read.remaining c.args.reader.now) (g.W.Write.contents c.args.writer.now) _ _ away u at in
-      inl (broken g.S.Store g.H.Shelf.view g.H.Shelf.size _ _ _ _ _ _ away u _ (AppendsFront _ _) so
-      (front_all _ _ _ so.told));
+      let so = begun g.S.Store g.H.Shelf.view g.H.Shelf.size c.args.bench.now.progress
+      (g.R.Read.remaining c.args.reader.now) (g.W.Write.contents c.args.writer.now) _ _ away u
+      c.requires at in
+      ends_rest g.S.Store g.H.Shelf.view g.H.Shelf.size _ _ _ _ _ away u
+      c.args.bench.now.progress c.requires (Err Memory)
+      (inl (broken g.S.Store g.H.Shelf.view g.H.Shelf.size _ _ _ _ _ _ _ away u _
+      (AppendsFront _ _) so (front_all _ _ _ so.told)));
   progress = tt;
   phase = c.requires;
   closed = λ _. refl;
@@ -24,14 +30,29 @@ returns-in_default g c = record {
 
 pub returns : goal.returns
 returns g c =
-    let did = c.answer_lines.ensures in
+    let did = c.answer_lines-end.ensures in
+    let then = c.settled.ensures in
     record {
-      does = did.does;
-      progress = did.progress;
-      phase = did.phase;
-      closed = did.closed;
-      reopen = did.reopen;
-      absent = did.absent;
-      redone = did.redone;
-      keep = did.keep;
+      does = λ honest kept away u at. (
+          let mid : DiskKept g.S.Store c.answer_lines-end.new.bench.media.registry =
+          omega (arith, kept, then.keep.clean) in
+          then.does (did.keep.shelf.honest honest) kept _ _ _ away u
+          (did.does honest mid away u at));
+      progress = ended_progress c.requires c.answer_lines-end.result did.progress did.closed
+          c.settled.result then.ended then.rested then.closed;
+      phase = then.phase;
+      closed = λ failed. then.closed (ap (λ b. b.progress) (did.closed failed) ∙ failed)
+          ∙ did.closed failed;
+      reopen = λ is. did.reopen (same_end c.answer_lines-end.result c.settled.result then.ended is);
+      absent = λ p is. did.absent p
+          (same_end c.answer_lines-end.result c.settled.result then.ended is);
+      redone = then.redone ∙ did.redone;
+      keep = record {
+        shelf = record {
+          honest = λ h. then.keep.shelf.honest (did.keep.shelf.honest h);
+          size = then.keep.shelf.size ∙ did.keep.shelf.size;
+          count = omega (arith, did.keep.shelf.count, then.keep.shelf.count);
+        };
+        clean = omega (arith, did.keep.clean, then.keep.clean);
+      };
     }

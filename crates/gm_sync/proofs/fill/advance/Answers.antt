@@ -1,47 +1,57 @@
-use Rattle.std.proofs.Common.{◌∙◌, refl, sym, ap, [], Err, rules}
-use Rattle.gm_bench.specs.Leading.{whole}
-use Rattle.gm_bench.proofs.ReadTables.{pending_none, tables_of}
+use Rattle.std.proofs.Common.{refl, ap, Err, rules}
+use Rattle.gm_bench.proofs.Phases.{carried_open}
+use Rattle.gm_bench.proofs.Standing.{carried_records, carried_so, carried_tables, else_none}
 use Rattle.gm_sync.specs.Filling.{IsAdvanceOf}
-use Rattle.gm_sync.proofs.Faults.{memory_fails, told}
-use Rattle.gm_sync.proofs.Filled.{fills_run, tables_at_rest}
+use Rattle.gm_sync.proofs.FilledOn.{fills_on_next, memory_fails_on, told_on}
 use Rattle.gm_sync.proofs.fill.advance.Goals as goal
 
 pub returns-in-Ok-clause-fills : goal.returns-in-Ok-clause-fills
 returns-in-Ok-clause-fills g c =
     let ran = c.in_ok-answer-in-Ok.ensures in
-    fills_run g.S.Store g.H.Shelf (IsAdvanceOf c.args.component.now) c.args.bench.now
-    c.run.new.self _ _ c.in_ok-answer-in-Ok.answer refl (ran.ready.1 ∙ sym ran.ready.0)
+    fills_on_next g.S.Store g.H.Shelf (IsAdvanceOf c.args.component.now) c.args.bench.now
+    c.hand_in.new.self _ _ c.in_ok-answer-in-Ok.answer refl ran.not_failed
+    (carried_open c.args.bench.now.progress c.hand_in.new.self.progress
+    c.in_ok-answer-in-Ok.answer ran.not_failed ran.phase)
     ran.runs.keep ran.answers
 
 pub returns-in_err-answer-in-Ok-clause-faults : goal.returns-in_err-answer-in-Ok-clause-faults
 returns-in_err-answer-in-Ok-clause-faults g c =
     let ran = c.in_err-answer-in-Ok.ensures in
-    told g.S.Store g.H.Shelf c.args.bench.now c.run.new.self _ c.in_err-answer-in-Ok.field-0.0
-    (search rules)
+    told_on g.S.Store g.H.Shelf c.args.bench.now c.hand_in.new.self _
+    c.in_err-answer-in-Ok.field-0.0 (search rules)
     (record {
       reopen = λ e. ran.closes.reopen (ap Err e);
       absent = λ p e. ran.closes.absent p (ap Err e);
-      disk = λ honest kept away u at e.
-          ran.runs.disk kept at.tables u.state at.has
-          (tables_at_rest g.S.Store g.H.Shelf c.args.bench.now away u at
-          (g.met.H.Shelf.lawful _ honest))
-          (ap Err e);
-      store = λ honest kept away u at e.
+      disk = λ honest kept away v u stands e.
           let shelf = c.args.bench.now.media.shelf in
-          let lawful = g.met.H.Shelf.lawful shelf honest in
+          let was = carried_so g.S.Store g.H.Shelf.view g.H.Shelf.size c.args.bench.now.progress
+          c.args.bench.now.media.registry shelf away v u stands in
+          let are = carried_tables g.S.Store g.H.Shelf.view g.H.Shelf.size
+          c.args.bench.now.media.registry shelf away was.intents was.bytes v u was.at
+          (g.met.H.Shelf.lawful shelf honest) in
+          ran.runs.disk kept was.at.tables u.state was.at.has
+          (carried_records was.at.tables u.state was.intents was.bytes are) (ap Err e);
+      store = λ honest kept away v u stands e.
+          let shelf = c.args.bench.now.media.shelf in
+          let was = carried_so g.S.Store g.H.Shelf.view g.H.Shelf.size c.args.bench.now.progress
+          c.args.bench.now.media.registry shelf away v u stands in
+          let are = carried_tables g.S.Store g.H.Shelf.view g.H.Shelf.size
+          c.args.bench.now.media.registry shelf away was.intents was.bytes v u was.at
+          (g.met.H.Shelf.lawful shelf honest) in
           record {
             before = c.args.bench.now;
+            earlier = v;
             world = u;
-            at = at;
+            intents = was.intents;
+            bytes = was.bytes;
+            at = was.at;
             failed = λ room.
-                ran.store kept (ap Err e) at.tables u.state at.has
-                (tables_at_rest g.S.Store g.H.Shelf c.args.bench.now away u at lawful)
-                (pending_none at.tables u.state (tables_of at.tables [] []
-                (whole (g.H.Shelf.size shelf) away (g.H.Shelf.view shelf).seen) u
-                (at.leads (g.H.Shelf.view shelf).seen lawful.holds_now).0))
-                room tt;
+                ran.rows.store kept (ap Err e) was.at.tables u.state was.at.has
+                (carried_records was.at.tables u.state was.intents was.bytes are)
+                (else_none c.args.bench.now.progress was.at.tables u.state was.intents was.bytes
+                was.waits are) room tt;
           };
     })
 
 pub returns-clause-faults : goal.returns-clause-faults
-returns-clause-faults g c = memory_fails g.S.Store g.H.Shelf c.args.bench.now c.args.bench.now
+returns-clause-faults g c = memory_fails_on g.S.Store g.H.Shelf c.args.bench.now c.args.bench.now

@@ -1,73 +1,78 @@
-use Rattle.std.proofs.Common.{rules, ◌≡◌, ◌∙◌, Err, sym, ap, subst}
-use Rattle.gm_bench.specs.declared.fault.BenchFault.TheVariants.{Store, Unreadable}
+use Rattle.std.proofs.Common.{rules, ◌∙◌, Err, refl, sym, ap, subst}
+use Rattle.gm_bench.specs.declared.phase.Progress.{Progress}
+use Rattle.gm_bench.specs.declared.phase.Waiting.{Waiting}
+use Rattle.gm_bench.specs.Accepting.{HasNothingElse, WaitsFor}
+use Rattle.gm_bench.specs.Owed.{AcceptAnswers}
+use Rattle.gm_bench.specs.Phases.{progress_after}
 use Rattle.gm_registry.proofs.CallsLeave.{saved}
+use Rattle.gm_bench.proofs.Causes.{fault_is}
 use Rattle.gm_bench.proofs.DecidesOnly.{unstepped_same}
-use Rattle.gm_bench.proofs.Phases.{takes_failed, work_hand}
+use Rattle.gm_bench.proofs.Phases.{in_fault, never_pending, work_hand}
 use Rattle.gm_bench.proofs.bench.Bench.accept.Goals as goal
-use Rattle.gm_bench.specs.Phases.{IsUndone}
 
 pub returns-in_default-clause-leaves : goal.returns-in_default-clause-leaves
-returns-in_default-clause-leaves g c h clean away u at =
+returns-in_default-clause-leaves g c h clean away ts bytes v u at waits =
     let r = c.args.self.now.media.registry in
     let shelf = c.args.self.now.media.shelf in
-    unstepped_same g.S.Store g.H.Shelf.view g.H.Shelf.size r shelf away u at
+    unstepped_same g.S.Store g.H.Shelf.view g.H.Shelf.size r shelf away ts bytes v u at
     (g.met.H.Shelf.lawful shelf h)
     c.args.key.now c.args.command.now
     (saved g.S.Store g.met.S.Store.settled r at.tables at.has).crash
 
-pub returns-in_default-clause-closes : goal.returns-in_default-clause-closes
-returns-in_default-clause-closes g c =
-    record {
-      closed = search rules;
-      reopen = λ is. (
-          takes_failed c.args.self.now.progress c.requires c.in_default.not-Ready);
-      failed = (
-          takes_failed c.args.self.now.progress c.requires c.in_default.not-Ready);
-      absent = search rules;
-      redone = search rules;
-    }
+pub returns-in_err-accepted-clause-leaves : goal.returns-in_err-accepted-clause-leaves
+returns-in_err-accepted-clause-leaves g c h clean away ts bytes v u at waits =
+    let same = (c.in-Some.ensures.some c.in-Some.waiting refl).0 in
+    c.accept.ensures.leaves h clean away ts bytes v u at
+    (subst (λ (w : Waiting). WaitsFor w ts bytes) (sym same) waits)
 
-pub returns-in-Ok-clause-answers : goal.returns-in-Ok-clause-answers
-returns-in-Ok-clause-answers g c h clean = (
-  c.in-Ok.accepted,
-  c.tell-answer.ensures.0,
-  c.tell-answer.ensures.1,
-  c.in-Ok.ensures.done h clean,
-)
+pub returns-clause-leaves : goal.returns-clause-leaves
+returns-clause-leaves g c h clean away ts bytes v u at waits =
+    let same = (c.in-Some.ensures.some c.in-Some.waiting refl).0 in
+    c.accept.ensures.leaves h clean away ts bytes v u at
+    (subst (λ (w : Waiting). WaitsFor w ts bytes) (sym same) waits)
 
-pub returns-in-Err-clause-rows : goal.returns-in-Err-clause-rows
-returns-in-Err-clause-rows g c =
+pub returns-clause-answers : goal.returns-clause-answers
+returns-clause-answers g c h clean =
+    let same = (c.in-Some.ensures.some c.in-Some.waiting refl).0 in (
+      c.in_ok-accepted.accepted,
+      c.tell-answer.ensures.0,
+      c.tell-answer.ensures.1
+          ∙ ap (λ (p : Progress). progress_after p c.in_ok-accepted.accepted)
+          c.replace-before.ensures.value,
+      subst (λ (w : Waiting). AcceptAnswers g.S.Store g.H.Shelf.view g.H.Shelf.size w
+          c.args.self.now.media.registry c.accept.new.self.registry c.args.self.now.media.shelf
+          c.accept.new.self.shelf c.args.key.now c.args.command.now c.in_ok-accepted.accepted) same
+          (c.in_ok-accepted.ensures.done h clean),
+    )
+
+pub returns-in_err-accepted-clause-rows : goal.returns-in_err-accepted-clause-rows
+returns-in_err-accepted-clause-rows g c =
+    let same = (c.in-Some.ensures.some c.in-Some.waiting refl).0 in
     record {
-      readable = λ clean is t s has records few written honest. (
-          let fault : c.in-Err.fault ≡ Unreadable = cc in
-          c.in-Err.ensures.readable clean (ap Err fault) t s has records few written honest);
+      readable = λ clean is t s has records few written honest.
+          c.in_err-accepted.ensures.readable clean (ap Err (fault_is c.from_residual.result _ _
+          c.from_residual.ensures.1 is)) t s has records few written honest;
       at_hand = search rules;
-      refused = λ clean. c.in-Err.ensures.refused clean;
-      store = λ clean is t s has records none room honest. (
-          let fault : c.in-Err.fault ≡ Store = cc in
-          c.in-Err.ensures.store clean (ap Err fault) t s has records none room honest);
+      refused = λ clean. in_fault c.from_residual.result (c.in_err-accepted.ensures.refused clean);
+      store = λ clean is t s has records none room honest.
+          c.in_err-accepted.ensures.store clean (ap Err (fault_is c.from_residual.result _ _
+          c.from_residual.ensures.1 is)) t s has records
+          (subst (λ (w : Waiting). HasNothingElse w t) (sym same) none) room honest;
       goes_on = search rules;
     }
 
-pub returns-in-Ok-clause-rows : goal.returns-in-Ok-clause-rows
-returns-in-Ok-clause-rows g c =
+pub returns-clause-rows : goal.returns-clause-rows
+returns-clause-rows g c =
     record {
       readable = search rules;
       at_hand = λ clean t s has records work pending.
-          work_hand (g.H.Shelf.size c.args.self.now.media.shelf) c.in-Ok.accepted work
-          (sym c.tell-answer.ensures.1 ∙ pending) (c.in-Ok.ensures.at_hand clean t s has records);
+          work_hand (g.H.Shelf.size c.args.self.now.media.shelf) c.args.self.now.progress
+          c.in_ok-accepted.accepted work (never_pending c.args.self.now.progress c.requires)
+          (sym (c.tell-answer.ensures.1
+          ∙ ap (λ (p : Progress). progress_after p c.in_ok-accepted.accepted)
+          c.replace-before.ensures.value) ∙ pending)
+          (c.in_ok-accepted.ensures.at_hand clean t s has records);
       refused = search rules;
       store = search rules;
-      goes_on = λ clean. c.in-Ok.ensures.goes_on clean;
-    }
-
-pub returns-in-Ok-clause-accepts : goal.returns-in-Ok-clause-accepts
-returns-in-Ok-clause-accepts g c =
-    record {
-      only = search rules;
-      disk = search rules;
-      kept = search rules;
-      undone = λ clean undone. (
-          c.in-Ok.ensures.accepts.undone clean (subst IsUndone c.tell-answer.ensures.0 undone));
-      clean = search rules;
+      goes_on = λ clean. c.in_ok-accepted.ensures.goes_on clean;
     }

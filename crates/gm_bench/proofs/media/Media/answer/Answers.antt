@@ -8,40 +8,41 @@ use Rattle.gm_registry.specs.Replies.{IsFree, IsKept}
 use Rattle.gm_registry.proofs.CallsLeave.{saved}
 use Rattle.gm_shelf.proofs.InTurn.{quiet_itself}
 use Rattle.gm_bench.proofs.CallAnswers.{kept_answer, same_again, other_command}
+use Rattle.gm_bench.proofs.CarriedOut.{seen_leads}
 use Rattle.gm_bench.proofs.DecidesOnly.{nothing_then, still, unstepped, then_step, ok_then, reads_then}
 use Rattle.gm_bench.specs.Calls.{most_rows}
 use Rattle.gm_bench.proofs.StoreFails.{failed_later, goes_later, room_later}
 use Rattle.gm_bench.proofs.media.Media.answer.Goals as goal
 
 pub returns-then-eq-clause-leaves : goal.returns-then-eq-clause-leaves
-returns-then-eq-clause-leaves g c h clean away u words key_ok fits at =
+returns-then-eq-clause-leaves g c h clean away ts bytes v u words key_ok fits at waits =
     unstepped g.S.Store g.H.Shelf.view g.H.Shelf.size c.args.self.now.registry c.args.self.now.shelf
-    c.args.self.now.shelf away u at (g.met.H.Shelf.lawful c.args.self.now.shelf h)
+    c.args.self.now.shelf away ts bytes v u at (g.met.H.Shelf.lawful c.args.self.now.shelf h)
     (quiet_itself (g.H.Shelf.view c.args.self.now.shelf)) refl
     c.reply_of.new.self c.args.key.now c.args.command.now
     (saved g.S.Store g.met.S.Store.settled c.args.self.now.registry at.tables at.has).crash
     clean (c.reply_of.ensures.reads.left at.tables at.has)
 
 pub returns-in-Ok-Some-clause-leaves : goal.returns-in-Ok-Some-clause-leaves
-returns-in-Ok-Some-clause-leaves g c h clean away u words key_ok fits at =
+returns-in-Ok-Some-clause-leaves g c h clean away ts bytes v u words key_ok fits at waits =
     unstepped g.S.Store g.H.Shelf.view g.H.Shelf.size c.args.self.now.registry c.args.self.now.shelf
-    c.args.self.now.shelf away u at (g.met.H.Shelf.lawful c.args.self.now.shelf h)
+    c.args.self.now.shelf away ts bytes v u at (g.met.H.Shelf.lawful c.args.self.now.shelf h)
     (quiet_itself (g.H.Shelf.view c.args.self.now.shelf)) refl
     c.reply_of.new.self c.args.key.now c.args.command.now
     (saved g.S.Store g.met.S.Store.settled c.args.self.now.registry at.tables at.has).crash
     clean (c.reply_of.ensures.reads.left at.tables at.has)
 
 pub returns-clause-leaves : goal.returns-clause-leaves
-returns-clause-leaves g c h clean away u words key_ok fits at =
+returns-clause-leaves g c h clean away ts bytes v u words key_ok fits at waits =
     unstepped g.S.Store g.H.Shelf.view g.H.Shelf.size c.args.self.now.registry c.args.self.now.shelf
-    c.args.self.now.shelf away u at (g.met.H.Shelf.lawful c.args.self.now.shelf h)
+    c.args.self.now.shelf away ts bytes v u at (g.met.H.Shelf.lawful c.args.self.now.shelf h)
     (quiet_itself (g.H.Shelf.view c.args.self.now.shelf)) refl
     c.reply_of.new.self c.args.key.now c.args.command.now
     (saved g.S.Store g.met.S.Store.settled c.args.self.now.registry at.tables at.has).crash
     clean (c.reply_of.ensures.reads.left at.tables at.has)
 
 pub returns-in-Ok-None-clause-leaves : goal.returns-in-Ok-None-clause-leaves
-returns-in-Ok-None-clause-leaves g c h clean away u words key_ok fits at =
+returns-in-Ok-None-clause-leaves g c h clean away ts bytes v u words key_ok fits at waits =
     let asked : DiskKept g.S.Store c.reply_of.new.self =
     omega (arith, clean, c.decide.ensures.accepts.clean) in
     let lawful = g.met.H.Shelf.lawful c.args.self.now.shelf h in
@@ -52,18 +53,19 @@ returns-in-Ok-None-clause-leaves g c h clean away u words key_ok fits at =
     c.in-Ok-None.field-0-is f.0 in
     let quiet = quiet_itself (g.H.Shelf.view c.args.self.now.shelf) in
     let at1 = still g.S.Store g.H.Shelf.view g.H.Shelf.size c.args.self.now.registry
-    c.args.self.now.shelf c.args.self.now.shelf away u at lawful quiet refl c.reply_of.new.self
+    c.args.self.now.shelf c.args.self.now.shelf away ts bytes v u at lawful quiet refl
+    c.reply_of.new.self
     f.1.tables in
     then_step g.S.Store g.H.Shelf.view g.H.Shelf.size c.args.self.now.registry c.args.self.now.shelf
-    c.args.self.now.shelf away u at lawful quiet refl c.reply_of.new.self
+    c.args.self.now.shelf away ts bytes v u at lawful quiet refl c.reply_of.new.self
     c.decide.new.self.registry c.decide.new.self.shelf c.args.key.now c.args.command.now
     (c.decide.ensures.accepts.only.reads h).quiet
     (saved g.S.Store g.met.S.Store.settled c.args.self.now.registry at.tables at.has).crash
-    (c.decide.ensures.leaves h clean away u words key_ok fits at1 free)
+    (c.decide.ensures.leaves h clean away ts bytes v u words key_ok fits at1 waits free)
 
 pub returns-in-Ok-None-clause-done : goal.returns-in-Ok-None-clause-done
 returns-in-Ok-None-clause-done g c h clean =
-    ok_then _ _ (λ a answered away u words key_ok fits at. (
+    ok_then _ _ (λ a answered away ts bytes v u words key_ok fits at waits. (
     let asked : DiskKept g.S.Store c.reply_of.new.self =
     omega (arith, clean, c.decide.ensures.accepts.clean) in
     let lawful = g.met.H.Shelf.lawful c.args.self.now.shelf h in
@@ -74,14 +76,17 @@ returns-in-Ok-None-clause-done g c h clean =
     c.in-Ok-None.field-0-is f.0 in
     let quiet = quiet_itself (g.H.Shelf.view c.args.self.now.shelf) in
     let at1 = still g.S.Store g.H.Shelf.view g.H.Shelf.size c.args.self.now.registry
-    c.args.self.now.shelf c.args.self.now.shelf away u at lawful quiet refl c.reply_of.new.self
+    c.args.self.now.shelf c.args.self.now.shelf away ts bytes v u at lawful quiet refl
+    c.reply_of.new.self
     f.1.tables in
-    answered away u words key_ok fits at1 free)) c.decide.result (c.decide.ensures.done h clean)
+    answered away ts bytes v u words key_ok fits at1 waits free)) c.decide.result
+    (c.decide.ensures.done h clean)
 
 pub returns-then-eq-clause-done : goal.returns-then-eq-clause-done
-returns-then-eq-clause-done g c h clean away u words key_ok fits at =
+returns-then-eq-clause-done g c h clean away ts bytes v u words key_ok fits at waits =
     let lawful = g.met.H.Shelf.lawful c.args.self.now.shelf h in
-    let l = (at.leads (g.H.Shelf.view c.args.self.now.shelf).seen lawful.holds_now).0 in
+    let l = seen_leads g.S.Store g.H.Shelf.view g.H.Shelf.size c.args.self.now.registry
+    c.args.self.now.shelf away ts bytes v u at lawful in
     let f = c.in-Ok-Some.ensures.found clean at.tables at.has in
     let row : IsKept at.tables c.args.key.now c.in-Ok-Some.number
     (string_bytes c.in-Ok-Some.kept) c.in-Ok-Some.reply =
@@ -91,7 +96,7 @@ returns-then-eq-clause-done g c h clean away u words key_ok fits at =
     let a = kept_answer u at.tables l.sound l.records c.args.key.now c.args.command.now
     c.in-Ok-Some.number (string_bytes c.in-Ok-Some.kept) c.in-Ok-Some.reply row in
     let here = still g.S.Store g.H.Shelf.view g.H.Shelf.size c.args.self.now.registry
-    c.args.self.now.shelf c.args.self.now.shelf away u at lawful
+    c.args.self.now.shelf c.args.self.now.shelf away ts bytes v u at lawful
     (quiet_itself (g.H.Shelf.view c.args.self.now.shelf)) refl c.reply_of.new.self f.1.tables in
     let same : string_bytes c.in-Ok-Some.kept ≡ c.args.words.now =
     sym c.as_str.ensures.value ∙ same_is c.as_str.result.now c.args.words.now
@@ -106,9 +111,10 @@ returns-then-eq-clause-done g c h clean away u words key_ok fits at =
     )
 
 pub returns-in-Ok-Some-clause-done : goal.returns-in-Ok-Some-clause-done
-returns-in-Ok-Some-clause-done g c h clean away u words key_ok fits at =
+returns-in-Ok-Some-clause-done g c h clean away ts bytes v u words key_ok fits at waits =
     let lawful = g.met.H.Shelf.lawful c.args.self.now.shelf h in
-    let l = (at.leads (g.H.Shelf.view c.args.self.now.shelf).seen lawful.holds_now).0 in
+    let l = seen_leads g.S.Store g.H.Shelf.view g.H.Shelf.size c.args.self.now.registry
+    c.args.self.now.shelf away ts bytes v u at lawful in
     let f = c.in-Ok-Some.ensures.found clean at.tables at.has in
     let row : IsKept at.tables c.args.key.now c.in-Ok-Some.number
     (string_bytes c.in-Ok-Some.kept) c.in-Ok-Some.reply =
@@ -118,7 +124,7 @@ returns-in-Ok-Some-clause-done g c h clean away u words key_ok fits at =
     let a = kept_answer u at.tables l.sound l.records c.args.key.now c.args.command.now
     c.in-Ok-Some.number (string_bytes c.in-Ok-Some.kept) c.in-Ok-Some.reply row in
     let here = still g.S.Store g.H.Shelf.view g.H.Shelf.size c.args.self.now.registry
-    c.args.self.now.shelf c.args.self.now.shelf away u at lawful
+    c.args.self.now.shelf c.args.self.now.shelf away ts bytes v u at lawful
     (quiet_itself (g.H.Shelf.view c.args.self.now.shelf)) refl c.reply_of.new.self f.1.tables in
     let other : string_bytes c.in-Ok-Some.kept ≢ c.args.words.now =
     λ e. true≢false

@@ -1,4 +1,6 @@
 use Rattle.std.proofs.Common.{Err, ap}
+use Rattle.gm_bench.specs.Accepting.{left_by}
+use Rattle.gm_bench.proofs.CarriedOut.{left_records}
 use Rattle.gm_bench.proofs.Causes.{fault_is}
 use Rattle.gm_bench.proofs.DecidesOnly.{ok_then}
 use Rattle.gm_bench.proofs.media.Media.ask.Goals as goal
@@ -9,8 +11,8 @@ returns-in_err-known-clause-readable g c clean is t s has records fits honest =
     c.from_residual.ensures.1 is)) t s has records
 
 pub returns-clause-decides : goal.returns-clause-decides
-returns-clause-decides g c h clean = ok_then _ _ (λ r decides away u at. (
-    let known = c.in_ok-known.ensures.known h clean away u at in
+returns-clause-decides g c h clean = ok_then _ _ (λ r decides away ts bytes v u at. (
+    let known = c.in_ok-known.ensures.known h clean away ts bytes v u at in
     (decides u known.0.part known.0.mirrors known.0.facts, known.1)))
     c.decide_on.result c.decide_on.ensures.decides
 
@@ -29,8 +31,9 @@ returns-clause-readable g c clean is t s has records fits honest =
     (known.0.itself honest)
 
 pub returns-clause-fits : goal.returns-clause-fits
-returns-clause-fits g c clean = ok_then _ _ (λ r fitting t s has records fits honest. (
+returns-clause-fits g c clean = ok_then _ _ (λ r fitting t s has records fits honest waiting. (
     let known = c.in_ok-known.ensures.serves clean t s has records in
     let of = known.2 honest in
-    fitting t s records of.part of.mirrors fits (known.0.itself honest)))
+    fitting (left_by waiting t) s (left_records waiting t s records) of.part of.mirrors fits
+    (known.0.itself honest)))
     c.decide_on.result c.decide_on.ensures.fits

@@ -6,10 +6,11 @@ use Rattle.gm_refusals.specs.Applies.{IsLeast}
 use Rattle.gm_refusals.specs.WorldFacts.{seen_of}
 use Rattle.gm_commands.specs.Commands.{words_of}
 use Rattle.gm_bench.specs.Calls.{most_rows}
-use Rattle.gm_bench.specs.Accepting.{LeavesStep, IsAnswered}
+use Rattle.gm_bench.specs.Accepting.{LeavesStep, IsAnswered, left_by}
 use Rattle.gm_bench.specs.Planning.{IsFitting, IsPlanned, IsDecided, IsPlanAtHand, IsPlanFitting}
 use Rattle.gm_bench.specs.Presence.{AreAtHand}
 use Rattle.gm_bench.proofs.CallAnswers.{least}
+use Rattle.gm_bench.proofs.CarriedOut.{seen_leads}
 use Rattle.gm_bench.proofs.Causes.{fault_is}
 use Rattle.gm_bench.proofs.DecidesOnly.{still, unstepped, then_step, ok_then}
 use Rattle.gm_bench.proofs.Phases.{with_done, with_hand}
@@ -17,7 +18,7 @@ use Rattle.gm_bench.proofs.StoreFails.{failed_later, goes_later, read_goes, room
 use Rattle.gm_bench.proofs.media.Media.choose.Goals as goal
 
 pub returns-in-Ok-clause-leaves : goal.returns-in-Ok-clause-leaves
-returns-in-Ok-clause-leaves g c h clean away u words at can =
+returns-in-Ok-clause-leaves g c h clean away ts bytes v u words at waits can =
     let view = g.H.Shelf.view in
     let size = g.H.Shelf.size in
     let lawful = g.met.H.Shelf.lawful c.args.self.now.shelf h in
@@ -26,63 +27,67 @@ returns-in-Ok-clause-leaves g c h clean away u words at can =
     let quiet = (c.ask.ensures.asks.only.reads h).quiet in
     let asked : DiskKept g.S.Store c.ask.new.self.registry =
     omega (arith, clean, c.commit.ensures.clean) in
-    let d = c.in_ok-planned.ensures.decides h asked away u at in
+    let d = c.in_ok-planned.ensures.decides h asked away ts bytes v u at in
     let planned : IsPlanned u c.args.command.now c.in-Ok.planned =
     subst (λ r. IsDecided u c.args.command.now r) c.in-Ok.is d.0 in
     let at1 = still g.S.Store view size c.args.self.now.registry c.args.self.now.shelf
-    c.ask.new.self.shelf away u at lawful quiet c.ask.ensures.asks.only.keeps.size
+    c.ask.new.self.shelf away ts bytes v u at lawful quiet c.ask.ensures.asks.only.keeps.size
     c.ask.new.self.registry
     d.1 in
-    let leaves = c.commit.ensures.leaves (c.ask.ensures.asks.only.keeps.honest h) clean away
-    c.args.command.now u
-    words at1 planned can in
+    let leaves = c.commit.ensures.leaves (c.ask.ensures.asks.only.keeps.honest h) clean away ts
+    bytes
+    c.args.command.now v u
+    words at1 waits planned can in
     subst (λ (k : g.row.H.Denot). LeavesStep g.S.Store view size c.args.self.now.registry
-    c.commit.new.self.registry c.args.self.now.shelf k away u c.args.key.now c.args.command.now)
+    c.commit.new.self.registry c.args.self.now.shelf k away v u c.args.key.now
+    c.args.command.now)
     (sym c.commit.ensures.shelf)
     (then_step g.S.Store view size c.args.self.now.registry c.args.self.now.shelf
-    c.ask.new.self.shelf away u at lawful quiet c.ask.ensures.asks.only.keeps.size
+    c.ask.new.self.shelf away ts bytes v u at lawful quiet c.ask.ensures.asks.only.keeps.size
     c.ask.new.self.registry
     c.commit.new.self.registry c.ask.new.self.shelf c.args.key.now c.args.command.now quiet only
     leaves)
 
 pub returns-in-Ok-clause-done : goal.returns-in-Ok-clause-done
-returns-in-Ok-clause-done g c h clean = ok_then _ _ (λ a told away u words at can. (
+returns-in-Ok-clause-done g c h clean = ok_then _ _ (λ a told away ts bytes v u words at waits can.
+    (
     let view = g.H.Shelf.view in
     let size = g.H.Shelf.size in
     let lawful = g.met.H.Shelf.lawful c.args.self.now.shelf h in
     let quiet = (c.ask.ensures.asks.only.reads h).quiet in
     let asked : DiskKept g.S.Store c.ask.new.self.registry =
     omega (arith, clean, c.commit.ensures.clean) in
-    let d = c.in_ok-planned.ensures.decides h asked away u at in
+    let d = c.in_ok-planned.ensures.decides h asked away ts bytes v u at in
     let planned : IsPlanned u c.args.command.now c.in-Ok.planned =
     subst (λ r. IsDecided u c.args.command.now r) c.in-Ok.is d.0 in
     let at1 = still g.S.Store view size c.args.self.now.registry c.args.self.now.shelf
-    c.ask.new.self.shelf away u at lawful quiet c.ask.ensures.asks.only.keeps.size
+    c.ask.new.self.shelf away ts bytes v u at lawful quiet c.ask.ensures.asks.only.keeps.size
     c.ask.new.self.registry
     d.1 in
-    subst (λ (k : g.row.H.Denot). IsAnswered g.S.Store view size c.commit.new.self.registry k away u
-    c.args.key.now c.args.command.now a) (sym c.commit.ensures.shelf)
-    (told away c.args.command.now u words at1 planned can)))
+    subst (λ (k : g.row.H.Denot). IsAnswered g.S.Store view size c.commit.new.self.registry k away
+    ts bytes v u c.args.key.now c.args.command.now a) (sym c.commit.ensures.shelf)
+    (told away ts bytes c.args.command.now v u words at1 waits planned can)))
     c.commit.result (c.commit.ensures.done (c.ask.ensures.asks.only.keeps.honest h) clean)
 
 pub returns-in-Err-clause-leaves : goal.returns-in-Err-clause-leaves
-returns-in-Err-clause-leaves g c h clean away u words at can =
+returns-in-Err-clause-leaves g c h clean away ts bytes v u words at waits can =
     unstepped g.S.Store g.H.Shelf.view g.H.Shelf.size c.args.self.now.registry c.args.self.now.shelf
-    c.ask.new.self.shelf away u at (g.met.H.Shelf.lawful c.args.self.now.shelf h)
+    c.ask.new.self.shelf away ts bytes v u at (g.met.H.Shelf.lawful c.args.self.now.shelf h)
     (c.ask.ensures.asks.only.reads h).quiet c.ask.ensures.asks.only.keeps.size
     c.ask.new.self.registry c.args.key.now c.args.command.now
     (saved g.S.Store g.met.S.Store.settled c.args.self.now.registry at.tables at.has).crash
     clean (c.ask.ensures.asks.store.left at.tables at.has)
 
 pub returns-in-Err-clause-done : goal.returns-in-Err-clause-done
-returns-in-Err-clause-done g c h clean away u words at can =
+returns-in-Err-clause-done g c h clean away ts bytes v u words at waits can =
     let lawful = g.met.H.Shelf.lawful c.args.self.now.shelf h in
-    let d = c.in_ok-planned.ensures.decides h clean away u at in
-    let l = (at.leads (g.H.Shelf.view c.args.self.now.shelf).seen lawful.holds_now).0 in
+    let d = c.in_ok-planned.ensures.decides h clean away ts bytes v u at in
+    let l = seen_leads g.S.Store g.H.Shelf.view g.H.Shelf.size c.args.self.now.registry
+    c.args.self.now.shelf away ts bytes v u at lawful in
     let least_is : IsLeast u.state (seen_of u) c.args.command.now c.in-Err.refusal =
     subst (λ r. IsDecided u c.args.command.now r) c.in-Err.is d.0 in
     let at1 = still g.S.Store g.H.Shelf.view g.H.Shelf.size c.args.self.now.registry
-    c.args.self.now.shelf c.ask.new.self.shelf away u at lawful
+    c.args.self.now.shelf c.ask.new.self.shelf away ts bytes v u at lawful
     (c.ask.ensures.asks.only.reads h).quiet c.ask.ensures.asks.only.keeps.size
     c.ask.new.self.registry d.1 in (
       least u at.tables l.sound l.records c.args.key.now c.args.command.now can.key_ok can.free
@@ -91,9 +96,9 @@ returns-in-Err-clause-done g c h clean away u words at can =
     )
 
 pub returns-in_err-planned-clause-leaves : goal.returns-in_err-planned-clause-leaves
-returns-in_err-planned-clause-leaves g c h clean away u words at can =
+returns-in_err-planned-clause-leaves g c h clean away ts bytes v u words at waits can =
     unstepped g.S.Store g.H.Shelf.view g.H.Shelf.size c.args.self.now.registry c.args.self.now.shelf
-    c.ask.new.self.shelf away u at (g.met.H.Shelf.lawful c.args.self.now.shelf h)
+    c.ask.new.self.shelf away ts bytes v u at (g.met.H.Shelf.lawful c.args.self.now.shelf h)
     (c.ask.ensures.asks.only.reads h).quiet c.ask.ensures.asks.only.keeps.size
     c.ask.new.self.registry c.args.key.now c.args.command.now
     (saved g.S.Store g.met.S.Store.settled c.args.self.now.registry at.tables at.has).crash
@@ -148,13 +153,15 @@ returns-in-Ok-clause-store g c words key_ok fits clean is t s has records such r
     let asked : DiskKept g.S.Store c.ask.new.self.registry =
     omega (arith, clean, c.commit.ensures.clean) in
     let at = (c.in_ok-planned.ensures.at_hand asked t s has records).0 in
-    let planned : IsFitting c.in-Ok.planned.change (words_of c.args.command.now) t =
-    subst (λ r. IsPlanFitting c.args.command.now t r) c.in-Ok.is
-    (c.in_ok-planned.ensures.fits asked t s has records fits honest) in
+    let planned : IsFitting c.in-Ok.planned.change (words_of c.args.command.now)
+    (left_by c.args.waiting t) =
+    subst (λ r. IsPlanFitting c.args.command.now (left_by c.args.waiting t) r) c.in-Ok.is
+    (c.in_ok-planned.ensures.fits asked t s has records fits honest c.args.waiting) in
     failed_later g.S.Store c.args.self.now.registry c.ask.new.self.registry t
     c.ask.ensures.asks.store has at c.commit.new.self.registry
     (c.commit.ensures.store clean is t at such.1 key_ok such.2 such.0
-    (subst (λ (w : List ℕ). IsFitting c.in-Ok.planned.change w t) (sym words) planned)
+    (subst (λ (w : List ℕ). IsFitting c.in-Ok.planned.change w (left_by c.args.waiting t)) (sym
+    words) planned)
     (room_later g.S.Store c.args.self.now.registry c.ask.new.self.registry t
     c.ask.ensures.asks.store has at most_rows asked room))
 

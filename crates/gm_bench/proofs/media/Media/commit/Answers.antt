@@ -1,37 +1,56 @@
-use Rattle.std.proofs.Common.{◌≡◌, ◌∙◌, ◌≤◌, ◌+◌, arith, length, sym}
-use Rattle.gm_registry.specs.Registry.{seen}
-use Rattle.gm_state.specs.Rows.{joined}
+use Rattle.std.proofs.Common.{◌≡◌, ◌∙◌, ◌≤◌, ◌+◌, arith, length, subst, sym}
+use Rattle.gm_registry.specs.Changes.{with_accepted}
+use Rattle.gm_registry.specs.Registry.{HasSaved, MayLeave, seen}
+use Rattle.gm_state.specs.Rows.{Tables}
 use Rattle.gm_bench.specs.declared.fault.BenchFault.TheVariants.{Store}
 use Rattle.gm_bench.specs.Calls.{most_rows}
 use Rattle.gm_bench.proofs.Causes.{of_failed}
-use Rattle.gm_bench.proofs.FittingPlans.{fits_with}
+use Rattle.gm_bench.proofs.CarriedOut.{left_settled}
+use Rattle.gm_bench.proofs.FittingPlans.{fits_left}
 use Rattle.gm_registry.proofs.StepsInTurn.{less_room}
 use Rattle.gm_registry.proofs.CallsLeave.{saved}
 use Rattle.gm_bench.proofs.Commits.{commit_leaves, commit_done}
 use Rattle.gm_bench.proofs.media.Media.commit.Goals as goal
 
 pub returns-in-Ok-clause-leaves : goal.returns-in-Ok-clause-leaves
-returns-in-Ok-clause-leaves g c h clean away cmd u words at planned can =
-    commit_leaves g.S.Store g.H.Shelf.view g.H.Shelf.size c.args.self.now.registry c.accept.new.self
-    c.args.self.now.shelf away u c.args.key.now cmd c.args.planned c.args.words.now words
+returns-in-Ok-clause-leaves g c h clean away ts bytes cmd v u words at waits planned can =
+    commit_leaves g.S.Store g.H.Shelf.view g.H.Shelf.size c.args.self.now.registry
+    c.write.new.self.registry c.args.self.now.shelf away ts bytes v u c.args.key.now cmd
+    c.args.planned c.args.words.now words
     (g.met.H.Shelf.lawful c.args.self.now.shelf h) at planned can
     (saved g.S.Store g.met.S.Store.settled c.args.self.now.registry at.tables at.has).crash
-    clean (c.accept.ensures.writes.left at.tables at.has)
+    clean (subst (λ (t : Tables). MayLeave g.S.Store c.args.self.now.registry
+    c.write.new.self.registry (with_accepted c.args.planned.change c.args.key.now
+    c.args.words.now t)) (left_settled g.S.Store g.H.Shelf.view g.H.Shelf.size
+    c.args.self.now.registry c.args.self.now.shelf away ts bytes v u at
+    (g.met.H.Shelf.lawful c.args.self.now.shelf h) c.args.waiting waits)
+    (c.write.ensures.writes.left at.tables at.has))
 
 pub returns-in-Err-clause-leaves : goal.returns-in-Err-clause-leaves
-returns-in-Err-clause-leaves g c h clean away cmd u words at planned can =
-    commit_leaves g.S.Store g.H.Shelf.view g.H.Shelf.size c.args.self.now.registry c.accept.new.self
-    c.args.self.now.shelf away u c.args.key.now cmd c.args.planned c.args.words.now words
+returns-in-Err-clause-leaves g c h clean away ts bytes cmd v u words at waits planned can =
+    commit_leaves g.S.Store g.H.Shelf.view g.H.Shelf.size c.args.self.now.registry
+    c.write.new.self.registry c.args.self.now.shelf away ts bytes v u c.args.key.now cmd
+    c.args.planned c.args.words.now words
     (g.met.H.Shelf.lawful c.args.self.now.shelf h) at planned can
     (saved g.S.Store g.met.S.Store.settled c.args.self.now.registry at.tables at.has).crash
-    clean (c.accept.ensures.writes.left at.tables at.has)
+    clean (subst (λ (t : Tables). MayLeave g.S.Store c.args.self.now.registry
+    c.write.new.self.registry (with_accepted c.args.planned.change c.args.key.now
+    c.args.words.now t)) (left_settled g.S.Store g.H.Shelf.view g.H.Shelf.size
+    c.args.self.now.registry c.args.self.now.shelf away ts bytes v u at
+    (g.met.H.Shelf.lawful c.args.self.now.shelf h) c.args.waiting waits)
+    (c.write.ensures.writes.left at.tables at.has))
 
 pub returns-in-Ok-clause-done : goal.returns-in-Ok-clause-done
-returns-in-Ok-clause-done g c h clean away cmd u words at planned can =
+returns-in-Ok-clause-done g c h clean away ts bytes cmd v u words at waits planned can =
     let number = c.in-Ok.ensures.accepts.number clean at.tables at.has in
-    let saved_now = c.in-Ok.ensures.writes.done clean at.tables at.has in
-    commit_done g.S.Store g.H.Shelf.view g.H.Shelf.size c.args.self.now.registry c.accept.new.self
-    c.args.self.now.shelf away u c.args.key.now cmd c.args.planned c.args.words.now words
+    let saved_now = subst (λ (t : Tables). HasSaved g.S.Store c.write.new.self.registry
+    (with_accepted c.args.planned.change c.args.key.now c.args.words.now t))
+    (left_settled g.S.Store g.H.Shelf.view g.H.Shelf.size c.args.self.now.registry
+    c.args.self.now.shelf away ts bytes v u at (g.met.H.Shelf.lawful c.args.self.now.shelf h)
+    c.args.waiting waits) (c.in-Ok.ensures.writes.done clean at.tables at.has) in
+    commit_done g.S.Store g.H.Shelf.view g.H.Shelf.size c.args.self.now.registry
+    c.write.new.self.registry c.args.self.now.shelf away ts bytes v u c.args.key.now cmd
+    c.args.planned c.args.words.now words
     (g.met.H.Shelf.lawful c.args.self.now.shelf h) at planned can c.in-Ok.number c.reply.result
     c.reply.ensures number saved_now
 
@@ -44,13 +63,9 @@ returns-in-Err-clause-store g c clean is t has room_left key_ok free none fits r
     let fault : c.of_store.result ≡ Store = cc in
     let ch = c.args.planned.change in
     let few : length ch.components ≤ 16 = fits.few_put in
-    let written : length ch.intents ≤ 48 = fits.few_written in
-    let laid : length (joined ch.bytes) ≤ 32768 = fits.few_laid in
     c.in-Err.ensures.accepts.store clean (of_failed c.in-Err.fault
     (sym c.of_store.ensures.value ∙ fault)) t has room_left fits.reply
-    (fits_with ch ch.intents ch.bytes c.args.key.now c.args.words.now t fits
-    (omega (arith, written))
-    (omega (arith, laid)) none key_ok free)
+    (fits_left c.args.waiting ch c.args.key.now c.args.words.now t fits none key_ok free)
     (less_room (length ch.components + 2) most_rows (seen g.S.Store c.args.self.now.registry)
     (omega (arith, few)) room)
 
@@ -58,6 +73,6 @@ pub returns-in-Ok-clause-goes_on : goal.returns-in-Ok-clause-goes_on
 returns-in-Ok-clause-goes_on g c clean t has = record {
   tables = _;
   has = (c.in-Ok.ensures.writes.done clean t has).tables;
-  counts = (c.accept.ensures.writes.left t has).counts;
-  limit = (c.accept.ensures.writes.left t has).limit;
+  counts = (c.write.ensures.writes.left t has).counts;
+  limit = (c.write.ensures.writes.left t has).limit;
 }

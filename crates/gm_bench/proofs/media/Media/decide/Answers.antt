@@ -6,6 +6,7 @@ use Rattle.gm_registry.specs.Replies.{count_of}
 use Rattle.gm_registry.proofs.CallsLeave.{saved}
 use Rattle.gm_shelf.specs.Disk.{IsQuiet}
 use Rattle.gm_bench.proofs.CallAnswers.{as_many, free_key, too_many}
+use Rattle.gm_bench.proofs.CarriedOut.{seen_leads}
 use Rattle.gm_bench.proofs.Causes.{fault_is}
 use Rattle.gm_bench.proofs.DecidesOnly.{nothing_then, quiet_same, still, unstepped, then_step, ok_then, many_of, room_of, reads_then}
 use Rattle.gm_bench.specs.Calls.{most_rows}
@@ -15,9 +16,9 @@ use Rattle.gm_bench.proofs.StoreFails.{failed_later, goes_later, room_later}
 use Rattle.gm_bench.proofs.media.Media.decide.Goals as goal
 
 pub returns-then-branch-clause-leaves : goal.returns-then-branch-clause-leaves
-returns-then-branch-clause-leaves g c h clean away u words key_ok fits at free =
+returns-then-branch-clause-leaves g c h clean away ts bytes v u words key_ok fits at waits free =
     unstepped g.S.Store g.H.Shelf.view g.H.Shelf.size c.args.self.now.registry c.args.self.now.shelf
-    c.is_full.new.self.shelf away u at (g.met.H.Shelf.lawful c.args.self.now.shelf h)
+    c.is_full.new.self.shelf away ts bytes v u at (g.met.H.Shelf.lawful c.args.self.now.shelf h)
     (quiet_same g.H.Shelf.view c.args.self.now.shelf c.is_full.new.self.shelf
     c.is_full.ensures.shelf) (ap g.H.Shelf.size c.is_full.ensures.shelf)
     c.is_full.new.self.registry c.args.key.now c.args.command.now
@@ -25,9 +26,10 @@ returns-then-branch-clause-leaves g c h clean away u words key_ok fits at free =
     clean (c.is_full.ensures.reads.left at.tables at.has)
 
 pub returns-then-branch-clause-done : goal.returns-then-branch-clause-done
-returns-then-branch-clause-done g c h clean away u words key_ok fits at free =
+returns-then-branch-clause-done g c h clean away ts bytes v u words key_ok fits at waits free =
     let lawful = g.met.H.Shelf.lawful c.args.self.now.shelf h in
-    let l = (at.leads (g.H.Shelf.view c.args.self.now.shelf).seen lawful.holds_now).0 in
+    let l = seen_leads g.S.Store g.H.Shelf.view g.H.Shelf.size c.args.self.now.registry
+    c.args.self.now.shelf away ts bytes v u at lawful in
     let no_key = free_key u at.tables l.sound l.records c.args.key.now c.args.command.now free in
     let told = c.in_ok-is_full.ensures.told clean at.tables at.has in
     let many = as_many u at.tables l.sound l.records c.args.key.now c.args.command.now in
@@ -36,18 +38,19 @@ returns-then-branch-clause-done g c h clean away u words key_ok fits at free =
       too_many u at.tables l.sound l.records c.args.key.now c.args.command.now key_ok no_key
           (omega (arith, many, much)),
       still g.S.Store g.H.Shelf.view g.H.Shelf.size c.args.self.now.registry c.args.self.now.shelf
-          c.is_full.new.self.shelf away u at lawful
+          c.is_full.new.self.shelf away ts bytes v u at lawful
           (quiet_same g.H.Shelf.view c.args.self.now.shelf c.is_full.new.self.shelf
           c.is_full.ensures.shelf) (ap g.H.Shelf.size c.is_full.ensures.shelf)
           c.is_full.new.self.registry told.1,
     )
 
 pub returns-clause-leaves : goal.returns-clause-leaves
-returns-clause-leaves g c h clean away u words key_ok fits at free =
+returns-clause-leaves g c h clean away ts bytes v u words key_ok fits at waits free =
     let view = g.H.Shelf.view in
     let size = g.H.Shelf.size in
     let lawful = g.met.H.Shelf.lawful c.args.self.now.shelf h in
-    let l = (at.leads (g.H.Shelf.view c.args.self.now.shelf).seen lawful.holds_now).0 in
+    let l = seen_leads g.S.Store g.H.Shelf.view g.H.Shelf.size c.args.self.now.registry
+    c.args.self.now.shelf away ts bytes v u at lawful in
     let no_key = free_key u at.tables l.sound l.records c.args.key.now c.args.command.now free in
     let counted : DiskKept g.S.Store c.is_full.new.self.registry =
     omega (arith, clean, c.choose.ensures.accepts.clean) in
@@ -62,26 +65,28 @@ returns-clause-leaves g c h clean away u words key_ok fits at free =
     c.is_full.ensures.shelf in
     let same = ap size c.is_full.ensures.shelf in
     let at1 = still g.S.Store view size c.args.self.now.registry c.args.self.now.shelf
-    c.is_full.new.self.shelf away u at lawful quiet same c.is_full.new.self.registry told.1 in
+    c.is_full.new.self.shelf away ts bytes v u at lawful quiet same c.is_full.new.self.registry
+    told.1 in
     let h1 = subst g.H.Shelf.honest (sym c.is_full.ensures.shelf) h in
     let all : IsQuiet (view c.args.self.now.shelf) (view c.choose.new.self.shelf) =
     subst (λ (k : g.row.H.Denot). IsQuiet (g.H.Shelf.view k)
     (g.H.Shelf.view c.choose.new.self.shelf)) c.is_full.ensures.shelf
     (c.choose.ensures.accepts.only.reads h1).quiet in
     then_step g.S.Store view size c.args.self.now.registry c.args.self.now.shelf
-    c.is_full.new.self.shelf away u at lawful quiet same c.is_full.new.self.registry
+    c.is_full.new.self.shelf away ts bytes v u at lawful quiet same c.is_full.new.self.registry
     c.choose.new.self.registry c.choose.new.self.shelf c.args.key.now c.args.command.now all
     (saved g.S.Store g.met.S.Store.settled c.args.self.now.registry at.tables at.has).crash
-    (c.choose.ensures.leaves h1 clean away u words at1 can)
+    (c.choose.ensures.leaves h1 clean away ts bytes v u words at1 waits can)
 
 pub returns-clause-done : goal.returns-clause-done
 returns-clause-done g c h clean =
     let h1 = subst g.H.Shelf.honest (sym c.is_full.ensures.shelf) h in
-    ok_then _ _ (λ a answered away u words key_ok fits at free. (
+    ok_then _ _ (λ a answered away ts bytes v u words key_ok fits at waits free. (
     let view = g.H.Shelf.view in
     let size = g.H.Shelf.size in
     let lawful = g.met.H.Shelf.lawful c.args.self.now.shelf h in
-    let l = (at.leads (g.H.Shelf.view c.args.self.now.shelf).seen lawful.holds_now).0 in
+    let l = seen_leads g.S.Store g.H.Shelf.view g.H.Shelf.size c.args.self.now.registry
+    c.args.self.now.shelf away ts bytes v u at lawful in
     let no_key = free_key u at.tables l.sound l.records c.args.key.now c.args.command.now free in
     let counted : DiskKept g.S.Store c.is_full.new.self.registry =
     omega (arith, clean, c.choose.ensures.accepts.clean) in
@@ -96,13 +101,15 @@ returns-clause-done g c h clean =
     c.is_full.ensures.shelf in
     let same = ap size c.is_full.ensures.shelf in
     let at1 = still g.S.Store view size c.args.self.now.registry c.args.self.now.shelf
-    c.is_full.new.self.shelf away u at lawful quiet same c.is_full.new.self.registry told.1 in
-    answered away u words at1 can)) c.choose.result (c.choose.ensures.done h1 clean)
+    c.is_full.new.self.shelf away ts bytes v u at lawful quiet same c.is_full.new.self.registry
+    told.1 in
+    answered away ts bytes v u words at1 waits can)) c.choose.result (c.choose.ensures.done h1
+    clean)
 
 pub returns-in_err-is_full-clause-leaves : goal.returns-in_err-is_full-clause-leaves
-returns-in_err-is_full-clause-leaves g c h clean away u words key_ok fits at free =
+returns-in_err-is_full-clause-leaves g c h clean away ts bytes v u words key_ok fits at waits free =
     unstepped g.S.Store g.H.Shelf.view g.H.Shelf.size c.args.self.now.registry c.args.self.now.shelf
-    c.is_full.new.self.shelf away u at (g.met.H.Shelf.lawful c.args.self.now.shelf h)
+    c.is_full.new.self.shelf away ts bytes v u at (g.met.H.Shelf.lawful c.args.self.now.shelf h)
     (quiet_same g.H.Shelf.view c.args.self.now.shelf c.is_full.new.self.shelf
     c.is_full.ensures.shelf) (ap g.H.Shelf.size c.is_full.ensures.shelf)
     c.is_full.new.self.registry c.args.key.now c.args.command.now

@@ -27,7 +27,7 @@ returns-in_err-part-clause-readable g c clean is t s has records =
     c.from_residual-in_err-part.ensures.1 is)) t s has1 records
 
 pub returns-clause-known : goal.returns-clause-known
-returns-clause-known g c h clean away u at =
+returns-clause-known g c h clean away ts bytes v u at =
     let view = g.H.Shelf.view in
     let size = g.H.Shelf.size in
     let shelf = c.args.self.now.shelf in
@@ -41,7 +41,8 @@ returns-clause-known g c h clean away u at =
     let has : HasTables g.S.Store c.look_at.new.self.registry at.tables =
     subst (λ (k : Held g.row.S.Denot). HasTables g.S.Store k at.tables)
     (sym c.look_at.ensures.registry) at.has in
-    let records = are_records g.S.Store view size c.args.self.now.registry shelf away u at
+    let records = are_records g.S.Store view size c.args.self.now.registry shelf away ts bytes v u
+    at
     (g.met.H.Shelf.lawful shelf h) in
     let clean1 : DiskKept g.S.Store c.part.new.self.registry =
     subst (λ (k : Held g.row.S.Denot). DiskKept g.S.Store k) c.look.ensures.registry clean in
@@ -66,7 +67,7 @@ returns-clause-known g c h clean away u at =
     subst (λ (k : g.row.H.Denot). (s : Records) → IsPartOf part command s → (q : List ℕ)
     → Has (needed_by s command) q → Tell facts (size k) (view k).seen against q)
     c.part.ensures.shelf (c.in_ok-facts.ensures.tell h2) in
-    let both = gathered g.S.Store view size c.args.self.now.registry shelf away u at
+    let both = gathered g.S.Store view size c.args.self.now.registry shelf away ts bytes v u at
     (g.met.H.Shelf.lawful shelf h) first facts command part against source
     (known.0.state ∙ ap (part_of u.state command) mids) before
     (λ s of q k. tell_moved (size shelf) (size read) (view shelf).seen

@@ -1,0 +1,114 @@
+-- A bench whose pending intents are done: without them its tables lead to the same world.
+use Rattle.std.proofs.Common.{◌≡◌, ◌∙◌, ℕ, List, [], refl, sym, ap, subst}
+use Rattle.std.specs.List.Sorted.{IsPermutation}
+use Rattle.sqlite_trees.specs.declared.store.Store.{Ghosts}
+use Rattle.sqlite.specs.Held.{Held}
+use Rattle.gm_metadata.specs.Images.{Image, Sizes}
+use Rattle.gm_shelf.specs.Disk.{View, IsLawful}
+use Rattle.gm_state.specs.declared.intents.Intent.{Intent}
+use Rattle.gm_state.specs.Records.{Records}
+use Rattle.gm_state.specs.Rows.{Tables, HoldRecords, intent_rows, patch_rows}
+use Rattle.gm_state.specs.World.{World}
+use Rattle.gm_rows.specs.ReadableTables.{AreRecordsOf}
+use Rattle.gm_registry.specs.Changes.{settled}
+use Rattle.gm_bench.specs.declared.phase.Waiting.{Waiting}
+use Rattle.gm_bench.specs.declared.phase.Waiting.TheVariants.{Nothing, Done}
+use Rattle.gm_bench.specs.Accepting.{HasNothingElse, WaitsFor, left_by}
+use Rattle.gm_bench.specs.Calls.{HasNothingPending}
+use Rattle.gm_bench.specs.Leading.{AreAmong, whole, Leads}
+use Rattle.gm_bench.specs.Recovering.{IsAt, IsCarriedOut, IsShelfOf}
+use Rattle.gm_bench.proofs.CommitLeadsOn.{no_rows}
+use Rattle.gm_bench.proofs.ShelfProviders.{masked, there_full, whole_there}
+use Rattle.gm_bench.proofs.WorldAtRest.{at_rest, rest_leads, whole_rest}
+
+settled_records : (w : World) (t : Tables) → HoldRecords w t → HoldRecords w (settled t)
+settled_records w t r = record {
+  mirrors = r.mirrors;
+  components = r.components;
+  commands = r.commands;
+}
+
+-- if no intent is pending, nothing waits to be settled
+pub waits_none : (waiting : Waiting) → WaitsFor waiting [] []
+waits_none Nothing = (refl, refl)
+waits_none Done = tt
+
+pub nothing_else : (waiting : Waiting) (t : Tables) → HasNothingPending t
+    → HasNothingElse waiting t
+nothing_else Nothing t none = none
+nothing_else Done t none = tt
+
+-- the records are as well those of the tables that a command is accepted on
+pub left_records : (waiting : Waiting) (t : Tables) (s : Records) → AreRecordsOf t s
+    → AreRecordsOf (left_by waiting t) s
+left_records Nothing t s are = are
+left_records Done t s are = record {
+  state = are.state;
+  rows = record { mirrors = are.rows.mirrors; components = are.rows.components };
+}
+
+module _ {S H : Type 0} (g : Ghosts S) (view : H → View) (size : H → Sizes) (r : Held S) (h : H)
+    (away : Image) where
+  module _ (ts : List Intent) (bytes : List (List ℕ)) (u w : World) where
+    abbrev pub carried_out : IsAt g view size r h away ts bytes u w
+        → IsShelfOf (view h) w (size h) → IsCarriedOut g view size r h away ts bytes u w
+    carried_out at shelf = record {
+      tables = at.tables;
+      has = at.has;
+      sizes = at.sizes;
+      at_hand = at.at_hand;
+      leads = at.leads;
+      shelf = shelf;
+    }
+
+    abbrev pub at_of : IsCarriedOut g view size r h away ts bytes u w
+        → IsAt g view size r h away ts bytes u w
+    at_of at = record {
+      tables = at.tables;
+      has = at.has;
+      sizes = at.sizes;
+      at_hand = at.at_hand;
+      leads = at.leads;
+    }
+
+    module _ (at : IsCarriedOut g view size r h away ts bytes u w) (lawful : IsLawful (view h))
+      where
+        pub seen_leads : Leads at.tables ts bytes (whole (size h) away (view h).seen) w
+        seen_leads = (at.leads (view h).seen lawful.holds_now).0
+
+        mask : AreAmong (size h) w.size
+        mask = masked w (size h) at.sizes
+
+        pub settled_leads : (x : Image) → (view h).may_leave x
+            → Leads (settled at.tables) [] [] (whole (size h) away x) w
+        settled_leads x left =
+            rest_leads (settled at.tables) (whole (size h) away x) w seen_leads.sound
+            (settled_records w at.tables seen_leads.records) refl refl
+            (whole_rest at.tables ts bytes (size h) away (view h).seen x w mask at.at_hand
+            seen_leads
+            (at.shelf x left))
+
+        pub left_settled : (waiting : Waiting) → WaitsFor waiting ts bytes
+            → left_by waiting at.tables ≡ settled at.tables
+        left_settled Nothing none =
+            let rows : IsPermutation (intent_rows 1 []) at.tables.intents =
+            subst (λ (l : List Intent). IsPermutation (intent_rows 1 l) at.tables.intents) none.0
+            seen_leads.intents in
+            let intents : at.tables.intents ≡ [] = no_rows at.tables rows in
+            let patches : at.tables.patches ≡ [] = seen_leads.patches ∙ ap patch_rows none.1 in
+            λ i. record at.tables { intents = intents i; patches = patches i }
+        left_settled Done none = refl
+
+  -- at rest the shelf is the world's
+  abbrev pub done_at_rest : (u : World) → IsAt g view size r h away [] [] u u
+      → IsCarriedOut g view size r h away [] [] u u
+  done_at_rest u at = record {
+    tables = at.tables;
+    has = at.has;
+    sizes = at.sizes;
+    at_hand = at.at_hand;
+    leads = at.leads;
+    shelf = λ x left q there j. sym (whole_there (size h) away x q there j)
+        ∙ at_rest at.tables (whole (size h) away x) u (at.leads x left).0 q
+        (there_full (size h) u.size (masked u (size h) at.sizes) q there) j;
+  }

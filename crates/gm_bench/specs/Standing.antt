@@ -1,0 +1,69 @@
+-- Which world a bench stands for that takes a command: at rest, or with work that is carried out
+-- and still to be settled; and what a command comes to that is handed in then.
+use Rattle.std.specs.Prelude.{◌≡◌, ◌⊎◌, ℕ, List, []}
+use Rattle.sqlite_trees.specs.declared.store.Store.{Ghosts}
+use Rattle.sqlite.specs.Held.{Held}
+use Rattle.gm_metadata.specs.Images.{Image, Sizes}
+use Rattle.gm_shelf.specs.Disk.{View}
+use Rattle.gm_commands.specs.declared.command.Command.{Command}
+use Rattle.gm_state.specs.World.{World}
+use Rattle.gm_rules.specs.AbstractCalls as run
+use Rattle.gm_bench.specs.declared.answer.Answer.{Answer}
+use Rattle.gm_bench.specs.declared.answer.Answer.TheVariants.{Done, Repeated, Refused}
+use Rattle.gm_bench.specs.declared.phase.Progress.{Progress}
+use Rattle.gm_bench.specs.declared.phase.Progress.TheVariants.{Ready, Pending, Applied, Failed}
+use Rattle.gm_bench.specs.Accepting.{LeavesStep}
+use Rattle.gm_bench.specs.Owed.{LeavesRun}
+use Rattle.gm_bench.specs.Recovering.{IsAt, IsAtWork, IsShelfOf, LeavesOnly}
+
+module _ {S H : Type 0} (g : Ghosts S) (view : H → View) (size : H → Sizes) where
+  -- A bench that is so far stands for the world u; v is the world before the command that is still
+  -- to be settled, or u itself. One that failed stands for a world only if its media are at rest.
+  abbrev pub Stands : Progress → Held S → H → Image → World → World → Type 0
+  Stands Ready r h away v u = (v ≡ u) × IsAt g view size r h away [] [] u u
+  Stands (Pending work) r h away v u = ⊥
+  Stands (Applied work) r h away v u =
+      IsAtWork g view size r h away work v u × IsShelfOf (view h) u (size h)
+  Stands Failed r h away v u = (v ≡ u) × IsAt g view size r h away [] [] u u
+
+  -- A command was accepted and carried out, from r and h to s and k: a stop until some point leaves
+  -- what led from v to u, or the step to w, and after that point what leads to w.
+  pub record Carries (r s : Held S) (h k : H) (away : Image) (v u w : World) (key : List ℕ)
+      (c : Command) : Type 0 where
+    pub registry : Held S
+    pub shelf : H
+    pub sizes : size shelf ≡ size h
+    pub accepting : LeavesStep g view size r registry h shelf away v u key c
+    pub carrying : LeavesOnly g view size registry s shelf k away u w
+
+  -- What a command comes to that is handed in to a bench that stands for u, from r and h to s and
+  -- k: the answer is the abstract bench's. If it is done, the bench stands for the world of the
+  -- step; else it stands for u as before.
+  abbrev pub IsHandedIn : Progress → Held S → Held S → H → H → Image → World → World → List ℕ
+      → Command → Answer → Type 0
+  IsHandedIn p r s h k away v u key c (Done n reply) =
+      (w : World) × run.Calls u (record { key = key; command = c }) w (run.Done n reply)
+      × Carries r s h k away v u w key c × Stands p s k away u w
+  IsHandedIn p r s h k away v u key c (Repeated n reply) =
+      run.Calls u (record { key = key; command = c }) u (run.Repeated n reply)
+      × LeavesStep g view size r s h k away v u key c × Stands p s k away v u
+  IsHandedIn p r s h k away v u key c (Refused why) =
+      run.Calls u (record { key = key; command = c }) u (run.Refused why)
+      × LeavesStep g view size r s h k away v u key c × Stands p s k away v u
+
+  -- A command was found repeated or refused, and then what waited was settled: a stop leaves what
+  -- led from v to u.
+  pub record SettlesAfter (r s : Held S) (h k : H) (away : Image) (v u : World) (key : List ℕ)
+      (c : Command) : Type 0 where
+    pub registry : Held S
+    pub shelf : H
+    pub sizes : size shelf ≡ size h
+    pub accepting : LeavesStep g view size r registry h shelf away v u key c
+    pub settling : LeavesOnly g view size registry s shelf k away v u
+
+  -- a stop within a command that is handed in and then settled, or within the settling of the last
+  -- one after it
+  abbrev pub LeavesNext : Held S → Held S → H → H → Image → World → World → List ℕ → Command
+      → Type 0
+  LeavesNext r s h k away v u key c =
+      LeavesRun g view size r s h k away v u key c ⊎ SettlesAfter r s h k away v u key c

@@ -1,0 +1,93 @@
+//! Commands that are handed in one after another: each settles the one before it.
+
+ghost use Rattle.std.specs.Prelude.{◌≡◌, ◌≢◌, ◌<◌, [], IfOk, OnOk, OnErr};
+ghost use Rattle.gm_metadata.specs.Images.{Image};
+ghost use Rattle.gm_state.specs.World.{World};
+ghost use Rattle.gm_registry.specs.Registry.{DiskKept};
+ghost use Rattle.gm_bench.specs.Benches.{progress_of, registry_of, shelf_of};
+ghost use Rattle.gm_bench.specs.Calls.{ClosesOnFault, HandsInByRows, RunsOnce, Settles, TellsStore};
+ghost use Rattle.gm_bench.specs.Owed.{LeavesRun};
+ghost use Rattle.gm_bench.specs.Phases.{TakesNext, phase_carried, phase_of};
+ghost use Rattle.gm_bench.specs.Recovering.{IsAt, LeavesOnly};
+ghost use Rattle.gm_bench.specs.Standing.{IsHandedIn, Stands};
+
+use crate::answer::Answer;
+use crate::bench::Bench;
+use crate::fault::BenchFault;
+use crate::phase::{Phase, Progress};
+use gm_commands::Command;
+use gm_shelf::Shelf;
+use sqlite::Alter;
+use std::alloc::Global;
+
+impl<S: Alter, H: Shelf> Bench<S, H> {
+    /// `accept` and `apply` in turn, in phase Ready or Applied: what is done is then still to be
+    /// settled, by the next command or by `settle_waiting`. What was accepted before a fault is
+    /// carried out by the next opening.
+    pub fn hand_in(
+        &mut self,
+        alloc: Global,
+        key: &str,
+        command: &Command,
+    ) -> Result<Answer, BenchFault>
+        requires { TakesNext (progress_of self.old) }
+        ensures answers { H.honest (shelf_of self.old) → DiskKept S.Store (registry_of self.new)
+            → IfOk result (λ a. (away : Image) (v u : World)
+            → Stands S.Store H.view H.size (progress_of self.old)
+            (registry_of self.old) (shelf_of self.old) away v u
+            → IsHandedIn S.Store H.view H.size (progress_of self.new)
+            (registry_of self.old) (registry_of self.new)
+            (shelf_of self.old) (shelf_of self.new) away v u key.now command.now a) }
+        ensures leaves { H.honest (shelf_of self.old) → DiskKept S.Store (registry_of self.new)
+            → OnErr result ((away : Image) (v u : World)
+            → Stands S.Store H.view H.size (progress_of self.old)
+            (registry_of self.old) (shelf_of self.old) away v u
+            → LeavesRun S.Store H.view H.size (registry_of self.old) (registry_of self.new)
+            (shelf_of self.old) (shelf_of self.new) away v u key.now command.now) }
+        ensures not_failed { OnOk result (progress_of self.old ≢ Progress.Failed) }
+        ensures phase { IfOk result (λ a. phase_of (progress_of self.new)
+            ≡ phase_carried (phase_of (progress_of self.old)) a) }
+        // Also of files: by the registry's rows alone.
+        ensures rows { HandsInByRows S.Store H.Shelf self.old self.new result
+            key.now command.now }
+        ensures runs { RunsOnce S.Store H.Shelf self.old self.new result }
+        ensures closes { ClosesOnFault self.old self.new result }
+    {
+        let answer = self.accept(alloc, key, command)?;
+        match self.phase() {
+            Phase::Pending => {
+                self.apply()?;
+                Ok(answer)
+            }
+            _ => Ok(answer),
+        }
+    }
+
+    /// Settles the last command if it is still to be settled. At rest it does nothing.
+    pub fn settle_waiting(&mut self) -> Result<(), BenchFault>
+        requires { TakesNext (progress_of self.old) }
+        ensures does { H.honest (shelf_of self.old) → DiskKept S.Store (registry_of self.new)
+            → OnOk result ((away : Image) (v u : World)
+            → Stands S.Store H.view H.size (progress_of self.old)
+            (registry_of self.old) (shelf_of self.old) away v u
+            → IsAt S.Store H.view H.size (registry_of self.new) (shelf_of self.new) away
+            [] [] u u) }
+        ensures leaves { H.honest (shelf_of self.old) → DiskKept S.Store (registry_of self.new)
+            → (away : Image) (v u : World)
+            → Stands S.Store H.view H.size (progress_of self.old)
+            (registry_of self.old) (shelf_of self.old) away v u
+            → LeavesOnly S.Store H.view H.size (registry_of self.old) (registry_of self.new)
+            (shelf_of self.old) (shelf_of self.new) away v u }
+        ensures phase { OnOk result (progress_of self.new ≡ Progress.Ready) }
+        ensures rests { progress_of self.old ≡ Progress.Ready
+            → OnErr result ⊥ × (self.new ≡ self.old) }
+        ensures store { TellsStore S.Store (registry_of self.old) (registry_of self.new) result }
+        ensures settles { Settles S.Store self.old self.new result }
+        ensures closes { ClosesOnFault self.old self.new result }
+    {
+        match self.phase() {
+            Phase::Ready => Ok(()),
+            _ => self.settle(),
+        }
+    }
+}

@@ -1,0 +1,95 @@
+//! What a line of a batch comes to, of which the next may settle what it did.
+
+ghost use Rattle.std.specs.Prelude.{◌≡◌, ◌≢◌, false, ℕ, List, IfOk, IfErr, OnOk};
+ghost use Rattle.gm_metadata.specs.Images.{Image};
+ghost use Rattle.gm_state.specs.World.{World};
+ghost use Rattle.gm_registry.specs.Registry.{DiskKept};
+ghost use Rattle.gm_bench.specs.Benches.{progress_of, redone_of, registry_of, shelf_of};
+ghost use Rattle.gm_bench.specs.Calls.{ClosesOnFault, Keep};
+ghost use Rattle.gm_bench.specs.declared.phase.Progress.TheVariants.{Failed, Ready};
+ghost use Rattle.gm_bench.specs.Phases.{TakesNext};
+ghost use Rattle.gm_bench.specs.Standing.{Stands};
+ghost use Rattle.gm_front.specs.Outcomes.{FailsNext, IsAnsweredNext, IsFarAfter, NextComesTo, asked_of};
+
+use crate::outcome::Outcome;
+use crate::request::Request;
+use gm_bench::{Answer, Bench, BenchFault};
+use gm_commands::Command;
+use gm_shelf::Shelf;
+use sqlite::Alter;
+use std::alloc::Global;
+
+// Hands in a command and carries it out. What waits is settled, unless a command follows that does
+// that.
+fn hand_in<S: Alter, H: Shelf>(
+    alloc: Global,
+    bench: &mut Bench<S, H>,
+    key: &str,
+    command: &Command,
+    follows: bool,
+) -> Result<Answer, BenchFault>
+    requires { TakesNext (progress_of bench.old) }
+    ensures answers { H.honest (shelf_of bench.old) → DiskKept S.Store (registry_of bench.new)
+        → IfOk result (λ a. (away : Image) (v u : World)
+        → Stands S.Store H.view H.size (progress_of bench.old)
+        (registry_of bench.old) (shelf_of bench.old) away v u
+        → IsAnsweredNext S.Store H.view H.size (progress_of bench.new)
+        (registry_of bench.new) (shelf_of bench.new) away v u key.now command.now a) }
+    ensures fails { H.honest (shelf_of bench.old) → DiskKept S.Store (registry_of bench.new)
+        → IfErr result (λ fault. (away : Image) (v u : World)
+        → Stands S.Store H.view H.size (progress_of bench.old)
+        (registry_of bench.old) (shelf_of bench.old) away v u
+        → FailsNext S.Store H.view H.size (registry_of bench.old) (registry_of bench.new)
+        (shelf_of bench.old) (shelf_of bench.new) away v u key.now command.now fault) }
+    ensures phase { OnOk result (TakesNext (progress_of bench.new)) }
+    ensures goes_on { OnOk result
+        ((progress_of bench.old ≢ Failed) × (progress_of bench.new ≢ Failed)) }
+    ensures rests { follows ≡ false → OnOk result (progress_of bench.new ≡ Ready) }
+    ensures keep { Keep S.Store H.Shelf (registry_of bench.old) (registry_of bench.new)
+        (shelf_of bench.old) (shelf_of bench.new) }
+    ensures closes { ClosesOnFault bench.old bench.new result }
+{
+    let answer = bench.hand_in(alloc, key, command)?;
+    if follows {
+        return Ok(answer);
+    }
+    bench.settle_waiting()?;
+    Ok(answer)
+}
+
+/// Asks the bench what a line asks, in phase Ready, Applied or Failed. What was done, then or
+/// before, is settled with that, unless a line follows that spells a command under a key: that
+/// command is to settle it.
+pub(crate) fn ask_next<'a, S: Alter, H: Shelf>(
+    alloc: Global,
+    bench: &mut Bench<S, H>,
+    request: &Request<'a>,
+    follows: bool,
+) -> Outcome<'a>
+    requires { TakesNext (progress_of bench.old) }
+    ensures comes { H.honest (shelf_of bench.old) → DiskKept S.Store (registry_of bench.new)
+        → (away : Image) (v u : World)
+        → Stands S.Store H.view H.size (progress_of bench.old)
+        (registry_of bench.old) (shelf_of bench.old) away v u
+        → NextComesTo S.Store H.view H.size (progress_of bench.new)
+        (registry_of bench.old) (registry_of bench.new)
+        (shelf_of bench.old) (shelf_of bench.new) away v u (asked_of request.now) result }
+    ensures far { IsFarAfter (progress_of bench.old) (progress_of bench.new) follows result }
+    ensures closed { progress_of bench.old ≡ Failed → bench.new ≡ bench.old }
+    ensures reopen { (key : _) → result ≡ Outcome.Failed key BenchFault.Closed
+        → progress_of bench.old ≡ Failed }
+    ensures absent { (key : _) (p : List ℕ)
+        → result ≡ Outcome.Failed key (BenchFault.Absent p) → ⊥ }
+    ensures redone { redone_of bench.new ≡ redone_of bench.old }
+    ensures keep { Keep S.Store H.Shelf (registry_of bench.old) (registry_of bench.new)
+        (shelf_of bench.old) (shelf_of bench.new) }
+{
+    match *request {
+        Request::Nothing => Outcome::Nothing,
+        Request::Wrong(key) => Outcome::Wrong(key),
+        Request::Call(key, ref command) => match hand_in(alloc, bench, key, command, follows) {
+            Ok(answer) => Outcome::Answered(key, answer),
+            Err(fault) => Outcome::Failed(key, fault),
+        },
+    }
+}
