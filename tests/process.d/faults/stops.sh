@@ -65,7 +65,8 @@ if has_another_user; then
         expect 'a batch that may not open an image' 3 "$(lines 'k1 ok 1\nk2 fault 3')" 'gmbench: F3 disk'
         chmod 644 "$bench/images/b.img"
         at_bench recover
-        expect 'a recovery behind that one' 0 'recovered 0' ''
+        # The label was answered, and the insertion that was to settle it wasn't accepted: it is written once more.
+        expect 'a recovery behind that one' 0 'recovered 1' ''
         at_bench_as_another batch <"$work/lines"
         expect 'the same batch once it may' 0 "$(lines 'k1 repeated 1\nk2 ok 2\nk3 ok 3')" ''
     fi
