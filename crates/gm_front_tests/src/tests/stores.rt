@@ -234,13 +234,13 @@ fn calls_of(rt: &(impl Abort + AllocGlobal), from: &Media, lines: &'static str) 
 }
 
 // What was done is settled by the next command, if that is the next line and whole; else by itself,
-// before it is told.
+// which asks for more calls.
 #[test]
 fn only_a_command_that_follows_settles_the_one_before(rt: HostRuntime) {
     let from = fresh(&rt);
-    let two = calls_of(&rt, &from, TWO);
+    let log = calls_of(&rt, &from, TWO);
     for lines in [BLANK_BETWEEN, WRONG_BETWEEN, NOT_WHOLE] {
-        let more = calls_of(&rt, &from, lines);
-        must(&rt, more > two, "settled by a command that didn't follow");
+        let (done, _) = run(&rt, &from, Calls { log, ..ALL }, Job::Try { lines });
+        must(&rt, done < 4, "settled by a command that didn't follow");
     }
 }
