@@ -23,8 +23,8 @@ if command -v strace >/dev/null && traced pwrite64 :when=1 && grep -q INJECTED "
         expect "$call is interrupted each time" 3 "$(lines 'k1 ok 1\nk2 fault 3')" 'gmbench: F3 disk'
         at_bench recover
         case $call in
-            # it is found before the line is accepted
-            pread64) expect "a recovery behind $call" 0 'recovered 0' '' ;;
+            # it is found before the line is accepted, which was to settle the label
+            pread64) expect "a recovery behind $call" 0 'recovered 1' '' ;;
             *) expect "a recovery behind $call" 0 'recovered 2' '' ;;
         esac
         batch "$label$insert"

@@ -33,6 +33,11 @@ class State:
     def is_same(self, other):
         return self.records.rows() == other.records.rows() and self.images == other.images
 
+    def is_unsettled(self, other):
+        """Whether it is the other, but that the last command is still to be settled."""
+        is_pending = self.records.intents and not other.records.intents
+        return is_pending and self.records.rows()[:3] == other.records.rows()[:3] and self.images == other.images
+
 
 class Lines:
     """Lines for a batch with their answers, over a bench that `put` puts there, and what that holds before each line and after
@@ -75,11 +80,13 @@ class Lines:
         """The same of a batch that answered so many lines: the next one was accepted, or it left nothing."""
         left, before = State(), self.states[done]
         stands = done + (len(left.records.commands) > len(before.records.commands))
-        if stands == done and not left.is_same(before):
+        # the line that was refused memory was to settle what the one before it did
+        waits = stands == done and left.is_unsettled(before)
+        if stands == done and not waits and not left.is_same(before):
             return f"line {done + 1} was not accepted, but left something: {shown(ended)}"
         # the registry that a batch makes may be there in part until it comes to a line
         is_made = ended[1] != "" or not self.makes_registry
-        if stands == done and is_made and left.file != before.file:
+        if stands == done and not waits and is_made and left.file != before.file:
             return f"line {done + 1} was not accepted, but the file is another: {shown(ended)}"
         if stands == len(self.states) or left.records.rows()[:3] != self.states[stands].records.rows()[:3]:
             return f"line {done + 1} was accepted, and registered something else: {shown(ended)}"

@@ -13,7 +13,7 @@ import sys
 
 PROGRAM, BENCH = "gmbench", "gm_bench"
 # How many functions a crate above the bench may have.
-MOST = 60
+MOST = 70
 FUNCTION = re.compile(r"^\s*(?:pub(?:\([^)]*\))? )?(?:const )?fn \w+", re.M)
 
 
