@@ -48,6 +48,20 @@ has_either {X} (y ∷ xs) ys x (inr h) = placed (has_either xs ys x h) where
   placed (inl a) = inl (inr a)
   placed (inr b) = inr b
 
+-- what fits of all calls of two lists, or of one
+module _ (Fit : Command → Type 0) where
+  pub either_fills : (calls more : List Call)
+      → ((call : Call) → Has calls call → Fit call.command)
+      → ((call : Call) → Has more call → Fit call.command)
+      → (call : Call) → Has calls call ⊎ Has more call → Fit call.command
+  either_fills calls more first then call (inl has) = first call has
+  either_fills calls more first then call (inr has) = then call has
+
+  pub one_fills : (c : Call) → Fit c.command → (call : Call) → Has (c ∷ []) call
+      → Fit call.command
+  one_fills c is call (inl same) = subst (λ (x : Call). Fit x.command) same is
+  one_fills c is call (inr has) = absurd has
+
 module _ {S H : Type 0} (g : StoreGhosts S) (h : ShelfGhosts H) where
   pub keep_then : (a b c : Bench S H)
       → Keep g h (registry_of a) (registry_of b) (shelf_of a) (shelf_of b)
@@ -111,13 +125,6 @@ module _ {S H : Type 0} (g : StoreGhosts S) (h : ShelfGhosts H) (Fit : Command �
     };
   }
 
-  either_fills : (calls more : List Call)
-      → ((call : Call) → Has calls call → Fit call.command)
-      → ((call : Call) → Has more call → Fit call.command)
-      → (call : Call) → Has calls call ⊎ Has more call → Fit call.command
-  either_fills calls more first then call (inl has) = first call has
-  either_fills calls more first then call (inr has) = then call has
-
   pub fills_then : (a b c : Bench S H) → Fills g h Fit a b → Fills g h Fit b c → Fills g h Fit a c
   fills_then a b c first then = record {
     stays = then.stays ∙ first.stays;
@@ -132,7 +139,7 @@ module _ {S H : Type 0} (g : StoreGhosts S) (h : ShelfGhosts H) (Fit : Command �
           world = two.world;
           run = run_then u one.calls one.world one.answers two.calls two.world two.answers one.run
               two.run;
-          fill = λ call has. either_fills one.calls two.calls one.fill two.fill call
+          fill = λ call has. either_fills Fit one.calls two.calls one.fill two.fill call
               (has_either one.calls two.calls call has);
           at = two.at;
         };
@@ -178,11 +185,6 @@ module _ {S H : Type 0} (g : StoreGhosts S) (h : ShelfGhosts H) (Fit : Command �
         [] filled.world filled.world does filled.at;
   }
 
-  one_fills : (c : Call) → Fit c.command → (call : Call) → Has (c ∷ []) call
-      → Fit call.command
-  one_fills c is call (inl same) = subst (λ (x : Call). Fit x.command) same is
-  one_fills c is call (inr has) = absurd has
-
   -- a command that fits and is run
   pub fills_run : (a b : Bench S H) (key : List ℕ) (command : Command) (answer : Answer)
       → Fit command → progress_of b ≡ progress_of a
@@ -201,7 +203,7 @@ module _ {S H : Type 0} (g : StoreGhosts S) (h : ShelfGhosts H) (Fit : Command �
           answers = _ ∷ [];
           world = ran.world;
           run = (ran.world, ran.calls, refl);
-          fill = one_fills (record { key = key; command = command }) is;
+          fill = one_fills Fit (record { key = key; command = command }) is;
           at = ran.at;
         };
   }

@@ -29,7 +29,7 @@ use Rattle.gm_bench.specs.declared.phase.Progress.TheVariants.{Ready, Failed}
 use Rattle.gm_bench.proofs.Phases.{takes_ready}
 use Rattle.gm_bench.proofs.Standing.{carried_so, stands_rest}
 use Rattle.gm_sync.specs.Filling.{FailsAsCalls, FailsOn, Fills, FillsOn, IsClosedBut}
-use Rattle.gm_sync.proofs.Filled.{has_either, keep_none, keep_then, run_then}
+use Rattle.gm_sync.proofs.Filled.{either_fills, has_either, keep_none, keep_then, one_fills, run_then}
 
 -- the world that a command reaches, and where the bench stands then
 module _ {S H : Type 0} (g : StoreGhosts S) (view : H → View) (size : H → Sizes) where
@@ -67,13 +67,6 @@ module _ {S H : Type 0} (g : StoreGhosts S) (h : ShelfGhosts H) (Fit : Command �
     };
   }
 
-  either_fills : (calls more : List Call)
-      → ((call : Call) → Has calls call → Fit call.command)
-      → ((call : Call) → Has more call → Fit call.command)
-      → (call : Call) → Has calls call ⊎ Has more call → Fit call.command
-  either_fills calls more first then call (inl has) = first call has
-  either_fills calls more first then call (inr has) = then call has
-
   pub fills_on_then : (a b c : Bench S H) → FillsOn g h Fit a b → FillsOn g h Fit b c
       → FillsOn g h Fit a c
   fills_on_then a b c first then = record {
@@ -92,16 +85,11 @@ module _ {S H : Type 0} (g : StoreGhosts S) (h : ShelfGhosts H) (Fit : Command �
           before = two.before;
           run = run_then u one.calls one.world one.answers two.calls two.world two.answers one.run
               two.run;
-          fill = λ call has. either_fills one.calls two.calls one.fill two.fill call
+          fill = λ call has. either_fills Fit one.calls two.calls one.fill two.fill call
               (has_either one.calls two.calls call has);
           stands = two.stands;
         };
   }
-
-  one_fills : (c : Call) → Fit c.command → (call : Call) → Has (c ∷ []) call
-      → Fit call.command
-  one_fills c is call (inl same) = subst (λ (x : Call). Fit x.command) same is
-  one_fills c is call (inr has) = absurd has
 
   -- a command that fits and is handed in
   pub fills_on_next : (a b : Bench S H) (key : List ℕ) (command : Command) (answer : Answer)
@@ -126,7 +114,7 @@ module _ {S H : Type 0} (g : StoreGhosts S) (h : ShelfGhosts H) (Fit : Command �
           world = it.world;
           before = it.before;
           run = (it.world, it.calls, refl);
-          fill = one_fills (record { key = key; command = command }) is;
+          fill = one_fills Fit (record { key = key; command = command }) is;
           stands = it.stands;
         };
   }
