@@ -1,5 +1,5 @@
 -- Which fault of a medium a fault of the bench comes from.
-use Rattle.std.proofs.Common.{◌≡◌, inl, inr, ℕ, ◌≤◌, ◌<◌, List, Option, Some, None, Result, Ok, Err, refl, subst, arith}
+use Rattle.std.proofs.Common.{◌≡◌, ◌⊎◌, inl, inr, ℕ, ◌≤◌, ◌<◌, List, Option, Some, None, Result, Ok, Err, refl, subst, arith}
 use Rattle.std.specs.Prelude.{IsSomeAnd, IsErrOf}
 use Rattle.std.specs.Result.{IsErrAnd}
 use Rattle.gm_metadata.specs.Images.{Sizes}
@@ -11,8 +11,11 @@ use Rattle.gm_rows.specs.declared.fault.StoreFault.{StoreFault}
 use Rattle.gm_rows.specs.declared.fault.StoreFault.TheVariants as store
 use Rattle.gm_shelf.specs.declared.fault.ShelfFault.{ShelfFault}
 use Rattle.gm_shelf.specs.declared.fault.ShelfFault.TheVariants as shelf
-use Rattle.gm_bench.specs.declared.fault.BenchFault.TheVariants.{Disk, Absent, Store, Unreadable}
-use Rattle.gm_bench.specs.Faults.{of_store, of_shelf}
+use Rattle.gm_bench.specs.declared.fault.BenchFault.{BenchFault}
+use Rattle.gm_bench.specs.declared.fault.BenchFault.TheVariants.{Closed, Disk, Absent, Memory, Store, Unreadable}
+use Rattle.gm_bench.specs.declared.take_up_without.TakenUp.{TakenUp}
+use Rattle.gm_bench.specs.Faults.{IsBeforeWrites, IsOfOpening, of_store, of_shelf}
+use Rattle.gm_bench.specs.GivingUp.{IsUnwritten}
 
 -- what `?` passes on is the fault that it was given
 pub fault_is : {T E : Type 0} (r : Result T E) (given e : E) → IsErrAnd r (λ x. x ≡ given)
@@ -81,3 +84,29 @@ pub of_failed : (f : StoreFault) → of_store f ≡ Store → f ≡ store.Store
 of_failed store.Memory e = cc
 of_failed store.Store e = refl
 of_failed store.Unreadable e = cc
+
+-- what is passed on of a call that failed before anything was written
+pub passed_unwritten : (r : Result TakenUp BenchFault) (given : BenchFault)
+    → IsErrAnd r (λ x. x ≡ given) → IsUnwritten r → IsBeforeWrites given
+passed_unwritten (Ok x) given passed before = absurd passed
+passed_unwritten (Err x) given passed before = subst IsBeforeWrites passed before
+
+-- of the faults of an opening that is F5 alone
+pub only_absent : (f : BenchFault) → IsOfOpening f → IsBeforeWrites f
+    → (q : List ℕ) × (f ≡ Absent q)
+only_absent (Absent q) of before = (q, refl)
+only_absent Memory of before = absurd before
+only_absent Store of before = absurd before
+only_absent Disk of before = absurd before
+only_absent Closed of before = absurd of
+only_absent Unreadable of before = absurd of
+
+-- of a bench that isn't closed it is F5 or F6
+pub absent_or_unreadable : (f : BenchFault) → (f ≡ Closed → ⊥) → IsBeforeWrites f
+    → ((q : List ℕ) × (f ≡ Absent q)) ⊎ (f ≡ Unreadable)
+absent_or_unreadable (Absent q) still before = inl (q, refl)
+absent_or_unreadable Unreadable still before = inr refl
+absent_or_unreadable Closed still before = absurd (still refl)
+absent_or_unreadable Memory still before = absurd before
+absent_or_unreadable Store still before = absurd before
+absent_or_unreadable Disk still before = absurd before

@@ -1,9 +1,11 @@
 -- What a call leaves that asks the rules, and writes nothing.
-use Rattle.std.proofs.Common.{◌≡◌, ◌∙◌, inl, inr, ℕ, ◌≤◌, ◌<◌, Bool, true, false, List, subst, sym, nat_le, arith, refl}
+use Rattle.std.proofs.Common.{◌≡◌, ◌∙◌, inl, inr, ℕ, ◌≤◌, ◌<◌, Bool, true, false, List, ap, subst, subst₂, sym, nat_le, arith, refl}
 use Rattle.std.specs.Prelude.{Result, Ok, Err, IfOk}
 use Rattle.std.proofs.lemmas.Bool.Decides.{nat_tests}
 use Rattle.sqlite_trees.specs.declared.store.Store.{Ghosts}
 use Rattle.sqlite.specs.Held.{Held}
+use Rattle.sqlite.specs.Effect.{Database}
+use Rattle.sqlite.specs.Schema.{Schema}
 use Rattle.sqlite.specs.Tree.{Trees}
 use Rattle.gm_metadata.specs.Images.{Image, Sizes}
 use Rattle.gm_shelf.specs.Disk.{View, IsLawful, IsQuiet}
@@ -151,6 +153,23 @@ alone_then g r mid s is clean first second = record {
   tables = λ kept is_open. second.tables kept is_open
       ∙ first.tables (omega (arith, clean, kept)) is.is_open;
   crash = nothing_then g r mid s first.crash second.crash;
+}
+
+-- a database by its parts
+same_parts : (a b : Database) → a.schema ≡ b.schema → a.trees ≡ b.trees → a ≡ b
+same_parts a b schema trees =
+    subst₂ (λ (s : Schema) (t : Trees). a ≡ record { schema = s; trees = t }) schema trees refl
+
+-- a read leaves the tables that a registry had
+pub alone_read : {S : Type 0} (g : Ghosts S) (r s : Held S) (t : Tables) → HasTables g r t
+    → Reads g r s → LeavesAlone g r s
+alone_read g r s t has reads = record {
+  tables = λ kept is_open.
+      let is = (reads.kept kept t has is_open).tables in
+      same_parts (state g s).committed (state g r).committed (is.schema_is ∙ sym has.schema_is)
+      (ap (λ (d : Database). d.trees) (sym is.settled) ∙ reads.same kept t has is_open
+      ∙ ap (λ (d : Database). d.trees) has.settled);
+  crash = reads.left t has;
 }
 
 -- a read, and then another, of a registry that keeps its tables in between

@@ -1,8 +1,8 @@
 -- From what an opening without a provider does over its registry to what it leaves of the store.
-use Rattle.std.proofs.Common.{◌≡◌, ◌∙◌, ◌⊎◌, inl, inr, ℕ, List, sym, subst}
+use Rattle.std.proofs.Common.{◌≡◌, ◌∙◌, ◌⊎◌, inl, inr, ℕ, List, sym, subst, arith}
 use Rattle.sqlite_trees.specs.declared.store.Store.{Ghosts}
 use Rattle.sqlite.specs.Tree.{Trees}
-use Rattle.sqlite.specs.Held.{Held}
+use Rattle.sqlite.specs.Held.{Held, state}
 use Rattle.gm_metadata.specs.Images.{Image, Sizes}
 use Rattle.gm_shelf.specs.Disk.{View, IsLawful}
 use Rattle.gm_rules.specs.AbstractCalls.{Call}
@@ -11,20 +11,25 @@ use Rattle.gm_state.specs.declared.intents.Reply.{Reply}
 use Rattle.gm_state.specs.declared.intents.Reply.TheVariants.{Plain}
 use Rattle.gm_state.specs.World.{World}
 use Rattle.gm_state.specs.Rows.{Tables}
-use Rattle.gm_registry.specs.Registry.{CrashLeaves, HasTables, stored}
+use Rattle.sqlite_catalog.specs.Listing.{IsSound}
+use Rattle.gm_rows.specs.Schema.{first_schema, registry_schema}
+use Rattle.gm_registry.specs.Opening.{IsCarriedOver}
+use Rattle.gm_registry.specs.Registry.{CrashLeaves, DiskKept, HasTables, IsOpen, LeavesAlone, MayCarryOver, WasClean, stored}
+use Rattle.gm_registry.proofs.ReadsInTurn.{sees_registry}
 use Rattle.gm_bench.specs.declared.answer.Answer.{Answer}
 use Rattle.gm_bench.specs.declared.answer.Answer.TheVariants.{Done, Repeated, Refused as NotDone}
 use Rattle.gm_bench.specs.declared.bench.Bench.{Bench}
 use Rattle.gm_bench.specs.declared.open_without.Without.TheVariants.{Opened}
 use Rattle.gm_bench.specs.declared.take_up_without.TakenUp.TheVariants.{Carried}
 use Rattle.gm_bench.specs.Benches.{redone_of, registry_of, shelf_of}
-use Rattle.gm_bench.specs.GivingUp.{AnswersLoss, GivesUp, LacksImage, LeavesUndone}
+use Rattle.gm_bench.specs.GivingUp.{AnswersLoss, AreUntouched, GivesUp, LacksImage, LeavesUndone}
 use Rattle.gm_bench.specs.Losing.{dropped}
 use Rattle.gm_bench.specs.Owed.{IsLeft, OpenLeaves}
 use Rattle.gm_bench.specs.Recovering.{IsFound, IsStored}
 use Rattle.gm_bench.specs.Schedule.{IsStepWithout, LeavesCommit, WithoutCarries, WithoutDoes, WithoutLeaves}
 use Rattle.gm_bench.specs.Without.{Carries, Commits, DoesLoss, DoesWithout, KeepsUndone, LacksFirst, LeavesLoss, LeavesOpened, LeavesWithout, loss_call}
-use Rattle.gm_bench.proofs.ReopenedStore.{as_it_was, recovered, reopened}
+use Rattle.gm_bench.proofs.DecidesOnly.{alone_then}
+use Rattle.gm_bench.proofs.ReopenedStore.{as_it_was, carried_then, recovered, reopened}
 
 module _ {S H : Type 0} (g : Ghosts S) (view : H → View) (size : H → Sizes) (store mid : Held S)
     (h : H) (lawful : IsLawful (view h))
@@ -146,3 +151,28 @@ module _ {S H : Type 0} (g : Ghosts S) (view : H → View) (size : H → Sizes) 
       let it = does away left.recovers.intents left.recovers.bytes u w (at_opened away u w left) in
       (it.0, same ∙ it.1, it.2))
   answered key p b (NotDone why) redone same does = absurd does
+
+-- both media behind an opening of the registry that was left alone then
+pub are_untouched : {S H : Type 0} (g : Ghosts S) (start mid new : Held S) (h k : H) → k ≡ h
+    → WasClean g mid new
+    → (IsOpen g start → IsSound registry_schema (stored g start) → LeavesAlone g start mid)
+    → (IsOpen g start → IsSound first_schema (stored g start) → DiskKept g mid
+    → IsCarriedOver (stored g start) (stored g mid))
+    → (IsOpen g start → IsSound first_schema (stored g start) → MayCarryOver g start mid)
+    → (IsOpen g start → DiskKept g mid → (t : Tables) → IsStored (stored g start) t
+    → HasTables g mid t)
+    → (DiskKept g new → (t : Tables) → HasTables g mid t → LeavesAlone g mid new)
+    → AreUntouched g start h new k
+are_untouched g start mid new h k same was_clean untouched carried crash opened alone = record {
+  shelf_is = same;
+  alone = λ is_open clean sound t stands.
+      let early : DiskKept g mid = omega (arith, was_clean, clean) in
+      let has = opened is_open early t stands in
+      alone_then g start mid new (sees_registry (state g mid) t has) was_clean
+      (untouched is_open sound) (alone clean t has);
+  first_alone = λ is_open clean sound t stands.
+      let early : DiskKept g mid = omega (arith, was_clean, clean) in
+      let has = opened is_open early t stands in
+      carried_then g start mid new (carried is_open sound early) (crash is_open sound)
+      (alone clean t has);
+}

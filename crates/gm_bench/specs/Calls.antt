@@ -186,9 +186,9 @@ pub record TellsOfRows {S H : Type 0} (s : StoreGhosts S) (h : ShelfGhosts H) (o
 
 -- A command that is handed in and carried out, by the registry's rows and the shelf's sizes alone:
 -- `Store` comes only if the store failed, wherever nothing is pending but what this call settles.
-pub record HandsInByRows {S H : Type 0} (s : StoreGhosts S) (h : ShelfGhosts H) (old new : Bench S
-    H)
-    (result : Result Answer BenchFault) (key : List ℕ) (c : Command) : Type 0 where
+pub record HandsInByRows {S H : Type 0} (s : StoreGhosts S) (h : ShelfGhosts H)
+    (old new : Bench S H) (result : Result Answer BenchFault) (key : List ℕ) (c : Command)
+    : Type 0 where
   pub readable : TellsUnreadable s h (media_of old) (media_of new) result key c
   pub store : TellsStoreWhere s h (media_of old) (media_of new) result
       (HasNothingElse (waiting_of (progress_of old))) c

@@ -1,7 +1,8 @@
 -- What an opening without a provider leaves, and what it answers, from the store and the shelf
 -- before it.
-use Rattle.std.specs.Prelude.{◌≡◌, ◌⊎◌, ◌+◌, ◌^◌, ◌<◌, ℕ, List, [], length}
+use Rattle.std.specs.Prelude.{◌≡◌, ◌⊎◌, ◌+◌, ◌^◌, ◌<◌, ℕ, List, [], Ok, Err, Result, length}
 use Rattle.sqlite_trees.specs.declared.store.Store.{Ghosts}
+use Rattle.sqlite_catalog.specs.Listing.{IsSound}
 use Rattle.sqlite.specs.Held.{Held}
 use Rattle.sqlite.specs.Tree.{Trees}
 use Rattle.gm_metadata.specs.Images.{Image, Sizes}
@@ -13,18 +14,25 @@ use Rattle.gm_state.specs.Records.{Records}
 use Rattle.gm_state.specs.Rows.{Tables}
 use Rattle.gm_state.specs.World.{World, Answered}
 use Rattle.gm_rows.specs.ReadableTables.{AreTablesOf}
+use Rattle.gm_rows.specs.Schema.{first_schema, registry_schema}
 use Rattle.gm_registry.specs.Opening.{IsForeign, IsOpenable}
 use Rattle.gm_registry.specs.Fitting.{HasRoom}
-use Rattle.gm_registry.specs.Registry.{DiskKept, IsOpen, StoreFailed, stored}
+use Rattle.gm_registry.specs.Registry.{DiskKept, HasTables, IsOpen, LeavesAlone, StoreFailed, stored}
 use Rattle.gm_registry.specs.Replies.{AreWrittenUnder}
 use Rattle.gm_bench.specs.declared.bench.OpenFault.{OpenFault}
+use Rattle.gm_bench.specs.declared.fault.BenchFault.{BenchFault}
 use Rattle.gm_bench.specs.declared.fault.BenchFault.TheVariants.{Absent, Closed, Disk, Store, Unreadable}
 use Rattle.gm_bench.specs.declared.answer.Answer.TheVariants.{Done, Repeated, Refused as NotDone}
+use Rattle.gm_bench.specs.declared.media.Media.{Media}
 use Rattle.gm_bench.specs.declared.open_without.Without.{Without}
 use Rattle.gm_bench.specs.declared.open_without.Without.TheVariants.{Opened, Refused}
 use Rattle.gm_bench.specs.declared.phase.Progress.TheVariants.{Ready}
+use Rattle.gm_bench.specs.declared.take_up_without.TakenUp.{TakenUp}
+use Rattle.gm_bench.specs.declared.take_up_without.TakenUp.TheVariants.{Carried, NotLost}
 use Rattle.gm_bench.specs.Benches.{progress_of, redone_of, registry_of, shelf_of}
 use Rattle.gm_bench.specs.Calls.{most_rows}
+use Rattle.gm_bench.specs.Faults.{IsBeforeWrites}
+use Rattle.gm_bench.specs.Opened.{MayBeCarriedOver}
 use Rattle.gm_bench.specs.Owed.{IsLeft, OpenLeaves}
 use Rattle.gm_bench.specs.Recovering.{IsAt, IsStored}
 use Rattle.gm_bench.specs.Schedule.{WithoutCarries, WithoutDoes, WithoutLeaves}
@@ -43,11 +51,6 @@ shelf_behind (Refused why store shelf) = shelf
 abbrev pub IsReady : {S H : Type 0} → Without S H → Type 0
 IsReady (Opened b answer) = progress_of b ≡ Ready
 IsReady (Refused why store shelf) = Unit {0}
-
--- a refusal leaves the shelf as it was
-abbrev pub StaysRefused : {S H : Type 0} → H → Without S H → Type 0
-StaysRefused h (Opened b answer) = Unit {0}
-StaysRefused h (Refused why store shelf) = shelf ≡ h
 
 module _ {S H : Type 0} (g : Ghosts S) (view : H → View) (size : H → Sizes) (store : Held S)
     (h : H) (key p : List ℕ) where
@@ -108,6 +111,34 @@ pub record TakesLoss (db : Trees) : Type 0 where
   pub few : length intents + 17 < 2 ^ 32
   pub room : HasRoom most_rows db
 
+-- the loss is refused, or it failed, before anything is written
+abbrev pub IsUnwritten : Result TakenUp BenchFault → Type 0
+IsUnwritten (Ok (Carried answer redone)) = ⊥
+IsUnwritten (Ok (NotLost why)) = Unit {0}
+IsUnwritten (Err fault) = IsBeforeWrites fault
+
+-- Then the shelf is as it was, and so are the tables of a registry.
+pub record StaysUnlost {S H : Type 0} (s : Ghosts S) (old new : Media S H)
+    (result : Result TakenUp BenchFault) : Type 0 where
+  pub shelf : IsUnwritten result → new.shelf ≡ old.shelf
+  pub registry : DiskKept s new.registry → IsUnwritten result → (t : Tables)
+      → HasTables s old.registry t → LeavesAlone s old.registry new.registry
+
+module _ {S H : Type 0} (s : Ghosts S) (store : Held S) (shelf : H) where
+  -- The shelf is as it was, and so is a store with tables; those of the first schema may be carried
+  -- over.
+  pub record AreUntouched (end : Held S) (k : H) : Type 0 where
+    pub shelf_is : k ≡ shelf
+    pub alone : IsOpen s store → DiskKept s end → IsSound registry_schema (stored s store)
+        → (t : Tables) → IsStored (stored s store) t → LeavesAlone s store end
+    pub first_alone : IsOpen s store → DiskKept s end → IsSound first_schema (stored s store)
+        → (t : Tables) → IsStored (stored s store) t → MayBeCarriedOver s store end
+
+  -- a refusal leaves both media so
+  abbrev pub StaysRefused : Without S H → Type 0
+  StaysRefused (Opened b answer) = Unit {0}
+  StaysRefused (Refused why end k) = AreUntouched end k
+
 module _ {S H : Type 0} (s : Ghosts S) (h : ShelfGhosts H) (store : Held S) (shelf : H)
     (key p : List ℕ) where
   -- what is answered of the loss
@@ -117,16 +148,16 @@ module _ {S H : Type 0} (s : Ghosts S) (h : ShelfGhosts H) (store : Held S) (she
     pub undone : h.honest shelf → IsOpen s store → DiskKept s (store_behind it)
         → LeavesUndone s h.view h.size store shelf key p it
     pub ready : IsReady it
-    pub refused : StaysRefused shelf it
+    pub refused : StaysRefused s store shelf it
 
   -- Why it failed. By the tables that are stored and the sizes alone: F3 only where the device
   -- failed, and F6 only where the tables don't say a state with readable intents, or the key's row
   -- is one that this program doesn't write. F2 comes only where the store failed, of one that takes
-  -- a loss, or has other tables. F5 comes before anything is written.
+  -- a loss, or has other tables. F5 and F6 leave both media as they were.
   pub record IsUnopenedWithout (e : OpenFault S H) : Type 0 where
     pub lacks : h.honest shelf → IsOpen s store → DiskKept s e.store → (q : List ℕ)
         → e.fault ≡ Absent q → LacksImage s h.view h.size store shelf key p e.store e.shelf q
-    pub absent : (q : List ℕ) → e.fault ≡ Absent q → e.shelf ≡ shelf
+    pub untouched : IsBeforeWrites e.fault → AreUntouched s store shelf e.store e.shelf
     pub disk : IsOpen s store → DiskKept s e.store → e.fault ≡ Disk
         → (t : Tables) → IsStored (stored s store) t
         → (h.view shelf).faults < (h.view e.shelf).faults

@@ -1,6 +1,6 @@
 //! A component whose image is gone for good is given up, and the rest is carried out.
 
-ghost use Rattle.std.specs.Prelude.{◌≡◌, ◌≤◌, ◌<◌, ◌+◌, ◌^◌, ℕ, List, [], Some, None, length, IfOk, IfErr, OnOk, IsErrOf};
+ghost use Rattle.std.specs.Prelude.{◌≡◌, ◌≤◌, ◌<◌, ◌+◌, ◌^◌, ℕ, List, Some, None, length, IfOk, IfErr, OnOk, IsErrOf};
 ghost use Rattle.gm_metadata.specs.Images.{Image};
 ghost use Rattle.gm_state.specs.declared.intents.Intent.{Intent};
 ghost use Rattle.gm_state.specs.Readable.{AreReadable};
@@ -83,6 +83,8 @@ impl<S: Alter, H: Shelf> Media<S, H> {
         ensures absent { (q : List ℕ) → IsErrOf result (BenchFault.Absent q)
             → (first_absent loss.now.after (H.size self.old.shelf) loss.now.intents.items ≡ Some q)
             × (self.new ≡ self.old) }
+        ensures unread { IsErrOf result BenchFault.Unreadable
+            → self.new.shelf ≡ self.old.shelf }
         ensures there { OnOk result
             (first_absent loss.now.after (H.size self.old.shelf) loss.now.intents.items ≡ None) }
         ensures disk { AreReadable loss.now.after loss.now.bytes.items loss.now.intents.items

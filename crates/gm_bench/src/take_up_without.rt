@@ -14,6 +14,7 @@ ghost use Rattle.gm_bench.specs.declared.loss.LossRefusal.{LossRefusal};
 ghost use Rattle.gm_bench.specs.Calls.{Keep, TellsDisk, TellsStore, most_rows};
 ghost use Rattle.gm_bench.specs.Faults.{IsOfCall};
 ghost use Rattle.gm_bench.specs.Recovering.{IsFound};
+ghost use Rattle.gm_bench.specs.GivingUp.{StaysUnlost};
 ghost use Rattle.gm_bench.specs.Without.{CanBeCommitted, DoesWithout, IsLooked, KeepsUndone, LacksFirst, LeavesWithout, StaysReadable};
 
 use crate::answer::Answer;
@@ -118,9 +119,8 @@ impl<S: Alter, H: Shelf> Media<S, H> {
         ensures undone { H.honest self.old.shelf → DiskKept S.Store self.new.registry
             → IfOk result (KeepsUndone S.Store H.view H.size key.now provider
             self.old.registry self.new.registry self.old.shelf self.new.shelf) }
-        // F5 comes before anything is written.
-        ensures absent { (q : List ℕ) → IsErrOf result (BenchFault.Absent q)
-            → self.new.shelf ≡ self.old.shelf }
+        // A refusal, F5 and F6 come before anything is written.
+        ensures before { StaysUnlost S.Store self.old self.new result }
         ensures lacks { H.honest self.old.shelf → DiskKept S.Store self.new.registry
             → (q : List ℕ) → IsErrOf result (BenchFault.Absent q)
             → LacksFirst S.Store H.view H.size key.now provider
@@ -139,8 +139,6 @@ impl<S: Alter, H: Shelf> Media<S, H> {
             → HasTables S.Store self.old.registry t → AreTablesOf t s ts bytes
             → length ts + 17 < 2 ^ 32 → HasRoom most_rows (seen S.Store self.old.registry)
             → StoreFailed S.Store self.old.registry self.new.registry }
-        ensures refused { IfOk result (λ it. (why : LossRefusal) → it ≡ TakenUp.NotLost why
-            → self.new.shelf ≡ self.old.shelf) }
         ensures closed { IsErrOf result BenchFault.Closed → ⊥ }
         ensures keep { Keep S.Store H.Shelf self.old.registry self.new.registry
             self.old.shelf self.new.shelf }

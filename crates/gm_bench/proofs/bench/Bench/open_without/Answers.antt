@@ -1,16 +1,16 @@
-use Rattle.std.proofs.Common.{rules, ◌≡◌, ◌∙◌, inl, inr, Err, refl, sym, ap, subst, arith}
+use Rattle.std.proofs.Common.{rules, ◌≡◌, ◌∙◌, inl, inr, Ok, Err, refl, sym, ap, subst, arith}
 use Rattle.sqlite.specs.Held.{Held}
 use Rattle.sqlite.specs.Tree.{Trees}
 use Rattle.gm_registry.specs.Registry.{CrashLeaves, DiskKept, StoreFailed, stored}
 use Rattle.gm_bench.specs.declared.bench.Bench.{Bench}
 use Rattle.gm_bench.specs.declared.phase.Progress.TheVariants.{Ready}
 use Rattle.gm_bench.specs.declared.take_up_without.TakenUp.{TakenUp}
-use Rattle.gm_bench.specs.GivingUp.{GivesUp, LacksImage}
+use Rattle.gm_bench.specs.GivingUp.{AreUntouched, GivesUp, IsUnwritten, LacksImage}
 use Rattle.gm_bench.specs.Without.{DoesWithout, KeepsUndone}
 use Rattle.gm_bench.specs.Owed.{OpenLeaves}
 use Rattle.gm_bench.proofs.Causes.{of_failed, of_unreadable}
 use Rattle.gm_bench.proofs.OpenedRoom.{room_opened}
-use Rattle.gm_bench.proofs.ReopenedLoss.{answered, at_opened, given_up, lacking, opened_behind, undone}
+use Rattle.gm_bench.proofs.ReopenedLoss.{answered, are_untouched, at_opened, given_up, lacking, opened_behind, undone}
 use Rattle.gm_bench.proofs.ReopenedStore.{failed_opened, known_store, opened_tables, opening_leaves, unopened}
 use Rattle.gm_bench.proofs.bench.Bench.open_without.Goals as goal
 
@@ -104,7 +104,14 @@ pub returns-in-Err-clause-unopened : goal.returns-in-Err-clause-unopened
 returns-in-Err-clause-unopened g c =
     record {
       lacks = search rules;
-      absent = search rules;
+      untouched = λ before. record {
+        shelf_is = refl;
+        alone = λ is_open clean sound t stands. c.in-Err.ensures.untouched is_open sound;
+        first_alone = λ is_open clean sound t stands. record {
+          tables = λ kept still. inl (c.in-Err.ensures.stays is_open sound kept still);
+          crash = c.in-Err.ensures.left_carried is_open sound;
+        };
+      };
       disk = search rules;
       unreadable = λ is_open clean is openable t s ts bytes stands of written. (
           absurd (c.in-Err.ensures.unreadable is_open clean
@@ -221,7 +228,20 @@ returns-in-Ok-NotLost-clause-opened g c =
           c.args.shelf lawful only opened c.args.key.now c.args.provider
           c.take_up_without.new.self.registry c.take_up_without.new.self.shelf keeps));
       ready = search rules;
-      refused = search rules;
+      refused =
+          let unwritten : IsUnwritten (Ok c.in-Ok-NotLost.field-0) =
+          subst (λ (x : TakenUp). IsUnwritten (Ok x)) (sym c.in-Ok-NotLost.field-0-is) tt in
+          subst (λ (k : Held g.row.S.Denot). AreUntouched g.S.Store c.args.store c.args.shelf k
+          c.take_up_without.new.self.shelf) (sym c.close.ensures)
+          (are_untouched g.S.Store c.args.store c.in-Ok.registry
+          c.take_up_without.new.self.registry c.args.shelf c.take_up_without.new.self.shelf
+          (c.in-Ok-NotLost.ensures.before.shelf unwritten) c.take_up_without.ensures.keep.clean
+          c.in-Ok.ensures.untouched c.in-Ok.ensures.carried c.in-Ok.ensures.left_carried
+          (λ is_open mid. opened_tables g.S.Store c.args.store c.in-Ok.registry
+          (λ empty. c.in-Ok.ensures.made is_open empty mid)
+          (λ t holds. c.in-Ok.ensures.found t is_open holds mid)
+          (λ t first. c.in-Ok.ensures.upgraded t is_open first mid))
+          (λ clean t has. c.in-Ok-NotLost.ensures.before.registry clean unwritten t has));
     }
 
 pub returns-in-Err-take_up_without-clause-unopened :
@@ -251,7 +271,18 @@ returns-in-Err-take_up_without-clause-unopened g c =
           opened c.args.key.now c.args.provider
           c.take_up_without.new.self.registry c.take_up_without.new.self.shelf q
           (c.in-Err-take_up_without.ensures.lacks h clean q (ap Err is))));
-      absent = search rules;
+      untouched = λ before.
+          subst (λ (k : Held g.row.S.Denot). AreUntouched g.S.Store c.args.store c.args.shelf k
+          c.take_up_without.new.self.shelf) (sym c.close-in-Err-take_up_without.ensures)
+          (are_untouched g.S.Store c.args.store c.in-Ok.registry
+          c.take_up_without.new.self.registry c.args.shelf c.take_up_without.new.self.shelf
+          (c.in-Err-take_up_without.ensures.before.shelf before) c.take_up_without.ensures.keep.clean
+          c.in-Ok.ensures.untouched c.in-Ok.ensures.carried c.in-Ok.ensures.left_carried
+          (λ is_open mid. opened_tables g.S.Store c.args.store c.in-Ok.registry
+          (λ empty. c.in-Ok.ensures.made is_open empty mid)
+          (λ t holds. c.in-Ok.ensures.found t is_open holds mid)
+          (λ t first. c.in-Ok.ensures.upgraded t is_open first mid))
+          (λ clean t has. c.in-Err-take_up_without.ensures.before.registry clean before t has));
       disk = λ is_open closed is t stands. (
           let clean : DiskKept g.S.Store c.take_up_without.new.self.registry =
           subst (λ (k : Held g.row.S.Denot). DiskKept g.S.Store k)

@@ -1,8 +1,8 @@
-use Rattle.std.proofs.Common.{rules, ◌≡◌, ◌∙◌, ◌<◌, ◌+◌, ◌^◌, inl, inr, ℕ, List, Some, Err, refl, length, sym, ap, subst, subst₂, arith}
+use Rattle.std.proofs.Common.{rules, ◌≡◌, ◌⊎◌, ◌∙◌, ◌<◌, ◌+◌, ◌^◌, inl, inr, ℕ, List, Some, Err, refl, length, sym, ap, subst, subst₂, arith}
 use Rattle.gm_metadata.specs.Images.{Image}
 use Rattle.gm_state.specs.World.{World}
 use Rattle.gm_state.specs.declared.intents.Intent.{Intent}
-use Rattle.gm_registry.specs.Registry.{DiskKept}
+use Rattle.gm_registry.specs.Registry.{DiskKept, LeavesAlone}
 use Rattle.gm_rows.specs.ReadableTables.{AreTablesOf}
 use Rattle.gm_registry.proofs.CallsLeave.{saved}
 use Rattle.gm_bench.specs.declared.loss.Judged.{Judged}
@@ -12,7 +12,10 @@ use Rattle.gm_bench.specs.Recovering.{IsFound}
 use Rattle.gm_bench.specs.Without.{CanBeCommitted, HasJudged, IsJudged, LeavesOpened, StaysReadable, loss_call}
 use Rattle.gm_bench.proofs.LossCarried.{lost_behind, nothing_opened}
 use Rattle.gm_bench.proofs.TakenUp.{absent_back, leaves_back, moments_back, moved}
-use Rattle.gm_bench.proofs.Causes.{fault_is}
+use Rattle.gm_bench.proofs.Causes.{absent_or_unreadable, fault_is, only_absent, passed_unwritten}
+use Rattle.gm_bench.proofs.DecidesOnly.{alone_read}
+use Rattle.gm_bench.specs.GivingUp.{IsUnwritten}
+use Rattle.gm_bench.specs.declared.fault.BenchFault.TheVariants.{Absent, Unreadable}
 use Rattle.gm_bench.specs.declared.media.Media.{Media}
 use Rattle.gm_state.proofs.SameRows.{same_mirror, same_component}
 use Rattle.gm_registry.proofs.OneReading.{one_reading}
@@ -415,3 +418,82 @@ returns-in_err-number-in-New-clause-store g c clean is t s ts bytes has of low r
     again.0 again.1
     (room_later g.S.Store c.args.self.now.registry c.look_for_loss.new.self.registry t reads has
     loaded.1 most_rows clean1 room))
+
+pub returns-in_err-looked-clause-before : goal.returns-in_err-looked-clause-before
+returns-in_err-looked-clause-before g c = record {
+  shelf = λ before. c.look_for_loss.ensures.shelf;
+  registry = λ clean before t has.
+      alone_read g.S.Store c.args.self.now.registry c.look_for_loss.new.self.registry t has
+      (c.look_for_loss.ensures.reads clean);
+}
+
+pub returns-in-Refused-clause-before : goal.returns-in-Refused-clause-before
+returns-in-Refused-clause-before g c = record {
+  shelf = λ before. c.look_for_loss.ensures.shelf;
+  registry = λ clean before t has.
+      alone_read g.S.Store c.args.self.now.registry c.look_for_loss.new.self.registry t has
+      (c.look_for_loss.ensures.reads clean);
+}
+
+pub returns-in-Kept-clause-before : goal.returns-in-Kept-clause-before
+returns-in-Kept-clause-before g c = record {
+  shelf = λ before. absurd before;
+  registry = λ clean before t has. absurd before;
+}
+
+pub returns-clause-before : goal.returns-clause-before
+returns-clause-before g c = record {
+  shelf = λ before. absurd before;
+  registry = λ clean before t has. absurd before;
+}
+
+pub returns-in_err-check_and_finish-in-Kept-clause-before :
+    goal.returns-in_err-check_and_finish-in-Kept-clause-before
+returns-in_err-check_and_finish-in-Kept-clause-before g c =
+    let passed = c.from_residual-in_err-check_and_finish-in-Kept.ensures.1 in
+    let given = c.in_err-check_and_finish-in-Kept.field-0.0 in
+    let same : IsUnwritten c.from_residual-in_err-check_and_finish-in-Kept.result
+    → c.check_and_finish.new.self ≡ c.look_for_loss.new.self =
+    λ before. (
+    let it = only_absent given c.in_err-check_and_finish-in-Kept.ensures.fault
+    (passed_unwritten c.from_residual-in_err-check_and_finish-in-Kept.result given passed before) in
+    (c.in_err-check_and_finish-in-Kept.ensures.absent it.0 (ap Err it.1)).1) in
+    record {
+      shelf = λ before. ap (λ (m : Media g.row.S.Denot g.row.H.Denot). m.shelf) (same before)
+          ∙ c.look_for_loss.ensures.shelf;
+      registry = λ clean before t has.
+          let clean1 : DiskKept g.S.Store c.look_for_loss.new.self.registry =
+          omega (arith, clean, c.check_and_finish.ensures.keep.clean) in
+          subst (λ (m : Media g.row.S.Denot g.row.H.Denot). LeavesAlone g.S.Store
+          c.args.self.now.registry m.registry) (sym (same before))
+          (alone_read g.S.Store c.args.self.now.registry c.look_for_loss.new.self.registry t has
+          (c.look_for_loss.ensures.reads clean1));
+    }
+
+pub returns-in_err-number-in-New-clause-before : goal.returns-in_err-number-in-New-clause-before
+returns-in_err-number-in-New-clause-before g c =
+    let passed = c.from_residual-in_err-number-in-New.ensures.1 in
+    let given = c.in_err-number-in-New.field-0.0 in
+    let lose = c.in_err-number-in-New.ensures in
+    let cause : IsUnwritten c.from_residual-in_err-number-in-New.result
+    → ((q : List ℕ) × (given ≡ Absent q)) ⊎ (given ≡ Unreadable) =
+    λ before. absent_or_unreadable given (λ is. lose.closed (ap Err is))
+    (passed_unwritten c.from_residual-in_err-number-in-New.result given passed before) in
+    record {
+      shelf = λ before. elim (cause before) [
+        | inl it ↦ ap (λ (m : Media g.row.S.Denot g.row.H.Denot). m.shelf)
+            (lose.absent it.0 (ap Err it.1)).1 ∙ c.look_for_loss.ensures.shelf
+        | inr is ↦ lose.unread (ap Err is) ∙ c.look_for_loss.ensures.shelf
+      ];
+      registry = λ clean before t has.
+          let clean1 : DiskKept g.S.Store c.look_for_loss.new.self.registry =
+          omega (arith, clean, c.lose.ensures.keep.clean) in
+          let loaded = c.in_ok-looked.ensures.loaded clean1 t has in
+          elim (cause before) [
+            | inl it ↦ subst (λ (m : Media g.row.S.Denot g.row.H.Denot). LeavesAlone g.S.Store
+                c.args.self.now.registry m.registry) (sym (lose.absent it.0 (ap Err it.1)).1)
+                (alone_read g.S.Store c.args.self.now.registry c.look_for_loss.new.self.registry t
+                has (c.look_for_loss.ensures.reads clean1))
+            | inr is ↦ absurd (lose.readable clean (ap Err is) t loaded.1 loaded.0.count)
+          ];
+    }
