@@ -20,7 +20,7 @@ use Rattle.gm_front.specs.declared.answer_lines.FrontFault.{FrontFault}
 use Rattle.gm_front.specs.Batch.{Answers, AreAnswered, AreCarriedOut, AreUnsettled, Batches, IsLast, Replies, Stops}
 use Rattle.gm_front.specs.BatchRuns.{with_asked, calls_of, StopsAtLine, BatchLeaves}
 use Rattle.gm_front.specs.HandedIn.{AreCarriedBehind, IsAtRestBehind, IsNextStop, IsStoppedAt, IsStoppedSettling, with_calls}
-use Rattle.gm_front.specs.Request.{Asked, Nothing, Wrong, Call, asked}
+use Rattle.gm_lines.specs.Asked.{Asked, Nothing, Wrong, Call, asked}
 
 -- one more call, handed in last
 with_last : (calls : List run.Call) (call : run.Call) (entries : List Entry)

@@ -3,12 +3,10 @@ pub mod Found
 pub mod ManyLooks
 pub mod NextLines
 pub mod Pages
-pub mod Requests
 pub mod RequestsServed
 pub mod ServedRuns
 pub mod Settled
 pub mod StoreTold
-pub mod TakenLines
 pub mod Turns
 pub mod Withholding
 pub mod WrittenBytes

@@ -18,7 +18,7 @@ use Rattle.gm_bench.specs.declared.fault.BenchFault.{BenchFault}
 use Rattle.gm_bench.proofs.DecidesOnly.{nothing_then}
 use Rattle.gm_bench.proofs.RegistryLeaves.{read_only}
 use Rattle.gm_front.specs.Guards.{OnlyLooks}
-use Rattle.gm_front.specs.Request.{Call}
+use Rattle.gm_lines.specs.Asked.{Call}
 
 on_ok : {T E A B : Type 0} (r : Result T E) → OnOk r A → (A → B) → OnOk r B
 on_ok (Ok x) a f = f a

@@ -28,16 +28,18 @@ use Rattle.gm_bench.proofs.Standing.{carried_so, stands_rest}
 use Rattle.gm_bench.specs.Recovering.{IsAt}
 use Rattle.gm_front.specs.declared.answer_lines.FrontFault.{FrontFault}
 use Rattle.gm_front.specs.declared.answer_lines.FrontFault.TheVariants.{Memory, Read, Write}
-use Rattle.gm_front.specs.declared.lines.Line.{Line}
-use Rattle.gm_front.specs.declared.lines.Line.TheVariants.{End, Whole, Long}
+use Rattle.gm_lines.specs.declared.lines.Line.{Line}
+use Rattle.gm_lines.specs.declared.lines.Line.TheVariants.{End, Whole, Long}
 use Rattle.gm_front.specs.declared.outcome.Outcome.{Outcome}
 use Rattle.gm_front.specs.declared.outcome.Outcome.TheVariants.{Nothing, Wrong, Answered, Failed}
-use Rattle.gm_front.specs.Request as asking
-use Rattle.gm_front.specs.Request.{Asked, asked}
-use Rattle.gm_front.specs.Input.{IsLine, line_at, lines_of}
+use Rattle.gm_front.specs.Told.{refusal_line}
+use Rattle.gm_lines.specs.Asked as asking
+use Rattle.gm_lines.specs.Asked.{Asked, asked}
+use Rattle.gm_lines.specs.Input.{IsLine, line_at, lines_of}
 use Rattle.gm_front.specs.Batch.{Replies, Answers, AppendsFront, AreCarriedOut, AreFirst, AreLines, AreStanding, Breaks, Ends, IsLast, Stops, Tells}
-use Rattle.gm_front.specs.Outcomes.{IsFarAfter, IsWaiting, NextComesTo, asked_at, is_refused, text_of}
-use Rattle.gm_front.proofs.TakenLines.{lines_first}
+use Rattle.gm_front.specs.Outcomes.{IsFarAfter, IsWaiting, NextComesTo, is_refused, text_of}
+use Rattle.gm_lines.specs.Asked.{asked_at}
+use Rattle.gm_lines.proofs.TakenLines.{lines_first}
 
 or_false : (b : Bool) → (b || false) ≡ b
 or_false true = refl
@@ -304,7 +306,7 @@ module _ {S H : Type 0} (g : Ghosts S) (view : H → View) (size : H → Sizes) 
   replied q r s h k away v u asks (Wrong key) comes on = record {
     world = u;
     before = v;
-    replies = subst (λ (x : Asked). Replies u x u (asking.refusal_line key.now 1) true)
+    replies = subst (λ (x : Asked). Replies u x u (refusal_line key.now 1) true)
         (sym comes.0) (refl, refl, refl);
     from = inr (inl (refl, refl));
     stands = comes.1;

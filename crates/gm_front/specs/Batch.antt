@@ -29,8 +29,9 @@ use Rattle.gm_front.specs.declared.answer_lines.BatchEnd.{BatchEnd}
 use Rattle.gm_front.specs.declared.answer_lines.BatchEnd.TheVariants.{Ended, Stopped}
 use Rattle.gm_front.specs.declared.answer_lines.FrontFault.{FrontFault}
 use Rattle.gm_front.specs.declared.answer_lines.FrontFault.TheVariants.{Memory, Read, Write}
-use Rattle.gm_front.specs.Input.{lines_of}
-use Rattle.gm_front.specs.Request.{Asked, Nothing, Wrong, Call, asked, answer_line, fault_line, is_refusal, refusal_line}
+use Rattle.gm_lines.specs.Input.{lines_of}
+use Rattle.gm_lines.specs.Asked.{Asked, Nothing, Wrong, Call, asked}
+use Rattle.gm_front.specs.Told.{answer_line, fault_line, is_refusal, refusal_line}
 
 -- One line takes u to w: what it is told, and whether it is refused.
 abbrev pub Replies : World → Asked → World → List ℕ → Bool → Type 0

@@ -12,7 +12,7 @@ use Rattle.gm_front.specs.declared.answer_lines.BatchEnd.TheVariants as end
 use Rattle.gm_front.specs.declared.answer_lines.FrontFault.{FrontFault}
 use Rattle.gm_front.specs.Batch.{AreLines, AreFirst}
 use Rattle.gm_front.specs.HandedIn.{AreCarriedBehind, IsAtRestBehind, IsStoppedNext, IsStoppedSettling, with_calls}
-use Rattle.gm_front.specs.Request.{Asked, Nothing, Wrong, Call, asked}
+use Rattle.gm_lines.specs.Asked.{Asked, Nothing, Wrong, Call, asked}
 
 -- what a line asks for, and then these calls
 abbrev pub with_asked : Asked → List run.Call → List run.Call

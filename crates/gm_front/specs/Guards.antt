@@ -29,7 +29,7 @@ use Rattle.gm_bench.specs.declared.phase.Progress.TheVariants.{Failed}
 use Rattle.gm_unlike.specs.Texts.{unlike_line, unlike_word}
 use Rattle.gm_words.specs.Lines.{line}
 use Rattle.gm_front.specs.Outcomes.{ComesTo, progress_after}
-use Rattle.gm_front.specs.Request.{Asked, Call, shown}
+use Rattle.gm_lines.specs.Asked.{Asked, Call, shown}
 use Rattle.gm_front.specs.declared.outcome.Outcome.{Outcome}
 use Rattle.gm_front.specs.declared.outcome.Outcome.TheVariants as outcome
 use Rattle.gm_front.specs.declared.guard.Guarded.{Guarded}

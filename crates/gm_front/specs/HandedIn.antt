@@ -56,8 +56,8 @@ module _ {S H : Type 0} (g : Ghosts S) (view : H → View) (size : H → Sizes) 
   -- within the settling of the last one after it
   abbrev pub IsNextStop : (r s : Held S) (h k : H) (away : Image) (v u : World) (call : run.Call)
       → LeavesNext g view size r s h k away v u call.key call.command → Trees → H → Type 0
-  IsNextStop r s h k away v u call (inl it) db l = IsRunStop g view size r s h k away v u call it db
-      l
+  IsNextStop r s h k away v u call (inl it) db l =
+      IsRunStop g view size r s h k away v u call it db l
   IsNextStop r s h k away v u call (inr it) db l =
       IsStop g view size r it.registry h it.shelf db l
       ⊎ IsStop g view size it.registry s it.shelf k db l

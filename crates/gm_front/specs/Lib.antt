@@ -5,9 +5,8 @@ pub mod Findings
 pub mod GuardedServices
 pub mod Guards
 pub mod HandedIn
-pub mod Input
 pub mod Losses
 pub mod Outcomes
-pub mod Request
 pub mod ServedRuns
 pub mod Services
+pub mod Told

@@ -4,7 +4,8 @@ use Rattle.gm_bench.specs.declared.answer.Answer.{Answer}
 use Rattle.gm_bench.specs.declared.loss.LossRefusal.{LossRefusal}
 use Rattle.gm_bench.specs.Running.{answer_of}
 use Rattle.gm_bench.specs.Without.{number_of_loss}
-use Rattle.gm_front.specs.Request.{answer_line, refusal_line, shown}
+use Rattle.gm_lines.specs.Asked.{shown}
+use Rattle.gm_front.specs.Told.{answer_line, refusal_line}
 
 -- the line for its answer, or for its refusal
 abbrev pub loss_line : List ℕ → Result Answer LossRefusal → List ℕ

@@ -1,5 +1,5 @@
 -- Requests and outcomes, as the code holds them.
-use Rattle.std.specs.Prelude.{◌≡◌, ◌≢◌, ◌⊎◌, ◌<◌, ℕ, Bool, true, false, List, [], codes, take}
+use Rattle.std.specs.Prelude.{◌≡◌, ◌≢◌, ◌⊎◌, ◌<◌, ℕ, Bool, true, false, List, []}
 use Rattle.sqlite_trees.specs.declared.store.Store.{Ghosts}
 use Rattle.sqlite.specs.Held.{Held}
 use Rattle.gm_metadata.specs.Images.{Image, Sizes}
@@ -23,25 +23,11 @@ use Rattle.gm_bench.specs.declared.answer.Answer.{Answer}
 use Rattle.gm_bench.specs.declared.answer.Answer.TheVariants.{Done, Repeated, Refused}
 use Rattle.gm_rules.specs.AbstractCalls as run
 use Rattle.gm_state.specs.declared.intents.Intent.{Intent}
-use Rattle.gm_front.specs.declared.request.Request.{Request}
-use Rattle.gm_front.specs.declared.request.Request.TheVariants as request
-use Rattle.gm_front.specs.declared.lines.Line.{Line}
-use Rattle.gm_front.specs.declared.lines.Line.TheVariants.{End, Whole, Long}
+use Rattle.gm_lines.specs.declared.request.Request.TheVariants as request
 use Rattle.gm_front.specs.declared.outcome.Outcome.{Outcome}
 use Rattle.gm_front.specs.declared.outcome.Outcome.TheVariants as outcome
-use Rattle.gm_front.specs.Request.{Asked, Nothing, Wrong, Call, asked, answer_line, fault_line, is_refusal, refusal_line}
-
--- what a request asks
-abbrev pub asked_of : Request → Asked
-asked_of request.Nothing = Nothing
-asked_of (request.Wrong key) = Wrong key.now
-asked_of (request.Call key command) = Call key.now command
-
--- what the line asks that was found at the front of an input
-abbrev pub asked_at : List ℕ → Line → Asked
-asked_at line End = Nothing
-asked_at line (Whole n) = asked (take n line)
-asked_at line Long = Wrong (codes "?")
+use Rattle.gm_lines.specs.Asked.{Asked, Nothing, Wrong, Call}
+use Rattle.gm_front.specs.Told.{answer_line, fault_line, is_refusal, refusal_line}
 
 -- what is told
 abbrev pub text_of : Outcome → List ℕ

@@ -13,15 +13,15 @@ ghost use Rattle.gm_bench.specs.Recovering.{IsAt};
 ghost use Rattle.gm_front.specs.Batch.{AnswersBatch, AppendsFront, Batches, HandsIn, IsFarAtEnd, front_fault_number, unsettled_fault};
 ghost use Rattle.gm_front.specs.Outcomes.{text_of};
 
-use crate::lines::{Line, MAX_LINE, take_line};
 use crate::next::ask_next;
 use crate::outcome::Outcome;
-use crate::request::request_at;
 use gm_bench::{Bench, BenchFault, Phase};
+use gm_lines::{Ahead, Line, MAX_LINE, request_at, take_line};
 use gm_shelf::Shelf;
 use sqlite::Alter;
 use std::alloc::{AllocError, Global};
 use std::io::{BufRead, ErrorKind, Write};
+use std::mem;
 
 /// How a batch ended whose answers were all told.
 #[derive(Clone, Copy, Debug, PartialEq, Eq)]
@@ -185,6 +185,7 @@ fn answer_lines<R: BufRead, W: Write, S: Alter, H: Shelf, L: Listener>(
         (shelf_of bench.old) (shelf_of bench.new) }
 {
     let mut refused = false;
+    let mut next: Option<Ahead> = None;
     for _ in 0..u64::MAX {
         let Ok(taken) = take_line(Some(alloc), reader, line) else {
             return Err(FrontFault::Read);
@@ -193,10 +194,11 @@ fn answer_lines<R: BufRead, W: Write, S: Alter, H: Shelf, L: Listener>(
         if found == Line::End {
             return Ok(BatchEnd::Ended { refused });
         }
-        let Ok(request) = request_at(alloc, line, found) else {
+        let ahead = mem::replace(&mut next, taken.next);
+        let Ok(request) = request_at(alloc, line, found, ahead) else {
             return Err(FrontFault::Memory);
         };
-        let outcome = ask_next(alloc, bench, &request, taken.follows);
+        let outcome = ask_next(alloc, bench, &request, next.is_some());
         if let Err(fault) = tell(alloc, writer, &outcome) {
             return Err(fault);
         }

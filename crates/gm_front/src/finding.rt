@@ -1,6 +1,6 @@
 //! What a demand comes to at a bench, and what is told of it.
 
-ghost use Rattle.std.specs.Prelude.{◌≡◌, ℕ, List, [], IfOk, Some};
+ghost use Rattle.std.specs.Prelude.{◌≡◌, [], IfOk, Some};
 ghost use Rattle.gm_metadata.specs.Images.{Image};
 ghost use Rattle.gm_metadata.specs.Reading.{decode_of};
 ghost use Rattle.gm_state.specs.World.{World};

@@ -1,7 +1,7 @@
 //! A guard before a command: it is handed in only if the images that it is about are as they are
 //! registered.
 
-ghost use Rattle.std.specs.Prelude.{◌≡◌, ℕ, List, [], IfOk, IsErrOf};
+ghost use Rattle.std.specs.Prelude.{◌≡◌, [], IfOk, IsErrOf};
 ghost use Rattle.std.specs.String.{string_bytes};
 ghost use Rattle.gm_metadata.specs.Images.{Image};
 ghost use Rattle.gm_state.specs.Records.{Records};
@@ -16,12 +16,12 @@ ghost use Rattle.gm_bench.specs.Phases.{TakesCommands};
 ghost use Rattle.gm_bench.specs.Recovering.{IsAt};
 ghost use Rattle.gm_front.specs.Findings.{TellsStoreAt};
 ghost use Rattle.gm_front.specs.Guards.{ComesToGuarded, IsGuarded, KeepsClosed, OnlyLooks, StoodInTheWay, guarded_fault, progress_guarded, withheld_message, withheld_text};
-ghost use Rattle.gm_front.specs.Outcomes.{asked_of};
+ghost use Rattle.gm_lines.specs.Asked.{asked_of};
 
 use crate::outcome::{Outcome, ask};
-use crate::request::{Request, shown};
 use gm_bench::{Bench, BenchFault};
 use gm_commands::Command;
+use gm_lines::{Request, shown};
 use gm_looks::Unlike;
 use gm_shelf::Shelf;
 use gm_unlike::{unlike_lines, unlike_words};

@@ -9,12 +9,13 @@ ghost use Rattle.gm_bench.specs.Calls.{ClosesOnFault, Keep};
 ghost use Rattle.gm_bench.specs.declared.phase.Progress.TheVariants.{Failed, Ready};
 ghost use Rattle.gm_bench.specs.Phases.{TakesNext};
 ghost use Rattle.gm_bench.specs.Standing.{Stands};
-ghost use Rattle.gm_front.specs.Outcomes.{FailsNext, IsAnsweredNext, IsFarAfter, NextComesTo, asked_of};
+ghost use Rattle.gm_front.specs.Outcomes.{FailsNext, IsAnsweredNext, IsFarAfter, NextComesTo};
+ghost use Rattle.gm_lines.specs.Asked.{asked_of};
 
 use crate::outcome::Outcome;
-use crate::request::Request;
 use gm_bench::{Answer, Bench, BenchFault};
 use gm_commands::Command;
+use gm_lines::Request;
 use gm_shelf::Shelf;
 use sqlite::Alter;
 use std::alloc::Global;

@@ -11,12 +11,13 @@ ghost use Rattle.gm_bench.specs.declared.phase.Progress.TheVariants.{Failed};
 ghost use Rattle.gm_bench.specs.Phases.{TakesCommands};
 ghost use Rattle.gm_bench.specs.Recovering.{IsAt};
 ghost use Rattle.gm_bench.specs.Running.{answer_of};
-ghost use Rattle.gm_front.specs.Request.{done_line, numbered, shown_answer};
+ghost use Rattle.gm_front.specs.Told.{done_line, numbered, shown_answer};
 ghost use Rattle.gm_front.specs.Losses.{loss_line};
-ghost use Rattle.gm_front.specs.Outcomes.{ComesTo, asked_of, is_refused, progress_after, text_of};
+ghost use Rattle.gm_front.specs.Outcomes.{ComesTo, is_refused, progress_after, text_of};
+ghost use Rattle.gm_lines.specs.Asked.{asked_of};
 
-use crate::request::{Request, shown};
 use gm_bench::{Answer, Bench, BenchFault, LossRefusal};
+use gm_lines::{Request, shown};
 use gm_shelf::Shelf;
 use gm_state::Reply;
 use sqlite::Alter;

@@ -10,9 +10,9 @@ use crate::explainer::Explainer;
 use gm_bench::Bench;
 use gm_faults::Fault;
 use gm_front::{
-    BatchEnd, FrontFault, Guarded, Line, Listener, MAX_LINE, Outcome, ask_guarded, heard_batch,
-    next_line, pieces, request_of, withheld_text,
+    BatchEnd, FrontFault, Guarded, Listener, Outcome, ask_guarded, heard_batch, withheld_text,
 };
+use gm_lines::{Line, MAX_LINE, next_line, pieces, request_of};
 use gm_process::{Status, Streams};
 use gm_shelf::Shelf;
 use sqlite::Alter;

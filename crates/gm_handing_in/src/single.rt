@@ -12,9 +12,8 @@ use gm_bench::Bench;
 use gm_command_line::Checks;
 use gm_commands::is_key;
 use gm_faults::Fault;
-use gm_front::{
-    Guarded, Outcome, Request, ask, ask_guarded, in_the_way, request_of, withheld_text,
-};
+use gm_front::{Guarded, Outcome, ask, ask_guarded, in_the_way, withheld_text};
+use gm_lines::{Request, request_of};
 use gm_process::{Status, Streams};
 use gm_shelf::Shelf;
 use sqlite::Alter;

@@ -13,7 +13,7 @@ import sys
 
 PROGRAM, BENCH = "gmbench", "gm_bench"
 # How many functions a crate above the bench may have.
-MOST = 70
+MOST = 60
 FUNCTION = re.compile(r"^\s*(?:pub(?:\([^)]*\))? )?(?:const )?fn \w+", re.M)
 
 

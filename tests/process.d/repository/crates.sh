@@ -36,9 +36,9 @@ if has_python 'the order of the crates'; then
     printf '#[test]\nfn one() {}\n' >"$refused/crates/low/src/tests.rt"
     expect_told 'a crate of the program that has tests' 'failed low has no tests, which a build would prove: it has some'
     begin
-    for number in 1 2 3 4 5 6 7 8 9 10 11 12 13 14 15 16 17 18 19 20 21 22 23 24 25 26 27 28 29 30 31 32 33 34 35 36; do
+    for number in 1 2 3 4 5 6 7 8 9 10 11 12 13 14 15 16 17 18 19 20 21 22 23 24 25 26 27 28 29 30 31; do
         printf 'fn one_%s() {}\n\npub fn two_%s() {}\n' "$number" "$number"
     done >>"$refused/crates/above/src/lib.rt"
-    expect_told 'a crate above the bench that is large' 'failed above has at most 70 functions: it has 72'
+    expect_told 'a crate above the bench that is large' 'failed above has at most 60 functions: it has 62'
 fi
 finish

@@ -2,7 +2,7 @@
 
 use super::{LABEL, REFUSED, images, in_memory, must, of_letters, open, try_batch};
 use gm_bench::Bench;
-use gm_front::MAX_LINE;
+use gm_lines::MAX_LINE;
 use gm_shelf::Shelf;
 use sqlite::{Alter, Connection};
 use std::cell::Cell;

@@ -4,7 +4,8 @@ use super::{
     DONE, INSERT, LABEL, REMOVE, answers, images, in_memory, must, of_letters, open, try_batch,
 };
 use gm_bench::Bench;
-use gm_front::{BatchEnd, FrontFault, MAX_LINE};
+use gm_front::{BatchEnd, FrontFault};
+use gm_lines::MAX_LINE;
 use gm_shelf::Shelf;
 use sqlite::{Alter, Connection};
 use std::io::{self, BufReader, ErrorKind, Read};

@@ -1,8 +1,8 @@
 use Rattle.std.proofs.Common.{rules, arith, ◌≡◌, ◌≢◌, ◌∙◌, ap, refl, inl}
 use Rattle.std.specs.Io.KnownBytes.{Appends}
-use Rattle.gm_front.specs.declared.lines.Line.TheVariants.{End}
+use Rattle.gm_lines.specs.declared.lines.Line.TheVariants.{End}
 use Rattle.gm_front.specs.Batch.{AppendsFront}
-use Rattle.gm_front.specs.Outcomes.{asked_at, asked_of}
+use Rattle.gm_lines.specs.Asked.{asked_at, asked_of}
 use Rattle.gm_front.proofs.Turns.{begun, broken, comes_so, comes_to, far_failed, far_on, finished, front_all, goes_on, kept_before, one_more, stopped, takes_after, told_in_part, told_wholly}
 use Rattle.gm_front.proofs.answer_lines.answer_lines.Goals as goal
 
@@ -20,6 +20,7 @@ loop-init g c = record {
   goes_on = λ other. other;
   redone = refl;
   closed = λ _. refl;
+  next = tt;
 }
 
 pub returns-in_default-clause-does : goal.returns-in_default-clause-does
@@ -63,7 +64,7 @@ returns-in-Err-clause-does g c = λ honest kept away u at.
     told_in_part g.S.Store g.H.Shelf.view g.H.Shelf.size _ _ _ _ _ _ _ _ _ _ _ _ away u _
     c.take_line.new.line c.in-Ok.taken.found c.ask_next-outcome.result _ so c.in-Ok.ensures.line
     some comes (far_failed c.loop.bench.progress c.ask_next-outcome.new.bench.progress
-    c.in-Ok.taken.follows c.ask_next-outcome.result c.ask_next-outcome.ensures.far)
+    _ c.ask_next-outcome.result c.ask_next-outcome.ensures.far)
     c.in-Err.ensures.fault c.in-Err.ensures.front
 
 pub returns-in-Failed-clause-does : goal.returns-in-Failed-clause-does
@@ -93,7 +94,7 @@ returns-in-Failed-clause-does g c = λ honest kept away u at.
     c.in-Ok.ensures.line some failed
     _ c.ask_next-outcome.result c.in-Failed.is c.in_default-tell.ensures.ok in (
       far_failed c.loop.bench.progress c.ask_next-outcome.new.bench.progress
-          c.in-Ok.taken.follows c.ask_next-outcome.result c.ask_next-outcome.ensures.far
+          _ c.ask_next-outcome.result c.ask_next-outcome.ensures.far
           c.in-Failed.field-0 c.in-Failed.fault c.in-Failed.is,
       stopped g.S.Store g.H.Shelf.view g.H.Shelf.size c.loop.bench.progress
           c.ask_next-outcome.new.bench.progress _ _ _ _ _ _ _ _ _ away u _
@@ -132,23 +133,24 @@ loop-preserved g c =
             _ _ c.is_refused_after-refused.ensures on c.in_default-tell.ensures.ok;
       };
       takes = takes_after c.loop.bench.progress c.ask_next-outcome.new.bench.progress
-          c.in-Ok.taken.follows c.ask_next-outcome.result c.loop.invariant.takes asked.far;
+          _ c.ask_next-outcome.result c.loop.invariant.takes asked.far;
       goes_on = λ other. far_on c.loop.bench.progress c.ask_next-outcome.new.bench.progress
-          c.in-Ok.taken.follows c.ask_next-outcome.result asked.far on
+          _ c.ask_next-outcome.result asked.far on
           (c.loop.invariant.goes_on other);
       redone = asked.redone ∙ c.loop.invariant.redone;
       closed = λ failed. asked.closed (ap (λ b. b.progress) (c.loop.invariant.closed failed)
           ∙ failed) ∙ c.loop.invariant.closed failed;
+      next = rw c.replace-ahead.ensures.after c.in-Ok.ensures.ahead;
     }
 
 pub returns-in-Err-clause-phase : goal.returns-in-Err-clause-phase
 returns-in-Err-clause-phase g c =
     takes_after c.loop.bench.progress c.ask_next-outcome.new.bench.progress
-    c.in-Ok.taken.follows c.ask_next-outcome.result c.loop.invariant.takes
+    _ c.ask_next-outcome.result c.loop.invariant.takes
     c.ask_next-outcome.ensures.far
 
 pub returns-in-Failed-clause-phase : goal.returns-in-Failed-clause-phase
 returns-in-Failed-clause-phase g c =
     takes_after c.loop.bench.progress c.ask_next-outcome.new.bench.progress
-    c.in-Ok.taken.follows c.ask_next-outcome.result c.loop.invariant.takes
+    _ c.ask_next-outcome.result c.loop.invariant.takes
     c.ask_next-outcome.ensures.far

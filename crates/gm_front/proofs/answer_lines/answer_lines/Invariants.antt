@@ -1,6 +1,7 @@
-use Rattle.std.proofs.Common.{◌≡◌, ◌≢◌}
+use Rattle.std.proofs.Common.{◌≡◌, ◌≢◌, IfSome}
 use Rattle.gm_bench.specs.declared.phase.Progress.TheVariants.{Failed}
 use Rattle.gm_bench.specs.Phases.{TakesNext}
+use Rattle.gm_lines.specs.Asked.{IsAhead}
 use Rattle.gm_front.proofs.Turns.{Going}
 use Rattle.gm_front.proofs.answer_lines.answer_lines.Given as goal
 
@@ -14,4 +15,5 @@ invariant-loop g l = record {
   goes_on : l.fn.bench.progress ≢ Failed → l.bench.progress ≢ Failed;
   redone : l.bench.redone ≡ l.fn.bench.redone;
   closed : l.fn.bench.progress ≡ Failed → l.bench ≡ l.fn.bench;
+  next : IfSome l.next IsAhead;
 }

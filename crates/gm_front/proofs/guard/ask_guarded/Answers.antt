@@ -8,8 +8,8 @@ use Rattle.gm_bench.specs.Calls.{most_rows}
 use Rattle.gm_bench.proofs.Looks.{looked_at}
 use Rattle.gm_bench.proofs.StoreFails.{failed_behind}
 use Rattle.gm_front.specs.Guards.{StoodInTheWay}
-use Rattle.gm_front.specs.Outcomes.{asked_of}
-use Rattle.gm_front.specs.Request.{Call}
+use Rattle.gm_lines.specs.Asked.{asked_of}
+use Rattle.gm_lines.specs.Asked.{Call}
 use Rattle.gm_front.proofs.Found.{records_shown, store_of}
 use Rattle.gm_front.proofs.ManyLooks.{looks_nothing, same_call}
 use Rattle.gm_front.proofs.StoreTold.{store_told}

@@ -2,7 +2,7 @@ use Rattle.std.proofs.Common.{rules, tests, lit<, ◌∙◌, ◌==◌, ap, not, 
 use Rattle.std.specs.Str.Iter.{split_text, split_has_more, split_pattern}
 use Rattle.std.proofs.lemmas.Iterator.Consumers.{YieldsList-from_filter, map_from_collect}
 use Rattle.std.proofs.lemmas.Iterator.Splits.{YieldsList-from_str_split}
-use Rattle.gm_front.proofs.request.pieces.Goals as goal
+use Rattle.gm_lines.proofs.request.pieces.Goals as goal
 
 pub returns : goal.returns
 returns c =

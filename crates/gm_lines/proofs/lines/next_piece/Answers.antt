@@ -2,11 +2,11 @@ use Rattle.std.proofs.Common.{refl, [], append-nil, subst, take}
 use Rattle.std.proofs.BufReadLemmas.{Consumes_shown}
 use Rattle.std.proofs.KnownBytes.{Consumes-nil, Consumes-kept}
 use Rattle.std.specs.Io.BufRead.{FillKeeps}
-use Rattle.gm_front.proofs.TakenLines.{nothing_ready, ended_where}
-use Rattle.gm_front.proofs.lines.next_piece.Goals as goal
+use Rattle.gm_lines.proofs.TakenLines.{nothing_ready, ended_where}
+use Rattle.gm_lines.proofs.lines.next_piece.Goals as goal
 
-pub returns-in-Err : goal.returns-in-Err
-returns-in-Err g c =
+pub returns-in-Err-clause-piece : goal.returns-in-Err-clause-piece
+returns-in-Err-clause-piece g c =
     let kept = c.fill_buf.follows.holds-at-none.0 in
     record {
       bytes = [];
@@ -15,8 +15,8 @@ returns-in-Err g c =
       end = tt;
     }
 
-pub returns : goal.returns
-returns g c =
+pub returns-clause-piece : goal.returns-clause-piece
+returns-clause-piece g c =
     let length = c.piece_length-length in
     let ready = c.in-Ok.ready.now in
     let rested = c.fill_buf.follows.lender-at-none in

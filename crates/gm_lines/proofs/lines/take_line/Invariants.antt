@@ -1,5 +1,5 @@
-use Rattle.gm_front.specs.Input.{Begins}
-use Rattle.gm_front.proofs.lines.take_line.Given as goal
+use Rattle.gm_lines.specs.Input.{Begins}
+use Rattle.gm_lines.proofs.lines.take_line.Given as goal
 
 abbrev pub invariant-loop : goal.invariant-loop
 invariant-loop g l =

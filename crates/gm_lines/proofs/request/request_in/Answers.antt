@@ -1,9 +1,9 @@
 use Rattle.std.proofs.Common.{◌∙◌, sym, ap}
 use Rattle.std.proofs.lemmas.Result.{IfOk-weaker}
-use Rattle.gm_front.specs.Request.{asked_by, pieces}
+use Rattle.gm_lines.specs.Asked.{asked_by, pieces}
 use Rattle.gm_words.specs.Lines.{texts}
-use Rattle.gm_front.proofs.Requests.{asked_text, asked_bytes}
-use Rattle.gm_front.proofs.request.request_in.Goals as goal
+use Rattle.gm_lines.proofs.Requests.{asked_text, asked_bytes}
+use Rattle.gm_lines.proofs.request.request_in.Goals as goal
 
 pub returns-in_ok-pieces-in-Ok : goal.returns-in_ok-pieces-in-Ok
 returns-in_ok-pieces-in-Ok c =

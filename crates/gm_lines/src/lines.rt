@@ -1,9 +1,10 @@
 //! The lines of a batch: at most 131,072 bytes each, whatever the input is.
 
 ghost use Rattle.std.specs.Prelude.{◌≡◌, ◌<◌, ◌≤◌, ◌++◌, ℕ, true, List, length, take, slice_index, IfSome, IfOk, nat_lt, if◌then◌else◌};
-ghost use Rattle.gm_front.specs.Input.{is_one_line, Fits, IsCopied, IsLine, IsPiece, IsTaken, TakesPiece};
+ghost use Rattle.gm_lines.specs.Asked.{IsAhead};
+ghost use Rattle.gm_lines.specs.Input.{is_one_line, Fits, IsCopied, IsLine, IsPiece, IsTaken, TakesPiece};
 
-use crate::request::spells_command;
+use crate::ahead::{Ahead, read_ahead};
 use memchr::memchr;
 use std::alloc::Global;
 use std::io::{self, BufRead, ErrorKind};
@@ -22,12 +23,11 @@ pub enum Line {
     Long,
 }
 
-/// A line that was taken, and whether the reader had another one ready that spells a command under
-/// a key.
-#[derive(Clone, Copy, Debug, PartialEq, Eq)]
-pub(crate) struct TakenLine {
-    pub(crate) found: Line,
-    pub(crate) follows: bool,
+/// A line that was taken, and the command of the next one, if the reader had it ready.
+#[derive(Debug, Drop)]
+pub struct TakenLine {
+    pub found: Line,
+    pub next: Option<Ahead>,
 }
 
 /// What a reader had ready of a line.
@@ -92,37 +92,40 @@ fn taken(line: &mut [u8], count: usize, piece: &[u8]) -> Piece
     }
 }
 
-// Whether a command follows a line feed, by what the reader has ready after it. Without memory for
+// The command that follows a line feed, by what the reader has ready after it. Without memory for
 // that it isn't looked for.
-fn command_follows(ahead: Option<Global>, piece: Piece, behind: &[u8]) -> bool {
+fn next_of(ahead: Option<Global>, piece: Piece, behind: &[u8]) -> Option<Ahead>
+    ensures { IfSome result IsAhead }
+{
     match (piece, ahead) {
-        (Piece::Feed, Some(alloc)) => spells_command(alloc, behind),
-        _ => false,
+        (Piece::Feed, Some(alloc)) => read_ahead(alloc, behind),
+        _ => None,
     }
 }
 
-// Takes the next piece to a line of which `count` bytes are there: what the reader has ready. Tells
-// also whether a command follows.
+// Takes the next piece to a line of which `count` bytes are there: what the reader has ready. Reads
+// also the command that follows.
 fn next_piece<R: BufRead>(
     ahead: Option<Global>,
     reader: &mut R,
     line: &mut [u8],
     count: usize,
-) -> io::Result<(Piece, bool)>
+) -> io::Result<(Piece, Option<Ahead>)>
     requires { length line.old ≡ 131072 }
-    ensures { IfOk result (λ it. TakesPiece (R.remaining reader.old) (R.remaining reader.new)
+    ensures piece { IfOk result (λ it. TakesPiece (R.remaining reader.old) (R.remaining reader.new)
         line.old line.new count it.0) }
+    ensures ahead { IfOk result (λ it. IfSome it.1 IsAhead) }
 {
     let ready = match reader.fill_buf() {
         Ok(ready) => ready,
-        Err(e) if e.kind() == ErrorKind::Interrupted => return Ok((Piece::Bytes(count), false)),
+        Err(e) if e.kind() == ErrorKind::Interrupted => return Ok((Piece::Bytes(count), None)),
         Err(e) => return Err(e),
     };
     let length = piece_length(ready);
     let piece = taken(line, count, &ready[..length]);
-    let follows = command_follows(ahead, piece, &ready[length..]);
+    let next = next_of(ahead, piece, &ready[length..]);
     reader.consume(length);
-    Ok((piece, follows))
+    Ok((piece, next))
 }
 
 // A line of which so many bytes were counted, up to 131,073.
@@ -144,9 +147,10 @@ fn ended(count: usize) -> Line
     if count > 0 { found(count) } else { Line::End }
 }
 
-/// Takes the next line as `next_line` does. With memory to look ahead, it also tells whether a
-/// command follows: the reader isn't asked for more than it has ready.
-pub(crate) fn take_line<R: BufRead>(
+/// Takes the next line as `next_line` does. With memory to look ahead, it also reads the command of
+/// the line after it, if that is a whole line that asks one under a key: the reader isn't asked for
+/// more than it has ready.
+pub fn take_line<R: BufRead>(
     ahead: Option<Global>,
     reader: &mut R,
     line: &mut [u8],
@@ -155,18 +159,19 @@ pub(crate) fn take_line<R: BufRead>(
     ensures line { IfOk result (λ it. IfSome (R.remaining reader.old) (λ bytes.
         IsLine bytes (R.remaining reader.new) line.new it.found)) }
     ensures fits { IfOk result (λ it. Fits it.found) }
+    ensures ahead { IfOk result (λ it. IfSome it.next IsAhead) }
 {
     let mut count = 0usize;
     for _ in 0..u64::MAX {
-        let (piece, follows) = next_piece(ahead, reader, line, count)?;
+        let (piece, next) = next_piece(ahead, reader, line, count)?;
         match piece {
             Piece::Nothing => return Ok(TakenLine {
                 found: ended(count),
-                follows: false,
+                next: None,
             }),
             Piece::Feed => return Ok(TakenLine {
                 found: found(count),
-                follows,
+                next,
             }),
             Piece::Bytes(counted) => count = counted,
         }

@@ -3,10 +3,10 @@ use Rattle.std.specs.Prelude.{◌≡◌, ◌<◌, ◌≤◌, ◌==◌, ◌⊎◌
 use Rattle.std.specs.List.{list_all}
 use Rattle.std.specs.Io.BufRead.{drop_through}
 use Rattle.std.specs.Io.KnownBytes.{Consumes, IsAtEnd}
-use Rattle.gm_front.specs.declared.lines.Line.{Line}
-use Rattle.gm_front.specs.declared.lines.Line.TheVariants.{End, Whole, Long}
-use Rattle.gm_front.specs.declared.lines.Piece.{Piece}
-use Rattle.gm_front.specs.declared.lines.Piece.TheVariants.{Nothing, Feed, Bytes}
+use Rattle.gm_lines.specs.declared.lines.Line.{Line}
+use Rattle.gm_lines.specs.declared.lines.Line.TheVariants.{End, Whole, Long}
+use Rattle.gm_lines.specs.declared.lines.Piece.{Piece}
+use Rattle.gm_lines.specs.declared.lines.Piece.TheVariants.{Nothing, Feed, Bytes}
 
 -- the bytes before the first line feed
 abbrev pub line_at : List ℕ → List ℕ

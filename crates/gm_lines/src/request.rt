@@ -1,15 +1,14 @@
 //! What a line of a batch asks.
 
-ghost use Rattle.std.specs.Prelude.{◌≡◌, ◌≤◌, IfOk, length};
-ghost use Rattle.gm_front.specs.Request.{asked, asked_by, pieces, shown};
-ghost use Rattle.gm_front.specs.Input.{Fits};
+ghost use Rattle.std.specs.Prelude.{◌≡◌, ◌≤◌, ℕ, List, IfOk, IfSome, length};
+ghost use Rattle.gm_lines.specs.Asked.{Call, IsAhead, asked, asked_at, asked_by, asked_of, pieces, shown};
+ghost use Rattle.gm_lines.specs.Input.{Fits};
 ghost use Rattle.gm_words.specs.Lines.{texts};
-ghost use Rattle.gm_front.specs.Outcomes.{asked_at, asked_of};
 
-use crate::lines::{Line, MAX_LINE};
+use crate::ahead::Ahead;
+use crate::lines::Line;
 use gm_commands::{Command, is_key};
 use gm_words::read_words;
-use memchr::memchr;
 use std::alloc::{AllocError, Global};
 use std::str;
 
@@ -25,7 +24,7 @@ pub enum Request<'a> {
 }
 
 /// A key as answers show it: `?` where it isn't one.
-pub(crate) fn shown(key: &str) -> &str
+pub fn shown(key: &str) -> &str
     ensures { result.now ≡ shown key.now }
 {
     if is_key(key) { key } else { "?" }
@@ -53,8 +52,8 @@ pub fn request_of<'a>(alloc: Global, pieces: &[&'a str]) -> Result<Request<'a>, 
     }
 }
 
-// What a line of at most 131,072 bytes asks.
-fn request_in<'a>(alloc: Global, line: &'a [u8]) -> Result<Request<'a>, AllocError>
+/// What a line of at most 131,072 bytes asks.
+pub(crate) fn request_in<'a>(alloc: Global, line: &'a [u8]) -> Result<Request<'a>, AllocError>
     requires { length line.now ≤ 131072 }
     ensures { IfOk result (λ request. asked_of request ≡ asked line.now) }
 {
@@ -64,30 +63,54 @@ fn request_in<'a>(alloc: Global, line: &'a [u8]) -> Result<Request<'a>, AllocErr
     }
 }
 
-/// Whether the bytes begin with a whole line that spells a command under a key. Not if it is too
-/// long to be looked at, or memory is refused.
-pub(crate) fn spells_command(alloc: Global, bytes: &[u8]) -> bool {
-    match memchr(b'\n', bytes) {
-        Some(end) if end <= MAX_LINE => {
-            matches!(request_in(alloc, &bytes[..end]), Ok(Request::Call(_, _)))
-        }
-        _ => false,
+// The request of a line whose command is known, under its key, which is its first piece.
+fn under_key<'a>(alloc: Global, line: &'a [u8], command: Command) -> Result<Request<'a>, AllocError>
+    requires short { length line.now ≤ 131072 }
+    requires asks { (key : List ℕ) × (asked line.now ≡ Call key command) }
+    ensures { IfOk result (λ request. asked_of request ≡ asked line.now) }
+{
+    let Ok(text) = str::from_utf8(line) else {
+        return Ok(Request::Wrong("?"));
+    };
+    let found = pieces(alloc, text)?;
+    match found.split_first() {
+        Some((key, _)) => Ok(Request::Call(key, command)),
+        None => Ok(Request::Nothing),
     }
 }
 
-/// What the line asks that was found at the front of an input.
-pub(crate) fn request_at<'a>(
+// What a line of at most 131,072 bytes asks. Its command may have been read ahead.
+fn request_over<'a>(
+    alloc: Global,
+    line: &'a [u8],
+    ahead: Option<Ahead>,
+) -> Result<Request<'a>, AllocError>
+    requires short { length line.now ≤ 131072 }
+    requires ahead { IfSome ahead IsAhead }
+    ensures { IfOk result (λ request. asked_of request ≡ asked line.now) }
+{
+    match ahead {
+        Some(ahead) if ahead.line.as_slice() == line => under_key(alloc, line, ahead.command),
+        _ => request_in(alloc, line),
+    }
+}
+
+/// What the line asks that was found at the front of an input. A command that was read ahead is
+/// taken if its line is this one.
+pub fn request_at<'a>(
     alloc: Global,
     line: &'a [u8],
     found: Line,
+    ahead: Option<Ahead>,
 ) -> Result<Request<'a>, AllocError>
     requires fits { Fits found }
     requires room { length line.now ≡ 131072 }
+    requires ahead { IfSome ahead IsAhead }
     ensures { IfOk result (λ request. asked_of request ≡ asked_at line.now found) }
 {
     match found {
         Line::End => Ok(Request::Nothing),
         Line::Long => Ok(Request::Wrong("?")),
-        Line::Whole(count) => request_in(alloc, &line[..count]),
+        Line::Whole(count) => request_over(alloc, &line[..count], ahead),
     }
 }

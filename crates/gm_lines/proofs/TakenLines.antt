@@ -6,12 +6,12 @@ use Rattle.std.specs.Prelude.{if◌then◌else◌, OnSome}
 use Rattle.std.proofs.lemmas.Bool.Decides.{nat_tests}
 use Rattle.std.specs.Io.BufRead.{drop_through}
 use Rattle.std.specs.Io.KnownBytes.{Consumes, IsAtEnd}
-use Rattle.gm_front.specs.Input.{line_at, is_one_line, lines_of, onto}
-use Rattle.gm_front.specs.Input.{Fits, IsLine, IsCopied, IsTaken, WhereEnded, TakesPiece, Begins}
-use Rattle.gm_front.specs.declared.lines.Line.{Line}
-use Rattle.gm_front.specs.declared.lines.Line.TheVariants.{End, Whole, Long}
-use Rattle.gm_front.specs.declared.lines.Piece.{Piece}
-use Rattle.gm_front.specs.declared.lines.Piece.TheVariants.{Nothing, Feed, Bytes}
+use Rattle.gm_lines.specs.Input.{line_at, is_one_line, lines_of, onto}
+use Rattle.gm_lines.specs.Input.{Fits, IsLine, IsCopied, IsTaken, WhereEnded, TakesPiece, Begins}
+use Rattle.gm_lines.specs.declared.lines.Line.{Line}
+use Rattle.gm_lines.specs.declared.lines.Line.TheVariants.{End, Whole, Long}
+use Rattle.gm_lines.specs.declared.lines.Piece.{Piece}
+use Rattle.gm_lines.specs.declared.lines.Piece.TheVariants.{Nothing, Feed, Bytes}
 use Rattle.std.proofs.KnownBytes.{Consumes-trans}
 use Rattle.std.proofs.lemmas.List.Folds.{list_all-append}
 
@@ -130,9 +130,9 @@ fed (Some bytes) (Some ms) (Some ns) line count b found begins took is e =
     rw e (is_found bytes line begins.seen ns count _ refl begins.copied some
     (ap line_at all ∙ parts.0) (ap (drop_through 10) all ∙ parts.1))
 
-no_bytes : (xs : List ℕ) → length xs ≡ 0 → xs ≡ []
-no_bytes [] h = refl
-no_bytes (x ∷ xs) h = absurd (omega arith)
+pub none_of : {X : Type 0} (xs : List X) → length xs ≡ 0 → xs ≡ []
+none_of [] h = refl
+none_of (x ∷ xs) h = absurd (omega arith)
 
 is_ended : (bytes line seen : List ℕ) (count : ℕ) (some : Bool) → nat_lt 0 count ≡ some
     → IsCopied line count seen → bytes ≡ seen → is_one_line seen ≡ true
@@ -146,7 +146,7 @@ is_ended bytes line seen count true test copied all one =
 is_ended bytes line seen count false test copied all one =
     let none : count ≡ 0 = grind (arith, nat_tests) in
     let counted : count ≡ min (length seen) 131073 = copied.counted in
-    (all ∙ no_bytes seen (omega arith), refl)
+    (all ∙ none_of seen (omega arith), refl)
 
 -- where the input ends
 ended : (old mid new : Option (List ℕ)) (line : List ℕ) (count : ℕ) (found : Line)

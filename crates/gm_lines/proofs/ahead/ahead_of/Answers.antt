@@ -1,0 +1,10 @@
+use Rattle.std.proofs.Common.{◌∙◌, ap, sym}
+use Rattle.gm_lines.specs.Asked.{asked, asked_of}
+use Rattle.gm_lines.proofs.ahead.ahead_of.Goals as goal
+
+pub returns-in-Ok : goal.returns-in-Ok
+returns-in-Ok c = (
+  c.in-Ok-Call.field-0-0.now,
+  ap asked (c.in-Ok.ensures.items_if_clones_equal (λ x y e. e))
+      ∙ sym (ap asked_of (sym c.in-Ok-Call.field-0-is) ∙ c.in-Ok-Call.ensures),
+)
