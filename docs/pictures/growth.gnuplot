@@ -7,7 +7,7 @@ set grid ytics linetype 1 linecolor "#dddddd"
 set tics nomirror
 set xtics scale 0 ("on a disk" 0, "in memory" 1)
 set xrange [-0.6:1.6]
-set yrange [0:2.8]
+set yrange [0:2.2]
 set ytics 0.5
 set ylabel "milliseconds a command"
 set key top right reverse Left samplen 2 spacing 1.2

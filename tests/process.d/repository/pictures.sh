@@ -25,7 +25,7 @@ echo >>"$here/docs/pictures/states.dot"
 expect_found 'a text that was changed' 'states.dot was changed since states.svg was drawn: docs/draw states'
 echo >>"$here/docs/pictures/rate.gnuplot"
 expect_found 'a plot that was changed' 'rate.gnuplot was changed since rate.svg was drawn: docs/draw rate'
-sed 's/1265/1266/' "$top/docs/pictures/data/rate.txt" >"$here/docs/pictures/data/rate.txt"
+sed 's/1860/1861/' "$top/docs/pictures/data/rate.txt" >"$here/docs/pictures/data/rate.txt"
 expect_found 'a figure that was changed' 'data/rate.txt was changed since rate.svg was drawn: docs/draw rate'
 echo >>"$here/docs/pictures/stops.svg"
 expect_found 'a picture that was changed' "stops.svg isn't the one that was drawn: docs/draw stops"
