@@ -17,6 +17,8 @@ use Rattle.gm_bench.proofs.Standing.{rest_stands}
 use Rattle.gm_front.specs.declared.answer_lines.BatchEnd.{BatchEnd}
 use Rattle.gm_front.specs.declared.answer_lines.BatchEnd.TheVariants as end
 use Rattle.gm_front.specs.declared.answer_lines.FrontFault.{FrontFault}
+use Rattle.gm_bench.specs.declared.fault.BenchFault.{BenchFault}
+use Rattle.gm_front.specs.Closing.{end_fault}
 use Rattle.gm_front.specs.Batch.{AreAnswered, AreFirst, AreLines, AreStanding, AreUnsettled, Batches, HandsIn, IsFarAtEnd, progress_at, unsettled_fault}
 use Rattle.gm_front.proofs.Turns.{carried}
 
@@ -32,11 +34,11 @@ pub takes_rest : (p : Progress) → TakesNext p → (phase_of p ≡ phase.Applie
 takes_rest p (inl takes) other = takes
 takes_rest p (inr is) other = absurd (other is)
 
--- the end is the one before
-pub same_end : (given after : Result BatchEnd FrontFault) {b : BatchEnd}
-    → IfOk after (λ x. given ≡ Ok x) → after ≡ Ok b → given ≡ Ok b
-same_end given (Ok x) same is = same ∙ is
-same_end given (Err e) same is = cc
+-- the fault is the one before
+pub same_fault : (given after : Result BatchEnd FrontFault) {f : BenchFault}
+    → IfOk after (λ x. given ≡ Ok x) → end_fault after ≡ Some f → end_fault given ≡ Some f
+same_fault given (Ok x) same is = ap end_fault same ∙ is
+same_fault given (Err e) same is = cc
 
 -- how far the bench is then
 pub ended_progress : {S H : Type 0} {first mid last : Bench S H} → TakesCommands first.progress

@@ -10,7 +10,7 @@ use Rattle.gm_registry.specs.Registry.{StoreFailed, seen}
 use Rattle.gm_bench.specs.Calls.{most_rows}
 use Rattle.gm_bench.specs.declared.fault.BenchFault.{BenchFault}
 use Rattle.gm_bench.specs.declared.fault.BenchFault.TheVariants.{Store}
-use Rattle.gm_front.specs.Guards.{outcome_fault}
+use Rattle.gm_front.specs.Closing.{outcome_fault}
 use Rattle.gm_front.specs.Outcomes.{ComesTo}
 use Rattle.gm_lines.specs.Asked.{Asked}
 use Rattle.gm_front.specs.declared.outcome.Outcome.{Outcome}

@@ -34,11 +34,10 @@ use Rattle.gm_front.specs.declared.outcome.Outcome.{Outcome}
 use Rattle.gm_front.specs.declared.outcome.Outcome.TheVariants.{Nothing, Wrong, Answered, Failed}
 use Rattle.gm_front.specs.Told.{refusal_line}
 use Rattle.gm_lines.specs.Asked as asking
-use Rattle.gm_lines.specs.Asked.{Asked, asked}
+use Rattle.gm_lines.specs.Asked.{Asked, asked, asked_at}
 use Rattle.gm_lines.specs.Input.{IsLine, line_at, lines_of}
 use Rattle.gm_front.specs.Batch.{Replies, Answers, AppendsFront, AreCarriedOut, AreFirst, AreLines, AreStanding, Breaks, Ends, IsLast, Stops, Tells}
 use Rattle.gm_front.specs.Outcomes.{IsFarAfter, IsWaiting, NextComesTo, is_refused, text_of}
-use Rattle.gm_lines.specs.Asked.{asked_at}
 use Rattle.gm_lines.proofs.TakenLines.{lines_first}
 
 or_false : (b : Bool) → (b || false) ≡ b

@@ -15,12 +15,12 @@ use Rattle.gm_rules.specs.AbstractCalls as run
 use Rattle.gm_registry.specs.Fitting.{HasRoom}
 use Rattle.gm_registry.specs.Registry.{DiskKept, StoreFailed, seen}
 use Rattle.gm_registry.specs.Replies.{AreWrittenUnder}
-use Rattle.gm_bench.specs.Benches.{progress_of, redone_of, registry_of, shelf_of}
+use Rattle.gm_bench.specs.Benches.{progress_of, registry_of, shelf_of}
 use Rattle.gm_bench.specs.Calls.{Keep, most_rows}
 use Rattle.gm_bench.specs.Phases.{TakesCommands}
 use Rattle.gm_bench.specs.declared.bench.Bench.{Bench}
 use Rattle.gm_bench.specs.declared.fault.BenchFault.{BenchFault}
-use Rattle.gm_bench.specs.declared.fault.BenchFault.TheVariants.{Absent, Closed, Disk, Store, Unreadable}
+use Rattle.gm_bench.specs.declared.fault.BenchFault.TheVariants.{Disk, Store, Unreadable}
 use Rattle.gm_bench.specs.declared.phase.Progress.{Progress}
 use Rattle.gm_bench.specs.declared.phase.Progress.TheVariants.{Failed}
 use Rattle.gm_bench.specs.Recovering.{IsAt, IsCarriedOut, LeavesOnly}
@@ -31,6 +31,7 @@ use Rattle.gm_front.specs.declared.answer_lines.FrontFault.{FrontFault}
 use Rattle.gm_front.specs.declared.answer_lines.FrontFault.TheVariants.{Memory, Read, Write}
 use Rattle.gm_lines.specs.Input.{lines_of}
 use Rattle.gm_lines.specs.Asked.{Asked, Nothing, Wrong, Call, asked}
+use Rattle.gm_front.specs.Closing.{KeepsClosed, end_fault}
 use Rattle.gm_front.specs.Told.{answer_line, fault_line, is_refusal, refusal_line}
 
 -- One line takes u to w: what it is told, and whether it is refused.
@@ -234,8 +235,5 @@ pub record AnswersBatch {S H : Type 0} (s : Ghosts S) (h : ShelfGhosts H)
       → Batches s h.view h.size input before now (registry_of new) (shelf_of new) away u result
   pub progress : IfOk result (λ end. progress_of new ≡ progress_at (progress_of old) end)
   pub phase : TakesCommands (progress_of new)
-  pub closed : progress_of old ≡ Failed → new ≡ old
-  pub reopen : result ≡ Ok (Stopped Closed) → progress_of old ≡ Failed
-  pub absent : (p : List ℕ) → result ≡ Ok (Stopped (Absent p)) → ⊥
-  pub redone : redone_of new ≡ redone_of old
+  pub closes : KeepsClosed old new (end_fault result)
   pub keep : Keep s h (registry_of old) (registry_of new) (shelf_of old) (shelf_of new)

@@ -17,21 +17,21 @@ use Rattle.gm_looks.specs.declared.unlike.Unlike.{Unlike}
 use Rattle.gm_rows.specs.ReadableTables.{AreRecordsOf}
 use Rattle.gm_registry.specs.Registry.{DiskKept, HasTables, WasClean, seen}
 use Rattle.gm_registry.specs.Replies.{AreWrittenUnder, IsFree, IsKept}
-use Rattle.gm_bench.specs.Benches.{progress_of, redone_of, registry_of, shelf_of}
+use Rattle.gm_bench.specs.Benches.{progress_of, registry_of, shelf_of}
 use Rattle.gm_bench.specs.Calls.{TellsDisk}
 use Rattle.gm_bench.specs.Owed.{LookDoes, LookLeaves}
 use Rattle.gm_bench.specs.Recovering.{IsAt, LeavesOnly}
 use Rattle.gm_bench.specs.declared.bench.Bench.{Bench}
 use Rattle.gm_bench.specs.declared.fault.BenchFault.{BenchFault}
-use Rattle.gm_bench.specs.declared.fault.BenchFault.TheVariants.{Absent as Is_absent, Closed, Disk, Unreadable}
+use Rattle.gm_bench.specs.declared.fault.BenchFault.TheVariants.{Disk, Unreadable}
 use Rattle.gm_bench.specs.declared.phase.Progress.{Progress}
 use Rattle.gm_bench.specs.declared.phase.Progress.TheVariants.{Failed}
 use Rattle.gm_unlike.specs.Texts.{unlike_line, unlike_word}
 use Rattle.gm_words.specs.Lines.{line}
+use Rattle.gm_front.specs.Closing.{outcome_fault}
 use Rattle.gm_front.specs.Outcomes.{ComesTo, progress_after}
 use Rattle.gm_lines.specs.Asked.{Asked, Call, shown}
 use Rattle.gm_front.specs.declared.outcome.Outcome.{Outcome}
-use Rattle.gm_front.specs.declared.outcome.Outcome.TheVariants as outcome
 use Rattle.gm_front.specs.declared.guard.Guarded.{Guarded}
 use Rattle.gm_front.specs.declared.guard.Guarded.TheVariants.{Through, Withheld, Unlooked}
 
@@ -57,14 +57,7 @@ withheld_text key list = line (shown key ++ codes " not done") ++ flat_map unlik
 abbrev pub withheld_message : List Unlike → List ℕ
 withheld_message list = codes "not done" ++ flat_map unlike_word list
 
--- the fault of the bench that an outcome tells
-abbrev pub outcome_fault : Outcome → Option BenchFault
-outcome_fault outcome.Nothing = None
-outcome_fault (outcome.Wrong key) = None
-outcome_fault (outcome.Answered key answer) = None
-outcome_fault (outcome.Failed key fault) = Some fault
-
--- the same of a guarded request, whose look may fail
+-- the fault of the bench that is told of a command that is guarded
 abbrev pub guarded_fault : Guarded → Option BenchFault
 guarded_fault (Through outcome) = outcome_fault outcome
 guarded_fault (Withheld key list) = None
@@ -100,15 +93,6 @@ module _ {S H : Type 0} (s : StoreGhosts S) (h : ShelfGhosts H) (old new : Bench
     pub only : ReadsOnly h (shelf_of old) (shelf_of new)
     pub clean : WasClean s (registry_of old) (registry_of new)
     pub disk : TellsDisk h (shelf_of old) (shelf_of new) result
-
--- A call that asks a closed bench nothing: a fault `Closed` comes from that alone, and none says
--- that an image is absent.
-pub record KeepsClosed {S H : Type 0} (old new : Bench S H)
-    (fault : Option BenchFault) : Type 0 where
-  pub closed : progress_of old ≡ Failed → new ≡ old
-  pub reopen : fault ≡ Some Closed → progress_of old ≡ Failed
-  pub absent : (p : List ℕ) → fault ≡ Some (Is_absent p) → ⊥
-  pub redone : redone_of new ≡ redone_of old
 
 -- The list is what stood in the way of a command, by what the registry and the shelf of a bench
 -- hold.

@@ -1,5 +1,6 @@
 pub mod Batch
 pub mod BatchRuns
+pub mod Closing
 pub mod Demands
 pub mod Findings
 pub mod GuardedServices

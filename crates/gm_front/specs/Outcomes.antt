@@ -23,7 +23,6 @@ use Rattle.gm_bench.specs.declared.answer.Answer.{Answer}
 use Rattle.gm_bench.specs.declared.answer.Answer.TheVariants.{Done, Repeated, Refused}
 use Rattle.gm_rules.specs.AbstractCalls as run
 use Rattle.gm_state.specs.declared.intents.Intent.{Intent}
-use Rattle.gm_lines.specs.declared.request.Request.TheVariants as request
 use Rattle.gm_front.specs.declared.outcome.Outcome.{Outcome}
 use Rattle.gm_front.specs.declared.outcome.Outcome.TheVariants as outcome
 use Rattle.gm_lines.specs.Asked.{Asked, Nothing, Wrong, Call}

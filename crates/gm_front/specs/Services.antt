@@ -23,7 +23,7 @@ use Rattle.gm_front.specs.declared.answer_lines.FrontFault.TheVariants.{Memory, 
 use Rattle.gm_front.specs.Batch.{AppendsFront}
 use Rattle.gm_front.specs.Demands.{Told, demand_of, fault_status, fault_told, told_as}
 use Rattle.gm_front.specs.Findings.{Fails, IsFound, TellsStoreAt, progress_behind}
-use Rattle.gm_front.specs.Guards.{KeepsClosed}
+use Rattle.gm_front.specs.Closing.{KeepsClosed}
 
 -- the bytes of a response
 abbrev pub bytes_of : Told → List ℕ

@@ -1,16 +1,17 @@
 //! Batches: the lines of an input, each answered before the next is read.
 
-ghost use Rattle.std.specs.Prelude.{◌≡◌, ◌≢◌, ◌<◌, ◌≤◌, ℕ, List, Option, [], IfSome, IfNone, IfOk, IfErr, OnOk, OnErr, length, take, vec_len};
+ghost use Rattle.std.specs.Prelude.{◌≡◌, ◌≢◌, ◌<◌, ◌≤◌, ℕ, List, Option, [], IfSome, IfNone, IfOk, IfErr, OnOk, OnErr, length, take, vec_len, None};
 ghost use Rattle.std.specs.Io.KnownBytes.{Appends, Keeps};
 ghost use Rattle.gm_metadata.specs.Images.{Image};
 ghost use Rattle.gm_state.specs.World.{World};
 ghost use Rattle.gm_registry.specs.Registry.{DiskKept};
-ghost use Rattle.gm_bench.specs.Benches.{progress_of, redone_of, registry_of, shelf_of};
+ghost use Rattle.gm_bench.specs.Benches.{progress_of, registry_of, shelf_of};
 ghost use Rattle.gm_bench.specs.Calls.{Keep};
 ghost use Rattle.gm_bench.specs.declared.phase.Progress.TheVariants.{Failed, Ready};
 ghost use Rattle.gm_bench.specs.Phases.{TakesCommands, TakesNext};
 ghost use Rattle.gm_bench.specs.Recovering.{IsAt};
 ghost use Rattle.gm_front.specs.Batch.{AnswersBatch, AppendsFront, Batches, HandsIn, IsFarAtEnd, front_fault_number, unsettled_fault};
+ghost use Rattle.gm_front.specs.Closing.{KeepsClosed, end_fault};
 ghost use Rattle.gm_front.specs.Outcomes.{text_of};
 
 use crate::next::ask_next;
@@ -176,11 +177,7 @@ fn answer_lines<R: BufRead, W: Write, S: Alter, H: Shelf, L: Listener>(
         (registry_of bench.new) (shelf_of bench.new) away u result }
     ensures progress { IfOk result (IsFarAtEnd (progress_of bench.old) (progress_of bench.new)) }
     ensures phase { TakesNext (progress_of bench.new) }
-    ensures closed { progress_of bench.old ≡ Failed → bench.new ≡ bench.old }
-    ensures reopen { result ≡ Ok (BatchEnd.Stopped BenchFault.Closed)
-        → progress_of bench.old ≡ Failed }
-    ensures absent { (p : List ℕ) → result ≡ Ok (BatchEnd.Stopped (BenchFault.Absent p)) → ⊥ }
-    ensures redone { redone_of bench.new ≡ redone_of bench.old }
+    ensures closes { KeepsClosed bench.old bench.new (end_fault result) }
     ensures keep { Keep S.Store H.Shelf (registry_of bench.old) (registry_of bench.new)
         (shelf_of bench.old) (shelf_of bench.new) }
 {
@@ -238,8 +235,7 @@ fn settled<S: Alter, H: Shelf>(
     ensures ended { IfOk result (λ b. end ≡ Ok b) }
     ensures rested { OnOk result (progress_of bench.old ≢ Failed
         → progress_of bench.new ≡ Ready) }
-    ensures closed { progress_of bench.old ≡ Failed → bench.new ≡ bench.old }
-    ensures redone { redone_of bench.new ≡ redone_of bench.old }
+    ensures closes { KeepsClosed bench.old bench.new None }
     ensures keep { Keep S.Store H.Shelf (registry_of bench.old) (registry_of bench.new)
         (shelf_of bench.old) (shelf_of bench.new) }
 {

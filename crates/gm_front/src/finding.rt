@@ -13,7 +13,7 @@ ghost use Rattle.gm_bench.specs.Recovering.{IsAt};
 ghost use Rattle.gm_bench.specs.Running.{answer_of};
 ghost use Rattle.gm_front.specs.Demands.{answer_told, decoded_told, fault_status, mirror_told, not_found};
 ghost use Rattle.gm_front.specs.Findings.{ComesToFinding, IsPut, TellsStoreAt, demand_in, fault_of, progress_behind, told_in, told_of, withheld_told};
-ghost use Rattle.gm_front.specs.Guards.{KeepsClosed};
+ghost use Rattle.gm_front.specs.Closing.{KeepsClosed};
 
 use crate::demand::Demand;
 use crate::guard::withheld_message;

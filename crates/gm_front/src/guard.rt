@@ -15,7 +15,8 @@ ghost use Rattle.gm_bench.specs.Calls.{ClosesOnFault, Keep, TellsStore};
 ghost use Rattle.gm_bench.specs.Phases.{TakesCommands};
 ghost use Rattle.gm_bench.specs.Recovering.{IsAt};
 ghost use Rattle.gm_front.specs.Findings.{TellsStoreAt};
-ghost use Rattle.gm_front.specs.Guards.{ComesToGuarded, IsGuarded, KeepsClosed, OnlyLooks, StoodInTheWay, guarded_fault, progress_guarded, withheld_message, withheld_text};
+ghost use Rattle.gm_front.specs.Closing.{KeepsClosed};
+ghost use Rattle.gm_front.specs.Guards.{ComesToGuarded, IsGuarded, OnlyLooks, StoodInTheWay, guarded_fault, progress_guarded, withheld_message, withheld_text};
 ghost use Rattle.gm_lines.specs.Asked.{asked_of};
 
 use crate::outcome::{Outcome, ask};

@@ -13,7 +13,7 @@ ghost use Rattle.gm_bench.specs.Phases.{TakesCommands};
 ghost use Rattle.gm_bench.specs.Recovering.{IsAt};
 ghost use Rattle.gm_front.specs.Findings.{TellsStoreAt, demand_in, fault_of, progress_behind};
 ghost use Rattle.gm_front.specs.GuardedServices.{FindsUnlessWithheld, HadNothing, ServesGuarded, ServesOrWithholds};
-ghost use Rattle.gm_front.specs.Guards.{KeepsClosed};
+ghost use Rattle.gm_front.specs.Closing.{KeepsClosed};
 ghost use Rattle.gm_front.specs.Services.{TurnsAway, code_told};
 
 use crate::answer_lines::FrontFault;

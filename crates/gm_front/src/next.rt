@@ -1,14 +1,15 @@
 //! What a line of a batch comes to, of which the next may settle what it did.
 
-ghost use Rattle.std.specs.Prelude.{◌≡◌, ◌≢◌, false, ℕ, List, IfOk, IfErr, OnOk};
+ghost use Rattle.std.specs.Prelude.{◌≡◌, ◌≢◌, false, IfOk, IfErr, OnOk};
 ghost use Rattle.gm_metadata.specs.Images.{Image};
 ghost use Rattle.gm_state.specs.World.{World};
 ghost use Rattle.gm_registry.specs.Registry.{DiskKept};
-ghost use Rattle.gm_bench.specs.Benches.{progress_of, redone_of, registry_of, shelf_of};
+ghost use Rattle.gm_bench.specs.Benches.{progress_of, registry_of, shelf_of};
 ghost use Rattle.gm_bench.specs.Calls.{ClosesOnFault, Keep};
 ghost use Rattle.gm_bench.specs.declared.phase.Progress.TheVariants.{Failed, Ready};
 ghost use Rattle.gm_bench.specs.Phases.{TakesNext};
 ghost use Rattle.gm_bench.specs.Standing.{Stands};
+ghost use Rattle.gm_front.specs.Closing.{KeepsClosed, outcome_fault};
 ghost use Rattle.gm_front.specs.Outcomes.{FailsNext, IsAnsweredNext, IsFarAfter, NextComesTo};
 ghost use Rattle.gm_lines.specs.Asked.{asked_of};
 
@@ -76,12 +77,7 @@ pub(crate) fn ask_next<'a, S: Alter, H: Shelf>(
         (registry_of bench.old) (registry_of bench.new)
         (shelf_of bench.old) (shelf_of bench.new) away v u (asked_of request.now) result }
     ensures far { IsFarAfter (progress_of bench.old) (progress_of bench.new) follows result }
-    ensures closed { progress_of bench.old ≡ Failed → bench.new ≡ bench.old }
-    ensures reopen { (key : _) → result ≡ Outcome.Failed key BenchFault.Closed
-        → progress_of bench.old ≡ Failed }
-    ensures absent { (key : _) (p : List ℕ)
-        → result ≡ Outcome.Failed key (BenchFault.Absent p) → ⊥ }
-    ensures redone { redone_of bench.new ≡ redone_of bench.old }
+    ensures closes { KeepsClosed bench.old bench.new (outcome_fault result) }
     ensures keep { Keep S.Store H.Shelf (registry_of bench.old) (registry_of bench.new)
         (shelf_of bench.old) (shelf_of bench.new) }
 {

@@ -1,16 +1,17 @@
 //! What the bench answers to a line, and the line that tells it.
 
-ghost use Rattle.std.specs.Prelude.{◌≡◌, ◌||◌, ℕ, List, [], IfOk};
+ghost use Rattle.std.specs.Prelude.{◌≡◌, ◌||◌, [], IfOk};
 ghost use Rattle.std.specs.String.{string_bytes};
 ghost use Rattle.gm_metadata.specs.Images.{Image};
 ghost use Rattle.gm_state.specs.World.{World};
 ghost use Rattle.gm_registry.specs.Registry.{DiskKept};
-ghost use Rattle.gm_bench.specs.Benches.{progress_of, redone_of, registry_of, shelf_of};
+ghost use Rattle.gm_bench.specs.Benches.{progress_of, registry_of, shelf_of};
 ghost use Rattle.gm_bench.specs.Calls.{Keep};
 ghost use Rattle.gm_bench.specs.declared.phase.Progress.TheVariants.{Failed};
 ghost use Rattle.gm_bench.specs.Phases.{TakesCommands};
 ghost use Rattle.gm_bench.specs.Recovering.{IsAt};
 ghost use Rattle.gm_bench.specs.Running.{answer_of};
+ghost use Rattle.gm_front.specs.Closing.{KeepsClosed, outcome_fault};
 ghost use Rattle.gm_front.specs.Told.{done_line, numbered, shown_answer};
 ghost use Rattle.gm_front.specs.Losses.{loss_line};
 ghost use Rattle.gm_front.specs.Outcomes.{ComesTo, is_refused, progress_after, text_of};
@@ -131,12 +132,7 @@ pub fn ask<'a, S: Alter, H: Shelf>(
         → ComesTo S.Store H.view H.size (registry_of bench.old) (registry_of bench.new)
         (shelf_of bench.old) (shelf_of bench.new) away u (asked_of request.now) result }
     ensures progress { progress_of bench.new ≡ progress_after (progress_of bench.old) result }
-    ensures closed { progress_of bench.old ≡ Failed → bench.new ≡ bench.old }
-    ensures reopen { (key : _) → result ≡ Outcome.Failed key BenchFault.Closed
-        → progress_of bench.old ≡ Failed }
-    ensures absent { (key : _) (p : List ℕ)
-        → result ≡ Outcome.Failed key (BenchFault.Absent p) → ⊥ }
-    ensures redone { redone_of bench.new ≡ redone_of bench.old }
+    ensures closes { KeepsClosed bench.old bench.new (outcome_fault result) }
     ensures keep { Keep S.Store H.Shelf (registry_of bench.old) (registry_of bench.new)
         (shelf_of bench.old) (shelf_of bench.new) }
 {

@@ -13,7 +13,7 @@ ghost use Rattle.gm_bench.specs.Phases.{TakesCommands};
 ghost use Rattle.gm_bench.specs.Recovering.{IsAt};
 ghost use Rattle.gm_front.specs.Batch.{AppendsFront};
 ghost use Rattle.gm_front.specs.Findings.{TellsStoreAt, progress_behind, told_of};
-ghost use Rattle.gm_front.specs.Guards.{KeepsClosed};
+ghost use Rattle.gm_front.specs.Closing.{KeepsClosed};
 ghost use Rattle.gm_front.specs.Services.{Serves, ServesOne, ServesUnlessPage, TurnsAway, bytes_of, code_told};
 
 use crate::answer_lines::{FrontFault, write_whole};

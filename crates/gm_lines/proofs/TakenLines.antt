@@ -1,19 +1,25 @@
 -- Lines as they are read.
-use Rattle.std.proofs.Common.{◌≡◌, ◌∙◌, ◌<◌, ◌≤◌, ◌==◌, ◌&&◌, nat_lt, not, ℕ, Bool, true, false, refl, sym, ap, arith, List, [], ◌∷◌, ◌++◌, length, take, min, zero, suc, Option, Some, None, IfSome, append-nil, true≢false, length-append, le_refl, zero-le, subst}
-use Rattle.std.specs.Prelude.{unwrap_or}
+use Rattle.std.proofs.Common.{◌≡◌, ◌∙◌, ◌<◌, ◌≤◌, ◌==◌, ◌&&◌, nat_lt, not, ℕ, Bool, true, false, refl, sym, ap, arith, List, [], ◌∷◌, ◌++◌, length, take, drop, slice_index, min, zero, suc, Option, Some, None, IfSome, append-nil, append_assoc, take-append-drop, true≢false, length-append, le_refl, zero-le, subst}
+use Rattle.std.specs.Prelude.{unwrap_or, if◌then◌else◌}
 use Rattle.memchr.specs.Find.{IsFirstByte, Passes, is_byte}
-use Rattle.std.specs.Prelude.{if◌then◌else◌, OnSome}
+use Rattle.std.specs.Prelude.{OnSome}
 use Rattle.std.proofs.lemmas.Bool.Decides.{nat_tests}
 use Rattle.std.specs.Io.BufRead.{drop_through}
 use Rattle.std.specs.Io.KnownBytes.{Consumes, IsAtEnd}
 use Rattle.gm_lines.specs.Input.{line_at, is_one_line, lines_of, onto}
-use Rattle.gm_lines.specs.Input.{Fits, IsLine, IsCopied, IsTaken, WhereEnded, TakesPiece, Begins}
+use Rattle.gm_lines.specs.Asked.{IsAheadIn, IsNext}
+use Rattle.gm_lines.specs.Input.{BeginsWith, Fits, IsLine, IsCopied, IsTaken, WhereEnded, TakesPiece, Begins}
+use Rattle.gm_lines.specs.declared.ahead.Ahead.{Ahead}
 use Rattle.gm_lines.specs.declared.lines.Line.{Line}
 use Rattle.gm_lines.specs.declared.lines.Line.TheVariants.{End, Whole, Long}
 use Rattle.gm_lines.specs.declared.lines.Piece.{Piece}
 use Rattle.gm_lines.specs.declared.lines.Piece.TheVariants.{Nothing, Feed, Bytes}
 use Rattle.std.proofs.KnownBytes.{Consumes-trans}
+use Rattle.std.proofs.lemmas.List.{nil_from_length}
 use Rattle.std.proofs.lemmas.List.Folds.{list_all-append}
+use Rattle.std.specs.Io.{StartsWith}
+use mathlib.Core.List.{append_cancel_left}
+use lib.Seq.{split_at}
 
 not_of : (b : Bool) → ¬ (b ≡ true) → not b ≡ true
 not_of true h = absurd (h refl)
@@ -38,6 +44,20 @@ one_line_before xs None first =
     no_feed_before xs (length xs) (le_refl (length xs)) (λ k l. first k zero-le l)
 one_line_before xs (Some n) first =
     no_feed_before xs n (omega (arith, first.0.high)) (λ k l. first.0.before k zero-le l)
+
+-- bytes with a line feed begin with the line before it
+pub begins_with : (xs : List ℕ) (n : ℕ) → n < length xs → slice_index xs n ≡ 10
+    → is_one_line (take n xs) ≡ true → BeginsWith xs (take n xs)
+begins_with xs n low feed one =
+    (one, drop (suc n) xs, split_at xs n 0 low ∙ ap (λ b. take n xs ++ b ∷ drop (suc n) xs) feed)
+
+-- so does whatever goes on behind them
+pub begins_on : (xs more line : List ℕ) → BeginsWith xs line → BeginsWith (xs ++ more) line
+begins_on xs more line begins = (
+  begins.0,
+  begins.1 ++ more,
+  ap (λ ys. ys ++ more) begins.2 ∙ append_assoc line (10 ∷ begins.1) more,
+)
 
 -- what takes nothing had nothing ready
 pub nothing_ready : (xs : List ℕ) (n : ℕ) → (0 < length xs → 0 < n) → take n xs ≡ []
@@ -130,10 +150,6 @@ fed (Some bytes) (Some ms) (Some ns) line count b found begins took is e =
     rw e (is_found bytes line begins.seen ns count _ refl begins.copied some
     (ap line_at all ∙ parts.0) (ap (drop_through 10) all ∙ parts.1))
 
-pub none_of : {X : Type 0} (xs : List X) → length xs ≡ 0 → xs ≡ []
-none_of [] h = refl
-none_of (x ∷ xs) h = absurd (omega arith)
-
 is_ended : (bytes line seen : List ℕ) (count : ℕ) (some : Bool) → nat_lt 0 count ≡ some
     → IsCopied line count seen → bytes ≡ seen → is_one_line seen ≡ true
     → IsLine bytes (Some []) line (if some then found_of count else End)
@@ -146,7 +162,7 @@ is_ended bytes line seen count true test copied all one =
 is_ended bytes line seen count false test copied all one =
     let none : count ≡ 0 = grind (arith, nat_tests) in
     let counted : count ≡ min (length seen) 131073 = copied.counted in
-    (all ∙ none_of seen (omega arith), refl)
+    (all ∙ nil_from_length seen (omega arith), refl)
 
 -- where the input ends
 ended : (old mid new : Option (List ℕ)) (line : List ℕ) (count : ℕ) (found : Line)
@@ -160,6 +176,30 @@ ended (Some bytes) (Some ms) (Some ns) line count found begins took at_end e =
     let all : bytes ≡ begins.seen = begins.consumed ∙ ap (λ xs. begins.seen ++ xs) (took ∙ at_end)
     ∙ append-nil begins.seen in
     rw (e, at_end) (is_ended bytes line begins.seen count _ refl begins.copied all begins.is_one)
+
+-- what a reader showed behind what it then dropped is what it has next
+pub shown_next : (old new : Option (List ℕ)) (shown : List ℕ) (n : ℕ) (ahead : Ahead)
+    → IfSome old (λ xs. StartsWith xs shown) → Consumes old new (take n shown)
+    → IsAheadIn (drop n shown) ahead → IsNext old new ahead
+shown_next None new shown n ahead front took is = (is.0, tt)
+shown_next (Some xs) None shown n ahead front took is = absurd took
+shown_next (Some xs) (Some ys) shown n ahead front took is =
+    let rest : List ℕ = drop (length shown) xs in
+    let all : xs ≡ shown ++ rest =
+    sym (take-append-drop (length shown) xs) ∙ ap (λ l. l ++ rest) front in
+    let cut : take n shown ++ ys ≡ take n shown ++ (drop n shown ++ rest) =
+    sym took ∙ all ∙ ap (λ l. l ++ rest) (sym (take-append-drop n shown))
+    ∙ append_assoc (take n shown) (drop n shown) rest in
+    let next : ys ≡ drop n shown ++ rest =
+    append_cancel_left (take n shown) ys (drop n shown ++ rest) cut in
+    (is.0, rw next (begins_on (drop n shown) rest ahead.line.items is.1))
+
+-- the same of an input, some of which was taken before
+pub next_known : (old mid new : Option (List ℕ)) (seen : List ℕ) (ahead : Ahead)
+    → Consumes old mid seen → IsNext mid new ahead → IsNext old new ahead
+next_known None mid new seen ahead took next = (next.0, tt)
+next_known (Some xs) None new seen ahead took next = absurd took
+next_known (Some xs) (Some ms) new seen ahead took next = next
 
 -- a line that is read on
 pub piece_more : (old mid new : Option (List ℕ)) (line copied : List ℕ) (count n : ℕ)

@@ -1,10 +1,11 @@
 -- What a line of a batch asks.
-use Rattle.std.specs.Prelude.{◌≡◌, ◌==◌, ℕ, Bool, true, false, not, nat_lt, List, [], ◌∷◌, codes, filter, length, take, Option, Some, None, if◌then◌else◌}
+use Rattle.std.specs.Prelude.{◌≡◌, ◌==◌, ℕ, not, nat_lt, List, [], ◌∷◌, codes, filter, length, take, Option, Some, None, IfSome, OnSome, if◌then◌else◌}
 use Rattle.std.specs.List.{slice_split}
 use Rattle.std.specs.Str.{is_utf8}
 use Rattle.gm_commands.specs.declared.command.Command.{Command}
 use Rattle.gm_commands.specs.Commands.{is_key}
 use Rattle.gm_words.specs.Spelling.{spelled}
+use Rattle.gm_lines.specs.Input.{BeginsWith}
 use Rattle.gm_lines.specs.declared.ahead.Ahead.{Ahead}
 use Rattle.gm_lines.specs.declared.request.Request.{Request}
 use Rattle.gm_lines.specs.declared.request.Request.TheVariants as request
@@ -54,3 +55,12 @@ asked_at line Long = Wrong (codes "?")
 -- a command that was read ahead: its line asks it, under a key
 abbrev pub IsAhead : Ahead → Type 0
 IsAhead ahead = (key : List ℕ) × (asked ahead.line.items ≡ Call key ahead.command)
+
+-- it was read at the front of these bytes
+abbrev pub IsAheadIn : List ℕ → Ahead → Type 0
+IsAheadIn bytes ahead = IsAhead ahead × BeginsWith bytes ahead.line.items
+
+-- it was read at the front of what is left of an input whose bytes are known
+abbrev pub IsNext : Option (List ℕ) → Option (List ℕ) → Ahead → Type 0
+IsNext input rest ahead =
+    IsAhead ahead × OnSome input (IfSome rest (λ bytes. BeginsWith bytes ahead.line.items))

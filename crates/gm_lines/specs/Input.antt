@@ -17,6 +17,10 @@ line_at (b ∷ bytes) = if b == 10 then [] else b ∷ line_at bytes
 abbrev pub is_one_line : List ℕ → Bool
 is_one_line bytes = list_all (λ b. not (b == 10)) bytes
 
+-- bytes begin with a line and its line feed
+abbrev pub BeginsWith : List ℕ → List ℕ → Type 0
+BeginsWith bytes line = (is_one_line line ≡ true) × (more : List ℕ) × (bytes ≡ line ++ 10 ∷ more)
+
 -- a byte goes onto the first line of the rest
 abbrev pub onto : ℕ → List (List ℕ) → List (List ℕ)
 onto b [] = (b ∷ []) ∷ []

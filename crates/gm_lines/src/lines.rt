@@ -1,7 +1,7 @@
 //! The lines of a batch: at most 131,072 bytes each, whatever the input is.
 
 ghost use Rattle.std.specs.Prelude.{◌≡◌, ◌<◌, ◌≤◌, ◌++◌, ℕ, true, List, length, take, slice_index, IfSome, IfOk, nat_lt, if◌then◌else◌};
-ghost use Rattle.gm_lines.specs.Asked.{IsAhead};
+ghost use Rattle.gm_lines.specs.Asked.{IsAheadIn, IsNext};
 ghost use Rattle.gm_lines.specs.Input.{is_one_line, Fits, IsCopied, IsLine, IsPiece, IsTaken, TakesPiece};
 
 use crate::ahead::{Ahead, read_ahead};
@@ -41,8 +41,15 @@ enum Piece {
     Bytes(usize),
 }
 
-// How many bytes stand before the first line feed.
-fn length_before_feed(bytes: &[u8]) -> usize
+/// A piece that was taken, and the command of the next line, if the reader had it ready.
+#[derive(Debug, Drop)]
+struct TakenPiece {
+    piece: Piece,
+    next: Option<Ahead>,
+}
+
+/// How many bytes there are before the first line feed.
+pub(crate) fn length_before_feed(bytes: &[u8]) -> usize
     ensures bound { result ≤ length bytes.now }
     ensures line { is_one_line (take result bytes.now) ≡ true }
     ensures feed { result < length bytes.now → slice_index bytes.now result ≡ 10 }
@@ -50,8 +57,8 @@ fn length_before_feed(bytes: &[u8]) -> usize
     memchr(b'\n', bytes).unwrap_or(bytes.len())
 }
 
-// How many of the bytes are a piece: those before the first line feed, or where it comes first,
-// the line feed alone.
+// How many of the bytes are a piece: those before the first line feed, or the line feed alone if it
+// comes first.
 fn piece_length(bytes: &[u8]) -> usize
     ensures bound { result ≤ length bytes.now }
     ensures some { 0 < length bytes.now → 0 < result }
@@ -92,12 +99,12 @@ fn taken(line: &mut [u8], count: usize, piece: &[u8]) -> Piece
     }
 }
 
-// The command that follows a line feed, by what the reader has ready after it. Without memory for
-// that it isn't looked for.
-fn next_of(ahead: Option<Global>, piece: Piece, behind: &[u8]) -> Option<Ahead>
-    ensures { IfSome result IsAhead }
+// The command that follows a line feed, by what the reader has ready after it. Without memory it
+// isn't looked for.
+fn next_of(alloc: Option<Global>, piece: Piece, behind: &[u8]) -> Option<Ahead>
+    ensures { IfSome result (IsAheadIn behind.now) }
 {
-    match (piece, ahead) {
+    match (piece, alloc) {
         (Piece::Feed, Some(alloc)) => read_ahead(alloc, behind),
         _ => None,
     }
@@ -106,26 +113,30 @@ fn next_of(ahead: Option<Global>, piece: Piece, behind: &[u8]) -> Option<Ahead>
 // Takes the next piece to a line of which `count` bytes are there: what the reader has ready. Reads
 // also the command that follows.
 fn next_piece<R: BufRead>(
-    ahead: Option<Global>,
+    alloc: Option<Global>,
     reader: &mut R,
     line: &mut [u8],
     count: usize,
-) -> io::Result<(Piece, Option<Ahead>)>
+) -> io::Result<TakenPiece>
     requires { length line.old ≡ 131072 }
     ensures piece { IfOk result (λ it. TakesPiece (R.remaining reader.old) (R.remaining reader.new)
-        line.old line.new count it.0) }
-    ensures ahead { IfOk result (λ it. IfSome it.1 IsAhead) }
+        line.old line.new count it.piece) }
+    ensures next { IfOk result (λ it.
+        IfSome it.next (IsNext (R.remaining reader.old) (R.remaining reader.new))) }
 {
     let ready = match reader.fill_buf() {
         Ok(ready) => ready,
-        Err(e) if e.kind() == ErrorKind::Interrupted => return Ok((Piece::Bytes(count), None)),
+        Err(e) if e.kind() == ErrorKind::Interrupted => return Ok(TakenPiece {
+            piece: Piece::Bytes(count),
+            next: None,
+        }),
         Err(e) => return Err(e),
     };
     let length = piece_length(ready);
     let piece = taken(line, count, &ready[..length]);
-    let next = next_of(ahead, piece, &ready[length..]);
+    let next = next_of(alloc, piece, &ready[length..]);
     reader.consume(length);
-    Ok((piece, next))
+    Ok(TakenPiece { piece, next })
 }
 
 // A line of which so many bytes were counted, up to 131,073.
@@ -147,11 +158,11 @@ fn ended(count: usize) -> Line
     if count > 0 { found(count) } else { Line::End }
 }
 
-/// Takes the next line as `next_line` does. With memory to look ahead, it also reads the command of
-/// the line after it, if that is a whole line that asks one under a key: the reader isn't asked for
-/// more than it has ready.
+/// Takes the next line as `next_line` does. With memory, it also reads the command of the line
+/// after it, if that is a whole line that asks one under a key: the reader isn't asked for more
+/// than it has ready.
 pub fn take_line<R: BufRead>(
-    ahead: Option<Global>,
+    alloc: Option<Global>,
     reader: &mut R,
     line: &mut [u8],
 ) -> io::Result<TakenLine>
@@ -159,19 +170,20 @@ pub fn take_line<R: BufRead>(
     ensures line { IfOk result (λ it. IfSome (R.remaining reader.old) (λ bytes.
         IsLine bytes (R.remaining reader.new) line.new it.found)) }
     ensures fits { IfOk result (λ it. Fits it.found) }
-    ensures ahead { IfOk result (λ it. IfSome it.next IsAhead) }
+    ensures next { IfOk result (λ it.
+        IfSome it.next (IsNext (R.remaining reader.old) (R.remaining reader.new))) }
 {
     let mut count = 0usize;
     for _ in 0..u64::MAX {
-        let (piece, next) = next_piece(ahead, reader, line, count)?;
-        match piece {
+        let taken = next_piece(alloc, reader, line, count)?;
+        match taken.piece {
             Piece::Nothing => return Ok(TakenLine {
                 found: ended(count),
                 next: None,
             }),
             Piece::Feed => return Ok(TakenLine {
                 found: found(count),
-                next,
+                next: taken.next,
             }),
             Piece::Bytes(counted) => count = counted,
         }

@@ -1,15 +1,13 @@
 -- Calls that fill, of which the last command may still be to be settled.
-use Rattle.std.proofs.Common.{◌≡◌, ◌∙◌, ◌⊎◌, inl, inr, ℕ, refl, sym, subst, arith, List, [], ◌∷◌, ◌++◌, Err, Result}
+use Rattle.std.proofs.Common.{◌≡◌, ◌∙◌, inl, inr, ℕ, refl, sym, subst, arith, List, [], ◌∷◌, ◌++◌, Err, Result}
 use Rattle.std.specs.Prelude.{IfErr}
 use Rattle.sqlite_trees.specs.declared.store.Store.{Ghosts as StoreGhosts}
 use Rattle.sqlite.specs.Held.{Held}
 use Rattle.gm_metadata.specs.Images.{Image, Sizes}
-use Rattle.gm_lists.specs.Ordered.{Has}
 use Rattle.gm_shelf.specs.declared.shelf.Shelf.{Ghosts as ShelfGhosts}
 use Rattle.gm_shelf.specs.Disk.{View}
 use Rattle.gm_commands.specs.declared.command.Command.{Command}
 use Rattle.gm_state.specs.World.{World}
-use Rattle.gm_rules.specs.AbstractCalls.{Call}
 use Rattle.gm_rules.specs.AbstractCalls as run
 use Rattle.gm_state.specs.Rows.{Tables}
 use Rattle.gm_registry.specs.Registry.{DiskKept, HasTables, StoreFailed}

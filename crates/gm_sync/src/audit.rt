@@ -7,7 +7,7 @@ ghost use Rattle.gm_bench.specs.Calls.{Keep};
 ghost use Rattle.gm_bench.specs.Owed.{LookDoes};
 ghost use Rattle.gm_bench.specs.Phases.{TakesCommands};
 ghost use Rattle.gm_sync.specs.Filling.{FailsAsCalls, IsPassedOverAt};
-ghost use Rattle.gm_sync.specs.Scopes.{PassesNone, has_image, is_beside, is_component_of, is_named_beside, mirrors_of};
+ghost use Rattle.gm_sync.specs.Scopes.{PassesNone, has_image, is_component_of, is_named_beside, mirrors_of};
 
 use crate::passed_over::PassedOver;
 use crate::scope::Scope;

@@ -1,6 +1,6 @@
 //! Which components are due to be filled.
 
-ghost use Rattle.std.specs.Prelude.{◌≡◌, find};
+ghost use Rattle.std.specs.Prelude.{◌≡◌};
 ghost use Rattle.gm_sync.specs.Scopes.{is_due, is_filling, is_next, next_of};
 
 use crate::passed_over::PassedOver;

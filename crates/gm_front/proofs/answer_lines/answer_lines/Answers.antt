@@ -1,4 +1,5 @@
 use Rattle.std.proofs.Common.{rules, arith, ◌≡◌, ◌≢◌, ◌∙◌, ap, refl, inl}
+use Rattle.std.proofs.lemmas.Option.{IfSome_then}
 use Rattle.std.specs.Io.KnownBytes.{Appends}
 use Rattle.gm_lines.specs.declared.lines.Line.TheVariants.{End}
 use Rattle.gm_front.specs.Batch.{AppendsFront}
@@ -137,10 +138,11 @@ loop-preserved g c =
       goes_on = λ other. far_on c.loop.bench.progress c.ask_next-outcome.new.bench.progress
           _ c.ask_next-outcome.result asked.far on
           (c.loop.invariant.goes_on other);
-      redone = asked.redone ∙ c.loop.invariant.redone;
-      closed = λ failed. asked.closed (ap (λ b. b.progress) (c.loop.invariant.closed failed)
+      redone = asked.closes.redone ∙ c.loop.invariant.redone;
+      closed = λ failed. asked.closes.closed (ap (λ b. b.progress) (c.loop.invariant.closed failed)
           ∙ failed) ∙ c.loop.invariant.closed failed;
-      next = rw c.replace-ahead.ensures.after c.in-Ok.ensures.ahead;
+      next = rw c.replace-ahead.ensures.after
+          (IfSome_then c.in-Ok.taken.next c.in-Ok.ensures.next (λ it is. is.0));
     }
 
 pub returns-in-Err-clause-phase : goal.returns-in-Err-clause-phase

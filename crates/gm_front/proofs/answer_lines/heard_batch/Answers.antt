@@ -2,7 +2,7 @@ use Rattle.std.proofs.Common.{rules, arith, ◌∙◌, Err, ap, refl, inl}
 use Rattle.gm_registry.specs.Registry.{DiskKept}
 use Rattle.gm_front.specs.declared.answer_lines.FrontFault.TheVariants.{Memory}
 use Rattle.gm_front.specs.Batch.{AppendsFront}
-use Rattle.gm_front.proofs.Settled.{ended_progress, ends_rest, same_end}
+use Rattle.gm_front.proofs.Settled.{ended_progress, ends_rest, same_fault}
 use Rattle.gm_front.proofs.Turns.{begun, broken, front_all}
 use Rattle.gm_front.proofs.answer_lines.heard_batch.Goals as goal
 
@@ -18,10 +18,12 @@ returns-in_default g c = record {
       (AppendsFront _ _) so (front_all _ _ _ so.told)));
   progress = tt;
   phase = c.requires;
-  closed = λ _. refl;
-  reopen = search rules;
-  absent = search rules;
-  redone = refl;
+  closes = record {
+    closed = λ _. refl;
+    reopen = search rules;
+    absent = search rules;
+    redone = refl;
+  };
   keep = record {
     shelf = record { honest = λ h. h; size = refl; count = omega arith };
     clean = omega arith;
@@ -38,15 +40,19 @@ returns g c =
           omega (arith, kept, then.keep.clean) in
           then.does (did.keep.shelf.honest honest) kept _ _ _ away u
           (did.does honest mid away u at));
-      progress = ended_progress c.requires c.answer_lines-end.result did.progress did.closed
-          c.settled.result then.ended then.rested then.closed;
+      progress = ended_progress c.requires c.answer_lines-end.result did.progress
+          did.closes.closed c.settled.result then.ended then.rested then.closes.closed;
       phase = then.phase;
-      closed = λ failed. then.closed (ap (λ b. b.progress) (did.closed failed) ∙ failed)
-          ∙ did.closed failed;
-      reopen = λ is. did.reopen (same_end c.answer_lines-end.result c.settled.result then.ended is);
-      absent = λ p is. did.absent p
-          (same_end c.answer_lines-end.result c.settled.result then.ended is);
-      redone = then.redone ∙ did.redone;
+      closes = record {
+        closed = λ failed.
+            then.closes.closed (ap (λ b. b.progress) (did.closes.closed failed) ∙ failed)
+            ∙ did.closes.closed failed;
+        reopen = λ is. did.closes.reopen
+            (same_fault c.answer_lines-end.result c.settled.result then.ended is);
+        absent = λ p is. did.closes.absent p
+            (same_fault c.answer_lines-end.result c.settled.result then.ended is);
+        redone = then.closes.redone ∙ did.closes.redone;
+      };
       keep = record {
         shelf = record {
           honest = λ h. then.keep.shelf.honest (did.keep.shelf.honest h);

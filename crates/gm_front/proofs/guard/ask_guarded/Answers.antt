@@ -8,8 +8,7 @@ use Rattle.gm_bench.specs.Calls.{most_rows}
 use Rattle.gm_bench.proofs.Looks.{looked_at}
 use Rattle.gm_bench.proofs.StoreFails.{failed_behind}
 use Rattle.gm_front.specs.Guards.{StoodInTheWay}
-use Rattle.gm_lines.specs.Asked.{asked_of}
-use Rattle.gm_lines.specs.Asked.{Call}
+use Rattle.gm_lines.specs.Asked.{Call, asked_of}
 use Rattle.gm_front.proofs.Found.{records_shown, store_of}
 use Rattle.gm_front.proofs.ManyLooks.{looks_nothing, same_call}
 use Rattle.gm_front.proofs.StoreTold.{store_told}
@@ -24,12 +23,7 @@ returns-in_default g c = record {
   };
   guarded = λ honest kept key command is t r has are. absurd (search rules);
   progress = c.ask.ensures.progress;
-  closes = record {
-    closed = c.ask.ensures.closed;
-    reopen = search rules;
-    absent = search rules;
-    redone = c.ask.ensures.redone;
-  };
+  closes = c.ask.ensures.closes;
   store = λ honest kept away u at.
       store_told g.S.Store g.H.Shelf.view g.H.Shelf.size _ _ _ _ away u
       (asked_of c.args.request.now) c.ask.result (c.ask.ensures.comes honest kept away u at);

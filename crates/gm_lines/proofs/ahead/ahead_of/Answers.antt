@@ -3,8 +3,11 @@ use Rattle.gm_lines.specs.Asked.{asked, asked_of}
 use Rattle.gm_lines.proofs.ahead.ahead_of.Goals as goal
 
 pub returns-in-Ok : goal.returns-in-Ok
-returns-in-Ok c = (
-  c.in-Ok-Call.field-0-0.now,
-  ap asked (c.in-Ok.ensures.items_if_clones_equal (λ x y e. e))
-      ∙ sym (ap asked_of (sym c.in-Ok-Call.field-0-is) ∙ c.in-Ok-Call.ensures),
-)
+returns-in-Ok c =
+    let same = c.in-Ok.ensures.items_if_clones_equal (λ x y e. e) in (
+      (
+        c.in-Ok-Call.field-0-0.now,
+        ap asked same ∙ sym (ap asked_of (sym c.in-Ok-Call.field-0-is) ∙ c.in-Ok-Call.ensures),
+      ),
+      same,
+    )

@@ -1,12 +1,13 @@
 use Rattle.std.proofs.Common.{◌∙◌, ap, sym}
+use Rattle.std.proofs.lemmas.List.{nil_from_length}
 use Rattle.gm_lines.specs.Asked.{asked_by, pieces}
 use Rattle.gm_words.specs.Lines.{texts}
 use Rattle.gm_lines.proofs.Requests.{asked_bytes, asked_text, under_first}
-use Rattle.gm_lines.proofs.TakenLines.{none_of}
 use Rattle.gm_lines.proofs.request.under_key.Goals as goal
 
 pub returns-in_default : goal.returns-in_default
-returns-in_default c = sym (asked_bytes c.args.line.now c.requires.short c.in_default.ensures.cases.0)
+returns-in_default c =
+    sym (asked_bytes c.args.line.now c.requires.short c.in_default.ensures.cases.0)
 
 pub returns-in-Some : goal.returns-in-Some
 returns-in-Some c =
@@ -19,6 +20,7 @@ returns-in-Some c =
 pub returns : goal.returns
 returns c =
     let whole = asked_text c.args.line.now c.requires.short c.in-Ok.ensures.cases.1 in
-    let cut = ap texts (sym (none_of c.deref.result.now c.in-None.ensures.cases) ∙ c.deref.ensures.value)
+    let none = nil_from_length c.deref.result.now c.in-None.ensures.cases in
+    let cut = ap texts (sym none ∙ c.deref.ensures.value)
     ∙ c.in_ok-found.ensures ∙ ap pieces c.in-Ok.ensures.cases.0 in
     ap asked_by cut ∙ sym whole
