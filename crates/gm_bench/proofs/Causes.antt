@@ -14,7 +14,7 @@ use Rattle.gm_shelf.specs.declared.fault.ShelfFault.TheVariants as shelf
 use Rattle.gm_bench.specs.declared.fault.BenchFault.{BenchFault}
 use Rattle.gm_bench.specs.declared.fault.BenchFault.TheVariants.{Closed, Disk, Absent, Memory, Store, Unreadable}
 use Rattle.gm_bench.specs.declared.take_up_without.TakenUp.{TakenUp}
-use Rattle.gm_bench.specs.Faults.{IsBeforeWrites, IsOfOpening, of_store, of_shelf}
+use Rattle.gm_bench.specs.Faults.{IsBeforeWrites, IsOfCall, IsOfOpening, IsOfRegistry, of_store, of_shelf}
 use Rattle.gm_bench.specs.GivingUp.{IsUnwritten}
 
 -- what `?` passes on is the fault that it was given
@@ -84,6 +84,15 @@ pub of_failed : (f : StoreFault) → of_store f ≡ Store → f ≡ store.Store
 of_failed store.Memory e = cc
 of_failed store.Store e = refl
 of_failed store.Unreadable e = cc
+
+-- a fault of a call that isn't the disk's is the registry's
+pub of_registry : (f : BenchFault) → IsOfCall f → (f ≡ Disk → ⊥) → IsOfRegistry f
+of_registry Memory of no_disk = tt
+of_registry Store of no_disk = tt
+of_registry Disk of no_disk = absurd (no_disk refl)
+of_registry Closed of no_disk = absurd of
+of_registry (Absent p) of no_disk = absurd of
+of_registry Unreadable of no_disk = tt
 
 -- what is passed on of a call that failed before anything was written
 pub passed_unwritten : (r : Result TakenUp BenchFault) (given : BenchFault)

@@ -18,7 +18,11 @@ use Rattle.gm_state.specs.World.{World}
 use Rattle.gm_registry.specs.Registry.{CrashLeaves, CrashLeavesOnly, DiskKept, HasTables, IsRegistry, LeavesAlone, LeavesNothingNew, WasClean, Reads}
 use Rattle.sqlite.specs.Held.{state}
 use Rattle.sqlite.proofs.StateLemmas.{survives_then}
+use Rattle.gm_bench.specs.declared.fault.BenchFault.{BenchFault}
+use Rattle.gm_bench.specs.declared.media.Media.{Media}
+use Rattle.gm_bench.specs.declared.take_up_without.TakenUp.{TakenUp}
 use Rattle.gm_bench.specs.Accepting.{OrStep, LeavesStep}
+use Rattle.gm_bench.specs.GivingUp.{OnlyLooksUp, StaysUnlost}
 use Rattle.gm_bench.specs.Leading.{AllLead}
 use Rattle.gm_bench.specs.Recovering.{IsAt, IsCarriedOut, IsFound, IsShelfOf, Recovers}
 use Rattle.gm_bench.proofs.RegistryLeaves.{leads_in}
@@ -170,6 +174,17 @@ alone_read g r s t has reads = record {
       (ap (λ (d : Database). d.trees) (sym is.settled) ∙ reads.same kept t has is_open
       ∙ ap (λ (d : Database). d.trees) has.settled);
   crash = reads.left t has;
+}
+
+-- what only looked a loss up left all that a refusal of it leaves
+pub unlost_read : {S H T : Type 0} (g : Ghosts S) (old new : Media S H)
+    (looked : Result T BenchFault)
+    → OnlyLooksUp g old new looked → (result : Result TakenUp BenchFault)
+    → StaysUnlost g old new result
+unlost_read g old new looked looks result = record {
+  shelf = λ before. looks.shelf;
+  registry = λ clean before t has.
+      alone_read g old.registry new.registry t has (looks.reads clean);
 }
 
 -- a read, and then another, of a registry that keeps its tables in between

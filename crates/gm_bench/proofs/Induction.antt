@@ -439,13 +439,13 @@ module _ {S H : Type 0} (g : Ghosts S) (view : H → View) (size : H → Sizes) 
       (leaves m.away work.intents.items work.bytes.items o.before o.world o.at.at) stop
 
   -- the commit of an opening without a provider was stopped: it stands, or not
-  without_stopped : (call : Call) (p : List ℕ) (gone : List Intent) (o s : Held S) (h : H)
+  without_stopped : (call : Call) (p : List ℕ) (gone : List Intent) (start o s : Held S) (h : H)
       (db : Trees) (l : H) (away : Image) (acc ack after : List Entry)
-      (was : Stopped g view size all (stored g o) h away acc ack)
+      (was : Stopped g view size all (stored g start) h away acc ack)
       → IsLeftIn db (Without call p gone) acc after
       → LeavesCommit g view size o s h away was.before was.world call p gone
       → IsStop g view size o s h h db l → Stopped g view size all db l away after ack
-  without_stopped call p gone o s h db l away acc ack after was left clause stop =
+  without_stopped call p gone start o s h db l away acc ack after was left clause stop =
       let u : World = was.before in
       let w : World = was.world in
       let many : length w.answered ≡ length acc = answered_many all acc w was.reached in
@@ -619,8 +619,14 @@ module _ {S H : Type 0} (g : Ghosts S) (view : H → View) (size : H → Sizes) 
       subst (AtPhase m) phase was in
       let left : IsLeft g view size start h m.away o.before o.world =
       record { sizes = o.sizes; recovers = o.recovers } in
-      subst At (sym is) (stopped start s h k db l m.away o.before o.world m.accepted m.acknowledged
-      o.reached o.last o.sizes o.told (clause m.away o.before o.world left) stop)
+      subst At (sym is) (elim stop [
+        | inl opening ↦ stopped start clause.registry h h db l m.away o.before o.world m.accepted
+            m.acknowledged o.reached o.last o.sizes o.told
+            (clause.opening m.away o.before o.world left) opening
+        | inr carrying ↦ stopped clause.registry s h k db l m.away o.before o.world m.accepted
+            m.acknowledged o.reached o.last o.sizes o.told
+            (clause.carrying m.away o.before o.world left) carrying
+      ])
   next m (Without_returned call p gone start s k) n was (h, phase, is, clause) =
       let o : Stopped g view size all (stored g start) h m.away m.accepted m.acknowledged =
       subst (AtPhase m) phase was in
@@ -631,7 +637,7 @@ module _ {S H : Type 0} (g : Ghosts S) (view : H → View) (size : H → Sizes) 
         at = it.3;
         told = keeps o.told;
       })
-  next m (Without_stopped call p gone start s db l) n was (
+  next m (Without_stopped call p gone start opened s db l) n was (
     h,
     phase,
     after,
@@ -642,8 +648,8 @@ module _ {S H : Type 0} (g : Ghosts S) (view : H → View) (size : H → Sizes) 
   ) =
       let o : Stopped g view size all (stored g start) h m.away m.accepted m.acknowledged =
       subst (AtPhase m) phase was in
-      subst At (sym is) (without_stopped call p gone start s h db l m.away m.accepted m.acknowledged
-      after o left (clause m.away o.before o.world (record {
+      subst At (sym is) (without_stopped call p gone start opened s h db l m.away m.accepted
+      m.acknowledged after o left (clause m.away o.before o.world (record {
         sizes = o.sizes;
         recovers = o.recovers;
       })).1 stop)

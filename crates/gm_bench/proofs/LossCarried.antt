@@ -12,7 +12,6 @@ use Rattle.gm_state.specs.Rows.{Tables}
 use Rattle.gm_registry.specs.Registry.{CrashLeaves, CrashLeavesOnly, DiskKept, HasTables, LeavesNothingNew}
 use Rattle.gm_bench.specs.declared.loss.Loss.{Loss}
 use Rattle.gm_bench.specs.Presence.{first_absent}
-use Rattle.gm_bench.specs.Leading.{AllLead}
 use Rattle.gm_bench.specs.Recovering.{Cover, IsAt, IsFound, LeavesOnly}
 use Rattle.gm_bench.specs.Schedule.{LeavesCommit}
 use Rattle.gm_bench.specs.Without.{Commits, IsLost, LeavesLoss, LeavesOpened}
@@ -63,14 +62,10 @@ module _ {S H : Type 0} (g : Ghosts S) (view : H → View) (size : H → Sizes) 
   pub nothing_opened : (key p : List ℕ) → DiskKept g mid
       → ((t : Tables) → HasTables g r t → LeavesNothingNew g r mid)
       → LeavesOpened g view size key p r mid h k
-  nothing_opened key p clean left away ts bytes u w at = (
-    subst (λ (x : H). LeavesOnly g view size r mid h x away u w) (sym same)
-        (read_only g view size r mid h h away at.tables ts bytes u w (only at.tables at.has) clean
-        (left at.tables at.has) (λ x l. at.leads x (lawful.only_now x l)) at.leads),
-    subst (λ (y : H). AllLead at.tables ts bytes (size h) away ((view y).left_since (view h).moment)
-        u w)
-        (sym same) (λ x l. at.leads x (lawful.only_now x l)),
-  )
+  nothing_opened key p clean left away ts bytes u w at =
+      subst (λ (x : H). LeavesOnly g view size r mid h x away u w) (sym same)
+      (read_only g view size r mid h h away at.tables ts bytes u w (only at.tables at.has) clean
+      (left at.tables at.has) (λ x l. at.leads x (lawful.only_now x l)) at.leads)
 
   pub lost_behind : (B : Image → List Intent → List (List ℕ) → World → World → Type 0) (call : Call)
       (p : List ℕ)

@@ -14,7 +14,7 @@ use Rattle.gm_state.specs.Rows.{Tables}
 use Rattle.sqlite_catalog.specs.Listing.{IsSound}
 use Rattle.gm_rows.specs.Schema.{first_schema, registry_schema}
 use Rattle.gm_registry.specs.Opening.{IsCarriedOver}
-use Rattle.gm_registry.specs.Registry.{CrashLeaves, DiskKept, HasTables, IsOpen, LeavesAlone, MayCarryOver, WasClean, stored}
+use Rattle.gm_registry.specs.Registry.{CrashLeaves, DiskKept, HasTables, IsOpen, LeavesAlone, MayCarryOver, MayLeave, WasClean, stored}
 use Rattle.gm_registry.proofs.ReadsInTurn.{sees_registry}
 use Rattle.gm_bench.specs.declared.answer.Answer.{Answer}
 use Rattle.gm_bench.specs.declared.answer.Answer.TheVariants.{Done, Repeated, Refused as NotDone}
@@ -25,11 +25,11 @@ use Rattle.gm_bench.specs.Benches.{redone_of, registry_of, shelf_of}
 use Rattle.gm_bench.specs.GivingUp.{AnswersLoss, AreUntouched, GivesUp, LacksImage, LeavesUndone}
 use Rattle.gm_bench.specs.Losing.{dropped}
 use Rattle.gm_bench.specs.Owed.{IsLeft, OpenLeaves}
-use Rattle.gm_bench.specs.Recovering.{IsFound, IsStored}
+use Rattle.gm_bench.specs.Recovering.{IsFound, IsStored, LeavesOnly}
 use Rattle.gm_bench.specs.Schedule.{IsStepWithout, LeavesCommit, WithoutCarries, WithoutDoes, WithoutLeaves}
-use Rattle.gm_bench.specs.Without.{Carries, Commits, DoesLoss, DoesWithout, KeepsUndone, LacksFirst, LeavesLoss, LeavesOpened, LeavesWithout, loss_call}
+use Rattle.gm_bench.specs.Without.{Carries, Commits, DoesLoss, DoesWithout, KeepsUndone, LacksFirst, LeavesLoss, LeavesWithout, loss_call}
 use Rattle.gm_bench.proofs.DecidesOnly.{alone_then}
-use Rattle.gm_bench.proofs.ReopenedStore.{as_it_was, carried_then, recovered, reopened}
+use Rattle.gm_bench.proofs.ReopenedStore.{carried_then, only_opened, opens_over, reopened}
 
 module _ {S H : Type 0} (g : Ghosts S) (view : H → View) (size : H → Sizes) (store mid : Held S)
     (h : H) (lawful : IsLawful (view h))
@@ -50,18 +50,12 @@ module _ {S H : Type 0} (g : Ghosts S) (view : H → View) (size : H → Sizes) 
         (at_opened away u w left)
 
     committed : (s : Held S) → Commits g view size (IsFound g view size mid h) call p mid s h
-        → WithoutLeaves g view size store s h call p gone
+        → WithoutLeaves g view size store mid s h call p gone
     committed s commits away u w left = (
       gone_is away u w left,
-      (let its = commits away left.recovers.intents left.recovers.bytes u w
-          (at_opened away u w left) in
-          subst (λ (is : List Intent). LeavesCommit g view size store s h away u w call p is)
-          (sym (gone_is away u w left)) (record {
-            within = as_it_was g view size store h away u w lawful only left.recovers
-                ((view h).left_since (view h).moment)
-                (λ x l. left.recovers.leads x (lawful.only_now x l));
-            end = its.end;
-          })),
+      subst (λ (is : List Intent). LeavesCommit g view size mid s h away u w call p is)
+          (sym (gone_is away u w left))
+          (commits away left.recovers.intents left.recovers.bytes u w (at_opened away u w left)),
     )
 
     carried : (m s : Held S) (k : H)
@@ -93,40 +87,47 @@ module _ {S H : Type 0} (g : Ghosts S) (view : H → View) (size : H → Sizes) 
 
     pub lost_behind : (s : Held S) (k : H)
         → LeavesLoss g view size (IsFound g view size mid h) call p mid s h k
-        → (WithoutLeaves g view size store s h call p gone × (k ≡ h))
-        ⊎ ((m : Held S) × WithoutLeaves g view size store m h call p gone
+        → (WithoutLeaves g view size store mid s h call p gone × (k ≡ h))
+        ⊎ ((m : Held S) × WithoutLeaves g view size store mid m h call p gone
         × WithoutCarries g view size store m s h k call p gone)
     lost_behind s k (inl was) = inl (committed s was.0, was.1)
     lost_behind s k (inr is) = inr (is.0, committed is.0 is.1, carried is.0 s k is.2)
 
-  pub opened_behind : (key p : List ℕ) (s : Held S) (k : H)
-      → LeavesOpened g view size key p mid s h k → OpenLeaves g view size store s h k
-  opened_behind key p s k leaves away u w left =
-      let was = leaves away left.recovers.intents left.recovers.bytes u w (at_opened away u w left)
-      in
-      recovered g view size store h away u w lawful only left.recovers mid s k was.1 was.0
+  module _ (clean : DiskKept g mid)
+      (may : (t : Tables) → IsStored (stored g store) t → MayLeave g store mid t) where
+    pub opened_behind : (s : Held S) (k : H)
+        → ((away : Image) (ts : List Intent) (bytes : List (List ℕ)) (u w : World)
+        → IsFound g view size mid h away ts bytes u w → LeavesOnly g view size mid s h k away u w)
+        → OpenLeaves g view size store s h k
+    opened_behind s k leaves =
+        opens_over g view size store mid h lawful only clean may opened s k leaves
 
-  pub undone : (key p : List ℕ) (b : Bench S H) (answer : Answer) (redone : ℕ)
-      → KeepsUndone g view size key p mid (registry_of b) h (shelf_of b) (Carried answer redone)
-      → LeavesUndone g view size store h key p (Opened b answer)
-  undone key p b (Done n reply) redone keeps = tt
-  undone key p b (Repeated n reply) redone keeps =
-      opened_behind key p (registry_of b) (shelf_of b) keeps
-  undone key p b (NotDone why) redone keeps = tt
+    pub undone : (key p : List ℕ) (b : Bench S H) (answer : Answer) (redone : ℕ)
+        → KeepsUndone g view size key p mid (registry_of b) h (shelf_of b) (Carried answer redone)
+        → LeavesUndone g view size store h key p (Opened b answer)
+    undone key p b (Done n reply) redone keeps = tt
+    undone key p b (Repeated n reply) redone keeps =
+        opened_behind (registry_of b) (shelf_of b) keeps
+    undone key p b (NotDone why) redone keeps = tt
 
-  pub given_up : (key p : List ℕ) (s : Held S) (k : H)
-      → LeavesWithout g view size key p mid s h k → GivesUp g view size store h key p s k
-  given_up key p s k (inl was) = inl (opened_behind key p s k was)
-  given_up key p s k (inr it) =
-      inr (it.0, it.1, lost_behind p (loss_call key it.0 p) it.1 it.2 s k it.3)
+    pub given_up : (key p : List ℕ) (s : Held S) (k : H)
+        → LeavesWithout g view size key p mid s h k → GivesUp g view size store h key p s k
+    given_up key p s k (inl was) = inl (opened_behind s k was)
+    given_up key p s k (inr it) = inr (record {
+      registry = mid;
+      opening = only_opened g view size store mid h lawful only clean may;
+      mirror = it.0;
+      gone = it.1;
+      committing = lost_behind p (loss_call key it.0 p) it.1 it.2 s k it.3;
+    })
 
-  pub lacking : (key p : List ℕ) (s : Held S) (k : H) (q : List ℕ)
-      → LacksFirst g view size key p mid s h k q → LacksImage g view size store h key p s k q
-  lacking key p s k q lacks = (
-    opened_behind key p s k lacks.0,
-    λ away u w left. lacks.1 away left.recovers.intents left.recovers.bytes u w
-        (at_opened away u w left),
-  )
+    pub lacking : (key p : List ℕ) (s : Held S) (k : H) (q : List ℕ)
+        → LacksFirst g view size key p mid s h k q → LacksImage g view size store h key p s k q
+    lacking key p s k q lacks = (
+      opened_behind s k lacks.0,
+      λ away u w left. lacks.1 away left.recovers.intents left.recovers.bytes u w
+          (at_opened away u w left),
+    )
 
   pub answered : (key p : List ℕ) (b : Bench S H) (answer : Answer) (redone : ℕ)
       → redone_of b ≡ redone

@@ -1,11 +1,12 @@
 -- From a store that a stop left to a registry that leads on.
-use Rattle.std.proofs.Common.{◌≡◌, inl, inr, sym, subst}
+use Rattle.std.proofs.Common.{◌≡◌, inl, inr, ℕ, List, sym, subst}
 use Rattle.sqlite_trees.specs.declared.store.Store.{Ghosts}
 use Rattle.sqlite.specs.Tree.{Trees}
 use Rattle.sqlite.specs.Effect.{Database}
 use Rattle.sqlite.specs.Held.{Held, state}
 use Rattle.gm_metadata.specs.Images.{Image, Sizes}
 use Rattle.gm_shelf.specs.Disk.{View, IsLawful}
+use Rattle.gm_state.specs.declared.intents.Intent.{Intent}
 use Rattle.gm_state.specs.Rows.{Tables}
 use Rattle.gm_state.specs.World.{World, present}
 use Rattle.gm_registry.specs.Registry.{DiskKept, CrashLeaves, HasTables, LeavesAlone, LeavesNothingNew, MayCarryOver, MayLeave, StoreFailed, stored}
@@ -16,6 +17,7 @@ use Rattle.gm_registry.proofs.Failures.{failed_since}
 use Rattle.sqlite.proofs.StateLemmas.{survives_then, survives_weaker}
 use Rattle.gm_bench.specs.Leading.{AllLead}
 use Rattle.gm_bench.specs.Opened.{HoldsKnown, MayBeCarriedOver}
+use Rattle.gm_bench.specs.Owed.{OpenLeaves}
 use Rattle.gm_bench.specs.Recovering.{IsStored, Recovers, IsFound, LeavesOnly}
 
 pub known_store : (db : Trees) → HoldsKnown db → IsKnownStore db
@@ -31,7 +33,7 @@ module _ {S H : Type 0} (g : Ghosts S) (view : H → View) (size : H → Sizes) 
     (only : (db : Trees) → CrashLeaves g start db → db ≡ stored g start)
     (r : Recovers (stored g start) (size h) away (view h).may_leave u w) where
   -- the store as it was, with any images that lead on
-  pub as_it_was : (X : Image → Type 0) → AllLead r.tables r.intents r.bytes (size h) away X u w
+  as_it_was : (X : Image → Type 0) → AllLead r.tables r.intents r.bytes (size h) away X u w
       → (db : Trees)
       → CrashLeaves g start db → Recovers db (size h) away X u w
   as_it_was X leads db left = record {
@@ -72,13 +74,52 @@ module _ {S H : Type 0} (g : Ghosts S) (view : H → View) (size : H → Sizes) 
     ];
   }
 
+  -- and what a stop then leaves
+  pub unopened_still : (new : Held S) → DiskKept g new
+      → ((t : Tables) → IsStored (stored g start) t → MayLeave g start new t)
+      → LeavesOnly g view size new new h h away u w
+  unopened_still new clean may =
+      let end = (unopened new clean may).end in
+      record {
+        within = λ db left.
+            let it = end db left in
+            record {
+              tables = it.tables;
+              intents = it.intents;
+              bytes = it.bytes;
+              stored = it.stored;
+              leads = λ x l. it.leads x (lawful.only_now x l);
+            };
+        end = end;
+      }
+
+module _ {S H : Type 0} (g : Ghosts S) (view : H → View) (size : H → Sizes) (start mid : Held S)
+    (h : H) (lawful : IsLawful (view h))
+    (only : (db : Trees) → CrashLeaves g start db → db ≡ stored g start) (clean : DiskKept g mid)
+    (may : (t : Tables) → IsStored (stored g start) t → MayLeave g start mid t) where
+  -- a registry that was opened, or couldn't be
+  pub only_opened : OpenLeaves g view size start mid h h
+  only_opened = record {
+    registry = mid;
+    opening = λ away u w left.
+        unopened g view size start h away u w lawful only left.recovers mid clean may;
+    carrying = λ away u w left.
+        unopened_still g view size start h away u w lawful only left.recovers mid clean may;
+  }
+
   -- what was carried out and settled behind that
-  pub recovered : (mid ended : Held S) (k : H)
-      → AllLead r.tables r.intents r.bytes (size h) away ((view k).left_since (view h).moment) u w
-      → LeavesOnly g view size mid ended h k away u w
-      → LeavesOnly g view size start ended h k away u w
-  recovered mid ended k leads l =
-      record { within = as_it_was ((view k).left_since (view h).moment) leads; end = l.end }
+  pub opens_over : ((t : Tables) → IsStored (stored g start) t → HasTables g mid t)
+      → (s : Held S) (k : H)
+      → ((away : Image) (ts : List Intent) (bytes : List (List ℕ)) (u w : World)
+      → IsFound g view size mid h away ts bytes u w → LeavesOnly g view size mid s h k away u w)
+      → OpenLeaves g view size start s h k
+  opens_over opened s k leaves = record {
+    registry = mid;
+    opening = λ away u w left.
+        unopened g view size start h away u w lawful only left.recovers mid clean may;
+    carrying = λ away u w left. leaves away left.recovers.intents left.recovers.bytes u w
+        (reopened g view size start h away u w lawful only left.recovers mid left.sizes opened);
+  }
 
 module _ {S : Type 0} (g : Ghosts S) (start mid : Held S) where
   -- tables that a store held are those of the opened registry

@@ -1,6 +1,6 @@
 -- What a call leaves of the media and of the phase of a bench, and which faults it tells, beside
 -- what is particular to it.
-use Rattle.std.specs.Prelude.{◌≡◌, ◌≤◌, ◌<◌, ℕ, List, Result, IfOk, IfErr, OnOk, OnErr, IsErrOf}
+use Rattle.std.specs.Prelude.{◌≡◌, ◌≤◌, ◌<◌, ℕ, true, List, Result, IfOk, IfErr, OnOk, OnErr, IsErrOf}
 use Rattle.sqlite_trees.specs.declared.store.Store.{Ghosts as StoreGhosts}
 use Rattle.sqlite.specs.Held.{Held, state}
 use Rattle.gm_shelf.specs.declared.shelf.Shelf.{Ghosts as ShelfGhosts}
@@ -8,6 +8,7 @@ use Rattle.gm_shelf.specs.Keeping.{Keeps, ReadsOnly}
 use Rattle.gm_state.specs.Rows.{Tables}
 use Rattle.gm_state.specs.Records.{Records}
 use Rattle.gm_commands.specs.declared.command.Command.{Command}
+use Rattle.gm_commands.specs.Commands.{CommandFits, is_key, words_of}
 use Rattle.gm_rows.specs.ReadableTables.{AreRecordsOf}
 use Rattle.gm_registry.specs.Fitting.{HasRoom}
 use Rattle.gm_registry.specs.Replies.{AreWrittenUnder, count_of}
@@ -17,15 +18,17 @@ use Rattle.gm_registry.specs.Registry.{DiskKept, HasTables, IsOpen, IsRegistry, 
 use Rattle.gm_bench.specs.declared.bench.Bench.{Bench}
 use Rattle.gm_bench.specs.declared.fault.BenchFault.{BenchFault}
 use Rattle.gm_bench.specs.declared.fault.BenchFault.TheVariants.{Absent, Closed, Disk, Store, Unreadable}
+use Rattle.gm_bench.specs.declared.answer.Accepted.{Accepted}
 use Rattle.gm_bench.specs.declared.answer.Answer.{Answer}
 use Rattle.gm_bench.specs.declared.answer.Work.{Work}
 use Rattle.gm_bench.specs.declared.media.Media.{Media}
 use Rattle.gm_bench.specs.declared.phase.Progress.TheVariants.{Failed, Pending}
-use Rattle.gm_bench.specs.Faults.{IsOfCall, IsOfMedia}
+use Rattle.gm_bench.specs.Faults.{IsOfCall, IsOfMedia, IsOfRegistry}
 use Rattle.gm_bench.specs.Owed.{LookDoes, LookLeaves}
 use Rattle.gm_bench.specs.declared.phase.Waiting.TheVariants.{Nothing}
 use Rattle.gm_bench.specs.Accepting.{HasNothingElse}
 use Rattle.gm_bench.specs.Phases.{IsUndone, waiting_of}
+use Rattle.gm_bench.specs.Planning.{IsWorkAtHand}
 use Rattle.gm_bench.specs.Presence.{AreAtHand}
 
 -- Disk is told only where the shelf's count of failures rose.
@@ -55,6 +58,16 @@ pub record GoesOn {S : Type 0} (s : StoreGhosts S) (old new : Held S) : Type 0 w
   pub has : HasTables s new tables
   pub counts : (state s old).faults ≤ (state s new).faults
   pub limit : (state s new).step_limit ≡ (state s old).step_limit
+
+-- A call that writes to the registry alone leaves the shelf, and fails as the registry does: F6
+-- only of more commands than may be accepted.
+pub record WritesAlone {S H T : Type 0} (s : StoreGhosts S) (old new : Media S H)
+    (result : Result T BenchFault) : Type 0 where
+  pub shelf : new.shelf ≡ old.shelf
+  pub clean : WasClean s old.registry new.registry
+  pub fault : IfErr result IsOfRegistry
+  pub readable : DiskKept s new.registry → IsErrOf result Unreadable → (t : Tables)
+      → HasTables s old.registry t → count_of t ≤ 100000 → ⊥
 
 -- a call that only reads a shelf, and asks no store
 pub record Looks {H T : Type 0} (h : ShelfGhosts H) (old new : H)
@@ -129,6 +142,22 @@ module _ {S H T : Type 0} (s : StoreGhosts S) (h : ShelfGhosts H) (old new : Med
   RefusesCall = DiskKept s new.registry → OnErr result ((t : Tables) (r : Records)
       → HasTables s old.registry t → AreRecordsOf t r → IsOpen s new.registry
       → HasTables s new.registry t)
+
+-- a command that fits, by its words, under a key
+abbrev pub IsCall : List ℕ → List ℕ → Command → Type 0
+IsCall key words c = (words ≡ words_of c) × (is_key key ≡ true) × CommandFits c
+
+-- A command that is handed in, by the registry's rows and the shelf's sizes alone: F6 only if the
+-- rows can't be read, F2 only if the store failed wherever the tables are such; what is then to be
+-- carried out is at hand; if it fails the tables stay, and else the registry goes on.
+pub record TellsByRows {S H : Type 0} (s : StoreGhosts S) (h : ShelfGhosts H) (old new : Media S H)
+    (result : Result Accepted BenchFault) (key : List ℕ) (c : Command) (AreSuch : Tables → Type 0)
+    : Type 0 where
+  pub readable : TellsUnreadable s h old new result key c
+  pub at_hand : TellsAtHand s h old new result (IsWorkAtHand (h.size old.shelf))
+  pub refused : RefusesCall s h old new result
+  pub store : TellsStoreWhere s h old new result AreSuch c
+  pub goes_on : StaysRegistry s h old new result
 
 -- The shelf is kept; and where the disk kept what was written to the registry until now, it did so
 -- before the call.

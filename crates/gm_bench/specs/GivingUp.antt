@@ -1,6 +1,6 @@
 -- What an opening without a provider leaves, and what it answers, from the store and the shelf
 -- before it.
-use Rattle.std.specs.Prelude.{◌≡◌, ◌⊎◌, ◌+◌, ◌^◌, ◌<◌, ℕ, List, [], Ok, Err, Result, length}
+use Rattle.std.specs.Prelude.{◌≡◌, ◌⊎◌, ◌+◌, ◌^◌, ◌<◌, ◌≤◌, ℕ, List, [], None, Some, Ok, Err, Result, IfErr, IsErrOf, OnOk, length}
 use Rattle.sqlite_trees.specs.declared.store.Store.{Ghosts}
 use Rattle.sqlite_catalog.specs.Listing.{IsSound}
 use Rattle.sqlite.specs.Held.{Held}
@@ -10,19 +10,21 @@ use Rattle.gm_shelf.specs.declared.shelf.Shelf.{Ghosts as ShelfGhosts}
 use Rattle.gm_shelf.specs.Disk.{View}
 use Rattle.gm_state.specs.declared.intents.Intent.{Intent}
 use Rattle.gm_state.specs.declared.intents.Reply.TheVariants.{Plain}
-use Rattle.gm_state.specs.Records.{Records}
+use Rattle.gm_state.specs.Readable.{AreReadable}
+use Rattle.gm_state.specs.Records.{IsState, Records}
 use Rattle.gm_state.specs.Rows.{Tables}
 use Rattle.gm_state.specs.World.{World, Answered}
 use Rattle.gm_rows.specs.ReadableTables.{AreTablesOf}
 use Rattle.gm_rows.specs.Schema.{first_schema, registry_schema}
 use Rattle.gm_registry.specs.Opening.{IsForeign, IsOpenable}
 use Rattle.gm_registry.specs.Fitting.{HasRoom}
-use Rattle.gm_registry.specs.Registry.{DiskKept, HasTables, IsOpen, LeavesAlone, StoreFailed, stored}
-use Rattle.gm_registry.specs.Replies.{AreWrittenUnder}
+use Rattle.gm_registry.specs.Registry.{DiskKept, HasTables, IsOpen, LeavesAlone, Reads, StoreFailed, WasClean, seen, stored}
+use Rattle.gm_registry.specs.Replies.{AreWrittenUnder, count_of}
 use Rattle.gm_bench.specs.declared.bench.OpenFault.{OpenFault}
 use Rattle.gm_bench.specs.declared.fault.BenchFault.{BenchFault}
 use Rattle.gm_bench.specs.declared.fault.BenchFault.TheVariants.{Absent, Closed, Disk, Store, Unreadable}
 use Rattle.gm_bench.specs.declared.answer.Answer.TheVariants.{Done, Repeated, Refused as NotDone}
+use Rattle.gm_bench.specs.declared.loss.Loss.{Loss}
 use Rattle.gm_bench.specs.declared.media.Media.{Media}
 use Rattle.gm_bench.specs.declared.open_without.Without.{Without}
 use Rattle.gm_bench.specs.declared.open_without.Without.TheVariants.{Opened, Refused}
@@ -30,10 +32,11 @@ use Rattle.gm_bench.specs.declared.phase.Progress.TheVariants.{Ready}
 use Rattle.gm_bench.specs.declared.take_up_without.TakenUp.{TakenUp}
 use Rattle.gm_bench.specs.declared.take_up_without.TakenUp.TheVariants.{Carried, NotLost}
 use Rattle.gm_bench.specs.Benches.{progress_of, redone_of, registry_of, shelf_of}
-use Rattle.gm_bench.specs.Calls.{most_rows}
-use Rattle.gm_bench.specs.Faults.{IsBeforeWrites}
+use Rattle.gm_bench.specs.Calls.{TellsDisk, most_rows}
+use Rattle.gm_bench.specs.Faults.{IsBeforeWrites, IsOfRegistry}
 use Rattle.gm_bench.specs.Opened.{MayBeCarriedOver}
 use Rattle.gm_bench.specs.Owed.{IsLeft, OpenLeaves}
+use Rattle.gm_bench.specs.Presence.{first_absent}
 use Rattle.gm_bench.specs.Recovering.{IsAt, IsStored}
 use Rattle.gm_bench.specs.Schedule.{WithoutCarries, WithoutDoes, WithoutLeaves}
 use Rattle.gm_bench.specs.Without.{IsKeptLoss, IsLacking, IsRefusedLoss, loss_call}
@@ -54,13 +57,18 @@ IsReady (Refused why store shelf) = Unit {0}
 
 module _ {S H : Type 0} (g : Ghosts S) (view : H → View) (size : H → Sizes) (store : Held S)
     (h : H) (key p : List ℕ) where
-  -- The loss is committed, of a mirror, with these intents taken out: it was stopped at its commit,
-  -- or behind that, or it is carried out.
-  abbrev pub LeavesLost : Held S → H → Type 0
-  LeavesLost s k = (n : List ℕ) × (gone : List Intent)
-      × ((WithoutLeaves g view size store s h (loss_call key n p) p gone × (k ≡ h))
-      ⊎ ((mid : Held S) × WithoutLeaves g view size store mid h (loss_call key n p) p gone
-      × WithoutCarries g view size store mid s h k (loss_call key n p) p gone))
+  -- The registry is opened, and the loss is committed, of a mirror, with these intents taken out:
+  -- it was stopped at its commit, or behind that, or it is carried out.
+  pub record LeavesLost (s : Held S) (k : H) : Type 0 where
+    pub registry : Held S
+    pub opening : OpenLeaves g view size store registry h h
+    pub mirror : List ℕ
+    pub gone : List Intent
+    pub committing :
+        (WithoutLeaves g view size store registry s h (loss_call key mirror p) p gone × (k ≡ h))
+        ⊎ ((mid : Held S)
+        × WithoutLeaves g view size store registry mid h (loss_call key mirror p) p gone
+        × WithoutCarries g view size store mid s h k (loss_call key mirror p) p gone)
 
   -- that, or no more than what any opening leaves
   abbrev pub GivesUp : Held S → H → Type 0
@@ -110,6 +118,45 @@ pub record TakesLoss (db : Trees) : Type 0 where
   pub are : AreTablesOf tables records intents bytes
   pub few : length intents + 17 < 2 ^ 32
   pub room : HasRoom most_rows db
+
+-- A call that looks up what the registry holds leaves both media, and fails as the registry does.
+pub record OnlyLooksUp {S H T : Type 0} (s : Ghosts S) (old new : Media S H)
+    (result : Result T BenchFault) : Type 0 where
+  pub shelf : new.shelf ≡ old.shelf
+  pub clean : WasClean s old.registry new.registry
+  pub reads : DiskKept s new.registry → Reads s old.registry new.registry
+  pub fault : IfErr result IsOfRegistry
+
+-- What is told of a loss that is carried out: F5 exactly if an image isn't there, and then nothing
+-- is written; F6 only of more commands than may be accepted, before an image is written; F3 only if
+-- the shelf failed.
+pub record TellsOfLoss {S H : Type 0} (s : Ghosts S) (h : ShelfGhosts H) (loss : Loss)
+    (old new : Media S H) (result : Result ℕ BenchFault) : Type 0 where
+  pub there : OnOk result (first_absent loss.after (h.size old.shelf) loss.intents.items ≡ None)
+  pub absent : (q : List ℕ) → IsErrOf result (Absent q)
+      → (first_absent loss.after (h.size old.shelf) loss.intents.items ≡ Some q) × (new ≡ old)
+  pub unread : IsErrOf result Unreadable → new.shelf ≡ old.shelf
+  pub readable : DiskKept s new.registry → IsErrOf result Unreadable → (t : Tables)
+      → HasTables s old.registry t → count_of t ≤ 100000 → ⊥
+  pub disk : AreReadable loss.after loss.bytes.items loss.intents.items → IsState loss.after
+      → TellsDisk h old.shelf new.shelf result
+  pub closed : IsErrOf result Closed → ⊥
+
+-- What is told if a provider is given up under a key, of tables that say a state: F3 only if the
+-- shelf failed, F6 only of a row under the key that this program doesn't write, and F2 only if the
+-- store failed, as long as there is room for a loss.
+pub record TellsWithout {S H T : Type 0} (s : Ghosts S) (h : ShelfGhosts H) (key : List ℕ)
+    (old new : Media S H) (result : Result T BenchFault) : Type 0 where
+  pub disk : DiskKept s new.registry → (t : Tables) → HasTables s old.registry t
+      → TellsDisk h old.shelf new.shelf result
+  pub unreadable : DiskKept s new.registry → IsErrOf result Unreadable → (t : Tables)
+      (r : Records) (ts : List Intent) (bytes : List (List ℕ)) → HasTables s old.registry t
+      → AreTablesOf t r ts bytes → AreWrittenUnder key t → ⊥
+  pub store : DiskKept s new.registry → IsErrOf result Store → (t : Tables) (r : Records)
+      (ts : List Intent) (bytes : List (List ℕ)) → HasTables s old.registry t
+      → AreTablesOf t r ts bytes → length ts + 17 < 2 ^ 32
+      → HasRoom most_rows (seen s old.registry) → StoreFailed s old.registry new.registry
+  pub closed : IsErrOf result Closed → ⊥
 
 -- the loss is refused, or it failed, before anything is written
 abbrev pub IsUnwritten : Result TakenUp BenchFault → Type 0

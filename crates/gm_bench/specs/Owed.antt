@@ -92,11 +92,16 @@ module _ {S H : Type 0} (g : Ghosts S) (view : H → View) (size : H → Sizes) 
     pub sizes : present w ≡ size h
     pub recovers : Recovers (stored g store) (size h) away (view h).may_leave u w
 
-  -- an opening: what a stop leaves, and that the bench is then at rest in the world that was left
-  abbrev pub OpenLeaves : Held S → Held S → H → H → Type 0
-  OpenLeaves store s h k = (away : Image) (u w : World) → IsLeft store h away u w
-      → LeavesOnly g view size store s h k away u w
+  -- A stop within an opening: first the registry is opened, and may be carried over; then it is
+  -- what the store was, while the rest is carried out. At each moment what is left leads to w.
+  pub record OpenLeaves (store s : Held S) (h k : H) : Type 0 where
+    pub registry : Held S
+    pub opening : (away : Image) (u w : World) → IsLeft store h away u w
+        → LeavesOnly g view size store registry h h away u w
+    pub carrying : (away : Image) (u w : World) → IsLeft store h away u w
+        → LeavesOnly g view size registry s h k away u w
 
+  -- behind an opening the bench is at rest in the world that was left
   abbrev pub OpenDoes : Held S → Held S → H → H → Type 0
   OpenDoes store s h k = (away : Image) (u w : World) → IsLeft store h away u w
       → IsAt g view size s k away [] [] w w

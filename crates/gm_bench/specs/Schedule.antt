@@ -45,7 +45,7 @@ pub data Phase (R H : Type 0) : Type 0 where
 
 -- What may happen next, with what it left. A call that faulted is one that was stopped at its end;
 -- `Moved` says what the providers hold that the later shelf hasn't; an opening is of a connection
--- to the store.
+-- to the store. One without a provider that is stopped before its commit is any opening's stop.
 pub data Event (R H : Type 0) : Type 0 where
   Accept_returned : (call : Call) (answer : Accepted) (registry : R) (shelf : H) → Event R H
   Accept_stopped : (call : Call) (registry : R) (shelf : H) (db : Trees) (later : H) → Event R H
@@ -62,8 +62,8 @@ pub data Event (R H : Type 0) : Type 0 where
   Open_stopped : (store registry : R) (shelf : H) (db : Trees) (later : H) → Event R H
   Without_returned : (call : Call) (provider : List ℕ) (gone : List Intent) (store registry : R)
       (shelf : H) → Event R H
-  Without_stopped : (call : Call) (provider : List ℕ) (gone : List Intent) (store registry : R)
-      (db : Trees) (later : H) → Event R H
+  Without_stopped : (call : Call) (provider : List ℕ) (gone : List Intent)
+      (store opened registry : R) (db : Trees) (later : H) → Event R H
   Without_carrying : (call : Call) (provider : List ℕ) (gone : List Intent)
       (store middle registry : R) (shelf : H) (db : Trees) (later : H) → Event R H
 
@@ -215,21 +215,28 @@ module _ {S H : Type 0} (g : Ghosts S) (view : H → View) (size : H → Sizes) 
       × LeavesOnly g view size it.registry s it.shelf k away u w
       × IsStop it.registry s it.shelf k db l)
 
-  -- An opening without a provider: until its commit nothing is written to the shelf, and what a
-  -- stop leaves leads to w; the commit leaves that, or what leads to the step.
-  pub record LeavesCommit (store mid : Held S) (h : H) (away : Image) (u w : World) (call : Call)
+  -- one store and one shelf that a stop within an opening leaves: while the registry is opened, or
+  -- behind that
+  abbrev pub IsOpenStop : (store s : Held S) (h k : H) → OpenLeaves g view size store s h k → Trees
+      → H → Type 0
+  IsOpenStop store s h k it db l =
+      IsStop store it.registry h h db l ⊎ IsStop it.registry s h k db l
+
+  -- The commit of an opening without a provider: until then nothing is written to the shelf, and
+  -- what a stop leaves leads to w; the commit leaves that, or what leads to the step.
+  pub record LeavesCommit (opened mid : Held S) (h : H) (away : Image) (u w : World) (call : Call)
       (provider : List ℕ) (gone : List Intent) : Type 0 where
-    pub within : (db : Trees) → CrashLeaves g store db
+    pub within : (db : Trees) → CrashLeaves g opened db
         → Recovers db (size h) away ((view h).left_since (view h).moment) u w
     pub end : (db : Trees) → CrashLeaves g mid db → Recovers db (size h) away (view h).may_leave u w
         ⊎ ((v : World) × IsStepWithout w call provider gone v × (present v ≡ size h)
         × Recovers db (size h) away (view h).may_leave u v)
 
-  abbrev pub WithoutLeaves : Held S → Held S → H → Call → List ℕ → List Intent → Type 0
-  WithoutLeaves store mid h call provider gone =
+  abbrev pub WithoutLeaves : Held S → Held S → Held S → H → Call → List ℕ → List Intent → Type 0
+  WithoutLeaves store opened mid h call provider gone =
       (away : Image) (u w : World) → (left : IsLeft g view size store h away u w)
       → (gone ≡ dropped provider left.recovers.intents)
-      × LeavesCommit store mid h away u w call provider gone
+      × LeavesCommit opened mid h away u w call provider gone
 
   -- behind the commit: what a stop leaves leads to the step
   abbrev pub WithoutCarries : Held S → Held S → Held S → H → H → Call → List ℕ → List Intent
@@ -311,7 +318,7 @@ module _ {S H : Type 0} (g : Ghosts S) (view : H → View) (size : H → Sizes) 
         × OpenDoes g view size o s h k
     Happens m (Open_stopped o s k db l) n =
         (h : H) × (m.phase ≡ Down (stored g o) h) × (n ≡ record m { phase = Down db l })
-        × OpenLeaves g view size o s h k × IsStop o s h k db l
+        × (leaves : OpenLeaves g view size o s h k) × IsOpenStop o s h k leaves db l
     Happens m (Without_returned call p gone o s k) n =
         (h : H) × (m.phase ≡ Down (stored g o) h)
         × (n ≡ record m {
@@ -320,11 +327,11 @@ module _ {S H : Type 0} (g : Ghosts S) (view : H → View) (size : H → Sizes) 
           acknowledged = Without call p gone ∷ m.acknowledged;
         })
         × WithoutDoes o s h k call p gone
-    Happens m (Without_stopped call p gone o s db l) n =
+    Happens m (Without_stopped call p gone o opened s db l) n =
         (h : H) × (m.phase ≡ Down (stored g o) h)
         × (left : List Entry) × (n ≡ record m { phase = Down db l; accepted = left })
         × IsLeftIn db (Without call p gone) m.accepted left
-        × WithoutLeaves o s h call p gone × IsStop o s h h db l
+        × WithoutLeaves o opened s h call p gone × IsStop opened s h h db l
     Happens m (Without_carrying call p gone o mid s k db l) n =
         (h : H) × (m.phase ≡ Down (stored g o) h)
         × (n ≡ record m { phase = Down db l; accepted = Without call p gone ∷ m.accepted })

@@ -33,7 +33,6 @@ use Rattle.gm_registry.specs.Changes.{settled}
 use Rattle.gm_registry.specs.Replies.{IsFree, count_of}
 use Rattle.gm_bench.specs.Planning.{IsFitting}
 use Rattle.gm_bench.specs.Losing.{dropped, left_to_lay, next_of, pending_after, remaining}
-use Rattle.gm_bench.specs.Leading.{AllLead}
 use Rattle.gm_bench.specs.Presence.{first_absent}
 use Rattle.gm_bench.specs.Recovering.{IsAt, IsFound, LeavesOnly}
 use Rattle.gm_bench.specs.Schedule.{IsStepWithout, LeavesCommit}
@@ -247,9 +246,8 @@ module _ {S H : Type 0} (g : Ghosts S) (view : H → View) (size : H → Sizes) 
     -- nothing is committed, and what was pending may be carried out
     abbrev pub LeavesOpened : Type 0
     LeavesOpened = (away : Image) (ts : List Intent) (bytes : List (List ℕ)) (u w : World)
-        → (at : IsFound g view size start h away ts bytes u w)
+        → IsFound g view size start h away ts bytes u w
         → LeavesOnly g view size start end h k away u w
-        × AllLead at.tables ts bytes (size h) away ((view k).left_since (view h).moment) u w
 
     -- that, or the loss is committed
     abbrev pub LeavesWithout : Type 0

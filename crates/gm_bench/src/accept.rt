@@ -1,6 +1,6 @@
 //! Commands that are handed in.
 
-ghost use Rattle.std.specs.Prelude.{◌≡◌, ◌<◌, ◌≤◌, ℕ, true, List, IfOk, IfErr, OnOk, IsErrOf};
+ghost use Rattle.std.specs.Prelude.{◌≡◌, ◌<◌, ℕ, true, List, IfOk, IfErr, OnOk, IsErrOf};
 ghost use Rattle.gm_metadata.specs.Images.{Image};
 ghost use Rattle.gm_commands.specs.declared.command.Command.{Command};
 ghost use Rattle.gm_state.specs.declared.intents.Intent.{Intent};
@@ -11,15 +11,16 @@ ghost use Rattle.gm_rules.specs.Step.{CanAnswer};
 ghost use Rattle.gm_state.specs.Rows.{Tables};
 ghost use Rattle.gm_registry.specs.Accepting.{Accepts as WritesAccepted};
 ghost use Rattle.gm_registry.specs.Changes.{with_accepted};
-ghost use Rattle.gm_registry.specs.Registry.{DiskKept, HasTables, Refuses, StoreFailed, WasClean, Writes, seen};
+ghost use Rattle.gm_registry.specs.Registry.{DiskKept, HasTables, Refuses, StoreFailed, Writes, seen};
 ghost use Rattle.gm_registry.specs.Fitting.{HasRoom};
 ghost use Rattle.gm_registry.specs.Replies.{IsFree, count_of};
 ghost use Rattle.gm_bench.specs.Accepting.{HasNothingElse, IsAnswered, LeavesStep, WaitsFor, left_by};
 ghost use Rattle.gm_bench.specs.Faults.{IsOfCall};
-ghost use Rattle.gm_bench.specs.Planning.{IsFitting, IsPlanned, IsWith, IsWorkAtHand};
+ghost use Rattle.gm_bench.specs.Planning.{IsFitting, IsPlanned, IsWith};
 ghost use Rattle.gm_bench.specs.Recovering.{IsCarriedOut};
 ghost use Rattle.gm_bench.specs.Phases.{IsUndone, answer_of};
-ghost use Rattle.gm_bench.specs.Calls.{Accepts, GoesOn, RefusesCall, StaysRegistry, TellsAtHand, TellsStoreWhere, TellsUnreadable, most_rows};
+ghost use Rattle.gm_bench.specs.Calls.{Accepts, GoesOn, IsCall, TellsByRows, WritesAlone, most_rows};
+ghost use Rattle.gm_bench.specs.Owed.{AcceptAnswers, AcceptLeaves};
 
 use crate::answer::Accepted;
 use crate::fault::BenchFault;
@@ -92,14 +93,8 @@ impl<S: Alter, H: Shelf> Media<S, H> {
         ensures goes_on { DiskKept S.Store self.new.registry → OnOk result ((t : Tables)
             → HasTables S.Store self.old.registry t
             → GoesOn S.Store self.old.registry self.new.registry) }
-        ensures disk { IsErrOf result BenchFault.Disk → ⊥ }
         ensures work { IfOk result (IsWith planned.work) }
-        ensures fault { IfErr result IsOfCall }
-        ensures readable { DiskKept S.Store self.new.registry
-            → IsErrOf result BenchFault.Unreadable → (t : Tables)
-            → HasTables S.Store self.old.registry t → count_of t ≤ 100000 → ⊥ }
-        ensures shelf { self.new.shelf ≡ self.old.shelf }
-        ensures clean { WasClean S.Store self.old.registry self.new.registry }
+        ensures alone { WritesAlone S.Store self.old self.new result }
     {
         match self.write(waiting, &planned.change, key, words) {
             Ok(number) => Ok(Accepted::Done {
@@ -137,15 +132,9 @@ impl<S: Alter, H: Shelf> Media<S, H> {
             → IsAnswered S.Store H.view H.size self.new.registry self.new.shelf away
             ts bytes v u key.now command.now a) }
         ensures fault { IfErr result IsOfCall }
-        ensures readable { CommandFits command.now → TellsUnreadable S.Store H.Shelf
-            self.old self.new result key.now command.now }
-        ensures at_hand { CommandFits command.now → TellsAtHand S.Store H.Shelf
-            self.old self.new result (IsWorkAtHand (H.size self.old.shelf)) }
-        ensures refused { RefusesCall S.Store H.Shelf self.old self.new result }
-        ensures store { words.now ≡ words_of command.now → is_key key.now ≡ true
-            → CommandFits command.now → TellsStoreWhere S.Store H.Shelf self.old self.new result
-            (λ t. HasNothingElse waiting t × (count_of t < 100000) × IsFree t key.now) command.now }
-        ensures goes_on { StaysRegistry S.Store H.Shelf self.old self.new result }
+        ensures rows { IsCall key.now words.now command.now
+            → TellsByRows S.Store H.Shelf self.old self.new result key.now command.now
+            (λ t. HasNothingElse waiting t × (count_of t < 100000) × IsFree t key.now) }
         ensures accepts { Accepts S.Store H.Shelf self.old self.new result
             (λ a. IsUndone (answer_of a)) }
     {
@@ -183,15 +172,9 @@ impl<S: Alter, H: Shelf> Media<S, H> {
             → IsAnswered S.Store H.view H.size self.new.registry self.new.shelf away
             ts bytes v u key.now command.now a) }
         ensures fault { IfErr result IsOfCall }
-        ensures readable { CommandFits command.now → TellsUnreadable S.Store H.Shelf
-            self.old self.new result key.now command.now }
-        ensures at_hand { CommandFits command.now → TellsAtHand S.Store H.Shelf
-            self.old self.new result (IsWorkAtHand (H.size self.old.shelf)) }
-        ensures refused { RefusesCall S.Store H.Shelf self.old self.new result }
-        ensures store { words.now ≡ words_of command.now → is_key key.now ≡ true
-            → CommandFits command.now → TellsStoreWhere S.Store H.Shelf self.old self.new result
-            (λ t. HasNothingElse waiting t × IsFree t key.now) command.now }
-        ensures goes_on { StaysRegistry S.Store H.Shelf self.old self.new result }
+        ensures rows { IsCall key.now words.now command.now
+            → TellsByRows S.Store H.Shelf self.old self.new result key.now command.now
+            (λ t. HasNothingElse waiting t × IsFree t key.now) }
         ensures accepts { Accepts S.Store H.Shelf self.old self.new result
             (λ a. IsUndone (answer_of a)) }
     {
@@ -211,32 +194,17 @@ impl<S: Alter, H: Shelf> Media<S, H> {
         command: &Command,
     ) -> Result<Accepted, BenchFault>
         ensures leaves { H.honest self.old.shelf → DiskKept S.Store self.new.registry
-            → (away : Image) (ts : List Intent)
-            (bytes : List (List ℕ)) (v u : World) → words.now ≡ words_of command.now
-            → is_key key.now ≡ true → CommandFits command.now
-            → IsCarriedOut S.Store H.view H.size self.old.registry self.old.shelf away ts bytes v u
-            → WaitsFor waiting ts bytes
-            → LeavesStep S.Store H.view H.size self.old.registry self.new.registry
-            self.old.shelf self.new.shelf away v u key.now command.now }
+            → IsCall key.now words.now command.now
+            → AcceptLeaves S.Store H.view H.size waiting self.old.registry self.new.registry
+            self.old.shelf self.new.shelf key.now command.now }
         ensures done { H.honest self.old.shelf → DiskKept S.Store self.new.registry
-            → IfOk result (λ a. (away : Image) (ts : List Intent)
-            (bytes : List (List ℕ)) (v u : World) → words.now ≡ words_of command.now
-            → is_key key.now ≡ true → CommandFits command.now
-            → IsCarriedOut S.Store H.view H.size self.old.registry self.old.shelf away ts bytes v u
-            → WaitsFor waiting ts bytes
-            → IsAnswered S.Store H.view H.size self.new.registry self.new.shelf away
-            ts bytes v u key.now command.now a) }
+            → IfOk result (λ a. IsCall key.now words.now command.now
+            → AcceptAnswers S.Store H.view H.size waiting self.old.registry self.new.registry
+            self.old.shelf self.new.shelf key.now command.now a) }
         ensures fault { IfErr result IsOfCall }
-        ensures readable { CommandFits command.now → TellsUnreadable S.Store H.Shelf
-            self.old self.new result key.now command.now }
-        ensures at_hand { CommandFits command.now → TellsAtHand S.Store H.Shelf
-            self.old self.new result (IsWorkAtHand (H.size self.old.shelf)) }
-        ensures refused { RefusesCall S.Store H.Shelf self.old self.new result }
-        ensures store { words.now ≡ words_of command.now → is_key key.now ≡ true
-            → CommandFits command.now
-            → TellsStoreWhere S.Store H.Shelf
-            self.old self.new result (HasNothingElse waiting) command.now }
-        ensures goes_on { StaysRegistry S.Store H.Shelf self.old self.new result }
+        ensures rows { IsCall key.now words.now command.now
+            → TellsByRows S.Store H.Shelf self.old self.new result key.now command.now
+            (HasNothingElse waiting) }
         ensures accepts { Accepts S.Store H.Shelf self.old self.new result
             (λ a. IsUndone (answer_of a)) }
     {
@@ -263,28 +231,14 @@ impl<S: Alter, H: Shelf> Media<S, H> {
         command: &Command,
     ) -> Result<Accepted, BenchFault>
         ensures leaves { H.honest self.old.shelf → DiskKept S.Store self.new.registry
-            → (away : Image) (ts : List Intent)
-            (bytes : List (List ℕ)) (v u : World)
-            → IsCarriedOut S.Store H.view H.size self.old.registry self.old.shelf away ts bytes v u
-            → WaitsFor waiting ts bytes
-            → LeavesStep S.Store H.view H.size self.old.registry self.new.registry
-            self.old.shelf self.new.shelf away v u key.now command.now }
+            → AcceptLeaves S.Store H.view H.size waiting self.old.registry self.new.registry
+            self.old.shelf self.new.shelf key.now command.now }
         ensures done { H.honest self.old.shelf → DiskKept S.Store self.new.registry
-            → IfOk result (λ a. (away : Image) (ts : List Intent)
-            (bytes : List (List ℕ)) (v u : World)
-            → IsCarriedOut S.Store H.view H.size self.old.registry self.old.shelf away ts bytes v u
-            → WaitsFor waiting ts bytes
-            → IsAnswered S.Store H.view H.size self.new.registry self.new.shelf away
-            ts bytes v u key.now command.now a) }
+            → IfOk result (AcceptAnswers S.Store H.view H.size waiting self.old.registry
+            self.new.registry self.old.shelf self.new.shelf key.now command.now) }
         ensures fault { IfErr result IsOfCall }
-        ensures readable { TellsUnreadable S.Store H.Shelf
-            self.old self.new result key.now command.now }
-        ensures at_hand { TellsAtHand S.Store H.Shelf
-            self.old self.new result (IsWorkAtHand (H.size self.old.shelf)) }
-        ensures refused { RefusesCall S.Store H.Shelf self.old self.new result }
-        ensures store { TellsStoreWhere S.Store H.Shelf
-            self.old self.new result (HasNothingElse waiting) command.now }
-        ensures goes_on { StaysRegistry S.Store H.Shelf self.old self.new result }
+        ensures rows { TellsByRows S.Store H.Shelf self.old self.new result key.now command.now
+            (HasNothingElse waiting) }
         ensures accepts { Accepts S.Store H.Shelf self.old self.new result
             (λ a. IsUndone (answer_of a)) }
     {

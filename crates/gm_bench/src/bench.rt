@@ -1,22 +1,11 @@
 //! The opening of a bench, and what it may be asked.
 
-ghost use Rattle.std.specs.Prelude.{◌≡◌, ◌<◌, ℕ, List, Some, None, false, length, IfOk, IfErr, MatchResult};
-ghost use Rattle.gm_metadata.specs.Images.{Image};
-ghost use Rattle.gm_state.specs.declared.intents.Intent.{Intent};
-ghost use Rattle.gm_state.specs.Records.{Records};
-ghost use Rattle.gm_state.specs.Rows.{Tables};
-ghost use Rattle.gm_state.specs.World.{World};
-ghost use Rattle.gm_registry.specs.Opening.{IsForeign, IsOpenable};
-ghost use Rattle.gm_rows.specs.ReadableTables.{AreTablesOf};
-ghost use Rattle.gm_registry.specs.Registry.{DiskKept, IsOpen, LeavesAlone, WasClean, stored};
-ghost use Rattle.gm_rows.specs.Schema.{registry_schema};
-ghost use Rattle.sqlite_catalog.specs.Listing.{IsSound};
+ghost use Rattle.std.specs.Prelude.{◌≡◌, ◌<◌, false, IfOk, IfErr, MatchResult};
+ghost use Rattle.gm_registry.specs.Opening.{IsForeign};
+ghost use Rattle.gm_registry.specs.Registry.{DiskKept, IsOpen, LeavesAlone, stored};
 ghost use Rattle.gm_bench.specs.Benches.{progress_of, redone_of, registry_of, shelf_of};
-ghost use Rattle.gm_bench.specs.Faults.{IsBeforeWrites};
-ghost use Rattle.gm_bench.specs.Owed.{IsLeft, OpenDoes, OpenLeaves};
-ghost use Rattle.gm_bench.specs.Presence.{first_absent};
+ghost use Rattle.gm_bench.specs.Owed.{OpenLeaves};
 ghost use Rattle.gm_bench.specs.Phases.{phase_of};
-ghost use Rattle.gm_bench.specs.Recovering.{IsStored};
 ghost use Rattle.gm_bench.specs.Calls.{Keep};
 ghost use Rattle.gm_bench.specs.Opened.{IsOpened, IsUnopened};
 

@@ -1,17 +1,16 @@
 //! A component whose image is gone for good is given up, and the rest is carried out.
 
-ghost use Rattle.std.specs.Prelude.{◌≡◌, ◌≤◌, ◌<◌, ◌+◌, ◌^◌, ℕ, List, Some, None, length, IfOk, IfErr, OnOk, IsErrOf};
+ghost use Rattle.std.specs.Prelude.{◌<◌, ◌+◌, ◌^◌, ℕ, List, Some, length, IfOk, OnOk, IsErrOf};
 ghost use Rattle.gm_metadata.specs.Images.{Image};
 ghost use Rattle.gm_state.specs.declared.intents.Intent.{Intent};
 ghost use Rattle.gm_state.specs.Readable.{AreReadable};
 ghost use Rattle.gm_state.specs.Records.{IsState};
 ghost use Rattle.gm_state.specs.Rows.{Tables};
 ghost use Rattle.gm_state.specs.World.{World};
-ghost use Rattle.gm_registry.specs.Registry.{DiskKept, HasTables, StoreFailed, WasClean, seen};
+ghost use Rattle.gm_registry.specs.Registry.{DiskKept, HasTables, StoreFailed, seen};
 ghost use Rattle.gm_registry.specs.Fitting.{HasRoom};
-ghost use Rattle.gm_registry.specs.Replies.{count_of};
-ghost use Rattle.gm_bench.specs.Calls.{GoesOn, Keep, TellsDisk, most_rows};
-ghost use Rattle.gm_bench.specs.Faults.{IsOfCall};
+ghost use Rattle.gm_bench.specs.Calls.{GoesOn, Keep, WritesAlone, most_rows};
+ghost use Rattle.gm_bench.specs.GivingUp.{TellsOfLoss};
 ghost use Rattle.gm_bench.specs.Presence.{first_absent};
 ghost use Rattle.gm_bench.specs.Without.{CanCommit, Commits, DoesLoss, HasJudged, IsLost, LeavesLoss, loss_call};
 
@@ -48,13 +47,7 @@ impl<S: Alter, H: Shelf> Media<S, H> {
         ensures goes_on { DiskKept S.Store self.new.registry → OnOk result ((t : Tables)
             → HasTables S.Store self.old.registry t
             → GoesOn S.Store self.old.registry self.new.registry) }
-        ensures disk { IsErrOf result BenchFault.Disk → ⊥ }
-        ensures fault { IfErr result IsOfCall }
-        ensures readable { DiskKept S.Store self.new.registry
-            → IsErrOf result BenchFault.Unreadable → (t : Tables)
-            → HasTables S.Store self.old.registry t → count_of t ≤ 100000 → ⊥ }
-        ensures shelf { self.new.shelf ≡ self.old.shelf }
-        ensures clean { WasClean S.Store self.old.registry self.new.registry }
+        ensures alone { WritesAlone S.Store self.old self.new result }
     {
         let words = loss.words.as_str();
         match self
@@ -79,26 +72,13 @@ impl<S: Alter, H: Shelf> Media<S, H> {
             (HasJudged S.Store H.view H.size self.old.registry self.old.shelf key.now p loss.now)
             (loss_call key.now loss.now.mirror p) p
             self.new.registry self.new.shelf n loss.now.change.reply) }
-        // F5 comes before anything is written, exactly where an image isn't there.
-        ensures absent { (q : List ℕ) → IsErrOf result (BenchFault.Absent q)
-            → (first_absent loss.now.after (H.size self.old.shelf) loss.now.intents.items ≡ Some q)
-            × (self.new ≡ self.old) }
-        ensures unread { IsErrOf result BenchFault.Unreadable
-            → self.new.shelf ≡ self.old.shelf }
-        ensures there { OnOk result
-            (first_absent loss.now.after (H.size self.old.shelf) loss.now.intents.items ≡ None) }
-        ensures disk { AreReadable loss.now.after loss.now.bytes.items loss.now.intents.items
-            → IsState loss.now.after → TellsDisk H.Shelf self.old.shelf self.new.shelf result }
-        ensures readable { DiskKept S.Store self.new.registry
-            → IsErrOf result BenchFault.Unreadable → (t : Tables)
-            → HasTables S.Store self.old.registry t → count_of t ≤ 100000 → ⊥ }
+        ensures tells { TellsOfLoss S.Store H.Shelf loss.now self.old self.new result }
         ensures store { DiskKept S.Store self.new.registry → IsErrOf result BenchFault.Store
             → (t : Tables) (ts : List Intent) → HasTables S.Store self.old.registry t
             → CanCommit key.now ts t loss.now → length ts + 17 < 2 ^ 32 → IsState loss.now.after
             → AreReadable loss.now.after loss.now.bytes.items loss.now.intents.items
             → HasRoom most_rows (seen S.Store self.old.registry)
             → StoreFailed S.Store self.old.registry self.new.registry }
-        ensures closed { IsErrOf result BenchFault.Closed → ⊥ }
         ensures keep { Keep S.Store H.Shelf self.old.registry self.new.registry
             self.old.shelf self.new.shelf }
     {

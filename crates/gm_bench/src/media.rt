@@ -4,7 +4,6 @@ ghost use Rattle.std.specs.Prelude.{◌≡◌, ◌<◌, ℕ, List, [], OnOk, IfE
 ghost use Rattle.gm_metadata.specs.Images.{Image};
 ghost use Rattle.gm_state.specs.declared.intents.Intent.{Intent};
 ghost use Rattle.gm_state.specs.World.{World};
-ghost use Rattle.gm_registry.specs.Changes.{settled};
 ghost use Rattle.gm_registry.specs.Registry.{DiskKept, Refuses, WasClean};
 ghost use Rattle.gm_bench.specs.Calls.{TellsStore};
 ghost use Rattle.gm_bench.specs.Faults.{IsOfMedia};

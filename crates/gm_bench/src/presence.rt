@@ -1,7 +1,6 @@
 //! Whether the images that pending intents need are there.
 
-ghost use Rattle.std.specs.Prelude.{◌≡◌, [], ◌∷◌};
-ghost use Rattle.gm_state.specs.Lookups.{component_of};
+ghost use Rattle.std.specs.Prelude.{◌≡◌};
 ghost use Rattle.gm_bench.specs.Presence.{serves, is_present, absent_among, providers_in, first_absent};
 
 use gm_metadata::Label;

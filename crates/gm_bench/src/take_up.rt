@@ -1,15 +1,14 @@
 //! The opening of a bench.
 
-ghost use Rattle.std.specs.Prelude.{◌≡◌, ◌≢◌, ◌<◌, ℕ, List, [], Some, None, length, IfOk, IfErr, OnOk, IsErrOf};
+ghost use Rattle.std.specs.Prelude.{◌≡◌, ◌<◌, ℕ, List, [], Some, None, length, IfOk, IfErr, OnOk, IsErrOf};
 ghost use Rattle.gm_metadata.specs.Images.{Image};
-ghost use Rattle.gm_shelf.specs.Disk.{IsLawful};
 ghost use Rattle.gm_state.specs.declared.intents.Intent.{Intent};
 ghost use Rattle.gm_state.specs.Records.{Records};
 ghost use Rattle.gm_state.specs.Rows.{Tables};
 ghost use Rattle.gm_state.specs.World.{World};
 ghost use Rattle.gm_rows.specs.ReadableTables.{AreTablesOf};
-ghost use Rattle.gm_registry.specs.Registry.{DiskKept, HasTables, IsRegistry, LeavesAlone, Reads, StoreFailed, WasClean};
-ghost use Rattle.gm_bench.specs.Faults.{IsOfMedia, IsOfOpening, IsOfRegistry, IsBeforeWrites};
+ghost use Rattle.gm_registry.specs.Registry.{DiskKept, HasTables, IsRegistry, LeavesAlone, Reads, StoreFailed};
+ghost use Rattle.gm_bench.specs.Faults.{IsOfMedia, IsOfOpening, IsOfRegistry};
 ghost use Rattle.gm_bench.specs.Leading.{AllLead};
 ghost use Rattle.gm_bench.specs.Presence.{first_absent, AreAtHand};
 ghost use Rattle.gm_bench.specs.Recovering.{Cover, IsAt, IsFound, LeavesOnly};
@@ -149,12 +148,6 @@ impl<S: Alter, H: Shelf> Media<S, H> {
             → IsFound S.Store H.view H.size self.old.registry self.old.shelf away ts bytes u w
             → LeavesOnly S.Store H.view H.size self.old.registry self.new.registry
             self.old.shelf self.new.shelf away u w }
-        ensures moments { H.honest self.old.shelf → DiskKept S.Store self.new.registry
-            → (away : Image) (ts : List Intent) (bytes : List (List ℕ)) (u w : World)
-            → (at : IsFound S.Store H.view H.size self.old.registry self.old.shelf away ts bytes u
-            w)
-            → AllLead at.tables ts bytes (H.size self.old.shelf) away
-            ((H.view self.new.shelf).left_since (H.view self.old.shelf).moment) u w }
         ensures done { H.honest self.old.shelf → DiskKept S.Store self.new.registry
             → IfOk result (λ n. (away : Image) (ts : List Intent) (bytes : List (List ℕ))
             (u w : World)

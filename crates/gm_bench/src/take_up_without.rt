@@ -1,20 +1,18 @@
 //! The opening of a bench without a provider.
 
-ghost use Rattle.std.specs.Prelude.{◌≡◌, ◌<◌, ◌+◌, ◌^◌, ℕ, List, length, IfOk, IfErr, IsErrOf};
+ghost use Rattle.std.specs.Prelude.{◌<◌, ℕ, List, IfOk, IsErrOf};
 ghost use Rattle.gm_metadata.specs.Images.{Image};
 ghost use Rattle.gm_state.specs.declared.intents.Intent.{Intent};
 ghost use Rattle.gm_state.specs.Records.{Records};
 ghost use Rattle.gm_state.specs.Rows.{Tables};
 ghost use Rattle.gm_state.specs.World.{World};
 ghost use Rattle.gm_rows.specs.ReadableTables.{AreTablesOf};
-ghost use Rattle.gm_registry.specs.Registry.{DiskKept, HasTables, LeavesNothingNew, Reads, StoreFailed, WasClean, seen};
-ghost use Rattle.gm_registry.specs.Fitting.{HasRoom};
+ghost use Rattle.gm_registry.specs.Registry.{DiskKept, HasTables};
 ghost use Rattle.gm_registry.specs.Replies.{AreWrittenUnder};
 ghost use Rattle.gm_bench.specs.declared.loss.LossRefusal.{LossRefusal};
-ghost use Rattle.gm_bench.specs.Calls.{Keep, TellsDisk, TellsStore, most_rows};
-ghost use Rattle.gm_bench.specs.Faults.{IsOfCall};
+ghost use Rattle.gm_bench.specs.Calls.{Keep, TellsStore};
 ghost use Rattle.gm_bench.specs.Recovering.{IsFound};
-ghost use Rattle.gm_bench.specs.GivingUp.{StaysUnlost};
+ghost use Rattle.gm_bench.specs.GivingUp.{OnlyLooksUp, StaysUnlost, TellsWithout};
 ghost use Rattle.gm_bench.specs.Without.{CanBeCommitted, DoesWithout, IsLooked, KeepsUndone, LacksFirst, LeavesWithout, StaysReadable};
 
 use crate::answer::Answer;
@@ -75,15 +73,7 @@ impl<S: Alter, H: Shelf> Media<S, H> {
             → HasTables S.Store self.old.registry t
             → CanBeCommitted key.now l.intents.items t l.judged) }
         ensures store { TellsStore S.Store self.old.registry self.new.registry result }
-        ensures reads { DiskKept S.Store self.new.registry
-            → Reads S.Store self.old.registry self.new.registry }
-        ensures left { DiskKept S.Store self.new.registry → (t : Tables)
-            → HasTables S.Store self.old.registry t
-            → LeavesNothingNew S.Store self.old.registry self.new.registry }
-        ensures fault { IfErr result IsOfCall }
-        ensures disk { IsErrOf result BenchFault.Disk → ⊥ }
-        ensures shelf { self.new.shelf ≡ self.old.shelf }
-        ensures clean { WasClean S.Store self.old.registry self.new.registry }
+        ensures looks { OnlyLooksUp S.Store self.old self.new result }
     {
         let loaded = self.load(alloc)?;
         let judged = self.judge(
@@ -125,21 +115,7 @@ impl<S: Alter, H: Shelf> Media<S, H> {
             → (q : List ℕ) → IsErrOf result (BenchFault.Absent q)
             → LacksFirst S.Store H.view H.size key.now provider
             self.old.registry self.new.registry self.old.shelf self.new.shelf q }
-        ensures disk { DiskKept S.Store self.new.registry → (t : Tables)
-            → HasTables S.Store self.old.registry t
-            → TellsDisk H.Shelf self.old.shelf self.new.shelf result }
-        ensures unreadable { DiskKept S.Store self.new.registry
-            → IsErrOf result BenchFault.Unreadable → (t : Tables) (s : Records) (ts : List Intent)
-            (bytes : List (List ℕ))
-            → HasTables S.Store self.old.registry t → AreTablesOf t s ts bytes
-            → AreWrittenUnder key.now t → ⊥ }
-        ensures store { DiskKept S.Store self.new.registry → IsErrOf result BenchFault.Store
-            → (t : Tables) (s : Records) (ts : List Intent)
-            (bytes : List (List ℕ))
-            → HasTables S.Store self.old.registry t → AreTablesOf t s ts bytes
-            → length ts + 17 < 2 ^ 32 → HasRoom most_rows (seen S.Store self.old.registry)
-            → StoreFailed S.Store self.old.registry self.new.registry }
-        ensures closed { IsErrOf result BenchFault.Closed → ⊥ }
+        ensures tells { TellsWithout S.Store H.Shelf key.now self.old self.new result }
         ensures keep { Keep S.Store H.Shelf self.old.registry self.new.registry
             self.old.shelf self.new.shelf }
     {

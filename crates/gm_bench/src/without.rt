@@ -2,31 +2,26 @@
 //! by a `lost` of it, in the transaction that takes out what is pending there; the rest is carried
 //! out as by any opening.
 
-ghost use Rattle.std.specs.Prelude.{◌≡◌, ◌<◌, ◌≤◌, ◌+◌, ◌∷◌, true, ℕ, List, [], None, Some, length, IfOk, IfErr, OnOk, IsErrOf, string_bytes};
-ghost use Rattle.gm_metadata.specs.Images.{Image};
+ghost use Rattle.std.specs.Prelude.{◌≡◌, ◌<◌, ◌≤◌, ◌∷◌, true, ℕ, List, [], None, Some, length, IfOk, IfErr, IsErrOf, string_bytes};
 ghost use Rattle.gm_commands.specs.declared.command.Command.TheVariants.{Lost};
 ghost use Rattle.gm_commands.specs.Commands.{CommandFits, is_key, words_of};
 ghost use Rattle.gm_lists.specs.Ordered.{Has};
-ghost use Rattle.gm_shelf.specs.Keeping.{ReadsOnly};
 ghost use Rattle.gm_state.specs.declared.intents.Intent.{Intent};
 ghost use Rattle.gm_state.specs.declared.records.Component.{Component};
 ghost use Rattle.gm_state.specs.Records.{IsState};
 ghost use Rattle.gm_state.specs.Rows.{HoldRecords, Tables};
 ghost use Rattle.gm_state.specs.Lookups.{component_of};
-ghost use Rattle.gm_state.specs.World.{Answered, Sound, World, present};
+ghost use Rattle.gm_state.specs.World.{Answered, World, present};
 ghost use Rattle.gm_refusals.specs.WorldFacts.{seen_of};
 ghost use Rattle.gm_changes.specs.Decides.{Decides, changed_by};
-ghost use Rattle.gm_registry.specs.Registry.{DiskKept, HasTables, Reads, WasClean};
+ghost use Rattle.gm_registry.specs.Registry.{DiskKept, HasTables};
 ghost use Rattle.gm_registry.specs.Replies.{AreWrittenUnder, IsFree, count_of};
-ghost use Rattle.gm_rows.specs.ReadableTables.{AreRecordsOf, AreTablesOf};
-ghost use Rattle.gm_bench.specs.Calls.{Asks, Keep, Looks, TellsDisk, TellsStore};
-ghost use Rattle.gm_bench.specs.Faults.{IsOfCall, IsOfMedia};
-ghost use Rattle.gm_bench.specs.Losing.{dropped};
+ghost use Rattle.gm_rows.specs.ReadableTables.{AreRecordsOf};
+ghost use Rattle.gm_bench.specs.Calls.{TellsStore};
+ghost use Rattle.gm_bench.specs.Faults.{IsOfMedia, IsOfRegistry};
+ghost use Rattle.gm_bench.specs.GivingUp.{OnlyLooksUp};
 ghost use Rattle.gm_bench.specs.Planning.{IsFitting};
-ghost use Rattle.gm_bench.specs.Presence.{first_absent};
-ghost use Rattle.gm_bench.specs.Recovering.{IsFound};
-ghost use Rattle.gm_bench.specs.Schedule.{IsStepWithout, LeavesCommit};
-ghost use Rattle.gm_bench.specs.Without.{AreOfWorld, CanBeCommitted, DoesLoss, IsJudged, IsNewLoss, IsRedirected, LeavesLoss, StayReadableBehind, StaysReadable, loss_call};
+ghost use Rattle.gm_bench.specs.Without.{AreOfWorld, CanBeCommitted, IsJudged, IsRedirected, StayReadableBehind, StaysReadable};
 
 use crate::fault::BenchFault;
 use crate::loss::{Judged, LossRefusal, are_of_loss, loss_with, next_source};
@@ -105,8 +100,7 @@ impl<S: Alter, H: Shelf> Media<S, H> {
         ensures comes { IfOk result (IsRedirected state.now (H.size self.now.shelf) intents.now
             bytes.now
             component.now.mirror component.now.provider (string_bytes words) change) }
-        ensures fault { IfErr result IsOfCall }
-        ensures disk { IsErrOf result BenchFault.Disk → ⊥ }
+        ensures fault { IfErr result IsOfRegistry }
         ensures not_store { IsErrOf result BenchFault.Store → ⊥ }
         ensures readable { IsErrOf result BenchFault.Unreadable
             → IsState (changed_by change state.now) → ⊥ }
@@ -153,8 +147,7 @@ impl<S: Alter, H: Shelf> Media<S, H> {
         ensures fits { IfOk result (λ j. (key : List ℕ) (t : Tables) → AreRecordsOf t state.now
             → is_key key ≡ true → IsFree t key → count_of t < 100000
             → CanBeCommitted key intents.now t j) }
-        ensures fault { IfErr result IsOfCall }
-        ensures disk { IsErrOf result BenchFault.Disk → ⊥ }
+        ensures fault { IfErr result IsOfRegistry }
         ensures not_store { IsErrOf result BenchFault.Store → ⊥ }
     {
         let command = loss_of(alloc, component)?;
@@ -195,10 +188,7 @@ impl<S: Alter, H: Shelf> Media<S, H> {
             → HasTables S.Store self.old.registry t → AreRecordsOf t state.now
             → is_key key ≡ true → IsFree t key → CanBeCommitted key intents.now t j) }
         ensures store { TellsStore S.Store self.old.registry self.new.registry result }
-        ensures reads { Reads S.Store self.old.registry self.new.registry }
-        ensures fault { IfErr result IsOfCall }
-        ensures disk { IsErrOf result BenchFault.Disk → ⊥ }
-        ensures shelf { self.new.shelf ≡ self.old.shelf }
+        ensures looks { OnlyLooksUp S.Store self.old self.new result }
     {
         if self.is_full()? {
             return Ok(Judged::refused(CallRefusal::NoRoom));
@@ -237,12 +227,7 @@ impl<S: Alter, H: Shelf> Media<S, H> {
             → HasTables S.Store self.old.registry t → AreRecordsOf t state.now
             → CanBeCommitted key.now intents.now t j) }
         ensures store { TellsStore S.Store self.old.registry self.new.registry result }
-        ensures reads { DiskKept S.Store self.new.registry
-            → Reads S.Store self.old.registry self.new.registry }
-        ensures clean { WasClean S.Store self.old.registry self.new.registry }
-        ensures fault { IfErr result IsOfCall }
-        ensures disk { IsErrOf result BenchFault.Disk → ⊥ }
-        ensures shelf { self.new.shelf ≡ self.old.shelf }
+        ensures looks { OnlyLooksUp S.Store self.old self.new result }
     {
         if !is_key(key) {
             return Ok(Judged::refused(CallRefusal::NoKey));

@@ -50,12 +50,13 @@ returns-in_err-accepted-clause-rows g c =
     let same = (c.in-Some.ensures.some c.in-Some.waiting refl).0 in
     record {
       readable = λ clean is t s has records few written honest.
-          c.in_err-accepted.ensures.readable clean (ap Err (fault_is c.from_residual.result _ _
+          c.in_err-accepted.ensures.rows.readable clean (ap Err (fault_is c.from_residual.result _ _
           c.from_residual.ensures.1 is)) t s has records few written honest;
       at_hand = search rules;
-      refused = λ clean. in_fault c.from_residual.result (c.in_err-accepted.ensures.refused clean);
+      refused = λ clean.
+          in_fault c.from_residual.result (c.in_err-accepted.ensures.rows.refused clean);
       store = λ clean is t s has records none room honest.
-          c.in_err-accepted.ensures.store clean (ap Err (fault_is c.from_residual.result _ _
+          c.in_err-accepted.ensures.rows.store clean (ap Err (fault_is c.from_residual.result _ _
           c.from_residual.ensures.1 is)) t s has records
           (subst (λ (w : Waiting). HasNothingElse w t) (sym same) none) room honest;
       goes_on = search rules;
@@ -71,8 +72,8 @@ returns-clause-rows g c =
           (sym (c.tell-answer.ensures.1
           ∙ ap (λ (p : Progress). progress_after p c.in_ok-accepted.accepted)
           c.replace-before.ensures.value) ∙ pending)
-          (c.in_ok-accepted.ensures.at_hand clean t s has records);
+          (c.in_ok-accepted.ensures.rows.at_hand clean t s has records);
       refused = search rules;
       store = search rules;
-      goes_on = λ clean. c.in_ok-accepted.ensures.goes_on clean;
+      goes_on = λ clean. c.in_ok-accepted.ensures.rows.goes_on clean;
     }

@@ -4,19 +4,18 @@ use Rattle.sqlite.specs.Tree.{Trees}
 use Rattle.gm_registry.specs.Registry.{CrashLeaves, DiskKept, LeavesAlone, StoreFailed, stored}
 use Rattle.gm_registry.proofs.EitherSchema.{first_is_ours, second_is_ours}
 use Rattle.gm_bench.specs.Opened.{MayBeCarriedOver}
-use Rattle.gm_bench.specs.Recovering.{LeavesOnly}
+use Rattle.gm_bench.specs.Owed.{OpenLeaves}
 use Rattle.gm_bench.proofs.Causes.{of_failed, of_unreadable}
 use Rattle.gm_bench.proofs.DecidesOnly.{alone_then}
-use Rattle.gm_bench.proofs.ReopenedStore.{carried_then, failed_opened, known_store, opened_tables, opening_leaves, reopened, unopened, recovered}
+use Rattle.gm_bench.proofs.ReopenedStore.{carried_then, failed_opened, known_store, only_opened, opened_tables, opening_leaves, opens_over, reopened}
 use Rattle.gm_bench.proofs.bench.Bench.open.Goals as goal
 
 pub returns-in-Err-clause-leaves : goal.returns-in-Err-clause-leaves
-returns-in-Err-clause-leaves g c h is_open clean away u w was =
-    unopened g.S.Store g.H.Shelf.view g.H.Shelf.size c.args.store c.args.shelf away u w
+returns-in-Err-clause-leaves g c h is_open clean =
+    only_opened g.S.Store g.H.Shelf.view g.H.Shelf.size c.args.store c.in-Err.e.store c.args.shelf
     (g.met.H.Shelf.lawful c.args.shelf h)
-    (λ db left. g.met.S.Store.settled c.args.store.store db is_open left) was.recovers
-    c.in-Err.e.store clean (opening_leaves g.S.Store c.args.store c.in-Err.e.store
-    (c.in-Err.ensures.left_made is_open)
+    (λ db left. g.met.S.Store.settled c.args.store.store db is_open left) clean
+    (opening_leaves g.S.Store c.args.store c.in-Err.e.store (c.in-Err.ensures.left_made is_open)
     (λ t holds. c.in-Err.ensures.left_found t is_open holds)
     (λ t first. c.in-Err.ensures.left_upgraded t is_open first))
 
@@ -90,28 +89,24 @@ returns-in-Ok-take_up-clause-opened g c =
     }
 
 pub returns-in-Ok-take_up-clause-leaves : goal.returns-in-Ok-take_up-clause-leaves
-returns-in-Ok-take_up-clause-leaves g c h is_open clean away u w was =
+returns-in-Ok-take_up-clause-leaves g c h is_open clean =
     let mid : DiskKept g.S.Store c.in-Ok.registry =
     omega (arith, clean, c.take_up.ensures.keep.clean) in
     let opened = opened_tables g.S.Store c.args.store c.in-Ok.registry
     (λ empty. c.in-Ok.ensures.made is_open empty mid)
     (λ t holds. c.in-Ok.ensures.found t is_open holds mid)
     (λ t first. c.in-Ok.ensures.upgraded t is_open first mid) in
-    let view = g.H.Shelf.view in
-    let sizes = g.H.Shelf.size in
-    let only : (db : Trees) → CrashLeaves g.S.Store c.args.store db
-    → db ≡ stored g.S.Store c.args.store =
-    λ db left. g.met.S.Store.settled c.args.store.store db is_open left in
-    let lawful = g.met.H.Shelf.lawful c.args.shelf h in
-    let at = reopened g.S.Store view sizes c.args.store c.args.shelf away u w lawful only
-    was.recovers c.in-Ok.registry was.sizes opened in
-    recovered g.S.Store view sizes c.args.store c.args.shelf away u w lawful only was.recovers
-    c.in-Ok.registry c.take_up.new.self.registry c.take_up.new.self.shelf
-    (c.take_up.ensures.moments h clean away was.recovers.intents was.recovers.bytes u w at)
-    (c.take_up.ensures.leaves h clean away was.recovers.intents was.recovers.bytes u w at)
+    let may = opening_leaves g.S.Store c.args.store c.in-Ok.registry
+    (c.in-Ok.ensures.left_made is_open)
+    (λ t holds. c.in-Ok.ensures.left_found t is_open holds)
+    (λ t first. c.in-Ok.ensures.left_upgraded t is_open first) in
+    opens_over g.S.Store g.H.Shelf.view g.H.Shelf.size c.args.store c.in-Ok.registry c.args.shelf
+    (g.met.H.Shelf.lawful c.args.shelf h)
+    (λ db left. g.met.S.Store.settled c.args.store.store db is_open left) mid may opened
+    c.take_up.new.self.registry c.take_up.new.self.shelf (c.take_up.ensures.leaves h clean)
 
 pub returns-in-Err-take_up-clause-leaves : goal.returns-in-Err-take_up-clause-leaves
-returns-in-Err-take_up-clause-leaves g c h is_open closed away u w was =
+returns-in-Err-take_up-clause-leaves g c h is_open closed =
     let clean : DiskKept g.S.Store c.take_up.new.self.registry =
     subst (λ (k : Held g.row.S.Denot). DiskKept g.S.Store k) c.close.ensures closed in
     let mid : DiskKept g.S.Store c.in-Ok.registry =
@@ -120,20 +115,16 @@ returns-in-Err-take_up-clause-leaves g c h is_open closed away u w was =
     (λ empty. c.in-Ok.ensures.made is_open empty mid)
     (λ t holds. c.in-Ok.ensures.found t is_open holds mid)
     (λ t first. c.in-Ok.ensures.upgraded t is_open first mid) in
-    let view = g.H.Shelf.view in
-    let sizes = g.H.Shelf.size in
-    let only : (db : Trees) → CrashLeaves g.S.Store c.args.store db
-    → db ≡ stored g.S.Store c.args.store =
-    λ db left. g.met.S.Store.settled c.args.store.store db is_open left in
-    let lawful = g.met.H.Shelf.lawful c.args.shelf h in
-    let at = reopened g.S.Store view sizes c.args.store c.args.shelf away u w lawful only
-    was.recovers c.in-Ok.registry was.sizes opened in
-    subst (λ (k : Held g.row.S.Denot). LeavesOnly g.S.Store view sizes c.args.store k c.args.shelf
-    c.take_up.new.self.shelf away u w) (sym c.close.ensures)
-    (recovered g.S.Store view sizes c.args.store c.args.shelf away u w lawful only was.recovers
-    c.in-Ok.registry c.take_up.new.self.registry c.take_up.new.self.shelf
-    (c.take_up.ensures.moments h clean away was.recovers.intents was.recovers.bytes u w at)
-    (c.take_up.ensures.leaves h clean away was.recovers.intents was.recovers.bytes u w at))
+    let may = opening_leaves g.S.Store c.args.store c.in-Ok.registry
+    (c.in-Ok.ensures.left_made is_open)
+    (λ t holds. c.in-Ok.ensures.left_found t is_open holds)
+    (λ t first. c.in-Ok.ensures.left_upgraded t is_open first) in
+    subst (λ (k : Held g.row.S.Denot). OpenLeaves g.S.Store g.H.Shelf.view g.H.Shelf.size
+    c.args.store k c.args.shelf c.take_up.new.self.shelf) (sym c.close.ensures)
+    (opens_over g.S.Store g.H.Shelf.view g.H.Shelf.size c.args.store c.in-Ok.registry c.args.shelf
+    (g.met.H.Shelf.lawful c.args.shelf h)
+    (λ db left. g.met.S.Store.settled c.args.store.store db is_open left) mid may opened
+    c.take_up.new.self.registry c.take_up.new.self.shelf (c.take_up.ensures.leaves h clean))
 
 pub returns-in-Err-take_up-clause-unopened : goal.returns-in-Err-take_up-clause-unopened
 returns-in-Err-take_up-clause-unopened g c =

@@ -11,16 +11,15 @@ use Rattle.gm_bench.specs.Owed.{OpenLeaves}
 use Rattle.gm_bench.proofs.Causes.{of_failed, of_unreadable}
 use Rattle.gm_bench.proofs.OpenedRoom.{room_opened}
 use Rattle.gm_bench.proofs.ReopenedLoss.{answered, are_untouched, at_opened, given_up, lacking, opened_behind, undone}
-use Rattle.gm_bench.proofs.ReopenedStore.{failed_opened, known_store, opened_tables, opening_leaves, unopened}
+use Rattle.gm_bench.proofs.ReopenedStore.{failed_opened, known_store, only_opened, opened_tables, opening_leaves}
 use Rattle.gm_bench.proofs.bench.Bench.open_without.Goals as goal
 
 pub returns-in-Err-clause-leaves : goal.returns-in-Err-clause-leaves
-returns-in-Err-clause-leaves g c h is_open clean = inl (λ away u w was.
-    unopened g.S.Store g.H.Shelf.view g.H.Shelf.size c.args.store c.args.shelf away u w
-    (g.met.H.Shelf.lawful c.args.shelf h)
-    (λ db left. g.met.S.Store.settled c.args.store.store db is_open left) was.recovers
-    c.in-Err.e.store clean (opening_leaves g.S.Store c.args.store c.in-Err.e.store
-    (c.in-Err.ensures.left_made is_open)
+returns-in-Err-clause-leaves g c h is_open clean =
+    inl (only_opened g.S.Store g.H.Shelf.view g.H.Shelf.size c.args.store c.in-Err.e.store
+    c.args.shelf (g.met.H.Shelf.lawful c.args.shelf h)
+    (λ db left. g.met.S.Store.settled c.args.store.store db is_open left) clean
+    (opening_leaves g.S.Store c.args.store c.in-Err.e.store (c.in-Err.ensures.left_made is_open)
     (λ t holds. c.in-Err.ensures.left_found t is_open holds)
     (λ t first. c.in-Err.ensures.left_upgraded t is_open first)))
 
@@ -36,12 +35,16 @@ returns-in-Ok-Carried-clause-leaves g c h is_open clean =
     (λ empty. c.in-Ok.ensures.made is_open empty mid)
     (λ t holds. c.in-Ok.ensures.found t is_open holds mid)
     (λ t first. c.in-Ok.ensures.upgraded t is_open first mid) in
+    let may = opening_leaves g.S.Store c.args.store c.in-Ok.registry
+    (c.in-Ok.ensures.left_made is_open)
+    (λ t holds. c.in-Ok.ensures.left_found t is_open holds)
+    (λ t first. c.in-Ok.ensures.left_upgraded t is_open first) in
     let only : (db : Trees) → CrashLeaves g.S.Store c.args.store db
     → db ≡ stored g.S.Store c.args.store =
     λ db left. g.met.S.Store.settled c.args.store.store db is_open left in
     let lawful = g.met.H.Shelf.lawful c.args.shelf h in
     given_up g.S.Store g.H.Shelf.view g.H.Shelf.size c.args.store c.in-Ok.registry c.args.shelf
-    lawful only opened c.args.key.now c.args.provider
+    lawful only opened mid may c.args.key.now c.args.provider
     c.take_up_without.new.self.registry c.take_up_without.new.self.shelf
     (c.take_up_without.ensures.leaves h clean)
 
@@ -55,6 +58,10 @@ returns-in-Ok-NotLost-clause-leaves g c h is_open closed =
     (λ empty. c.in-Ok.ensures.made is_open empty mid)
     (λ t holds. c.in-Ok.ensures.found t is_open holds mid)
     (λ t first. c.in-Ok.ensures.upgraded t is_open first mid) in
+    let may = opening_leaves g.S.Store c.args.store c.in-Ok.registry
+    (c.in-Ok.ensures.left_made is_open)
+    (λ t holds. c.in-Ok.ensures.left_found t is_open holds)
+    (λ t first. c.in-Ok.ensures.left_upgraded t is_open first) in
     let only : (db : Trees) → CrashLeaves g.S.Store c.args.store db
     → db ≡ stored g.S.Store c.args.store =
     λ db left. g.met.S.Store.settled c.args.store.store db is_open left in
@@ -63,7 +70,7 @@ returns-in-Ok-NotLost-clause-leaves g c h is_open closed =
     c.args.shelf c.args.key.now c.args.provider k c.take_up_without.new.self.shelf)
     (sym c.close.ensures)
     (given_up g.S.Store g.H.Shelf.view g.H.Shelf.size c.args.store c.in-Ok.registry c.args.shelf
-    lawful only opened c.args.key.now c.args.provider
+    lawful only opened mid may c.args.key.now c.args.provider
     c.take_up_without.new.self.registry c.take_up_without.new.self.shelf
     (c.take_up_without.ensures.leaves h clean))
 
@@ -78,6 +85,10 @@ returns-in-Err-take_up_without-clause-leaves g c h is_open closed =
     (λ empty. c.in-Ok.ensures.made is_open empty mid)
     (λ t holds. c.in-Ok.ensures.found t is_open holds mid)
     (λ t first. c.in-Ok.ensures.upgraded t is_open first mid) in
+    let may = opening_leaves g.S.Store c.args.store c.in-Ok.registry
+    (c.in-Ok.ensures.left_made is_open)
+    (λ t holds. c.in-Ok.ensures.left_found t is_open holds)
+    (λ t first. c.in-Ok.ensures.left_upgraded t is_open first) in
     let only : (db : Trees) → CrashLeaves g.S.Store c.args.store db
     → db ≡ stored g.S.Store c.args.store =
     λ db left. g.met.S.Store.settled c.args.store.store db is_open left in
@@ -86,7 +97,7 @@ returns-in-Err-take_up_without-clause-leaves g c h is_open closed =
     c.args.shelf c.args.key.now c.args.provider k c.take_up_without.new.self.shelf)
     (sym c.close-in-Err-take_up_without.ensures)
     (given_up g.S.Store g.H.Shelf.view g.H.Shelf.size c.args.store c.in-Ok.registry c.args.shelf
-    lawful only opened c.args.key.now c.args.provider
+    lawful only opened mid may c.args.key.now c.args.provider
     c.take_up_without.new.self.registry c.take_up_without.new.self.shelf
     (c.take_up_without.ensures.leaves h clean))
 
@@ -160,6 +171,10 @@ returns-in-Ok-Carried-clause-opened g c =
           (λ empty. c.in-Ok.ensures.made is_open empty mid)
           (λ t holds. c.in-Ok.ensures.found t is_open holds mid)
           (λ t first. c.in-Ok.ensures.upgraded t is_open first mid) in
+          let may = opening_leaves g.S.Store c.args.store c.in-Ok.registry
+          (c.in-Ok.ensures.left_made is_open)
+          (λ t holds. c.in-Ok.ensures.left_found t is_open holds)
+          (λ t first. c.in-Ok.ensures.left_upgraded t is_open first) in
           let only : (db : Trees) → CrashLeaves g.S.Store c.args.store db
           → db ≡ stored g.S.Store c.args.store =
           λ db left. g.met.S.Store.settled c.args.store.store db is_open left in
@@ -170,7 +185,7 @@ returns-in-Ok-Carried-clause-opened g c =
             redone = c.in-Ok-Carried.redone;
           } in
           undone g.S.Store g.H.Shelf.view g.H.Shelf.size c.args.store c.in-Ok.registry c.args.shelf
-          lawful only opened c.args.key.now c.args.provider b
+          lawful only opened mid may c.args.key.now c.args.provider b
           c.in-Ok-Carried.answer c.in-Ok-Carried.redone
           (subst
           (λ (x : TakenUp). KeepsUndone g.S.Store g.H.Shelf.view g.H.Shelf.size c.args.key.now
@@ -214,6 +229,10 @@ returns-in-Ok-NotLost-clause-opened g c =
           (λ empty. c.in-Ok.ensures.made is_open empty mid)
           (λ t holds. c.in-Ok.ensures.found t is_open holds mid)
           (λ t first. c.in-Ok.ensures.upgraded t is_open first mid) in
+          let may = opening_leaves g.S.Store c.args.store c.in-Ok.registry
+          (c.in-Ok.ensures.left_made is_open)
+          (λ t holds. c.in-Ok.ensures.left_found t is_open holds)
+          (λ t first. c.in-Ok.ensures.left_upgraded t is_open first) in
           let only : (db : Trees) → CrashLeaves g.S.Store c.args.store db
           → db ≡ stored g.S.Store c.args.store =
           λ db left. g.met.S.Store.settled c.args.store.store db is_open left in
@@ -225,7 +244,7 @@ returns-in-Ok-NotLost-clause-opened g c =
           subst (λ (k : Held g.row.S.Denot). OpenLeaves g.S.Store g.H.Shelf.view g.H.Shelf.size
           c.args.store k c.args.shelf c.take_up_without.new.self.shelf) (sym c.close.ensures)
           (opened_behind g.S.Store g.H.Shelf.view g.H.Shelf.size c.args.store c.in-Ok.registry
-          c.args.shelf lawful only opened c.args.key.now c.args.provider
+          c.args.shelf lawful only opened mid may
           c.take_up_without.new.self.registry c.take_up_without.new.self.shelf keeps));
       ready = search rules;
       refused =
@@ -258,6 +277,10 @@ returns-in-Err-take_up_without-clause-unopened g c =
           (λ empty. c.in-Ok.ensures.made is_open empty mid)
           (λ t holds. c.in-Ok.ensures.found t is_open holds mid)
           (λ t first. c.in-Ok.ensures.upgraded t is_open first mid) in
+          let may = opening_leaves g.S.Store c.args.store c.in-Ok.registry
+          (c.in-Ok.ensures.left_made is_open)
+          (λ t holds. c.in-Ok.ensures.left_found t is_open holds)
+          (λ t first. c.in-Ok.ensures.left_upgraded t is_open first) in
           let only : (db : Trees) → CrashLeaves g.S.Store c.args.store db
           → db ≡ stored g.S.Store c.args.store =
           λ db left. g.met.S.Store.settled c.args.store.store db is_open left in
@@ -268,7 +291,7 @@ returns-in-Err-take_up_without-clause-unopened g c =
           (lacking g.S.Store g.H.Shelf.view g.H.Shelf.size c.args.store c.in-Ok.registry
           c.args.shelf
           (g.met.H.Shelf.lawful c.args.shelf h) only
-          opened c.args.key.now c.args.provider
+          opened mid may c.args.key.now c.args.provider
           c.take_up_without.new.self.registry c.take_up_without.new.self.shelf q
           (c.in-Err-take_up_without.ensures.lacks h clean q (ap Err is))));
       untouched = λ before.
@@ -276,7 +299,8 @@ returns-in-Err-take_up_without-clause-unopened g c =
           c.take_up_without.new.self.shelf) (sym c.close-in-Err-take_up_without.ensures)
           (are_untouched g.S.Store c.args.store c.in-Ok.registry
           c.take_up_without.new.self.registry c.args.shelf c.take_up_without.new.self.shelf
-          (c.in-Err-take_up_without.ensures.before.shelf before) c.take_up_without.ensures.keep.clean
+          (c.in-Err-take_up_without.ensures.before.shelf before)
+          c.take_up_without.ensures.keep.clean
           c.in-Ok.ensures.untouched c.in-Ok.ensures.carried c.in-Ok.ensures.left_carried
           (λ is_open mid. opened_tables g.S.Store c.args.store c.in-Ok.registry
           (λ empty. c.in-Ok.ensures.made is_open empty mid)
@@ -294,7 +318,7 @@ returns-in-Err-take_up_without-clause-unopened g c =
           (λ t holds. c.in-Ok.ensures.found t is_open holds mid)
           (λ t first. c.in-Ok.ensures.upgraded t is_open first mid) in
           let has = opened t stands in
-          c.in-Err-take_up_without.ensures.disk clean t has (ap Err is));
+          c.in-Err-take_up_without.ensures.tells.disk clean t has (ap Err is));
       unreadable = λ is_open closed is openable t s ts bytes stands of written. (
           let clean : DiskKept g.S.Store c.take_up_without.new.self.registry =
           subst (λ (k : Held g.row.S.Denot). DiskKept g.S.Store k)
@@ -306,7 +330,7 @@ returns-in-Err-take_up_without-clause-unopened g c =
           (λ t holds. c.in-Ok.ensures.found t is_open holds mid)
           (λ t first. c.in-Ok.ensures.upgraded t is_open first mid) in
           let has = opened t stands in
-          c.in-Err-take_up_without.ensures.unreadable clean (ap Err is) t s ts bytes has of
+          c.in-Err-take_up_without.ensures.tells.unreadable clean (ap Err is) t s ts bytes has of
           written);
       failed = λ is_open closed is known. (
           let clean : DiskKept g.S.Store c.take_up_without.new.self.registry =
@@ -330,7 +354,7 @@ returns-in-Err-take_up_without-clause-unopened g c =
                 (λ t holds. c.in-Ok.ensures.left_found t is_open holds)
                 (λ t first. c.in-Ok.ensures.left_upgraded t is_open first) takes.tables
                 takes.stands)
-                (c.in-Err-take_up_without.ensures.store clean (ap Err is) takes.tables
+                (c.in-Err-take_up_without.ensures.tells.store clean (ap Err is) takes.tables
                 takes.records takes.intents takes.bytes has takes.are takes.few
                 (room_opened g.S.Store c.args.store c.in-Ok.registry
                 (c.in-Ok.ensures.untouched is_open) (c.in-Ok.ensures.carried is_open) mid

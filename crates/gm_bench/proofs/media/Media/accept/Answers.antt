@@ -1,6 +1,6 @@
 use Rattle.std.proofs.Common.{rules, ◌∙◌, sym}
 use Rattle.gm_registry.proofs.CallsLeave.{saved}
-use Rattle.gm_bench.proofs.DecidesOnly.{unstepped_same, reads_none}
+use Rattle.gm_bench.proofs.DecidesOnly.{ok_then, unstepped_same, reads_none}
 use Rattle.gm_bench.proofs.media.Media.accept.Goals as goal
 
 pub returns-then-not-is_key-clause-leaves : goal.returns-then-not-is_key-clause-leaves
@@ -17,14 +17,6 @@ returns-in-Err-clause-leaves g c h clean away ts bytes v u at waits =
     c.args.key.now c.args.command.now
     (saved g.S.Store g.met.S.Store.settled c.args.self.now.registry at.tables at.has).crash
 
-pub returns-in-Ok-clause-readable : goal.returns-in-Ok-clause-readable
-returns-in-Ok-clause-readable g c =
-    c.answer.ensures.readable c.in-Ok.ensures.fits
-
-pub returns-in-Ok-clause-at_hand : goal.returns-in-Ok-clause-at_hand
-returns-in-Ok-clause-at_hand g c =
-    c.answer.ensures.at_hand c.in-Ok.ensures.fits
-
 pub returns-then-not-is_key-clause-accepts : goal.returns-then-not-is_key-clause-accepts
 returns-then-not-is_key-clause-accepts g c =
     record {
@@ -36,12 +28,41 @@ returns-then-not-is_key-clause-accepts g c =
       clean = search rules;
     }
 
-pub returns-in-Ok-clause-store : goal.returns-in-Ok-clause-store
-returns-in-Ok-clause-store g c =
-    c.answer.ensures.store (c.deref.ensures ∙ c.in-Ok.ensures.words)
-    (sym c.is_key.ensures ∙ c.if-not-is_key.false) c.in-Ok.ensures.fits
-
 pub returns-in-Ok-clause-leaves : goal.returns-in-Ok-clause-leaves
-returns-in-Ok-clause-leaves g c h clean away ts bytes v u at waits =
-    c.answer.ensures.leaves h clean away ts bytes v u (c.deref.ensures ∙ c.in-Ok.ensures.words)
-    (sym c.is_key.ensures ∙ c.if-not-is_key.false) c.in-Ok.ensures.fits at waits
+returns-in-Ok-clause-leaves g c h clean = c.answer.ensures.leaves h clean (
+  c.deref.ensures ∙ c.in-Ok.ensures.words,
+  sym c.is_key.ensures ∙ c.if-not-is_key.false,
+  c.in-Ok.ensures.fits,
+)
+
+pub returns-in-Ok-clause-done : goal.returns-in-Ok-clause-done
+returns-in-Ok-clause-done g c h clean = ok_then _ _ (λ a done. done (
+  c.deref.ensures ∙ c.in-Ok.ensures.words,
+  sym c.is_key.ensures ∙ c.if-not-is_key.false,
+  c.in-Ok.ensures.fits,
+)) c.answer.result (c.answer.ensures.done h clean)
+
+pub returns-in-Ok-clause-rows : goal.returns-in-Ok-clause-rows
+returns-in-Ok-clause-rows g c = c.answer.ensures.rows (
+  c.deref.ensures ∙ c.in-Ok.ensures.words,
+  sym c.is_key.ensures ∙ c.if-not-is_key.false,
+  c.in-Ok.ensures.fits,
+)
+
+pub returns-then-not-is_key-clause-rows : goal.returns-then-not-is_key-clause-rows
+returns-then-not-is_key-clause-rows g c = record {
+  readable = search rules;
+  at_hand = search rules;
+  refused = search rules;
+  store = search rules;
+  goes_on = search rules;
+}
+
+pub returns-in-Err-clause-rows : goal.returns-in-Err-clause-rows
+returns-in-Err-clause-rows g c = record {
+  readable = search rules;
+  at_hand = search rules;
+  refused = search rules;
+  store = search rules;
+  goes_on = search rules;
+}

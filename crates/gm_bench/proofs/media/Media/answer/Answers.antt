@@ -15,7 +15,7 @@ use Rattle.gm_bench.proofs.StoreFails.{failed_later, goes_later, room_later}
 use Rattle.gm_bench.proofs.media.Media.answer.Goals as goal
 
 pub returns-then-eq-clause-leaves : goal.returns-then-eq-clause-leaves
-returns-then-eq-clause-leaves g c h clean away ts bytes v u words key_ok fits at waits =
+returns-then-eq-clause-leaves g c h clean call away ts bytes v u at waits =
     unstepped g.S.Store g.H.Shelf.view g.H.Shelf.size c.args.self.now.registry c.args.self.now.shelf
     c.args.self.now.shelf away ts bytes v u at (g.met.H.Shelf.lawful c.args.self.now.shelf h)
     (quiet_itself (g.H.Shelf.view c.args.self.now.shelf)) refl
@@ -24,7 +24,7 @@ returns-then-eq-clause-leaves g c h clean away ts bytes v u words key_ok fits at
     clean (c.reply_of.ensures.reads.left at.tables at.has)
 
 pub returns-in-Ok-Some-clause-leaves : goal.returns-in-Ok-Some-clause-leaves
-returns-in-Ok-Some-clause-leaves g c h clean away ts bytes v u words key_ok fits at waits =
+returns-in-Ok-Some-clause-leaves g c h clean call away ts bytes v u at waits =
     unstepped g.S.Store g.H.Shelf.view g.H.Shelf.size c.args.self.now.registry c.args.self.now.shelf
     c.args.self.now.shelf away ts bytes v u at (g.met.H.Shelf.lawful c.args.self.now.shelf h)
     (quiet_itself (g.H.Shelf.view c.args.self.now.shelf)) refl
@@ -33,7 +33,7 @@ returns-in-Ok-Some-clause-leaves g c h clean away ts bytes v u words key_ok fits
     clean (c.reply_of.ensures.reads.left at.tables at.has)
 
 pub returns-clause-leaves : goal.returns-clause-leaves
-returns-clause-leaves g c h clean away ts bytes v u words key_ok fits at waits =
+returns-clause-leaves g c h clean call away ts bytes v u at waits =
     unstepped g.S.Store g.H.Shelf.view g.H.Shelf.size c.args.self.now.registry c.args.self.now.shelf
     c.args.self.now.shelf away ts bytes v u at (g.met.H.Shelf.lawful c.args.self.now.shelf h)
     (quiet_itself (g.H.Shelf.view c.args.self.now.shelf)) refl
@@ -42,7 +42,7 @@ returns-clause-leaves g c h clean away ts bytes v u words key_ok fits at waits =
     clean (c.reply_of.ensures.reads.left at.tables at.has)
 
 pub returns-in-Ok-None-clause-leaves : goal.returns-in-Ok-None-clause-leaves
-returns-in-Ok-None-clause-leaves g c h clean away ts bytes v u words key_ok fits at waits =
+returns-in-Ok-None-clause-leaves g c h clean call away ts bytes v u at waits =
     let asked : DiskKept g.S.Store c.reply_of.new.self =
     omega (arith, clean, c.decide.ensures.accepts.clean) in
     let lawful = g.met.H.Shelf.lawful c.args.self.now.shelf h in
@@ -61,11 +61,11 @@ returns-in-Ok-None-clause-leaves g c h clean away ts bytes v u words key_ok fits
     c.decide.new.self.registry c.decide.new.self.shelf c.args.key.now c.args.command.now
     (c.decide.ensures.accepts.only.reads h).quiet
     (saved g.S.Store g.met.S.Store.settled c.args.self.now.registry at.tables at.has).crash
-    (c.decide.ensures.leaves h clean away ts bytes v u words key_ok fits at1 waits free)
+    (c.decide.ensures.leaves h clean away ts bytes v u call.0 call.1 call.2 at1 waits free)
 
 pub returns-in-Ok-None-clause-done : goal.returns-in-Ok-None-clause-done
 returns-in-Ok-None-clause-done g c h clean =
-    ok_then _ _ (λ a answered away ts bytes v u words key_ok fits at waits. (
+    ok_then _ _ (λ a answered call away ts bytes v u at waits. (
     let asked : DiskKept g.S.Store c.reply_of.new.self =
     omega (arith, clean, c.decide.ensures.accepts.clean) in
     let lawful = g.met.H.Shelf.lawful c.args.self.now.shelf h in
@@ -79,11 +79,11 @@ returns-in-Ok-None-clause-done g c h clean =
     c.args.self.now.shelf c.args.self.now.shelf away ts bytes v u at lawful quiet refl
     c.reply_of.new.self
     f.1.tables in
-    answered away ts bytes v u words key_ok fits at1 waits free)) c.decide.result
+    answered away ts bytes v u call.0 call.1 call.2 at1 waits free)) c.decide.result
     (c.decide.ensures.done h clean)
 
 pub returns-then-eq-clause-done : goal.returns-then-eq-clause-done
-returns-then-eq-clause-done g c h clean away ts bytes v u words key_ok fits at waits =
+returns-then-eq-clause-done g c h clean call away ts bytes v u at waits =
     let lawful = g.met.H.Shelf.lawful c.args.self.now.shelf h in
     let l = seen_leads g.S.Store g.H.Shelf.view g.H.Shelf.size c.args.self.now.registry
     c.args.self.now.shelf away ts bytes v u at lawful in
@@ -105,13 +105,13 @@ returns-then-eq-clause-done g c h clean away ts bytes v u words key_ok fits at w
         key = c.args.key.now;
         command = c.args.command.now;
       }) u (run.Repeated n r)) a.3 a.5
-          (same_again u at.tables l.sound l.records c.args.key.now c.args.command.now key_ok a.0 a.1
-          a.2 fits (a.4 ∙ (same ∙ words))),
+          (same_again u at.tables l.sound l.records c.args.key.now c.args.command.now call.1 a.0 a.1
+          a.2 call.2 (a.4 ∙ (same ∙ call.0))),
       here,
     )
 
 pub returns-in-Ok-Some-clause-done : goal.returns-in-Ok-Some-clause-done
-returns-in-Ok-Some-clause-done g c h clean away ts bytes v u words key_ok fits at waits =
+returns-in-Ok-Some-clause-done g c h clean call away ts bytes v u at waits =
     let lawful = g.met.H.Shelf.lawful c.args.self.now.shelf h in
     let l = seen_leads g.S.Store g.H.Shelf.view g.H.Shelf.size c.args.self.now.registry
     c.args.self.now.shelf away ts bytes v u at lawful in
@@ -130,25 +130,10 @@ returns-in-Ok-Some-clause-done g c h clean away ts bytes v u words key_ok fits a
     λ e. true≢false
     (sym (same_from c.as_str.result.now c.args.words.now (c.as_str.ensures.value ∙ e))
     ∙ (sym c.eq.ensures ∙ c.if-eq.false)) in (
-      other_command u at.tables l.sound l.records c.args.key.now c.args.command.now key_ok a.0 a.1
-          a.2 (λ e. other (sym a.4 ∙ (e ∙ sym words))),
+      other_command u at.tables l.sound l.records c.args.key.now c.args.command.now call.1 a.0 a.1
+          a.2 (λ e. other (sym a.4 ∙ (e ∙ sym call.0))),
       here,
     )
-
-pub returns-in-Ok-None-clause-readable : goal.returns-in-Ok-None-clause-readable
-returns-in-Ok-None-clause-readable g c fits clean is t s has records few written honest =
-    let asked : DiskKept g.S.Store c.reply_of.new.self =
-    omega (arith, clean, c.decide.ensures.accepts.clean) in
-    let found = c.in-Ok-None.ensures.found asked t has in
-    c.decide.ensures.readable fits clean is t s found.1.tables records few written honest
-
-pub returns-in-Ok-None-clause-at_hand : goal.returns-in-Ok-None-clause-at_hand
-returns-in-Ok-None-clause-at_hand g c fits clean =
-    let asked : DiskKept g.S.Store c.reply_of.new.self =
-    omega (arith, clean, c.decide.ensures.accepts.clean) in
-    ok_then _ _ (λ a handy t s has records.
-    handy t s (c.in-Ok-None.ensures.found asked t has).1.tables records)
-    c.decide.result (c.decide.ensures.at_hand fits clean)
 
 pub returns-in-Ok-None-clause-accepts : goal.returns-in-Ok-None-clause-accepts
 returns-in-Ok-None-clause-accepts g c =
@@ -174,34 +159,71 @@ returns-in-Ok-None-clause-accepts g c =
       clean = search rules;
     }
 
-pub returns-in-Ok-None-clause-refused : goal.returns-in-Ok-None-clause-refused
-returns-in-Ok-None-clause-refused g c clean =
-    let asked : DiskKept g.S.Store c.reply_of.new.self =
-    omega (arith, clean, c.decide.ensures.accepts.clean) in
-    on_err_weaker c.decide.result (λ kept t s has.
-    kept t s (c.in-Ok-None.ensures.found asked t has).1.tables) (c.decide.ensures.refused clean)
+pub returns-in-Ok-None-clause-rows : goal.returns-in-Ok-None-clause-rows
+returns-in-Ok-None-clause-rows g c call = record {
+  readable = λ clean is t s has records few written honest.
+      let asked : DiskKept g.S.Store c.reply_of.new.self =
+      omega (arith, clean, c.decide.ensures.accepts.clean) in
+      let found = c.in-Ok-None.ensures.found asked t has in
+      (c.decide.ensures.rows call).readable clean is t s found.1.tables records few written honest;
+  at_hand = λ clean.
+      let asked : DiskKept g.S.Store c.reply_of.new.self =
+      omega (arith, clean, c.decide.ensures.accepts.clean) in
+      ok_then _ _ (λ a handy t s has records.
+      handy t s (c.in-Ok-None.ensures.found asked t has).1.tables records)
+      c.decide.result ((c.decide.ensures.rows call).at_hand clean);
+  refused = λ clean.
+      let asked : DiskKept g.S.Store c.reply_of.new.self =
+      omega (arith, clean, c.decide.ensures.accepts.clean) in
+      on_err_weaker c.decide.result (λ kept t s has.
+      kept t s (c.in-Ok-None.ensures.found asked t has).1.tables)
+      ((c.decide.ensures.rows call).refused clean);
+  store = λ clean is t s has records none room honest.
+      let asked : DiskKept g.S.Store c.reply_of.new.self =
+      omega (arith, clean, c.decide.ensures.accepts.clean) in
+      let found = c.in-Ok-None.ensures.found asked t has in
+      let free : IsFree t c.args.key.now =
+      subst (λ o. MatchOption o (IsFree t c.args.key.now)
+      (λ it. IsKept t c.args.key.now it.0 (string_bytes it.1) it.2))
+      c.in-Ok-None.field-0-is found.0 in
+      failed_later g.S.Store c.args.self.now.registry c.reply_of.new.self t
+      c.reply_of.ensures.reads has found.1.tables c.decide.new.self.registry
+      ((c.decide.ensures.rows call).store clean is t s found.1.tables records (none, free)
+      (room_later g.S.Store c.args.self.now.registry c.reply_of.new.self t c.reply_of.ensures.reads
+      has found.1.tables most_rows asked room) honest);
+  goes_on = λ clean.
+      let asked : DiskKept g.S.Store c.reply_of.new.self =
+      omega (arith, clean, c.decide.ensures.accepts.clean) in
+      on_ok_weaker c.decide.result (λ goes t s has records. (
+      let found = c.in-Ok-None.ensures.found asked t has in
+      goes_later g.S.Store c.args.self.now.registry c.reply_of.new.self t c.reply_of.ensures.reads
+      has found.1.tables c.decide.new.self.registry (goes t s found.1.tables records)))
+      ((c.decide.ensures.rows call).goes_on clean);
+}
 
-pub returns-in-Ok-None-clause-store : goal.returns-in-Ok-None-clause-store
-returns-in-Ok-None-clause-store g c words key_ok fits clean is t s has records none room honest =
-    let asked : DiskKept g.S.Store c.reply_of.new.self =
-    omega (arith, clean, c.decide.ensures.accepts.clean) in
-    let found = c.in-Ok-None.ensures.found asked t has in
-    let free : IsFree t c.args.key.now =
-    subst (λ o. MatchOption o (IsFree t c.args.key.now)
-    (λ it. IsKept t c.args.key.now it.0 (string_bytes it.1) it.2))
-    c.in-Ok-None.field-0-is found.0 in
-    failed_later g.S.Store c.args.self.now.registry c.reply_of.new.self t
-    c.reply_of.ensures.reads has found.1.tables c.decide.new.self.registry
-    (c.decide.ensures.store words key_ok fits clean is t s found.1.tables records (none, free)
-    (room_later g.S.Store c.args.self.now.registry c.reply_of.new.self t c.reply_of.ensures.reads
-    has found.1.tables most_rows asked room) honest)
+pub returns-then-eq-clause-rows : goal.returns-then-eq-clause-rows
+returns-then-eq-clause-rows g c call = record {
+  readable = search rules;
+  at_hand = search rules;
+  refused = search rules;
+  store = search rules;
+  goes_on = search rules;
+}
 
-pub returns-in-Ok-None-clause-goes_on : goal.returns-in-Ok-None-clause-goes_on
-returns-in-Ok-None-clause-goes_on g c clean =
-    let asked : DiskKept g.S.Store c.reply_of.new.self =
-    omega (arith, clean, c.decide.ensures.accepts.clean) in
-    on_ok_weaker c.decide.result (λ goes t s has records. (
-    let found = c.in-Ok-None.ensures.found asked t has in
-    goes_later g.S.Store c.args.self.now.registry c.reply_of.new.self t c.reply_of.ensures.reads
-    has found.1.tables c.decide.new.self.registry (goes t s found.1.tables records)))
-    (c.decide.ensures.goes_on clean)
+pub returns-in-Ok-Some-clause-rows : goal.returns-in-Ok-Some-clause-rows
+returns-in-Ok-Some-clause-rows g c call = record {
+  readable = search rules;
+  at_hand = search rules;
+  refused = search rules;
+  store = search rules;
+  goes_on = search rules;
+}
+
+pub returns-clause-rows : goal.returns-clause-rows
+returns-clause-rows g c call = record {
+  readable = search rules;
+  at_hand = search rules;
+  refused = search rules;
+  store = search rules;
+  goes_on = search rules;
+}

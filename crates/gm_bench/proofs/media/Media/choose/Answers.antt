@@ -26,7 +26,7 @@ returns-in-Ok-clause-leaves g c h clean away ts bytes v u words at waits can =
     at.has).crash in
     let quiet = (c.ask.ensures.asks.only.reads h).quiet in
     let asked : DiskKept g.S.Store c.ask.new.self.registry =
-    omega (arith, clean, c.commit.ensures.clean) in
+    omega (arith, clean, c.commit.ensures.alone.clean) in
     let d = c.in_ok-planned.ensures.decides h asked away ts bytes v u at in
     let planned : IsPlanned u c.args.command.now c.in-Ok.planned =
     subst (λ r. IsDecided u c.args.command.now r) c.in-Ok.is d.0 in
@@ -41,7 +41,7 @@ returns-in-Ok-clause-leaves g c h clean away ts bytes v u words at waits can =
     subst (λ (k : g.row.H.Denot). LeavesStep g.S.Store view size c.args.self.now.registry
     c.commit.new.self.registry c.args.self.now.shelf k away v u c.args.key.now
     c.args.command.now)
-    (sym c.commit.ensures.shelf)
+    (sym c.commit.ensures.alone.shelf)
     (then_step g.S.Store view size c.args.self.now.registry c.args.self.now.shelf
     c.ask.new.self.shelf away ts bytes v u at lawful quiet c.ask.ensures.asks.only.keeps.size
     c.ask.new.self.registry
@@ -56,7 +56,7 @@ returns-in-Ok-clause-done g c h clean = ok_then _ _ (λ a told away ts bytes v u
     let lawful = g.met.H.Shelf.lawful c.args.self.now.shelf h in
     let quiet = (c.ask.ensures.asks.only.reads h).quiet in
     let asked : DiskKept g.S.Store c.ask.new.self.registry =
-    omega (arith, clean, c.commit.ensures.clean) in
+    omega (arith, clean, c.commit.ensures.alone.clean) in
     let d = c.in_ok-planned.ensures.decides h asked away ts bytes v u at in
     let planned : IsPlanned u c.args.command.now c.in-Ok.planned =
     subst (λ r. IsDecided u c.args.command.now r) c.in-Ok.is d.0 in
@@ -65,7 +65,7 @@ returns-in-Ok-clause-done g c h clean = ok_then _ _ (λ a told away ts bytes v u
     c.ask.new.self.registry
     d.1 in
     subst (λ (k : g.row.H.Denot). IsAnswered g.S.Store view size c.commit.new.self.registry k away
-    ts bytes v u c.args.key.now c.args.command.now a) (sym c.commit.ensures.shelf)
+    ts bytes v u c.args.key.now c.args.command.now a) (sym c.commit.ensures.alone.shelf)
     (told away ts bytes c.args.command.now v u words at1 waits planned can)))
     c.commit.result (c.commit.ensures.done (c.ask.ensures.asks.only.keeps.honest h) clean)
 
@@ -104,29 +104,6 @@ returns-in_err-planned-clause-leaves g c h clean away ts bytes v u words at wait
     (saved g.S.Store g.met.S.Store.settled c.args.self.now.registry at.tables at.has).crash
     clean (c.ask.ensures.asks.store.left at.tables at.has)
 
-pub returns-in-Ok-clause-readable : goal.returns-in-Ok-clause-readable
-returns-in-Ok-clause-readable g c fits clean is t s has records few written honest =
-    let asked : DiskKept g.S.Store c.ask.new.self.registry =
-    omega (arith, clean, c.commit.ensures.clean) in
-    c.commit.ensures.readable clean is t
-    (c.in_ok-planned.ensures.at_hand asked t s has records).0 few
-
-pub returns-in_err-planned-clause-readable : goal.returns-in_err-planned-clause-readable
-returns-in_err-planned-clause-readable g c fits clean is t s has records few written honest =
-    c.in_err-planned.ensures.readable clean (ap Err (fault_is c.from_residual.result _ _
-    c.from_residual.ensures.1 is)) t s has records fits honest
-
-pub returns-in-Ok-clause-at_hand : goal.returns-in-Ok-clause-at_hand
-returns-in-Ok-clause-at_hand g c fits clean =
-    let size = g.H.Shelf.size c.args.self.now.shelf in
-    let asked : DiskKept g.S.Store c.ask.new.self.registry =
-    omega (arith, clean, c.commit.ensures.clean) in
-    ok_then _ _ (λ a done t s has records. (
-    let planned : AreAtHand size c.in-Ok.planned.work.intents.items =
-    subst (λ r. IsPlanAtHand size r) c.in-Ok.is
-    ((c.in_ok-planned.ensures.at_hand asked t s has records).1 fits) in
-    with_hand size c.in-Ok.planned.work a done planned)) c.commit.result c.commit.ensures.work
-
 pub returns-in-Ok-clause-accepts : goal.returns-in-Ok-clause-accepts
 returns-in-Ok-clause-accepts g c =
     record {
@@ -140,42 +117,71 @@ returns-in-Ok-clause-accepts g c =
       clean = search rules;
     }
 
-pub returns-in-Ok-clause-refused : goal.returns-in-Ok-clause-refused
-returns-in-Ok-clause-refused g c clean =
-    let asked : DiskKept g.S.Store c.ask.new.self.registry =
-    omega (arith, clean, c.commit.ensures.clean) in
-    on_err_weaker c.commit.result (λ kept t s has records.
-    kept t (c.in_ok-planned.ensures.at_hand asked t s has records).0) (c.commit.ensures.refused
-    clean)
+pub returns-in-Ok-clause-rows : goal.returns-in-Ok-clause-rows
+returns-in-Ok-clause-rows g c call = record {
+  readable = λ clean is t s has records few written honest.
+      let asked : DiskKept g.S.Store c.ask.new.self.registry =
+      omega (arith, clean, c.commit.ensures.alone.clean) in
+      c.commit.ensures.alone.readable clean is t
+      (c.in_ok-planned.ensures.at_hand asked t s has records).0 few;
+  at_hand = λ clean.
+      let size = g.H.Shelf.size c.args.self.now.shelf in
+      let asked : DiskKept g.S.Store c.ask.new.self.registry =
+      omega (arith, clean, c.commit.ensures.alone.clean) in
+      ok_then _ _ (λ a done t s has records. (
+      let planned : AreAtHand size c.in-Ok.planned.work.intents.items =
+      subst (λ r. IsPlanAtHand size r) c.in-Ok.is
+      ((c.in_ok-planned.ensures.at_hand asked t s has records).1 call.2) in
+      with_hand size c.in-Ok.planned.work a done planned)) c.commit.result c.commit.ensures.work;
+  refused = λ clean.
+      let asked : DiskKept g.S.Store c.ask.new.self.registry =
+      omega (arith, clean, c.commit.ensures.alone.clean) in
+      on_err_weaker c.commit.result (λ kept t s has records.
+      kept t (c.in_ok-planned.ensures.at_hand asked t s has records).0) (c.commit.ensures.refused
+      clean);
+  store = λ clean is t s has records such room honest.
+      let asked : DiskKept g.S.Store c.ask.new.self.registry =
+      omega (arith, clean, c.commit.ensures.alone.clean) in
+      let at = (c.in_ok-planned.ensures.at_hand asked t s has records).0 in
+      let planned : IsFitting c.in-Ok.planned.change (words_of c.args.command.now)
+      (left_by c.args.waiting t) =
+      subst (λ r. IsPlanFitting c.args.command.now (left_by c.args.waiting t) r) c.in-Ok.is
+      (c.in_ok-planned.ensures.fits asked t s has records call.2 honest c.args.waiting) in
+      failed_later g.S.Store c.args.self.now.registry c.ask.new.self.registry t
+      c.ask.ensures.asks.store has at c.commit.new.self.registry
+      (c.commit.ensures.store clean is t at such.1 call.1 such.2 such.0
+      (subst (λ (w : List ℕ). IsFitting c.in-Ok.planned.change w (left_by c.args.waiting t))
+      (sym call.0) planned)
+      (room_later g.S.Store c.args.self.now.registry c.ask.new.self.registry t
+      c.ask.ensures.asks.store has at most_rows asked room));
+  goes_on = λ clean.
+      let asked : DiskKept g.S.Store c.ask.new.self.registry =
+      omega (arith, clean, c.commit.ensures.alone.clean) in
+      on_ok_weaker c.commit.result (λ goes t s has records. (
+      let at = (c.in_ok-planned.ensures.at_hand asked t s has records).0 in
+      goes_later g.S.Store c.args.self.now.registry c.ask.new.self.registry t
+      c.ask.ensures.asks.store has at c.commit.new.self.registry (goes t at)))
+      (c.commit.ensures.goes_on clean);
+}
 
-pub returns-in-Ok-clause-store : goal.returns-in-Ok-clause-store
-returns-in-Ok-clause-store g c words key_ok fits clean is t s has records such room honest =
-    let asked : DiskKept g.S.Store c.ask.new.self.registry =
-    omega (arith, clean, c.commit.ensures.clean) in
-    let at = (c.in_ok-planned.ensures.at_hand asked t s has records).0 in
-    let planned : IsFitting c.in-Ok.planned.change (words_of c.args.command.now)
-    (left_by c.args.waiting t) =
-    subst (λ r. IsPlanFitting c.args.command.now (left_by c.args.waiting t) r) c.in-Ok.is
-    (c.in_ok-planned.ensures.fits asked t s has records fits honest c.args.waiting) in
-    failed_later g.S.Store c.args.self.now.registry c.ask.new.self.registry t
-    c.ask.ensures.asks.store has at c.commit.new.self.registry
-    (c.commit.ensures.store clean is t at such.1 key_ok such.2 such.0
-    (subst (λ (w : List ℕ). IsFitting c.in-Ok.planned.change w (left_by c.args.waiting t)) (sym
-    words) planned)
-    (room_later g.S.Store c.args.self.now.registry c.ask.new.self.registry t
-    c.ask.ensures.asks.store has at most_rows asked room))
+pub returns-in_err-planned-clause-rows : goal.returns-in_err-planned-clause-rows
+returns-in_err-planned-clause-rows g c call = record {
+  readable = λ clean is t s has records few written honest.
+      c.in_err-planned.ensures.readable clean (ap Err (fault_is c.from_residual.result _ _
+      c.from_residual.ensures.1 is)) t s has records call.2 honest;
+  at_hand = search rules;
+  refused = search rules;
+  store = search rules;
+  goes_on = search rules;
+}
 
-pub returns-in-Ok-clause-goes_on : goal.returns-in-Ok-clause-goes_on
-returns-in-Ok-clause-goes_on g c clean =
-    let asked : DiskKept g.S.Store c.ask.new.self.registry =
-    omega (arith, clean, c.commit.ensures.clean) in
-    on_ok_weaker c.commit.result (λ goes t s has records. (
-    let at = (c.in_ok-planned.ensures.at_hand asked t s has records).0 in
-    goes_later g.S.Store c.args.self.now.registry c.ask.new.self.registry t
-    c.ask.ensures.asks.store has at c.commit.new.self.registry (goes t at)))
-    (c.commit.ensures.goes_on clean)
-
-pub returns-in-Err-clause-goes_on : goal.returns-in-Err-clause-goes_on
-returns-in-Err-clause-goes_on g c clean t s has records =
-    read_goes g.S.Store c.args.self.now.registry c.ask.new.self.registry t
-    c.ask.ensures.asks.store has (c.in_ok-planned.ensures.at_hand clean t s has records).0
+pub returns-in-Err-clause-rows : goal.returns-in-Err-clause-rows
+returns-in-Err-clause-rows g c call = record {
+  readable = search rules;
+  at_hand = search rules;
+  refused = search rules;
+  store = search rules;
+  goes_on = λ clean t s has records.
+      read_goes g.S.Store c.args.self.now.registry c.ask.new.self.registry t
+      c.ask.ensures.asks.store has (c.in_ok-planned.ensures.at_hand clean t s has records).0;
+}

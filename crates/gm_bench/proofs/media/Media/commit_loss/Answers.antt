@@ -1,4 +1,4 @@
-use Rattle.std.proofs.Common.{◌≡◌, ◌∙◌, ◌+◌, ◌≤◌, List, ℕ, arith, length, subst, sym}
+use Rattle.std.proofs.Common.{rules, ◌≡◌, ◌∙◌, ◌+◌, ◌≤◌, List, ℕ, arith, length, subst, sym}
 use Rattle.gm_registry.proofs.CallsLeave.{saved}
 use Rattle.gm_changes.specs.Decides.{Changed}
 use Rattle.gm_registry.specs.Changes.{with_pending, settled}
@@ -71,4 +71,20 @@ returns-in-Ok-clause-goes_on g c clean t has = record {
   has = (c.in-Ok.ensures.writes.done clean t has).tables;
   counts = (c.accept_instead.ensures.writes.left t has).counts;
   limit = (c.accept_instead.ensures.writes.left t has).limit;
+}
+
+pub returns-in-Ok-clause-alone : goal.returns-in-Ok-clause-alone
+returns-in-Ok-clause-alone g c = record {
+  shelf = search rules;
+  clean = search rules;
+  fault = search rules;
+  readable = search rules;
+}
+
+pub returns-in-Err-clause-alone : goal.returns-in-Err-clause-alone
+returns-in-Err-clause-alone g c = record {
+  shelf = search rules;
+  clean = search rules;
+  fault = search rules;
+  readable = search rules;
 }

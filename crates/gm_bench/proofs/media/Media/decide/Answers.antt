@@ -116,29 +116,6 @@ returns-in_err-is_full-clause-leaves g c h clean away ts bytes v u words key_ok 
     (saved g.S.Store g.met.S.Store.settled c.args.self.now.registry at.tables at.has).crash
     clean (c.is_full.ensures.reads.left at.tables at.has)
 
-pub returns-clause-readable : goal.returns-clause-readable
-returns-clause-readable g c fits clean is t s has records few written honest =
-    let counted : DiskKept g.S.Store c.is_full.new.self.registry =
-    omega (arith, clean, c.choose.ensures.accepts.clean) in
-    let told = c.in_ok-is_full.ensures.told counted t has in
-    c.choose.ensures.readable fits clean is t s told.1 records few written
-    (subst (λ (k : g.row.H.Denot). IsHonestToAdopt g.H.Shelf k c.args.command.now)
-    (sym c.is_full.ensures.shelf) honest)
-
-pub returns-in_err-is_full-clause-readable : goal.returns-in_err-is_full-clause-readable
-returns-in_err-is_full-clause-readable g c fits clean is t s has records few written honest =
-    c.in_err-is_full.ensures.readable clean (ap Err (fault_is c.from_residual.result _ _
-    c.from_residual.ensures.1 is)) t has few
-
-pub returns-clause-at_hand : goal.returns-clause-at_hand
-returns-clause-at_hand g c fits clean =
-    let counted : DiskKept g.S.Store c.is_full.new.self.registry =
-    omega (arith, clean, c.choose.ensures.accepts.clean) in
-    ok_then _ _ (λ a handy t s has records.
-    subst (λ (k : g.row.H.Denot). IsWorkAtHand (g.H.Shelf.size k) a) c.is_full.ensures.shelf
-    (handy t s (c.in_ok-is_full.ensures.told counted t has).1 records))
-    c.choose.result (c.choose.ensures.at_hand fits clean)
-
 pub returns-clause-accepts : goal.returns-clause-accepts
 returns-clause-accepts g c =
     record {
@@ -161,33 +138,66 @@ returns-clause-accepts g c =
       clean = search rules;
     }
 
-pub returns-clause-refused : goal.returns-clause-refused
-returns-clause-refused g c clean =
-    let counted : DiskKept g.S.Store c.is_full.new.self.registry =
-    omega (arith, clean, c.choose.ensures.accepts.clean) in
-    on_err_weaker c.choose.result (λ kept t s has.
-    kept t s (c.in_ok-is_full.ensures.told counted t has).1) (c.choose.ensures.refused clean)
+pub returns-clause-rows : goal.returns-clause-rows
+returns-clause-rows g c call = record {
+  readable = λ clean is t s has records few written honest.
+      let counted : DiskKept g.S.Store c.is_full.new.self.registry =
+      omega (arith, clean, c.choose.ensures.accepts.clean) in
+      let told = c.in_ok-is_full.ensures.told counted t has in
+      (c.choose.ensures.rows call).readable clean is t s told.1 records few written
+      (subst (λ (k : g.row.H.Denot). IsHonestToAdopt g.H.Shelf k c.args.command.now)
+      (sym c.is_full.ensures.shelf) honest);
+  at_hand = λ clean.
+      let counted : DiskKept g.S.Store c.is_full.new.self.registry =
+      omega (arith, clean, c.choose.ensures.accepts.clean) in
+      ok_then _ _ (λ a handy t s has records.
+      subst (λ (k : g.row.H.Denot). IsWorkAtHand (g.H.Shelf.size k) a) c.is_full.ensures.shelf
+      (handy t s (c.in_ok-is_full.ensures.told counted t has).1 records))
+      c.choose.result ((c.choose.ensures.rows call).at_hand clean);
+  refused = λ clean.
+      let counted : DiskKept g.S.Store c.is_full.new.self.registry =
+      omega (arith, clean, c.choose.ensures.accepts.clean) in
+      on_err_weaker c.choose.result (λ kept t s has.
+      kept t s (c.in_ok-is_full.ensures.told counted t has).1)
+      ((c.choose.ensures.rows call).refused clean);
+  store = λ clean is t s has records such room honest.
+      let counted : DiskKept g.S.Store c.is_full.new.self.registry =
+      omega (arith, clean, c.choose.ensures.accepts.clean) in
+      let told = c.in_ok-is_full.ensures.told counted t has in
+      let few = room_of c.in_ok-is_full.field-0 (count_of t) told.0 c.if-branch.false in
+      failed_later g.S.Store c.args.self.now.registry c.is_full.new.self.registry t
+      c.is_full.ensures.reads has told.1 c.choose.new.self.registry
+      ((c.choose.ensures.rows call).store clean is t s told.1 records (such.0, few, such.1)
+      (room_later g.S.Store c.args.self.now.registry c.is_full.new.self.registry t
+      c.is_full.ensures.reads has told.1 most_rows counted room)
+      (subst (λ (k : g.row.H.Denot). IsHonestToAdopt g.H.Shelf k c.args.command.now)
+      (sym c.is_full.ensures.shelf) honest));
+  goes_on = λ clean.
+      let counted : DiskKept g.S.Store c.is_full.new.self.registry =
+      omega (arith, clean, c.choose.ensures.accepts.clean) in
+      on_ok_weaker c.choose.result (λ goes t s has records. (
+      let told = c.in_ok-is_full.ensures.told counted t has in
+      goes_later g.S.Store c.args.self.now.registry c.is_full.new.self.registry t
+      c.is_full.ensures.reads has told.1 c.choose.new.self.registry
+      (goes t s told.1 records))) ((c.choose.ensures.rows call).goes_on clean);
+}
 
-pub returns-clause-store : goal.returns-clause-store
-returns-clause-store g c words key_ok fits clean is t s has records such room honest =
-    let counted : DiskKept g.S.Store c.is_full.new.self.registry =
-    omega (arith, clean, c.choose.ensures.accepts.clean) in
-    let told = c.in_ok-is_full.ensures.told counted t has in
-    let few = room_of c.in_ok-is_full.field-0 (count_of t) told.0 c.if-branch.false in
-    failed_later g.S.Store c.args.self.now.registry c.is_full.new.self.registry t
-    c.is_full.ensures.reads has told.1 c.choose.new.self.registry
-    (c.choose.ensures.store words key_ok fits clean is t s told.1 records (such.0, few, such.1)
-    (room_later g.S.Store c.args.self.now.registry c.is_full.new.self.registry t
-    c.is_full.ensures.reads has told.1 most_rows counted room)
-    (subst (λ (k : g.row.H.Denot). IsHonestToAdopt g.H.Shelf k c.args.command.now)
-    (sym c.is_full.ensures.shelf) honest))
+pub returns-in_err-is_full-clause-rows : goal.returns-in_err-is_full-clause-rows
+returns-in_err-is_full-clause-rows g c call = record {
+  readable = λ clean is t s has records few written honest.
+      c.in_err-is_full.ensures.readable clean (ap Err (fault_is c.from_residual.result _ _
+      c.from_residual.ensures.1 is)) t has few;
+  at_hand = search rules;
+  refused = search rules;
+  store = search rules;
+  goes_on = search rules;
+}
 
-pub returns-clause-goes_on : goal.returns-clause-goes_on
-returns-clause-goes_on g c clean =
-    let counted : DiskKept g.S.Store c.is_full.new.self.registry =
-    omega (arith, clean, c.choose.ensures.accepts.clean) in
-    on_ok_weaker c.choose.result (λ goes t s has records. (
-    let told = c.in_ok-is_full.ensures.told counted t has in
-    goes_later g.S.Store c.args.self.now.registry c.is_full.new.self.registry t
-    c.is_full.ensures.reads has told.1 c.choose.new.self.registry
-    (goes t s told.1 records))) (c.choose.ensures.goes_on clean)
+pub returns-then-branch-clause-rows : goal.returns-then-branch-clause-rows
+returns-then-branch-clause-rows g c call = record {
+  readable = search rules;
+  at_hand = search rules;
+  refused = search rules;
+  store = search rules;
+  goes_on = search rules;
+}

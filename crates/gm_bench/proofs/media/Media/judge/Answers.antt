@@ -1,4 +1,4 @@
-use Rattle.std.proofs.Common.{◌∙◌, [], ℕ, List, refl, sym, subst, subst₂, arith, string_bytes, true≢false}
+use Rattle.std.proofs.Common.{rules, ◌∙◌, [], ℕ, List, refl, sym, subst, subst₂, arith, string_bytes, true≢false}
 use Rattle.std.specs.Prelude.{MatchOption}
 use Rattle.gm_commands.specs.declared.command.Command.{Command}
 use Rattle.gm_commands.specs.declared.command.Command.TheVariants.{Lost}
@@ -20,7 +20,7 @@ any = Lost [] []
 pub returns-in-Ok-None-clause-judged : goal.returns-in-Ok-None-clause-judged
 returns-in-Ok-None-clause-judged g c clean =
     let asked : DiskKept g.S.Store c.reply_of.new.self =
-    omega (arith, clean, c.judge_free.ensures.reads.clean) in
+    omega (arith, clean, c.judge_free.ensures.looks.clean) in
     ok_then _ _ (λ j judged w t of holds has. (
     let f = c.in-Ok-None.ensures.found asked t has in
     let free : IsFree t c.args.key.now =
@@ -30,14 +30,20 @@ returns-in-Ok-None-clause-judged g c clean =
     free))
     c.judge_free.result (c.judge_free.ensures.judged clean)
 
-pub returns-in-Ok-None-clause-reads : goal.returns-in-Ok-None-clause-reads
-returns-in-Ok-None-clause-reads g c clean =
-    let asked : DiskKept g.S.Store c.reply_of.new.self =
-    omega (arith, clean, c.judge_free.ensures.reads.clean) in
-    reads_then g.S.Store c.args.self.now.registry c.reply_of.new.self
-    c.judge_free.new.self.registry
-    (λ t has. (c.in-Ok-None.ensures.found asked t has).1.tables) c.reply_of.ensures.reads
-    c.judge_free.ensures.reads
+pub returns-in-Ok-None-clause-looks : goal.returns-in-Ok-None-clause-looks
+returns-in-Ok-None-clause-looks g c = record {
+  shelf = search rules;
+  clean = let one = c.reply_of.ensures.reads.clean in
+      let two = c.judge_free.ensures.looks.clean in omega (arith, one, two);
+  reads = λ clean.
+      let asked : DiskKept g.S.Store c.reply_of.new.self =
+      omega (arith, clean, c.judge_free.ensures.looks.clean) in
+      reads_then g.S.Store c.args.self.now.registry c.reply_of.new.self
+      c.judge_free.new.self.registry
+      (λ t has. (c.in-Ok-None.ensures.found asked t has).1.tables) c.reply_of.ensures.reads
+      (c.judge_free.ensures.looks.reads clean);
+  fault = search rules;
+}
 
 pub returns-then-are_of_loss-clause-judged : goal.returns-then-are_of_loss-clause-judged
 returns-then-are_of_loss-clause-judged g c clean w t of holds has =
@@ -83,7 +89,7 @@ returns-in-Ok-Some-clause-judged g c clean w t of holds has =
 pub returns-in-Ok-None-clause-again : goal.returns-in-Ok-None-clause-again
 returns-in-Ok-None-clause-again g c clean =
     let asked : DiskKept g.S.Store c.reply_of.new.self =
-    omega (arith, clean, c.judge_free.ensures.reads.clean) in
+    omega (arith, clean, c.judge_free.ensures.looks.clean) in
     ok_then _ _ (λ j again t has. again t (c.in-Ok-None.ensures.found asked t has).1.tables)
     c.judge_free.result (c.judge_free.ensures.again clean)
 
@@ -101,7 +107,7 @@ returns-in-Ok-Some-clause-again g c clean t has = (
 pub returns-in-Ok-None-clause-fits : goal.returns-in-Ok-None-clause-fits
 returns-in-Ok-None-clause-fits g c clean =
     let asked : DiskKept g.S.Store c.reply_of.new.self =
-    omega (arith, clean, c.judge_free.ensures.reads.clean) in
+    omega (arith, clean, c.judge_free.ensures.looks.clean) in
     ok_then _ _ (λ j fits t has are. (
     let f = c.in-Ok-None.ensures.found asked t has in
     let free : IsFree t c.args.key.now =
@@ -118,7 +124,7 @@ returns-in-Ok-Some-clause-fits g c clean t has are =
 pub returns-in-Ok-None-clause-store : goal.returns-in-Ok-None-clause-store
 returns-in-Ok-None-clause-store g c clean is t has =
     let asked : DiskKept g.S.Store c.reply_of.new.self =
-    omega (arith, clean, c.judge_free.ensures.reads.clean) in
+    omega (arith, clean, c.judge_free.ensures.looks.clean) in
     let then = (c.in-Ok-None.ensures.found asked t has).1.tables in
     failed_later g.S.Store c.args.self.now.registry c.reply_of.new.self t c.reply_of.ensures.reads
     has then c.judge_free.new.self.registry (c.judge_free.ensures.store clean is t then)

@@ -1,4 +1,4 @@
-use Rattle.std.proofs.Common.{◌≡◌, ◌∙◌, ◌<◌, ℕ, List, [], None, Some, length, sym, subst, arith}
+use Rattle.std.proofs.Common.{rules, ◌≡◌, ◌∙◌, ◌<◌, ℕ, List, [], None, Some, length, sym, subst, arith}
 use Rattle.gm_commands.specs.declared.command.Command.{Command}
 use Rattle.gm_commands.specs.declared.command.Command.TheVariants.{Lost}
 use Rattle.gm_state.specs.Lookups.{component_of}
@@ -107,3 +107,11 @@ returns-in-Some-clause-fits g c clean =
     fits key t are key_ok free
     (room_of c.in_ok-is_full.field-0 (count_of t) told.0 c.if-branch.false)))
     c.judge_component.result c.judge_component.ensures.fits
+
+pub returns-in_err-is_full-clause-looks : goal.returns-in_err-is_full-clause-looks
+returns-in_err-is_full-clause-looks g c = record {
+  shelf = search rules;
+  clean = search rules;
+  reads = λ clean. c.is_full.ensures.reads;
+  fault = search rules;
+}

@@ -1,4 +1,4 @@
-use Rattle.std.proofs.Common.{◌∙◌, ℕ, List, Err, refl, sym, ap, subst, subst₂, arith}
+use Rattle.std.proofs.Common.{rules, ◌∙◌, ℕ, List, Err, refl, sym, ap, subst, subst₂, arith}
 use Rattle.sqlite.specs.Held.{state}
 use Rattle.gm_registry.specs.Registry.{DiskKept}
 use Rattle.gm_state.specs.declared.intents.Intent.{Intent}
@@ -23,7 +23,7 @@ returns-clause-looked g c h clean away ts bytes u w at =
     let size = g.H.Shelf.size in
     let k = c.args.self.now.shelf in
     let clean1 : DiskKept g.S.Store c.load.new.self.registry =
-    omega (arith, clean, c.judge.ensures.clean) in
+    omega (arith, clean, c.judge.ensures.looks.clean) in
     let said = c.in_ok-loaded.ensures.says h clean1 away ts bytes u w at in
     let l = lead g.S.Store view size c.args.self.now.registry k away ts bytes u w at
     (g.met.H.Shelf.lawful k h) in
@@ -37,7 +37,7 @@ returns-clause-looked g c h clean away ts bytes u w at =
     let laid = c.deref-2.ensures.value ∙ said.2 in (
       record {
         found = moved g.S.Store view size c.args.self.now.registry c.judge.new.self.registry k
-            c.judge.new.self.shelf away ts bytes u w at (c.judge.ensures.shelf
+            c.judge.new.self.shelf away ts bytes u w at (c.judge.ensures.looks.shelf
             ∙ c.load.ensures.shelf) ts
             refl bytes refl judged.1;
         state = said.0;
@@ -52,19 +52,20 @@ returns-clause-looked g c h clean away ts bytes u w at =
 pub returns-clause-loaded : goal.returns-clause-loaded
 returns-clause-loaded g c clean t has =
     let clean1 : DiskKept g.S.Store c.load.new.self.registry =
-    omega (arith, clean, c.judge.ensures.clean) in
+    omega (arith, clean, c.judge.ensures.looks.clean) in
     let loaded = c.in_ok-loaded.ensures.loaded clean1 t has in
     let again = c.in_ok-judged.ensures.again clean t loaded.1 in (
       loaded.0,
       again.0,
-      subst₂ (λ (is : List Intent) (b : List (List ℕ)). StaysReadable c.in_ok-loaded.loaded.state is b
-          c.in_ok-judged.judged) c.deref.ensures.value c.deref-2.ensures.value again.1,
+      subst₂ (λ (is : List Intent) (b : List (List ℕ)).
+          StaysReadable c.in_ok-loaded.loaded.state is b c.in_ok-judged.judged)
+          c.deref.ensures.value c.deref-2.ensures.value again.1,
     )
 
 pub returns-clause-fits : goal.returns-clause-fits
 returns-clause-fits g c clean t has =
     let clean1 : DiskKept g.S.Store c.load.new.self.registry =
-    omega (arith, clean, c.judge.ensures.clean) in
+    omega (arith, clean, c.judge.ensures.looks.clean) in
     let loaded = c.in_ok-loaded.ensures.loaded clean1 t has in
     let are : AreRecordsOf t c.in_ok-loaded.loaded.state = record {
       state = loaded.0.state;
@@ -81,25 +82,37 @@ returns-in_err-loaded-clause-store g c clean is t has =
 pub returns-in_err-judged-clause-store : goal.returns-in_err-judged-clause-store
 returns-in_err-judged-clause-store g c clean is t has =
     let clean1 : DiskKept g.S.Store c.load.new.self.registry =
-    omega (arith, clean, c.judge.ensures.clean) in
+    omega (arith, clean, c.judge.ensures.looks.clean) in
     let then = (c.in_ok-loaded.ensures.loaded clean1 t has).1 in
     failed_later g.S.Store c.args.self.now.registry c.load.new.self.registry t
     c.load.ensures.reads has then c.judge.new.self.registry
     (c.in_err-judged.ensures.store clean (ap Err (fault_is
     c.from_residual-in_err-judged.result _ _ c.from_residual-in_err-judged.ensures.1 is)) t then)
 
-pub returns-clause-reads : goal.returns-clause-reads
-returns-clause-reads g c clean =
-    let clean1 : DiskKept g.S.Store c.load.new.self.registry =
-    omega (arith, clean, c.judge.ensures.clean) in
-    reads_then g.S.Store c.args.self.now.registry c.load.new.self.registry
-    c.judge.new.self.registry (λ t has. (c.in_ok-loaded.ensures.loaded clean1 t has).1)
-    c.load.ensures.reads (c.judge.ensures.reads clean)
+pub returns-clause-looks : goal.returns-clause-looks
+returns-clause-looks g c = record {
+  shelf = c.judge.ensures.looks.shelf ∙ c.load.ensures.shelf;
+  clean = let one = c.load.ensures.reads.clean in
+      let two = c.judge.ensures.looks.clean in omega (arith, one, two);
+  reads = λ clean.
+      let clean1 : DiskKept g.S.Store c.load.new.self.registry =
+      omega (arith, clean, c.judge.ensures.looks.clean) in
+      reads_then g.S.Store c.args.self.now.registry c.load.new.self.registry
+      c.judge.new.self.registry (λ t has. (c.in_ok-loaded.ensures.loaded clean1 t has).1)
+      c.load.ensures.reads (c.judge.ensures.looks.reads clean);
+  fault = search rules;
+}
 
-pub returns-in_err-judged-clause-reads : goal.returns-in_err-judged-clause-reads
-returns-in_err-judged-clause-reads g c clean =
-    let clean1 : DiskKept g.S.Store c.load.new.self.registry =
-    omega (arith, clean, c.judge.ensures.clean) in
-    reads_then g.S.Store c.args.self.now.registry c.load.new.self.registry
-    c.judge.new.self.registry (λ t has. (c.in_ok-loaded.ensures.loaded clean1 t has).1)
-    c.load.ensures.reads (c.judge.ensures.reads clean)
+pub returns-in_err-judged-clause-looks : goal.returns-in_err-judged-clause-looks
+returns-in_err-judged-clause-looks g c = record {
+  shelf = c.judge.ensures.looks.shelf ∙ c.load.ensures.shelf;
+  clean = let one = c.load.ensures.reads.clean in
+      let two = c.judge.ensures.looks.clean in omega (arith, one, two);
+  reads = λ clean.
+      let clean1 : DiskKept g.S.Store c.load.new.self.registry =
+      omega (arith, clean, c.judge.ensures.looks.clean) in
+      reads_then g.S.Store c.args.self.now.registry c.load.new.self.registry
+      c.judge.new.self.registry (λ t has. (c.in_ok-loaded.ensures.loaded clean1 t has).1)
+      c.load.ensures.reads (c.judge.ensures.looks.reads clean);
+  fault = search rules;
+}

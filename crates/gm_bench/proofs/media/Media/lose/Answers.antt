@@ -1,4 +1,4 @@
-use Rattle.std.proofs.Common.{◌≡◌, ◌∙◌, ◌<◌, inl, inr, Err, List, None, refl, sym, ap, subst, subst₂, arith}
+use Rattle.std.proofs.Common.{rules, ◌≡◌, ◌∙◌, ◌<◌, inl, inr, Err, List, None, refl, sym, ap, subst, subst₂, arith}
 use Rattle.gm_state.specs.declared.intents.Intent.{Intent}
 use Rattle.gm_registry.specs.Registry.{DiskKept}
 use Rattle.gm_registry.proofs.CallsLeave.{saved}
@@ -26,7 +26,7 @@ returns-in-Some-clause-leaves g c h clean p =
 
 pub returns-in_err-number-clause-leaves : goal.returns-in_err-number-clause-leaves
 returns-in_err-number-clause-leaves g c h clean p =
-    inl (c.commit_loss.ensures.leaves h clean p, c.commit_loss.ensures.shelf)
+    inl (c.commit_loss.ensures.leaves h clean p, c.commit_loss.ensures.alone.shelf)
 
 pub returns-in_err-finish-clause-leaves : goal.returns-in_err-finish-clause-leaves
 returns-in_err-finish-clause-leaves g c h clean p =
@@ -37,7 +37,8 @@ returns-in_err-finish-clause-leaves g c h clean p =
     let mid = c.commit_loss.new.self.registry in
     let clean1 : DiskKept g.S.Store mid = omega (arith, clean, c.finish.ensures.keep.clean) in
     let lawful = g.met.H.Shelf.lawful k0 h in
-    let h1 : g.H.Shelf.honest k1 = subst g.H.Shelf.honest (sym c.commit_loss.ensures.shelf) h in
+    let h1 : g.H.Shelf.honest k1 =
+    subst g.H.Shelf.honest (sym c.commit_loss.ensures.alone.shelf) h in
     let none : first_absent c.args.loss.now.after (size k0) c.args.loss.now.intents.items ≡ None =
     subst (λ (is : List Intent). first_absent c.args.loss.now.after (size k0) is ≡ None)
     c.deref.ensures.value (sym c.first_absent.ensures ∙ c.in_default.is) in
@@ -48,12 +49,12 @@ returns-in_err-finish-clause-leaves g c h clean p =
           let it = c.in_ok-number.ensures.done h clean1 p away ts bytes u w was in
           let here =
           at_hand g.S.Store view size mid k0 k1 away c.args.loss.now c.args.key.now p ts u w
-          c.in_ok-number.number lawful c.commit_loss.ensures.shelf it none
+          c.in_ok-number.number lawful c.commit_loss.ensures.alone.shelf it none
           c.deref-2.result.now
           c.deref-2.ensures.value c.deref-3.result.now c.deref-3.ensures.value in
           let cover =
           covers g.S.Store view size mid k0 k1 away c.args.loss.now c.args.key.now p ts u w
-          c.in_ok-number.number lawful c.commit_loss.ensures.shelf it none
+          c.in_ok-number.number lawful c.commit_loss.ensures.alone.shelf it none
           c.deref-2.result.now
           c.deref-2.ensures.value c.deref-3.result.now c.deref-3.ensures.value in (
             it.0,
@@ -61,7 +62,7 @@ returns-in_err-finish-clause-leaves g c h clean p =
             it.4,
             subst (λ (x : g.row.H.Denot). LeavesOnly g.S.Store view size mid
                 c.finish.new.self.registry x c.finish.new.self.shelf away u it.0)
-                c.commit_loss.ensures.shelf
+                c.commit_loss.ensures.alone.shelf
                 (c.finish.ensures.leaves h1 clean away u it.0 here cover),
           )),
     )
@@ -75,7 +76,8 @@ returns-clause-leaves g c h clean p =
     let mid = c.commit_loss.new.self.registry in
     let clean1 : DiskKept g.S.Store mid = omega (arith, clean, c.finish.ensures.keep.clean) in
     let lawful = g.met.H.Shelf.lawful k0 h in
-    let h1 : g.H.Shelf.honest k1 = subst g.H.Shelf.honest (sym c.commit_loss.ensures.shelf) h in
+    let h1 : g.H.Shelf.honest k1 =
+    subst g.H.Shelf.honest (sym c.commit_loss.ensures.alone.shelf) h in
     let none : first_absent c.args.loss.now.after (size k0) c.args.loss.now.intents.items ≡ None =
     subst (λ (is : List Intent). first_absent c.args.loss.now.after (size k0) is ≡ None)
     c.deref.ensures.value (sym c.first_absent.ensures ∙ c.in_default.is) in
@@ -86,12 +88,12 @@ returns-clause-leaves g c h clean p =
           let it = c.in_ok-number.ensures.done h clean1 p away ts bytes u w was in
           let here =
           at_hand g.S.Store view size mid k0 k1 away c.args.loss.now c.args.key.now p ts u w
-          c.in_ok-number.number lawful c.commit_loss.ensures.shelf it none
+          c.in_ok-number.number lawful c.commit_loss.ensures.alone.shelf it none
           c.deref-2.result.now
           c.deref-2.ensures.value c.deref-3.result.now c.deref-3.ensures.value in
           let cover =
           covers g.S.Store view size mid k0 k1 away c.args.loss.now c.args.key.now p ts u w
-          c.in_ok-number.number lawful c.commit_loss.ensures.shelf it none
+          c.in_ok-number.number lawful c.commit_loss.ensures.alone.shelf it none
           c.deref-2.result.now
           c.deref-2.ensures.value c.deref-3.result.now c.deref-3.ensures.value in (
             it.0,
@@ -99,7 +101,7 @@ returns-clause-leaves g c h clean p =
             it.4,
             subst (λ (x : g.row.H.Denot). LeavesOnly g.S.Store view size mid
                 c.finish.new.self.registry x c.finish.new.self.shelf away u it.0)
-                c.commit_loss.ensures.shelf
+                c.commit_loss.ensures.alone.shelf
                 (c.finish.ensures.leaves h1 clean away u it.0 here cover),
           )),
     )
@@ -113,35 +115,74 @@ returns-clause-done g c h clean p away ts bytes u w was =
     let mid = c.commit_loss.new.self.registry in
     let clean1 : DiskKept g.S.Store mid = omega (arith, clean, c.finish.ensures.keep.clean) in
     let lawful = g.met.H.Shelf.lawful k0 h in
-    let h1 : g.H.Shelf.honest k1 = subst g.H.Shelf.honest (sym c.commit_loss.ensures.shelf) h in
+    let h1 : g.H.Shelf.honest k1 =
+    subst g.H.Shelf.honest (sym c.commit_loss.ensures.alone.shelf) h in
     let none : first_absent c.args.loss.now.after (size k0) c.args.loss.now.intents.items ≡ None =
     subst (λ (is : List Intent). first_absent c.args.loss.now.after (size k0) is ≡ None)
     c.deref.ensures.value (sym c.first_absent.ensures ∙ c.in_default.is) in
     let it = c.in_ok-number.ensures.done h clean1 p away ts bytes u w was in
     let here = at_hand g.S.Store view size mid k0 k1 away c.args.loss.now c.args.key.now p ts u w
-    c.in_ok-number.number lawful c.commit_loss.ensures.shelf it none c.deref-2.result.now
+    c.in_ok-number.number lawful c.commit_loss.ensures.alone.shelf it none c.deref-2.result.now
     c.deref-2.ensures.value c.deref-3.result.now c.deref-3.ensures.value in
     let cover = covers g.S.Store view size mid k0 k1 away c.args.loss.now c.args.key.now p ts u w
-    c.in_ok-number.number lawful c.commit_loss.ensures.shelf it none c.deref-2.result.now
+    c.in_ok-number.number lawful c.commit_loss.ensures.alone.shelf it none c.deref-2.result.now
     c.deref-2.ensures.value c.deref-3.result.now c.deref-3.ensures.value in
     (it.0, it.1, it.2, it.3, c.in_ok-finish.ensures.done h1 clean away u it.0 here cover)
 
-pub returns-in_err-finish-clause-disk : goal.returns-in_err-finish-clause-disk
-returns-in_err-finish-clause-disk g c readable state is =
-    let size = g.H.Shelf.size in
-    let k0 = c.args.self.now.shelf in
-    let fault = fault_is c.from_residual-in_err-finish.result _ _
-    c.from_residual-in_err-finish.ensures.1 is in
-    let none : first_absent c.args.loss.now.after (size k0) c.args.loss.now.intents.items ≡ None =
-    subst (λ (is : List Intent). first_absent c.args.loss.now.after (size k0) is ≡ None)
-    c.deref.ensures.value (sym c.first_absent.ensures ∙ c.in_default.is) in
-    let hand = hand_at c.args.loss.now.after (size k0) state c.args.loss.now.intents.items
-    readable.each none in
-    let here = subst₂ (λ (k : g.row.H.Denot) (ts : List Intent). AreAtHand (size k) ts)
-    (sym c.commit_loss.ensures.shelf) (sym c.deref-2.ensures.value) hand in
-    subst (λ (k : g.row.H.Denot). (g.H.Shelf.view k).faults
-    < (g.H.Shelf.view c.finish.new.self.shelf).faults) c.commit_loss.ensures.shelf
-    (c.in_err-finish.ensures.disk here (ap Err fault))
+pub returns-in_err-finish-clause-tells : goal.returns-in_err-finish-clause-tells
+returns-in_err-finish-clause-tells g c = record {
+  there = search rules;
+  absent = search rules;
+  unread = search rules;
+  readable = search rules;
+  disk = λ readable state is.
+      let size = g.H.Shelf.size in
+      let k0 = c.args.self.now.shelf in
+      let fault = fault_is c.from_residual-in_err-finish.result _ _
+      c.from_residual-in_err-finish.ensures.1 is in
+      let none : first_absent c.args.loss.now.after (size k0) c.args.loss.now.intents.items
+      ≡ None =
+      subst (λ (is : List Intent). first_absent c.args.loss.now.after (size k0) is ≡ None)
+      c.deref.ensures.value (sym c.first_absent.ensures ∙ c.in_default.is) in
+      let hand = hand_at c.args.loss.now.after (size k0) state c.args.loss.now.intents.items
+      readable.each none in
+      let here = subst₂ (λ (k : g.row.H.Denot) (ts : List Intent). AreAtHand (size k) ts)
+      (sym c.commit_loss.ensures.alone.shelf) (sym c.deref-2.ensures.value) hand in
+      subst (λ (k : g.row.H.Denot). (g.H.Shelf.view k).faults
+      < (g.H.Shelf.view c.finish.new.self.shelf).faults) c.commit_loss.ensures.alone.shelf
+      (c.in_err-finish.ensures.disk here (ap Err fault));
+  closed = search rules;
+}
+
+pub returns-in_err-number-clause-tells : goal.returns-in_err-number-clause-tells
+returns-in_err-number-clause-tells g c = record {
+  there = search rules;
+  absent = search rules;
+  unread = search rules;
+  readable = search rules;
+  disk = search rules;
+  closed = search rules;
+}
+
+pub returns-in-Some-clause-tells : goal.returns-in-Some-clause-tells
+returns-in-Some-clause-tells g c = record {
+  there = search rules;
+  absent = search rules;
+  unread = search rules;
+  readable = search rules;
+  disk = search rules;
+  closed = search rules;
+}
+
+pub returns-clause-tells : goal.returns-clause-tells
+returns-clause-tells g c = record {
+  there = search rules;
+  absent = search rules;
+  unread = search rules;
+  readable = search rules;
+  disk = search rules;
+  closed = search rules;
+}
 
 pub returns-in_err-number-clause-store : goal.returns-in_err-number-clause-store
 returns-in_err-number-clause-store g c clean is =

@@ -7,7 +7,7 @@ use Rattle.gm_registry.proofs.ReadsInTurn.{sees_registry}
 use Rattle.gm_bench.specs.Recovering.{LeavesOnly}
 use Rattle.gm_bench.proofs.Causes.{fault_is}
 use Rattle.gm_bench.proofs.RegistryLeaves.{read_only}
-use Rattle.gm_bench.proofs.TakenUp.{absent_back, moved, moments_back, leaves_back}
+use Rattle.gm_bench.proofs.TakenUp.{absent_back, moved, leaves_back}
 use Rattle.gm_bench.proofs.media.Media.take_up.Goals as goal
 use Rattle.gm_state.specs.declared.intents.Intent.{Intent}
 use Rattle.gm_state.proofs.SameRows.{same_mirror, same_component}
@@ -35,26 +35,6 @@ returns-clause-leaves g c h clean away ts bytes u w at =
     (saved g.S.Store g.met.S.Store.settled c.args.self.now.registry at.tables at.has).crash
     (c.check_and_finish.ensures.moments h1 away u w found said.0)
     (c.check_and_finish.ensures.leaves h1 clean away u w found said.0)
-
-pub returns-clause-moments :
-    goal.returns-clause-moments
-returns-clause-moments g c h clean away ts bytes u w at =
-    let view = g.H.Shelf.view in
-    let size = g.H.Shelf.size in
-    let clean1 : DiskKept g.S.Store c.load.new.self.registry =
-    omega (arith, clean, c.check_and_finish.ensures.keep.clean) in
-    let said = c.in_ok-loaded.ensures.says h clean1 away ts bytes u w at in
-    let are : c.deref.result.now ≡ ts = c.deref.ensures.value ∙ said.1 in
-    let laid : c.deref-2.result.now ≡ bytes = c.deref-2.ensures.value ∙ said.2 in
-    let found = moved g.S.Store view size c.args.self.now.registry c.load.new.self.registry
-    c.args.self.now.shelf c.load.new.self.shelf away ts bytes u w at c.load.ensures.shelf
-    c.deref.result.now are c.deref-2.result.now laid said.3 in
-    let h1 : g.H.Shelf.honest c.load.new.self.shelf =
-    subst g.H.Shelf.honest (sym c.load.ensures.shelf) h in
-    moments_back g.S.Store view size c.args.self.now.registry c.load.new.self.registry
-    c.args.self.now.shelf c.load.new.self.shelf away ts bytes u w at c.load.ensures.shelf
-    c.deref.result.now are c.deref-2.result.now laid c.check_and_finish.new.self.shelf
-    (c.check_and_finish.ensures.moments h1 away u w found said.0)
 
 pub returns-clause-done : goal.returns-clause-done
 returns-clause-done g c h clean away ts bytes u w at =
@@ -97,26 +77,6 @@ returns-in_err-check_and_finish-clause-leaves g c h clean away ts bytes u w at =
     (c.check_and_finish.ensures.moments h1 away u w found said.0)
     (c.check_and_finish.ensures.leaves h1 clean away u w found said.0)
 
-pub returns-in_err-check_and_finish-clause-moments :
-    goal.returns-in_err-check_and_finish-clause-moments
-returns-in_err-check_and_finish-clause-moments g c h clean away ts bytes u w at =
-    let view = g.H.Shelf.view in
-    let size = g.H.Shelf.size in
-    let clean1 : DiskKept g.S.Store c.load.new.self.registry =
-    omega (arith, clean, c.check_and_finish.ensures.keep.clean) in
-    let said = c.in_ok-loaded.ensures.says h clean1 away ts bytes u w at in
-    let are : c.deref.result.now ≡ ts = c.deref.ensures.value ∙ said.1 in
-    let laid : c.deref-2.result.now ≡ bytes = c.deref-2.ensures.value ∙ said.2 in
-    let found = moved g.S.Store view size c.args.self.now.registry c.load.new.self.registry
-    c.args.self.now.shelf c.load.new.self.shelf away ts bytes u w at c.load.ensures.shelf
-    c.deref.result.now are c.deref-2.result.now laid said.3 in
-    let h1 : g.H.Shelf.honest c.load.new.self.shelf =
-    subst g.H.Shelf.honest (sym c.load.ensures.shelf) h in
-    moments_back g.S.Store view size c.args.self.now.registry c.load.new.self.registry
-    c.args.self.now.shelf c.load.new.self.shelf away ts bytes u w at c.load.ensures.shelf
-    c.deref.result.now are c.deref-2.result.now laid c.check_and_finish.new.self.shelf
-    (c.check_and_finish.ensures.moments h1 away u w found said.0)
-
 pub returns-in_err-loaded-clause-leaves : goal.returns-in_err-loaded-clause-leaves
 returns-in_err-loaded-clause-leaves g c h clean away ts bytes u w at =
     let view = g.H.Shelf.view in
@@ -140,7 +100,8 @@ returns-clause-tells g c =
           omega (arith, clean, c.check_and_finish.ensures.keep.clean) in
           let said = c.in_ok-loaded.ensures.loaded clean1 t has in
           let same = one_reading same_mirror same_component t c.in_ok-loaded.loaded.state s
-          c.in_ok-loaded.loaded.intents.items ts c.in_ok-loaded.loaded.bytes.items bytes said.0 of in
+          c.in_ok-loaded.loaded.intents.items ts c.in_ok-loaded.loaded.bytes.items bytes said.0
+          of in
           absent_back _ _ _ _ _ _ _ same.0 (ap g.H.Shelf.size c.load.ensures.shelf)
           (c.deref.ensures.value ∙ same.1) c.in_ok-check_and_finish.ensures.there);
       absent = search rules;
@@ -158,7 +119,8 @@ returns-in_err-check_and_finish-clause-tells g c =
           omega (arith, clean, c.check_and_finish.ensures.keep.clean) in
           let said = c.in_ok-loaded.ensures.loaded clean1 t has in
           let same = one_reading same_mirror same_component t c.in_ok-loaded.loaded.state s
-          c.in_ok-loaded.loaded.intents.items ts c.in_ok-loaded.loaded.bytes.items bytes said.0 of in
+          c.in_ok-loaded.loaded.intents.items ts c.in_ok-loaded.loaded.bytes.items bytes said.0
+          of in
           let fault = fault_is c.from_residual-in_err-check_and_finish.result _ _
           c.from_residual-in_err-check_and_finish.ensures.1 is in
           absent_back _ _ _ _ _ _ _ same.0 (ap g.H.Shelf.size c.load.ensures.shelf)
@@ -169,8 +131,10 @@ returns-in_err-check_and_finish-clause-tells g c =
           let clean1 : DiskKept g.S.Store c.load.new.self.registry =
           omega (arith, clean, c.check_and_finish.ensures.keep.clean) in
           let said = c.in_ok-loaded.ensures.loaded clean1 t has in
-          let of : AreTablesOf t c.in_ok-loaded.loaded.state c.deref.result.now c.deref-2.result.now =
-          subst₂ (λ (ts : List Intent) (b : List (List ℕ)). AreTablesOf t c.in_ok-loaded.loaded.state ts b)
+          let of : AreTablesOf t c.in_ok-loaded.loaded.state c.deref.result.now
+          c.deref-2.result.now =
+          subst₂ (λ (ts : List Intent) (b : List (List ℕ)).
+          AreTablesOf t c.in_ok-loaded.loaded.state ts b)
           (sym c.deref.ensures.value) (sym c.deref-2.ensures.value) said.0 in
           let fault = fault_is c.from_residual-in_err-check_and_finish.result _ _
           c.from_residual-in_err-check_and_finish.ensures.1 is in

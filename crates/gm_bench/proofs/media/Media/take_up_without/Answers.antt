@@ -11,9 +11,9 @@ use Rattle.gm_bench.specs.Losing.{dropped}
 use Rattle.gm_bench.specs.Recovering.{IsFound}
 use Rattle.gm_bench.specs.Without.{CanBeCommitted, HasJudged, IsJudged, LeavesOpened, StaysReadable, loss_call}
 use Rattle.gm_bench.proofs.LossCarried.{lost_behind, nothing_opened}
-use Rattle.gm_bench.proofs.TakenUp.{absent_back, leaves_back, moments_back, moved}
+use Rattle.gm_bench.proofs.TakenUp.{absent_back, leaves_back, moved}
 use Rattle.gm_bench.proofs.Causes.{absent_or_unreadable, fault_is, only_absent, passed_unwritten}
-use Rattle.gm_bench.proofs.DecidesOnly.{alone_read}
+use Rattle.gm_bench.proofs.DecidesOnly.{alone_read, unlost_read}
 use Rattle.gm_bench.specs.GivingUp.{IsUnwritten}
 use Rattle.gm_bench.specs.declared.fault.BenchFault.TheVariants.{Absent, Unreadable}
 use Rattle.gm_bench.specs.declared.media.Media.{Media}
@@ -27,17 +27,17 @@ pub returns-in_err-looked-clause-leaves : goal.returns-in_err-looked-clause-leav
 returns-in_err-looked-clause-leaves g c h clean =
     inl (nothing_opened g.S.Store g.H.Shelf.view g.H.Shelf.size c.args.self.now.registry
     c.look_for_loss.new.self.registry c.args.self.now.shelf c.look_for_loss.new.self.shelf
-    c.look_for_loss.ensures.shelf (g.met.H.Shelf.lawful c.args.self.now.shelf h)
+    c.look_for_loss.ensures.looks.shelf (g.met.H.Shelf.lawful c.args.self.now.shelf h)
     (λ t has. (saved g.S.Store g.met.S.Store.settled c.args.self.now.registry t has).crash)
-    c.args.key.now c.args.provider clean (c.look_for_loss.ensures.left clean))
+    c.args.key.now c.args.provider clean (c.look_for_loss.ensures.looks.reads clean).left)
 
 pub returns-in-Refused-clause-leaves : goal.returns-in-Refused-clause-leaves
 returns-in-Refused-clause-leaves g c h clean =
     inl (nothing_opened g.S.Store g.H.Shelf.view g.H.Shelf.size c.args.self.now.registry
     c.look_for_loss.new.self.registry c.args.self.now.shelf c.look_for_loss.new.self.shelf
-    c.look_for_loss.ensures.shelf (g.met.H.Shelf.lawful c.args.self.now.shelf h)
+    c.look_for_loss.ensures.looks.shelf (g.met.H.Shelf.lawful c.args.self.now.shelf h)
     (λ t has. (saved g.S.Store g.met.S.Store.settled c.args.self.now.registry t has).crash)
-    c.args.key.now c.args.provider clean (c.look_for_loss.ensures.left clean))
+    c.args.key.now c.args.provider clean (c.look_for_loss.ensures.looks.reads clean).left)
 
 pub returns-in-Refused-clause-does : goal.returns-in-Refused-clause-does
 returns-in-Refused-clause-does g c h clean away ts bytes u w at =
@@ -55,28 +55,26 @@ returns-in_err-check_and_finish-in-Kept-clause-leaves g c h clean =
     let k1 = c.look_for_loss.new.self.shelf in
     let clean1 : DiskKept g.S.Store mid =
     omega (arith, clean, c.check_and_finish.ensures.keep.clean) in
-    let h1 : g.H.Shelf.honest k1 = subst g.H.Shelf.honest (sym c.look_for_loss.ensures.shelf) h in
+    let h1 : g.H.Shelf.honest k1 =
+    subst g.H.Shelf.honest (sym c.look_for_loss.ensures.looks.shelf) h in
     inl (λ away ts bytes u w at. (
     let looked = c.in_ok-looked.ensures.looked h clean1 away ts bytes u w at in
     let was = looked.0 in
     let are : c.deref.result.now ≡ ts = c.deref.ensures.value ∙ was.intents in
     let laid : c.deref-in-Kept.result.now ≡ bytes = c.deref-in-Kept.ensures.value ∙ was.to_lay in
     let found = moved g.S.Store view size r mid k k1 away ts bytes u w at
-    c.look_for_loss.ensures.shelf
-    c.deref.result.now are c.deref-in-Kept.result.now laid looked.1 in (
-      leaves_back g.S.Store view size r mid k k1 away ts bytes u w at c.look_for_loss.ensures.shelf
-          c.deref.result.now are c.deref-in-Kept.result.now laid
-          c.check_and_finish.new.self.registry c.check_and_finish.new.self.shelf
-          (saved g.S.Store g.met.S.Store.settled r at.tables at.has).crash
-          (c.check_and_finish.ensures.moments h1 away u w found was.state)
-          (c.check_and_finish.ensures.leaves h1 clean away u w found was.state),
-      moments_back g.S.Store view size r mid k k1 away ts bytes u w at c.look_for_loss.ensures.shelf
-          c.deref.result.now are c.deref-in-Kept.result.now laid c.check_and_finish.new.self.shelf
-          (c.check_and_finish.ensures.moments h1 away u w found was.state),
-    )))
+    c.look_for_loss.ensures.looks.shelf
+    c.deref.result.now are c.deref-in-Kept.result.now laid looked.1 in
+    leaves_back g.S.Store view size r mid k k1 away ts bytes u w at
+    c.look_for_loss.ensures.looks.shelf
+    c.deref.result.now are c.deref-in-Kept.result.now laid
+    c.check_and_finish.new.self.registry c.check_and_finish.new.self.shelf
+    (saved g.S.Store g.met.S.Store.settled r at.tables at.has).crash
+    (c.check_and_finish.ensures.moments h1 away u w found was.state)
+    (c.check_and_finish.ensures.leaves h1 clean away u w found was.state)))
 
-pub returns-in-Kept-clause-leaves : goal.returns-in-Kept-clause-leaves
-returns-in-Kept-clause-leaves g c h clean =
+pub returns-in-Kept-clause-undone : goal.returns-in-Kept-clause-undone
+returns-in-Kept-clause-undone g c h clean =
     let view = g.H.Shelf.view in
     let size = g.H.Shelf.size in
     let r = c.args.self.now.registry in
@@ -85,25 +83,26 @@ returns-in-Kept-clause-leaves g c h clean =
     let k1 = c.look_for_loss.new.self.shelf in
     let clean1 : DiskKept g.S.Store mid =
     omega (arith, clean, c.check_and_finish.ensures.keep.clean) in
-    let h1 : g.H.Shelf.honest k1 = subst g.H.Shelf.honest (sym c.look_for_loss.ensures.shelf) h in
-    inl (λ away ts bytes u w at. (
+    let h1 : g.H.Shelf.honest k1 =
+    subst g.H.Shelf.honest (sym c.look_for_loss.ensures.looks.shelf) h in
+    (λ away ts bytes u w at. (
     let looked = c.in_ok-looked.ensures.looked h clean1 away ts bytes u w at in
     let was = looked.0 in
     let are : c.deref.result.now ≡ ts = c.deref.ensures.value ∙ was.intents in
     let laid : c.deref-in-Kept.result.now ≡ bytes = c.deref-in-Kept.ensures.value ∙ was.to_lay in
     let found = moved g.S.Store view size r mid k k1 away ts bytes u w at
-    c.look_for_loss.ensures.shelf
-    c.deref.result.now are c.deref-in-Kept.result.now laid looked.1 in (
-      leaves_back g.S.Store view size r mid k k1 away ts bytes u w at c.look_for_loss.ensures.shelf
-          c.deref.result.now are c.deref-in-Kept.result.now laid
-          c.check_and_finish.new.self.registry c.check_and_finish.new.self.shelf
-          (saved g.S.Store g.met.S.Store.settled r at.tables at.has).crash
-          (c.check_and_finish.ensures.moments h1 away u w found was.state)
-          (c.check_and_finish.ensures.leaves h1 clean away u w found was.state),
-      moments_back g.S.Store view size r mid k k1 away ts bytes u w at c.look_for_loss.ensures.shelf
-          c.deref.result.now are c.deref-in-Kept.result.now laid c.check_and_finish.new.self.shelf
-          (c.check_and_finish.ensures.moments h1 away u w found was.state),
-    )))
+    c.look_for_loss.ensures.looks.shelf
+    c.deref.result.now are c.deref-in-Kept.result.now laid looked.1 in
+    leaves_back g.S.Store view size r mid k k1 away ts bytes u w at
+    c.look_for_loss.ensures.looks.shelf
+    c.deref.result.now are c.deref-in-Kept.result.now laid
+    c.check_and_finish.new.self.registry c.check_and_finish.new.self.shelf
+    (saved g.S.Store g.met.S.Store.settled r at.tables at.has).crash
+    (c.check_and_finish.ensures.moments h1 away u w found was.state)
+    (c.check_and_finish.ensures.leaves h1 clean away u w found was.state)))
+
+pub returns-in-Kept-clause-leaves : goal.returns-in-Kept-clause-leaves
+returns-in-Kept-clause-leaves g c h clean = inl (returns-in-Kept-clause-undone g c h clean)
 
 pub returns-in-Kept-clause-does : goal.returns-in-Kept-clause-does
 returns-in-Kept-clause-does g c h clean away ts bytes u w at =
@@ -115,13 +114,14 @@ returns-in-Kept-clause-does g c h clean away ts bytes u w at =
     let k1 = c.look_for_loss.new.self.shelf in
     let clean1 : DiskKept g.S.Store mid =
     omega (arith, clean, c.check_and_finish.ensures.keep.clean) in
-    let h1 : g.H.Shelf.honest k1 = subst g.H.Shelf.honest (sym c.look_for_loss.ensures.shelf) h in
+    let h1 : g.H.Shelf.honest k1 =
+    subst g.H.Shelf.honest (sym c.look_for_loss.ensures.looks.shelf) h in
     let looked = c.in_ok-looked.ensures.looked h clean1 away ts bytes u w at in
     let was = looked.0 in
     let are : c.deref.result.now ≡ ts = c.deref.ensures.value ∙ was.intents in
     let laid : c.deref-in-Kept.result.now ≡ bytes = c.deref-in-Kept.ensures.value ∙ was.to_lay in
     let found = moved g.S.Store view size r mid k k1 away ts bytes u w at
-    c.look_for_loss.ensures.shelf
+    c.look_for_loss.ensures.looks.shelf
     c.deref.result.now are c.deref-in-Kept.result.now laid looked.1 in
     let items : c.len-redone.result ≡ length c.in_ok-looked.looked.intents.items = search rules in (
       subst (λ (j : Judged). IsJudged w ts bytes c.args.key.now c.args.provider j) c.in-Kept.is
@@ -139,7 +139,8 @@ returns-in_err-number-in-New-clause-leaves g c h clean =
     let mid = c.look_for_loss.new.self.registry in
     let k1 = c.look_for_loss.new.self.shelf in
     let clean1 : DiskKept g.S.Store mid = omega (arith, clean, c.lose.ensures.keep.clean) in
-    let h1 : g.H.Shelf.honest k1 = subst g.H.Shelf.honest (sym c.look_for_loss.ensures.shelf) h in
+    let h1 : g.H.Shelf.honest k1 =
+    subst g.H.Shelf.honest (sym c.look_for_loss.ensures.looks.shelf) h in
     let loss : Loss = c.in-New.loss in
     let is_judged : (away : Image) (ts : List Intent) (bytes : List (List ℕ)) (u w : World)
     → IsFound g.S.Store view size r k away ts bytes u w
@@ -157,7 +158,7 @@ returns-in_err-number-in-New-clause-leaves g c h clean =
       dropped c.args.provider c.in_ok-looked.looked.intents.items,
       λ away ts bytes u w at. ap (dropped c.args.provider)
           (c.in_ok-looked.ensures.looked h clean1 away ts bytes u w at).0.intents,
-      lost_behind g.S.Store view size r mid k k1 c.look_for_loss.ensures.shelf
+      lost_behind g.S.Store view size r mid k k1 c.look_for_loss.ensures.looks.shelf
           (g.met.H.Shelf.lawful k h)
           (λ t has. (saved g.S.Store g.met.S.Store.settled r t has).crash)
           (HasJudged g.S.Store view size mid k1 c.args.key.now c.args.provider loss)
@@ -175,7 +176,8 @@ returns-clause-leaves g c h clean =
     let mid = c.look_for_loss.new.self.registry in
     let k1 = c.look_for_loss.new.self.shelf in
     let clean1 : DiskKept g.S.Store mid = omega (arith, clean, c.lose.ensures.keep.clean) in
-    let h1 : g.H.Shelf.honest k1 = subst g.H.Shelf.honest (sym c.look_for_loss.ensures.shelf) h in
+    let h1 : g.H.Shelf.honest k1 =
+    subst g.H.Shelf.honest (sym c.look_for_loss.ensures.looks.shelf) h in
     let loss : Loss = c.in-New.loss in
     let is_judged : (away : Image) (ts : List Intent) (bytes : List (List ℕ)) (u w : World)
     → IsFound g.S.Store view size r k away ts bytes u w
@@ -193,7 +195,7 @@ returns-clause-leaves g c h clean =
       dropped c.args.provider c.in_ok-looked.looked.intents.items,
       λ away ts bytes u w at. ap (dropped c.args.provider)
           (c.in_ok-looked.ensures.looked h clean1 away ts bytes u w at).0.intents,
-      lost_behind g.S.Store view size r mid k k1 c.look_for_loss.ensures.shelf
+      lost_behind g.S.Store view size r mid k k1 c.look_for_loss.ensures.looks.shelf
           (g.met.H.Shelf.lawful k h)
           (λ t has. (saved g.S.Store g.met.S.Store.settled r t has).crash)
           (HasJudged g.S.Store view size mid k1 c.args.key.now c.args.provider loss)
@@ -211,7 +213,8 @@ returns-clause-does g c h clean =
     let mid = c.look_for_loss.new.self.registry in
     let k1 = c.look_for_loss.new.self.shelf in
     let clean1 : DiskKept g.S.Store mid = omega (arith, clean, c.lose.ensures.keep.clean) in
-    let h1 : g.H.Shelf.honest k1 = subst g.H.Shelf.honest (sym c.look_for_loss.ensures.shelf) h in
+    let h1 : g.H.Shelf.honest k1 =
+    subst g.H.Shelf.honest (sym c.look_for_loss.ensures.looks.shelf) h in
     let loss : Loss = c.in-New.loss in
     let is_judged : (away : Image) (ts : List Intent) (bytes : List (List ℕ)) (u w : World)
     → IsFound g.S.Store view size r k away ts bytes u w
@@ -250,9 +253,9 @@ returns-in_err-check_and_finish-in-Kept-clause-lacks g c h clean q is =
     let fault = fault_is c.from_residual-in_err-check_and_finish-in-Kept.result _ _
     c.from_residual-in_err-check_and_finish-in-Kept.ensures.1 is in
     let lack = c.in_err-check_and_finish-in-Kept.ensures.absent q (ap Err fault) in
-    let opened = nothing_opened g.S.Store view size r mid k k1 c.look_for_loss.ensures.shelf
+    let opened = nothing_opened g.S.Store view size r mid k k1 c.look_for_loss.ensures.looks.shelf
     (g.met.H.Shelf.lawful k h) (λ t has. (saved g.S.Store g.met.S.Store.settled r t has).crash)
-    c.args.key.now c.args.provider clean1 (c.look_for_loss.ensures.left clean1) in (
+    c.args.key.now c.args.provider clean1 (c.look_for_loss.ensures.looks.reads clean1).left in (
       subst (λ (m : Media g.row.S.Denot g.row.H.Denot). LeavesOpened g.S.Store view size
           c.args.key.now c.args.provider r m.registry k m.shelf) (sym lack.1) opened,
       λ away ts bytes u w at. (
@@ -262,7 +265,7 @@ returns-in_err-check_and_finish-in-Kept-clause-lacks g c h clean q is =
           inl (
             kept.0,
             kept.1,
-            absent_back _ _ _ _ _ _ _ was.state (ap size c.look_for_loss.ensures.shelf)
+            absent_back _ _ _ _ _ _ _ was.state (ap size c.look_for_loss.ensures.looks.shelf)
                 (c.deref.ensures.value ∙ was.intents) lack.0,
           )),
     )
@@ -278,10 +281,10 @@ returns-in_err-number-in-New-clause-lacks g c h clean q is =
     let clean1 : DiskKept g.S.Store mid = omega (arith, clean, c.lose.ensures.keep.clean) in
     let fault = fault_is c.from_residual-in_err-number-in-New.result _ _
     c.from_residual-in_err-number-in-New.ensures.1 is in
-    let lack = c.in_err-number-in-New.ensures.absent q (ap Err fault) in
-    let opened = nothing_opened g.S.Store view size r mid k k1 c.look_for_loss.ensures.shelf
+    let lack = c.in_err-number-in-New.ensures.tells.absent q (ap Err fault) in
+    let opened = nothing_opened g.S.Store view size r mid k k1 c.look_for_loss.ensures.looks.shelf
     (g.met.H.Shelf.lawful k h) (λ t has. (saved g.S.Store g.met.S.Store.settled r t has).crash)
-    c.args.key.now c.args.provider clean1 (c.look_for_loss.ensures.left clean1) in (
+    c.args.key.now c.args.provider clean1 (c.look_for_loss.ensures.looks.reads clean1).left in (
       subst (λ (m : Media g.row.S.Denot g.row.H.Denot). LeavesOpened g.S.Store view size
           c.args.key.now c.args.provider r m.registry k m.shelf) (sym lack.1) opened,
       λ away ts bytes u w at. (
@@ -292,7 +295,7 @@ returns-in_err-number-in-New-clause-lacks g c h clean q is =
                 was.judged,
             absent_back c.in-New.loss.after c.in-New.loss.after (size k1) (size k)
                 c.in-New.loss.intents.items c.in-New.loss.intents.items (Some q) refl
-                (ap size c.look_for_loss.ensures.shelf) refl lack.0,
+                (ap size c.look_for_loss.ensures.looks.shelf) refl lack.0,
           )),
     )
 
@@ -300,140 +303,19 @@ pub returns-in-Refused-clause-undone : goal.returns-in-Refused-clause-undone
 returns-in-Refused-clause-undone g c h clean =
     nothing_opened g.S.Store g.H.Shelf.view g.H.Shelf.size c.args.self.now.registry
     c.look_for_loss.new.self.registry c.args.self.now.shelf c.look_for_loss.new.self.shelf
-    c.look_for_loss.ensures.shelf (g.met.H.Shelf.lawful c.args.self.now.shelf h)
+    c.look_for_loss.ensures.looks.shelf (g.met.H.Shelf.lawful c.args.self.now.shelf h)
     (λ t has. (saved g.S.Store g.met.S.Store.settled c.args.self.now.registry t has).crash)
-    c.args.key.now c.args.provider clean (c.look_for_loss.ensures.left clean)
-
-pub returns-in-Kept-clause-undone : goal.returns-in-Kept-clause-undone
-returns-in-Kept-clause-undone g c h clean =
-    let view = g.H.Shelf.view in
-    let size = g.H.Shelf.size in
-    let r = c.args.self.now.registry in
-    let k = c.args.self.now.shelf in
-    let mid = c.look_for_loss.new.self.registry in
-    let k1 = c.look_for_loss.new.self.shelf in
-    let clean1 : DiskKept g.S.Store mid =
-    omega (arith, clean, c.check_and_finish.ensures.keep.clean) in
-    let h1 : g.H.Shelf.honest k1 = subst g.H.Shelf.honest (sym c.look_for_loss.ensures.shelf) h in
-    (λ away ts bytes u w at. (
-    let looked = c.in_ok-looked.ensures.looked h clean1 away ts bytes u w at in
-    let was = looked.0 in
-    let are : c.deref.result.now ≡ ts = c.deref.ensures.value ∙ was.intents in
-    let laid : c.deref-in-Kept.result.now ≡ bytes = c.deref-in-Kept.ensures.value ∙ was.to_lay in
-    let found = moved g.S.Store view size r mid k k1 away ts bytes u w at
-    c.look_for_loss.ensures.shelf
-    c.deref.result.now are c.deref-in-Kept.result.now laid looked.1 in (
-      leaves_back g.S.Store view size r mid k k1 away ts bytes u w at c.look_for_loss.ensures.shelf
-          c.deref.result.now are c.deref-in-Kept.result.now laid
-          c.check_and_finish.new.self.registry c.check_and_finish.new.self.shelf
-          (saved g.S.Store g.met.S.Store.settled r at.tables at.has).crash
-          (c.check_and_finish.ensures.moments h1 away u w found was.state)
-          (c.check_and_finish.ensures.leaves h1 clean away u w found was.state),
-      moments_back g.S.Store view size r mid k k1 away ts bytes u w at c.look_for_loss.ensures.shelf
-          c.deref.result.now are c.deref-in-Kept.result.now laid c.check_and_finish.new.self.shelf
-          (c.check_and_finish.ensures.moments h1 away u w found was.state),
-    )))
-
-pub returns-in_err-check_and_finish-in-Kept-clause-disk :
-    goal.returns-in_err-check_and_finish-in-Kept-clause-disk
-returns-in_err-check_and_finish-in-Kept-clause-disk g c clean t has is =
-    let clean1 : DiskKept g.S.Store c.look_for_loss.new.self.registry =
-    omega (arith, clean, c.check_and_finish.ensures.keep.clean) in
-    let fault = fault_is c.from_residual-in_err-check_and_finish-in-Kept.result _ _
-    c.from_residual-in_err-check_and_finish-in-Kept.ensures.1 is in
-    let loaded = c.in_ok-looked.ensures.loaded clean1 t has in
-    let of = subst₂ (λ (ts : List Intent) (b : List (List ℕ)).
-    AreTablesOf t c.in_ok-looked.looked.state ts b) (sym c.deref.ensures.value)
-    (sym c.deref-in-Kept.ensures.value) loaded.0 in
-    subst (λ (k : g.row.H.Denot). (g.H.Shelf.view k).faults
-    < (g.H.Shelf.view c.check_and_finish.new.self.shelf).faults) c.look_for_loss.ensures.shelf
-    (c.in_err-check_and_finish-in-Kept.ensures.disk t of (ap Err fault))
-
-pub returns-in_err-number-in-New-clause-disk : goal.returns-in_err-number-in-New-clause-disk
-returns-in_err-number-in-New-clause-disk g c clean t has is =
-    let clean1 : DiskKept g.S.Store c.look_for_loss.new.self.registry =
-    omega (arith, clean, c.lose.ensures.keep.clean) in
-    let fault = fault_is c.from_residual-in_err-number-in-New.result _ _
-    c.from_residual-in_err-number-in-New.ensures.1 is in
-    let loaded = c.in_ok-looked.ensures.loaded clean1 t has in
-    let again = subst (λ (j : Judged). StaysReadable c.in_ok-looked.looked.state
-    c.in_ok-looked.looked.intents.items c.in_ok-looked.looked.bytes.items j) c.in-New.is loaded.2
-    loaded.0.readable in
-    subst (λ (k : g.row.H.Denot). (g.H.Shelf.view k).faults
-    < (g.H.Shelf.view c.lose.new.self.shelf).faults) c.look_for_loss.ensures.shelf
-    (c.in_err-number-in-New.ensures.disk again.1 again.0 (ap Err fault))
-
-pub returns-in_err-number-in-New-clause-unreadable :
-    goal.returns-in_err-number-in-New-clause-unreadable
-returns-in_err-number-in-New-clause-unreadable g c clean is t s ts bytes has of written =
-    let clean1 : DiskKept g.S.Store c.look_for_loss.new.self.registry =
-    omega (arith, clean, c.lose.ensures.keep.clean) in
-    let fault = fault_is c.from_residual-in_err-number-in-New.result _ _
-    c.from_residual-in_err-number-in-New.ensures.1 is in
-    c.in_err-number-in-New.ensures.readable clean (ap Err fault) t
-    (c.in_ok-looked.ensures.loaded clean1 t has).1 of.count
-
-pub returns-in_err-looked-clause-unreadable : goal.returns-in_err-looked-clause-unreadable
-returns-in_err-looked-clause-unreadable g c clean is t s ts bytes has of written =
-    let fault = fault_is c.from_residual.result _ _ c.from_residual.ensures.1 is in
-    c.in_err-looked.ensures.unreadable clean (ap Err fault) t s ts bytes has of written
-
-pub returns-in_err-looked-clause-store : goal.returns-in_err-looked-clause-store
-returns-in_err-looked-clause-store g c clean is t s ts bytes has of low room =
-    c.in_err-looked.ensures.store clean (ap Err (fault_is c.from_residual.result _ _
-    c.from_residual.ensures.1 is)) t has
-
-pub returns-in_err-check_and_finish-in-Kept-clause-store :
-    goal.returns-in_err-check_and_finish-in-Kept-clause-store
-returns-in_err-check_and_finish-in-Kept-clause-store g c clean is t s ts bytes has of low room =
-    let clean1 : DiskKept g.S.Store c.look_for_loss.new.self.registry =
-    omega (arith, clean, c.check_and_finish.ensures.keep.clean) in
-    let then = (c.in_ok-looked.ensures.loaded clean1 t has).1 in
-    failed_later g.S.Store c.args.self.now.registry c.look_for_loss.new.self.registry t
-    (c.look_for_loss.ensures.reads clean1) has then c.check_and_finish.new.self.registry
-    (c.in_err-check_and_finish-in-Kept.ensures.store clean (ap Err (fault_is
-    c.from_residual-in_err-check_and_finish-in-Kept.result _ _
-    c.from_residual-in_err-check_and_finish-in-Kept.ensures.1 is)) t then)
-
-pub returns-in_err-number-in-New-clause-store : goal.returns-in_err-number-in-New-clause-store
-returns-in_err-number-in-New-clause-store g c clean is t s ts bytes has of low room =
-    let clean1 : DiskKept g.S.Store c.look_for_loss.new.self.registry =
-    omega (arith, clean, c.lose.ensures.keep.clean) in
-    let looked = c.in_ok-looked.looked in
-    let loaded = c.in_ok-looked.ensures.loaded clean1 t has in
-    let reads = c.look_for_loss.ensures.reads clean1 in
-    let same = (one_reading same_mirror same_component t looked.state s looked.intents.items ts
-    looked.bytes.items bytes loaded.0 of).1 in
-    let can = subst (λ (j : Judged). CanBeCommitted c.args.key.now looked.intents.items t j)
-    c.in-New.is (c.in_ok-looked.ensures.fits clean1 t has) in
-    let again = subst (λ (j : Judged). StaysReadable looked.state looked.intents.items
-    looked.bytes.items j) c.in-New.is loaded.2 loaded.0.readable in
-    let few : length looked.intents.items + 17 < 2 ^ 32 =
-    subst (λ (is : List Intent). length is + 17 < 2 ^ 32) (sym same) low in
-    failed_later g.S.Store c.args.self.now.registry c.look_for_loss.new.self.registry t reads has
-    loaded.1 c.lose.new.self.registry
-    (c.in_err-number-in-New.ensures.store clean (ap Err (fault_is
-    c.from_residual-in_err-number-in-New.result _ _
-    c.from_residual-in_err-number-in-New.ensures.1 is)) t looked.intents.items loaded.1 can few
-    again.0 again.1
-    (room_later g.S.Store c.args.self.now.registry c.look_for_loss.new.self.registry t reads has
-    loaded.1 most_rows clean1 room))
+    c.args.key.now c.args.provider clean (c.look_for_loss.ensures.looks.reads clean).left
 
 pub returns-in_err-looked-clause-before : goal.returns-in_err-looked-clause-before
-returns-in_err-looked-clause-before g c = record {
-  shelf = λ before. c.look_for_loss.ensures.shelf;
-  registry = λ clean before t has.
-      alone_read g.S.Store c.args.self.now.registry c.look_for_loss.new.self.registry t has
-      (c.look_for_loss.ensures.reads clean);
-}
+returns-in_err-looked-clause-before g c =
+    unlost_read g.S.Store c.args.self.now c.look_for_loss.new.self c.look_for_loss.result
+    c.look_for_loss.ensures.looks _
 
 pub returns-in-Refused-clause-before : goal.returns-in-Refused-clause-before
-returns-in-Refused-clause-before g c = record {
-  shelf = λ before. c.look_for_loss.ensures.shelf;
-  registry = λ clean before t has.
-      alone_read g.S.Store c.args.self.now.registry c.look_for_loss.new.self.registry t has
-      (c.look_for_loss.ensures.reads clean);
-}
+returns-in-Refused-clause-before g c =
+    unlost_read g.S.Store c.args.self.now c.look_for_loss.new.self c.look_for_loss.result
+    c.look_for_loss.ensures.looks _
 
 pub returns-in-Kept-clause-before : goal.returns-in-Kept-clause-before
 returns-in-Kept-clause-before g c = record {
@@ -460,21 +342,21 @@ returns-in_err-check_and_finish-in-Kept-clause-before g c =
     (c.in_err-check_and_finish-in-Kept.ensures.absent it.0 (ap Err it.1)).1) in
     record {
       shelf = λ before. ap (λ (m : Media g.row.S.Denot g.row.H.Denot). m.shelf) (same before)
-          ∙ c.look_for_loss.ensures.shelf;
+          ∙ c.look_for_loss.ensures.looks.shelf;
       registry = λ clean before t has.
           let clean1 : DiskKept g.S.Store c.look_for_loss.new.self.registry =
           omega (arith, clean, c.check_and_finish.ensures.keep.clean) in
           subst (λ (m : Media g.row.S.Denot g.row.H.Denot). LeavesAlone g.S.Store
           c.args.self.now.registry m.registry) (sym (same before))
           (alone_read g.S.Store c.args.self.now.registry c.look_for_loss.new.self.registry t has
-          (c.look_for_loss.ensures.reads clean1));
+          (c.look_for_loss.ensures.looks.reads clean1));
     }
 
 pub returns-in_err-number-in-New-clause-before : goal.returns-in_err-number-in-New-clause-before
 returns-in_err-number-in-New-clause-before g c =
     let passed = c.from_residual-in_err-number-in-New.ensures.1 in
     let given = c.in_err-number-in-New.field-0.0 in
-    let lose = c.in_err-number-in-New.ensures in
+    let lose = c.in_err-number-in-New.ensures.tells in
     let cause : IsUnwritten c.from_residual-in_err-number-in-New.result
     → ((q : List ℕ) × (given ≡ Absent q)) ⊎ (given ≡ Unreadable) =
     λ before. absent_or_unreadable given (λ is. lose.closed (ap Err is))
@@ -482,8 +364,8 @@ returns-in_err-number-in-New-clause-before g c =
     record {
       shelf = λ before. elim (cause before) [
         | inl it ↦ ap (λ (m : Media g.row.S.Denot g.row.H.Denot). m.shelf)
-            (lose.absent it.0 (ap Err it.1)).1 ∙ c.look_for_loss.ensures.shelf
-        | inr is ↦ lose.unread (ap Err is) ∙ c.look_for_loss.ensures.shelf
+            (lose.absent it.0 (ap Err it.1)).1 ∙ c.look_for_loss.ensures.looks.shelf
+        | inr is ↦ lose.unread (ap Err is) ∙ c.look_for_loss.ensures.looks.shelf
       ];
       registry = λ clean before t has.
           let clean1 : DiskKept g.S.Store c.look_for_loss.new.self.registry =
@@ -493,7 +375,118 @@ returns-in_err-number-in-New-clause-before g c =
             | inl it ↦ subst (λ (m : Media g.row.S.Denot g.row.H.Denot). LeavesAlone g.S.Store
                 c.args.self.now.registry m.registry) (sym (lose.absent it.0 (ap Err it.1)).1)
                 (alone_read g.S.Store c.args.self.now.registry c.look_for_loss.new.self.registry t
-                has (c.look_for_loss.ensures.reads clean1))
+                has (c.look_for_loss.ensures.looks.reads clean1))
             | inr is ↦ absurd (lose.readable clean (ap Err is) t loaded.1 loaded.0.count)
           ];
     }
+
+pub returns-in_err-looked-clause-tells : goal.returns-in_err-looked-clause-tells
+returns-in_err-looked-clause-tells g c = record {
+  disk = search rules;
+  unreadable = λ clean is t s ts bytes has of written.
+      let fault = fault_is c.from_residual.result _ _ c.from_residual.ensures.1 is in
+      c.in_err-looked.ensures.unreadable clean (ap Err fault) t s ts bytes has of written;
+  store = λ clean is t s ts bytes has of low room.
+      c.in_err-looked.ensures.store clean (ap Err (fault_is c.from_residual.result _ _
+      c.from_residual.ensures.1 is)) t has;
+  closed = search rules;
+}
+
+pub returns-in_err-check_and_finish-in-Kept-clause-tells :
+    goal.returns-in_err-check_and_finish-in-Kept-clause-tells
+returns-in_err-check_and_finish-in-Kept-clause-tells g c = record {
+  disk = λ clean t has is.
+      let clean1 : DiskKept g.S.Store c.look_for_loss.new.self.registry =
+      omega (arith, clean, c.check_and_finish.ensures.keep.clean) in
+      let fault = fault_is c.from_residual-in_err-check_and_finish-in-Kept.result _ _
+      c.from_residual-in_err-check_and_finish-in-Kept.ensures.1 is in
+      let loaded = c.in_ok-looked.ensures.loaded clean1 t has in
+      let of = subst₂ (λ (ts : List Intent) (b : List (List ℕ)).
+      AreTablesOf t c.in_ok-looked.looked.state ts b) (sym c.deref.ensures.value)
+      (sym c.deref-in-Kept.ensures.value) loaded.0 in
+      subst (λ (k : g.row.H.Denot). (g.H.Shelf.view k).faults
+      < (g.H.Shelf.view c.check_and_finish.new.self.shelf).faults)
+      c.look_for_loss.ensures.looks.shelf
+      (c.in_err-check_and_finish-in-Kept.ensures.disk t of (ap Err fault));
+  unreadable = search rules;
+  store = λ clean is t s ts bytes has of low room.
+      let clean1 : DiskKept g.S.Store c.look_for_loss.new.self.registry =
+      omega (arith, clean, c.check_and_finish.ensures.keep.clean) in
+      let then = (c.in_ok-looked.ensures.loaded clean1 t has).1 in
+      failed_later g.S.Store c.args.self.now.registry c.look_for_loss.new.self.registry t
+      (c.look_for_loss.ensures.looks.reads clean1) has then c.check_and_finish.new.self.registry
+      (c.in_err-check_and_finish-in-Kept.ensures.store clean (ap Err (fault_is
+      c.from_residual-in_err-check_and_finish-in-Kept.result _ _
+      c.from_residual-in_err-check_and_finish-in-Kept.ensures.1 is)) t then);
+  closed = search rules;
+}
+
+pub returns-in_err-number-in-New-clause-tells : goal.returns-in_err-number-in-New-clause-tells
+returns-in_err-number-in-New-clause-tells g c = record {
+  disk = λ clean t has is.
+      let clean1 : DiskKept g.S.Store c.look_for_loss.new.self.registry =
+      omega (arith, clean, c.lose.ensures.keep.clean) in
+      let fault = fault_is c.from_residual-in_err-number-in-New.result _ _
+      c.from_residual-in_err-number-in-New.ensures.1 is in
+      let loaded = c.in_ok-looked.ensures.loaded clean1 t has in
+      let again = subst (λ (j : Judged). StaysReadable c.in_ok-looked.looked.state
+      c.in_ok-looked.looked.intents.items c.in_ok-looked.looked.bytes.items j) c.in-New.is loaded.2
+      loaded.0.readable in
+      subst (λ (k : g.row.H.Denot). (g.H.Shelf.view k).faults
+      < (g.H.Shelf.view c.lose.new.self.shelf).faults) c.look_for_loss.ensures.looks.shelf
+      (c.in_err-number-in-New.ensures.tells.disk again.1 again.0 (ap Err fault));
+  unreadable = λ clean is t s ts bytes has of written.
+      let clean1 : DiskKept g.S.Store c.look_for_loss.new.self.registry =
+      omega (arith, clean, c.lose.ensures.keep.clean) in
+      let fault = fault_is c.from_residual-in_err-number-in-New.result _ _
+      c.from_residual-in_err-number-in-New.ensures.1 is in
+      c.in_err-number-in-New.ensures.tells.readable clean (ap Err fault) t
+      (c.in_ok-looked.ensures.loaded clean1 t has).1 of.count;
+  store = λ clean is t s ts bytes has of low room.
+      let clean1 : DiskKept g.S.Store c.look_for_loss.new.self.registry =
+      omega (arith, clean, c.lose.ensures.keep.clean) in
+      let looked = c.in_ok-looked.looked in
+      let loaded = c.in_ok-looked.ensures.loaded clean1 t has in
+      let reads = c.look_for_loss.ensures.looks.reads clean1 in
+      let same = (one_reading same_mirror same_component t looked.state s looked.intents.items ts
+      looked.bytes.items bytes loaded.0 of).1 in
+      let can = subst (λ (j : Judged). CanBeCommitted c.args.key.now looked.intents.items t j)
+      c.in-New.is (c.in_ok-looked.ensures.fits clean1 t has) in
+      let again = subst (λ (j : Judged). StaysReadable looked.state looked.intents.items
+      looked.bytes.items j) c.in-New.is loaded.2 loaded.0.readable in
+      let few : length looked.intents.items + 17 < 2 ^ 32 =
+      subst (λ (is : List Intent). length is + 17 < 2 ^ 32) (sym same) low in
+      failed_later g.S.Store c.args.self.now.registry c.look_for_loss.new.self.registry t reads has
+      loaded.1 c.lose.new.self.registry
+      (c.in_err-number-in-New.ensures.store clean (ap Err (fault_is
+      c.from_residual-in_err-number-in-New.result _ _
+      c.from_residual-in_err-number-in-New.ensures.1 is)) t looked.intents.items loaded.1 can few
+      again.0 again.1
+      (room_later g.S.Store c.args.self.now.registry c.look_for_loss.new.self.registry t reads has
+      loaded.1 most_rows clean1 room));
+  closed = search rules;
+}
+
+pub returns-in-Refused-clause-tells : goal.returns-in-Refused-clause-tells
+returns-in-Refused-clause-tells g c = record {
+  disk = search rules;
+  unreadable = search rules;
+  store = search rules;
+  closed = search rules;
+}
+
+pub returns-in-Kept-clause-tells : goal.returns-in-Kept-clause-tells
+returns-in-Kept-clause-tells g c = record {
+  disk = search rules;
+  unreadable = search rules;
+  store = search rules;
+  closed = search rules;
+}
+
+pub returns-clause-tells : goal.returns-clause-tells
+returns-clause-tells g c = record {
+  disk = search rules;
+  unreadable = search rules;
+  store = search rules;
+  closed = search rules;
+}
