@@ -1,3 +1,4 @@
+# What is registered by what images tell, and which can't be adopted.
 . "$helpers/records.sh"
 
 # ---- what is registered of images that a mirror is found on, by what they tell

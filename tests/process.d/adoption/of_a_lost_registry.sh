@@ -1,3 +1,4 @@
+# Mirrors that were made here, and are adopted by a registry that knows nothing.
 . "$helpers/bench.sh"
 
 # ---- mirrors that are found on images

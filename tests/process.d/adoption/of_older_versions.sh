@@ -1,3 +1,4 @@
+# Mirrors whose images are of versions 2 and 3.
 . "$helpers/records.sh"
 
 # ---- mirrors that are found on images of versions 2 and 3

@@ -1,3 +1,4 @@
+# Folders and registries in use that are waited for.
 . "$helpers/under_way.sh"
 
 # ---- a folder and a registry in use are waited for

@@ -1,3 +1,4 @@
+# Each command, stopped before each of its writes, and then each image lost.
 . "$helpers/bench.sh"
 . "$helpers/python.sh"
 

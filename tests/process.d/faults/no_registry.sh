@@ -1,3 +1,4 @@
+# Paths without a registry: which commands make one, and what the others say.
 . "$helpers/bench.sh"
 . "$helpers/rights.sh"
 

@@ -1,3 +1,4 @@
+# A registry of the first schema, which is carried over, shown or stopped.
 . "$helpers/rights.sh"
 . "$helpers/python.sh"
 

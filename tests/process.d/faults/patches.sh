@@ -1,3 +1,4 @@
+# Patches stopped at each write and sync, and what each image claims then.
 . "$helpers/bench.sh"
 . "$helpers/python.sh"
 

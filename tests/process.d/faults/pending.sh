@@ -1,3 +1,4 @@
+# What is pending, and what is looked at while nothing is written.
 . "$helpers/rights.sh"
 . "$helpers/python.sh"
 

@@ -1,3 +1,4 @@
+# Records that are those of a state, and records that aren't.
 . "$helpers/records.sh"
 
 # ---- records that are those of a state, and records that break a rule of it

@@ -1,3 +1,4 @@
+# A command that was stopped, which the next opening carries out.
 . "$helpers/rights.sh"
 
 # ---- a command that was stopped

@@ -1,3 +1,4 @@
+# A command that was stopped, of which an image is gone for good: it is given up.
 . "$helpers/records.sh"
 
 # An image that is so long that a batch within the limit below can't write its last sector.

@@ -1,3 +1,4 @@
+# Files that are no registry, are in use, or are among the images.
 . "$helpers/under_way.sh"
 . "$helpers/python.sh"
 

@@ -1,3 +1,4 @@
+# Batches that are killed, or stopped by an image.
 . "$helpers/rights.sh"
 . "$helpers/under_way.sh"
 

@@ -1,3 +1,4 @@
+# Standard streams that are closed, full, gone, or fail.
 . "$helpers/under_way.sh"
 
 # ---- the standard streams

@@ -1,3 +1,4 @@
+# Standard streams of a batch that fail, whose lines before are done.
 . "$helpers/under_way.sh"
 
 # ---- the standard streams of a batch

@@ -1,3 +1,4 @@
+# Images that are moved, replaced or cut under a run.
 . "$helpers/rights.sh"
 . "$helpers/under_way.sh"
 

@@ -1,3 +1,4 @@
+# Requests that are worked out by hand, cut after a byte, each by a server of its own.
 . "$helpers/bench.sh"
 . "$helpers/python.sh"
 

@@ -1,3 +1,4 @@
+# A registry with bytes that are others, without pages, or cut.
 . "$helpers/bench.sh"
 . "$helpers/python.sh"
 

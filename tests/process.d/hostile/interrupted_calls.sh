@@ -1,3 +1,4 @@
+# Calls that signals interrupt, or that take some of the bytes.
 . "$helpers/bench.sh"
 
 # ---- calls that signals interrupt without end

@@ -1,3 +1,4 @@
+# Lines of a batch made at random, held against a model of their words.
 . "$helpers/bench.sh"
 . "$helpers/python.sh"
 

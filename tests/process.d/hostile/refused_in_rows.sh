@@ -1,3 +1,4 @@
+# One call for memory refused in each run of the rows that are worked out by hand, and of each command by itself.
 . "$helpers/bench.sh"
 . "$helpers/python.sh"
 

@@ -1,3 +1,4 @@
+# One call for memory that is refused in each run: of a batch, a request, each look, a recovery.
 . "$helpers/bench.sh"
 . "$helpers/python.sh"
 

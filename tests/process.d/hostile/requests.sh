@@ -1,3 +1,4 @@
+# Requests made at random, held to the first check that they don't pass.
 . "$helpers/serving.sh"
 
 # ---- requests that a generator makes, each held to the first check that it doesn't pass

@@ -1,3 +1,4 @@
+# The rows that are worked out by hand, cut after a byte, or with a read or write that fails.
 . "$helpers/bench.sh"
 . "$helpers/python.sh"
 

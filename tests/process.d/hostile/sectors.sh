@@ -1,3 +1,4 @@
+# Last sectors made at random, held against a second reading of the format.
 . "$helpers/bench.sh"
 . "$helpers/python.sh"
 

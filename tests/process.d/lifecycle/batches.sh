@@ -1,3 +1,4 @@
+# Lines that are carried out, refused or repeated; one at a time, and two batches at once.
 . "$helpers/under_way.sh"
 
 # ---- lines that are carried out

@@ -1,3 +1,4 @@
+# A batch with --stop ends at the first line that is refused.
 . "$helpers/bench.sh"
 
 # ---- a batch with --stop ends at the first line that is refused

@@ -1,3 +1,4 @@
+# Several mirrors, which keep apart.
 . "$helpers/lists.sh"
 . "$helpers/records.sh"
 

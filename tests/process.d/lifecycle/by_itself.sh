@@ -1,3 +1,4 @@
+# Components that are filled by sync: scope, keys, audit, stops, and how far it is.
 . "$helpers/bench.sh"
 
 # ---- components that are filled by `sync`

@@ -1,3 +1,4 @@
+# What is set of a mirror and its components, and what stays.
 . "$helpers/lists.sh"
 . "$helpers/records.sh"
 

@@ -1,3 +1,4 @@
+# Components that are filled, stretch by stretch, and from where.
 . "$helpers/bench.sh"
 
 # ---- a component that is filled

@@ -1,3 +1,4 @@
+# Mirrors that are made, grow and end, with each option.
 . "$helpers/bench.sh"
 
 # ---- what commands are answered, and what they leave

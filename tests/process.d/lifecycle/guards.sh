@@ -1,3 +1,4 @@
+# What `do` looks at before a command: images in its way, and what would be lost.
 . "$helpers/bench.sh"
 . "$helpers/rights.sh"
 

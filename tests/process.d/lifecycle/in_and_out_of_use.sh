@@ -1,3 +1,4 @@
+# Components that go out of use, come back, and are filled anew.
 . "$helpers/lists.sh"
 . "$helpers/records.sh"
 

@@ -1,3 +1,4 @@
+# Components that are lost, away or there, and that are forgotten.
 . "$helpers/lists.sh"
 . "$helpers/records.sh"
 

@@ -1,3 +1,4 @@
+# Data that are changed: which sectors of which components, and what is refused.
 . "$helpers/lists.sh"
 . "$helpers/records.sh"
 . "$helpers/serving.sh"

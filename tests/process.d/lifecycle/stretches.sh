@@ -1,3 +1,4 @@
+# Stretches: how long each is, where it begins, and what is told of it.
 . "$helpers/records.sh"
 
 # ---- stretches: how many sectors each has, where it begins, and what the component says behind it

@@ -1,3 +1,4 @@
+# What is printed as JSON, read by another reader.
 . "$helpers/bench.sh"
 . "$helpers/python.sh"
 

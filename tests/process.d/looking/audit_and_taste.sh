@@ -1,3 +1,4 @@
+# Images that somebody else changed, and what images tell without a registry.
 . "$helpers/rights.sh"
 . "$helpers/under_way.sh"
 

@@ -1,3 +1,4 @@
+# Batches and servers that look at the images before each command.
 . "$helpers/serving.sh"
 . "$helpers/bench.sh"
 

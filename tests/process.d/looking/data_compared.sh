@@ -1,3 +1,4 @@
+# Data of components that differ, or can't be compared.
 . "$helpers/bench.sh"
 
 # ---- data that are compared by `scrub`

@@ -1,3 +1,4 @@
+# Last sectors whose digests were worked out beside the program.
 . "$helpers/bench.sh"
 . "$helpers/python.sh"
 

@@ -1,3 +1,4 @@
+# Whatever is in a folder, and images that may only be read.
 . "$helpers/rights.sh"
 
 # ---- what lies in a folder

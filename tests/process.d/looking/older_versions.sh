@@ -1,3 +1,4 @@
+# Last sectors of versions 2 and 3: their bytes, what a dump says of each field, and each fault.
 . "$helpers/bench.sh"
 
 # ---- last sectors of versions 2 and 3

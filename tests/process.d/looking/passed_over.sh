@@ -1,3 +1,4 @@
+# A taste: what of a folder is no image, and why.
 . "$helpers/bench.sh"
 
 # ---- what of a folder is no image, and why

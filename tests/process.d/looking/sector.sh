@@ -1,3 +1,4 @@
+# The bytes of a sector, what a dump says of each field, and each fault.
 . "$helpers/bench.sh"
 
 # ---- what the last sector of an image says

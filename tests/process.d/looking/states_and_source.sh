@@ -1,3 +1,4 @@
+# A taste: how an image stands beside others, which is the source, which is left out.
 . "$helpers/images.sh"
 
 # ---- how an image stands beside another

@@ -1,3 +1,4 @@
+# What status, list and taste print of several mirrors.
 . "$helpers/bench.sh"
 
 # ---- what status and list print of two mirrors

@@ -1,3 +1,4 @@
+# Mirrors of which an image is away, or has another size.
 . "$helpers/lists.sh"
 . "$helpers/records.sh"
 

@@ -1,3 +1,4 @@
+# How many mirrors and components there may be, and how long an image.
 . "$helpers/lists.sh"
 . "$helpers/records.sh"
 

@@ -1,3 +1,4 @@
+# Commands that are refused: each for the least number that applies.
 . "$helpers/lists.sh"
 
 # ---- refusals, each for the least number that applies

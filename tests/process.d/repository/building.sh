@@ -1,3 +1,4 @@
+# In which order tools/build proves crates, and what a failure, a signal or a full disk leaves.
 . "$helpers/expect.sh"
 . "$helpers/python.sh"
 

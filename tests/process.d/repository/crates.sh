@@ -1,3 +1,4 @@
+# No crate waits for the proof of the bench that can do without it.
 . "$helpers/expect.sh"
 . "$helpers/python.sh"
 

@@ -1,3 +1,4 @@
+# What ./check counts and names at its end.
 . "$helpers/expect.sh"
 
 # The last lines of ./check, by stand-ins for `rt` and for tests/process: what it counts, and what it says was skipped.
@@ -60,6 +61,14 @@ say 'rt: it was killed\n' 137 '# words/lines\nok one\n1 passed, 0 failed\n' 0
 expect_end 'proofs that did not come to their end' 1 '1 passed, 1 failed'
 say '40 passed, 0 failed\n' 0 '# words/lines\n' 1
 expect_end 'tests that did not come to their end' 1 '40 passed, 1 failed'
+
+# ---- each file of tests says in its first line what it shows
+
+"$top/tests/process" --list >"$work/listed" 2>&1
+for file in $(cd "$tests" && find . -name '*.sh' ! -path './helpers/*' | sed 's|^\./||; s|\.sh$||'); do
+    grep -q "^$file  *[A-Z0-9].*\.$" "$work/listed" && pass "tests/process lists $file" ||
+        fail "tests/process lists $file" 'its first line is no sentence'
+done
 
 # ---- what tools/test-needs names is what the tests look for
 

@@ -1,3 +1,4 @@
+# What ./install puts where, what it refuses, what a stop leaves, and what it takes away.
 . "$helpers/rights.sh"
 
 # ---- a repository with the program, and what has to be there for it to be installed

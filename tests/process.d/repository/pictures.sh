@@ -1,3 +1,4 @@
+# Each picture is the one that was drawn of its text, by measured figures.
 . "$helpers/expect.sh"
 . "$helpers/python.sh"
 

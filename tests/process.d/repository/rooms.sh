@@ -1,3 +1,4 @@
+# Each module and each definition of a crate is in docs/ARCHITECTURE.md.
 . "$helpers/expect.sh"
 . "$helpers/python.sh"
 

@@ -1,3 +1,4 @@
+# A registry of 20 MB that is looked at without an opening in little memory.
 . "$helpers/under_way.sh"
 
 # ---- a large registry, looked at without an opening in little memory

@@ -1,3 +1,4 @@
+# Little memory and stack, and few descriptors.
 . "$helpers/bench.sh"
 
 # ---- little to work with

@@ -1,3 +1,4 @@
+# Memory for many lines, and for a long one.
 . "$helpers/bench.sh"
 
 # ---- many lines, and a long one

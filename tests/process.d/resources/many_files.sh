@@ -1,3 +1,4 @@
+# Time in a folder of many files.
 . "$helpers/images.sh"
 
 # ---- a folder of many files

@@ -1,3 +1,4 @@
+# 1,024 images with 64 descriptors.
 . "$helpers/bench.sh"
 . "$helpers/python.sh"
 

@@ -1,3 +1,4 @@
+# A bench that fails at a request: what is told of it, and how the server ends.
 . "$helpers/serving.sh"
 
 # ---- a server whose bench fails tells that once, and ends

@@ -1,3 +1,4 @@
+# A thousand connections make what a batch makes; who else wants the folder or the port.
 . "$helpers/serving.sh"
 
 # ---- what a server makes is what a batch makes; and who else wants its folder, its registry or its port

@@ -1,3 +1,4 @@
+# Connections: how many; clients that are slow, go away or send much; what is logged.
 . "$helpers/serving.sh"
 
 # ---- connections: how many, and who is on the other side

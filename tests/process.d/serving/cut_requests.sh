@@ -1,3 +1,4 @@
+# Requests that are cut after each byte, and reads and writes of a connection that fail.
 . "$helpers/bench.sh"
 . "$helpers/python.sh"
 

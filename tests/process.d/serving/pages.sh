@@ -1,3 +1,4 @@
+# What web pages send is turned away, unless pages are to be answered.
 . "$helpers/serving.sh"
 
 # ---- web pages: what their browsers send is turned away, before anything is asked of the bench

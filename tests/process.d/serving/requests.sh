@@ -1,3 +1,4 @@
+# Each route; heads and bodies that are not as they are to be; requests in two pieces.
 . "$helpers/serving.sh"
 
 # ---- each route, and requests that aren't as they are to be

@@ -1,3 +1,4 @@
+# The words by which a command is kept.
 . "$helpers/records.sh"
 
 # ---- by which words a command is kept: all that it says, in one order

@@ -1,3 +1,4 @@
+# The words that the program is started with, and its help.
 . "$helpers/images.sh"
 
 # ---- the program's own words

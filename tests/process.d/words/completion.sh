@@ -1,3 +1,4 @@
+# What bash, zsh and fish offer of the program's words.
 . "$helpers/help.sh"
 . "$helpers/expect.sh"
 

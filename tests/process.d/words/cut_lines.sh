@@ -1,3 +1,4 @@
+# An input that is cut after each of its bytes.
 . "$helpers/lists.sh"
 
 # ---- an input that is cut behind each of its bytes

@@ -1,3 +1,4 @@
+# Variables that stand for options that are left out.
 . "$helpers/bench.sh"
 
 # ---- what the environment says in the place of options that are left out

@@ -1,3 +1,4 @@
+# Sentences beside refusals and faults.
 . "$helpers/rights.sh"
 . "$helpers/under_way.sh"
 . "$helpers/python.sh"

@@ -1,3 +1,4 @@
+# What is a line, how long it may be, and its key.
 . "$helpers/lists.sh"
 
 # ---- what is a line, and what its pieces are

@@ -1,3 +1,4 @@
+# A manual page with all words of the help and all numbers, whose examples print what it says.
 . "$helpers/bench.sh"
 . "$helpers/help.sh"
 

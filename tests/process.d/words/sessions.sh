@@ -1,3 +1,4 @@
+# What README, docs/USE.md and docs/REFERENCE.md show, typed and compared.
 . "$helpers/expect.sh"
 . "$helpers/python.sh"
 

@@ -1,3 +1,4 @@
+# One command from the words of the shell, and why one is refused.
 . "$helpers/bench.sh"
 
 # ---- one command from the words of the shell

@@ -1,3 +1,4 @@
+# The many ways to spell one label, and what is another command, or none.
 . "$helpers/lists.sh"
 
 # ---- words that are a command, and which are the same one

@@ -1,3 +1,4 @@
+# Other words of the same command, for each command and option; names that begin with a hyphen.
 . "$helpers/lists.sh"
 
 # ---- the words of each command, spelled in other ways

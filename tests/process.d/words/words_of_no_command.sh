@@ -1,3 +1,4 @@
+# For each command, words that it doesn't have.
 . "$helpers/lists.sh"
 
 # ---- words that no command has
