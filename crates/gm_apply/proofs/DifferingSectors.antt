@@ -25,7 +25,7 @@ module _ (a b : ℕ → List ℕ) where
       let less = count_equal k (λ j few. equal j (omega (arith, few))) in
       rw (same_from (a k) (b k) (equal k (omega arith)), less) refl
 
-  -- where one differs they are some
+  -- if one differs, they are some
   pub count_some : (n k : ℕ) → k < n → a k ≢ b k → 0 < count_differing a b n
   count_some zero k few e = omega (arith, few)
   count_some (suc n) k few e =
@@ -37,7 +37,7 @@ module _ (a b : ℕ → List ℕ) where
             rw (differ (a n) (b n) here) (omega arith)
       ]
 
-  -- those behind the first n are counted by themselves
+  -- those after the first n are counted by themselves
   count_behind : (n m : ℕ) → count_differing a b (n + m)
       ≡ count_differing a b n + count_differing (λ k. a (n + k)) (λ k. b (n + k)) m
   count_behind n zero = rw add-zero (sym (add-zero (count_differing a b n)))
@@ -48,7 +48,7 @@ module _ (a b : ℕ → List ℕ) where
       ∙ add_assoc (count_differing a b n)
       (count_differing (λ k. a (n + k)) (λ k. b (n + k)) m) one)
 
-  -- how the first n differ, and the m behind them
+  -- how the first n differ, and the m after them
   module _ (n m : ℕ) (d e f : Difference) (front : IsDifference a b n d) (few : IsWithin n d)
       (run : IsDifference (λ k. a (n + k)) (λ k. b (n + k)) m e)
       (sectors : f.sectors ≡ d.sectors + e.sectors) (before : d.first < n → f.first ≡ d.first)

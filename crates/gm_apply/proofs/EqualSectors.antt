@@ -22,7 +22,7 @@ module _ (x : Image) (p q : Label) where
       (λ k. bytes_eq-Decides (x p k) (x q k))
       refl (λ k. and_comm (agree x p q k) (bytes_eq (x p k) (x q k))) n
 
-  -- where the first n are equal and the next one differs, n is their count
+  -- if the first n are equal and the next one differs, n is their count
   pub counted : (reach n : ℕ) → AreEqualBelow x p q n → (n < reach → x p n ≢ x q n)
       → CountsEqual x p q reach n
   counted reach n equal differs k within =
@@ -38,7 +38,7 @@ module _ (x : Image) (p q : Label) where
             ↦ absurd (differs (omega (arith, high.1, within)) (below n high.1))
       ]
 
-  -- a part of a run behind them
+  -- a part of a run after them
   module _ (n sectors m : ℕ) (equal : AreEqualBelow x p q n)
       (part : IsEqualPart x p q n sectors m) where
     pub equal_part : AreEqualBelow x p q (n + m)

@@ -58,7 +58,7 @@ module _ (p : List ℕ) (a b n : ℕ) (bytes : List (List ℕ)) (few : n ≤ len
           ≡ patches (Patch p a b) q j
       inside q j = rw (long, whole, swapped q p) refl
 
--- where all sectors of the range say theirs, there are bytes for all
+-- if all sectors of the range say theirs, there are bytes for all
 module _ (p : List ℕ) (a b : ℕ) (bytes : List (List ℕ)) (w : Image)
     (says : (q : List ℕ) (j : ℕ) → patches (Patch p a b) q j ≡ true
     → slice_get bytes (j - a) ≡ Some (w q j)) where

@@ -1,4 +1,4 @@
--- What an intent of the list says and lays, behind those that are done before it.
+-- What an intent of the list says and lays, after those that are done before it.
 use Rattle.std.proofs.Common.{◌≡◌, ◌∙◌, inl, inr, ℕ, ◌≤◌, ◌<◌, ◌+◌, ◌&&◌, List, [], ◌∷◌, ◌++◌, Bool, true, false, refl, sym, ap, subst, arith, nat_le, nat_lt, length, take, drop, get_or, take-append-drop}
 use Rattle.std.specs.Prelude.{IsSome}
 use Rattle.std.proofs.lemmas.Bool.{cases_Bool}
@@ -33,7 +33,7 @@ copy_range s t a b q j e =
     within : (nat_le a j && nat_lt j b) ≡ true → (a ≤ j) × (j < b)
     within h = (grind (arith, nat_tests), grind (arith, nat_tests))
 
--- the dirt where a Dirty names the sector, which says the metadata in the end
+-- the dirt if a Dirty names the sector, which says the metadata in the end
 abbrev dirt_at : (s : Records) (p x : List ℕ) (named : Bool) → (named ≡ true → IsMeta s p x)
     → List ℕ
 dirt_at s p x true says = encoded (dirty_metadata (says refl).0 (says refl).1)
@@ -112,7 +112,7 @@ module _ (s : Records) (bytes : List (List ℕ)) (size : Sizes) (w : Image) wher
             is_dirt s p (w q j) (names size (Dirty p) q j) (says q j) e
         on_the_way (Patch p a b) says lends e = says q j e
 
--- an item of the list, between those before it and those behind it
+-- an item of the list, between those before it and those after it
 pub split_at : (ts : List Intent) (k : ℕ) (t : Intent) → t ≡ get_or ts k t → k < length ts
     → ts ≡ take k ts ++ t ∷ drop (k + 1) ts
 split_at ts k t is within =
@@ -169,7 +169,7 @@ module _ (s : Records) (bytes : List (List ℕ)) (size sizes : Sizes) (same : si
       (λ x. From old.may_leave (λ d. IsPartlyDone s sizes l w d x))) split moments)
       (subst (λ (z : Sizes). Moments (names z t) index_aim mid new) same step))
 
--- ---- before the first of them, and behind the last
+-- ---- before the first of them, and after the last
 
 pub reaches_none : (s : Records) (size : Sizes) (w : Image) (v : View) → Reaches s size [] w v v
 reaches_none s size w v = record {
@@ -177,7 +177,7 @@ reaches_none s size w v = record {
   left = λ x left. (x, left, λ q j. refl);
 }
 
--- where all is done no dirt is left
+-- when all is done, no dirt is left
 pub places_new : (s : Records) (size : Sizes) (ts : List Intent) (w : Image) (old new : View)
     → LeaveNoDirt ts → Reaches s size ts w old new → PlacesAreNew (is_place size ts) w old new
 places_new s size ts w old new clean reaches = record {

@@ -46,7 +46,7 @@ pub latest_more : (size : Sizes) (done : List Intent) (t : Intent) (q : List ℕ
 latest_more size [] t q j which = refl
 latest_more size (r ∷ done) t q j which = latest_more size done t q j (left_by size r q j which)
 
--- where none names it, it is as it was
+-- if none names it, it is as it was
 pub latest_off : (size : Sizes) (done : List Intent) (q : List ℕ) (j : ℕ) (which : Which)
     → is_place size done q j ≡ false → latest size done q j which ≡ which
 latest_off size [] q j which off = refl
@@ -54,7 +54,7 @@ latest_off size (t ∷ done) q j which off =
     let parts = or_parts (names size t q j) (is_place size done q j) off in
     rw parts.0 (latest_off size done q j which parts.1)
 
--- one of the others names it, where the first doesn't
+-- one of the others names it, if the first doesn't
 rest_named : (size : Sizes) (t : Intent) (done : List Intent) (q : List ℕ) (j : ℕ) {A : Type 0}
     → names size t q j ≡ false → A ⊎ (is_place size (t ∷ done) q j ≡ true)
     → A ⊎ (is_place size done q j ≡ true)
@@ -63,7 +63,7 @@ rest_named size t done q j off h =
     ⊎_elim (λ (x : names size t q j ≡ true). not_both (names size t q j) x off) inr
     (or_true (names size t q j) (is_place size done q j) p)) h
 
--- where one names it, it isn't
+-- if one names it, it isn't
 not_old : (size : Sizes) (done : List Intent) (q : List ℕ) (j : ℕ) (which : Which)
     → (which ≡ Old → ⊥) ⊎ (is_place size done q j ≡ true) → latest size done q j which ≡ Old → ⊥
 not_old size [] q j which h e =
@@ -102,7 +102,7 @@ latest_new size (t ∷ done) q j which off h =
 abbrev pub any_claims : Sizes → List Intent → List ℕ → ℕ → Bool
 any_claims size ts q j = list_any (λ t. claims size t q j) ts
 
--- where it is new, one claimed
+-- if it is new, one claimed
 pub new_claimed : (size : Sizes) (done : List Intent) (q : List ℕ) (j : ℕ) (which : Which)
     → latest size done q j which ≡ New → (which ≡ New) ⊎ (any_claims size done q j ≡ true)
 new_claimed size [] q j which e = inl e
@@ -125,7 +125,7 @@ new_claimed size (t ∷ done) q j which e =
         → A ⊎ (any_claims size (t ∷ done) q j ≡ true)
     later x = inr (or_right (claims size t q j) (any_claims size done q j) x)
 
--- where it is dirt, a Dirty named it
+-- if it is dirt, a Dirty named it
 pub dirt_marked : (size : Sizes) (done : List Intent) (q : List ℕ) (j : ℕ) (which : Which)
     → latest size done q j which ≡ Dirt → (which ≡ Dirt)
     ⊎ ((list_any (is_dirty_of q) done ≡ true) × (is_last (size q) j ≡ true))

@@ -95,7 +95,7 @@ module _ (s t : List ℕ) (a n : ℕ) (old mid new : View) (run : List (List ℕ
       (nat_le a j && nat_lt j (a + length run)) then sector_of run (j - a) else x) (same q j)
       ∙ run_laid s t a n old.seen run long read q j
 
--- a run was copied, behind what had been copied before it
+-- a run was copied, after what had been copied before it
 module _ (s t : List ℕ) (a b i n : ℕ) (low : a ≤ i) (old mid : View)
     (so_far : Same mid.seen (with_places (copies (Copy s t a i))
     (λ q j. old.seen s j) old.seen)) where

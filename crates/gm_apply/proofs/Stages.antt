@@ -51,7 +51,7 @@ fills_not_last size earlier (r ∷ rs) order t (inl s) q j e =
 fills_not_last size earlier (r ∷ rs) order t (inr h) q j e =
     fills_not_last size (earlier ++ r ∷ []) rs order.3 t h q j e
 
--- a Patch that is done stands behind a Dirty that is done
+-- a Patch that is done comes after a Dirty that is done
 dirty_done : (size : Sizes) (earlier done rest : List Intent)
     → InOrderFrom size earlier (done ++ rest) → (t : Intent) → Has done t → (q : List ℕ) (j : ℕ)
     → patches t q j ≡ true → list_any (is_dirty_of q) (earlier ++ done) ≡ true
@@ -180,7 +180,7 @@ module _ (s : Records) (size : Sizes) (done : List Intent) (t : Intent) (rest : 
         not_both (any_fills (t ∷ rest) p j) (fills_from (t ∷ rest) by.0 p j h by.2) (none j))
         (Has-append done (t ∷ rest) by.0 by.1)
 
-    -- where no Patch has begun, what is below the last sector is the old one, or copied
+    -- if no Patch has begun, what is below the last sector is the old one, or copied
     module _ (unpatched : (r : Intent) → Has begun r → (j : ℕ) → patches r p j ≡ true → ⊥) where
       copied : (r : Intent) → Has begun r → (j : ℕ) → is_last (size p) j ≡ false
           → names size r p j ≡ true → any_copies all p j ≡ true
@@ -210,7 +210,7 @@ module _ (s : Records) (size : Sizes) (done : List Intent) (t : Intent) (rest : 
           ))
           (step p j)
 
-    -- a Patch that has begun stands behind a Dirty that is done
+    -- a Patch that has begun comes after a Dirty that is done
     patched_behind : (r : Intent) → Has begun r → (j : ℕ) → patches r p j ≡ true
         → list_any (is_dirty_of p) done ≡ true
     patched_behind r h j e =
@@ -222,7 +222,7 @@ module _ (s : Records) (size : Sizes) (done : List Intent) (t : Intent) (rest : 
       only_last : (P : ℕ → Type 0) → P l → (j : ℕ) → is_last (size p) j ≡ true → P j
       only_last P h j e = subst P (sym (last_only (size p) j l e last)) h
 
-      -- where the last sector is the old one, no Patch has begun
+      -- if the last sector is the old one, no Patch has begun
       no_patch : latest size done p l Old ≡ Old → (r : Intent) → Has begun r → (j : ℕ)
           → patches r p j ≡ true → ⊥
       no_patch old r h j e =

@@ -87,7 +87,7 @@ module _ (p : Label) (first : ℕ) (run : List (List ℕ)) where
         (nat_le first j && nat_lt j (first + n)))
     more j = grind (arith, nat_tests)
 
-    -- behind the sectors that are laid over the image already
+    -- after the sectors that are laid over the image already
     pub put_part : (old mid new : Image) → Same mid (put_upto p first run n old)
         → Same new (put_run p (first + n) part mid)
         → Same new (put_upto p first run (n + length part) old)

@@ -15,7 +15,7 @@ module _ (a b : ℕ → List ℕ) where
   count_differing zero = 0
   count_differing (suc k) = count_differing k + (if bytes_eq (a k) (b k) then 0 else 1)
 
-  -- of the first n sectors so many differ, and that one is the first; where none differs, n stands
+  -- of the first n sectors so many differ, and that one is the first; if none differs, n stands
   -- in its place
   pub record IsDifference (n : ℕ) (d : Difference) : Type 0 where
     pub sectors : d.sectors ≡ count_differing n

@@ -3,7 +3,7 @@ use Rattle.std.specs.Prelude.{◌≡◌, ◌≢◌, ◌<◌, ◌≤◌, ◌+◌,
 use Rattle.gm_metadata.specs.declared.label.Label.{Label}
 use Rattle.gm_metadata.specs.Images.{Image, Sizes, agree}
 
--- how many sectors a provider has: none where it isn't there
+-- how many sectors a provider has: none if it isn't there
 abbrev pub count_of : Sizes → Label → ℕ
 count_of size p = unwrap_or (size p) 0
 
@@ -19,7 +19,7 @@ CountsEqual x p q reach n = (k : ℕ) → k ≤ reach → nat_le k n ≡ agree x
 abbrev pub EndsBefore : Sizes → Label → Label → ℕ → Type 0
 EndsBefore size p q place = (count_of size p < place) ⊎ (count_of size q < place)
 
--- of a run of so many sectors the first n are equal, and the next one differs where the run has it
+-- of a run of so many sectors the first n are equal, and the next one differs if the run has it
 pub record IsEqualPart (x : Image) (p q : Label) (first sectors n : ℕ) : Type 0 where
   pub equal : (k : ℕ) → k < n → x p (first + k) ≡ x q (first + k)
   pub differs : n < sectors → x p (first + n) ≢ x q (first + n)

@@ -67,7 +67,7 @@ pub data Stage (s : Records) (size : Sizes) (ts : List Intent) (w d x : Image) (
   Behind : IsNew size ts w x p → Stage s size ts w d x p
 
 -- what intents that were stopped on the way leave of d, where the records are s: some places are
--- written, and data come before claims and behind dirt
+-- written, and data come before claims and after dirt
 pub record IsPartlyDone (s : Records) (size : Sizes) (ts : List Intent) (w d x : Image)
     : Type 0 where
   pub mix : SomePlacesWritten s size ts w d x

@@ -14,7 +14,7 @@ use gm_shelf::{Shelf, ShelfFault};
 /// How many sectors a run has, but for the last one, which may have fewer.
 pub(crate) const RUN: usize = 128;
 
-// Writes a stretch of sectors, where there are any.
+// Writes a stretch of sectors, if there are any.
 pub(crate) fn write_stretch<H: Shelf>(
     shelf: &mut H,
     target: Label,

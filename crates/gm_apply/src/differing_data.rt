@@ -22,7 +22,7 @@ pub trait Watch {
 pub struct Difference {
     /// How many of those sectors differ.
     pub sectors: u64,
-    /// The first that does; where none does, how many were compared.
+    /// The first that does; if none does, how many were compared.
     pub first: u64,
 }
 
@@ -88,7 +88,7 @@ fn compare_run<H: Shelf>(
 }
 
 impl Difference {
-    // How two providers differ, of which so many first sectors do so, and the run behind those as
+    // How two providers differ, of which so many first sectors do so, and the run after those as
     // the other says.
     fn then(self, place: u64, run: Difference) -> Difference
         requires sectors { self.sectors + run.sectors < 2 ^ 64 }

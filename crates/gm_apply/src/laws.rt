@@ -34,7 +34,7 @@ pub fn true_claims_stay_true()
 {}
 
 /// Intents that are readable for a state put data before claims and dirt before patches, leave no
-/// dirt in the end, and no copy lends what another intent writes, where the components that they
+/// dirt in the end, and no copy lends what another intent writes, if the components that they
 /// read or write are there with their registered sizes. What they copy to a component is its
 /// mirror's data.
 pub fn readable_intents_are_safe()
@@ -50,7 +50,7 @@ pub fn readable_intents_are_safe()
         → AllSay w.state bytes size ts w.shelf → CopiesData w w ts }
 {}
 
-/// Where two readable intents name one sector, they say the same of it: so it doesn't matter which
+/// If two readable intents name one sector, they say the same of it: so it doesn't matter which
 /// comes last.
 pub fn one_sector_one_value()
     ensures { (s : Records) (bytes : List (List ℕ)) (size : Sizes) (ts : List Intent)
@@ -60,7 +60,7 @@ pub fn one_sector_one_value()
         → (w : Image) (x : List ℕ) → Says s bytes w t j x → Says s bytes w r j x }
 {}
 
-/// Readable intents lead somewhere from every image, where the components that they read or write
+/// Readable intents lead somewhere from every image, if the components that they read or write
 /// are there.
 pub fn readable_intents_lead_somewhere()
     ensures { (s : Records) (bytes : List (List ℕ)) (size : Sizes) (ts : List Intent) (x : Image)

@@ -15,7 +15,7 @@ use gm_metadata::{Label, Metadata};
 use gm_shelf::{Shelf, ShelfFault, write_last, write_meta};
 use gm_state::{Intent, State, dirty_metadata_of, metadata_of};
 
-// Writes the metadata that were found for the provider into its last sector, and nothing where none
+// Writes the metadata that were found for the provider into its last sector, and nothing if none
 // were found.
 fn write_found<H: Shelf>(
     shelf: &mut H,
@@ -97,7 +97,7 @@ fn apply_one<H: Shelf>(
 /// no memory of its own; a shelf may answer want of it.
 ///
 /// It is meant for intents that are readable for the state, with the bytes that a `Patch` lays, and
-/// none where there is no `Patch`. A `Meta` and a `Dirty` of a provider that is no component write
+/// none if there is no `Patch`. A `Meta` and a `Dirty` of a provider that is no component write
 /// nothing, and a `Patch` no more than there are bytes.
 pub fn apply<H: Shelf>(
     shelf: &mut H,

@@ -90,7 +90,7 @@ module _ (s : Records) (c : Command) (x y : Seen) where
   small size None = refl
   small size (Some m) = by_size (λ o. is_there_and o (λ n. nat_lt n (m.data_sectors + 1))) size
 
-  -- a refusal applies alike where what it asks is seen alike
+  -- a refusal applies alike if what it asks is seen alike
   pub same_applies : (r : Refusal) → AskAlike s c x y r → applies s x c r ≡ applies s y c r
   same_applies NoMirror a = refl
   same_applies NameTaken a = refl
@@ -192,7 +192,7 @@ module _ (facts : List Fact) (u : World) (c : Command) (are : AreFacts facts u c
     last = λ asks p h. are.last p (seen p h);
   })
 
--- facts that tell which sectors are equal tell it where the command is good
+-- facts that tell which sectors are equal tell it if the command is good
 equal_by : (facts : List Fact) (u : World) (c : Command)
     → SeeAlike (seen_in facts) (seen_of u) (looked_at c) → TellEqual facts u c
     → IsGood u.state (seen_of u) c → AdoptAlike (seen_in facts) (seen_of u) c

@@ -65,7 +65,7 @@ module _ (s : Records) (n p : List ℕ) (state : IsState s) (m : Mirror) (k : Co
       let c : k.sectors ≤ 1048576 = r.limits k mine in
       omega arith
 
-  -- an ACTIVE component of the mirror, where that is another one
+  -- an ACTIVE component of the mirror, if that is another one
   pub lender : k.disk ≢ InSync → (r : Option (List ℕ)) → IsSource s p r
       → (j : Component) × (r ≡ Some j.provider) × Has (members s.components n) j × (j.disk ≡ InSync)
       × (j.provider ≢ p)

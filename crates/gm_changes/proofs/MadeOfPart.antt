@@ -251,7 +251,7 @@ found_on part s count x c to is =
     find_agree _ _ (λ r. subst (λ (t : Records). applies_to_part t count x c r ≡ applies s x c r)
     (sym to.of.is) (same_applies s c to.of.mids to.of.state count is x found r)) (own c)
 
--- where nothing is found on the part
+-- if nothing is found on the part
 pub none_on : (part : Records) (count : ℕ) (x : Seen) (c : Command)
     → find (applies_to_part part count x c) (own c) ≡ None → IsGoodButCount part x c
 none_on part count x c e r h other =
@@ -268,7 +268,7 @@ only_count : (r : Refusal) → asks_count r ≡ true → r ≡ refusals.TooManyM
 only_count refusals.TooManyMirrors e = refl
 only_count _ e = cc
 
--- where there are no fewer mirrors in all, and no more than there may be, nothing applies to the
+-- if there are no fewer mirrors in all, and no more than there may be, nothing applies to the
 -- part by itself
 pub good_alone : (part : Records) (count : ℕ) (x : Seen) (c : Command)
     → find (applies_to_part part count x c) (own c) ≡ None → length part.mirrors ≤ count

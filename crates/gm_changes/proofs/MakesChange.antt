@@ -318,7 +318,7 @@ no_component s n state none k h =
     sym (ap (λ (a : List ℕ). same_label a n) home.2) ∙ found_none
     (λ (m : Mirror). same_label m.name n) s.mirrors none home.0 home.1
 
--- a component has the provider of a member of the mirror just where it is one
+-- a component has the provider of a member of the mirror exactly when it is one
 is_member : (s : Records) (n : List ℕ) → IsState s → (k : Component) → Has s.components k
     → list_any (λ p. same_label k.provider p) (map provider (members s.components n))
     ≡ same_label k.mirror n

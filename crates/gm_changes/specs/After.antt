@@ -81,7 +81,7 @@ deactivated syncid p k =
 abbrev pub activated : Mirror → Component → Component
 activated m k = record k { disk = Copying false 0; syncid = m.syncid }
 
--- a component that is to be filled anew, also where the mirror doesn't fill its components by
+-- a component that is to be filled anew, even if the mirror doesn't fill its components by
 -- itself
 abbrev pub rebuilt : Component → Component
 rebuilt k = record k { disk = Copying true 0 }
@@ -100,7 +100,7 @@ configured_mirror settings m = record m {
   flags = configured_flags settings m.flags;
 }
 
--- the priority of a component: what is given, where that is for its provider
+-- the priority of a component: what is given, if that is for its provider
 abbrev pub priority_by : Option Preference → Component → ℕ
 priority_by None k = k.priority
 priority_by (Some preference) k =
@@ -119,7 +119,7 @@ abbrev pub reach : Mirror → Component → ℕ
 reach m k = if nat_lt (held_of k.disk + 256) m.data_sectors then held_of k.disk
     + 256 else m.data_sectors
 
--- a component that is filled, and holds so many of them by now: in sync where it holds all
+-- a component that is filled, and holds so many of them by now: in sync if it holds all
 abbrev pub holding : Mirror → ℕ → Disk → Disk
 holding m held InSync = InSync
 holding m held Inactive = Inactive

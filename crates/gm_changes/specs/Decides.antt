@@ -61,7 +61,7 @@ changed_by ch s = record {
       put_all provider ch.components (without_all provider ch.gone_components s.components);
 }
 
--- Where a mirror goes nothing is put; components are put of one mirror, each once, and one that is
+-- If a mirror goes, nothing is put; components are put of one mirror, each once, and one that is
 -- put in place of another has the mirror and the number of that one.
 pub record PutsInPlace (s : Records) (ch : Changed) : Type 0 where
   pub alone : IfSome ch.gone_mirror (λ n. (ch.mirror ≡ None) × (ch.components ≡ []))

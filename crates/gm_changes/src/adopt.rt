@@ -96,7 +96,7 @@ fn adopted_syncid(source: &Member, member: &Member) -> u32
     }
 }
 
-// How many sectors the provider has, none where it isn't there.
+// How many sectors the provider has, none if it isn't there.
 fn sectors_of(facts: &Facts, provider: Label) -> u32
     requires { ForSome (size_in facts.now provider) (λ n. n < 2 ^ 32) }
     ensures { result ≡ unwrap_or (size_in facts.now provider) 0 }
@@ -151,7 +151,7 @@ fn components_of(
     Ok(components)
 }
 
-// The change where the data are taken from this member.
+// The change if the data are taken from this member.
 fn adopted(
     alloc: Global,
     facts: &Facts,

@@ -13,7 +13,7 @@ use gm_metadata::Label;
 use gm_state::{Component, Mirror, State, put};
 use std::alloc::{AllocError, Global};
 
-/// The state with the change made; `None` where the records would break a rule.
+/// The state with the change made; `None` if the records would break a rule.
 pub fn changed_by(
     alloc: Global,
     state: &State,

@@ -45,7 +45,7 @@ pub fn decide(
     // In each world that the state and the facts are of.
     ensures world { IfOk result (λ r. (u : World) → u.state ≡ state.now
         → AreFacts facts.now u command.now → Decides u.state (seen_of u) command.now r) }
-    // Where memory is wanting, no refusal applies.
+    // If memory is wanting, no refusal applies.
     ensures memory { OnErr result (IsGood state.now (seen_in facts.now) command.now) }
 {
     let count = state.mirrors().len() as u64;
@@ -77,7 +77,7 @@ pub fn decide_part(
     ensures alone { IfOk result (λ r. IfOk r (λ ch. IsState part.now
         → length part.now.mirrors ≤ count → count ≤ 64
         → Makes part.now (seen_in facts.now) command.now ch)) }
-    // Where memory is wanting, no refusal applies.
+    // If memory is wanting, no refusal applies.
     ensures memory { OnErr result ((s : Records)
         → IsPartToDecide part.now (seen_in facts.now) command.now s
         → count ≡ length s.mirrors → IsGood s (seen_in facts.now) command.now) }

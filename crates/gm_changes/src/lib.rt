@@ -1,4 +1,4 @@
-//! What a command makes of the records where nothing refuses it: the records to put and to drop,
+//! What a command makes of the records if nothing refuses it: the records to put and to drop,
 //! what is to be written, and the reply.
 //!
 //! Begin with `change.rt`, the answer, and `specs/After.antt`, what each command makes of the

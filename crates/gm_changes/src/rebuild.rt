@@ -14,7 +14,7 @@ use gm_refusals::Facts;
 use gm_state::{Component, Disk, State};
 use std::alloc::{AllocError, Global};
 
-// A component that is to be copied to, also where the mirror doesn't fill its components by itself.
+// A component that is to be copied to, even if the mirror doesn't fill its components by itself.
 const FORCED: Disk = Disk::Copying {
     forced: true,
     held: 0,

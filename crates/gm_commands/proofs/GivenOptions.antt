@@ -15,7 +15,7 @@ use Rattle.gm_commands.specs.Commands.{SliceFits, PreferenceFits, balance_of_wor
 use Rattle.gm_commands.proofs.OneParting.{spaceless, all_spaceless, label_spaceless}
 use Rattle.gm_commands.proofs.OneWord.{same_balance, same_switch, same_number, balance_spaceless, switch_spaceless, number_spaceless}
 
--- an option, and its value where it was given
+-- an option, and its value if it was given
 record Choice : Type 0 where
   option : List ℕ
   value : Option (List ℕ)
@@ -27,7 +27,7 @@ given o (Some v) = o ∷ v ∷ []
 all_given : List Choice → List (List ℕ)
 all_given os = flat_map (λ o. given o.option o.value) os
 
--- the value behind an option, among words that stand in pairs
+-- the value after an option, among words that stand in pairs
 back : List ℕ → List (List ℕ) → Option (List ℕ)
 back o [] = None
 back o (a ∷ []) = None

@@ -33,7 +33,7 @@ joined_bytes (s ∷ ss) e =
     let a = and_parts (is_sector s) (list_all is_sector ss) e in
     bytes_both s (joined ss) (and_parts (length s == 512) (is_bytes s) a.0).1 (joined_bytes ss a.1)
 
--- a list is told from one behind it by its length
+-- a list is told apart from one after it by its length
 same_parts : (a b s t : List ℕ) → length a ≡ length b → a ++ s ≡ b ++ t → (a ≡ b) × (s ≡ t)
 same_parts [] [] s t n e = (refl, e)
 same_parts [] (y ∷ b) s t n e = absurd (omega (arith, n))

@@ -77,7 +77,7 @@ pub row_line : (word n : List ℕ) (ps : List (List ℕ)) → 0 < length ps
 row_line word n [] some = absurd (omega arith)
 row_line word n (p ∷ ps) some = sym (join_spaced word (n ∷ p ∷ ps))
 
--- a text that is known where it is there
+-- a text that is known if it is there
 pub ok_is : {T E : Type 0} (r : Result T E) (f : T → List ℕ) (x y : List ℕ) → x ≡ y
     → IfOk r (λ t. f t ≡ x) → IfOk r (λ t. f t ≡ y)
 ok_is (Ok t) f x y e h = h ∙ e

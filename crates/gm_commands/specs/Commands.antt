@@ -68,7 +68,7 @@ switch_words autosync failsync hardcode =
     codes "--autosync" ∷ autosync ∷ codes "--failsync" ∷ failsync ∷ codes "--hardcode" ∷ hardcode
     ∷ []
 
--- the options of configure, each where it was given
+-- the options of configure, each if it was given
 abbrev pub balance_words : Option BalanceWord → List (List ℕ)
 balance_words None = []
 balance_words (Some balance) = codes "--balance" ∷ balance_name (balance_of_word balance) ∷ []

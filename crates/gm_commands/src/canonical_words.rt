@@ -84,7 +84,7 @@ fn insert_words(alloc: Global, new: &NewComponent) -> Result<String, AllocError>
     )
 }
 
-// An option and its value, each behind a space.
+// An option and its value, each after a space.
 fn pair(alloc: Global, option: &str, value: &str) -> Result<String, AllocError>
     ensures { IfOk result (λ text. string_bytes text ≡ spaced (option.now ∷ value.now ∷ [])) }
 {

@@ -50,7 +50,7 @@ impl Model for Slice {
 }
 
 impl Slice {
-    /// The slice of so many bytes; `None` where they are none.
+    /// The slice of so many bytes; `None` if they are none.
     pub fn new(bytes: u32) -> Option<Slice>
         ensures { result ≡ (if bytes == 0 then None else Some bytes) }
     {
@@ -139,7 +139,7 @@ pub enum Command {
     Forget {
         name: Label,
     },
-    /// A component is to be filled anew, also where the mirror doesn't fill its components by
+    /// A component is to be filled anew, even if the mirror doesn't fill its components by
     /// itself.
     Rebuild {
         name: Label,

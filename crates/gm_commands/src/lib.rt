@@ -4,7 +4,7 @@
 //! Begin with `command.rt`, what a command can say; `providers.rt` has the lists of providers that
 //! it names, and `sectors.rt` the bytes that it lays over data. `call_key.rt` says what a key is,
 //! `canonical_words.rt` and `specs/Commands.antt` which words a command has, and `laws.rt` that two
-//! commands have equal words only where they are one.
+//! commands have equal words only if they are one.
 #![tactic(auto)]
 
 mod call_key;

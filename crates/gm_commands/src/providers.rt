@@ -40,7 +40,7 @@ impl Eq for Providers {
 }
 
 impl Providers {
-    /// These providers; `None` where there are none.
+    /// These providers; `None` if there are none.
     pub fn new(named: Vec<Label>) -> Option<Providers>
         ensures { result ≡ (if length named.items == 0 then None else Some named.items) }
     {

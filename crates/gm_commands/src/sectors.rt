@@ -42,7 +42,7 @@ impl Eq for Sectors {
 }
 
 impl Sectors {
-    /// These sectors; `None` where there are none, or more than 64.
+    /// These sectors; `None` if there are none, or more than 64.
     pub fn new(sectors: Vec<[u8; 512]>) -> Option<Sectors>
         ensures { result ≡ (if nat_lt 0 (length sectors.items) && nat_le (length sectors.items) 64
             then Some sectors.items else None) }

@@ -100,7 +100,7 @@ module _ {X Y : Type 0} (f : X → Option Y) where
   filter_map-Has (z ∷ zs) x y (inr h) e =
       cons-Has (f z) (filter_map f zs) y (filter_map-Has zs x y h e)
 
-  -- where what is made keeps its name, it keeps its order
+  -- if what is made keeps its name, it keeps its order
   pub AscendsBy-filter_map : (key : X → List ℕ) (name : Y → List ℕ)
       → ((x : X) (y : Y) → f x ≡ Some y → key x ≡ name y) → (xs : List X)
       → AscendsBy (λ a b. label_lt (key a) (key b)) xs

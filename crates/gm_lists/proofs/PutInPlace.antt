@@ -15,7 +15,7 @@ module _ {X : Type 0} (key : X → List ℕ) where
   left_differs n ys z h =
       not-true (bytes_eq (key z) n) (Has-filter (λ (y : X). not (bytes_eq (key y) n)) ys z h).1
 
-  -- what is behind x has another name
+  -- what is after x has another name
   behind : (x : X) (ys : List X) → ((z : X) → Has ys z → label_lt (key x) (key z) ≡ true)
       → without key (key x) ys ≡ ys
   behind x ys h = filter_id (λ (y : X). not (bytes_eq (key y) (key x))) ys

@@ -13,7 +13,7 @@ module _ {X : Type 0} (key : X → List ℕ) where
       ⊎_elim (λ (e : x ≡ z). inl (inl e)) (λ (j : Has ys z). inr j) (put_or key x ys z i))
       (put_all_or xs (put key x ys) z h)
 
-  -- what is there stays, where what has its name is the same
+  -- what is there stays, if what has its name is the same
   pub put_all_stays : (xs ys : List X) (z : X) → ((x : X) → Has xs x → key x ≡ key z → x ≡ z)
       → Has ys z → Has (put_all key xs ys) z
   put_all_stays [] ys z same h = h
@@ -67,7 +67,7 @@ module _ {X : Type 0} (key : X → List ℕ) where
       (λ (k : Has ys z). h y z (inr i) k e) (put_or key x ys z j))
       ∙ filter-put_out key p x ys (t x (inl refl)) (λ z j e. h x z (inl refl) j e)
 
-  -- the first stays in front of what stands behind it
+  -- the first stays in front of what comes after it
   behind : (xs : List X) (y : X) (ys : List X)
       → ((x : X) → Has xs x → label_lt (key y) (key x) ≡ true)
       → put_all key xs (y ∷ ys) ≡ y ∷ put_all key xs ys

@@ -149,7 +149,7 @@ module _ {X : Type 0} (key : X → List ℕ) where
 one_more : (n : ℕ) → 1 + n ≡ suc n
 one_more n = omega arith
 
--- where nothing has its name, x goes behind those that are before it
+-- if nothing has its name, x goes after those that are before it
 pub put_insert : {X : Type 0} (key : X → List ℕ) (x : X) (ys : List X)
     → ((z : X) → Has ys z → bytes_eq (key z) (key x) ≡ false)
     → put key x ys ≡ insert ys (prefix_len (λ y. label_lt (key y) (key x)) ys) x

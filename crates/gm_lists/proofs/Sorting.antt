@@ -134,7 +134,7 @@ module _ {X : Type 0} (key : X → List ℕ) where
   ascends_distinct (x ∷ xs) a =
       (λ y h. lt_differ (key x) (key y) (a.0 y h), ascends_distinct xs a.1)
 
-  -- a name stands once where names are distinct
+  -- a name occurs once if names are distinct
   once : (xs : List X) → Distinct key xs → (n : List ℕ)
       → length (filter (λ x. bytes_eq (key x) n) xs) ≤ 1
   once [] a n = omega arith
@@ -163,7 +163,7 @@ module _ {X : Type 0} (key : X → List ℕ) where
         | inr e ↦ absurd (true≢false (sym (lt_other a b e l) ∙ m))
       ]
 
-  -- what a sort leaves ascends, where names are distinct
+  -- what a sort leaves ascends, if names are distinct
   pub sorted_ascends : (xs ys : List X) → IsSortedByKey key (slice_cmp nat_cmp) xs
       → IsPermutation xs ys → Distinct key ys → Ascends key xs
   unfolding Neighbours

@@ -14,12 +14,12 @@ abbrev pub Has : {X : Type 0} → List X → X → Type 0
 Has [] x = ⊥
 Has (y ∷ ys) x = (y ≡ x) ⊎ Has ys x
 
--- each stands before those behind it, by a test
+-- each comes before those after it, by a test
 abbrev pub AscendsBy : {X : Type 0} → (X → X → Bool) → List X → Type 0
 AscendsBy before [] = Unit {0}
 AscendsBy {X} before (x ∷ xs) = ((y : X) → Has xs y → before x y ≡ true) × AscendsBy before xs
 
--- each name is before those behind it
+-- each name is before those after it
 abbrev pub Ascends : {X : Type 0} → (X → List ℕ) → List X → Type 0
 Ascends key xs = AscendsBy (λ a b. label_lt (key a) (key b)) xs
 

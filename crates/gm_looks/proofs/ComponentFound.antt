@@ -74,7 +74,7 @@ module _ (s : Records) (state : IsState s) where
   one_pair p n m j k e o at =
       some_pair (pair_at s p) (pair_at s p) n m j k e (at_provider p m k o at) refl
 
-  -- where nothing is found there is no component
+  -- if nothing is found, there is no component
   pub pair_none : (p : List ℕ) → pair_at s p ≡ None → (k : Component) → Has s.components k
       → k.provider ≡ p → ⊥
   pair_none p none k h at =

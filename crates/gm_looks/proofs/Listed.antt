@@ -167,7 +167,7 @@ module _ {X : Type 0} (key : X → List ℕ) (Told : Mirror → Component → X 
           from.1)));
     }
 
-  -- where all were looked at
+  -- when all were looked at
   pub all_looked_at : (s : Records) (i : ℕ) (list : List X) → length s.components ≤ i
       → SoFar s (take i s.components) list → (m : Mirror) (k : Component) → IsOf s m k
       → Right m k ⊎ ((e : X) × Has list e × (key e ≡ k.provider))

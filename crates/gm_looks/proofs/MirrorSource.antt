@@ -107,7 +107,7 @@ module _ (s : Records) (state : IsState s) (m : Mirror) (k : Component)
   lender r is = subst (λ (o : Option Component). IsSourceOf s o r)
       (find_one provider s.components state.components_in_order k (registered k active).0) is
 
-  -- where none lends it is the source itself
+  -- if none lends, it is the source itself
   pub itself_source : (r : Option (List ℕ)) → IsSource s k.provider r → r ≡ None
       → IsSourceOfMirror s m k
   itself_source r is none =

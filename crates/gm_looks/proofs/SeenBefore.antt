@@ -1,4 +1,4 @@
--- How an image stands is the same where a shelf was only read in between.
+-- How an image stands is the same if a shelf was only read in between.
 use Rattle.std.proofs.Common.{◌≡◌, ◌∙◌, inl, inr, ◌-◌, ◌==◌, ℕ, List, Option, Some, None, refl, sym, ap, subst, if◌then◌else◌}
 use Rattle.std.specs.Option.{option_and_then}
 use Rattle.gm_metadata.specs.Images.{Image, Same, Sizes}
@@ -13,7 +13,7 @@ use Rattle.gm_looks.specs.Standings.{IsOfCleared, IsOfComponent, IsOfNamed, Show
 use Rattle.gm_looks.specs.Texts.{IsTold}
 use Rattle.gm_looks.specs.declared.standing.Standing.{Standing}
 
--- of so many sectors, where there are any, the last holds the same
+-- of so many sectors, if there are any, the last holds the same
 last_same : (v w : ℕ → List ℕ) → ((n : ℕ) → v n ≡ w n) → (o : Option ℕ)
     → option_and_then (λ n. if n == 0 then None else Some (v (n - 1))) o
     ≡ option_and_then (λ n. if n == 0 then None else Some (w (n - 1))) o

@@ -25,7 +25,7 @@ module _ (s : Records) (size : Sizes) (seen : Image) (p : List ℕ) (state : IsS
         stranger = λ none. absurd (none j (member s n.name j one.0.component).0 one.1);
       }
 
-  -- where there is no component it stands as a stranger does
+  -- if there is no component, it stands as a stranger does
   pub named_stranger : (found standing : Standing) → pair_at s p ≡ None
       → IsOfCleared s size seen p found → standing ≡ without_zero found
       → IsOfNamed s size seen p standing

@@ -109,7 +109,7 @@ IsOfStranger s size seen p standing = (found : Standing)
     × IsOfCleared s size seen p found × (standing ≡ without_zero found)
 
 -- how an image stands that is copied from or to, or takes metadata, dirt or bytes: as a component
--- where it is one
+-- if it is one
 pub record IsOfNamed (s : Records) (size : Sizes) (seen : Image) (p : List ℕ)
     (standing : Standing) : Type 0 where
   pub component : (m : Mirror) (k : Component) → IsOf s m k → k.provider ≡ p

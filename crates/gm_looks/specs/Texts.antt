@@ -37,7 +37,7 @@ intent_line t = intent_text t ++ 10 ∷ []
 abbrev pub pending_text : List Intent → List ℕ
 pending_text ts = flat_map intent_line ts
 
--- how two images stand, each behind its name
+-- how two images stand, each after its name
 abbrev pub two_told : List ℕ → Standing → List ℕ → Standing → List ℕ
 two_told source a target b =
     source ++ codes " " ++ word a ++ codes ", " ++ target ++ codes " " ++ word b

@@ -147,7 +147,7 @@ no_flags x v is p q wrong =
       | inr le ↦ below _ 16 q le
     ]
 
--- where all tests pass, no fault stands
+-- if all tests pass, there is no fault
 none_stands : (x : List ℕ) (v : versions.Version) → length x ≡ 512 → Passes v x
     → (k : DecodeFault) → Stands x k → ⊥
 none_stands x v n p Magic = bytes_agree _ _ p.magic_passes

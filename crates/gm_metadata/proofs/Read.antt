@@ -26,7 +26,7 @@ use Rattle.gm_metadata.proofs.Values.{label_field_passes, label_field_names, pro
 use Rattle.gm_metadata.proofs.Labels.{field_that_passes}
 use Rattle.gm_metadata.proofs.Laid.{named, encoded_is_full, length-encoded}
 
--- the settings that a sector has where they pass
+-- the settings that a sector has if they pass
 abbrev settings_in : List ℕ → Settings
 settings_in x = record {
   balance = balance_in (slice_index x 58);

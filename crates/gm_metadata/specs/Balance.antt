@@ -22,7 +22,7 @@ balance_in code =
     else (if code == 3 then Split
     else Prefer)))
 
--- the balance that a code stands for, where it does
+-- the balance that a code stands for, if any
 abbrev pub balance_of : ℕ → Option Balance
 balance_of code = if nat_lt code 5 then Some (balance_in code) else prelude.None
 

@@ -25,7 +25,7 @@ is_provider_field field = if list_all (λ b. b == 0) field then true else is_lab
 abbrev pub provider_in : List ℕ → Option (List ℕ)
 provider_in field = if list_all (λ b. b == 0) field then None else Some (name_in field)
 
--- the version that the sector names, where it is one
+-- the version that the sector names, if it is one
 abbrev pub version_in : List ℕ → Option versions.Version
 version_in x = version_numbered (number_at 16 4 x)
 

@@ -11,7 +11,7 @@ version_number Two = 2
 version_number Three = 3
 version_number Four = 4
 
--- the version that a number stands for, where it does
+-- the version that a number stands for, if any
 abbrev pub version_numbered : ℕ → Option Version
 version_numbered n =
     if n == 2 then Some Two

@@ -169,7 +169,7 @@ fn read_as_named(sector: &[u8; 512]) -> Result<Reading, DecodeFault>
     Ok(Reading { version, metadata })
 }
 
-/// What a sector says, and in which version. The bytes behind the hash are ignored.
+/// What a sector says, and in which version. The bytes after the hash are ignored.
 ///
 /// An `Err` is the first fault that stands in the sector, in the order of `DecodeFault`.
 pub fn read_sector(sector: &[u8; 512]) -> Result<Reading, DecodeFault>
@@ -219,12 +219,12 @@ fn version_read(sector: &[u8; 512]) -> Option<u32>
     }
 }
 
-/// The number of the version in which a sector says something, 2 to 4; `None` where it doesn't
+/// The number of the version in which a sector says something, 2 to 4; `None` if it doesn't
 /// decode.
 pub fn version_of(sector: &[u8; 512]) -> Option<u32>
     // The number is that of a version in which metadata are spelled.
     ensures found { (n : ℕ) → result ≡ Some n → SaidIn n sector.now }
-    // Where metadata are spelled in a version, it is that one's.
+    // If metadata are spelled in a version, it is that one's.
     ensures only { (v : versions.Version) (m : Metadata) → IsMetadata m
         → BearsIn v sector.now m → result ≡ Some (version_number v) }
 

@@ -106,7 +106,7 @@ fn provider_field(provider: &Option<Label>) -> [u8; 16]
     }
 }
 
-/// The one sector that is full with the metadata: 135 bytes of fields and hash, and zeros behind
+/// The one sector that is full with the metadata: 135 bytes of fields and hash, and zeros after
 /// them. It is of version 4, the one that is written.
 pub fn encode(metadata: &Metadata) -> [u8; 512]
     ensures full { Full result metadata.now }

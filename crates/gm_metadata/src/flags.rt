@@ -22,7 +22,7 @@ impl MirrorFlags {
         no_autosync + no_failsync
     }
 
-    /// The flags that a number stands for; `None` where a bit is set that has no name.
+    /// The flags that a number stands for; `None` if a bit is set that has no name.
     pub fn from_bits(bits: u64) -> Option<MirrorFlags>
         ensures { result ≡ mirror_flags_of bits }
     {
@@ -43,7 +43,7 @@ pub struct DiskFlags {
     pub dirty: bool,
     /// It is being copied to (bit 2).
     pub synchronizing: bool,
-    /// It is to be copied to even where the mirror's components aren't by themselves (bit 4).
+    /// It is to be copied to even if the mirror's components aren't by themselves (bit 4).
     pub force_sync: bool,
     /// It takes no part in the mirror (bit 8).
     pub inactive: bool,
@@ -61,7 +61,7 @@ impl DiskFlags {
         dirty + synchronizing + force_sync + inactive
     }
 
-    /// The flags that a number stands for; `None` where a bit is set that has no name.
+    /// The flags that a number stands for; `None` if a bit is set that has no name.
     pub fn from_bits(bits: u64) -> Option<DiskFlags>
         ensures { result ≡ disk_flags_of bits }
     {

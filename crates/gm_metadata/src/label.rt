@@ -79,7 +79,7 @@ fn is_label_field(field: &[u8; 16]) -> bool
 }
 
 impl Label {
-    /// The label of this text; `None` where the text isn't one.
+    /// The label of this text; `None` if the text isn't one.
     pub fn new(text: &str) -> Option<Label>
         ensures { result ≡ (if is_label text.now then Some text.now else None) }
     {
@@ -92,7 +92,7 @@ impl Label {
         Some(Label { field })
     }
 
-    /// The label in a field of a sector; `None` where the field isn't a label and zeros.
+    /// The label in a field of a sector; `None` if the field isn't a label and zeros.
     pub fn from_field(field: &[u8; 16]) -> Option<Label>
         ensures { result ≡ (if is_label_field field.now then Some (name_in field.now) else None) }
     {

@@ -31,8 +31,8 @@ pub struct Metadata {
     pub sync_offset: u64,
     pub mflags: MirrorFlags,
     pub dflags: DiskFlags,
-    /// The provider's own name, where the component belongs to that name alone.
+    /// The provider's own name, if the component belongs to that name alone.
     pub provider: Option<Label>,
-    /// The size of the provider (bytes), or 0 where that isn't told.
+    /// The size of the provider (bytes), or 0 if that isn't given.
     pub provsize: u64,
 }

@@ -38,7 +38,7 @@ impl Version {
         }
     }
 
-    /// Where the hash of 16 bytes begins: at the byte behind the last field.
+    /// Where the hash of 16 bytes begins: at the byte after the last field.
     pub fn hash_at(self) -> usize
         ensures place { result ≡ fields_end self }
         ensures within { result ≤ 119 }

@@ -1,4 +1,4 @@
--- What follows where no refusal applies, and which refusal is the least.
+-- What follows if no refusal applies, and which refusal is the least.
 use Rattle.std.proofs.Common.{◌≡◌, ◌≢◌, ◌∙◌, inl, inr, ⊎_elim, ℕ, ◌+◌, ◌≤◌, ◌<◌, ◌^◌, Bool, true, false, ◌&&◌, ◌==◌, nat_lt, refl, sym, ap, subst, arith, List, [], ◌∷◌, length, find, Option, Some, None, IsSome, is_none, is_some, ltb-true, ltb-false}
 use Rattle.std.specs.Option.{ForSome}
 use Rattle.std.specs.List.{list_all}

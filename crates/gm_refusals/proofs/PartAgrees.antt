@@ -26,7 +26,7 @@ use Rattle.gm_refusals.specs.WorldFacts.{needed_by}
 
 -- ---- lists of which the rest was left out
 
--- where all that passes one test passes another
+-- if all that passes one test passes another
 module _ {X : Type 0} (p q : X → Bool) where
   filter_within : (xs : List X) → ((x : X) → Has xs x → p x ≡ true → q x ≡ true)
       → filter p (filter q xs) ≡ filter p xs
@@ -196,8 +196,8 @@ module _ (s : Records) (c : Command) (mids : List ℕ) (state : IsState s) where
   pub same_named_members : members_named (part_of s c mids) c ≡ members_named s c
   same_named_members = named_members_by (name_of c) refl
 
-  -- so each refusal applies to the part where it applies to the whole, but for the one that asks
-  -- for the count
+  -- so each refusal applies to the part exactly when it applies to the whole, but for the one that
+  -- asks for the count
   pub same_applies : (count : ℕ) → count ≡ length s.mirrors → (x : Seen)
       → ((m : Mirror) → Has s.mirrors m → takes_mid x c m ≡ true → Has (part_of s c mids).mirrors m)
       → (r : Refusal) → applies_to_part (part_of s c mids) count x c r ≡ applies s x c r
@@ -238,7 +238,7 @@ module _ (s : Records) (c : Command) (mids : List ℕ) (state : IsState s) where
   chosen n = option_map_or (λ a. same_label n a) (name_of c) false || list_any
       (λ m. same_label n m.name) kept
 
-  -- of a mirror's name there is one that is kept just where it is asked for
+  -- of a mirror's name there is one that is kept exactly when it is asked for
   kept_is : (n : List ℕ) (m : Mirror) → Has s.mirrors m → m.name ≡ n
       → list_any (λ a. same_label n a.name) kept ≡ is_asked s c mids m
   kept_is n m h e =

@@ -1,4 +1,4 @@
--- Where providers are seen alike, they are adopted alike.
+-- If providers are seen alike, they are adopted alike.
 use Rattle.std.proofs.Common.{◌≡◌, ◌∙◌, inl, inr, ℕ, ◌≤◌, ◌<◌, ◌/◌, ◌%◌, ◌||◌, ◌&&◌, ◌==◌, nat_lt, Bool, false, not, refl, ap, ap₂, List, [], ◌∷◌, length, map, Option, Some, None, unwrap_or, is_some, ltb-true, arith, if◌then◌else◌}
 use Rattle.std.specs.List.{filter_map, list_all, list_any, cons_option}
 use Rattle.std.proofs.lemmas.Bool.{cases_Bool}
@@ -121,7 +121,7 @@ module _ (x y : Seen) (ps : List (List ℕ)) (s : SeeAlike x y ps) where
       ∙ ap (λ o. is_there_and o (λ b. is_whole b.metadata (length ps) && list_all
       (λ p. is_like y n b.metadata p && has_room y b.metadata p) ps)) same_source)
 
-  -- where as many sectors are equal, the same is registered
+  -- if as many sectors are equal, the same is registered
   module _ (n : List ℕ) (b : Member) (equal : (p : List ℕ) → Has ps p → (k : ℕ)
       → k ≤ data_of b.metadata → x.equal b.provider p k ≡ y.equal b.provider p k) where
     same_borne : (k : Member) → Has ps k.provider → is_borne_out x b k ≡ is_borne_out y b k

@@ -22,7 +22,7 @@ use Rattle.gm_refusals.specs.Seen.{Seen, is_there_and}
 
 -- ---- what the last sectors say
 
--- what was read, where it decodes
+-- what was read, if it decodes
 abbrev pub decoded : Result Metadata DecodeFault → Option Metadata
 decoded (Ok m) = Some m
 decoded (Err fault) = None
@@ -55,7 +55,7 @@ tells_did_twice x (p ∷ ps) =
 
 -- ---- the mirror that the providers would be, by tasting
 
--- the provider where tasting takes it; its last sector is bytes, as every one is that was read
+-- the provider if tasting takes it; its last sector is bytes, as every one is that was read
 abbrev pub taken_with : List ℕ → Option ℕ → Option (List ℕ) → Option Taken
 taken_with p None last = None
 taken_with p (Some n) None = None
@@ -84,7 +84,7 @@ abbrev pub is_beside : Seen → Metadata → List ℕ → Bool
 is_beside x m p =
     is_there_and (taken x p) (λ t. same_label t.metadata.name m.name && (t.metadata.mid == m.mid))
 
--- the first of the ACTIVE members, where all providers are taken, and in one group
+-- the first of the ACTIVE members, if all providers are taken, and in one group
 abbrev pub first_where : Seen → List (List ℕ) → Option Member → Option Member
 first_where x ps None = None
 first_where x ps (Some b) = if list_all (is_beside x b.metadata) ps then Some b else None
@@ -141,7 +141,7 @@ adopted_mirror n m = record {
   flags = m.mflags;
 }
 
--- The offset of a copy is kept, in sectors, where it is a sector's below the end of the data, the
+-- The offset of a copy is kept, in sectors, if it is a sector's below the end of the data, the
 -- member has the syncid of the source b, and its data up to there are the source's.
 abbrev pub is_borne_out : Seen → Member → Member → Bool
 is_borne_out x b k = (k.metadata.syncid == b.metadata.syncid && k.metadata.sync_offset % 512 == 0)
@@ -151,7 +151,7 @@ is_borne_out x b k = (k.metadata.syncid == b.metadata.syncid && k.metadata.sync_
 abbrev pub kept_offset : Seen → Member → Member → ℕ
 kept_offset x b k = if is_borne_out x b k then k.metadata.sync_offset / 512 else 0
 
--- how the data of a member stand: an ACTIVE one is taken at its word where its data are the
+-- how the data of a member stand: an ACTIVE one is taken at its word if its data are the
 -- source's
 abbrev pub adopted_disk : Seen → Member → Member → MemberState → Disk
 adopted_disk x b k tasted.Inactive = Inactive

@@ -101,7 +101,7 @@ abbrev pub reaches_beyond : Command → Mirror → Bool
 reaches_beyond (Patch n first sectors) m = nat_lt m.data_sectors (first + length sectors)
 reaches_beyond _ m = false
 
--- the mirror that the command names, where it is registered
+-- the mirror that the command names, if it is registered
 abbrev pub mirror_named : Records → Command → Option Mirror
 mirror_named s c = option_and_then (λ n. mirror_of s n) (name_of c)
 

@@ -5,7 +5,7 @@ use Rattle.gm_metadata.specs.Images.{same_label}
 use Rattle.gm_metadata.specs.Sector.{carries}
 use Rattle.gm_refusals.specs.declared.facts.Fact.{Fact}
 
--- the fact of a provider, where it is there
+-- the fact of a provider, if it is there
 abbrev pub fact_of : List Fact → List ℕ → Option Fact
 fact_of facts provider = find (λ f. same_label f.provider provider) facts
 

@@ -49,7 +49,7 @@ pub record IsPartOf (part : Records) (c : Command) (s : Records) : Type 0 where
   pub mids : List ℕ
   pub is : part ≡ part_of s c mids
 
--- The part serves to decide on the command, where this is seen: it has each mirror whose mid is
+-- The part serves to decide on the command, when this is seen: it has each mirror whose mid is
 -- found on images to be adopted.
 pub record IsPartToDecide (part : Records) (x : Seen) (c : Command) (s : Records) : Type 0 where
   pub of : IsPartOf part c s
@@ -60,7 +60,7 @@ abbrev pub asks_count : Refusal → Bool
 asks_count TooManyMirrors = true
 asks_count _ = false
 
--- the refusal applies to the command, where a part of the records is known, and how many mirrors
+-- the refusal applies to the command, when a part of the records is known, and how many mirrors
 -- there are in all
 abbrev pub applies_to_part : Records → ℕ → Seen → Command → Refusal → Bool
 applies_to_part part count x c r = if asks_count r then count == 64 else applies part x c r

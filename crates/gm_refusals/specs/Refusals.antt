@@ -8,7 +8,7 @@ use Rattle.gm_refusals.specs.declared.refusals.Refusal.TheVariants.{NoMirror, Na
 use Rattle.gm_refusals.specs.declared.refusals.CallRefusal.{CallRefusal}
 use Rattle.gm_refusals.specs.declared.refusals.CallRefusal.TheVariants.{NoKey, KeyTaken, NoRoom, ByRules}
 
--- the number of a refusal: where several apply, the least is answered
+-- the number of a refusal: if several apply, the least is answered
 abbrev pub number_of : Refusal → ℕ
 number_of NoMirror = 5
 number_of NameTaken = 6

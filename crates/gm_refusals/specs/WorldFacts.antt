@@ -27,7 +27,7 @@ seen_of u = record { size = present u; last = last_of u; equal = agree u.shelf }
 abbrev pub needed_by : Records → Command → List (List ℕ)
 needed_by s c = looked_at c ++ map provider (awaited s c)
 
--- where a mirror can be adopted, the facts tell which first sectors equal those of its source, up
+-- if a mirror can be adopted, the facts tell which first sectors equal those of its source, up
 -- to its data
 abbrev pub TellEqual : List Fact → World → Command → Type 0
 TellEqual facts u (Adopt n ps) = is_adoptable (seen_of u) n ps ≡ true → (b : Member)

@@ -14,7 +14,7 @@ pub struct Fact {
     pub sectors: u64,
     pub last: [u8; 512],
     /// How many of its first sectors equal those of the source that a mirror found on images takes
-    /// its data from, counted up to the data and both lengths; 0 where that isn't asked.
+    /// its data from, counted up to the data and both lengths; 0 if that isn't asked.
     pub equal: u64,
 }
 
@@ -55,7 +55,7 @@ impl Facts {
         fact_in(&self.entries, provider)
     }
 
-    /// How many sectors the provider has, where it is there.
+    /// How many sectors the provider has, if it is there.
     pub fn size(&self, provider: Label) -> Option<u64>
         ensures { result ≡ size_in self.now provider }
     {
@@ -75,7 +75,7 @@ impl Facts {
         }
     }
 
-    /// The last sector of the provider, where it is there.
+    /// The last sector of the provider, if it is there.
     pub(crate) fn last(&self, provider: Label) -> Option<[u8; 512]>
         ensures { result ≡ last_in self.now provider }
     {

@@ -91,7 +91,7 @@ fn mid_of(facts: &Facts, provider: Label) -> Option<u32>
     }
 }
 
-/// The mids that the last sectors of the providers tell of, where they decode.
+/// The mids that the last sectors of the providers give, if they decode.
 pub fn found_mids(alloc: Global, facts: &Facts, providers: &[Label]) -> Result<Vec<u32>, AllocError>
     ensures { IfOk result (λ v. v.items ≡ found_mids (seen_in facts.now) providers.now) }
 {
@@ -101,7 +101,7 @@ pub fn found_mids(alloc: Global, facts: &Facts, providers: &[Label]) -> Result<V
         .collect(alloc)
 }
 
-// A provider with this last sector, where tasting takes it.
+// A provider with this last sector, if tasting takes it.
 fn taken_with(name: Label, sectors: u64, last: &[u8; 512]) -> Option<Taken>
     ensures { result ≡ taken_with name (Some sectors) (Some last.now) }
 {
@@ -112,7 +112,7 @@ fn taken_with(name: Label, sectors: u64, last: &[u8; 512]) -> Option<Taken>
     })
 }
 
-/// The provider where tasting takes it.
+/// The provider if tasting takes it.
 pub fn taken(facts: &Facts, provider: Label) -> Option<Taken>
     ensures { result ≡ taken (seen_in facts.now) provider }
 {
@@ -122,7 +122,7 @@ pub fn taken(facts: &Facts, provider: Label) -> Option<Taken>
     }
 }
 
-// The greater of the two, where the second is meant.
+// The greater of the two, if the second is meant.
 fn raised_by(known: u32, meant: bool, number: u32) -> u32
     ensures { result ≡ if meant && nat_lt known number then number else known }
 {
@@ -191,7 +191,7 @@ fn are_beside(facts: &Facts, metadata: &Metadata, providers: &[Label]) -> bool
     providers.iter().all(|p| is_beside(facts, metadata, *p))
 }
 
-// The member, where all of the providers are taken, and in its group.
+// The member, if all of the providers are taken, and in its group.
 fn first_where(facts: &Facts, providers: &[Label], first: Option<Member>) -> Option<Member>
     ensures { result ≡ first_where (seen_in facts.now) providers.now first }
 {

@@ -45,7 +45,7 @@ fn all_needed(alloc: Global, state: &State, command: &Command) -> Result<Vec<Lab
 }
 
 /// The providers of which a command needs facts: those that it looks at, as it names them, and
-/// behind them those of the components of its mirror that it waits for, in byte order.
+/// after them those of the components of its mirror that it waits for, in byte order.
 pub fn needed(alloc: Global, state: &State, command: &Command) -> Result<Vec<Label>, AllocError>
     ensures all { IfOk result (λ v. v.items ≡ needed_by state.now command.now) }
     // From the command's part of a state, all that the whole needs.

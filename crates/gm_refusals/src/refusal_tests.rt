@@ -439,7 +439,7 @@ fn mirror_named(state: &State, command: &Command) -> Option<Mirror>
     }
 }
 
-// Whether the refusal applies, where so many mirrors are registered.
+// Whether the refusal applies, when so many mirrors are registered.
 fn applies(state: &State, count: u64, facts: &Facts, command: &Command, refusal: Refusal) -> bool
     ensures { result ≡ applies_to_part state.now count (seen_in facts.now) command.now refusal }
 {
@@ -498,7 +498,7 @@ fn applies(state: &State, count: u64, facts: &Facts, command: &Command, refusal:
     }
 }
 
-/// The least refusal that applies, if any does, where so many mirrors are registered.
+/// The least refusal that applies, if any does, when so many mirrors are registered.
 pub fn least_refusal(state: &State, count: u64, facts: &Facts, command: &Command) -> Option<Refusal>
     ensures { result ≡ find (applies_to_part state.now count (seen_in facts.now) command.now)
         (own command.now) }

@@ -5,7 +5,7 @@ ghost use Rattle.gm_refusals.specs.Refusals.{number_of, number_of_call, own};
 
 use gm_commands::Command;
 
-/// Why a command is refused, in the order of the numbers. Where several apply, the least number is
+/// Why a command is refused, in the order of the numbers. If several apply, the least number is
 /// answered.
 #[derive(Clone, Copy, Debug, PartialEq, Eq)]
 pub enum Refusal {
@@ -100,7 +100,7 @@ impl Refusal {
     }
 }
 
-/// Why a call, a command under a key, is refused. Where several apply, the least number is
+/// Why a call, a command under a key, is refused. If several apply, the least number is
 /// answered.
 #[derive(Clone, Copy, Debug, PartialEq, Eq)]
 pub enum CallRefusal {

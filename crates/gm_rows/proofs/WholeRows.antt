@@ -22,7 +22,7 @@ there : (key required : Bool) (v : Value) → key ≡ false → required ≡ tru
 there key required v free must holds none =
     true≢false (sym holds ∙ (λ i. free i || not (must i) || not (is_null (none i))))
 
--- behind the column for which the rowid stands: `vs` is the row from the place `at + 1` on
+-- after the column for which the rowid stands: `vs` is the row from the place `at + 1` on
 module _ (key : Option ℕ) (row : Row) where
   pub as_many : (at : ℕ) (cs : List Column) (vs : Row) → ((k : ℕ) → at ≤ k → is_key key k ≡ false)
       → are_required cs ≡ true → ((k : ℕ) → column row (at + 1 + k) ≡ column vs k)

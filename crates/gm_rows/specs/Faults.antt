@@ -21,11 +21,11 @@ abbrev pub value_fault_of : Error → StoreFault
 value_fault_of (SqliteFailure code.OutOfMemory) = Memory
 value_fault_of _ = Unreadable
 
--- where the registry is found unreadable
+-- if the registry is found unreadable
 abbrev pub OnUnreadable : {T : Type 0} → Result T StoreFault → Type 0 → Type 0
 OnUnreadable result P = IfErr result (λ e. e ≡ Unreadable → P)
 
--- where the store is said to have failed
+-- if the store is said to have failed
 abbrev pub OnStore : {T : Type 0} → Result T StoreFault → Type 0 → Type 0
 OnStore result P = IfErr result (λ e. e ≡ Store → P)
 

@@ -59,7 +59,7 @@ shown_about schema_no = Int (pos 1) ∷ Int (pos schema_no) ∷ []
 abbrev pub IsAbout : ℕ → List Row → Type 0
 IsAbout schema_no rows = map (columns_at two) rows ≡ shown_about schema_no ∷ []
 
--- the rows of `patches` are the record of these bytes, or none where there are none
+-- the rows of `patches` are the record of these bytes, or none if there are none
 abbrev pub ArePatches : List (List ℕ) → List Row → Type 0
 ArePatches bytes rows = map (columns_at two) rows ≡ map shown_patch (patch_rows bytes)
 

@@ -19,7 +19,7 @@ pub enum CommandNumber {
 }
 
 impl CommandNumber {
-    /// The query that shows it as one row. Of the least and the greatest it shows none where there
+    /// The query that shows it as one row. Of the least and the greatest it shows none if there
     /// is no command, and the index of `seq` serves them.
     pub fn query(self) -> &'static str
         ensures { result.now ≡ number_text self }

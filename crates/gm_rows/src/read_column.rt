@@ -111,7 +111,7 @@ pub fn label_at(row: &Row, at: usize) -> Option<Label>
     }
 }
 
-/// The text in a column, of its own memory; `Unreadable` where it holds none.
+/// The text in a column, of its own memory; `Unreadable` if it holds none.
 pub fn text_at(row: &Row, at: usize) -> Result<String, StoreFault>
     ensures text { IfOk result (λ text. column row.now at ≡ Text (string_bytes text)) }
     ensures fault { IfErr result (λ e. e ≢ StoreFault.Store) }
@@ -121,8 +121,8 @@ pub fn text_at(row: &Row, at: usize) -> Result<String, StoreFault>
     readable(row.get(at))
 }
 
-/// The sectors that a column holds as bytes, of their own memory; `Unreadable` where it holds none,
-/// or a part of a sector behind them.
+/// The sectors that a column holds as bytes, of their own memory; `Unreadable` if it holds none,
+/// or a part of a sector after them.
 pub fn bytes_at(alloc: Global, row: &Row, at: usize) -> Result<Vec<[u8; 512]>, StoreFault>
     ensures bytes { IfOk result (λ v. column row.now at ≡ Blob (joined v.items)) }
     ensures whole { IfOk result (λ v. AreSectors v.items) }

@@ -21,7 +21,7 @@ use gm_metadata::Label;
 use gm_state::{Component, Disk, Intent, Mirror};
 use sqlite::Row;
 
-/// The mirror of a row of `mirrors`, whose columns are shown in their order; `None` where the
+/// The mirror of a row of `mirrors`, whose columns are shown in their order; `None` if the
 /// values are of no mirror.
 pub fn read_mirror(row: &Row) -> Option<Mirror>
     ensures some { IfSome result (λ m. columns_at nine row.now ≡ mirror_values (mirror_row m)) }
@@ -54,7 +54,7 @@ fn read_disk(row: &Row) -> Option<Disk>
     Disk::from_flags(flags, held)
 }
 
-/// The component of a row of `components`, whose columns are shown in their order; `None` where the
+/// The component of a row of `components`, whose columns are shown in their order; `None` if the
 /// values are of no component.
 pub fn read_component(row: &Row) -> Option<Component>
     ensures some { IfSome result (λ k. columns_at nine row.now ≡ component_values
@@ -109,8 +109,8 @@ fn read_kind(row: &Row, kind: u32, provider: Label) -> Option<Intent>
     }
 }
 
-/// The intent of a row of `intents`, whose columns are shown in their order, where it has this
-/// number; `None` where it has another, or the values are of no intent.
+/// The intent of a row of `intents`, whose columns are shown in their order, if it has this
+/// number; `None` if it has another, or the values are of no intent.
 pub fn read_intent(row: &Row, number: u64) -> Option<Intent>
     ensures some { IfSome result (λ i. columns_at six row.now ≡ shown_intent
         (intent_row number i)) }

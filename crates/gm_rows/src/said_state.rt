@@ -1,4 +1,4 @@
-//! What the rows of all tables say, where they say a state.
+//! What the rows of all tables say, if they say a state.
 
 ghost use Rattle.std.specs.Prelude.{IfErr, ◌≡◌, ◌≢◌, ◌↔◌, ℕ, IsTrue, List, IfOk};
 ghost use Rattle.gm_state.specs.declared.intents.Intent.{Intent};
@@ -17,7 +17,7 @@ use sqlite::Row;
 use std::alloc::Global;
 
 /// What a registry holds: all records, what is pending in its order, and the sectors that it lays,
-/// none where nothing is patched.
+/// none if nothing is patched.
 #[derive(Drop)]
 pub struct Loaded {
     pub state: State,
@@ -32,7 +32,7 @@ pub fn is_about(rows: &[Row], schema_no: u64) -> bool
     rows.len() == 1 && is_number_at(&rows[0], 0, 1) && is_number_at(&rows[0], 1, schema_no)
 }
 
-/// The state that the rows of mirrors and components say; `Unreadable` where they say none.
+/// The state that the rows of mirrors and components say; `Unreadable` if they say none.
 pub fn state_of_rows(
     alloc: Global,
     mirrors: &[Row],
@@ -54,7 +54,7 @@ pub fn state_of_rows(
     }
 }
 
-/// The sectors of the record of `patches`, none where there is no record; `Unreadable` where the
+/// The sectors of the record of `patches`, none if there is no record; `Unreadable` if the
 /// rows are of no such record.
 fn read_patches(alloc: Global, rows: &[Row]) -> Result<Vec<[u8; 512]>, StoreFault>
     ensures says { IfOk result (λ v. ArePatches v.items rows.now) }
@@ -76,7 +76,7 @@ fn read_patches(alloc: Global, rows: &[Row]) -> Result<Vec<[u8; 512]>, StoreFaul
     Ok(bytes)
 }
 
-/// What the rows say; `Unreadable` where they say nothing that a registry holds, or the commands
+/// What the rows say; `Unreadable` if they say nothing that a registry holds, or the commands
 /// aren't counted by their numbers.
 pub fn judge(alloc: Global, fetched: &Fetched) -> Result<Loaded, StoreFault>
     ensures says { IfOk result (λ l. Say fetched.now l.state l.intents.items l.bytes.items) }

@@ -65,7 +65,7 @@ impl Shown for Intent {
     }
 }
 
-/// The records of the rows, in their order; `Unreadable` where the rows are of no such records.
+/// The records of the rows, in their order; `Unreadable` if the rows are of no such records.
 pub fn read_all<T: Shown>(alloc: Global, rows: &[SqlRow]) -> Result<Vec<T>, StoreFault>
     ensures read { IfOk result
         (λ list. map (columns_at T.Shown.places) rows.now ≡ numbered T.Shown.values 1 list.items) }

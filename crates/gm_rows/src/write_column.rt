@@ -37,7 +37,7 @@ pub fn balance_number(balance: Balance) -> u32
     u32::from(balance.code())
 }
 
-/// 1 where it is set.
+/// 1 if it is set.
 pub fn truth_number(set: bool) -> u32
     ensures { result ≡ (if set then 1 else 0) }
 {

@@ -32,7 +32,7 @@ tells : (x : Seen) (p : List ℕ) (m : Metadata) (did : ℕ) → told (x.last p)
     → tells_did x did p ≡ true
 tells x p m did e d = rw e (eq-eqb m.did did d)
 
--- where no did is told twice, it tells the provider
+-- if no did is given twice, it determines the provider
 one_did : (x : Seen) (ps : List (List ℕ)) → tells_did_twice x ps ≡ false → (p q : List ℕ) → Has ps p
     → Has ps q → (m n : Metadata) → told (x.last p) ≡ Some m → told (x.last q) ≡ Some n
     → m.did ≡ n.did → p ≡ q

@@ -54,7 +54,7 @@ module _ (u : World) (m : Mirror) (stays : Component → Bool) (sound : Sound u)
             not_both (stays j) r.1 (ap stays same ∙ d.goes);
       })
 
-  -- where the others stay, their components do
+  -- if the others stay, their components do
   pub others_stay : ((k : Component) → Has u.state.components k → k.mirror ≢ m.name
       → stays k ≡ true) → (n : List ℕ) → n ≢ m.name
       → members (filter stays u.state.components) n ≡ members u.state.components n

@@ -53,7 +53,7 @@ module _ (first end : ℕ) where
       (each_laid (λ t. is_fill_of p t ≡ false) ks
       (λ k h. (refl, differ k.provider p (λ e. apart k h (sym e)), refl)))
 
-  -- they are so ordered that data come before claims, and behind dirt
+  -- they are so ordered that data come before claims, and after dirt
   pub laid_ordered : (earlier : List Intent) (ks : List Component) → Ascends provider ks
       → AreOrderedFrom earlier (patchings ks)
   laid_ordered earlier [] up = tt

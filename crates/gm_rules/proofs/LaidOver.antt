@@ -13,7 +13,7 @@ use Rattle.gm_refusals.specs.Applies.{name_of}
 in_no_range : (first n i : ℕ) → n ≡ 0 → (nat_le first i && nat_lt i (first + n)) ≡ false
 in_no_range first n i e = grind (arith, nat_tests)
 
--- where there are no bytes all data stay
+-- if there are no bytes, all data stay
 pub nothing_laid : (c : Command) → bytes_of c ≡ [] → (n : List ℕ) (list : ℕ → List ℕ) (i : ℕ)
     → laid_over c n list i ≡ list i
 nothing_laid (Patch a first sectors) none n list i =

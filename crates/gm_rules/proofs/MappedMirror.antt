@@ -37,7 +37,7 @@ pub record Obeys (m m' : Mirror) (k : Component) : Type 0 where
   pub syncid : k.syncid ≤ m'.syncid
   pub current : k.disk ≢ Inactive → k.syncid ≡ m'.syncid
 
--- so it does where it isn't changed, and the mirror's syncid isn't either
+-- so it does if it isn't changed, and the mirror's syncid isn't either
 pub obeys_still : (m m' : Mirror) (ks : List Component) (k : Component) → IsMirror m ks → Has ks k
     → m'.syncid ≡ m.syncid → Obeys m m' k
 obeys_still m m' ks k rules h e = record {
@@ -47,7 +47,7 @@ obeys_still m m' ks k rules h e = record {
   current = rw e (rules.current k h);
 }
 
--- and where the mirror counts a sync more: INACTIVE ones lag behind, and the others keep up
+-- and if the mirror counts a sync more: INACTIVE ones lag behind, and the others keep up
 pub fresh_disk : (syncid : ℕ) (k : Component) → (freshened syncid k).disk ≡ k.disk
 fresh_disk syncid k =
     elim (cases_Bool (is_inactive k.disk)) [ inl e ↦ rw e refl | inr e ↦ rw e refl ]
@@ -235,7 +235,7 @@ module _ (u : World) (c : Command) (m m' : Mirror) (g : Component → Component)
         (λ (e : metadata m' (g k) ≡ metadata m k). inr (as_it_was k i e)) (a.all_told k i));
   }
 
--- a component that holds no more than it did has its data, where nothing is laid over them
+-- a component that holds no more than it did has its data, if nothing is laid over them
 less_below : (u : World) (c : Command) (m : Mirror) (k : Component) (n : ℕ) → Sound u
     → Has u.state.mirrors m → Has (members u.state.components m.name) k
     → n ≤ held_by k.disk m.data_sectors → [] ≡ bytes_of c

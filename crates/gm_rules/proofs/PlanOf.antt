@@ -134,7 +134,7 @@ pub record IsCleared (u : World) (s : Records) (q : List ℕ) : Type 0 where
 -- What the command makes of the world u, and what it writes.
 pub record PlanOf (u : World) (c : Command) : Type 0 where
   -- the mirror that it turns, as it is after it, with its components and the list of its data;
-  -- where it turns none, one that isn't registered
+  -- if it turns none, one that isn't registered
   pub mirror : Mirror
   pub components : List Component
   pub list : ℕ → List ℕ
@@ -169,7 +169,7 @@ pub record PlanOf (u : World) (c : Command) : Type 0 where
   -- what is cleared
   pub cleared : (q : List ℕ) → Has gone q → IsCleared u records q
   pub all_gone : (q : List ℕ) → list_any (λ p. same_label p q) gone ≡ clears u.state c q
-  -- whose metadata are written: of each component where they aren't there already
+  -- whose metadata are written: of each component unless they are there already
   pub told_are : (k : Component) → Has told k → Has components k
   pub all_told : (k : Component) → Has components k → Has told k
       ⊎ (u.shelf k.provider (k.sectors - 1) ≡ encoded (metadata mirror k))

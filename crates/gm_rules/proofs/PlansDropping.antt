@@ -74,7 +74,7 @@ remove_plan u n p may =
 
 -- ---- lost
 
--- where each of the providers is a component's of the mirror, a component of another one is on none
+-- if each of the providers is a component's of the mirror, a component of another one is on none
 -- of them
 theirs_stay : (u : World) (m : Mirror) (ps : List (List ℕ)) → Sound u
     → (has_twice ps || list_any

@@ -77,7 +77,7 @@ is_free s x c good same absent taken wrong p h =
       limit = range.1;
     }
 
--- where none of them carries metadata, a component that is made of one wasn't bearing any
+-- if none of them carries metadata, a component that is made of one wasn't bearing any
 pub put_bare : (u : World) (k : Component) → present u k.provider ≡ Some k.sectors
     → 0 < k.sectors → list_any (λ p. last_carries (last_of u p)) (k.provider ∷ []) ≡ false
     → (w : World) → w.state.components ≡ put provider k u.state.components → NewAreBare u w
@@ -111,7 +111,7 @@ one_more_mirror s state off =
 
 -- ---- a command that names a mirror
 
--- What is known where the command c, which nothing refuses, names the mirror m.
+-- What is known if the command c, which nothing refuses, names the mirror m.
 pub record Names (u : World) (c : Command) (m : Mirror) : Type 0 where
   pub may : Allowed u c
   pub named : name_of c ≡ Some m.name
@@ -167,7 +167,7 @@ other_active ks p e =
     let k = active_left ks (p ∷ []) e in
     (k.0, k.1, k.2, λ at. not_both (is_on_any (p ∷ []) k.0) (on_one k.0 p at) k.3)
 
--- where the one on p is INACTIVE, another is ACTIVE
+-- if the one on p is INACTIVE, another is ACTIVE
 pub other_in_use : (ks : List Component) (p : List ℕ)
     → list_any (λ k. is_on_any (p ∷ []) k && not (is_inactive k.disk)) ks ≡ false
     → (k : Component) × Has ks k × (k.disk ≡ InSync)

@@ -77,7 +77,7 @@ hand_moves size size' more (Patch p first end) h = moved size size' more p (λ n
 
 -- ---- the world
 
--- a component has its registered size, and is there where the facts say so
+-- a component has its registered size, and is there if the facts say so
 abbrev size_by : Option Component → Option ℕ → Option ℕ
 size_by None told = told
 size_by (Some k) told = Some k.sectors
@@ -367,7 +367,7 @@ module _ (s : Records) (facts : List Fact) where
         ∙ ap (λ b. if b then last_by (metadata_of s p) (unwrap_or (last_in facts p) [])
         else data_by None (equals_in facts p) i) inner
 
-    -- the world's first sectors are equal where the facts say so
+    -- the world's first sectors are equal exactly when the facts say so
     agree_told : (b p : List ℕ) (d : ℕ) (from : IsFree s (seen_in facts) b)
         (to : IsFree s (seen_in facts) p) → d < from.sectors
         → d < to.sectors → d ≤ equals_in facts b → (k : ℕ) → k ≤ d
@@ -498,7 +498,7 @@ adopts_itself : (s : Records) (facts : List Fact) (state : IsState s) (c : Comma
 adopts_itself s facts state (Adopt n ps) good itself = adopts s facts state n ps good itself
 adopts_itself s facts state _ good itself = tt
 
--- The providers of what a command has written are there by the facts, where none of its refusals
+-- The providers of what a command has written are there by the facts, if none of its refusals
 -- applies.
 pub hand_told : (s : Records) (facts : List Fact) (c : Command) → IsState s → CommandFits c
     → IsGood s (seen_in facts) c → (t : Intent)

@@ -31,7 +31,7 @@ use Rattle.gm_rules.proofs.PlanOf.{CanFill, Fill, Nothing, Copied, Laid, PlanOf,
 use Rattle.gm_rules.proofs.TurnedMirror.{in_order, in_s, here, rules_of}
 use Rattle.gm_rules.proofs.WrittenIntents.{Brings, brings, last_at, not_last}
 
--- what a last sector holds: the metadata of the mirror's component there, zeros where it is
+-- what a last sector holds: the metadata of the mirror's component there, zeros if it is
 -- cleared, else what it held
 abbrev pub last_of : Option Component → Mirror → Bool → List ℕ → List ℕ
 last_of None m gone old = cond gone zeros old

@@ -32,7 +32,7 @@ module _ (r : Records) (m : Mirror) (ks : List Component) (s : Records) (t : Tur
       (Ascends-filter (λ (c : Component). same_label c.mirror m.name) provider s.components
       t.state.components_in_order)
 
-  -- the mirror is registered where it has a component
+  -- the mirror is registered if it has a component
   pub here : (k : Component) → Has ks k → Has s.mirrors m
   here k h =
       let i = in_s k h in

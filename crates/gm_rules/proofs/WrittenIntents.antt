@@ -53,7 +53,7 @@ append_or (y ∷ xs) ys x (inl e) = inl (inl e)
 append_or (y ∷ xs) ys x (inr h) =
     ⊎_elim (λ (i : Has xs x). inl (inr i)) (λ (i : Has ys x). inr i) (append_or xs ys x h)
 
--- ---- the intents behind the copy
+-- ---- the intents after the copy
 
 -- intents that bring no data
 record AreStill (ts : List Intent) : Type 0 where
@@ -110,7 +110,7 @@ module _ (gone : List (List ℕ)) (told : List Component) where
   clear_in q h = Has-append_left (map (λ q. Clear q) gone) (metas told) (Clear q)
       (map-Has (λ (q : List ℕ). Clear q) gone q h)
 
-  -- so of all that is written, where it holds of the copy, and of what lays sectors
+  -- so of all that is written, if it holds of the copy, and of what lays sectors
   pub each : (fill : Fill) (P : Intent → Type 0)
       → ((x : Stretch) → fill ≡ Copied x → P (copying x))
       → ((first : ℕ) (sectors : List (List ℕ)) → fill ≡ Laid first sectors → (k : Component)
@@ -174,7 +174,7 @@ pub record Brings (u : World) (ks : List Component) (s : Records) (fill : Fill)
   pub kept : (q : List ℕ) (j : ℕ) → is_filled fill told q j ≡ false → mid q j ≡ u.shelf q j
   pub named : (q : List ℕ) (j : ℕ) → is_place u.size ts q j ≡ false
       → is_filled fill told q j ≡ false
-  -- where data are copied to a component of before, none are laid
+  -- if data are copied to a component of before, none are laid
   pub mirrored : (a : Mirror) (k : Component) → IsOf u.state a k → (i : ℕ)
       → any_copies ts k.provider i ≡ true → (bytes_in fill ≡ [])
       × (is_last (u.size k.provider) i ≡ false) × (mid k.provider i ≡ u.holds a.name i)

@@ -6,7 +6,7 @@ use Rattle.gm_commands.specs.declared.command.Command.TheVariants.{Adopt}
 use Rattle.gm_refusals.specs.Seen.{Seen}
 use Rattle.gm_refusals.specs.Adoptable.{source_in, data_of, is_adoptable}
 
--- where a mirror can be adopted, its source is equal to itself as far as the data go
+-- if a mirror can be adopted, its source is equal to itself as far as the data go
 abbrev pub IsItself : Seen → Command → Type 0
 IsItself x (Adopt n ps) = is_adoptable x n ps ≡ true → (b : Member) → source_in x ps ≡ Some b
     → x.equal b.provider b.provider (data_of b.metadata) ≡ true

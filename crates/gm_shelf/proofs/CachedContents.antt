@@ -20,7 +20,7 @@ inside_or_out : (size : Option ℕ) (j : ℕ) → IsSomeAnd size (λ n. j < n) �
 inside_or_out None j inside out = inside
 inside_or_out (Some n) j inside out = omega (arith, inside, out)
 
--- nothing stands behind the last sector
+-- there is nothing after the last sector
 pub past : (v : Vec (List ℕ) Global) (j : ℕ) → vec_len v ≤ j → sector_at v.items j ≡ []
 past v j out = get_or_past v.items j [] (omega (arith, v.ok.0, out))
 

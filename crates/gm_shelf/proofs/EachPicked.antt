@@ -33,7 +33,7 @@ choose s ws v (inr among) = (
 some_written : (w : List ℕ) (ws : List (List ℕ)) → nat_lt 0 (length (w ∷ ws)) ≡ true
 some_written w ws = grind (arith, nat_tests)
 
--- where nothing is written, the picks don't differ
+-- if nothing is written, the picks don't differ
 any_pick : (s : List ℕ) (ws : List (List ℕ)) (m n : ℕ) → nat_lt 0 (length ws) ≡ false
     → picked_value s ws m ≡ picked_value s ws n
 any_pick s [] m n none = picked_none s m ∙ sym (picked_none s n)
@@ -75,7 +75,7 @@ module _ (history : List Event) (x : Image) (left : may_leave_after history x)
       ∙ count_more (is_unsynced history p n) (choice p n).0 (length (picks_of p n))
       ∙ ap (λ (k : ℕ). k + (if is_unsynced history p n then 1 else 0)) (length-picks_of p n)
 
-  -- the pick of an unsynced sector stands behind those of the unsynced sectors before it
+  -- the pick of an unsynced sector comes after those of the unsynced sectors before it
 
   stands : (p : Label) (n j : ℕ) → j < n → is_unsynced history p j ≡ true
       → (unsynced_below history p j < length (picks_of p n))
@@ -136,7 +136,7 @@ module _ (history : List Event) (x : Image) (left : may_leave_after history x)
       (unwrap_or (size_after history q) 0)) names k [] (omega (arith, le)))
       ∙ ap (λ (n : ℕ). unsynced_of history (take n names)) (add-one k)
 
-  -- the picks of a provider stand behind those of the providers before it
+  -- the picks of a provider come after those of the providers before it
   stands_upto : (all k i : ℕ) → k < all → all ≤ length names
       → i < length (picks_of (name_at names k) (unwrap_or (size_after history (name_at names k)) 0))
       → (unsynced_of history (take k names) + i < length (picks_upto all))

@@ -11,11 +11,11 @@ use Rattle.std.proofs.lemmas.Slice.Eq.{bytes_eq-Decides}
 use Rattle.gm_metadata.specs.Images.{Sizes}
 use Rattle.gm_shelf.specs.Disk.{AreNames, IsAscending}
 
--- labels tie only where they are one
+-- labels tie only if they are one
 pub same_key : (a b : List ℕ) → Decides (eq_by_cmp (slice_cmp nat_cmp) a b) (a ≡ b)
 same_key a b = rw (← texts_ties a b) (bytes_eq-Decides a b)
 
--- sizes that are known just where the list has the name
+-- sizes that are known exactly when the list has the name
 pub names_are : (sizes : Sizes) (names : List (List ℕ)) → IsAscending names
     → ((q : List ℕ) → is_some (sizes q) ≡ is_member (eq_by_cmp (slice_cmp nat_cmp)) names q)
     → AreNames sizes names

@@ -1,4 +1,4 @@
--- What a pick names where nothing was written.
+-- What a pick names if nothing was written.
 use Rattle.std.proofs.Common.{◌≡◌, ℕ, List, [], min, refl, arith}
 use Rattle.gm_shelf.specs.Picks.{picked_value}
 

@@ -60,7 +60,7 @@ so_far_start history names pick = record {
   past = λ i j lt. absurd (omega (arith, lt));
 }
 
--- a name is among the first k + 1 where it is the k-th, or among the first k
+-- a name is among the first k + 1 if it is the k-th, or among the first k
 below_or_last : (i k : ℕ) → i < k + 1 → (i < k) ⊎ (i ≡ k)
 below_or_last i k lt =
     ⊎_elim (λ (below : i < k). inl below) (λ (ge : k ≤ i). inr (omega arith)) (cases_lt i k)

@@ -101,7 +101,7 @@ IsFixed p old new = (x : Image) → new.may_leave x → (j : ℕ) → x p j ≡ 
 abbrev pub Answer : Type 0
 Answer = Result (Unit {0}) ShelfFault
 
--- the count of failures after a call: one more where it answers `Device`, and else as it was
+-- the count of failures after a call: one more if it answers `Device`, and else as it was
 abbrev pub faults_after : Answer → ℕ → ℕ
 faults_after (Err Device) n = n + 1
 faults_after _ n = n

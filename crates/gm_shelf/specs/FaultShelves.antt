@@ -31,7 +31,7 @@ module _ {H : Type 0} where
     pub inner : inner_gives answer
     pub uncounted : new.failures ≡ old.failures
 
-  -- a call that fails before it acts: a failure of the device, but where the place isn't there
+  -- a call that fails before it acts: a failure of the device, unless the place isn't there
   pub record IsStopped (is_there : Type 0) (answer : Answer) (old new : FaultShelf H) : Type 0 where
     pub untouched : new.inner ≡ old.inner
     pub fails : is_there → IsFailure answer old new

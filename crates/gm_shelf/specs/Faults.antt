@@ -21,7 +21,7 @@ fault_text Memory = codes "out of memory"
 abbrev pub last_count : ℕ
 last_count = 18446744073709551615
 
--- how a failure of the device is answered, where so many came before
+-- how a failure of the device is answered, if so many came before
 abbrev pub fault_after : ℕ → ShelfFault
 fault_after n = if n == last_count then Memory else Device
 

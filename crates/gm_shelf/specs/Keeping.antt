@@ -17,7 +17,7 @@ module _ {H : Type 0} (g : Ghosts H) (old new : H) where
     pub keeps : Keeps
     pub reads : g.honest old → AreReads (g.view old) (g.view new)
 
--- A call that only reads, and only what is there: it fails for want of memory, or where the device
+-- A call that only reads, and only what is there: it fails for want of memory, or if the device
 -- failed and that was counted.
 pub record Looks {H T : Type 0} (g : Ghosts H) (old new : H) (result : Result T ShelfFault) :
     Type 0 where

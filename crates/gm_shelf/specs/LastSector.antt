@@ -30,7 +30,7 @@ pub record IsDone (p : Label) (i : ℕ) (s : List ℕ) (old new : View) : Type 0
   pub left : (x : Image) → new.may_leave x → From old.may_leave (λ d. Same x (put p i s d))
   pub fixed : (x : Image) → new.may_leave x → (j : ℕ) → x p j ≡ new.seen p j
 
--- one write, then one sync where the write was done, and nothing else; the answer is that of the
+-- one write, then one sync if the write was done, and nothing else; the answer is that of the
 -- last of them
 pub record WritesThenSyncs {S : Type 0} (write_gives sync_gives : Answer → S → S → Type 0)
     (answer : Answer) (old new : S) : Type 0 where

@@ -8,7 +8,7 @@ use Rattle.gm_shelf.specs.History.{size_after, synced_after, written_after}
 use Rattle.gm_shelf.specs.declared.history.Event.{Event}
 
 -- the value that a pick names: 0 the synced one, k the k-th that was written since, or the last
--- where there are fewer
+-- if there are fewer
 abbrev pub picked_value : List ℕ → List (List ℕ) → ℕ → List ℕ
 picked_value synced written pick = slice_index_or (synced ∷ written) (min pick (length written)) []
 
@@ -31,7 +31,7 @@ abbrev pub unsynced_of : List Event → List Label → ℕ
 unsynced_of history names =
     sum_by (λ p. unsynced_below history p (unwrap_or (size_after history p) 0)) names
 
--- what the sector holds, where so many unsynced ones come before it
+-- what the sector holds, if so many unsynced ones come before it
 abbrev pub picked_after : List Event → List ℕ → ℕ → Label → ℕ → List ℕ
 picked_after history pick before p j =
     picked_value (synced_after history p j) (written_after history p j)

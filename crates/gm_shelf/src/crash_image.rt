@@ -97,7 +97,7 @@ fn taken_after(taken: usize, is_unsynced: bool, picks: usize) -> usize
     }
 }
 
-// The sectors of a provider, with the picks behind those that were taken. One is taken for each
+// The sectors of a provider, with the picks after those that were taken. One is taken for each
 // unsynced sector.
 pub(crate) fn picked_sectors(
     log: &Vec<Event>,

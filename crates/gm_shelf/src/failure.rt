@@ -69,7 +69,7 @@ fn system_cause(kind: ErrorKind) -> Cause {
     }
 }
 
-/// Why a file failed; None where nothing failed but that memory was refused.
+/// Why a file failed; `None` if nothing failed but that memory was refused.
 pub(crate) fn cause_of(fault: &FileFault) -> Option<Cause>
     ensures { (result ≡ None) ↔ WantsMemory fault.now }
 {

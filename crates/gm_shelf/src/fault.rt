@@ -72,7 +72,7 @@ impl From<AllocError> for ShelfFault {
     }
 }
 
-// Counts a failure of the device, where it can be counted, and says how it is answered.
+// Counts a failure of the device, if it can be counted, and says how it is answered.
 pub(crate) fn device_failed(failures: &mut u64) -> ShelfFault
     ensures answer { result ≡ fault_after failures.old }
     ensures count { failures.new ≡ count_after failures.old }

@@ -57,7 +57,7 @@ impl<H: Shelf> FaultShelf<H> {
     }
 
     /// The nth read, write or sync, counted from 1, acts, and then fails; every later one fails
-    /// before it acts. An nth of 0 is as one of 1. Where the wrapped shelf itself fails the nth,
+    /// before it acts. An nth of 0 is as one of 1. If the wrapped shelf itself fails the nth,
     /// that is its answer, and isn't counted again.
     pub fn stop_after(inner: H, nth: u64) -> FaultShelf<H>
         ensures inner { inner_of result ≡ inner }
@@ -72,7 +72,7 @@ impl<H: Shelf> FaultShelf<H> {
     }
 
     /// The nth read, write or sync alone fails, counted from 1: after it acted or before, as
-    /// `acted` says. All others pass. An nth of 0 is as one of 1. Where the wrapped shelf itself
+    /// `acted` says. All others pass. An nth of 0 is as one of 1. If the wrapped shelf itself
     /// fails an nth that acts, that is its answer, and isn't counted again.
     pub fn fail_once(inner: H, nth: u64, acted: bool) -> FaultShelf<H>
         ensures inner { inner_of result ≡ inner }

@@ -36,7 +36,7 @@ impl<R: Files<File = File> + AllocGlobal + Clone + Drop> FileShelf<R> {
     ghost use Rattle.gm_shelf.specs.Folder.{images_but};
 
     /// Opens a folder: its regular files whose names are labels and whose lengths are multiples of
-    /// 512, as they are now. Every other entry is skipped. Fails where the folder can't be listed.
+    /// 512, as they are now. Every other entry is skipped. Fails if the folder can't be listed.
     pub fn open(rt: &R, folder: &str) -> io::Result<FileShelf<R>>
         ensures folder { IfOk result (λ shelf. folder_of shelf ≡ folder.now) }
         ensures no_failures { IfOk result (λ shelf. failures_of shelf ≡ 0) }
@@ -55,7 +55,7 @@ impl<R: Files<File = File> + AllocGlobal + Clone + Drop> FileShelf<R> {
         passed_over_in(rt, folder)
     }
 
-    /// Which image failed last, and why; None where none has failed. It stands beside the faults,
+    /// Which image failed last, and why; `None` if none has failed. It stands beside the faults,
     /// for whoever is to be told more than their number.
     pub fn last_failure(&self) -> Option<ImageFailure>
         ensures { result ≡ last_failure_of self.now }
@@ -73,7 +73,7 @@ impl<R: Files<File = File> + AllocGlobal + Clone + Drop> FileShelf<R> {
     }
 
     /// Opens those images of a folder that have these names, to be read alone: every write fails.
-    /// No other entry of the folder is looked at. Fails where there is no such folder.
+    /// No other entry of the folder is looked at. Fails if there is no such folder.
     pub fn look_at(rt: &R, folder: &str, names: &[Label]) -> io::Result<FileShelf<R>>
         ensures folder { IfOk result (λ shelf. folder_of shelf ≡ folder.now) }
         ensures no_failures { IfOk result (λ shelf. failures_of shelf ≡ 0) }
@@ -121,7 +121,7 @@ fn run_in(length: u64, first: u64, sectors: u64) -> Result<u64, ShelfFault>
     Ok(first * 512)
 }
 
-// How a call is answered where the file of an image did this.
+// How a call is answered if the file of an image did this.
 fn outcome(
     done: Result<(), FileFault>,
     image: Label,

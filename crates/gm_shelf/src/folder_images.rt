@@ -22,7 +22,7 @@ pub(crate) struct ImageFile {
 /// The images of a folder by their names.
 pub(crate) type Images = BTreeMap<Label, ImageFile>;
 
-// The image that something with these attributes is, where it is one.
+// The image that something with these attributes is, if it is one.
 fn image_with(found: &Metadata) -> Option<ImageFile> {
     let length = length_of(found).ok()?;
     Some(ImageFile {
@@ -38,13 +38,13 @@ struct Found {
     image: ImageFile,
 }
 
-// The image that something of this name with these attributes is, where it is one.
+// The image that something of this name with these attributes is, if it is one.
 fn image_by(name: Label, found: &Metadata) -> Option<Found> {
     let image = image_with(found)?;
     Some(Found { name, image })
 }
 
-// The image that an entry of a folder is, where it is one.
+// The image that an entry of a folder is, if it is one.
 fn image_of<R: Files + Drop>(entry: io::Result<DirEntry<R>>) -> io::Result<Option<Found>> {
     let entry = match entry {
         Ok(entry) => entry,
@@ -72,8 +72,8 @@ fn check_apart(alloc: Global, images: &Images) -> io::Result<()> {
     Ok(())
 }
 
-/// The images of a folder. Fails where the folder can't be listed, where an entry can't be looked
-/// at, and where two names are one file.
+/// The images of a folder. Fails if the folder can't be listed, if an entry can't be looked
+/// at, and if two names are one file.
 pub(crate) fn images_in<R: Files + AllocGlobal + Clone + Drop>(
     rt: &R,
     folder: &str,
@@ -95,7 +95,7 @@ pub(crate) fn leave_out(images: &mut Images, files: &[FileId])
     images.retain(|_, image| !files.contains(&image.file));
 }
 
-/// What has this name in a folder, where something has: its attributes, and no link's target's.
+/// What has this name in a folder, if something has: its attributes, and no link's target's.
 pub(crate) fn found_as<R: Files + AllocGlobal>(
     rt: &R,
     folder: &str,
@@ -109,8 +109,8 @@ pub(crate) fn found_as<R: Files + AllocGlobal>(
     }
 }
 
-/// The images of a folder that have these names; no other entry is looked at. Fails where there is
-/// no such folder, where one of the entries can't be looked at, and where two of the names are one
+/// The images of a folder that have these names; no other entry is looked at. Fails if there is
+/// no such folder, if one of the entries can't be looked at, and if two of the names are one
 /// file.
 pub(crate) fn images_named<R: Files + AllocGlobal>(
     rt: &R,

@@ -57,8 +57,8 @@ impl MemShelf {
     }
 
     /// What a crash now leaves, by these picks. The i-th unsynced sector, by provider in byte order
-    /// and by place, takes its synced value where `pick[i]` is 0, else the `pick[i]`-th that was
-    /// written to it since, or the last where there are fewer. A missing pick counts as 0.
+    /// and by place, takes its synced value if `pick[i]` is 0, else the `pick[i]`-th that was
+    /// written to it since, or the last if there are fewer. A missing pick counts as 0.
     pub fn crash_image(&self, pick: &[u32]) -> Result<MemShelf, AllocError>
         ensures sizes { IfOk result (λ m.
             (q : Label) → size_after (history m) q ≡ size_after (history self.now) q) }
@@ -81,7 +81,7 @@ impl MemShelf {
         Ok(image)
     }
 
-    /// A law: some picks name each image that a crash may leave, where no sector was written 2^32
+    /// A law: some picks name each image that a crash may leave, if no sector was written 2^32
     /// times since its sync.
     pub fn every_image_has_picks(&self)
         ensures { (x : Image) → may_leave_after (history self.now) x →

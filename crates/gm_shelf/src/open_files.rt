@@ -144,8 +144,8 @@ impl<R: Files<File = File> + AllocGlobal + Clone + Drop> OpenFiles<R> {
     }
 
     /// Acts on the file of an image, which is opened at its first use and kept. Each time its name
-    /// is looked at before: where the image isn't there, or something else is in its place, nothing
-    /// is done. Where too many are open, another one is closed.
+    /// is looked at before: if the image isn't there, or something else is in its place, nothing
+    /// is done. If too many are open, another one is closed.
     pub(crate) fn with<F: FnOnce(&mut OpenFile) -> io::Result<()>>(
         &mut self,
         name: Label,

@@ -59,7 +59,7 @@ fn shown(alloc: Global, bytes: &[u8]) -> Result<String, AllocError>
     Ok(text)
 }
 
-// A name as it is, where it is UTF-8, and else as it is shown.
+// A name as it is, if it is UTF-8, and else as it is shown.
 fn text_of(alloc: Global, name: &[u8]) -> Result<String, AllocError>
     ensures same { IsUtf8 name.now → IfOk result (λ text. string_bytes text ≡ name.now) }
     ensures shown { ¬ (IsUtf8 name.now)
@@ -76,7 +76,7 @@ fn is_a_folder_of_itself(name: &[u8]) -> bool {
     name == b".".as_slice() || name == b"..".as_slice()
 }
 
-// Why the entry of this name isn't an image, where it is there and is none.
+// Why the entry of this name isn't an image, if it is there and is none.
 fn reason_of<R: Files + AllocGlobal>(
     rt: &R,
     folder: &str,
@@ -111,8 +111,8 @@ fn reasons_in<R: Files + AllocGlobal>(
     Ok(reasons)
 }
 
-/// The entries of a folder that aren't images, in byte order of names. Fails where the folder can't
-/// be listed, and where an entry can't be looked at. One that goes meanwhile is left out.
+/// The entries of a folder that aren't images, in byte order of names. Fails if the folder can't
+/// be listed, and if an entry can't be looked at. One that goes meanwhile is left out.
 pub(crate) fn passed_over_in<R: Files + AllocGlobal>(
     rt: &R,
     folder: &str,

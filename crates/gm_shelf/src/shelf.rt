@@ -41,12 +41,12 @@ pub trait Shelf {
     fn names(&self) -> Result<Vec<Label>, AllocError>
         ensures { IfOk result (λ v. AreNames (size self.now) v.items) };
 
-    /// How many sectors the provider has; `None` where the shelf hasn't the provider.
+    /// How many sectors the provider has; `None` if the shelf hasn't the provider.
     fn sectors(&self, provider: Label) -> Option<u64>
         ensures { result ≡ size self.now provider };
 
     /// Reads the sector at this place, counted from 0. It changes nothing of what is held or left,
-    /// also where it fails; after a fault `out` holds anything.
+    /// even if it fails; after a fault `out` holds anything.
     fn read(&mut self, provider: Label, place: u64, out: &mut [u8; 512]) -> Result<(), ShelfFault>
         ensures bytes { honest self.old →
             OnOk result (out.new ≡ (view self.old).seen provider place) }
@@ -82,8 +82,8 @@ pub trait Shelf {
             (view self.old).faults < (view self.new).faults }
         ensures gives { write_gives self.old provider place sector.now result self.new };
 
-    /// Reads a run of sectors, from this one on. It changes nothing of what is held or left, also
-    /// where it fails; after a fault `out` holds anything. A run that goes past the end is `Range`,
+    /// Reads a run of sectors, from this one on. It changes nothing of what is held or left, even
+    /// if it fails; after a fault `out` holds anything. A run that goes past the end is `Range`,
     /// and of an empty one that doesn't nothing is read.
     fn read_run(
         &mut self,

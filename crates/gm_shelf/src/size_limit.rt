@@ -5,7 +5,7 @@ use std::io::{self, ErrorKind};
 // Of which limit the system is asked: that of a file's size, on Linux.
 const FILE_SIZE: i32 = 1;
 
-/// Fails where a write that ends at this offset goes past the limit: the system would end the
+/// Fails if a write that ends at this offset goes past the limit: the system would end the
 /// process for it, by a signal, before it could say anything.
 pub(crate) fn check_size(end: u64) -> io::Result<()> {
     let mut limit = libc::types::rlimit {

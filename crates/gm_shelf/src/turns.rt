@@ -58,7 +58,7 @@ impl Plan {
 }
 
 impl Turn {
-    /// Answers a call that nothing else fails. Where it fails by its turn, that is counted.
+    /// Answers a call that nothing else fails. If it fails by its turn, that is counted.
     pub(crate) fn answer(self, failures: &mut u64) -> Result<(), ShelfFault>
         ensures passes { self ≡ Turn.Passes → IsOk result }
         ensures uncounted { self ≡ Turn.Passes → failures.new ≡ failures.old }

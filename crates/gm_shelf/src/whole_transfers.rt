@@ -37,7 +37,7 @@ fn write_some<F: FileExt>(file: &F, bytes: &[u8], offset: u64) -> io::Result<usi
     Err(io::Error::from(ErrorKind::Interrupted))
 }
 
-/// Fills all of this from the file, from this offset on. Fails where the file ends before.
+/// Fills all of this from the file, from this offset on. Fails if the file ends before.
 pub(crate) fn read_whole<F: FileExt>(file: &F, out: &mut [u8], offset: u64) -> io::Result<()> {
     let mut done = 0;
     // Each turn reads a byte at least.

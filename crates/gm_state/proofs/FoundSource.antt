@@ -19,7 +19,7 @@ IsBest-same P Q f g None h = λ j q. h j (g j q)
 IsBest-same P Q f g (Some k) h = (f k h.0, λ j q. h.1 j (g j q))
 
 module _ (t : Component) where
-  -- those seen, and x where it may lend
+  -- those seen, and x if it may lend
   abbrev With : (Component → Type 0) → Component → Component → Type 0
   With P x j = P j ⊎ ((x ≡ j) × (lends_to t j ≡ true))
 

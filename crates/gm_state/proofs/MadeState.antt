@@ -19,7 +19,7 @@ tested ms ms' ks ks' b e p q =
     subst (λ (y : List Component). is_state (record { mirrors = ms'; components = y }) ≡ b) q
     (subst (λ (x : List Mirror). is_state (record { mirrors = x; components = ks }) ≡ b) p e)
 
--- where the records in order pass, they are a state
+-- if the records in order pass, they are a state
 pub passed : (ms ms' : List Mirror) (ks ks' : List Component) (b : Bool)
     → b ≡ is_state (record { mirrors = ms; components = ks }) → b ≡ true → ms ≡ ms' → ks ≡ ks'
     → IsState (record { mirrors = ms'; components = ks' })
@@ -27,7 +27,7 @@ passed ms ms' ks ks' b e t p q =
     is_state_tells (record { mirrors = ms'; components = ks' })
     (tested ms ms' ks ks' true (sym e ∙ t) p q)
 
--- where the records in order fail the tests, they are no state in any order
+-- if the records in order fail the tests, they are no state in any order
 pub refused : (ms sorted_ms : List Mirror) (ks sorted_ks : List Component)
     → IsPermutation ms sorted_ms → IsPermutation ks sorted_ks
     → IsSortedByKey name (slice_cmp nat_cmp) sorted_ms

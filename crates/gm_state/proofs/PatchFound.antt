@@ -161,7 +161,7 @@ meta_of_dirt (t ∷ ts) clean p (inl s) =
     meta_is (Patch q a b) e = cc
 meta_of_dirt (t ∷ ts) clean p (inr h) = inr (meta_of_dirt ts clean.1 p h)
 
--- nothing is patched where no bytes are to be laid
+-- nothing is patched if no bytes are to be laid
 pub none_patched : (s : Records) (ts : List Intent) → AreReadable s [] ts
     → list_any is_patch ts ≡ false
 none_patched s ts readable = any_none is_patch ts (λ t h. off t h (readable.each t h))

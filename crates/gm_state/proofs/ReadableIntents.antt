@@ -23,7 +23,7 @@ use Rattle.gm_state.proofs.SoundClaims.{some_there, mirror_found}
 use Rattle.gm_state.proofs.TestsTellRules.{member}
 use Rattle.gm_lists.proofs.Putting.{one}
 
--- none brings data to p where none is a fill of it
+-- none brings data to p if none is a fill of it
 no_fill : (ts : List Intent) (p : List ℕ) → list_any (is_fill_of p) ts ≡ false → (i : ℕ)
     → any_fills ts p i ≡ false
 no_fill [] p e i = refl
@@ -154,7 +154,7 @@ module _ (s : Records) (size : Sizes) (state : IsState s) (all : List Intent)
   fills_data (Dirty p) r among q j e = cc
   fills_data (Patch p a b) r among q j e = no_last_patched p a b r among q j e
 
-  -- behind what claims nothing is brought
+  -- after what claims, nothing is brought
   claims_last : (earlier : List Intent) (t : Intent) (ts : List Intent) → IsReadable s t
       → Has all t → ((r : Intent) → Has ts r → IsReadable s r) → StandsBetween earlier t ts
       → (q : List ℕ) (j : ℕ) → is_last (size q) j ≡ true → claims size t q j ≡ true → (i : ℕ)
@@ -171,7 +171,7 @@ module _ (s : Records) (size : Sizes) (state : IsState s) (all : List Intent)
   claims_last earlier (Patch p a b) ts r among each stands q j last e i =
       not_both (is_last (size q) j) last (no_last_patched p a b r among q j e)
 
-  -- a patch stands behind a Dirty
+  -- a patch comes after a Dirty
   patched_behind : (earlier : List Intent) (t : Intent) (ts : List Intent)
       → StandsBetween earlier t ts → (q : List ℕ) (j : ℕ) → patches t q j ≡ true
       → list_any (is_dirty_of q) earlier ≡ true

@@ -25,7 +25,7 @@ each_rest P x xs all = λ y has. all y (inr has)
 
 -- ---- one of a list
 
--- a list has it where what is left of the list has it
+-- a list has it if what is left of the list has it
 pub record IsLeft {A : Type 0} (x : A) (all rest : List A) : Type 0 where
   pub there : Has rest x → Has all x
   pub back : Has all x → Has rest x

@@ -3,7 +3,7 @@ use Rattle.std.specs.Prelude.{◌&&◌, nat_lt, List, [], ◌∷◌, Option, Som
 use Rattle.gm_state.specs.declared.records.Component.{Component}
 use Rattle.gm_state.specs.Sources.{lends_to}
 
--- the best so far, or k where it lends to t and has a greater priority
+-- the best so far, or k if it lends to t and has a greater priority
 abbrev pub better : Component → Option Component → Component → Option Component
 better t None k = if lends_to t k then Some k else None
 better t (Some a) k = if (lends_to t k && nat_lt a.priority k.priority) then Some k else Some a

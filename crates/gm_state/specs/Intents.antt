@@ -99,9 +99,9 @@ abbrev pub IsDirt : Records → List ℕ → List ℕ → Type 0
 IsDirt s p x = (m : Mirror) × (k : Component) × IsOf s m k × (k.provider ≡ p)
     × (x ≡ encoded (dirty_metadata m k))
 
--- what sector j holds by the intent where all is carried out, where the records are s, the pending
+-- what sector j holds by the intent when all is carried out, where the records are s, the pending
 -- bytes are these sectors and the shelf holds w: the component's metadata, zeros, the source's
--- sector, or one of the bytes'; where a Dirty wrote, what the Meta behind it says
+-- sector, or one of the bytes'; where a Dirty wrote, what the Meta after it says
 abbrev pub Says : Records → List (List ℕ) → Image → Intent → ℕ → List ℕ → Type 0
 Says s bytes w (Meta p) j x = IsMeta s p x
 Says s bytes w (Clear p) j x = x ≡ zeros
@@ -139,7 +139,7 @@ IsAtHand size (Copy source target first end) =
 IsAtHand size (Dirty p) = IsSomeAnd (size p) (λ n. 0 < n)
 IsAtHand size (Patch p first end) = IsSomeAnd (size p) (λ n. end ≤ n)
 
--- a Meta stands behind each Dirty of its provider, so that no dirt is left
+-- a Meta comes after each Dirty of its provider, so that no dirt is left
 abbrev pub LeaveNoDirt : List Intent → Type 0
 LeaveNoDirt [] = Unit {0}
 LeaveNoDirt (t ∷ ts) =
@@ -154,9 +154,9 @@ pub record IsRedo (s : Records) (bytes : List (List ℕ)) (size : Sizes) (ts : L
   pub clean : LeaveNoDirt ts
   pub agrees : Agrees size ts x w
 
--- Data before claim, and dirt before data, where `earlier` are the intents before these: behind a
+-- Data before claim, and dirt before data, where `earlier` are the intents before these: after a
 -- write of a provider's last sector that may claim nothing brings data to that provider, no data
--- reach a last sector, and a Patch stands behind a Dirty of its provider.
+-- reach a last sector, and a Patch comes after a Dirty of its provider.
 abbrev pub InOrderFrom : Sizes → List Intent → List Intent → Type 0
 InOrderFrom size earlier [] = Unit {0}
 InOrderFrom size earlier (t ∷ ts) =

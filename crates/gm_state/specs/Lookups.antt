@@ -43,7 +43,7 @@ with_dirty d = record d { dflags = record d.dflags { dirty = true } }
 abbrev pub dirty_metadata : Mirror → Component → Metadata
 dirty_metadata m k = with_dirty (metadata m k)
 
--- what is said of a component and its mirror, where the provider is a component
+-- what is said of a component and its mirror, if the provider is a component
 abbrev pub at_component : {X : Type 0} → Records → List ℕ → (Mirror → Component → X) → Option X
 at_component s provider f =
     option_and_then (λ k. option_map (λ m. f m k) (mirror_of s k.mirror)) (component_of s provider)

@@ -1,4 +1,4 @@
--- Which intents may be pending where the records are those of a state.
+-- Which intents may be pending if the records are those of a state.
 use Rattle.std.specs.Prelude.{◌≡◌, ◌≢◌, ◌≤◌, ◌<◌, ◌⊎◌, ◌+◌, ℕ, Bool, true, false, IsTrue, List, [], ◌∷◌, ◌++◌, length, filter, None, IsSomeAnd}
 use Rattle.std.specs.List.{list_any}
 use Rattle.gm_metadata.specs.Images.{same_label}
@@ -62,8 +62,8 @@ IsReadable s (Copy source target first end) = IsCopyWithin s source target first
 IsReadable s (Dirty p) = IsSomeAnd (component_of s p) (λ k. k.disk ≡ InSync)
 IsReadable s (Patch p first end) = IsPatchWithin s p first end
 
--- between the earlier intents and the later ones: behind a Meta nothing brings data to its
--- provider, a Copy, a Dirty and a Patch stand before some Meta of theirs, and a Patch behind some
+-- between the earlier intents and the later ones: after a Meta nothing brings data to its
+-- provider, a Copy, a Dirty and a Patch come before some Meta of theirs, and a Patch after some
 -- Dirty of its provider
 abbrev pub StandsBetween : List Intent → Intent → List Intent → Type 0
 StandsBetween earlier (Meta p) later = list_any (is_fill_of p) later ≡ false
@@ -87,7 +87,7 @@ abbrev pub IsOfRange : ℕ → ℕ → Intent → Type 0
 IsOfRange start count (Patch p first end) = (first ≡ start) × (end ≡ start + count)
 IsOfRange start count _ = Unit {0}
 
--- All Patches have one range, of as many sectors as are pending, and stand beside no Copy; where
+-- All Patches have one range, of as many sectors as are pending, and stand beside no Copy; if
 -- there is none, nothing is pending to be laid.
 pub record AreOfOnePatch (bytes : List (List ℕ)) (ts : List Intent) : Type 0 where
   pub start : ℕ

@@ -123,7 +123,7 @@ abbrev pub intent_rows : ℕ → List Intent → List IntentRow
 intent_rows n [] = []
 intent_rows n (t ∷ ts) = intent_row n t ∷ intent_rows (n + 1) ts
 
--- the bytes that are to be laid, in one record; none where there are none
+-- the bytes that are to be laid, in one record; none if there are none
 abbrev pub patch_rows : List (List ℕ) → List (List ℕ)
 patch_rows [] = []
 patch_rows (sector ∷ more) = joined (sector ∷ more) ∷ []

@@ -17,7 +17,7 @@ abbrev pub GoesFirst : Component → Component → Type 0
 GoesFirst a b = (b.priority < a.priority)
     ⊎ ((b.priority ≡ a.priority) × (label_lt a.provider b.provider ≡ true))
 
--- the one of those with P that goes before the others; none where none has P
+-- the one of those with P that goes before the others; none if none has P
 abbrev pub IsBest : (Component → Type 0) → Option Component → Type 0
 IsBest P None = (j : Component) → P j → ⊥
 IsBest P (Some k) = P k × ((j : Component) → P j → (j ≡ k) ⊎ GoesFirst k j)

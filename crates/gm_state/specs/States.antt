@@ -12,7 +12,7 @@ use Rattle.gm_state.specs.declared.states.MirrorState.TheVariants.{Complete, Deg
 use Rattle.gm_state.specs.Records.{Records}
 use Rattle.gm_state.specs.Lookups.{at_component, is_active}
 
--- INACTIVE; else ACTIVE where SYNCHRONIZING is clear; else STALE under NOAUTOSYNC without
+-- INACTIVE; else ACTIVE if SYNCHRONIZING is clear; else STALE under NOAUTOSYNC without
 -- FORCE_SYNC; else SYNCHRONIZING
 abbrev pub state_by : MirrorFlags → Disk → ComponentState
 state_by flags disks.Inactive = Inactive
@@ -28,7 +28,7 @@ component_state s provider = at_component s provider (λ m k. state_by m.flags k
 abbrev pub active_count : List Component → ℕ
 active_count ks = count_by (λ k. is_active k.disk) ks
 
--- COMPLETE where as many are ACTIVE as the mirror has in all, else DEGRADED
+-- COMPLETE if as many are ACTIVE as the mirror has in all, else DEGRADED
 abbrev pub state_among : Mirror → List Component → MirrorState
 state_among m ks = if active_count ks == m.all then Complete else Degraded
 

@@ -92,12 +92,12 @@ has_syncid None n = false
 has_syncid (Some m) n = m.syncid == n
 
 -- the data of a mirror that an image with this syncid claims on the way from u to w: those after
--- where it has the syncid of after, else those before
+-- if it has the syncid of after, else those before
 abbrev pub data_at : World → World → List ℕ → ℕ → ℕ → List ℕ
 data_at u w name syncid i =
     if has_syncid (mirror_of w.state name) syncid then w.holds name i else u.holds name i
 
--- On the way from u to w no image of a component of u claims a sector that it lacks: where its last
+-- On the way from u to w no image of a component of u claims a sector that it lacks, if its last
 -- sector bears metadata of its mirror, with neither INACTIVE nor DIRTY.
 abbrev pub Claims : World → World → Image → Type 0
 Claims u w x =

@@ -32,7 +32,7 @@ pub fn metadata(mirror: &Mirror, component: &Component) -> Metadata
     }
 }
 
-/// The metadata of a component, whole; `None` where the provider is no component.
+/// The metadata of a component, whole; `None` if the provider is no component.
 pub fn metadata_of(state: &State, provider: Label) -> Option<Metadata>
     ensures value { result ≡ metadata_of state.now provider }
     ensures state { IsState state.now }
@@ -56,7 +56,7 @@ fn with_dirty(metadata: &Metadata) -> Metadata
 }
 
 /// The metadata of a component with DIRTY, which its last sector says while its data change; `None`
-/// where the provider is no component.
+/// if the provider is no component.
 pub fn dirty_metadata_of(state: &State, provider: Label) -> Option<Metadata>
     ensures value { result ≡ dirty_metadata_of state.now provider }
     ensures state { IsState state.now }

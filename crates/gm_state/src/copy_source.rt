@@ -53,7 +53,7 @@ fn name_of(component: Option<Component>) -> Option<Label>
 }
 
 /// The source of a copy to the target: the ACTIVE component of its mirror other than itself with
-/// the greatest priority, among equals the one with the least name. `None` where there is none, or
+/// the greatest priority, among equals the one with the least name. `None` if there is none, or
 /// the target is no component.
 pub fn source(state: &State, target: Label) -> Option<Label>
     ensures best { IsSource state.now target result }

@@ -155,7 +155,7 @@ fn has_dirty_of(intents: &[Intent], provider: Label) -> bool
     intents.iter().any(|t| is_dirty_of(t, provider))
 }
 
-/// Whether the intent stands where it may, behind the earlier ones and before the later ones.
+/// Whether the intent stands where it may, after the earlier ones and before the later ones.
 fn stands_between(earlier: &[Intent], intent: Intent, later: &[Intent]) -> bool
     ensures { IsTrue result ↔ StandsBetween earlier.now intent later.now }
 {

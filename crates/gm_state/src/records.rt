@@ -31,7 +31,7 @@ pub enum Disk {
     InSync,
     /// INACTIVE alone: it takes no part.
     Inactive,
-    /// SYNCHRONIZING, with FORCE_SYNC where it is forced: the first `held` sectors of the data are
+    /// SYNCHRONIZING, with FORCE_SYNC if it is forced: the first `held` sectors of the data are
     /// copied.
     Copying { forced: bool, held: u32 },
 }
@@ -76,8 +76,8 @@ impl Disk {
         }
     }
 
-    /// How the data stand where the sector has these flags, and an offset of so many sectors;
-    /// `None` where no component has both.
+    /// How the data stand if the sector has these flags, and an offset of so many sectors;
+    /// `None` if no component has both.
     pub fn from_flags(flags: DiskFlags, held: u32) -> Option<Disk>
         ensures some { IfSome result (λ d. (disk_flags d ≡ flags) × (held_of d ≡ held)) }
         ensures none { IfNone result ((d : Disk) → disk_flags d ≡ flags → held_of d ≡ held → ⊥) }

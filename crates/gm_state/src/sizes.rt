@@ -11,7 +11,7 @@ pub fn bytes_of(sectors: u32) -> u64
     u64::from(SECTOR_SIZE) * u64::from(sectors)
 }
 
-/// The sectors that are so many bytes; `None` where no number of sectors is.
+/// The sectors that are so many bytes; `None` if no number of sectors is.
 pub fn sectors_of(bytes: u64) -> Option<u32>
     ensures some { IfSome result (λ n. 512 * n ≡ bytes) }
     ensures none { IfNone result ((n : ℕ) → n < 2 ^ 32 → 512 * n ≡ bytes → ⊥) }

@@ -83,7 +83,7 @@ fn place_of(components: &[Component], provider: Label) -> usize
 }
 
 impl State {
-    /// The state with these records, given in any order; `None` where they break a rule.
+    /// The state with these records, given in any order; `None` if they break a rule.
     pub fn new(mut mirrors: Vec<Mirror>, mut components: Vec<Component>) -> Option<State>
         ensures some { IfSome result (λ s. IsStateOf mirrors.items components.items s) }
         ensures none { IfNone result ((s : Records)

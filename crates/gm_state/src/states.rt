@@ -71,7 +71,7 @@ pub fn state_by(flags: MirrorFlags, disk: Disk) -> ComponentState
     }
 }
 
-/// The state of a component; `None` where the provider is no component.
+/// The state of a component; `None` if the provider is no component.
 pub fn component_state(state: &State, provider: Label) -> Option<ComponentState>
     ensures { result ≡ component_state state.now provider }
 {

@@ -61,7 +61,7 @@ module _ (meant : Taken → Bool) (number : Taken → ℕ) where
       (step_is (meant u) n (number u)))
       (λ (r : Reached ts (raised meant number m ts)). inr (r.0, inr r.1, r.2, r.3)) (reached m ts)
 
-  -- where one is meant, one reaches the greatest
+  -- if one is meant, one reaches the greatest
   pub greatest : (ts : List Taken) (t : Taken) → Has ts t → meant t ≡ true
       → Reached ts (raised meant number 0 ts)
   greatest ts t h e =

@@ -31,7 +31,7 @@ module _ {X : Type 0} (p : X → Bool) where
   all_pass (x ∷ xs) h =
       rw (h x (inl refl)) (ap (λ (ys : List X). x ∷ ys) (all_pass xs (λ y k. h y (inr k))))
 
-  -- where what passes passes q too, q's filter takes nothing away
+  -- if what passes passes q too, q's filter takes nothing away
   pub filter_kept : (q : X → Bool) → ((x : X) → p x ≡ true → q x ≡ true) → (xs : List X)
       → filter p (filter q xs) ≡ filter p xs
   filter_kept q h [] = refl
@@ -57,7 +57,7 @@ AscendsBy-push {X} before (x ∷ xs) y a h = (
 
 -- ---- sorted lists
 
--- none goes before one that it stands behind
+-- none goes before one that it comes after
 abbrev pub Rises : {X : Type 0} → (X → X → Bool) → List X → Type 0
 Rises lt xs = AscendsBy (λ a b. not (lt b a)) xs
 
@@ -86,7 +86,7 @@ module _ {X : Type 0} (lt : X → X → Bool) (order : IsStrictWeakOrder lt) whe
           rw e at next in
           f
 
-  -- what doesn't tie with x, and isn't before it, is behind it
+  -- what doesn't tie with x, and isn't before it, is after it
   pub untied : (x y : X) → lt y x ≡ false → ties lt x y ≡ false → lt x y ≡ true
   untied x y l t =
       elim (cases_Bool (lt x y)) [
@@ -94,7 +94,7 @@ module _ {X : Type 0} (lt : X → X → Bool) (order : IsStrictWeakOrder lt) whe
         | inr e ↦ (let f : true ≡ false = rw (e, l) at t in absurd (true≢false f))
       ]
 
-  -- nor does what stands behind it
+  -- nor does what comes after it
   untied_behind : (x y z : X) → lt x y ≡ true → lt z y ≡ false → ties lt x z ≡ false
   untied_behind x y z l m =
       elim (cases_Bool (lt x z)) [
@@ -102,7 +102,7 @@ module _ {X : Type 0} (lt : X → X → Bool) (order : IsStrictWeakOrder lt) whe
         | inr e ↦ absurd (true≢false (sym l ∙ order.chain x z y e m))
       ]
 
-  -- those that tie with x are the first, where none goes before x
+  -- those that tie with x are the first, if none goes before x
   pub cut : (x : X) (xs : List X) → ((y : X) → Has xs y → lt y x ≡ false) → Rises lt xs
       → (take (prefix_len (ties lt x) xs) xs ≡ filter (ties lt x) xs)
       × (drop (prefix_len (ties lt x) xs) xs ≡ filter (λ y. not (ties lt x y)) xs)

@@ -1,4 +1,4 @@
--- Which member a mirror takes its data from where it is taken over from its images.
+-- Which member a mirror takes its data from when it is taken over from its images.
 use Rattle.std.specs.Prelude.{◌≡◌, ◌⊎◌, ◌<◌, ℕ, Bool, true, false, not, ◌||◌, ◌&&◌, ◌==◌, nat_lt, List, [], ◌∷◌, Option, Some, None, option_map, if◌then◌else◌}
 use Rattle.std.specs.List.{list_any}
 use Rattle.gm_taste.specs.declared.tasted.Member.{Member}
@@ -12,7 +12,7 @@ GoesFirst a b =
     (b.metadata.priority < a.metadata.priority)
     ⊎ ((b.metadata.priority ≡ a.metadata.priority) × (label_lt b.provider a.provider ≡ false))
 
--- of those with P the ACTIVE one that goes first; none where none is ACTIVE
+-- of those with P the ACTIVE one that goes first; none if none is ACTIVE
 abbrev pub IsFirst : (Member → Type 0) → Option Member → Type 0
 IsFirst P None = (x : Member) → P x → is_active x.state ≡ true → ⊥
 IsFirst P (Some b) = P b × (is_active b.state ≡ true) × ((x : Member) → P x
@@ -31,7 +31,7 @@ goes_before a b =
     nat_lt b.metadata.priority a.metadata.priority
     || (a.metadata.priority == b.metadata.priority && label_lt a.provider b.provider)
 
--- an ACTIVE one takes the place of the first so far, where that isn't there or it goes before it
+-- an ACTIVE one takes the place of the first so far, if that isn't there or it goes before it
 abbrev pub takes_place : Option Member → Member → Bool
 takes_place None x = is_active x.state
 takes_place (Some known) x = is_active x.state && goes_before x known

@@ -14,7 +14,7 @@ use Rattle.gm_lists.specs.Ordered.{label_lt, Has, AscendsBy}
 use Rattle.gm_taste.specs.Verdicts.{verdict}
 use Rattle.gm_taste.specs.States.{state_of}
 
--- the provider of this name, where it is taken
+-- the provider of this name, if it is taken
 abbrev pub taken_as : List ℕ → Result Metadata Reason → Option Taken
 taken_as name (Ok m) = Some (record { provider = name; metadata = m })
 taken_as name (Err reason) = None
@@ -22,7 +22,7 @@ taken_as name (Err reason) = None
 abbrev pub taken_by : Provider → Option Taken
 taken_by p = taken_as p.name (verdict p)
 
--- the provider of this name, where it is left out
+-- the provider of this name, if it is left out
 abbrev pub left_as : List ℕ → Result Metadata Reason → Option LeftOut
 left_as name (Ok m) = None
 left_as name (Err reason) = Some (record { provider = name; reason = reason })

@@ -22,7 +22,7 @@ own_name p m = names_own p.name m.provider
 abbrev pub own_size : Provider → Metadata → Bool
 own_size p m = m.provsize == 0 || m.provsize == p.sectors * 512
 
--- what was read is taken where it names this provider or none, and tells its size or none
+-- what was read is taken if it names this provider or none, and gives its size or none
 abbrev pub judged : Provider → Result Metadata DecodeFault → Result Metadata Reason
 judged p (Err fault) = Err (Decode fault)
 judged p (Ok m) =

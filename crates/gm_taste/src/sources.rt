@@ -1,4 +1,4 @@
-//! Which member a mirror takes its data from where it is taken over from its images.
+//! Which member a mirror takes its data from when it is taken over from its images.
 
 ghost use Rattle.std.specs.Prelude.{◌≡◌, None, option_map};
 ghost use Rattle.gm_taste.specs.Sources.{IsSource, first_from, first_of_two, goes_before, has_sure_member, source_of, takes_place};
@@ -22,7 +22,7 @@ fn takes_place(known: &Option<Member>, member: &Member) -> bool
     }
 }
 
-/// The one of the two that data are rather taken from: the member where it is ACTIVE and goes
+/// The one of the two that data are rather taken from: the member if it is ACTIVE and goes
 /// before the one that is known so far, or none is.
 pub fn first_of_two(known: Option<Member>, member: &Member) -> Option<Member>
     ensures { result ≡ first_of_two known member.now }
@@ -54,7 +54,7 @@ fn name_of(member: &Option<Member>) -> Option<Label>
 }
 
 /// The member of a group whose data are the mirror's: the ACTIVE one with the greatest priority,
-/// among equals the one with the least name. `None` where none is ACTIVE.
+/// among equals the one with the least name. `None` if none is ACTIVE.
 pub fn source_of(group: &Group) -> Option<Label>
     ensures value { result ≡ source_of group.now }
     ensures source { IsSource group.now result }

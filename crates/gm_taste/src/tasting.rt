@@ -11,7 +11,7 @@ use crate::provider::Provider;
 use crate::tasted::{LeftOut, Tasted};
 use std::alloc::{AllocError, Global};
 
-/// The provider where it is taken: its last sector decodes, and names this provider or none, and
+/// The provider if it is taken: its last sector decodes, and names this provider or none, and
 /// its size or none.
 pub fn taken_by(provider: &Provider) -> Option<Taken>
     ensures { result ≡ taken_by provider.now }

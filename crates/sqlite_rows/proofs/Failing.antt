@@ -1,4 +1,4 @@
--- Why a query of the tables fails, where its text is known.
+-- Why a query of the tables fails, if its text is known.
 use Rattle.std.proofs.Common.{◌≡◌, ◌⊎◌, inl, inr, ℕ, Bool, true, false, ◌&&◌, eqb, List, [], length, IsSome, IsTrue, Result, Ok, Err, refl, sym, ap, subst, ◌∙◌}
 use Rattle.std.proofs.lemmas.List.{append-nil}
 use Rattle.std.proofs.Math.Dec.{leb}
@@ -38,7 +38,7 @@ both true b e = (refl, e)
 both false b e = absurd (let f : false ≡ true = e in cc)
 
 module _ (old new : State) (sql : List ℕ) (params : Row) (e : Error) where
-  -- a failure of the store, where nothing is too big for it but under a limit on steps
+  -- a failure of the store, if nothing is too big for it but under a limit on steps
   pub store_failed : (too_big : Type 0) → (too_big → IsSome old.step_limit) → IsTrue old.is_open
       → Fails old new too_big e → IsReadFault old new e
   store_failed too_big limited is_open (OutOfMemory, is, more, rolled, tells) = inl is

@@ -1,4 +1,4 @@
--- No two rows share a key behind an edit, where none of its rows shares one with another.
+-- No two rows share a key after an edit, if none of its rows shares one with another.
 use Rattle.std.proofs.Common.{◌≡◌, ◌≢◌, inl, inr, Bool, true, false, not, ◌||◌, cond, Some, [], ◌∷◌, refl, sym, ap, subst, ◌∙◌}
 use Rattle.std.proofs.lemmas.Bool.{and_parts, true≢false, false_from_ne_true, ne_eqb}
 use Rattle.std.proofs.Common.{eq-eqb}

@@ -55,7 +55,7 @@ module _ {R : Type 0} (schema : Schema) (Rows : Trees → R → Type 0) where
       let early : HasCleanDisk mid = omega (arith, survives.clean, clean) in
       kept_then old mid new (so.kept early) (kept clean)
 
-  -- where the next records hold wherever those of the step do
+  -- if the next records hold whenever those of the step do
   pub goes_as : (old mid new : State) (change step next : R → R) → SoFar old mid change
       → Survives mid new (λ _. ⊥) → (HasCleanDisk new → KeepsCommit mid new)
       → (HasCleanDisk new → (first : Database) (r : R) → IsInside schema Rows first mid r

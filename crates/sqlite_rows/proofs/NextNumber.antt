@@ -37,7 +37,7 @@ next_fits rows more takes =
     let fits : nat_lt next.0 (2 ^ 63) ≡ true = grind (arith, nat_tests) in
     ap fits_i64 next.1 ∙ fits
 
--- behind a row that was numbered
+-- after a row that was numbered
 pub put_takes : (new : Row) (rows : List Row) (more : ℕ) → rowid new ≡ Int (next_rowid rows)
     → TakesMore (more + 1) rows → TakesMore more (put_row new rows)
 put_takes new rows more is takes =
@@ -52,7 +52,7 @@ put_takes new rows more is takes =
       room = omega arith;
     }
 
--- behind some of the rows
+-- after some of the rows
 pub fewer_take : (p : Row → Bool) (rows : List Row) (more : ℕ) → TakesMore more rows
     → TakesMore more (filter p rows)
 fewer_take p rows more takes = record {

@@ -73,7 +73,7 @@ pub record Replaces (schema : Schema) (table : Table) (key : List ℕ) (db after
   pub schema_is : after.schema ≡ schema
   pub new : Row
   pub values_are : drop 1 new ≡ values
-  -- with the number behind the others, or with that of the row of its key
+  -- with the number after the others, or with that of the row of its key
   pub numbered_by : (rowid new ≡ Int (next_rowid (db.trees table.tree)))
       ⊎ ((r : Row) × Has (db.trees table.tree) r × (rowid r ≡ rowid new))
   pub keyed : IsTrue (is_int (rowid new))
@@ -96,7 +96,7 @@ not_both true true h e = absurd (let f : false ≡ true = h in cc)
 not_both true false h e = refl
 not_both false b h e = absurd (true≢false (sym e))
 
--- where a table's key is a text in its first column, guarded by the index
+-- if a table's key is a text in its first column, guarded by the index
 module _ (schema : Schema) (table : Table) (listed : Has schema.tables table) (index : Index)
     (guarded : Has schema.indexes index) (guards_it : guards index table ≡ true)
     (at_first : index.columns ≡ 1 ∷ []) (in_order : index.order ≡ plain) where

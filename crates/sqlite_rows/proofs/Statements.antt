@@ -18,7 +18,7 @@ use Rattle.sqlite.specs.Steps.{FailsToCommit}
 use Rattle.sqlite.specs.Held.{Held, state}
 use Rattle.sqlite_rows.specs.Calls.{Holds as HoldsBy, HasRecords as HasRecordsBy, IsInside as IsInsideBy}
 
--- what a call by itself may commit, where it is no COMMIT and no RELEASE
+-- what a call by itself may commit, if it is no COMMIT and no RELEASE
 module _ (sql : List ℕ) (params : Row) (s : State) (schema : Schema) (has : s.now.schema ≡ schema)
     (command : Command) (is : command_of (understood schema sql) ≡ command)
     (plain : IsPlain (understood schema sql)) where
@@ -53,7 +53,7 @@ keeps_inside sql params old new (Err e) (inr (ends, is, same)) =
 pub kept_itself : (s : State) → KeepsCommit s s
 kept_itself s = record { was_open = λ is. is; committed = λ _. refl }
 
--- a call inside a transaction commits nothing, also where the transaction has ended
+-- a call inside a transaction commits nothing, even if the transaction has ended
 pub keeps_held : {S P : Type 0} (g : store.Ghosts S) (old new : Held S) (sql : List ℕ)
     (params : Row) (x : Result ℕ Error)
     → (IsTrue (state g old).in_transaction

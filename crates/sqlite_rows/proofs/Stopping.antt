@@ -1,4 +1,4 @@
--- Why a statement fails, where its text is known and no rule refuses it, and why one on the rows of
+-- Why a statement fails, if its text is known and no rule refuses it, and why one on the rows of
 -- a table stops.
 use Rattle.std.proofs.Common.{◌≡◌, ◌⊎◌, inl, inr, ℕ, zero, suc, Bool, true, false, ◌||◌, cond, List, [], ◌∷◌, ◌/◌, length, Option, Some, None, Ok, Err, IsSome, IsTrue, refl, sym, ap, subst, subst₂, ◌∙◌, append-nil, arith}
 use Rattle.std.specs.Prelude.{is_some}
@@ -75,7 +75,7 @@ module _ (schema : Schema) (keys : Keys) (db : Trees) (edit : Edit)
   no_work zero next why h = absurd (let e = h.1 in cc)
   no_work (suc n) next why h = omega (arith, ap length h.2, length-append h.0 (h.1 ∷ []))
 
-  -- where it sets off no action it is made
+  -- if it sets off no action, it is made
   pub never_stops : works schema keys 0 edit.table.tree (taken_by db edit) edit.news ≡ []
       → (why : Option Refusal) → Writes schema keys db edit (Err why) → ⊥
   never_stops idle why (inl (what, refused, is)) = never_refused what refused
@@ -178,7 +178,7 @@ module _ (schema : Schema) (sql : List ℕ) (params : Row) (command : Command)
 
 -- ---- what its statement does
 
--- at the end of a statement, where each key has a parent
+-- at the end of a statement, if each key has a parent
 abbrev pub at_once : Mode
 at_once = record { keys = Enforced; in_doubt = false; may_wait = false }
 

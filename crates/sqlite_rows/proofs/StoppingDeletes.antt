@@ -32,7 +32,7 @@ use Rattle.sqlite_rows.proofs.Finding.{scan, found}
 use Rattle.sqlite_rows.proofs.KeptUnique.{unique_less}
 use Rattle.sqlite_rows.proofs.Stopping.{IsAllowed, never_stops, concluded, at_once}
 
--- what is to be done to a table, where foreign keys are enforced
+-- what is to be done to a table, if foreign keys are enforced
 abbrev pub enforced : Schema → Table → Option ℕ → Row → Task
 enforced schema table limit params = record {
   limit = limit;

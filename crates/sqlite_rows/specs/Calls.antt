@@ -1,4 +1,4 @@
--- What a connection holds, where it is known by records what its tables hold.
+-- What a connection holds, if it is known by records what its tables hold.
 use Rattle.std.specs.Prelude.{◌≡◌, true, false, IsTrue}
 use Rattle.sqlite.specs.Schema.{Schema}
 use Rattle.sqlite.specs.Tree.{Trees}

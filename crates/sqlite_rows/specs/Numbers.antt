@@ -9,7 +9,7 @@ use Rattle.sqlite_trees.specs.Tree.{rowid}
 abbrev pub AreUpTo : ℕ → List Row → Type 0
 AreUpTo last rows = AllByRecursion (λ row. (k : ℕ) × (rowid row ≡ Int (pos k)) × (k ≤ last)) rows
 
--- so many rows more can be numbered behind these
+-- so many rows more can be numbered after these
 pub record TakesMore (more : ℕ) (rows : List Row) : Type 0 where
   pub last : ℕ
   pub up_to : AreUpTo last rows

@@ -1,4 +1,4 @@
--- What a call that only reads leaves of a connection, where its text is known to be a query over
+-- What a call that only reads leaves of a connection, if its text is known to be a query over
 -- some schemas.
 use Rattle.std.specs.Prelude.{◌≡◌, ◌⊎◌, IsTrue}
 use Rattle.sqlite.specs.Schema.{Schema}

@@ -8,7 +8,7 @@ use Rattle.gm_state.specs.Rows.{joined}
 use Rattle.gm_rows.proofs.BlobSectors.{all_joined, none_left, pieces_whole}
 use Rattle.gm_rows.proofs.read_column.bytes_at.Goals as goal
 
--- behind sectors nothing is left
+-- after sectors nothing is left
 no_part : (blob rest : List ℕ) (value : Value) (sectors : List (List ℕ)) → Blob blob ≡ value
     → length rest ≡ length blob % 512 → (length rest == 0) ≡ false → AreSectors sectors
     → value ≡ Blob (joined sectors) → ⊥

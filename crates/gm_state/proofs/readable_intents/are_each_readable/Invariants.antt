@@ -3,7 +3,7 @@ use Rattle.gm_state.specs.Readable.{IsReadable}
 use Rattle.gm_state.proofs.Suffixes.{Each}
 use Rattle.gm_state.proofs.readable_intents.are_each_readable.Given as goal
 
--- it is left to see the intents behind
+-- it is left to see the intents after those that were seen
 abbrev pub invariant-intents : goal.invariant-intents
 invariant-intents l =
     record {

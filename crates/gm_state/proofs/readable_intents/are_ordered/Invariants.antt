@@ -2,7 +2,7 @@ use Rattle.std.proofs.Common.{take, drop}
 use Rattle.gm_state.specs.Readable.{AreOrdered, AreOrderedFrom}
 use Rattle.gm_state.proofs.readable_intents.are_ordered.Given as goal
 
--- the order is that of the intents that are left, behind those that were seen
+-- the order is that of the intents that are left, after those that were seen
 abbrev pub invariant-intents : goal.invariant-intents
 invariant-intents l = record {
   enough : AreOrderedFrom (take l.index l.intents) (drop l.index l.intents) → AreOrdered l.intents;
