@@ -3,8 +3,8 @@
 
     benches/lines.py N [FIRST]
 
-N lines, from the FIRST one on (1 where it isn't given). All lines together are one endless input, in which each line is
-accepted where those before it were: so an input can be handed in by parts. Line K has the key kK. The folder has the
+N lines, from the FIRST one on (1 if it isn't given). All lines together are one endless input, in which each line is
+accepted if those before it were: so an input can be handed in by parts. Line K has the key kK. The folder has the
 images a.img, b.img, c.img and d.img, of one size and blank at the beginning.
 """
 import sys

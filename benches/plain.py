@@ -8,8 +8,8 @@ each it
 
 1. writes the records, the intents and the key in one transaction of SQLite, which is synced, and of a patch the bytes;
 2. writes the last sector of each image that an intent names, and syncs that image; an advance reads a stretch of both
-   images before, writes it whole where it differs, and syncs the image; a patch marks the image dirty, writes the bytes
-   and then the last sector, and syncs the image behind each;
+   images before, writes it whole if it differs, and syncs the image; a patch marks the image dirty, writes the bytes
+   and then the last sector, and syncs the image after each;
 3. empties the intents and the bytes in a second transaction.
 
 An image is synced by fsync, or as gmbench does it, by fdatasync. What a run that stopped left pending is carried out first.
@@ -230,7 +230,7 @@ COMMANDS = {
 
 
 def change(store, shelf, words):
-    """Carries a command out on the records; of an advance, how many of how many sectors are held behind it."""
+    """Carries a command out on the records; of an advance, how many of how many sectors are held after it."""
     options, names, rest = {}, [], iter(words[1:])
     for word in rest:
         if word.startswith("--"):

@@ -15,7 +15,7 @@ _gmbench_options() {
     esac
 }
 
-# The options of a command behind the key of `do`.
+# The options of a command after the key of `do`.
 _gmbench_command_options() {
     case $1 in
         label) echo --mid --did --balance --slice --autosync --failsync --hardcode ;;
@@ -25,7 +25,7 @@ _gmbench_command_options() {
     esac
 }
 
-# Whether an image may stand behind so many names, of which the third is this command behind the key of `do`.
+# Whether an image may follow so many names, of which the third is this command after the key of `do`.
 _gmbench_wants_image() {
     case $1 in
         '' | forget | destroy | configure | patch) false ;;
@@ -43,7 +43,7 @@ _gmbench_offer() {
     done
 }
 
-# Offers the regular files of the folder, where their names are such as images have.
+# Offers the regular files of the folder, if their names are such as images have.
 _gmbench_offer_images() {
     local path name
     [[ -n $shelf ]] || return

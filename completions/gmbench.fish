@@ -16,26 +16,26 @@ function __gmbench_names
     end
 end
 
-# Whether the options of one of these subcommands may stand here. Behind the key of `do` its own may not.
+# Whether the options of one of these subcommands may stand here. After the key of `do` its own may not.
 function __gmbench_in
     set -l names (__gmbench_names)
     test "$names[1]" = do -a (count $names) -gt 1; and return 1
     contains -- "$names[1]" $argv
 end
 
-# Whether so many names stand behind that subcommand.
+# Whether so many names follow that subcommand.
 function __gmbench_behind
     set -l names (__gmbench_names)
     test "$names[1]" = $argv[1] -a (count $names) -eq (math $argv[2] + 1)
 end
 
-# Whether one of these commands stands behind the key of `do`.
+# Whether one of these commands follows the key of `do`.
 function __gmbench_doing
     set -l names (__gmbench_names)
     test "$names[1]" = do; and contains -- "$names[3]" $argv
 end
 
-# Whether an image may stand here behind the key of `do`.
+# Whether an image may stand here after the key of `do`.
 function __gmbench_doing_images
     set -l names (__gmbench_names)
     test "$names[1]" = do; or return
@@ -117,12 +117,12 @@ complete -c gmbench -n '__gmbench_in serve' -l count -x -d 'How many connections
 complete -c gmbench -n '__gmbench_in serve' -l log -d 'Log each connection'
 complete -c gmbench -n '__gmbench_in serve' -l any-origin -d 'Answer web pages too'
 
-# Images, where a subcommand wants one.
+# Images, if a subcommand wants one.
 complete -c gmbench -n '__gmbench_behind dump 0' -a '(__gmbench_images)' -d Image
 complete -c gmbench -n '__gmbench_behind sync 1' -a '(__gmbench_images)' -d Image
 complete -c gmbench -n __gmbench_doing_images -a '(__gmbench_images)' -d Image
 
-# The commands behind the key of `do`, and the options of each.
+# The commands after the key of `do`, and the options of each.
 complete -c gmbench -n '__gmbench_behind do 1' -d Command \
     -a 'label insert remove deactivate activate forget rebuild configure clear destroy lost advance adopt patch'
 complete -c gmbench -n '__gmbench_doing label' -l mid -x -d 'The number of the mirror'

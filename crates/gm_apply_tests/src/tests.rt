@@ -91,7 +91,7 @@ fn add_copy(
     add(rt, shelf, provider, sectors);
 }
 
-// Carries intents out, where that is to serve.
+// Carries intents out, in a test that needs this to succeed.
 fn applies<H: Shelf>(rt: &(impl Abort + AllocGlobal), shelf: &mut H, intents: &[Intent]) {
     must(rt, try_apply(rt, shelf, intents).is_ok(), "not carried out");
 }

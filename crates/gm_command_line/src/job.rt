@@ -24,7 +24,7 @@ pub struct Service {
     pub count: u32,
     /// Whether a line is logged for each.
     pub logs: bool,
-    /// Whether the images are audited first, and nothing is served where the audit lists any.
+    /// Whether the images are audited first, and nothing is served if the audit lists any.
     pub audits: bool,
     /// Whether requests that web pages sent are served too.
     pub any_origin: bool,
@@ -52,7 +52,7 @@ pub enum Scope {
 #[derive(Clone, Copy)]
 pub struct Filling {
     pub scope: Scope,
-    /// Whether the images are audited first, and nothing is filled where the audit lists one of the
+    /// Whether the images are audited first, and nothing is filled if the audit lists one of the
     /// mirrors'.
     pub audits: bool,
     /// Whether nothing is told of how far it is.

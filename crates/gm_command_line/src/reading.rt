@@ -155,7 +155,7 @@ fn pending_of<'a>(
     })
 }
 
-// What a subcommand looks at where it is to write nothing; none where it may, or must.
+// What a subcommand looks at if it is to write nothing; `None` if it may write, or must.
 fn look_of(name: &str, given: &ArgMatches<'_>) -> Option<Look> {
     let look = match name {
         "status" => Look::Status(form_of(given)),
@@ -259,7 +259,7 @@ fn command_of<'a>(given: &ArgMatches<'a>, words: &'a [&'a str]) -> Work<'a> {
     }
 }
 
-// The work at a bench that a subcommand is for; none where it is for no bench.
+// The work at a bench that a subcommand is for; `None` if it is for no bench.
 fn work_of<'a>(
     alloc: Global,
     name: &str,

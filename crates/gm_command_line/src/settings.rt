@@ -33,7 +33,7 @@ impl Setting<'_> {
     }
 }
 
-/// What stands for the options, each where it is left out.
+/// What stands for each of the options if it is left out.
 #[derive(Clone, Copy)]
 pub struct Settings<'a> {
     pub registry: Setting<'a>,

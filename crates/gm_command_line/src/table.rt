@@ -26,13 +26,13 @@ fn registry_option<'a>(alloc: Global, settings: Settings<'a>) -> Arg<'a> {
     with_value(alloc, "registry", "FILE", help).required(settings.registry.is_unset())
 }
 
-// The folder, where it may be left out.
+// The folder, for a subcommand that lets it be left out.
 fn shelf_if_any<'a>(alloc: Global) -> Arg<'a> {
     let help = "The folder with the images, to say how they stand to what is pending";
     with_value(alloc, "shelf", "DIR", help)
 }
 
-// The registry, where none is made.
+// The registry, for a subcommand that makes none.
 fn registry_there<'a>(alloc: Global, settings: Settings<'a>) -> Arg<'a> {
     let registry = with_value(alloc, "registry", "FILE", "The registry");
     registry.required(settings.registry.is_unset())

@@ -11,7 +11,7 @@ const PATIENCE: u64 = 10;
 // How many seconds a request may take to begin to come.
 const FIRST_PATIENCE: u64 = 2;
 
-// For how many seconds what still comes behind a response is taken, and how many bytes of it.
+// For how many seconds what still comes after a response is taken, and how many bytes of it.
 const LINGERING: u64 = 2;
 
 const LINGERING_BYTES: u64 = 16 << 20;
@@ -165,7 +165,7 @@ impl Write for Outgoing<'_> {
     }
 }
 
-/// Ends a connection behind its response: says that no more is sent, and takes what still comes, so
+/// Ends a connection after its response: says that no more is sent, and takes what still comes, so
 /// that whoever is still sending gets to read the response.
 pub fn end(rt: &HostRuntime, stream: &TcpStream) -> io::Result<()> {
     stream.shutdown(Shutdown::Write)?;

@@ -11,7 +11,7 @@ use libc::types::pollfd;
 use std::io::{self, Write};
 use std::time::SystemTime;
 
-// The time now, as HTTP has it; nothing where the clock can't be read.
+// The time now, as HTTP has it; nothing if the clock can't be read.
 fn time_now(rt: &HostRuntime) -> Option<[u8; 29]> {
     let now = SystemTime::now(rt).ok()?;
     let since = now.duration_since(SystemTime::UNIX_EPOCH).ok()?;
@@ -26,7 +26,7 @@ fn shown(byte: u8) -> u8
     if byte.is_ascii_graphic() { byte } else { b'?' }
 }
 
-// Writes a word of the request, with `?` for what isn't shown; `-` where there is none.
+// Writes a word of the request, with `?` for what isn't shown; `-` if there is none.
 fn write_word<W: Write>(text: &mut W, word: Option<&[u8]>) -> io::Result<()> {
     let Some(word) = word else {
         return text.write_all(b" -");
@@ -81,7 +81,7 @@ fn takes_line(descriptor: i32) -> bool {
 #[derive(Drop)]
 pub struct Log<'a, W> {
     stream: &'a mut W,
-    // What is asked whether a line can be written at once; none where it always can.
+    // What is asked whether a line can be written at once; `None` if it always can.
     descriptor: Option<i32>,
     lost: u64,
 }
@@ -114,7 +114,7 @@ impl<'a, W: Write> Log<'a, W> {
         takes && self.stream.write_all(text).is_ok()
     }
 
-    // How many lines were lost, where any were, and then the line of a connection.
+    // How many lines were lost, if any were, and then the line of a connection.
     fn text(&self, rt: &HostRuntime, beginning: &[u8], told: Option<Told>) -> io::Result<Vec<u8>> {
         let mut text = Vec::new(rt.alloc());
         if self.lost > 0 {
@@ -124,7 +124,7 @@ impl<'a, W: Write> Log<'a, W> {
         Ok(text)
     }
 
-    /// Logs a connection, by the beginning of what came and by what was told, where a response went
+    /// Logs a connection, by the beginning of what came and by what was told, if a response went
     /// out.
     pub fn tell(&mut self, rt: &HostRuntime, beginning: &[u8], told: Option<Told>) {
         let is_written = match self.text(rt, beginning, told) {
@@ -138,7 +138,7 @@ impl<'a, W: Write> Log<'a, W> {
         };
     }
 
-    /// Says how many lines were lost behind the last one, where any were.
+    /// Says how many lines were lost after the last one, if any were.
     pub fn end(&mut self, rt: &HostRuntime) {
         let mut text = Vec::new(rt.alloc());
         if self.lost > 0 && writeln!(text, "{} lines lost", self.lost).is_ok() {

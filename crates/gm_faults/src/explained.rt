@@ -27,7 +27,7 @@ pub fn explain_loss<I, O, E: Write>(
     }
 }
 
-// The sentence of a fault of the bench, and of the image that failed, where one has.
+// The sentence of a fault of the bench, and of the image that failed, if one has.
 fn fault_said(
     alloc: Global,
     fault: &BenchFault,

@@ -10,7 +10,7 @@ const ROOM: u64 = 100_000;
 // How many sectors an advance copies at most.
 const STRETCH: u64 = 256;
 
-// How many commands fill a component, where it is SYNCHRONIZING.
+// How many commands fill a component, if it is SYNCHRONIZING.
 fn stretches(state: &State, component: &Component) -> u64 {
     let Some(mirror) = state.mirror(component.mirror) else {
         return 0;
@@ -48,7 +48,7 @@ pub(crate) fn name_stale<E: Write>(complaints: &mut E, state: &State, scope: &Sc
     }
 }
 
-/// Says where the registry may not take as many commands as are needed.
+/// Says so if the registry may not take as many commands as are needed.
 pub(crate) fn name_room<E: Write>(complaints: &mut E, needed: u64, accepted: u64) {
     let room = ROOM.saturating_sub(accepted);
     if room < needed {

@@ -16,7 +16,7 @@ fault_of_front front.Memory = Bench bench.Memory
 fault_of_front front.Read = InputOrOutput
 fault_of_front front.Write = InputOrOutput
 
--- done where no line was refused; a fault of the bench is that of the program
+-- done if no line was refused; a fault of the bench is that of the program
 abbrev pub status_of_end : Result BatchEnd FrontFault → Result Status Fault
 status_of_end (Ok (Ended refused)) = Ok (if refused then status.Refused else status.Done)
 status_of_end (Ok (Stopped fault)) = Err (Bench fault)

@@ -165,7 +165,7 @@ fn looked_at(line: Option<&[u8]>, lines: Lines) -> Option<&str> {
     str::from_utf8(line?).ok()
 }
 
-// How the program ends where no line ends it before.
+// How the program ends if no line ends it before.
 fn status_of(refused: bool) -> Status
     ensures { MayRefuse result }
 {

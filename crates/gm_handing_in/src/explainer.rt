@@ -169,7 +169,7 @@ impl<'a, E: Write> Explainer<'a, E> {
         }
     }
 
-    // The same by a line, without its line feed; none where it has more than 131,072 bytes.
+    // The same by a line, without its line feed; none if it has more than 131,072 bytes.
     fn explain_line(
         &mut self,
         line: Option<&[u8]>,

@@ -32,7 +32,7 @@ fn is_gone(error: &io::Error) -> bool {
     )
 }
 
-// What is logged of a response, where all of it was written.
+// What is logged of a response, if all of it was written.
 fn told(response: Result<Response, FrontFault>) -> Option<Told> {
     match response {
         Ok(response) => Some(Told {
@@ -65,8 +65,8 @@ fn serve_from<R: Read, W: Write, S: Alter, H: Shelf>(
     }
 }
 
-// Serves a connection, and logs it where that is wanted. Whatever breaks of the connection itself
-// ends it alone; answers why the bench failed, where it did.
+// Serves a connection, and logs it if that is wanted. Whatever breaks of the connection itself
+// ends it alone; answers why the bench failed, if it did.
 fn serve_connection<S: Alter, H: Shelf, E: Write>(
     rt: &HostRuntime,
     stream: &TcpStream,
@@ -91,7 +91,7 @@ fn serve_connection<S: Alter, H: Shelf, E: Write>(
     served.fault
 }
 
-/// Serves so many connections of a listener, one after the other, and logs each where that is
+/// Serves so many connections of a listener, one after the other, and logs each if that is
 /// wanted. A bench that fails ends it.
 pub fn serve_connections<S: Alter, H: Shelf, E: Write>(
     rt: &HostRuntime,

@@ -23,7 +23,7 @@ only_number [] = None
 only_number (value ∷ []) = number_of value
 only_number (value ∷ more ∷ rest) = None
 
--- the length that a body has by the fields, where it isn't sent in chunks
+-- the length that a body has by the fields, if it isn't sent in chunks
 abbrev pub without_chunks : List (List ℕ) → List (List ℕ × List ℕ) → Option ℕ
 without_chunks [] fields = only_number (values_of (codes "content-length") fields)
 without_chunks (value ∷ rest) fields = None

@@ -7,7 +7,7 @@ use Rattle.httparse.specs.declared.spans.HeaderSpan.{HeaderSpan}
 use Rattle.httparse.specs.declared.spans.RequestSpans.{RequestSpans}
 use Rattle.gm_http.specs.Requests.{Asked, HasHead, asked_by}
 
--- bytes were taken from the front of an input, and stand behind those that were there
+-- bytes were taken from the front of an input, and come after those that were there
 pub record Takes (old new : Option (List ℕ)) (was now : List ℕ) : Type 0 where
   pub more : List ℕ
   pub consumed : Consumes old new more
@@ -26,7 +26,7 @@ pub record IsHead
 abbrev pub HasNoHead : List ℕ → Type 0
 HasNoHead input = (h : RequestHead) (body : List ℕ) → HasHead input h body → ⊥
 
--- what a head asks that stands at the front of the bytes, with the rest behind them
+-- what a head asks that stands at the front of the bytes, with the rest after them
 abbrev pub AsksAtHead : List ℕ → List HeaderSpan → RequestSpans → List ℕ → Asked → Type 0
 AsksAtHead bytes headers spans rest asked = (h : RequestHead) → IsRequestAt bytes headers spans h
     → asked ≡ asked_by h (drop spans.len bytes ++ rest)

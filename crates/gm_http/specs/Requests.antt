@@ -46,7 +46,7 @@ asked_at None h body = NotFound
 asked_at (Some t) h body = if bytes_eq h.method (method_name (method_of t))
     then taken t h body else NotAllowed (method_of t)
 
--- what a head and the bytes behind it ask
+-- what a head and the bytes after it ask
 unfoldable pub asked_by : RequestHead → List ℕ → Asked
 asked_by h body = asked_at (target_of h.target) h body
 

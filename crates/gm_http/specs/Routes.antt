@@ -32,12 +32,12 @@ routes = with_route (parse_route (codes "/commands")) route.Commands
 unfoldable pub route_of : List ℕ → Option Route
 route_of text = option_map (λ r. r.value) (first routes text)
 
--- what stands behind a beginning, where the text has it
+-- what comes after a beginning, if the text has it
 abbrev pub behind : List ℕ → List ℕ → Option (List ℕ)
 behind front text =
     if starts_with nat_eq text front then Some (drop (length front) text) else None
 
--- what stands before an end, where the text has it
+-- what comes before an end, if the text has it
 abbrev pub before : List ℕ → List ℕ → Option (List ℕ)
 before back text =
     if ends_with nat_eq text back then Some (take (length text - length back) text) else None
@@ -48,7 +48,7 @@ label_between front back text =
     option_and_then (λ part. if is_label part then Some part else None)
     (option_and_then (before back) (behind front text))
 
--- what a target on this route names; nothing where the part in braces isn't a label
+-- what a target on this route names; nothing if the part in braces isn't a label
 abbrev pub named_on : Route → List ℕ → Option Target
 named_on route.Status text = Some target.Status
 named_on route.Mirror text = option_map target.Mirror (label_between (codes "/mirrors/") [] text)

@@ -13,7 +13,7 @@ use Rattle.gm_http.specs.declared.sender.Sender.TheVariants.{Page, Program}
 use Rattle.gm_http.specs.Requests.{HasHead}
 use Rattle.httparse.specs.Grammar.{RequestHead}
 
--- a byte of a name without dots, or of a port behind it
+-- a byte of a name without dots, or of a port after it
 abbrev pub is_plain : ℕ → Bool
 is_plain b = is_ascii_alphanumeric b || list_any (λ c. c == b) (codes "-_:")
 

@@ -32,7 +32,7 @@ fn key_in(value: &Value) -> Option<&str>
     value.get("key")?.as_str()
 }
 
-// The texts of strings, where each value is one.
+// The texts of strings, if each value is one.
 fn texts_of(alloc: Global, values: &[Value]) -> Result<Option<Vec<String>>, AllocError>
     ensures { IfOk result (λ found. option_map (λ texts. map string_bytes texts.items) found
         ≡ texts_of (items_view values.now)) }
@@ -75,7 +75,7 @@ fn call_in(alloc: Global, value: &Value) -> Result<Option<Call>, AllocError>
     Ok(Some(Call { key, words }))
 }
 
-/// The call that a body holds; `None` where it isn't in UTF-8, JSON and an object of just the
+/// The call that a body holds; `None` if it isn't in UTF-8, JSON and an object of just the
 /// members `key`, a string, and `words`, an array of strings.
 #[tactic(auto, unfolding(crate::specs::Bodies::call_of))]
 pub(crate) fn call_of(alloc: Global, bytes: &[u8]) -> Result<Option<Call>, AllocError>

@@ -70,7 +70,7 @@ fn values_of<'b>(
     Ok(values)
 }
 
-/// The length that a body has by the fields; `None` where it is sent in chunks, or they don't give
+/// The length that a body has by the fields; `None` if it is sent in chunks, or they don't give
 /// just one length of 1 to 10 decimal digits.
 pub(crate) fn length_by(
     alloc: Global,

@@ -41,7 +41,7 @@ fn look(bytes: &[u8], headers: &mut [HeaderSpan; MOST_FIELDS]) -> Beginning
 
 #[tactic(auto, using(crate::proofs::Beginnings::readings))]
 /// Reads the head of a request, of at most 8,192 bytes and 64 fields, and what comes with it;
-/// `None` where the input has no such head. Reads nothing once that is decided.
+/// `None` if the input has no such head. Reads nothing once that is decided.
 pub(crate) fn read_head<R: Read>(
     reader: &mut R,
     bytes: &mut Vec<u8>,

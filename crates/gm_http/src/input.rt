@@ -51,7 +51,7 @@ pub(crate) fn take_some<R: Read>(
     }
 }
 
-/// Takes what is missing to so many bytes, or all where the input ends before.
+/// Takes what is missing to so many bytes, or all if the input ends before.
 pub(crate) fn fill<R: Read>(
     reader: &mut R,
     bytes: &mut Vec<u8>,

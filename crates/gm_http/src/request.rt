@@ -177,7 +177,7 @@ pub struct Received {
 #[tactic(auto, using(crate::proofs::Senders::sendings))]
 /// Reads one request, and says who sent it. A request that is answered without its body isn't read
 /// to its end, and none waits for a byte past it; what the reader gives beyond is ignored. Fails
-/// where the reader does, or for want of memory. Bytes that are no request were sent by a program.
+/// if the reader does, or for want of memory. Bytes that are no request were sent by a program.
 pub fn receive_request<R: Read>(alloc: Global, reader: &mut R) -> Result<Received, RequestFault>
     ensures asks { IfOk result (λ received. IfSome (R.remaining reader.old) (λ input.
         Asks input (asked_of received.request))) }

@@ -48,7 +48,7 @@ fn route_of(router: &Router<Route>, text: &str) -> Option<Route>
     }
 }
 
-// What stands behind a beginning.
+// What comes after a beginning.
 fn behind<'a>(front: &str, text: &'a str) -> Option<&'a str>
     ensures { option_map (λ part. part.now) result ≡ behind front.now text.now }
 {
@@ -93,7 +93,7 @@ impl Target {
     }
 }
 
-/// What a target names; `None` where no route takes it, or a part in braces isn't a label. Fails
+/// What a target names; `None` if no route takes it, or a part in braces isn't a label. Fails
 /// for want of memory alone, since the routes are well formed and don't meet.
 #[tactic(auto, unfolding(crate::specs::Routes::target_of))]
 pub(crate) fn target_of(alloc: Global, text: &str) -> Result<Option<Target>, AllocError>

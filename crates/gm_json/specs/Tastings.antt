@@ -28,7 +28,7 @@ filled_to (Stale offset) = Some offset
 filled_to (Synchronizing offset) = Some offset
 filled_to Active = None
 
--- a component; where it is to be filled, also how many sectors of how many it has
+-- a component; if it is to be filled, also how many sectors of how many it has
 abbrev pub tasted_with : Option ℕ → Member → Data
 tasted_with None x = object_of (
     truth_at (codes "dirty") x.metadata.dflags.dirty

@@ -193,7 +193,7 @@ pub fn list_json(alloc: Global, state: &State) -> Result<String, AllocError>
 }
 
 /// All that is known of the mirror of this name and of its components, in byte order of names;
-/// `None` where no mirror has the name. Flags are numbers, and sizes and offsets are in bytes.
+/// `None` if no mirror has the name. Flags are numbers, and sizes and offsets are in bytes.
 pub fn mirror_json(alloc: Global, state: &State, name: Label) -> Result<Option<String>, AllocError>
     ensures { IfOk result
         (λ text. option_map string_bytes text ≡ mirror_json state.now name) }

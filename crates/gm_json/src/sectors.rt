@@ -57,7 +57,7 @@ fn decode_value(alloc: Global, fault: DecodeFault) -> Result<Value, AllocError>
     json!(in alloc; {"decode": fault.number()})
 }
 
-/// What a last sector says: flags are numbers, sizes are in bytes, and the provider is empty where
+/// What a last sector says: flags are numbers, sizes are in bytes, and the provider is empty if
 /// the sector names none.
 pub fn metadata_json(alloc: Global, metadata: &Metadata) -> Result<String, AllocError>
     ensures { IfOk result (λ text. string_bytes text ≡ metadata_json metadata.now) }

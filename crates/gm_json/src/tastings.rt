@@ -158,7 +158,7 @@ fn tasting_value(alloc: Global, tasted: &Tasted, passed: &[PassedOver]) -> Resul
 }
 
 /// What the last sectors of images tell: each mirror with its components and the one that its data
-/// are taken from, which is empty where there is none, and whether any is sure; the images that are
+/// are taken from, which is empty if there is none, and whether any is sure; the images that are
 /// left out, and the entries of the folder that aren't images, with the reasons. Of a component
 /// that is to be filled it tells also how many sectors of how many it has.
 pub fn tasting_json(

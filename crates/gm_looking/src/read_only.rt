@@ -137,7 +137,7 @@ pub fn show_pending_at<I, O: Write, E>(
     Ok(report.status)
 }
 
-/// Prints what is looked at, and how many writes are pending, where any are.
+/// Prints what is looked at, and how many writes are pending, if any are.
 pub fn look_at<I, O: Write, E: Write>(
     rt: &HostRuntime,
     look: Look,

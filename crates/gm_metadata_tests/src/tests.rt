@@ -108,7 +108,7 @@ fn a_written_sector_says_its_metadata(rt: HostRuntime) -> Result<(), Fail> {
     Ok(())
 }
 
-// The metadata in an older version, with this hash at its place and rests behind it.
+// The metadata in an older version, with this hash at its place and rests after it.
 fn older(metadata: &Metadata, version: Version, hash: &[u8]) -> [u8; 512] {
     let mut draft = encode(metadata);
     let at = version.hash_at();

@@ -25,7 +25,7 @@ type Block = Box<[u8; BLOCK]>;
 #[derive(Drop)]
 pub(crate) struct Layers {
     file: Option<File>,
-    // So many first bytes are the file's, where none is written over them. Those after them are 0.
+    // So many first bytes are the file's, if none is written over them. Those after them are 0.
     held: usize,
     len: usize,
     // By their places, counted in blocks. What of a block is past the end is 0.
@@ -166,7 +166,7 @@ impl Layers {
         Ok(())
     }
 
-    /// Takes some of the bytes, of one block at most. Nothing is changed where that fails.
+    /// Takes some of the bytes, of one block at most. Nothing is changed if that fails.
     pub(crate) fn write(&mut self, at: usize, bytes: &[u8]) -> io::Result<usize>
         requires { 0 < length bytes.now }
         ensures count { IfOk result (λ n. (0 < n) × (n ≤ length bytes.now) × (at < 2 ^ 63)) }

@@ -43,7 +43,7 @@ const SCRIPT: [Step; 16] = [
     Write(4_999, 8, 2),
 ];
 
-// Ends a test with these words where it doesn't hold.
+// Ends a test with these words if it doesn't hold.
 fn must(rt: &impl Abort, holds: bool, what: &str) {
     assert!(rt; holds, "{what}");
 }
@@ -179,7 +179,7 @@ fn reads_at_once<R: Abort>(rt: &R, overlay: &mut Overlay) {
     let mut page = [0; 5_000];
     let is_written = matches!(overlay.write_some(4_000, &[7; 90]), Ok(90));
     let is_whole = matches!(overlay.read_under(1, 2, 3_900, &mut page), Ok(5_000));
-    // Before what was written, it, and behind it, in the next block.
+    // Before what was written, it, and after it, in the next block.
     let bytes = [page[0], page[100], page[189], page[190], page[4_999]];
     let wanted = [byte_at(3_900), 7, 7, byte_at(4_090), byte_at(8_899)];
     let is_right = bytes == wanted;

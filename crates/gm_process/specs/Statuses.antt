@@ -18,6 +18,6 @@ MayRefuse it = (it ≡ status.Done) ⊎ (it ≡ status.Refused)
 abbrev pub status_of_refused : Bool → Status
 status_of_refused refused = if refused then status.Refused else status.Done
 
--- done where nothing was found, else refused
+-- done if nothing was found, else refused
 abbrev pub status_of_list : ℕ → Status
 status_of_list found = if found == 0 then status.Done else status.Refused

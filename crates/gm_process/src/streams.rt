@@ -20,9 +20,9 @@ pub struct Explaining {
     pub asks: bool,
     /// The folder with the images.
     pub folder: String,
-    /// Which file failed and why, where more is known of it: the folder, a stream or the registry.
+    /// Which file failed and why, if more is known of it: the folder, a stream or the registry.
     pub trouble: Option<Trouble>,
-    /// Which image failed last, and why, where one has.
+    /// Which image failed last, and why, if one has.
     pub failure: Option<ImageFailure>,
 }
 

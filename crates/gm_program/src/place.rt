@@ -138,7 +138,7 @@ fn at_files<D: Disk + Drop, I: BufRead, O: Write, E: Write>(
 /// On which terms a bench is opened.
 #[derive(Clone, Copy)]
 pub struct Terms {
-    /// Whether a registry is made where there is none.
+    /// Whether a registry is made if there is none.
     pub makes: bool,
     /// For how long a folder or a registry that is in use is tried again.
     pub patience: Patience,
@@ -160,7 +160,7 @@ fn open_patiently(
     Err(busy)
 }
 
-// Why a registry isn't opened at all: none is made where none is to be, and nothing of a file that
+// Why a registry isn't opened at all: none is made if none is to be, and nothing of a file that
 // is no registry is touched.
 fn obstacle(rt: &HostRuntime, registry: &str, was_there: bool, makes: bool) -> Option<StoreCause> {
     if !was_there && !makes {
@@ -248,7 +248,7 @@ fn images_at(
 }
 
 /// Opens the bench of a place, which carries out what is pending, has the work done at it, and
-/// closes its store, so that the registry's file alone holds everything; also where an opening
+/// closes its store, so that the registry's file alone holds everything; also if an opening
 /// without a provider is refused. Then it prints the text of the report.
 pub fn work_at<I: BufRead, O: Write, E: Write>(
     rt: &HostRuntime,

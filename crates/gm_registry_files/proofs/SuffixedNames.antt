@@ -1,4 +1,4 @@
--- Names with a suffix behind them.
+-- Names with a suffix after them.
 use Rattle.std.proofs.Common.{◌≡◌, ◌≢◌, ◌∙◌, ℕ, Bool, false, ◌||◌, List, [], ◌∷◌, ◌++◌, map, refl, sym, ap, ap₂}
 use Rattle.std.specs.List.{list_any}
 use Rattle.std.specs.Str.{bytes_eq}
@@ -9,7 +9,7 @@ use Rattle.std.proofs.lemmas.List.Folds.{list_any-append}
 use Rattle.std.proofs.lemmas.Slice.Eq.{bytes_eq-Decides}
 use Rattle.gm_registry_files.specs.Beside.{is_with}
 
--- two are one just where they are with it
+-- two are one just if they are with it
 same_with : (a b suffix : List ℕ) → bytes_eq a b ≡ bytes_eq (b ++ suffix) (a ++ suffix)
 same_with a b suffix =
     let with = bytes_eq-Decides (b ++ suffix) (a ++ suffix) in
@@ -19,7 +19,7 @@ same_with a b suffix =
       λ e. with.1 (ap (λ x. x ++ suffix) (sym e)),
     )
 
--- a name is one of them where it is with it
+-- a name is one of them if it is with it
 pub one_with : (databases : List (List ℕ)) (name suffix : List ℕ)
     → list_any (λ x. bytes_eq x name) databases ≡ is_with databases (name ++ suffix) suffix
 one_with [] name suffix = refl

@@ -5,7 +5,7 @@ use Rattle.std.specs.Str.{bytes_eq}
 use Rattle.std.specs.String.{string_bytes}
 use Rattle.gm_shelf.specs.declared.passed_over.PassedOver.{PassedOver}
 
--- what their names have behind the database's
+-- what their names have after the database's
 abbrev pub suffixes : List (List ℕ)
 suffixes = codes "-wal" ∷ codes "-shm" ∷ codes "-journal" ∷ []
 

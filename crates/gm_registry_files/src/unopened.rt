@@ -46,7 +46,7 @@ fn open_log(rt: &HostRuntime, path: &str) -> io::Result<Option<File>> {
     }
 }
 
-// Fails where there is a journal that holds anything: the registry is as it stands only once that
+// Fails if there is a journal that holds anything: the registry is as it stands only once that
 // is rolled back.
 fn check_journal(rt: &HostRuntime, path: &str) -> io::Result<()> {
     match fs::symlink_metadata(rt, path) {
@@ -74,7 +74,7 @@ fn files_of(rt: &HostRuntime, registry: &str, key: u64) -> io::Result<Files<Over
     })
 }
 
-// The fault of an opening that left these files. They find no room only where memory was refused.
+// The fault of an opening that left these files. They find no room only if memory was refused.
 fn opening_fault(fault: StoreFault, files: Files<OverlayDisk>) -> StoreFault {
     if files.tally().refused != 0 {
         StoreFault::Memory
@@ -97,8 +97,8 @@ fn records_in(
     }
 }
 
-/// What a registry holds as it stands. `Store` where there is no such file, where another program
-/// has it open, or where its journal holds anything; `Unreadable` where an opening would say so.
+/// What a registry holds as it stands. `Store` if there is no such file, if another program has it
+/// open, or if its journal holds anything; `Unreadable` if an opening would say so.
 pub fn records_of(rt: &HostRuntime, registry: &str) -> Result<Loaded, StoreFault> {
     let alloc = rt.alloc();
     let random = RandomState::new(rt).map_err(file_fault)?;

@@ -40,7 +40,7 @@ pub enum StoreCause {
 }
 
 impl StoreCause {
-    /// What is told of it, of a registry at this path; nothing where memory is refused.
+    /// What is told of it, of a registry at this path; nothing if memory is refused.
     pub fn trouble(self, alloc: Global, registry: &str) -> Option<Trouble> {
         let path = String::from_str(alloc, registry).ok()?;
         Some(Trouble::new(self.sentence(), path))

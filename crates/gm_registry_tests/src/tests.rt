@@ -208,7 +208,7 @@ fn must_count<S: Alter>(rt: &impl Abort, store: &mut Connection<S>, rows: i64, s
     must(rt, number(store, sql).ok() == Some(rows), sql);
 }
 
-// Accepts a change, and opens a registry, where that is to serve.
+// Accepts a change, and opens a registry, in a test that needs this to succeed.
 fn accepts<S: Alter>(
     rt: &impl Abort,
     registry: &mut Registry<S>,

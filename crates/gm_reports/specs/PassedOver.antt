@@ -11,7 +11,7 @@ passed_line x =
     line (codes "  " ++ left_in_15 (map visible (string_bytes x.name)) ++ codes " "
     ++ no_image_text x.reason)
 
--- those that were passed over, where some were
+-- those that were passed over, if some were
 abbrev pub passed_text : List PassedOver → List ℕ
 passed_text [] = []
 passed_text (x ∷ xs) = line (codes "passed over:") ++ flat_map passed_line (x ∷ xs)

@@ -29,13 +29,13 @@ abbrev pub in_form : Form → List ℕ → List ℕ → List ℕ
 in_form Text text json = text
 in_form Json text json = line json
 
--- an audit that lists these: damage was found where there is any
+-- an audit that lists these: damage was found if there is any
 abbrev pub IsAudited : List (List ℕ) → List ℕ → Report → Type 0
 IsAudited names text report =
     (report.status ≡ status_of_list (length names))
     × (string_bytes report.text ≡ text)
 
--- what was tasted: damage was found where an image is left out for metadata that it carries
+-- what was tasted: damage was found if an image is left out for metadata that it carries
 abbrev pub IsTasting : Tasted → List ℕ → Report → Type 0
 IsTasting t text report =
     (report.status ≡ (if list_any (λ x. of_metadata x.reason) t.left.items then Refused else Done))

@@ -30,7 +30,7 @@ fn push_line(text: &mut String, passed: &PassedOver) -> Result<(), AllocError>
     writeln!(text, " {reason}")
 }
 
-/// Appends what was passed over, where something was: a name a line, and why.
+/// Appends what was passed over, if something was: a name a line, and why.
 pub(crate) fn push_passed(text: &mut String, passed: &[PassedOver]) -> Result<(), AllocError>
     ensures { OnOk result
         (string_bytes text.new ≡ string_bytes text.old ++ passed_text passed.now) }

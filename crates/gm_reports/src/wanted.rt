@@ -19,7 +19,7 @@ pub struct WhyRefused {
     pub about: About,
 }
 
-/// That no mirror has the name, where none has it.
+/// That no mirror has the name, if none has it.
 pub fn no_mirror(state: &State, mirror: Label) -> Option<WhyRefused> {
     match state.mirror(mirror) {
         Some(_) => None,
@@ -33,7 +33,7 @@ pub fn no_mirror(state: &State, mirror: Label) -> Option<WhyRefused> {
     }
 }
 
-/// That the mirror has no such component, where it hasn't.
+/// That the mirror has no such component, if it hasn't.
 pub fn no_component(state: &State, mirror: Label, image: Label) -> Option<WhyRefused> {
     match state.component(image) {
         Some(component) if component.mirror == mirror => None,
@@ -47,7 +47,7 @@ pub fn no_component(state: &State, mirror: Label, image: Label) -> Option<WhyRef
     }
 }
 
-/// Tells a refusal: its number, and why where that is wanted.
+/// Tells a refusal: its number, and why if that is wanted.
 pub fn refused<I, O, E: Write>(
     alloc: Global,
     streams: &mut Streams<'_, I, O, E>,

@@ -31,7 +31,7 @@ pub fn images_in_a_row(command: &Command) -> &[Label] {
     }
 }
 
-// Of several images the one, where there is one.
+// The one of these images, if there is just one.
 fn one_of(images: &[Label]) -> Image {
     match images {
         [image] => Image::Named(*image),

@@ -16,7 +16,7 @@ fn label(text: &str) -> Result<Label, Fail> {
     Ok(Label::new(text).ok_or("no label")?)
 }
 
-// Ends a test with these words where it doesn't hold.
+// Ends a test with these words if it doesn't hold.
 fn must(rt: &impl Abort, holds: bool, what: &str) {
     assert!(rt; holds, "{what}");
 }

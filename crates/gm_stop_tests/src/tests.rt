@@ -1,5 +1,5 @@
 //! The tests: stops of the shelf and of the store within scripts of commands and within openings,
-//! and what a bench answers behind a fault.
+//! and what a bench answers after a fault.
 
 mod closed;
 mod found;

@@ -165,13 +165,13 @@ module _ {S H : Type 0} (g : StoreGhosts S) (h : ShelfGhosts H) (Fit : Command �
     };
   }
 
-  -- and a look behind it
+  -- and a look after it
   pub fills_looked : (a b c : Bench S H) {T : Type 0} (x : T) → Fills g h Fit a b
       → LooksOn g h b c (Ok x) → Fills g h Fit a c
   fills_looked a b c x fills looks = fills_then a b c fills
       (fills_look b c looks.stays (look_keeps g h b c looks) looks.does)
 
-  -- behind a look the bench has come from rest as it had before it
+  -- after a look the bench has come from rest as it had before it
   abbrev pub filled_look : (b c : Bench S H) (away : Image) (u : World)
       → LookDoes g h.view h.size (registry_of b) (registry_of c) (shelf_of b) (shelf_of c)
       → IsFilledFrom g h Fit b away u → IsFilledFrom g h Fit c away u
@@ -226,7 +226,7 @@ module _ {S H : Type 0} (g : StoreGhosts S) (h : ShelfGhosts H) (Fit : Command �
         };
   }
 
--- What is whole by a call behind a look is whole by both.
+-- What is whole by a call after a look is whole by both.
 module _ {S H : Type 0} (g : StoreGhosts S) (h : ShelfGhosts H) (a b c : Bench S H) (due : Due)
     (state : Records) where
   pub whole_behind : Keep g h (registry_of a) (registry_of b) (shelf_of a) (shelf_of b)

@@ -63,7 +63,7 @@ module _ {S H : Type 0} (g : StoreGhosts S) (h : ShelfGhosts H) (Fit : Command �
         → IsAt g h.view h.size (registry_of old) (shelf_of old) away [] [] u u
         → IsFilledFrom new away u
 
-  -- Where the bench stood for u it stands for another world, by commands that fit and no others.
+  -- If the bench stood for u it stands for another world, by commands that fit and no others.
   pub record IsFilledOn (b : Bench S H) (away : Image) (u : World) : Type 0 where
     pub calls : List Call
     pub answers : List run.Answer
@@ -128,7 +128,7 @@ module _ {S H : Type 0} (g : StoreGhosts S) (h : ShelfGhosts H) where
 abbrev pub IsClosedBut : {S H : Type 0} → Bench S H → BenchFault → Type 0
 IsClosedBut b fault = (fault ≡ Memory) ⊎ (progress_of b ≡ Failed)
 
--- The records are those that the registry held when it was looked at last; where the bench was at
+-- The records are those that the registry held when it was looked at last; if the bench was at
 -- rest before, it held some.
 pub record AreLastSeen {S H : Type 0} (g : StoreGhosts S) (h : ShelfGhosts H) (old new : Bench S H)
     (state : Records) : Type 0 where

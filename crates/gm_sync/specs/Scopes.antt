@@ -66,7 +66,7 @@ is_next due s k = is_due due k.mirror k.provider && is_filling s k
 abbrev pub next_of : Due → Records → Option Component
 next_of due s = find (is_next due s) s.components
 
--- the component on a provider, where one is there, is of a mirror of which one is meant
+-- the component on a provider, if one is there, is of a mirror of which one is meant
 abbrev pub is_beside_at : Scope → Option Component → Bool
 is_beside_at scope None = false
 is_beside_at scope (Some k) = is_beside scope k

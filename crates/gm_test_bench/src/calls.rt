@@ -93,7 +93,7 @@ fn command(alloc: Global, words: &str) -> Result<Command, Fail> {
     Ok(read_words(alloc, &pieces)?.ok().ok_or("no command")?)
 }
 
-/// What the last sector of a component of gm0 says, where the mirror counts so many.
+/// What the last sector of a component of gm0 says, if the mirror counts so many.
 pub fn metadata(did: u32, all: u8, dflags: DiskFlags) -> Result<Metadata, Fail> {
     Ok(Metadata {
         name: label("gm0")?,
@@ -268,7 +268,7 @@ pub fn must_be(last: &[u8; 512], said: Option<Metadata>) -> Result<(), Fail> {
 /// The label that most tests begin with.
 pub const LABEL: &str = "label --mid 7 --did 1 gm0 a.img";
 
-/// The insert behind it.
+/// The insert after it.
 pub const INSERT: &str = "insert --did 2 gm0 b.img";
 
 /// gm0 on a.img and b.img, by k1 and by k2, which says these words.

@@ -8,7 +8,7 @@ use md5::{Digest, Md5};
 use std::alloc::Global;
 use std::test::Fail;
 
-/// Fails with these words where it doesn't hold.
+/// Fails with these words if it doesn't hold.
 pub fn must(holds: bool, what: &'static str) -> Result<(), Fail>
     ensures { IsOk result ↔ IsTrue holds }
 {
@@ -69,7 +69,7 @@ pub fn sector<H: Shelf>(shelf: &mut H, name: &str, place: u64) -> Result<[u8; 51
     Ok(sector)
 }
 
-/// Fails where two shelves of a.img, b.img and c.img don't hold the same.
+/// Fails if two shelves of a.img, b.img and c.img don't hold the same.
 pub fn must_be_alike<H: Shelf>(first: &mut H, second: &mut H) -> Result<(), Fail> {
     for name in ["a.img", "b.img", "c.img"] {
         for place in 0u64..4 {

@@ -4,7 +4,7 @@
 //!
 //! `images.rt` has the images, `counting_shelf.rt` the shelf that counts, which keeps to the law of
 //! the one that it wraps, and `stopping_store.rt` the store. Only tests call these. They promise
-//! what a test couldn't see to be wrong: that `must` fails just where nothing holds, that each file
+//! what a test couldn't see to be wrong: that `must` fails just if nothing holds, that each file
 //! serves so many calls as it is given, and that the bytes taken of files are theirs. Of the rest
 //! they promise nothing but to be safe, since a wrong image or name fails the tests, whose expected
 //! values are worked out by hand where they stand.

@@ -8,8 +8,8 @@ use std::os::unix::fs::FileExt;
 const PAGES: usize = 128;
 
 /// Takes the stack that the program needs, which stays taken. A system lets a stack grow as it is
-/// used, and may refuse that once the heap has come near a limit: so where there is too little, the
-/// process ends here, by a signal, and not in the middle of a command. Fails where no file can be
+/// used, and may refuse that once the heap has come near a limit: so if there is too little, the
+/// process ends here, by a signal, and not in the middle of a command. Fails if no file can be
 /// opened.
 #[inline(never)]
 pub fn take_stack(rt: &HostRuntime) -> io::Result<()> {

@@ -12,7 +12,7 @@ pub struct StandardStreams {
     _held: [Option<File>; 3],
 }
 
-// A folder that is always there, under the least free descriptor, where that is one of a standard
+// A folder that is always there, under the least free descriptor, if that is one of a standard
 // stream.
 fn hold(rt: &HostRuntime) -> io::Result<Option<File>> {
     let file = File::open(rt, "/")?;
@@ -23,7 +23,7 @@ fn hold(rt: &HostRuntime) -> io::Result<Option<File>> {
 }
 
 impl StandardStreams {
-    /// Takes those that are free. Fails where no file can be opened.
+    /// Takes those that are free. Fails if no file can be opened.
     pub fn take(rt: &HostRuntime) -> io::Result<StandardStreams> {
         Ok(StandardStreams {
             _held: [hold(rt)?, hold(rt)?, hold(rt)?],

@@ -66,7 +66,7 @@ expect_offset 'one that is behind, and is not said to be filled, begins anew' 0 
 
 # ---- images that aren't those of one mirror that can be adopted
 
-# Whether gm0 can't be adopted where a.img and b.img tell these fields.
+# Whether gm0 can't be adopted if a.img and b.img tell these fields.
 expect_unfit() {
     put_told a.img 3 x did=1 $2
     put_told b.img 3 x did=2 $3
@@ -102,7 +102,7 @@ expect 'one that counts itself alone can be adopted' 0 'k1 ok 1' ''
 
 # ---- what of it is registered already
 
-# Whether gm0 on a.img and b.img is refused where this was labelled before.
+# Whether gm0 on a.img and b.img is refused if this was labelled before.
 expect_taken() {
     put_pair
     put_image "$bench/images/c.img" c bare

@@ -2,8 +2,8 @@
 
     each_call.py PROGRAM PRELOADED FOLDER
 
-A run whose call fails ends with a fault, or does all of its work. What only looks changes nothing, or, where it recovers
-first, no more than that does. Behind a `sync` that failed another one makes of the images what one makes that doesn't fail.
+A run whose call fails ends with a fault, or does all of its work. What only looks changes nothing, or, if it recovers
+first, no more than that does. After a `sync` that failed another one makes of the images what one makes that doesn't fail.
 """
 
 import sys
@@ -40,7 +40,7 @@ def calls_of(words):
 
 
 def try_each(name, words, begins_with, behind):
-    """Fails each call in turn, and looks at what stands behind that."""
+    """Fails each call in turn, and looks at what is there after that."""
     global wrong
     place.put_back(begins_with)
     well = run(words)

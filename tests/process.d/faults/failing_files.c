@@ -1,4 +1,4 @@
-/* What a test preloads into the program: the Nth call on a file whose path begins with WITHIN fails once, where FAIL=N says so:
+/* What a test preloads into the program: the Nth call on a file whose path begins with WITHIN fails once, if FAIL=N says so:
    a read, write, cut or sync of it, or its opening. COUNT names a file to which the number of these calls is written at the
    end. Those that don't fail act, but no sync waits. */
 #define _GNU_SOURCE

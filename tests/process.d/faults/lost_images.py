@@ -41,7 +41,7 @@ def records():
 
 
 def put_before(lines):
-    """A bench behind these lines; behind none, the images of FILLED without their registry."""
+    """A bench after these lines; after none, the images of FILLED without their registry."""
     place.make(NAMES, 4)
     place.hand_in(lines or FILLED, LD_PRELOAD=preloaded)
     if lines is None:
@@ -127,7 +127,7 @@ def lose_each(command, first, named):
 
 
 def try_command(command, lines, named):
-    """A command that is stopped before each write and sync of an image, behind its acceptance."""
+    """A command that is stopped before each write and sync of an image, after its acceptance."""
     put_before(lines)
     place.keep("before")
     line = f"p1 {command}\n".encode()

@@ -2,7 +2,7 @@
 . "$helpers/bench.sh"
 . "$helpers/rights.sh"
 
-# ---- which commands make a registry where there is none, and say so
+# ---- which commands make a registry if there is none, and say so
 
 # Begins a bench whose registry isn't made yet.
 fresh_bench mistyped
@@ -94,7 +94,7 @@ at_bench status
 at_bench status --existing
 expect 'a registry that is there, with --existing' 0 'no mirrors' ''
 
-# ---- what is said where none can be made
+# ---- what is said if none can be made
 
 registry=$bench/nowhere/registry
 at_bench status --explain

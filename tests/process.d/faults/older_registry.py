@@ -70,7 +70,7 @@ for first in range(1, total + 1):
         if schema() not in [(1, 5), (2, 6)]:
             wrong.append(f"stopped at call {first}: the schema is {schema()}")
         place.keep("stopped")
-        # The second stop is at every third call, from another one on behind each first.
+        # The second stop is at every third call, from another one on after each first.
         again = calls()
         for second in range(1 + first % 3, again + 1, 3):
             place.put_back("stopped")

@@ -53,7 +53,7 @@ def records():
 
 
 def check_claims(title, lists):
-    """Whether each image has the data that it claims: those of after the last command where it has the syncid of then, else
+    """Whether each image has the data that it claims: those of after the last command if it has the syncid of then, else
     those of before; one that says DIRTY or INACTIVE claims none."""
     registered = records()
     count = len(registered.commands) - len(BEFORE)

@@ -1,4 +1,4 @@
-"""What is pending behind each command that was killed, and what is looked at without an opening.
+"""What is pending after each command that was killed, and what is looked at without an opening.
 
     pending.py PROGRAM PRELOADED FOLDER
 
@@ -30,7 +30,7 @@ def check(title, found, wanted):
 
 
 def put_before(lines):
-    """A bench behind these lines; behind none, the images of FILLED without their registry."""
+    """A bench after these lines; after none, the images of FILLED without their registry."""
     place.make(NAMES, SECTORS)
     place.hand_in(lines or FILLED, LD_PRELOAD=preloaded)
     if lines is None:

@@ -85,7 +85,7 @@ batch 'k6 insert --did 2 gm0 b.img\nk6 clear b.img\nk7 forget gm0\nk8 insert --d
 expect 'it is cleared, and inserted anew' 1 \
     "$(lines 'k6 refused 10\nk6 ok 6\nk7 ok 7\nk8 ok 8\nk9 ok 9 copied 3 of 3')" ''
 
-# A loss that is stopped behind its acceptance is carried out by the next opening.
+# A loss that is stopped after its acceptance is carried out by the next opening.
 fresh_bench stopped-twice
 put_far_image "$bench/images/a.img"
 put_far_image "$bench/images/b.img"

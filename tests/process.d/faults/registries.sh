@@ -2,7 +2,7 @@
 . "$helpers/under_way.sh"
 . "$helpers/python.sh"
 
-# ---- a registry is made where there is none
+# ---- a registry is made if there is none
 
 fresh_bench new
 registry=$bench/images/registry
@@ -256,7 +256,7 @@ k7 label --mid 7 --did 1 gm7 a.img
     expect "it is a registry still, as $path" 0 'recovered 0' ''
 done
 
-# The log that a killed batch leaves, with zeros behind it up to a whole sector: it is no image either, and what it holds is
+# The log that a killed batch leaves, with zeros after it up to a whole sector: it is no image either, and what it holds is
 # found.
 fresh_bench log-of-a-killed-one
 registry=$bench/images/r

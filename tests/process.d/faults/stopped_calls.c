@@ -1,5 +1,5 @@
 /* What a test preloads into the program. STOP=N fails the Nth write, sync or cut of a file whose path begins with STOPPED, and
-   each later one, or ends the process there by a signal, where KILL is set. COUNT names a file to which the number of these calls
+   each later one, or ends the process there by a signal, if KILL is set. COUNT names a file to which the number of these calls
    is written at the end. Those that don't fail act, but no sync waits, so that many runs take little time. */
 #define _GNU_SOURCE
 #include <dlfcn.h>

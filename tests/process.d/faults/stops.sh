@@ -41,7 +41,7 @@ expect 'a recovery behind it' 0 'recovered 2' ''
 at_bench batch <"$work/lines"
 expect 'the same batch behind that' 0 "$(lines 'k1 repeated 1\nk2 repeated 2\nk3 ok 3')" ''
 
-# The same where the system would end the process for such a write: it isn't begun.
+# The same if the system would end the process for such a write: it isn't begun.
 fresh_bench limited
 dd if=/dev/zero of="$bench/images/b.img" bs=512 count=1 seek=32767 2>/dev/null
 (

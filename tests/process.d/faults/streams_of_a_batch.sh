@@ -48,7 +48,7 @@ for how in closed full gone; do
     batch "$label$insert"
     expect "what it accepted before its output was $how" 0 "$(lines 'k1 repeated 1\nk2 ok 2')" ''
 done
-# An input that fails behind two lines: a pipe whose reads don't wait while nothing is in it.
+# An input that fails after two lines: a pipe whose reads don't wait while nothing is in it.
 fresh_bench input-fails
 mkfifo "$bench/in"
 exec 3<>"$bench/in"

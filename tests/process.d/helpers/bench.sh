@@ -1,4 +1,4 @@
-# Benches: a folder of images and a registry, the commands that are run there, and what is expected of them behind that.
+# Benches: a folder of images and a registry, the commands that are run there, and what is expected of them after that.
 
 . "$helpers/expect.sh"
 . "$helpers/images.sh"
@@ -23,7 +23,7 @@ stopped_remove() {
     cp "$top/examples/pending.sqlite" "$registry"
 }
 
-# A bench that stopped when it was to copy the data of a.img to b.img, behind its insertion, and had written nothing of it.
+# A bench that stopped when it was to copy the data of a.img to b.img, after its insertion, and had written nothing of it.
 # No batch stops there by itself: so SQLite's own command line writes that into the registry.
 stopped_copy() {
     fresh_bench "$1"
@@ -31,7 +31,7 @@ stopped_copy() {
     sqlite3 "$registry" "INSERT INTO intents VALUES (1, 3, 'b.img', 'a.img', 0, 3), (2, 1, 'b.img', '', 0, 0)"
 }
 
-# Writes into the registry of that bench, by SQLite's own command line, commands that were accepted behind so many, up to as
+# Writes into the registry of that bench, by SQLite's own command line, commands that were accepted after so many, up to as
 # many in all.
 put_accepted() {
     sqlite3 "$registry" "WITH RECURSIVE numbers(n) AS (SELECT $1 + 1 UNION ALL SELECT n + 1 FROM numbers WHERE n < $2)

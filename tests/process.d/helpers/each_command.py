@@ -1,4 +1,4 @@
-"""Benches for each of the fourteen commands, behind which it writes to images."""
+"""Benches for each of the fourteen commands, after which it writes to images."""
 
 NAMES = ["a.img", "b.img", "c.img", "d.img", "e.img", "f.img"]
 

@@ -32,7 +32,7 @@ run() {
     status=$?
 }
 
-# Lines of a text, each with its line feed; nothing where the text is empty.
+# Lines of a text, each with its line feed; nothing if the text is empty.
 whole_lines() {
     [ -z "$1" ] || printf '%s\n' "$1"
 }
@@ -49,8 +49,8 @@ leave_out_made() {
     mv "$work/other-complaints" "$1"
 }
 
-# Whether the last run ended so, and printed just these lines. That a new registry was made is looked for where the lines say
-# so; elsewhere a test may have begun with one or without.
+# Whether the last run ended so, and printed just these lines. That a new registry was made is looked for if the lines say
+# so; otherwise a test may have begun with one or without.
 expect() {
     name=$1
     whole_lines "$3" >"$work/wanted-output"

@@ -1,4 +1,4 @@
-/* What a test preloads into the program: its Nth read or write of a standard stream or of a connection fails once, where
+/* What a test preloads into the program: its Nth read or write of a standard stream or of a connection fails once, if
    FAIL_READ=N or FAIL_WRITE=N says so, and each other one of these reads gives PIECE bytes at most. COUNT names a file to which
    the numbers of reads and writes are written at the end. */
 #define _GNU_SOURCE

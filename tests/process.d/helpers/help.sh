@@ -10,7 +10,7 @@ options_of() {
     "$gmbench" "$@" --help | sed -n '/^Options:/,/^$/s/^ *\(-[a-zA-Z], \)\{0,1\}\(--[a-z-]*\).*/\2/p' | in_a_line
 }
 
-# The commands of a batch's line, each with what may stand behind it, a line each.
+# The commands of a batch's line, each with what may follow it, a line each.
 command_lines() {
     "$gmbench" batch --help | sed -n '/^  KEY label/,/^B is/{
         s/^  KEY //p

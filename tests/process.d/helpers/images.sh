@@ -3,7 +3,7 @@
 . "$helpers/expect.sh"
 
 # An image of three sectors, each byte of which is this character, and a last one: a file of examples/, or nothing but
-# zeros where it is to be bare.
+# zeros if it is to be bare.
 put_image() {
     head -c 1536 /dev/zero | tr '\0' "$2" >"$1"
     case $3 in
@@ -17,7 +17,7 @@ overwrite() {
     printf "$3" | dd of="$1" bs=1 seek=$((1536 + $2)) conv=notrunc 2>/dev/null
 }
 
-# Gives that sector, behind its first 119 bytes or so many, the MD5 that they have.
+# Gives that sector, after its first 119 bytes or so many, the MD5 that they have.
 rehash() {
     hashed=${2:-119}
     hash=$(dd if="$1" bs=1 skip=1536 count="$hashed" 2>/dev/null | md5sum | cut -c 1-32 | sed 's/../0x& /g')
@@ -96,7 +96,7 @@ put_shelf() {
 }
 
 # A folder of whatever isn't an image that can be used, beside one that can: files of no whole sectors, names of images that
-# are none, a pipe, a folder, links, and a device and a socket where they can be made.
+# are none, a pipe, a folder, links, and a device and a socket if they can be made.
 put_hostile_folder() {
     hostile=$work/hostile
     mkdir "$hostile" "$hostile/folder"

@@ -2,7 +2,7 @@
 
 . "$helpers/bench.sh"
 
-# Hands the kept lines to a batch at that bench. Where it leaves something of them that counts as a complaint.
+# Hands the kept lines to a batch at that bench. If it leaves something of them that counts as a complaint.
 take_lines() {
     {
         at_bench batch
@@ -48,7 +48,7 @@ expect_inputs() {
     [ -z "$wrong" ] && pass "$1" || fail "$1" "$wrong"
 }
 
-# A list of words, each of which stands behind the key of a label that was carried out: whether each is answered so, and
+# A list of words, each of which comes after the key of a label that was carried out: whether each is answered so, and
 # leaves that label's mirror, its image and the registry as they are.
 expect_words_of_key() {
     sed "s/.*/k1 &|k1 $3/" >"$work/words"

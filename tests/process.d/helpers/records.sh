@@ -87,7 +87,7 @@ expect_records() {
 }
 
 # Whether a batch of this line is answered so, writes just these images, and leaves the records that are read from
-# standard input, on images that tell them. An image was written where its time changed.
+# standard input, on images that tell them. An image was written if its time changed.
 expect_step() {
     cat >"$work/wanted-records"
     touch -t 200001010000 "$work/before" "$bench/images/"*

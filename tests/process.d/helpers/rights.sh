@@ -25,7 +25,7 @@ skip_without_program() {
     skip "$1" 'another user can not run the program where it lies'
 }
 
-# Whether the program prints these lines, and ends well, as a user who may only read: its words stand behind them.
+# Whether the program prints these lines, and ends well, as a user who may only read: its words come after them.
 expect_as_reader() {
     title=$1
     told=$2
@@ -42,8 +42,8 @@ expect_as_reader() {
     expect "$title" 0 "$told" ''
 }
 
-# Whether the program prints these lines, and ends well, over that folder where it is mounted for reading alone: a command
-# and what stands behind its folder.
+# Whether the program prints these lines, and ends well, over that folder when it is mounted for reading alone: a command
+# and what comes after its folder.
 expect_on_read_only_mount() {
     title=$1
     told=$2

@@ -13,7 +13,7 @@ begin_server() {
     port=$(sed -n 's/^listening on 127\.0\.0\.1:\([0-9]*\)$/\1/p' "$bench/listening")
 }
 
-# Waits until it ends. What it printed behind its first line, and how it ended, is kept.
+# Waits until it ends. What it printed after its first line, and how it ended, is kept.
 end_server() {
     wait "$under_way"
     status=$?

@@ -16,7 +16,7 @@ wait_for_lines() {
     done
 }
 
-# Sends lines to the batch that is under way, or to nobody where it has ended.
+# Sends lines to the batch that is under way, or to nobody if it has ended.
 send() {
     (
         trap '' PIPE
@@ -24,7 +24,7 @@ send() {
     ) 2>/dev/null
 }
 
-# Starts a batch at that bench, with further words behind its lines, for at most 60 seconds, and hands it these lines, of
+# Starts a batch at that bench, with further words after its lines, for at most 60 seconds, and hands it these lines, of
 # which the first is answered.
 begin_batch() {
     handed=$1

@@ -40,7 +40,7 @@ everything() {
 }
 
 # Whether a batch that is under way ends with F3 at the line that wants b.img, once that changed so, and nothing is written
-# behind that; where the image had been opened before, and where it hadn't.
+# after that, whether or not the image had been opened before.
 expect_disk_fault() {
     title=$1
     told=$2

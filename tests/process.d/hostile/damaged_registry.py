@@ -4,7 +4,7 @@
 
 STRIDE is how many bytes stand between two that are changed, each in a run of its own; with PART=K/N in the environment it is
 each Nth of these, from the Kth on. NAME is said of the bench. An image may
-change where SQLite finds a write of it that is pending.
+change if SQLite finds a write of it that is pending.
 """
 
 import os
@@ -89,7 +89,7 @@ def pending_in(connection):
 
 
 def by_sqlite(content, question):
-    """What is answered of the rows that SQLite finds; None where it finds none, for whatever reason."""
+    """What is answered of the rows that SQLite finds; None if it finds none, for whatever reason."""
     copy = os.path.join(bench, "copy")
     with open(copy, "wb") as file:
         file.write(content)
@@ -123,7 +123,7 @@ def images_changed():
 
 
 def fault_of(done):
-    """The fault with which a run ended, and nothing else; None where it ended otherwise."""
+    """The fault with which a run ended, and nothing else; None if it ended otherwise."""
     if done.returncode != 3 or done.stdout:
         return None
     if re.fullmatch(rb"gmbench: F5 absent [A-Za-z0-9._-]{1,15}\n", done.stderr):

@@ -48,7 +48,7 @@ def value_of(kind, text):
 
 
 def parse(words):
-    """A command: its word, its options and its names. Or None, where the words are no command."""
+    """A command: its word, its options and its names. Or None, if the words are no command."""
     if not words or words[0] not in COMMANDS:
         return None
     wanted, more, least, most = COMMANDS[words[0]]
@@ -99,7 +99,7 @@ def refusal(command):
 
 
 def answer(line):
-    """What the model answers to a line; None where it says nothing of it, and nothing where it has no answer."""
+    """What the model answers to a line; None if it says nothing of it, and nothing if it has no answer."""
     if len(line) > 131_072:
         return b"? refused 1"
     try:

@@ -1,4 +1,4 @@
-"""The rows of commands that are worked out by hand, as batches: cut behind each byte, and with each read and write failing.
+"""The rows of commands that are worked out by hand, as batches: cut after each byte, and with each read and write failing.
 
     rows.py PROGRAM PRELOADED FOLDER ROWS STRIDE
 
@@ -42,7 +42,7 @@ def run(text, **more):
 
 
 def state():
-    """What is registered, and what the images hold; nothing where there is no registry."""
+    """What is registered, and what the images hold; nothing if there is no registry."""
     found = {}
     for name in sorted(os.listdir(images)):
         with open(os.path.join(images, name), "rb") as file:
@@ -56,7 +56,7 @@ def check(title, found, wanted):
 
 
 def cut(title, words, text, answers, behind):
-    """The text cut behind so many bytes: whole lines are answered as ever, and what is behind them is a line of its own."""
+    """The text cut after so many bytes: whole lines are answered as ever, and what is after them is a line of its own."""
     counts["cuts"] += 1
     *whole, part = text[:behind].split("\n")
     before = answers[: len(answered(whole))]
@@ -81,7 +81,7 @@ def cut(title, words, text, answers, behind):
 
 
 def rest(title, text, answers, done, again):
-    """The lines behind those that were answered, and first the one that was done and not told, if there is one."""
+    """The lines after those that were answered, and first the one that was done and not told, if there is one."""
     lines = answered(text.split("\n"))[done:]
     wanted = answers[done:]
     if again and " ok " in wanted[0]:

@@ -4,7 +4,7 @@
 
 # ---- the rows that are worked out by hand, cut and with calls that fail
 
-# Each row's lines are handed in as a batch that is cut behind some of its bytes, or behind all. Then a library that is
+# Each row's lines are handed in as a batch that is cut after some of its bytes, or after all. Then a library that is
 # preloaded into the program lets one of its reads fail, or one of its writes.
 case ${HOSTILE:-some} in
     all) stride=1 ;;

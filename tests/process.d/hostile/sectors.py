@@ -59,7 +59,7 @@ def at_limits(said):
 
 
 def no_name(field):
-    """A field of 16 bytes that is no label with zeros behind it."""
+    """A field of 16 bytes that is no label with zeros after it."""
     kind = rng.randrange(5)
     if kind == 0:
         return bytes(rng.choice(formats.LETTERS) for _ in range(16))
@@ -103,7 +103,7 @@ def renamed(said):
 
 
 def noise(said):
-    """Any bytes, behind the name of the format or not; or a sector with any rest."""
+    """Any bytes, after the name of the format or not; or a sector with any rest."""
     kind = rng.randrange(4)
     if kind == 0:
         return bytes(512)

@@ -49,7 +49,7 @@ expect_kept 'nothing was written'
 at_bench sync --unchecked
 expect 'unless it is not to look' 0 "$(lines 'gm0 a.img ACTIVE\ngm0 b.img ACTIVE')" 'b.img 100 %: 3 of 3'
 
-# Another mirror's images don't matter where one is named.
+# Another mirror's images don't matter if one is named.
 fresh_bench beside
 put_image "$bench/images/c.img" c bare
 batch "$label${insert}k3 label --mid 8 --did 1 gm1 c.img\n"

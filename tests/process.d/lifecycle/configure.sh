@@ -67,7 +67,7 @@ expect 'a status of it while it is filled' 0 "$of_two" ''
 # ---- what is set of a mirror of several components, and what stays
 
 # Whether the next configure with these options writes all images, and makes this balance, slice and flags of the
-# mirror, where its components stay but for the state of c.img.
+# mirror, while its components stay but for the state of c.img.
 expect_mirror_set() {
     number=$((number + 1))
     expect_step "$1 sets $2" "k$number configure $1 gm0" "k$number ok $number" 'a.img b.img c.img' <<END

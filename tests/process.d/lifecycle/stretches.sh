@@ -1,7 +1,7 @@
 # Stretches: how long each is, where it begins, and what is told of it.
 . "$helpers/records.sh"
 
-# ---- stretches: how many sectors each has, where it begins, and what the component says behind it
+# ---- stretches: how many sectors each has, where it begins, and what the component says after it
 
 # Whether a component of so many sectors is filled by stretches that end there, and has the data then. The bench is
 # named by the number.

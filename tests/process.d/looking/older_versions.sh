@@ -22,7 +22,7 @@ make_older "$sectors/b.img" 3
 run dump --shelf "$sectors" b.img
 expect 'a dump of version 3' 0 "$(dumped_older 3 628b56e8c9859b81c759162d054b4078)" ''
 
-# Behind its hash version 2 may have anything.
+# After its hash version 2 may have anything.
 dd if=/dev/zero bs=385 count=1 2>/dev/null | tr '\0' '\245' |
     dd of="$sectors/a.img" bs=1 seek=$((1536 + 127)) conv=notrunc 2>/dev/null
 run dump --shelf "$sectors" a.img

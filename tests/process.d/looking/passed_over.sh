@@ -15,7 +15,7 @@ passed_over_is() {
     fi
 }
 
-# A line for each kind of entry, in byte order of names. A device and a socket are told where they can be made.
+# A line for each kind of entry, in byte order of names. A device and a socket are told if they can be made.
 put_hostile_folder
 not_regular=' not a regular file'
 [ -c "$hostile/device" ] && device="
@@ -83,7 +83,7 @@ passed over:
 
 # ---- what SQLite puts beside a database
 
-# Files of no whole sectors: they are told where nothing has the name before the suffix. A registry's own file, and what has
+# Files of no whole sectors: they are told if nothing has the name before the suffix. A registry's own file, and what has
 # an image's length beside it, are taken for images without metadata.
 images=$work/beside-databases
 mkdir "$images" "$images/folder"

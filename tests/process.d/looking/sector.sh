@@ -51,7 +51,7 @@ expect 'a hash that was mended' 0 "$said_by_one" ''
     printf '\000\000\000\000\000\000\000\000'
     printf '\000\000\000\000\000\000\000\000\000\000\000\000\000\000\000\000'
     printf '\000\010\000\000\000\000\000\000'
-    # md5, and zeros behind it
+    # md5, and zeros after it
     printf '\260\310\322\152\233\207\003\315\375\204\271\324\204\026\065\061'
     head -c 377 /dev/zero
 } >"$work/wanted-sector"

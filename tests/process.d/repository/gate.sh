@@ -32,7 +32,7 @@ say() {
     echo "$4" >"$told/process.status"
 }
 
-# Whether ./check ends so, with just this behind what `rt ci` and the tests print.
+# Whether ./check ends so, with just this after what `rt ci` and the tests print.
 expect_end() {
     rm -f "$here/crates/gmbench/out/gmbench.proved"
     PATH=$work/path:$PATH "$here/check" >"$work/printed" 2>"$work/complaints" </dev/null

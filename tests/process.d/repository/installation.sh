@@ -147,7 +147,7 @@ mkdir "$work/images"
 expect_offered() {
     [ "$2" = "$3" ] && pass "$1" || fail "$1" "offered are '$2', and not '$3'"
 }
-# What bash offers, by the installed file, behind `gmbench` and these words.
+# What bash offers, by the installed file, after `gmbench` and these words.
 in_bash() {
     bash -c '. "$1"
         shift
@@ -223,7 +223,7 @@ expect 'a list with paths that lead out: removing' 0 "$(removals "$work/elsewher
     fail 'a list with paths that lead out: what is elsewhere stays' "$(ls "$work/elsewhere" "$work")"
 expect_none 'a list with paths that lead out: what was made is gone' "$work/elsewhere/below"
 
-# ---- over what is there, and where names have spaces
+# ---- over what is there, and if names have spaces
 
 mkdir -p "$work/older/bin" "$work/older/share/man/man8"
 echo older >"$work/older/bin/gmbench"
@@ -393,7 +393,7 @@ install "$work/older"
 expect 'killed between two files: once more' 0 "$(echo "$said" && places "$work/older")" ''
 expect_installed 'killed between two files: once more' "$work/older"
 
-# ---- the gate's program comes first, where it is proved
+# ---- the gate's program comes first, if it is proved
 
 cp "$gmbench" "$here/crates/gmbench/out/gmbench"
 install "$work/prefix"

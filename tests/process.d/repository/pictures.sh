@@ -7,7 +7,7 @@
 told=$("$top/docs/draw" --check 2>&1) && pass 'each picture was drawn of its text' ||
     fail 'each picture was drawn of its text' "$told"
 
-# What the check says where something was changed in a copy, which then is put back.
+# What the check says if something was changed in a copy, which then is put back.
 here=$work/here
 mkdir -p "$here/docs"
 cp "$top/docs/draw" "$here/docs"

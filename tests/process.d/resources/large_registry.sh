@@ -3,7 +3,7 @@
 
 # ---- a large registry, looked at without an opening in little memory
 
-# 320 patches of 64 sectors are a registry of 20 MB. A batch that is killed behind 20 more leaves a log beside it.
+# 320 patches of 64 sectors are a registry of 20 MB. A batch that is killed after 20 more leaves a log beside it.
 fresh_bench large
 truncate -s 102400 "$bench/images/a.img"
 data=$(head -c 65534 /dev/zero | tr '\0' 5)

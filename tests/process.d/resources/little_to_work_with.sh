@@ -23,7 +23,7 @@ else
     fail 'a recovery with 4 descriptors' "status $status, '$(head -n 1 "$work/complaints")'"
 fi
 
-# What a run is handed on its input, what it may print where memory is wanting, and the bench that it begins with, where it
+# What a run is handed on its input, what it may print if memory is wanting, and the bench that it begins with, if it
 # changes one: a copy of it is put in place each time.
 input=/dev/null
 told=

@@ -19,7 +19,7 @@ time_dumps() {
 }
 
 # The least time of each folder in turns that go from one to the other, so that other work which begins or ends meanwhile is
-# beside both: five turns, and up to 20 where the crowd takes longer still.
+# beside both: five turns, and up to 20 if the crowd takes longer still.
 alone=$(time_dumps "$shelf")
 among=$(time_dumps "$crowd")
 turns=1

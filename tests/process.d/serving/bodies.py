@@ -1,4 +1,4 @@
-"""The label of a mirror gm0 on a.img as a body, and what the looks show behind it."""
+"""The label of a mirror gm0 on a.img as a body, and what the looks show after it."""
 
 LABEL = '{"key":"k1","words":["label","--mid","7","--did","1","gm0","a.img"]}'
 EMPTY = '{"mirrors":[]}'

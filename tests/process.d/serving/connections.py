@@ -1,4 +1,4 @@
-"""Clients that are slow, that go away, and that send much, one behind the other."""
+"""Clients that are slow, that go away, and that send much, one after the other."""
 
 import socket
 import struct

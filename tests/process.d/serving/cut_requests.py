@@ -1,4 +1,4 @@
-"""Requests that are cut behind each byte, and of which each read and each write of the server fails once.
+"""Requests that are cut after each byte, and of which each read and each write of the server fails once.
 
     cut_requests.py PROGRAM PRELOADED FOLDER
 """
@@ -57,7 +57,7 @@ def check(title, found, wanted):
 
 
 def cut(title, request, answer, labelled):
-    """Whatever is cut is a bad request, and does nothing; the whole one behind that is answered as ever."""
+    """Whatever is cut is a bad request, and does nothing; the whole one after that is answered as ever."""
     put(labelled)
     pieces = [request[:behind] for behind in range(len(request))]
     counts["cuts"] += len(pieces)

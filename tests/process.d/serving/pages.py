@@ -92,7 +92,7 @@ program("no Host", get())
 program("two hosts", get(b"Host: localhost", b"host: 127.0.0.1"))
 page("two hosts, the second of a page", get(b"Host: localhost", b"hOST: a.b"), MIRRORS)
 
-# It stands behind a head that can't be read, and before all else.
+# It comes after a head that can't be read, and before all else.
 origin = b"Origin: null"
 program("a head that can't be read", b"GET /status\r\nOrigin: null\r\n\r\n", response(400))
 program("a head of 65 fields", get(origin, *[b"a: b"] * 64), response(400))
@@ -106,7 +106,7 @@ refused = response(409, '{"answer":"refused","number":5}')
 page("a form of text/plain", post(b"Content-Type: text/plain", origin), refused)
 program("a command of a program", post(), refused)
 
-# Nothing behind the head of a page is needed for a target that takes no body.
+# Nothing after the head of a page is needed for a target that takes no body.
 with socket.create_connection(("127.0.0.1", port), timeout=20) as connection:
     connection.sendall(get(origin))
     answer = b""

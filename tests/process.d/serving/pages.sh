@@ -34,7 +34,7 @@ if has_python 'requests that web pages send'; then
 TIME GET /status 403 27
 TIME POST /commands 200 23'
 
-    # The same by a real browser, where there is one.
+    # The same by a real browser, if there is one.
     browser=$(command -v chromium || command -v chromium-browser || command -v google-chrome)
     if [ -n "$browser" ]; then
         fresh_bench in_a_browser

@@ -1,4 +1,4 @@
-"""A request in two pieces, cut behind each of its bytes; and one whose sender doesn't end its side."""
+"""A request in two pieces, cut after each of its bytes; and one whose sender doesn't end its side."""
 
 import sys
 from concurrent.futures import ThreadPoolExecutor

@@ -24,7 +24,7 @@ expect_offered() {
 
 # ---- bash
 
-# What bash offers behind `gmbench` and these words, of which the last one is at the cursor, sorted, in a line.
+# What bash offers after `gmbench` and these words, of which the last one is at the cursor, sorted, in a line.
 in_bash() {
     (
         cd "$place" || exit
@@ -100,7 +100,7 @@ fi
 
 # ---- zsh and fish have the same words
 
-# Whether a file has each of these words, as it writes one: before and behind it stands this.
+# Whether a file has each of these words, as it writes one: this comes before it and after it.
 expect_written() {
     missing=
     for word in $5; do
@@ -121,7 +121,7 @@ expect_written 'fish: each subcommand' gmbench.fish "^(for line in|   ) '" : "$(
 expect_written 'fish: each command of do' gmbench.fish "[' ]" "[' ]" "$commands"
 expect_written 'fish: each option' gmbench.fish ' -l ' ' ' "$options"
 
-# What zsh offers behind a line that is begun, sorted, in a line.
+# What zsh offers after a line that is begun, sorted, in a line.
 in_zsh() {
     (
         cd "$place" || exit
@@ -168,7 +168,7 @@ else
         'load prefer round-robin split'
 fi
 
-# What fish offers behind a line that is begun, sorted, in a line.
+# What fish offers after a line that is begun, sorted, in a line.
 in_fish() {
     (
         cd "$place" || exit

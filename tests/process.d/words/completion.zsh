@@ -1,4 +1,4 @@
-# Prints what zsh offers behind a line, by the completions of a folder, a line each:
+# Prints what zsh offers after a line, by the completions of a folder, a line each:
 #
 #     zsh -f completion.zsh FOLDER LINE
 #

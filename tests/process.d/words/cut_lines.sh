@@ -1,7 +1,7 @@
 # An input that is cut after each of its bytes.
 . "$helpers/lists.sh"
 
-# ---- an input that is cut behind each of its bytes
+# ---- an input that is cut after each of its bytes
 
 fresh_bench cut
 cp -R "$bench" "$work/fresh-cut"
@@ -35,7 +35,7 @@ try_kept() {
     done
 }
 
-# Cuts a line behind each of its bytes: how the mirrors stand before it, the line, the part of it that names a command at
+# Cuts a line after each of its bytes: how the mirrors stand before it, the line, the part of it that names a command at
 # least, and what a command is refused that a cut line names, since there is no such image or mirror.
 cut_line() {
     line=$3

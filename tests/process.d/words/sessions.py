@@ -2,7 +2,7 @@
 
     sessions.py PROGRAM TOP
 
-A session stands in an indented block: a line behind `$ ` is typed, `> ` goes on with it, and the other lines are printed, on
+A session is in an indented block: a line after `$ ` is typed, `> ` goes on with it, and the other lines are printed, on
 standard output or standard error. The sessions of a page follow each other, in a folder that is empty at first.
 """
 
@@ -50,7 +50,7 @@ def typed_in(page):
 
 
 def script_of(commands, mark):
-    """A script that types all, with a line behind each command that nothing else prints."""
+    """A script that types all, with a line after each command that nothing else prints."""
     lines = ["exec 2>&1"]
     for command in commands:
         lines += [command.text, f"printf '%s\\n' '{mark}'"]

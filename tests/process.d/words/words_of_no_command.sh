@@ -3,13 +3,13 @@
 
 # ---- words that no command has
 
-# Words behind the key of a command that was carried out: had they a meaning they would be another command, refusal 3.
+# Words after the key of a command that was carried out: had they a meaning they would be another command, refusal 3.
 fresh_bench mistakes
 batch "$label"
 expect 'a command under whose key wrong words stand' 0 'k1 ok 1' ''
 keep_bench
 
-# A list of words behind each of these commands' own.
+# A list of words after each of these commands' own.
 behind_each() {
     cat >"$work/names-behind"
     for command in $1; do

@@ -112,7 +112,7 @@ fn a_read_that_fails_is_told(rt: HostRuntime) {
         let told = counted_until(&rt, &[], nth);
         must(&rt, told == Err(ShelfFault::Device), "not told");
     }
-    // Behind the run that differs nothing is read.
+    // Nothing is read after the run that differs.
     must(
         &rt,
         counted_until(&rt, &[127], 257) == Ok(127),

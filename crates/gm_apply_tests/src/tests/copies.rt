@@ -7,7 +7,7 @@ use gm_test_media::{CallCounts, CountingShelf};
 use std::process::Abort;
 
 // The sectors of a, each of one byte of its own, and those of b: as a's but for these places, which
-// hold 0xff. Behind them b has a sector more.
+// hold 0xff. After them b has a sector more.
 fn two_images(rt: &(impl Abort + AllocGlobal), sectors: u8, differing: &[u8]) -> MemShelf {
     let mut a = Vec::new(rt.alloc());
     let mut b = Vec::new(rt.alloc());
@@ -57,7 +57,7 @@ fn calls(reads: u64, writes: u64, written: u64) -> CallCounts {
 }
 
 // What a copy of all sectors of a asks of the shelf: so many reads and writes, and so many sectors
-// in the writes. Then b holds them, and the sector behind them is as it was.
+// in the writes. Then b holds them, and the sector after them is as it was.
 fn must_ask(rt: &(impl Abort + AllocGlobal), sectors: u8, differing: &[u8], asked: [u64; 3]) {
     let mut shelf = CountingShelf::new(two_images(rt, sectors, differing));
     copies(rt, &mut shelf, 0, u32::from(sectors));

@@ -75,7 +75,7 @@ fn a_patch_that_stops_leads_on(rt: HostRuntime) {
     }
 }
 
-// What is dirty on the way: from the write of the dirt on, where a crash keeps it, to that of the
+// What is dirty on the way: from the write of the dirt on, if a crash keeps it, to that of the
 // metadata.
 #[test]
 fn it_is_dirty_while_the_data_change(rt: HostRuntime) {

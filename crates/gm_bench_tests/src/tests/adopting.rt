@@ -1,4 +1,4 @@
-//! An adoption whose shelf stops at each of its calls in turn, and what is found behind it.
+//! An adoption whose shelf stops at each of its calls in turn, and what is found after it.
 
 use gm_metadata::{Metadata, encode};
 use gm_shelf::{FaultShelf, Shelf};
@@ -41,7 +41,7 @@ fn make_differing<H: Shelf>(shelf: &mut H) -> Result<(), Fail> {
     Ok(())
 }
 
-// Behind an adoption b.img no longer says that it is in sync.
+// After an adoption b.img no longer says that it is in sync.
 fn are_adopted<S: Alter + Drop, H: Shelf + Drop>(
     alloc: Global,
     store: Connection<S>,

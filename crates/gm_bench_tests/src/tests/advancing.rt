@@ -1,5 +1,5 @@
 //! Advances: one whose shelf stops at each of its calls in turn, and what its target then claims;
-//! what is written where sectors are equal, and what an opening carries out.
+//! what is written if sectors are equal, and what an opening carries out.
 
 use gm_bench::Answer;
 use gm_metadata::{Metadata, encode};

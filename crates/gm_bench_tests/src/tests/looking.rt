@@ -133,7 +133,7 @@ fn must_list_none<S: Alter, H: Shelf>(
     )
 }
 
-// gm0 of a.img and b.img, where something wrote zeros over the last sector of b.img.
+// gm0 of a.img and b.img, after something wrote zeros over the last sector of b.img.
 fn with_zeros_in_b(mut shelf: MemShelf) -> Result<MemShelf, Fail> {
     let b: Label = label("b.img")?;
     let last = shelf.sectors(b).ok_or("no b.img")?.saturating_sub(1);

@@ -1,5 +1,5 @@
 //! Patches: what they are answered and leave, and one that is stopped between a write of its data
-//! and the sync behind that.
+//! and the sync after that.
 
 use gm_bench::{Answer, Bench};
 use gm_metadata::{DiskFlags, Metadata};
@@ -44,8 +44,8 @@ const PATCHED: Held = Held {
     data: [1, 2, 255],
 };
 
-// Commands, a line each, under k1 and so on; behind the equals sign stands `ok`, or the number by
-// which it is refused. Behind them a.img and b.img hold this.
+// Commands, a line each, under k1 and so on; after the equals sign is `ok`, or the number by
+// which it is refused. After them a.img and b.img hold this.
 #[derive(Clone, Copy)]
 struct Row {
     commands: &'static str,
@@ -200,7 +200,7 @@ const PATCH: Asked = Asked {
     was_done: false,
 };
 
-// A patch whose shelf stops behind its nth call, and both media; whether the stop came.
+// A patch whose shelf stops after its nth call, and both media; whether the stop came.
 fn stop_at<S: Alter + Drop>(
     alloc: Global,
     store: Connection<S>,
@@ -215,7 +215,7 @@ fn stop_at<S: Alter + Drop>(
     Ok((came, store, stopping.into_inner()))
 }
 
-// Whether a crash leaves the third sector of a.img as it was, or as it is patched, where it picks
+// Whether a crash leaves the third sector of a.img as it was, or as it is patched, if it picks
 // so of the one sector that isn't synced.
 fn is_torn(shelf: &MemShelf) -> Result<bool, Fail> {
     let mut torn = true;

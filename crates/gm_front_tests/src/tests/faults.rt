@@ -47,7 +47,7 @@ const BEHIND: &str = "k5 paint gm0";
 // The commands between them, and how many there are.
 const COMMANDS: [&str; 4] = [LABEL, INSERT, REMOVE, DESTROY];
 
-// All lines, or those behind the command at this place.
+// All lines, or those after the command at this place.
 fn script(rt: &(impl Abort + AllocGlobal), behind: Option<usize>) -> String {
     let (before, from) = match behind {
         None => (BEFORE, 0),
@@ -61,7 +61,7 @@ fn script(rt: &(impl Abort + AllocGlobal), behind: Option<usize>) -> String {
     lines
 }
 
-// What the script is answered where so many of its commands were accepted before.
+// What the script is answered if so many of its commands were accepted before.
 fn told_after(rt: &(impl Abort + AllocGlobal), accepted: u64) -> String {
     let mut text = String::from_str(rt.alloc(), "? refused 1\n").expect(rt, "no memory");
     for number in 1u64..=4 {
@@ -76,7 +76,7 @@ fn is_told(rt: &(impl Abort + AllocGlobal), told: &Told, accepted: u64) -> bool 
     told.text.as_slice() == told_after(rt, accepted).as_bytes()
 }
 
-// What it is answered where the bench fails at the command at this place, by the fault of this
+// What it is answered if the bench fails at the command at this place, by the fault of this
 // number.
 fn told_up_to(rt: &(impl Abort + AllocGlobal), place: u64, fault: u8) -> String {
     let mut text = String::from_str(rt.alloc(), "? refused 1\n").expect(rt, "no memory");
@@ -89,7 +89,7 @@ fn told_up_to(rt: &(impl Abort + AllocGlobal), place: u64, fault: u8) -> String 
 }
 
 // Whether this was told by a script that failed at the command at this place, which left the lines
-// behind it.
+// after it.
 fn is_stopped_at(rt: &(impl Abort + AllocGlobal), told: &Told, place: u64, fault: u8) -> bool {
     let expected = told_up_to(rt, place, fault);
     let left = script(rt, Some(place as usize)).len();
@@ -141,7 +141,7 @@ fn is_closed<S: Alter, H: Shelf>(rt: &(impl Abort + AllocGlobal), bench: &mut Be
     answers(rt, bench, b"k1".as_slice(), "k1 refused 1\n", REFUSED);
 }
 
-// The script, and then more where the bench failed and that is asked; how many commands were
+// The script, and then more if the bench failed and that is asked; how many commands were
 // answered as done.
 pub(super) fn plays<S: Alter, H: Shelf>(
     rt: &(impl Abort + AllocGlobal),

@@ -28,7 +28,7 @@ impl<'a> Write for Counted<'a> {
     }
 }
 
-// Gives lines a byte at a time. Where the first byte of a line or the end of the input is asked
+// Gives lines a byte at a time. When the first byte of a line or the end of the input is asked
 // for, it keeps how much of the answers is flushed.
 #[derive(Drop)]
 struct Watching<'a> {

@@ -51,7 +51,7 @@ struct Expected {
     repeated: usize,
 }
 
-// An input that fails behind so many bytes, also at its end.
+// An input that fails after so many bytes, also at its end.
 pub(super) fn failing(lines: &[u8], passing: usize) -> Slow<'_> {
     Slow {
         rest: lines,

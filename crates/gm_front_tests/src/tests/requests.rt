@@ -1,4 +1,4 @@
-//! Requests over HTTP that end or fail behind each of their bytes, and responses that can't be
+//! Requests over HTTP that end or fail after each of their bytes, and responses that can't be
 //! written whole.
 
 use super::readers::failing;
@@ -26,7 +26,7 @@ const BAD: &str = "HTTP/1.1 400 Bad Request\r\nContent-Type: application/json\r\
 
 const STATUS: &str = "GET /status HTTP/1.1\r\n\r\n";
 
-// What is answered where the shelf fails, and from then on.
+// What is answered when the shelf fails, and from then on.
 const FAILED: &str = "HTTP/1.1 500 Internal Server Error\r\nContent-Type: application/json\r\n\
     Content-Length: 11\r\nConnection: close\r\n\r\n{\"fault\":3}";
 
@@ -74,7 +74,7 @@ fn is_cut<S: Alter + Drop, H: Shelf + Drop>(
         let mut failing = failing(REQUEST.as_bytes(), length);
         serves(rt, &mut bench, &mut failing, Err(FrontFault::Read), "");
     }
-    // Nothing behind the request is waited for.
+    // Nothing after the request is waited for.
     let mut whole = failing(REQUEST.as_bytes(), REQUEST.len());
     serves(rt, &mut bench, &mut whole, Ok(200), ACCEPTED);
 }

@@ -24,7 +24,7 @@ struct Media {
 // What is asked of a bench.
 #[derive(Clone, Copy)]
 enum Job {
-    // The script, and where it fails these further batches or none.
+    // The script, and if it fails these further batches or none.
     Play { and_more: bool },
     // The script again, after so many of its commands were answered as done.
     GoOn { done: u64 },
@@ -79,7 +79,7 @@ fn serves<S: Alter, H: Shelf>(
     4
 }
 
-// Opens a bench for a job. Where it can't be opened nothing was done.
+// Opens a bench for a job. If it can't be opened nothing was done.
 fn perform<S: Alter + Drop, H: Shelf + Drop>(
     rt: &(impl Abort + AllocGlobal),
     store: Connection<S>,

@@ -1,4 +1,4 @@
-//! Rows of commands as the lines of batches: what each line is answered, and what is found behind
+//! Rows of commands as the lines of batches: what each line is answered, and what is found after
 //! the last one, in the registry and on the images. The rows stand in `rows`.
 
 mod rows;
@@ -119,7 +119,7 @@ fn older(name: &'static str, version: u8, did: u32, all: u8, data: Data) -> Imag
 }
 
 // The image of this word. The long ones have 257 sectors of data, which differ in one byte. By the
-// last ones of a count of syncs there is none behind it. What a loss leaves is one image that says
+// last ones of a count of syncs there is none after it. What a loss leaves is one image that says
 // so, and the lost one, which doesn't.
 fn image_of(word: &str) -> Option<Image> {
     match word {

@@ -87,7 +87,7 @@ struct Expected {
     fails_at_first: bool,
 }
 
-// What is left of the two lines behind a batch that ended so, and what both are then answered.
+// What is left of the two lines after a batch that ended so, and what both are then answered.
 fn left_and_told_again(fails_at_first: bool) -> (&'static str, &'static str) {
     if fails_at_first {
         (INSERT, LAST_TOLD_AGAIN)

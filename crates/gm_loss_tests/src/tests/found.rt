@@ -1,4 +1,4 @@
-//! Images at the start, and what is found behind an opening: the mirrors, and what each image says
+//! Images at the start, and what is found after an opening: the mirrors, and what each image says
 //! and holds.
 
 use super::got;
@@ -21,7 +21,7 @@ pub(super) fn mirrors<S: Alter, H: Shelf>(
     String::from_str(rt.alloc(), status.trim()).expect(rt, "no memory")
 }
 
-/// What a component of gm0 that is in sync says behind a loss.
+/// What a component of gm0 that is in sync says after a loss.
 pub(super) fn said(rt: &impl Abort, did: u32, all: u8, genid: u32, syncid: u32) -> Metadata {
     Metadata {
         genid,

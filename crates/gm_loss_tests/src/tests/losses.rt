@@ -1,5 +1,5 @@
 //! Losses that are accepted: what is pending is carried out with them, so that nothing is pending
-//! behind them, and they are answered again under their key.
+//! after them, and they are answered again under their key.
 
 use super::found::{bare, must_hold, said};
 use super::media::{Came, Job, Media, behind, perform_on};
@@ -30,7 +30,7 @@ insert --did 3 gm0 b.img
 advance gm0 b.img
 patch 1 60 gm0";
 
-/// The data that a.img begins with, and the same behind that patch.
+/// The data that a.img begins with, and the same after that patch.
 pub(super) const FIRST: [u8; 3] = [10, 11, 12];
 
 pub(super) const PATCHED: [u8; 3] = [10, 60, 12];
@@ -74,7 +74,7 @@ pub(super) fn repeated(number: u64, redone: u64) -> Came {
     Came::Lost(Answer::Repeated(number, Reply::Plain), redone)
 }
 
-// A loss that comes to this, and the media behind it.
+// A loss that comes to this, and the media after it.
 fn loses(
     rt: &(impl Abort + AllocGlobal),
     from: &Media,
@@ -148,7 +148,7 @@ pub(super) fn must_be_in_sync(rt: &impl Abort, mut left: Media, syncid: u32, dat
     }
 }
 
-/// Nothing is pending behind the loss of a.img, and both media say so.
+/// Nothing is pending after the loss of a.img, and both media say so.
 pub(super) fn must_be_over(
     rt: &(impl Abort + AllocGlobal),
     media: &Media,

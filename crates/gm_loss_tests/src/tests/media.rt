@@ -59,7 +59,7 @@ pub(super) struct Left<D: Disk, H> {
     pub(super) shelf: H,
 }
 
-/// The image that a crash leaves, where it picks so of each sector that isn't synced.
+/// The image that a crash leaves, if it picks so of each sector that isn't synced.
 pub(super) fn crash_image(rt: &impl Abort, shelf: &MemShelf, picks: &[u32]) -> MemShelf {
     shelf.crash_image(picks).expect(rt, "no memory")
 }
@@ -251,7 +251,7 @@ pub(super) fn perform_on(rt: &(impl Abort + AllocGlobal), from: &Media, job: Job
     perform_over(rt, &from.store, &from.shelf, job)
 }
 
-/// These images behind commands, a line each, under k1 and so on, of which the last is accepted
+/// These images after commands, a line each, under k1 and so on, of which the last is accepted
 /// alone; then those of these names are gone.
 pub(super) fn behind(
     rt: &(impl Abort + AllocGlobal),

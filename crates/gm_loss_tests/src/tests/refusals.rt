@@ -1,4 +1,4 @@
-//! Losses that are refused, where one refusal applies and where several do: the one with the least
+//! Losses that are refused, when one refusal applies and when several do: the one with the least
 //! number is answered, and both media stay as they were.
 
 use super::found::{bare, long, of_the_last_genid};
@@ -16,7 +16,7 @@ const NO_CALL: CallCounts = CallCounts {
     syncs: 0,
 };
 
-// Losses of gm0. A row stands behind an equals sign, and has four parts with bars between them: the
+// Losses of gm0. A row follows an equals sign, and has four parts with bars between them: the
 // key, the provider, the images that are gone, and the number of the refusal.
 #[derive(Clone, Copy)]
 struct Refusals {
@@ -65,7 +65,7 @@ advance gm0 b.img",
 = k4 | b.img | | 32",
 };
 
-// The first of two stretches is pending, behind which b.img isn't ACTIVE yet.
+// The first of two stretches is pending, after which b.img isn't ACTIVE yet.
 const BEGINNING: Refusals = Refusals {
     commands: "label --mid 7 --did 1 gm0 a.img
 insert --did 2 gm0 b.img
@@ -125,7 +125,7 @@ fn part(rt: &impl Abort, row: &'static str, place: usize) -> &'static str {
     row.split('|').nth(place).expect(rt, "no part").trim()
 }
 
-// A row, where these are all images. It reads and writes no sector, and leaves the files.
+// A row, with these as all the images. It reads and writes no sector, and leaves the files.
 fn row_is_refused(rt: &(impl Abort + AllocGlobal), all: &Media, row: &'static str) {
     let files = got(rt, all.store.files(rt.alloc(), ALL));
     let shelf = CountingShelf::new(gone(rt, &all.shelf, part(rt, row, 2)));
@@ -172,7 +172,7 @@ fn the_last_active_image_comes_before_the_only_source(rt: HostRuntime) {
     are_refused(&rt, long(&rt), BEGINNING);
 }
 
-// What is pending is carried out where the image is there.
+// What is pending is carried out if the image is there.
 #[test]
 fn an_image_that_is_there_is_still_written(rt: HostRuntime) {
     let start = behind(&rt, bare(&rt), DEACTIVATING.commands, "");

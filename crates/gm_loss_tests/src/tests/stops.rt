@@ -1,6 +1,6 @@
 //! Losses whose shelf or store stops at each of their calls in turn. The same loss is asked again
-//! of what that leaves and of what a crash leaves of it: it is done, or repeated where it was
-//! accepted, and what is found behind it is what a loss leaves that wasn't stopped.
+//! of what that leaves and of what a crash leaves of it: it is done, or repeated if it was
+//! accepted, and what is found after it is what a loss leaves that wasn't stopped.
 
 use super::found::bare;
 use super::losses::{FILLING, FIRST, PATCHED, PATCHING, done, must_be_over, repeated};
@@ -17,7 +17,7 @@ use std::process::Abort;
 // A loss is over long before it makes so many calls of the shelf or of a file.
 const MANY: u64 = 400;
 
-// A loss of a.img under a key and a number, behind commands of which the last is pending: how many
+// A loss of a.img under a key and a number, after commands of which the last is pending: how many
 // intents are pending before it, and how many then; and which syncid and data the others have in
 // the end.
 #[derive(Clone, Copy)]
@@ -97,7 +97,7 @@ fn stopping(stop: Stop, shelf: MemShelf, nth: u64) -> FaultShelf<MemShelf> {
     }
 }
 
-// The loss asked again of what a stop left, and not stopped: all is as it is to be behind it; what
+// The loss asked again of what a stop left, and not stopped: all is as it is to be after it; what
 // it came to.
 fn loses_again(
     rt: &(impl Abort + AllocGlobal),
@@ -145,8 +145,8 @@ fn visit_each(rt: &(impl Abort + AllocGlobal), loss: Loss, left: &Media, pending
     }
 }
 
-// A loss whose shelf stops so at its nth call, or comes to this, and what is found behind it;
-// whether it wasn't stopped. All that the loss left pending is still so where it was.
+// A loss whose shelf stops so at its nth call, or comes to this, and what is found after it;
+// whether it wasn't stopped. All that the loss left pending is still so if it was.
 fn shelf_stops_at(
     rt: &(impl Abort + AllocGlobal),
     loss: Loss,
@@ -166,7 +166,7 @@ fn shelf_stops_at(
     ended
 }
 
-// Stops at each call of the shelf in turn, until a loss ends; behind how many calls.
+// Stops at each call of the shelf in turn, until a loss ends; after how many calls.
 fn stop_at_each(
     rt: &(impl Abort + AllocGlobal),
     loss: Loss,
@@ -198,7 +198,7 @@ fn a_loss_whose_shelf_stops_is_repeated(rt: HostRuntime) {
     }
 }
 
-// A loss that was stopped behind its commit, and is stopped again where it is repeated.
+// A loss that was stopped after its commit, and is stopped again when it is repeated.
 fn stop_twice(rt: &(impl Abort + AllocGlobal), loss: Loss, from: &Media, stop: Stop, first: u64) {
     let (came, left) = stop_shelf(rt, loss, from, stop, first);
     must(rt, came == Came::Failed(BenchFault::Disk), "no stop");
@@ -266,8 +266,8 @@ fn lose_for(rt: &(impl Abort + AllocGlobal), loss: Loss, from: &Media, calls: Ca
     )
 }
 
-// The loss is done where its commit didn't come, and else repeated, with all or nothing of it
-// pending; nothing is where it was answered.
+// The loss is done if its commit didn't come, and else repeated, with all or nothing of it
+// pending; nothing is if it was answered.
 fn visit(rt: &(impl Abort + AllocGlobal), loss: Loss, left: &Media, was_done: bool) {
     let came = loses_again(rt, loss, &left.store, &left.shelf);
     let is_over = came == loss.repeated(0);
@@ -286,7 +286,7 @@ fn store_stops_at(rt: &(impl Abort + AllocGlobal), loss: Loss, from: &Media, cal
     was_done && !outcome.stopped
 }
 
-// Stops at each call of a file in turn, until a loss ends without a stop; behind how many calls.
+// Stops at each call of a file in turn, until a loss ends without a stop; after how many calls.
 fn stop_file(rt: &(impl Abort + AllocGlobal), loss: Loss, from: &Media, stops_at: StopsAt) -> u64 {
     let mut count: u64 = 0;
     let mut ended = false;

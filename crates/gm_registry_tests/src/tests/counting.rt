@@ -204,7 +204,7 @@ fn written(rt: &(impl Abort + AllocGlobal), accepted: usize, settled: usize) -> 
     store.into_store().rows
 }
 
-// How many rows one change writes, where those before it are settled: two runs differ in that
+// How many rows one change writes, when those before it are settled: two runs differ in that
 // change alone.
 fn written_by(rt: &(impl Abort + AllocGlobal), at: usize) -> u64 {
     let after = at.checked_add(1).expect(rt, "no such change");

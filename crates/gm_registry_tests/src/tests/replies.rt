@@ -1,4 +1,4 @@
-//! The replies of commands are judged where they are read, and not where a registry is loaded.
+//! The replies of commands are judged when they are read, and not when a registry is loaded.
 
 use super::loading::{REPLY_EDITS, edited, says_the_rows};
 use super::{in_memory, must};

@@ -252,7 +252,7 @@ fn check(rt: &(impl Abort + AllocGlobal), left: &StoreBytes, before: u64, reache
     must_be_between(rt, found, before, reached);
 }
 
-// The command behind so many.
+// The command after so many.
 fn command_after(rt: &(impl Abort + AllocGlobal), before: u64) -> Change {
     if before == 0 { labels(rt) } else { inserts(rt) }
 }

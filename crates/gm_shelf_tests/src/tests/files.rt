@@ -20,7 +20,7 @@ pub(super) fn new_folder<R: Files + Env + AllocGlobal + Abort>(
     folder
 }
 
-// What follows ends a test where the file system fails, so that a proof has no way out of each
+// What follows ends a test if the file system fails, so that a proof has no way out of each
 // call to go through. It goes over any runtime and any shelf, so that the proof carries neither
 // what those of files are made of.
 pub(super) fn path_in<R: AllocGlobal + Abort>(rt: &R, folder: &str, name: &str) -> String {
@@ -192,7 +192,7 @@ fn reads_what_it_wrote<H: Shelf>(rt: &impl Abort, shelf: &mut H) {
     must(rt, run == [[8; 512], [9; 512], [7; 512]], "another run");
 }
 
-// Runs that reach behind the image, or are empty, and one of no image.
+// Runs that reach beyond the end of the image, or are empty, and one of no image.
 fn keeps_to_the_image<H: Shelf>(rt: &impl Abort, shelf: &mut H) {
     let a = named(rt, "a.img");
     let mut run = [[8; 512], [9; 512], [7; 512]];
@@ -390,7 +390,7 @@ const SERVED: [Answers; 3] = [
     },
 ];
 
-// It is found to be gone where it is read, written or synced.
+// It is found to be gone when it is read, written or synced.
 const GONE: [Answers; 2] = [
     Answers {
         name: "a.img",

@@ -39,7 +39,7 @@ pub(super) fn must_be_closed<S: Alter, H: Shelf>(
     must(rt, bench.phase() == Phase::Failed, "open again");
 }
 
-// A run of the script whose shelf stops so at its nth call, asked each call again where that is
+// A run of the script whose shelf stops so at its nth call, asked each call again if that is
 // wanted, and what it leaves.
 fn run_to_stop(
     rt: &(impl Abort + AllocGlobal),

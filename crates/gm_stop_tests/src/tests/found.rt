@@ -46,7 +46,7 @@ fn sector_of<H: Shelf>(rt: &impl Abort, shelf: &mut H, name: &str, place: u64) -
     got(rt, sector(shelf, name, place))
 }
 
-// The byte that a sector of an image has throughout; 0 where it has several.
+// The byte that a sector of an image has throughout; 0 if it has several.
 fn byte_at<H: Shelf>(rt: &impl Abort, shelf: &mut H, name: &str, place: u64) -> u8 {
     let held = sector_of(rt, shelf, name, place);
     if held == [held[0]; 512] { held[0] } else { 0 }
@@ -80,7 +80,7 @@ fn said<H: Shelf>(rt: &(impl Abort + AllocGlobal), shelf: &mut H, name: &str) ->
     text.expect(rt, "no memory")
 }
 
-/// What is found of the images behind a text on mirrors.
+/// What is found of the images, after a text on mirrors.
 pub(super) fn with_images<H: Shelf>(
     rt: &(impl Abort + AllocGlobal),
     mut text: String,
@@ -128,7 +128,7 @@ fn is_taken<S: Alter, H: Shelf>(
 }
 
 /// How many commands of a script were accepted, of which so many were answered: perhaps the one
-/// that comes next, and none behind it. Each of them is repeated under its number.
+/// that comes next, and none after it. Each of them is repeated under its number.
 pub(super) fn accepted<S: Alter, H: Shelf>(
     rt: &(impl Abort + AllocGlobal),
     bench: &mut Bench<S, H>,
@@ -200,7 +200,7 @@ fn mirrored_in(said: &str) -> Mirrored {
     mirrored
 }
 
-// The mirror behind so many commands of a script.
+// The mirror after so many commands of a script.
 fn mirror_behind(rt: &impl Abort, script: Script, commands: u64) -> Mirrored {
     for line in script.station(rt, commands).found.split('\n') {
         if let Some(said) = line.strip_prefix("a.img:") {
@@ -220,9 +220,9 @@ fn has_data(held: [u8; 3], data: [u8; 3], sectors: u8) -> bool {
 }
 
 /// Whether each component that counts claims no sector that it lacks. Those count that are
-/// registered behind so many commands of a script, all that were accepted. Until an adoption is
+/// registered after so many commands of a script, all that were accepted. Until an adoption is
 /// carried out, its images say what they said before it, and don't count. An image with the
-/// mirror's syncid behind the last command claims the data behind it, any other those before it.
+/// mirror's syncid after the last command claims the data after it, any other those before it.
 pub(super) fn must_claim_truly<H: Shelf>(
     rt: &impl Abort,
     shelf: &mut H,

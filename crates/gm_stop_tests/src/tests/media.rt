@@ -77,7 +77,7 @@ pub(super) fn fresh(rt: &(impl Abort + AllocGlobal), script: Script) -> Media {
     }
 }
 
-/// The image that a crash leaves, where it picks so of each sector that isn't synced.
+/// The image that a crash leaves, if it picks so of each sector that isn't synced.
 pub(super) fn crash_image(rt: &impl Abort, shelf: &MemShelf, picks: &[u32]) -> MemShelf {
     shelf.crash_image(picks).expect(rt, "no memory")
 }
@@ -247,7 +247,7 @@ pub(super) struct Found {
     pub(super) pending: u64,
 }
 
-// What an opening finds where so many commands of a script were answered: the station of these, or
+// What an opening finds when so many commands of a script were answered: the station of these, or
 // of one more.
 fn find<S: Alter + Drop, H: Shelf + Drop>(
     rt: &(impl Abort + AllocGlobal),

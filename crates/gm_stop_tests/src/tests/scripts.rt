@@ -1,7 +1,7 @@
 //! The scripts of commands that are stopped, as texts. What is found after each command is worked
 //! out by hand.
 //!
-//! A station stands behind an equals sign, and has three parts with bars between them: the command
+//! A station follows an equals sign, and has three parts with bars between them: the command
 //! that leads there, which the first station lacks; for how many writes it asks; and what is found
 //! there. Those are the mirrors, as a status shows them, and of each image what its last sector
 //! says and the byte that each sector of its data has throughout.
@@ -29,7 +29,7 @@ pub(super) struct Script {
     stations: &'static str,
 }
 
-/// A command, for how many writes it asks, and what is found behind it.
+/// A command, for how many writes it asks, and what is found after it.
 #[derive(Clone, Copy)]
 pub(super) struct Station {
     pub(super) words: &'static str,
@@ -248,7 +248,7 @@ fn digit(text: &str) -> Option<u64> {
 }
 
 impl Script {
-    // The station behind so many commands, where there is one.
+    // The station after so many commands, if there is one.
     fn find(self, commands: u64) -> Option<Station> {
         // Nothing stands before the first equals sign.
         let text = self.stations.split('=').skip(1).nth(commands as usize)?;
@@ -260,7 +260,7 @@ impl Script {
         })
     }
 
-    /// The station behind so many commands.
+    /// The station after so many commands.
     pub(super) fn station(self, rt: &impl Abort, commands: u64) -> Station {
         self.find(commands).expect(rt, "no station")
     }

@@ -1,4 +1,4 @@
-//! Scripts whose shelf stops at each of its calls in turn, in each way, and the openings behind
+//! Scripts whose shelf stops at each of its calls in turn, in each way, and the openings after
 //! that, which stop so too: whatever a crash then leaves is found to be a station of the script.
 
 use super::found::must_claim_truly;
@@ -112,7 +112,7 @@ fn are_alike(rt: &impl Abort, first: &mut MemShelf, second: &mut MemShelf) -> bo
     alike
 }
 
-// Adds an image, where it isn't among these.
+// Adds an image, if it isn't among these.
 fn push_image(rt: &impl Abort, images: &mut Vec<MemShelf>, mut image: MemShelf) {
     let mut is_new = true;
     for other in images.iter_mut() {

@@ -77,7 +77,7 @@ fn run(rt: &(impl Abort + AllocGlobal), from: &Media, job: Job) -> Media {
     run.standing
 }
 
-// Looks at media that a stop of the store left, and where its opening has something to carry out,
+// Looks at media that a stop of the store left, and if its opening has something to carry out,
 // stops the shelf of that too; how many states those are.
 fn visit(rt: &(impl Abort + AllocGlobal), left: &Media, job: Job, done: u64) -> u64 {
     let pending = look(rt, &left.store, &left.shelf, job.script, done).pending;
@@ -94,7 +94,7 @@ fn visit(rt: &(impl Abort + AllocGlobal), left: &Media, job: Job, done: u64) -> 
     stop_opening(rt, &left.store, &left.shelf, opening, Stop::Behind, pending).saturating_add(1)
 }
 
-// One run with a stop: how many states it leads to, none where the stop didn't come, behind which
+// One run with a stop: how many states it leads to, none if the stop didn't come, after which
 // nothing is pending. What a crash leaves is looked at as well.
 fn stop_at(rt: &(impl Abort + AllocGlobal), from: &Media, calls: Calls, job: Job) -> u64 {
     let run = run_for(rt, from, calls, job);
@@ -137,7 +137,7 @@ fn stop_each_file(rt: &(impl Abort + AllocGlobal), from: &Media, job: Job) -> u6
 }
 
 // The commands of a script, each from the opening of the files to their close, and the opening
-// behind each that was accepted alone.
+// after each that was accepted alone.
 fn stop_commands(rt: &(impl Abort + AllocGlobal + Print), script: Script, least: u64) {
     let mut media = fresh(rt, script);
     let mut states: u64 = 0;

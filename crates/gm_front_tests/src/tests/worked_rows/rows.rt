@@ -1,9 +1,9 @@
 //! The rows, as a text. Their values are worked out by hand.
 //!
-//! A row stands behind an equals sign, and has four parts with a bar between them: what it shows,
+//! A row follows an equals sign, and has four parts with a bar between them: what it shows,
 //! its images, the lines that are handed in, and what is found. That is what the lines are
 //! answered, whether one of them was refused, the status, what each image says and whether it has
-//! the plain data, and what is tasted, where that is asked for among the images.
+//! the plain data, and what is tasted, if that is asked for among the images.
 
 pub(super) const ROWS: &str = "= a label | a b |
 k1 label --mid 7 --did 1 gm0 a.img
