@@ -42,7 +42,7 @@ stays_first : (x known : Member) → goes_before x known ≡ false → GoesFirst
 stays_first x known e =
     after_by x.metadata.priority known.metadata.priority (label_lt x.provider known.provider) e
 
--- no name before b is before x, if x is before b
+-- a name that isn't before b isn't before x, if x is before b
 not_before : (x b j : List ℕ) → label_lt x b ≡ true → label_lt j b ≡ false → label_lt j x ≡ false
 not_before x b j less not_less =
     ⊎_elim (λ (e : label_lt j x ≡ true). let through :
