@@ -45,7 +45,7 @@ called x (Label new) m e =
     or_left (is_named (Label new) m || (m.mid == new.mid)) _ (or_right (is_named (Label new) m) _ e)
 called x _ m e = absurd (let f : ⊥ = cc in f)
 
--- the part that was read, after the mids that were found where x is seen, serves where as much is
+-- the part that was read, after the mids that were found when x is seen, serves if as much is
 -- seen of what is adopted
 pub serves : (s part : Records) (c : Command) (x y : Seen) → IsState s
     → part ≡ part_of s c (found_mids x (adopted_from c))

@@ -44,7 +44,7 @@ not_absent_shelf shelf.Absent p e = absurd (let g : ⊥ = cc in g)
 not_absent_shelf shelf.Range p e = absurd (let g : ⊥ = cc in g)
 not_absent_shelf shelf.Device p e = absurd (let g : ⊥ = cc in g)
 
--- a failure of the disk is one of the device, where no provider and no sector is lacking
+-- a failure of the disk is one of the device, if no provider and no sector is lacking
 pub of_disk : (f : ShelfFault) (P : Type 0) → of_shelf f ≡ Disk → (f ≡ shelf.Absent → ⊥)
     → (f ≡ shelf.Range → ⊥) → (f ≡ shelf.Device → P) → P
 of_disk shelf.Memory P e absent range device = absurd (let g : ⊥ = cc in g)

@@ -20,7 +20,7 @@ use Rattle.gm_lists.proofs.Lists.{Has-push}
 abbrev pub IsCovered : List Fact → Sizes → List ℕ → Type 0
 IsCovered entries size q = (size q ≡ None) ⊎ ((f : Fact) × Has entries f × (f.provider ≡ q))
 
--- where one of two providers isn't there, nothing is compared
+-- if one of two providers isn't there, nothing is compared
 nothing : (limit a n : ℕ) → n ≡ 0 → min limit (min a n) ≡ 0
 nothing limit a n e =
     ap (λ k. min limit (min a k)) e ∙ (ap (min limit) (min-zero a) ∙ min-zero limit)

@@ -1,4 +1,4 @@
--- What the rules decide of a loss fits the tables, and how many intents are pending behind it.
+-- What the rules decide of a loss fits the tables, and how many intents are pending after it.
 use Rattle.std.proofs.Common.{◌≡◌, inl, inr, ℕ, ◌+◌, ◌≤◌, ◌<◌, ◌^◌, true, refl, arith, subst, List, [], ◌∷◌, length, string_bytes, IfOk, Result, Ok, Err, length-append}
 use Rattle.std.proofs.lemmas.Bool.{cases_Bool}
 use Rattle.std.proofs.lemmas.List.{length-map}

@@ -46,13 +46,13 @@ made_fits s facts c ch t are fits makes itself =
       short = words_short s (seen_in facts) c fits are.state makes.good;
     }
 
--- what is decided, where it is a change, is what the command makes
+-- what is decided, if it is a change, is what the command makes
 pub made_of : (s : Records) (x : Seen) (c : Command) (r : Result Changed Refusal)
     → Decides s x c r → IfOk r (λ ch. Makes s x c ch)
 made_of s x c (Ok ch) makes = makes
 made_of s x c (Err r) least = tt
 
--- so the tables take it under a free key, with some intents, where nothing is pending
+-- so the tables take it under a free key, with some intents, if nothing is pending
 pub fits_with : (ch : Changed) (ts : List Intent) (bytes : List (List ℕ)) (key words : List ℕ)
     (t : Tables)
     → IsFitting ch words t → length ts < 2 ^ 32 → length (joined bytes) ≤ 536870912

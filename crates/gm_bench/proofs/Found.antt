@@ -55,7 +55,7 @@ module _ {S H : Type 0} (g : Ghosts S) (view : H → View) (size : H
     (u w : World)
     (at : IsFound g view size r h away ts bytes u w) (lawful : IsLawful (view h)) (s : Records)
     (same : s ≡ w.state) where
-  -- where no image is lacking
+  -- if no image is lacking
   abbrev pub ready : first_absent s (size h) ts ≡ None → IsAt g view size r h away ts bytes u w
   ready none =
       let l = lead g view size r h away ts bytes u w at lawful in

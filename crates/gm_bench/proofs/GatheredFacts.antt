@@ -72,7 +72,7 @@ module _ {S H : Type 0} (g : Ghosts S) (view : H → View) (size : H → Sizes) 
             before now,
       )
 
--- what two looks at images to be adopted tell alike, where the shelf is honest
+-- what two looks at images to be adopted report alike, if the shelf is honest
 takes_told : {H : Type 0} (h : ShelfGhosts H) (shelf : H) (c : Command) (first facts : List Fact)
     (against : Option Compared) (size : Sizes) (seen : Image) → IsHonestToAdopt h shelf c
     → (h.honest shelf → (q : List ℕ) → Has (adopted_from c) q → Tell first size seen None q)
@@ -83,7 +83,7 @@ takes_told h shelf (Adopt n ps) first facts against size seen honest before now 
     (λ p k. (now honest p k).last_is ∙ sym (before honest p k).last_is) m
 takes_told h shelf _ first facts against size seen honest before now m = refl
 
--- so the part that was read behind the first serves behind the second
+-- so the part that was read after the first serves after the second
 pub told_part : {H : Type 0} (h : ShelfGhosts H) (shelf : H) (s part : Records) (c : Command)
     (first facts : List Fact) (against : Option Compared) (size : Sizes) (seen : Image)
     → IsState s → part ≡ part_of s c (found_mids (seen_in first) (adopted_from c))

@@ -85,7 +85,7 @@ module _ {S H : Type 0} (g : Ghosts S) (view : H → View) (size : H → Sizes) 
   abbrev AtPhase : Now (Held S) H → Phase (Held S) H → Type 0
   AtPhase m p = Headline g view size all p m.away m.accepted m.acknowledged
 
-  -- the store and the images of a stop lead on, where each such pair does
+  -- the store and the images of a stop lead on, if each such pair does
   led : (r s : Held S) (h k : H) (db : Trees) (l : H) (away : Image) (u w : World)
       → LeavesOnly g view size r s h k away u w → IsStop g view size r s h k db l
       → Recovers db (size l) away (view l).may_leave u w
@@ -98,7 +98,7 @@ module _ {S H : Type 0} (g : Ghosts S) (view : H → View) (size : H → Sizes) 
             (only.end db end.0) end.1
       ])
 
-  -- what a stop within a call leaves, where each pair leads to w
+  -- what a stop within a call leaves, if each pair leads to w
   pub stopped : (r s : Held S) (h k : H) (db : Trees) (l : H) (away : Image) (u w : World)
       (acc ack : List Entry) → Reached all acc w → IsButMoved u w ⊎ ArePending all acc u w
       → present w ≡ size h → Within ack acc → LeavesOnly g view size r s h k away u w
@@ -322,7 +322,7 @@ module _ {S H : Type 0} (g : Ghosts S) (view : H → View) (size : H → Sizes) 
       same (led mid s k end db l away was.before was.world only stop) in
       left_in call waiting r h db l away acc ack after was left same stop.1 (inl led_on)
 
-  -- a run was stopped within its accepting, or behind that
+  -- a run was stopped within its accepting, or after that
   pub run_stopped : (call : Call) (waiting : Waiting) (r s : Held S) (h k : H) (db : Trees) (l : H)
       (away : Image) (acc ack after : List Entry) (was : IsReached waiting r h away acc ack)
       → IsLeftIn db (Handed_in call) acc after

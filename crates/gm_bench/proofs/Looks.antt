@@ -42,13 +42,13 @@ module _ {S H : Type 0} (g : Ghosts S) (view : H → View) (size : H → Sizes) 
       (λ x l. at.leads x (quiet_moment (view h) (view k) lawful quiet x l))
       (λ x l. at.leads x (quiet.crash x l))
 
-  -- where it ended well
+  -- if it ended well
   pub look_does : ((t : Tables) → HasTables g r t → HasTables g s t) → size k ≡ size h
       → LookDoes g view size r s h k
   look_does tables sizes = record { tables = tables; images = quiet.crash; sizes = sizes }
 
 module _ {S H : Type 0} (g : Ghosts S) (view : H → View) (size : H → Sizes) where
-  -- a bench stands behind a look where it stood
+  -- after a look, a bench is where it was before
   abbrev pub looked_at : (r s : Held S) (h k : H) (away : Image) (ts : List Intent)
       (bytes : List (List ℕ)) (u w : World)
       → LookDoes g view size r s h k → IsAt g view size r h away ts bytes u w

@@ -55,7 +55,7 @@ module _ {S H : Type 0} (g : Ghosts S) (view : H → View) (size : H → Sizes) 
     pub covers : Cover loss.after it.0.state items
     covers = covered g view size r k away items laid u it.0 found lawful_still loss.after it.5
 
--- behind a load and a look at the registry, which leave the shelf
+-- after a load and a look at the registry, which leave the shelf
 module _ {S H : Type 0} (g : Ghosts S) (view : H → View) (size : H → Sizes) (r mid : Held S)
     (h k : H) (same : k ≡ h) (lawful : IsLawful (view h))
     (only : (t : Tables) → HasTables g r t → CrashLeavesOnly g r t) where

@@ -83,7 +83,7 @@ no_place p size ts j off =
           ]
     ]
 
--- the same is written where the lists and the words are the same
+-- the same is written if the lists and the words are the same
 pub same_pending : (ch : Changed) {ts us : List Intent} {a b : List (List ℕ)} → ts ≡ us → a ≡ b
     → with_pending ch ts a ≡ with_pending ch us b
 same_pending ch is laid = λ i. with_pending ch (is i) (laid i)

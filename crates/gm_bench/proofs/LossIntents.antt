@@ -31,7 +31,7 @@ pub loss_words : (n p : List ℕ)
 loss_words n p = ap (λ (l : List ℕ). front ++ l) (sym (append_assoc n (32 ∷ []) p))
 
 module _ (words names p : List ℕ) (stands : words ≡ front ++ names) where
-  -- what stands behind the command's name
+  -- what comes after the command's name
   behind_is : (a : AreOfLoss p words) → names ≡ (a.mirror ++ 32 ∷ []) ++ p
   behind_is a = append_cancel_left front names _ (sym stands ∙ (a.are ∙ loss_words a.mirror p))
 

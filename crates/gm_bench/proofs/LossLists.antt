@@ -1,4 +1,4 @@
--- Lists of intents, and the places that they name: for pending intents behind a loss.
+-- Lists of intents, and the places that they name: for pending intents after a loss.
 use Rattle.std.proofs.Common.{◌≡◌, ◌⊎◌, inl, inr, ⊎_elim, ℕ, ◌+◌, ◌-◌, ◌<◌, ◌≤◌, ◌&&◌, ◌||◌, Bool, true, false, refl, sym, subst, arith, List, [], ◌∷◌, ◌++◌, Option, Some, None, nat_le, nat_lt, eqb-true, eq-eqb}
 use Rattle.std.proofs.lemmas.Bool.{cases_Bool, and_parts}
 use Rattle.std.proofs.lemmas.Bool.Decides.{nat_tests}

@@ -1,4 +1,4 @@
--- What is pending behind a loss can be read again.
+-- What is pending after a loss can be read again.
 use Rattle.std.proofs.Common.{◌≡◌, ◌≢◌, ◌∙◌, ◌⊎◌, inl, inr, ⊎_elim, ℕ, ◌+◌, ◌-◌, ◌&&◌, ◌==◌, eqb-true, true, false, not, refl, sym, ap, subst, arith, List, [], ◌∷◌, filter, length, Option, Some, None}
 use Rattle.std.specs.Prelude.{IsSomeAnd}
 use Rattle.std.specs.List.{list_any}
@@ -99,7 +99,7 @@ module _ (w v : World) (m : Mirror) (p : List ℕ) (loss : IsLoss w v m p) (soun
       ] in
       (at.0, at.1, named, same)
 
--- what is left to lay is all, where a Patch stays, or nothing
+-- what is left to lay is all, if a Patch stays, or nothing
 pub left_or_none : (ts : List Intent) (bytes : List (List ℕ))
     → ((list_any is_patch ts ≡ true) × (left_to_lay ts bytes ≡ bytes))
     ⊎ ((list_any is_patch ts ≡ false) × (left_to_lay ts bytes ≡ []))

@@ -1,4 +1,4 @@
--- What is pending behind a loss that the rules allow can be read again, whatever the images hold.
+-- What is pending after a loss that the rules allow can be read again, whatever the images hold.
 use Rattle.std.proofs.Common.{◌≡◌, ◌∙◌, [], ◌∷◌, ◌++◌, List, ℕ, IfOk, Result, Ok, Err, Some, sym, ap, subst, subst₂}
 use Rattle.gm_metadata.specs.Images.{Sizes, same_label}
 use Rattle.gm_commands.specs.declared.command.Command.{Command}

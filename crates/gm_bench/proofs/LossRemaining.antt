@@ -230,7 +230,7 @@ module _ (p next : List ℕ) where
         | inr e ↦ rw e (ap (λ (l : List Intent). redirected p next x ∷ l) (remaining_drop xs t w))
       ]
 
-  -- ---- with the Metas behind them
+  -- ---- with the Metas after them
 
   metas_none : (f : Intent → Bool) → ((q : List ℕ) → f (Meta q) ≡ false) → (ks : List Component)
       → list_any f (metas ks) ≡ false

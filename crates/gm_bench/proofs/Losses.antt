@@ -1,4 +1,4 @@
--- What is pending behind a loss leads, from the very image, to the world of the loss, and keeps the
+-- What is pending after a loss leads, from the very image, to the world of the loss, and keeps the
 -- claims of the world before the first command.
 use Rattle.std.proofs.Common.{◌≡◌, ◌≢◌, ◌∙◌, inl, inr, ⊎_elim, ℕ, ◌+◌, ◌-◌, ◌*◌, ◌/◌, ◌<◌, ◌≤◌, ◌^◌, ◌==◌, ◌&&◌, Bool, true, false, IsTrue, refl, sym, ap, subst, arith, List, [], find, Option, Some, None, if◌then◌else◌}
 use Rattle.std.specs.List.{list_any}

@@ -50,7 +50,7 @@ module _ (s : Records) (c : Command) (part : Records) (of : IsPartOf part c s) w
         own_of m k o j mine.1 same;
   }
 
--- what a change leaves of a part says what the intents behind the change need
+-- what a change leaves of a part says what the intents after the change need
 module _ (c : Command) (part s w : Records) (ch : Changed) (leaves : LeavesPart part c s ch)
     (is : changed_by ch s ≡ w) (state : IsState w) where
   pub covers_after : (ts : List Intent) → ((p : List ℕ) → Has ts (Meta p) → IsOwn w c p)

@@ -1,4 +1,4 @@
--- Where no image is lacking, the intents have what they need.
+-- If no image is lacking, the intents have what they need.
 use Rattle.std.proofs.Common.{◌≡◌, ◌∙◌, inl, inr, ℕ, ◌≤◌, ◌<◌, true, false, ltb-true, eqb-true, List, [], ◌∷◌, Option, Some, None, not, refl, sym, ap, subst, arith, true≢false}
 use Rattle.std.specs.Prelude.{IsSomeAnd}
 use Rattle.std.specs.List.{flat_map}
@@ -48,7 +48,7 @@ none_absent s size ts e t h p g =
     not-false (is_present s size p) (found_none (λ (q : List ℕ). not (is_present s size q))
     (flat_map providers_in ts) e p (in_all ts t h p g))
 
--- the first of a list is that of its first intent, or one behind it
+-- the first of a list is that of its first intent, or one after it
 pub first_of : (s : Records) (size : Sizes) (t : Intent) (ts : List Intent)
     → first_absent s size (t ∷ ts) ≡ option_or (absent_among s size (providers_in t))
     (first_absent s size ts)

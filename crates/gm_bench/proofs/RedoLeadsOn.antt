@@ -41,7 +41,7 @@ module _ (t : Tables) (ts : List Intent) (bytes : List (List ℕ)) (u w : World)
     redo = leads_on w.state bytes w.size ts w.shelf d x l.redo part;
   }
 
-  -- where the claims of u and of w are kept
+  -- if the claims of u and of w are kept
   goes_old : (x : Image) → Leads t ts bytes x w → KeepsClaims ts x u w → Continues u w ts
   goes_old x l k = record {
     state = k.sound.state;

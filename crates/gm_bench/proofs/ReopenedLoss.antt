@@ -153,7 +153,7 @@ module _ {S H : Type 0} (g : Ghosts S) (view : H → View) (size : H → Sizes) 
       (it.0, same ∙ it.1, it.2))
   answered key p b (NotDone why) redone same does = absurd does
 
--- both media behind an opening of the registry that was left alone then
+-- both media after an opening of the registry that was left alone then
 pub are_untouched : {S H : Type 0} (g : Ghosts S) (start mid new : Held S) (h k : H) → k ≡ h
     → WasClean g mid new
     → (IsOpen g start → IsSound registry_schema (stored g start) → LeavesAlone g start mid)

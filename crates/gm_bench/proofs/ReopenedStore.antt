@@ -107,7 +107,7 @@ module _ {S H : Type 0} (g : Ghosts S) (view : H → View) (size : H → Sizes) 
         unopened_still g view size start h away u w lawful only left.recovers mid clean may;
   }
 
-  -- what was carried out and settled behind that
+  -- what was carried out and settled after that
   pub opens_over : ((t : Tables) → IsStored (stored g start) t → HasTables g mid t)
       → (s : Held S) (k : H)
       → ((away : Image) (ts : List Intent) (bytes : List (List ℕ)) (u w : World)
@@ -132,7 +132,7 @@ module _ {S : Type 0} (g : Ghosts S) (start mid : Held S) where
   opened_tables made found upgraded t (inr (inr empty)) =
       subst (HasTables g mid) (sym empty.1) (made empty.0)
 
-  -- a crash behind an opening finds the store as it was, or those tables
+  -- a crash after an opening finds the store as it was, or those tables
   pub opening_leaves : (IsEmpty (stored g start) → MayLeave g start mid no_tables)
       → ((t : Tables) → Holds (stored g start) t → LeavesNothingNew g start mid)
       → ((t : Tables) → HoldsFirst (stored g start) t → MayLeave g start mid t)
@@ -155,7 +155,7 @@ module _ {S : Type 0} (g : Ghosts S) (start mid : Held S) where
         (λ _ db it. it) (λ _ db none. absurd none) crash alone.crash;
   }
 
-  -- a failure of the store behind an opening is one since before it
+  -- a failure of the store after an opening is one since before it
   pub failed_opened : (new : Held S) → (t : Tables) → MayLeave g start mid t
       → StoreFailed g mid new → StoreFailed g start new
   failed_opened new t may failed =

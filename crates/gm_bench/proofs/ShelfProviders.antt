@@ -103,7 +103,7 @@ module _ (size full : Sizes) (mask : AreAmong size full) where
         | inr e ↦ rw (e, place_up ts q j parts.1) refl
       ]
 
--- what an intent names is there, where it is at hand
+-- what an intent names is there, if it is at hand
 named_there : (size full : Sizes) (t : Intent) → IsAtHand size t → (q : List ℕ) (j : ℕ)
     → names full t q j ≡ true → IsSome (size q)
 named_there size full (Meta p) hand q j e =
@@ -219,7 +219,7 @@ module _ (part s : Records) (size full : Sizes) (mask : AreAmong size full) (ts 
         (sym (place_same size full mask ts q j there) ∙ off);
   }
 
--- dirt by a part of the records is dirt by all of them, where a Meta of its provider is pending
+-- dirt by a part of the records is dirt by all of them, if a Meta of its provider is pending
 module _ (part s : Records) (state : IsState s) (ts : List Intent) (cover : Cover part s ts)
     (clean : LeaveNoDirt ts)
     (known : (p : List ℕ) → Has ts (Meta p) → component_of s p ≢ None) where
@@ -260,7 +260,7 @@ module _ (part s : Records) (state : IsState s) (ts : List Intent) (cover : Cove
       dirty_is (Patch q a b) e = cc
 
   module _ (size full : Sizes) (mask : AreAmong size full) (away w d x : Image) where
-    -- the same of what is on the shelf, where the others are as they were
+    -- the same of what is on the shelf, if the others are as they were
     same_up : (q : List ℕ) → IsSome (size q) → (j : ℕ) → x q j ≡ d q j
         → whole size away x q j ≡ whole size away d q j
     same_up q there j e = whole_there size away x q there j

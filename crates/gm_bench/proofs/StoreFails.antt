@@ -1,4 +1,4 @@
--- Where a store fails behind a call that only read, and what room for rows it leaves.
+-- A store's failure after a call that only read, and what room for rows such a call leaves.
 use Rattle.std.proofs.Common.{◌≡◌, ◌∙◌, inl, inr, ℕ, ◌≤◌, sym, subst, arith, Option}
 use Rattle.std.specs.Prelude.{IsSome}
 use Rattle.sqlite_trees.specs.declared.store.Store.{Ghosts}

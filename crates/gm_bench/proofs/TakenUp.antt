@@ -1,4 +1,4 @@
--- From what was found to what was carried out, behind a load.
+-- From what was found to what was carried out, after a load.
 use Rattle.std.proofs.Common.{◌≡◌, ◌∙◌, ℕ, List, Option, sym, ap, subst, subst₂}
 use Rattle.sqlite_trees.specs.declared.store.Store.{Ghosts}
 use Rattle.sqlite.specs.Held.{Held}

@@ -31,12 +31,12 @@ use Rattle.gm_bench.specs.Phases.{IsUndone, waiting_of}
 use Rattle.gm_bench.specs.Planning.{IsWorkAtHand}
 use Rattle.gm_bench.specs.Presence.{AreAtHand}
 
--- Disk is told only where the shelf's count of failures rose.
+-- Disk is reported only if the shelf's count of failures rose.
 abbrev pub TellsDisk : {H T : Type 0} → ShelfGhosts H → H → H → Result T BenchFault → Type 0
 TellsDisk h old new result =
     IsErrOf result Disk → (h.view old).faults < (h.view new).faults
 
--- Store is told of a registry with tables only where the store failed.
+-- Store is reported for a registry with tables only if the store failed.
 abbrev pub TellsStore : {S T : Type 0} → StoreGhosts S → Held S → Held S → Result T BenchFault
     → Type 0
 TellsStore s old new result =
@@ -51,7 +51,7 @@ HasNothingPending = HasNothingElse Nothing
 abbrev pub most_rows : ℕ
 most_rows = 18
 
--- A registry has tables behind a call, and its store forgot no fault, and has the limit on steps
+-- A registry has tables after a call, and its store forgot no fault, and has the limit on steps
 -- that it had.
 pub record GoesOn {S : Type 0} (s : StoreGhosts S) (old new : Held S) : Type 0 where
   pub tables : Tables
@@ -86,8 +86,8 @@ module _ {S H T : Type 0} (s : StoreGhosts S) (h : ShelfGhosts H) (old new : Med
     pub disk : TellsDisk h old.shelf new.shelf result
     pub fault : IfErr result IsOfCall
 
-  -- A call that hands in a command: it reads the shelf, where an answer says that nothing was done
-  -- it only read the registry too, and a failure of the disk comes before anything is written.
+  -- A call that hands in a command: it reads the shelf, it only read the registry too if an answer
+  -- says that nothing was done, and a failure of the disk comes before anything is written.
   pub record Accepts (is_undone : T → Type 0) : Type 0 where
     pub only : ReadsOnly h old.shelf new.shelf
     pub disk : TellsDisk h old.shelf new.shelf result
@@ -108,14 +108,14 @@ pub record TellsOfRecords {S T : Type 0} (s : StoreGhosts S) (old new : Held S)
 -- What is told of a command that is handed in by the registry's rows and the shelf's sizes alone.
 module _ {S H T : Type 0} (s : StoreGhosts S) (h : ShelfGhosts H) (old new : Media S H)
     (result : Result T BenchFault) where
-  -- F6 only where the rows of mirrors and components don't say a state, more commands stand there
+  -- F6 only if the rows of mirrors and components don't say a state, more commands are there
   -- than may be accepted, or one under the key that this program doesn't write
   abbrev pub TellsUnreadable : List ℕ → Command → Type 0
   TellsUnreadable key c = DiskKept s new.registry → IsErrOf result Unreadable
       → (t : Tables) (r : Records) → HasTables s old.registry t → AreRecordsOf t r
       → count_of t ≤ 100000 → AreWrittenUnder key t → IsHonestToAdopt h old.shelf c → ⊥
 
-  -- Store only where the store failed, wherever the rows say a state, the tables are such, and the
+  -- Store only if the store failed, wherever the rows say a state, the tables are such, and the
   -- store can number the rows of a command
   abbrev pub TellsStoreWhere : (Tables → Type 0) → Command → Type 0
   TellsStoreWhere AreSuch c = DiskKept s new.registry → IsErrOf result Store
@@ -127,17 +127,17 @@ module _ {S H T : Type 0} (s : StoreGhosts S) (h : ShelfGhosts H) (old new : Med
   abbrev pub TellsStoreOf : Command → Type 0
   TellsStoreOf = TellsStoreWhere HasNothingPending
 
-  -- where it succeeds, the registry goes on, wherever the rows say a state
+  -- if it succeeds, the registry goes on, wherever the rows say a state
   abbrev pub StaysRegistry : Type 0
   StaysRegistry = DiskKept s new.registry → OnOk result ((t : Tables) (r : Records)
       → HasTables s old.registry t → AreRecordsOf t r → GoesOn s old.registry new.registry)
 
-  -- what is then to be carried out is at hand, where the rows say a state
+  -- what is then to be carried out is at hand, if the rows say a state
   abbrev pub TellsAtHand : (T → Type 0) → Type 0
   TellsAtHand IsHandy = DiskKept s new.registry → IfOk result (λ a. (t : Tables) (r : Records)
       → HasTables s old.registry t → AreRecordsOf t r → IsHandy a)
 
-  -- where it fails, the tables stay, wherever the rows say a state
+  -- if it fails, the tables stay, wherever the rows say a state
   abbrev pub RefusesCall : Type 0
   RefusesCall = DiskKept s new.registry → OnErr result ((t : Tables) (r : Records)
       → HasTables s old.registry t → AreRecordsOf t r → IsOpen s new.registry
@@ -159,7 +159,7 @@ pub record TellsByRows {S H : Type 0} (s : StoreGhosts S) (h : ShelfGhosts H) (o
   pub store : TellsStoreWhere s h old new result AreSuch c
   pub goes_on : StaysRegistry s h old new result
 
--- The shelf is kept; and where the disk kept what was written to the registry until now, it did so
+-- The shelf is kept; and if the disk kept what was written to the registry until now, it did so
 -- before the call.
 pub record Keep {S H : Type 0} (s : StoreGhosts S) (h : ShelfGhosts H) (r t : Held S)
     (k l : H) : Type 0 where
@@ -191,7 +191,7 @@ module _ {S H T : Type 0} (s : StoreGhosts S) (h : ShelfGhosts H) (old new : Ben
     pub only : ReadsOnly h (shelf_of old) (shelf_of new)
     pub disk : TellsDisk h (shelf_of old) (shelf_of new) result
 
-  -- A call that carries out what is pending tells of the disk only where that failed, wherever the
+  -- A call that carries out what is pending reports the disk only if that failed, wherever the
   -- providers of its intents are at hand.
   pub record CarriesOut : Type 0 where
     pub keep : Keep s h (registry_of old) (registry_of new) (shelf_of old) (shelf_of new)
@@ -223,8 +223,8 @@ pub record HandsInByRows {S H : Type 0} (s : StoreGhosts S) (h : ShelfGhosts H)
       (HasNothingElse (waiting_of (progress_of old))) c
   pub goes_on : StaysRegistry s h (media_of old) (media_of new) result
 
--- A command that is run: where an answer says that nothing was done it only read the registry, and
--- where the registry's rows say a state it tells of the disk only where that failed.
+-- A command that is run: if an answer says that nothing was done it only read the registry, and
+-- if the registry's rows say a state it reports the disk only if that failed.
 pub record RunsOnce {S H : Type 0} (s : StoreGhosts S) (h : ShelfGhosts H) (old new : Bench S H)
     (result : Result Answer BenchFault) : Type 0 where
   pub keep : Keep s h (registry_of old) (registry_of new) (shelf_of old) (shelf_of new)

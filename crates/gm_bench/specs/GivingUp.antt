@@ -41,7 +41,7 @@ use Rattle.gm_bench.specs.Recovering.{IsAt, IsStored}
 use Rattle.gm_bench.specs.Schedule.{WithoutCarries, WithoutDoes, WithoutLeaves}
 use Rattle.gm_bench.specs.Without.{IsKeptLoss, IsLacking, IsRefusedLoss, loss_call}
 
--- the store behind it, and the shelf
+-- the store after it, and the shelf
 abbrev pub store_behind : {S H : Type 0} → Without S H → Held S
 store_behind (Opened b answer) = registry_of b
 store_behind (Refused why store shelf) = store
@@ -58,7 +58,7 @@ IsReady (Refused why store shelf) = Unit {0}
 module _ {S H : Type 0} (g : Ghosts S) (view : H → View) (size : H → Sizes) (store : Held S)
     (h : H) (key p : List ℕ) where
   -- The registry is opened, and the loss is committed, of a mirror, with these intents taken out:
-  -- it was stopped at its commit, or behind that, or it is carried out.
+  -- it was stopped at its commit, or after that, or it is carried out.
   pub record LeavesLost (s : Held S) (k : H) : Type 0 where
     pub registry : Held S
     pub opening : OpenLeaves g view size store registry h h
@@ -74,7 +74,7 @@ module _ {S H : Type 0} (g : Ghosts S) (view : H → View) (size : H → Sizes) 
   abbrev pub GivesUp : Held S → H → Type 0
   GivesUp s k = OpenLeaves g view size store s h k ⊎ LeavesLost s k
 
-  -- nothing is committed but where the loss is answered as done
+  -- nothing is committed unless the loss is answered as done
   abbrev pub LeavesUndone : Without S H → Type 0
   LeavesUndone (Opened b (Done n reply)) = Unit {0}
   LeavesUndone (Opened b (Repeated n reply)) =
@@ -108,7 +108,7 @@ module _ {S H : Type 0} (g : Ghosts S) (view : H → View) (size : H → Sizes) 
       → IsRefusedLoss w left.recovers.intents key p why
 
 -- The store has tables of a state, or none, with these intents pending: few enough that those of a
--- loss can be numbered behind them; and it can number the rows of a command.
+-- loss can be numbered after them; and it can number the rows of a command.
 pub record TakesLoss (db : Trees) : Type 0 where
   pub tables : Tables
   pub stands : IsStored db tables
@@ -197,9 +197,9 @@ module _ {S H : Type 0} (s : Ghosts S) (h : ShelfGhosts H) (store : Held S) (she
     pub ready : IsReady it
     pub refused : StaysRefused s store shelf it
 
-  -- Why it failed. By the tables that are stored and the sizes alone: F3 only where the device
-  -- failed, and F6 only where the tables don't say a state with readable intents, or the key's row
-  -- is one that this program doesn't write. F2 comes only where the store failed, of one that takes
+  -- Why it failed. By the tables that are stored and the sizes alone: F3 only if the device
+  -- failed, and F6 only if the tables don't say a state with readable intents, or the key's row
+  -- is one that this program doesn't write. F2 comes only if the store failed, of one that takes
   -- a loss, or has other tables. F5 and F6 leave both media as they were.
   pub record IsUnopenedWithout (e : OpenFault S H) : Type 0 where
     pub lacks : h.honest shelf → IsOpen s store → DiskKept s e.store → (q : List ℕ)

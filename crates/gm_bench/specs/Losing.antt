@@ -41,7 +41,7 @@ remaining p next (t ∷ ts) = if writes_to p t then remaining p next ts else red
     ∷ remaining p next ts
 
 -- the source of the copy that is pending from the provider, by the records after its loss: the
--- mirror's; where nothing is copied from it, any name will do
+-- mirror's; if nothing is copied from it, any name will do
 abbrev pub next_of : Records → List ℕ → List Intent → Option (List ℕ)
 next_of s p [] = Some p
 next_of s p (Meta q ∷ ts) = next_of s p ts
@@ -51,11 +51,11 @@ next_of s p (Copy source target first end ∷ ts) =
 next_of s p (Dirty q ∷ ts) = next_of s p ts
 next_of s p (Patch q first end ∷ ts) = next_of s p ts
 
--- all that is pending then: Meta of the mirror's other components behind what stays
+-- all that is pending then: Meta of the mirror's other components after what stays
 abbrev pub pending_after : List ℕ → List ℕ → List Intent → List Component → List Intent
 pending_after p next ts others = remaining p next ts ++ metas others
 
--- the bytes that are still to be laid then: those of before where a Patch remains, else none
+-- the bytes that are still to be laid then: those of before if a Patch remains, else none
 abbrev pub left_to_lay : List Intent → List (List ℕ) → List (List ℕ)
 left_to_lay ts bytes = if list_any is_patch ts then bytes else []
 
@@ -63,7 +63,7 @@ left_to_lay ts bytes = if list_any is_patch ts then bytes else []
 abbrev pub as_left : World → List ℕ → Image → World
 as_left v p away = record v { shelf = λ q j. if same_label q p then away q j else v.shelf q j }
 
--- where a pending copy takes from the provider, the next source serves
+-- if a pending copy takes from the provider, the next source serves
 abbrev pub HasNext : Records → List ℕ → List ℕ → List Intent → Type 0
 HasNext s p next ts = (target : List ℕ) (first end : ℕ) → Has ts (Copy p target first end)
     → target ≢ p → IsCopyWithin s next target first end

@@ -30,8 +30,8 @@ use Rattle.gm_bench.specs.Recovering.{IsStored}
 -- ---- of media whose registry is open
 
 -- What is told by the registry's tables and the sizes alone: each image that the pending intents
--- need is there at Ok, and the first that isn't is told; F3 only where the device failed, and F6
--- only where the tables don't say a state with readable intents.
+-- need is there at Ok, and the first that isn't is reported; F3 only if the device failed, and F6
+-- only if the tables don't say a state with readable intents.
 pub record TellsOfTables {S H T : Type 0} (s : StoreGhosts S) (h : ShelfGhosts H)
     (old new : Media S H) (result : Result T BenchFault) : Type 0 where
   pub there : DiskKept s new.registry → OnOk result ((t : Tables) (r : Records) (ts : List Intent)
@@ -83,7 +83,7 @@ module _ {S H : Type 0} (s : StoreGhosts S) (h : ShelfGhosts H) (store : Held S)
         (bytes : List (List ℕ)) → IsStored (stored s store) t → AreTablesOf t r ts bytes
         → first_absent r (h.size shelf) ts ≡ None
 
-  -- Why it failed, by the tables that are stored and the sizes alone. F2 comes only where the store
+  -- Why it failed, by the tables that are stored and the sizes alone. F2 comes only if the store
   -- failed, of an empty store too. A fault before anything is written leaves both media as they
   -- were, whatever rows the tables hold; but tables of the first schema may be carried over.
   pub record IsUnopened (e : OpenFault S H) : Type 0 where

@@ -101,7 +101,7 @@ module _ {S H : Type 0} (g : Ghosts S) (view : H → View) (size : H → Sizes) 
     pub carrying : (away : Image) (u w : World) → IsLeft store h away u w
         → LeavesOnly g view size registry s h k away u w
 
-  -- behind an opening the bench is at rest in the world that was left
+  -- after an opening the bench is at rest in the world that was left
   abbrev pub OpenDoes : Held S → Held S → H → H → Type 0
   OpenDoes store s h k = (away : Image) (u w : World) → IsLeft store h away u w
       → IsAt g view size s k away [] [] w w

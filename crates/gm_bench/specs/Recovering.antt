@@ -23,7 +23,7 @@ use Rattle.gm_bench.specs.Leading.{AllLead}
 abbrev pub IsStored : Trees → Tables → Type 0
 IsStored db t = Holds db t ⊎ (HoldsFirst db t ⊎ (IsEmpty db × (t ≡ no_tables)))
 
--- The store leads to w with each of the shelf's images, where the providers that aren't on it hold
+-- The store leads to w with each of the shelf's images, if the providers that aren't on it hold
 -- what is away.
 pub record Recovers (db : Trees) (size : Sizes) (away : Image) (X : Image → Type 0)
     (u w : World) : Type 0 where

@@ -94,7 +94,7 @@ after_answer m call (Done n reply work) s k =
 after_answer m call (Repeated n reply) s k = record m { phase = with_media m.phase s k }
 after_answer m call (Refused why) s k = record m { phase = with_media m.phase s k }
 
--- a command that is run is accepted and acknowledged where it is done; after another answer nothing
+-- a command that is run is accepted and acknowledged if it is done; after another answer nothing
 -- has changed
 abbrev pub after_run : {R H : Type 0} → Now R H → Call → Answer → R → H → Now R H
 after_run m call (run.Done n reply) s k =
@@ -137,7 +137,7 @@ pub record IsButMoved (w v : World) : Type 0 where
   pub shelf : w.shelf ≡ v.shelf
   pub size : w.size ≡ v.size
 
--- The call's step from u, behind which providers may have gone away or come back.
+-- The call's step from u, after which providers may have gone away or come back.
 pub record IsStepTo (u : World) (call : Call) (w : World) : Type 0 where
   pub stepped : World
   pub reply : Reply
@@ -176,7 +176,7 @@ IsLastStep all (Handed_in call ∷ older) u w = Reached all older u × IsStepTo 
 IsLastStep all (Without call provider gone ∷ older) u w = ⊥
 
 -- u is the world before the first of those of the last commands that may be pending, and w the one
--- after them all: openings without a provider, behind one command that was handed in or behind none
+-- after them all: openings without a provider, after one command that was handed in or after none
 abbrev pub ArePending : Sizes → List Entry → World → World → Type 0
 ArePending all [] u w = ⊥
 ArePending all (Handed_in call ∷ older) u w = Reached all older u × IsStepTo u call w
@@ -205,7 +205,7 @@ module _ {S H : Type 0} (g : Ghosts S) (view : H → View) (size : H → Sizes) 
       → (view k).left_since (view h).moment x))
       ⊎ (CrashLeaves g s db × ((x : Image) → (view l).may_leave x → (view k).may_leave x)))
 
-  -- one store and one shelf that a stop within a run leaves: within the accepting, or behind it,
+  -- one store and one shelf that a stop within a run leaves: within the accepting, or after it,
   -- while the step is carried out
   abbrev pub IsRunStop : (r s : Held S) (h k : H) (away : Image) (v u : World) (call : Call)
       → LeavesRun g view size r s h k away v u call.key call.command → Trees → H → Type 0
@@ -216,7 +216,7 @@ module _ {S H : Type 0} (g : Ghosts S) (view : H → View) (size : H → Sizes) 
       × IsStop it.registry s it.shelf k db l)
 
   -- one store and one shelf that a stop within an opening leaves: while the registry is opened, or
-  -- behind that
+  -- after that
   abbrev pub IsOpenStop : (store s : Held S) (h k : H) → OpenLeaves g view size store s h k → Trees
       → H → Type 0
   IsOpenStop store s h k it db l =
@@ -238,7 +238,7 @@ module _ {S H : Type 0} (g : Ghosts S) (view : H → View) (size : H → Sizes) 
       → (gone ≡ dropped provider left.recovers.intents)
       × LeavesCommit opened mid h away u w call provider gone
 
-  -- behind the commit: what a stop leaves leads to the step
+  -- after the commit: what a stop leaves leads to the step
   abbrev pub WithoutCarries : Held S → Held S → Held S → H → H → Call → List ℕ → List Intent
       → Type 0
   WithoutCarries store mid s h k call provider gone =

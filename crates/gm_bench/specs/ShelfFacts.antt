@@ -10,7 +10,7 @@ use Rattle.gm_refusals.specs.Facts.{size_in, last_in, equals_in}
 use Rattle.gm_apply.specs.EqualData.{CountsEqual, reach_of}
 use Rattle.gm_bench.specs.declared.adopt_scope.Compared.{Compared}
 
--- where a provider is compared, so many of its first sectors are equal
+-- if a provider is compared, so many of its first sectors are equal
 abbrev pub AreEqual : Sizes → Image → Option Compared → List ℕ → ℕ → Type 0
 AreEqual size seen None q n = Unit {0}
 AreEqual size seen (Some with) q n =
@@ -30,7 +30,7 @@ pub record Tell (facts : List Fact) (size : Sizes) (seen : Image) (against : Opt
   pub last_is : last_in facts q ≡ option_map (λ n. last_of n (seen q)) (size q)
   pub equal_is : AreEqual size seen against q (equals_in facts q)
 
--- the sizes that the facts say are the shelf's, also where it isn't honest
+-- the sizes that the facts say are the shelf's, even if it isn't honest
 abbrev pub TellSizes : List Fact → Sizes → Type 0
 TellSizes facts size = (q : List ℕ) (n : ℕ) → size_in facts q ≡ Some n → size q ≡ Some n
 

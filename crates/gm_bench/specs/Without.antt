@@ -1,4 +1,4 @@
--- Why an opening without a provider is refused, and what it does where it isn't.
+-- Why an opening without a provider is refused, and what it does if it isn't.
 use Rattle.std.specs.Prelude.{◌≡◌, ◌⊎◌, ◌≤◌, ◌<◌, ◌+◌, ◌++◌, ℕ, true, false, IsTrue, IsSome, IsSomeAnd, List, [], ◌∷◌, length, Option, Some, None, MatchOption, option_map, string_bytes}
 use Rattle.gm_metadata.specs.Labels.{is_label}
 use Rattle.gm_commands.specs.declared.command.Command.{Command}
@@ -56,7 +56,7 @@ pub record AreOfLoss (p words : List ℕ) : Type 0 where
   pub provider : IsTrue (is_label p)
   pub are : words ≡ words_of (Lost mirror (p ∷ []))
 
--- the command that gives the provider up; none where it is no component
+-- the command that gives the provider up; none if it is no component
 abbrev pub loss_of : Records → List ℕ → Option Command
 loss_of s p = option_map (λ k. Lost k.mirror (p ∷ [])) (component_of s p)
 
@@ -67,7 +67,7 @@ pub record IsKeptLoss (w : World) (key p : List ℕ) (a : Answered) : Type 0 whe
   pub mirror : List ℕ
   pub command : a.command ≡ Lost mirror (p ∷ [])
 
--- The refusal applies to an opening without the provider, behind which the world is w once these
+-- The refusal applies to an opening without the provider, after which the world is w once these
 -- intents are carried out: that of the key; the rules' of the loss; a pending copy takes from the
 -- provider, and its target has no other source; or the image is there.
 abbrev pub IsBadLoss : World → List Intent → List ℕ → List ℕ → LossRefusal → Type 0
@@ -88,7 +88,7 @@ pub record IsRefusedLoss (w : World) (ts : List Intent) (key p : List ℕ)
   pub applies : IsBadLoss w ts key p r
   pub least : (q : LossRefusal) → IsBadLoss w ts key p q → number_of_loss r ≤ number_of_loss q
 
--- nothing refuses the loss: what it makes, the records, the intents and the bytes behind it, and
+-- nothing refuses the loss: what it makes, the records, the intents and the bytes after it, and
 -- its words
 pub record IsNewLoss (w : World) (ts : List Intent) (bytes : List (List ℕ)) (key p : List ℕ)
     (loss : Loss) : Type 0 where
@@ -113,7 +113,7 @@ IsJudged w ts bytes key p (Kept n reply) =
 IsJudged w ts bytes key p (Refused r) = IsRefusedLoss w ts key p r
 IsJudged w ts bytes key p (New loss) = IsNewLoss w ts bytes key p loss
 
--- the mirror, the change, the records behind it, all that is pending then, and the words; and the
+-- the mirror, the change, the records after it, all that is pending then, and the words; and the
 -- provider is away
 pub record IsLossWith (s : Records) (size : Sizes) (ts : List Intent) (bytes : List (List ℕ))
     (n p words : List ℕ) (ch : Changed) (loss : Loss) : Type 0 where
@@ -138,7 +138,7 @@ IsRedirected s size ts bytes n p words ch (Refused OnShelf) =
     IsSome (next_of (changed_by ch s) p ts) × IsSome (size p)
 IsRedirected s size ts bytes n p words ch (New loss) = IsLossWith s size ts bytes n p words ch loss
 
--- what is pending behind this change of a loss can be read again, where what was pending could be
+-- what is pending after this change of a loss can be read again, if what was pending could be
 abbrev pub StayReadableBehind : Records → List ℕ → Changed → Type 0
 StayReadableBehind s p ch = (ts : List Intent) (bytes : List (List ℕ)) (next : List ℕ)
     → AreReadable s bytes ts → next_of (changed_by ch s) p ts ≡ Some next
@@ -153,7 +153,7 @@ StaysReadable s ts bytes (New loss) = AreReadable s bytes ts
     → IsState loss.after × AreReadable loss.after loss.bytes.items loss.intents.items
 
 -- The loss can be committed under the key, in place of the intents that are pending: its change
--- fits the tables, and behind it no more than 17 intents more are pending.
+-- fits the tables, and after it no more than 17 intents more are pending.
 pub record CanCommit (key : List ℕ) (ts : List Intent) (t : Tables) (loss : Loss) : Type 0 where
   pub key_ok : is_key key ≡ true
   pub free : IsFree t key
@@ -161,7 +161,7 @@ pub record CanCommit (key : List ℕ) (ts : List Intent) (t : Tables) (loss : Lo
   pub change : IsFitting loss.change (string_bytes loss.words) (settled t)
   pub few : length loss.intents.items ≤ length ts + 17
 
--- the same of a loss that was judged, where it is to be written
+-- the same of a loss that was judged, if it is to be written
 abbrev pub CanBeCommitted : List ℕ → List Intent → Tables → Judged → Type 0
 CanBeCommitted key ts t (Kept n reply) = Unit {0}
 CanBeCommitted key ts t (Refused r) = Unit {0}
@@ -174,7 +174,7 @@ pub record AreOfWorld (s : Records) (size : Sizes) (w : World) : Type 0 where
   pub sizes : present w ≡ size
 
 -- of the intents that are to be carried out it needs this image first: of those that were pending,
--- where the loss was accepted before; and of those behind the loss
+-- if the loss was accepted before; and of those after the loss
 abbrev pub IsLacking : World → List Intent → List (List ℕ) → List ℕ → List ℕ → Sizes → List ℕ
     → Type 0
 IsLacking w ts bytes key p size q =
@@ -212,14 +212,14 @@ module _ {S H : Type 0} (g : Ghosts S) (view : H → View) (size : H → Sizes)
         → Was away ts bytes u w
         → LeavesCommit g view size start mid h away u w call p (dropped p ts)
 
-    -- behind its commit, what a stop leaves leads to the step
+    -- after its commit, what a stop leaves leads to the step
     abbrev pub Carries : (mid end : Held S) (h k : H) → Type 0
     Carries mid end h k = (away : Image) (ts : List Intent) (bytes : List (List ℕ)) (u w : World)
         → Was away ts bytes u w
         → (v : World) × IsStepWithout w call p (dropped p ts) v × (present v ≡ size h)
         × LeavesOnly g view size mid end h k away u v
 
-    -- it was stopped at its commit, or behind that
+    -- it was stopped at its commit, or after that
     abbrev pub LeavesLoss : (start end : Held S) (h k : H) → Type 0
     LeavesLoss start end h k =
         (Commits start end h × (k ≡ h))
@@ -257,7 +257,7 @@ module _ {S H : Type 0} (g : Ghosts S) (view : H → View) (size : H → Sizes) 
         → IsFound g view size start h away ts bytes u w → gone ≡ dropped p ts)
         × LeavesLoss g view size (IsFound g view size start h) (loss_call key n p) p start end h k)
 
-    -- nothing is committed but where the loss is answered as done
+    -- nothing is committed unless the loss is answered as done
     abbrev pub KeepsUndone : TakenUp → Type 0
     KeepsUndone (Carried (Done n reply) redone) = Unit {0}
     KeepsUndone (Carried (Repeated n reply) redone) = LeavesOpened

@@ -83,7 +83,7 @@ impl<S: Alter, H: Shelf> Media<S, H> {
             → IsAnswered S.Store H.view H.size self.new.registry self.old.shelf away
             ts bytes v u key.now c a) }
         ensures refused { Refuses S.Store self.old.registry self.new.registry result }
-        // Of a change that fits the tables, `Store` comes only where the store failed.
+        // Of a change that fits the tables, `Store` comes only if the store failed.
         ensures store { DiskKept S.Store self.new.registry → IsErrOf result BenchFault.Store
             → (t : Tables) → HasTables S.Store self.old.registry t → count_of t < 100000
             → is_key key.now ≡ true → IsFree t key.now → HasNothingElse waiting t

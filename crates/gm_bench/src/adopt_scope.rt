@@ -25,7 +25,7 @@ pub(crate) fn adopted_from(command: &Command) -> &[Label]
     }
 }
 
-/// Where there is a source, its data are what others are compared with.
+/// If there is a source, its data are what others are compared with.
 pub(crate) fn compared_with(source: Option<Member>) -> Option<Compared>
     ensures { result ≡ option_map compared_with source }
 {

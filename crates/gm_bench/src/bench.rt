@@ -34,9 +34,9 @@ pub struct Bench<S: Alter, H> {
 }
 
 impl<S: Alter, H: Shelf> Bench<S, H> {
-    /// Carries out what is pending, and settles it. `Absent` before anything is written, where the
+    /// Carries out what is pending, and settles it. `Absent` before anything is written, if the
     /// image of a pending intent isn't there, has no sectors or, of a component, another size than
-    /// is registered. `Unreadable` where the store has tables that aren't a registry's, or whose
+    /// is registered. `Unreadable` if the store has tables that aren't a registry's, or whose
     /// rows don't say a state with readable intents. A registry of the first schema is carried over
     /// before that.
     pub fn open(

@@ -66,8 +66,8 @@ fn fact_there<H: Shelf>(
     })
 }
 
-/// What the shelf says of a provider, and how far it is equal to what it is compared with; None
-/// where it is absent.
+/// What the shelf says of a provider, and how far it is equal to what it is compared with; `None`
+/// if it is absent.
 pub(crate) fn fact_of<H: Shelf>(
     shelf: &mut H,
     against: Option<Compared>,

@@ -22,16 +22,16 @@ use sqlite::Alter;
 /// With an honest shelf and a disk that keeps what is written, whatever is handed in, wherever it
 /// is stopped, and whichever images are moved out of the folder or back into it before the next
 /// opening: the bench stands for the world after the accepted commands, among which are all that
-/// were answered as done. At rest its tables and its images are that world's. Where something is
-/// pending, or a stop left it, what stands leads to that world, and no component claims on the way
-/// a sector that it lacks.
+/// were answered as done. At rest its tables and its images are that world's. If something is
+/// pending, or a stop left it, what is there leads to that world, and no component claims on the
+/// way a sector that it lacks.
 pub fn whole_run_law<S: Alter, H: Shelf>()
     ensures { (all : Sizes) (events : List (Event (Held S) H)) (now : Now (Held S) H)
         → Runs S.Store H.view H.size all events now
         → Headline S.Store H.view H.size all now.phase now.away now.accepted now.acknowledged }
 {}
 
-/// What is pending behind the loss of a component leads on, and keeps what was claimed before the
+/// What is pending after the loss of a component leads on, and keeps what was claimed before the
 /// first command.
 pub fn losses_lead_on()
     ensures { (u w v : World) (key n p next : List ℕ) (ts us : List Intent)

@@ -12,7 +12,7 @@
 //! and a shelf is gm_looks's.
 //!
 //! `open_without` opens a bench of which an image is gone for good: `specs/Losing.antt` says what
-//! is pending behind that, `specs/Without.antt` why it is refused, and `specs/GivingUp.antt` what
+//! is pending after that, `specs/Without.antt` why it is refused, and `specs/GivingUp.antt` what
 //! it leaves and answers. `without` judges it, with `loss`, and `lose` writes it.
 #![tactic(auto)]
 

@@ -37,7 +37,7 @@ impl<S: Alter, H: Shelf> Media<S, H> {
             away ts bytes u w
             → IsLost S.Store H.view H.size self.new.registry self.old.shelf away
             loss.now key.now p ts u w n) }
-        // Of a loss that fits the tables, `Store` comes only where the store failed.
+        // Of a loss that fits the tables, `Store` comes only if the store failed.
         ensures store { DiskKept S.Store self.new.registry → IsErrOf result BenchFault.Store
             → (t : Tables) (ts : List Intent) → HasTables S.Store self.old.registry t
             → CanCommit key.now ts t loss.now → length ts + 17 < 2 ^ 32 → IsState loss.now.after
@@ -60,7 +60,7 @@ impl<S: Alter, H: Shelf> Media<S, H> {
     }
 
     /// Writes a loss, in place of what is pending, and carries out what is pending then. `Absent`
-    /// before anything is written, where an image that this needs isn't there.
+    /// before anything is written, if an image that this needs isn't there.
     pub(crate) fn lose(&mut self, loss: &Loss, key: &str) -> Result<u64, BenchFault>
         ensures leaves { H.honest self.old.shelf → DiskKept S.Store self.new.registry
             → (p : List ℕ) → LeavesLoss S.Store H.view H.size

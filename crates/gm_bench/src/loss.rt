@@ -19,7 +19,7 @@ use gm_refusals::CallRefusal;
 use gm_state::{Intent, Reply, State, source as source_of};
 use std::alloc::{AllocError, Global};
 
-/// Why a bench isn't opened without a provider. Where several apply, the least number is answered.
+/// Why a bench isn't opened without a provider. If several apply, the least number is answered.
 #[derive(Clone, Copy, Debug, PartialEq, Eq)]
 pub enum LossRefusal {
     /// As a `lost` of the provider in its mirror is refused; one of no mirror isn't a component.
@@ -43,7 +43,7 @@ impl LossRefusal {
     }
 }
 
-/// A loss that nothing refuses: its mirror, its change, the records and the intents behind it, the
+/// A loss that nothing refuses: its mirror, its change, the records and the intents after it, the
 /// sectors that those lay, and its words.
 #[derive(Drop)]
 pub(crate) struct Loss {
@@ -131,7 +131,7 @@ pub(crate) fn remaining(
 }
 
 /// The source, by the records after the loss, of the copy that is pending from the provider; `None`
-/// where that has none. Where nothing is copied from it, it is named itself.
+/// if that has none. If nothing is copied from it, it is named itself.
 pub(crate) fn next_source(after: &State, provider: Label, intents: &[Intent]) -> Option<Label>
     ensures { result ≡ next_of after.now provider intents.now }
 {
@@ -157,7 +157,7 @@ fn has_patch(intents: &[Intent]) -> bool
     intents.iter().any(|intent| is_patch(intent))
 }
 
-// The sectors that are still to be laid: those of before where a Patch remains, else none.
+// The sectors that are still to be laid: those of before if a Patch remains, else none.
 fn left_to_lay(
     alloc: Global,
     intents: &[Intent],
@@ -172,7 +172,7 @@ fn left_to_lay(
     }
 }
 
-// What stands behind a beginning, where the text has it.
+// What comes after a beginning, if the text has it.
 fn behind<'a>(front: &str, text: &'a str) -> Option<&'a str>
     ensures { MatchOption result ((rest : List ℕ) → text.now ≢ front.now ++ rest)
         (λ rest. text.now ≡ front.now ++ rest.now) }
@@ -180,7 +180,7 @@ fn behind<'a>(front: &str, text: &'a str) -> Option<&'a str>
     text.strip_prefix(front)
 }
 
-// What stands before an end, where the text has it.
+// What comes before an end, if the text has it.
 fn before<'a>(back: &str, text: &'a str) -> Option<&'a str>
     ensures { MatchOption result ((rest : List ℕ) → text.now ≢ rest ++ back.now)
         (λ rest. text.now ≡ rest.now ++ back.now) }
@@ -206,7 +206,7 @@ pub(crate) fn are_of_loss(words: &str, provider: Label) -> bool
     mirror_in(words, provider).is_some()
 }
 
-/// The loss of the provider with its change, the records behind that and its next source, where
+/// The loss of the provider with its change, the records after that and its next source, if
 /// these intents and sectors were pending.
 pub(crate) fn loss_with(
     alloc: Global,

@@ -9,7 +9,7 @@ use gm_refusals::{Fact, Facts};
 use gm_shelf::Shelf;
 use std::alloc::{AllocError, Global};
 
-// How many sectors a provider has, as a fact; None where it is absent.
+// How many sectors a provider has, as a fact; `None` if it is absent.
 fn size_of<H: Shelf>(shelf: &H, provider: Label) -> Option<Fact>
     ensures { MatchOption result (H.size shelf.now provider ≡ None)
         (λ f. (f.provider ≡ provider) × (H.size shelf.now provider ≡ Some f.sectors)) }

@@ -95,7 +95,7 @@ impl<S: Alter, H: Shelf> Media<S, H> {
         }
     }
 
-    /// Carries out what was loaded, where each image that it needs is there.
+    /// Carries out what was loaded, if each image that it needs is there.
     pub(crate) fn check_and_finish(
         &mut self,
         state: &State,
@@ -124,7 +124,7 @@ impl<S: Alter, H: Shelf> Media<S, H> {
         ensures disk { (t : Tables) → AreTablesOf t state.now intents.now bytes.now
             → IsErrOf result BenchFault.Disk
             → (H.view self.old.shelf).faults < (H.view self.new.shelf).faults }
-        // F5 comes before anything is written, exactly where an image isn't there.
+        // F5 comes before anything is written, exactly if an image isn't there.
         ensures absent { (p : List ℕ) → IsErrOf result (BenchFault.Absent p)
             → (first_absent state.now (H.size self.old.shelf) intents.now ≡ Some p)
             × (self.new ≡ self.old) }

@@ -92,7 +92,7 @@ impl<S: Alter, H: Shelf> Media<S, H> {
         })
     }
 
-    /// Judges the loss of a provider, and carries out what is pending: with the loss, where it is
+    /// Judges the loss of a provider, and carries out what is pending: with the loss, if it is
     /// to be written. A loss that is refused writes nothing.
     pub(crate) fn take_up_without(
         &mut self,

@@ -1,4 +1,4 @@
-//! An opening without a provider: where the image of a component is gone for good, it is given up
+//! An opening without a provider: if the image of a component is gone for good, it is given up
 //! by a `lost` of it, in the transaction that takes out what is pending there; the rest is carried
 //! out as by any opening.
 

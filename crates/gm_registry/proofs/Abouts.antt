@@ -23,7 +23,7 @@ use Rattle.gm_registry.specs.declared.edition.Edition.{Edition}
 use Rattle.gm_registry.specs.declared.edition.Edition.TheVariants.{First, Second}
 use Rattle.gm_rows.proofs.RowsSayTables.{again_shown}
 
--- the rows that its query shows are the one record exactly where it is
+-- the rows that its query shows are the one record exactly if it is
 pub about_told : (edition : Edition) (db : Trees) (rows : List Row) → IsShown db About rows
     → IsAbout (number_of edition) rows → IsNumbered edition db
 about_told edition db rows shown says =

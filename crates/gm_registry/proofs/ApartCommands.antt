@@ -27,7 +27,7 @@ use Rattle.gm_rows.specs.Schema.{registry_schema, commands, commands_by_seq}
 use Rattle.gm_rows.proofs.CountedNumbers.{AreApart}
 use Rattle.gm_rows.proofs.ListMembers.{stands_from}
 
--- a row whose rowid is below those of the rows behind it differs from each of them in its rowid
+-- a row whose rowid is below those of the rows after it differs from each of them in its rowid
 differs : (row other : Row) → IsTrue (is_int (rowid row)) → IsTrue (is_int (rowid other))
     → value_cmp (rowid row) (rowid other) ≡ Less → differ (rowid row) (rowid other) ≡ true
 differs row other one two less = ints_differ (rowid row) (rowid other) one two (ap is_eq less)
@@ -75,7 +75,7 @@ module _ (db : Trees) (sound : IsSound registry_schema db) where
       && differ (rowid r) (rowid b)) (db 8) a one (and_from _ _ agrees other))
       ∙ none_clashes b two)
 
-  -- the numbers that are read of them are apart, where the rowids rise
+  -- the numbers that are read of them are apart, if the rowids rise
   pub apart : (number : Row → ℕ)
       → ((row : Row) → Stands (db 8) row → number_of row ≡ Int (pos (number row)))
       → IsShaped shape.Table (db 8) → AreApart (map number (db 8))

@@ -115,7 +115,7 @@ module _ (s0 s1 s2 : State) (read : HasReadOver IsOfRegistry s0 s1)
       subst (λ (d : Database). IsCarriedOver d.trees db) (same_stored early was) over)
       (left (first_found early was))))
 
--- ---- where it isn't carried over
+-- ---- if it isn't carried over
 
 pub as_before : (old new : State) → SeesFirstStore old → IsTrue new.is_open
     → IsUnchanged old new ⊎ IsRolledBack old new → IsAsBefore old new

@@ -54,7 +54,7 @@ module _ (ch : Changed) (s : Records) (t : Tables) (state : IsState s) (held : H
 
   -- ---- what goes
 
-  -- where a mirror goes, each component that is left is behind the change, and of another mirror
+  -- if a mirror goes, each component that is left is there after the change, and of another mirror
   of_another : (n : List ℕ) → ch.gone_mirror ≡ Some n → (j : Component)
       → Has (left_by ch s).components j → j.mirror ≢ n
   of_another n gone j h e =
@@ -99,9 +99,9 @@ module _ (ch : Changed) (s : Records) (t : Tables) (state : IsState s) (held : H
       apart m new a.0 a.1 (λ same. other (sym (ap (λ (y : MirrorRow). y.name) a.2) ∙ same))
       (ap (λ (y : MirrorRow). y.mid) a.2 ∙ e)))
 
-  -- ---- the components that are put, each behind those before it
+  -- ---- the components that are put, each after those before it
 
-  -- behind the change a component is on the row's provider, with its mirror and its number
+  -- after the change a component is on the row's provider, with its mirror and its number
   record IsMatched (x : ComponentRow) : Type 0 where
     component : Component
     there : Has after.components component
@@ -109,7 +109,7 @@ module _ (ch : Changed) (s : Records) (t : Tables) (state : IsState s) (held : H
     mirror_is : component.mirror ≡ x.mirror
     did_is : component.did ≡ x.did
 
-  -- tables under way: the mirrors are those behind the change, and each component is matched
+  -- tables under way: the mirrors are those after the change, and each component is matched
   record IsUnderWay (a : Tables) : Type 0 where
     mirrors : (m : Mirror) → Has after.mirrors m → Has a.mirrors (mirror_row m)
     rows : (x : ComponentRow) → Has a.components x → IsMatched x

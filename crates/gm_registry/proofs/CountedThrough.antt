@@ -46,7 +46,7 @@ pub left_commands : (p : Pending) (t : Tables) → (left_of p t).commands ≡ t.
 left_commands Stays t = refl
 left_commands Goes t = refl
 
--- so do they where intents go first
+-- so do they if intents go first
 pub left_numbered : (ch : Changed) (key : List ℕ) (n : ℕ) (words : List ℕ) (p : Pending)
     (t : Tables) → n ≡ count_of t + 1 → AreNumbered t.commands
     → AreNumbered (with_change ch key n words (left_of p t)).commands

@@ -1,4 +1,4 @@
--- Nothing refuses the tables of a registry where they are made.
+-- Nothing refuses the tables of a registry when they are made.
 use Rattle.std.proofs.Common.{◌≡◌, List, ℕ, false, refl, arith}
 use Rattle.std.specs.Char.{encode_utf8}
 use Rattle.std.specs.Float.Ieee

@@ -1,4 +1,4 @@
--- Why the insertion of a command fails: no rule of its table refuses it where its key and its
+-- Why the insertion of a command fails: no rule of its table refuses it if its key and its
 -- number are free.
 use Rattle.std.proofs.Common.{◌≡◌, inl, inr, pos, ◌^◌, ◌<◌, ◌≤◌, true, false, not, ◌&&◌, [], ◌∷◌, length, refl, sym, ap, subst, ◌∙◌, arith}
 use Rattle.std.specs.Ordering.{is_eq}

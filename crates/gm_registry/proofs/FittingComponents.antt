@@ -1,4 +1,4 @@
--- Why a component is not put: no rule refuses it where its mirror is there and has no other of its
+-- Why a component is not put: no rule refuses it if its mirror is there and has no other of its
 -- number.
 use Rattle.std.proofs.Common.{◌≡◌, inl, inr, ℤ, pos, ◌^◌, ◌<◌, ◌≤◌, Bool, true, false, ◌&&◌, [], ◌∷◌, ◌++◌, length, Some, refl, sym, ap, subst, ◌∙◌, arith}
 use Rattle.std.specs.Ordering.{is_eq}

@@ -21,7 +21,7 @@ use Rattle.gm_registry.proofs.Written.{with_records_is}
 
 -- ---- components in turn
 
--- behind those before it the next is placed
+-- after those before it the next is placed
 pub placed_at : (ks : List Component) (i : ℕ) (k : Component) (t : Tables) → ArePlacedInTurn ks t
     → i < length ks → k ≡ get_or ks i k → IsPlaced (component_row k) (with_components (take i ks) t)
 placed_at [] i k t placed low is = absurd (omega (arith, low))
@@ -44,14 +44,14 @@ within_all xs i low = omega (arith, length-take-le i xs (omega (arith, low)))
 
 -- ---- a mirror
 
--- where there is one to put, it is taken
+-- if there is one to put, it is taken
 pub takes_some : (m : Option Mirror) (db : Trees) (t : Tables)
     → IfSome m (λ x. HasFreeNumber (mirror_row x) t) → HasRoom 1 db
     → IfSome m (λ x. TakesMirror (mirror_row x) db t)
 takes_some None db t free room = tt
 takes_some (Some m) db t free room = record { number_free = free; room = room.mirrors }
 
--- ---- behind the records
+-- ---- after the records
 
 -- records leave the intents
 pub takes_behind : (ch : Changed) (n : ℕ) (t : Tables) → TakesIntents n t
@@ -87,7 +87,7 @@ takes_bytes ch more bytes t takes = record {
   short = takes.short;
 }
 
--- a command is taken behind the records, the intents and the bytes
+-- a command is taken after the records, the intents and the bytes
 pub takes_last : (ch : Changed) (ts : List Intent) (bytes : List (List ℕ)) (key words : List ℕ)
     (n : ℕ) (db : Trees) (t : Tables) → FitsTables (with_pending ch ts bytes) key words t
     → IsUncounted n t → HasRoom 1 db

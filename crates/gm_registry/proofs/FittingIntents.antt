@@ -1,4 +1,4 @@
--- Why the insertion of an intent fails: no rule of its table refuses it where its number is free.
+-- Why the insertion of an intent fails: no rule of its table refuses it if its number is free.
 use Rattle.std.proofs.Common.{◌≡◌, ◌≢◌, inl, inr, ℕ, pos, ◌+◌, ◌^◌, ◌<◌, ◌≤◌, true, false, not, ◌&&◌, List, [], ◌∷◌, ◌++◌, take, length, IsTrue, refl, sym, ap, subst, ◌∙◌, arith, nat_lt, ◌==◌, eq-eqb}
 use Rattle.std.specs.Ordering.{is_eq}
 use Rattle.std.specs.List.{AllByRecursion}
@@ -128,7 +128,7 @@ others_unnumbered (x ∷ ts) from n rows low all = (
   others_unnumbered ts (from + 1) n rows (omega (arith, low)) all,
 )
 
--- behind those that have their numbers the next number is free
+-- after those that have their numbers the next number is free
 pub next_unnumbered : (ts : List Intent) (i next : ℕ) (t : Tables) → TakesIntents (length ts) t
     → i < length ts → next ≡ i + 1
     → IsUnnumbered next (with_intents (intent_rows 1 (take i ts)) t)

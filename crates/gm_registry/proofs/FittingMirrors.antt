@@ -1,4 +1,4 @@
--- Why a mirror is not put: no rule refuses it where no other mirror has its number.
+-- Why a mirror is not put: no rule refuses it if no other mirror has its number.
 use Rattle.std.proofs.Common.{◌≡◌, inl, inr, ℤ, pos, ◌^◌, ◌<◌, ◌≤◌, Bool, true, false, not, ◌&&◌, ◌||◌, [], ◌∷◌, ◌++◌, length, Some, refl, sym, ap, subst, ◌∙◌, arith}
 use Rattle.std.specs.Ordering.{is_eq}
 use Rattle.std.specs.List.{AllByRecursion, list_all}

@@ -1,4 +1,4 @@
--- Why the insertion of the record of bytes fails: no rule of its table refuses it where none is
+-- Why the insertion of the record of bytes fails: no rule of its table refuses it if none is
 -- there.
 use Rattle.std.proofs.Common.{◌≡◌, inl, inr, ℕ, true, not, ◌&&◌, ◌==◌, List, [], ◌∷◌, length, refl, sym, ap, subst, ◌∙◌, arith, eq-eqb}
 use Rattle.std.specs.Float.Ieee
@@ -38,7 +38,7 @@ use Rattle.gm_registry.proofs.FittingTables.{apart, only, refers}
 use Rattle.gm_registry.proofs.InsideFails.{StopsOnly}
 use Rattle.gm_registry.proofs.TextMeanings.{patch_terms}
 
--- where no record is kept no row is
+-- if no record is kept no row is
 no_rows : (bytes : List (List ℕ)) (rows : List Row) → Keeps whole patch_values bytes rows
     → bytes ≡ [] → rows ≡ []
 no_rows bytes [] kept none = refl

@@ -41,7 +41,7 @@ map_agree f g (x ∷ xs) same =
     ap (λ y. y ∷ map f xs) (same x (inl refl)) ∙ ap (λ ys. g x ∷ ys)
     (map_agree f g xs (λ y later. same y (inr later)))
 
--- records are kept by rows that show them, where what is shown of a row tells the row
+-- records are kept by rows that show them, if what is shown of a row determines the row
 kept_as : {A : Type 0} (part stored back : Row → Row) (values shown : A → Row)
     → ((x : A) → back (shown x) ≡ values x) → (records : List A) (rows : List Row)
     → ((row : Row) → Stands rows row → back (stored row) ≡ part row)

@@ -1,4 +1,4 @@
--- A transaction: what its calls and its end leave, where it is committed and where it is undone.
+-- A transaction: what its calls and its end leave, if it is committed and if it is undone.
 use Rattle.std.proofs.Common.{◌≡◌, true, false, [], Result, Ok, Err, IfErr, OnOk, OnErr, IsTrue, sym, subst, arith}
 use Rattle.sqlite_trees.specs.declared.store.Store.{Ghosts}
 use Rattle.sqlite.specs.Effect.{Database}
@@ -21,7 +21,7 @@ use Rattle.gm_registry.proofs.CountedThrough.{begun_rows, counted_inside}
 use Rattle.gm_registry.proofs.Failures.{commit_failed, failed_since, failed_until}
 use Rattle.gm_registry.proofs.StepsInTurn.{Failed}
 
--- what a commit says where it was done
+-- what a commit says if it was done
 abbrev pub HasCommitted : State → State → Type 0
 HasCommitted mid end = IsTrue mid.in_transaction × Shows mid end mid.now mid.now false
     × KeepsCounts mid end × (end.marks ≡ [])
@@ -37,7 +37,7 @@ module _ {S : Type 0} (g : Ghosts S) (old begun mid end : Held S)
   since : Survives (state g old) (state g mid) (λ _. ⊥)
   since = survives_begin g old (state g mid) _ (rw begin at within)
 
-  -- ---- where it is committed
+  -- ---- if it is committed
 
   module _ (ends : Survives (state g mid) (state g end) (CommitsSeen (state g mid))) where
     pub commit_leaves : (P : Trees → Type 0)
@@ -59,7 +59,7 @@ module _ {S : Type 0} (g : Ghosts S) (old begun mid end : Held S)
         failed_since (state g old) (state g mid) (state g end) _ since
         (commit_failed (state g mid) (state g end) e inside is_open fails is)
 
-  -- a failure within it is one at its end, where it is undone
+  -- a failure within it is one at its end, if it is undone
   pub undone_fails : Survives (state g mid) (state g end) (λ _. ⊥)
       → Failed (state g begun) (state g mid) → StoreFailed g old end
   undone_fails ends failed =
@@ -83,7 +83,7 @@ module _ {S : Type 0} (g : Ghosts S) (old begun mid end : Held S)
       rolled registry_schema HasCounted (state g old) (state g begun) (state g mid) (state g end) t
       was (rw begin) kept undone is_open
 
-  -- calls that make these of the tables, where the commands stay numbered
+  -- calls that make these of the tables, if the commands stay numbered
   module _ (change : Tables → Tables) (N : Tables → Type 0)
       (numbered : (t : Tables) → N t → AreNumbered t.commands → AreNumbered (change t).commands)
       (put : (t : Tables) → IsInside first (state g begun) t

@@ -51,7 +51,7 @@ module _ (text : List ℕ) (params : Row) (command : Command) (means : Means tex
       (statement_of text (understood registry_schema text)) None command (Err stop)) was.schema_is
       does)) was.is_open (h was.inside)) is
 
--- what fits where more is known
+-- what fits if more is known
 pub fails_as : {X : Type 0} (x : Result X Error) (P Q : Type 0) → (P → Q) → OnOther x P
     → OnOther x Q
 fails_as (Ok a) P Q f h = tt

@@ -46,7 +46,7 @@ use Rattle.gm_registry.proofs.TextMeanings.{put_about, put_about_is}
 
 -- ---- the tables, one after another
 
--- the tables that are made so far, and what a failure behind them is
+-- the tables that are made so far, and what a failure after them is
 pub record Made (schema : Schema) (first : Database) (start now : State) : Type 1 where
   pub over : IsInsideOver schema first now
   pub since : (end : State) → Failed now end → Failed start end

@@ -66,7 +66,7 @@ stay_numbered more count rows now same takes =
     subst (TakesMore more) (sym same)
     (record { last = takes.last; up_to = takes.up_to; room = omega arith })
 
--- behind a row that was numbered behind them all
+-- after a row that was numbered after them all
 put_fewer : (new : Row) (rows some : List Row) (more : ℕ) → rowid new ≡ Int (next_rowid rows)
     → ((x : Row) → Has some x → Has rows x) → TakesMore (more + 1) rows
     → TakesMore more (put_row new some)
@@ -83,7 +83,7 @@ put_fewer new rows some more is among takes =
       room = omega arith;
     }
 
--- behind a row with the number of one that was there
+-- after a row with the number of one that was there
 old_takes : (new : Row) (rows some : List Row) (more : ℕ) (r : Row) → Has rows r → rowid r
     ≡ rowid new
     → ((x : Row) → Has some x → Has rows x) → TakesMore (more + 1) rows
@@ -101,7 +101,7 @@ old_takes new rows some more r has is among takes =
       room = omega arith;
     }
 
--- a component is put: behind the others, or in place of one
+-- a component is put: after the others, or in place of one
 pub put_component_numbers : (k : ComponentRow) → StepNumbers (upsert 2 4) (component_values k) 1
 put_component_numbers k db t limit text tally after holds h more room =
     let rest : Row = Text k.mirror ∷ Int (pos k.did) ∷ Int (pos k.syncid) ∷ Int (pos k.priority)

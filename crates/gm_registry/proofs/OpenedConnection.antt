@@ -69,7 +69,7 @@ module _ (s : State) (opened : IsJustOpened s) (is_open : IsTrue s.is_open) wher
 
   -- ---- what can't be
 
-  -- where no table is seen, there is no registry, nor something else
+  -- if no table is seen, there is no registry, nor something else
   pub no_registry : s.now.schema ≡ no_schema → (edition : Edition)
       → IsSound (schema_of edition) s.committed.trees → ⊥
   no_registry none edition sound = some_tables edition (sym (edition_seen edition sound) ∙ none)
@@ -77,11 +77,11 @@ module _ (s : State) (opened : IsJustOpened s) (is_open : IsTrue s.is_open) wher
   pub nothing_foreign : s.now.schema ≡ no_schema → IsForeign s.committed.trees → ⊥
   nothing_foreign none f = f.some (sym (seen_as f.schema f.sound) ∙ none)
 
-  -- where some table is seen, the store isn't empty
+  -- if some table is seen, the store isn't empty
   pub not_empty : s.now.schema ≢ no_schema → IsEmpty s.committed.trees → ⊥
   not_empty some empty = some (seen_as no_schema empty)
 
-  -- where the tables can be those of one schema alone, they aren't those of the other
+  -- if the tables can be those of one schema alone, they aren't those of the other
   pub not_second : ((edition : Edition) → s.now.schema ≡ schema_of edition → First ≡ edition)
       → IsSound registry_schema s.committed.trees → ⊥
   not_second only sound = let e : First ≡ Second = only Second (edition_seen Second sound) in cc

@@ -68,7 +68,7 @@ module _ {Y : Type 0} (q : Y → Bool) where
 
 -- ---- lists in parts
 
--- what passes one of two tests, where nothing passes both
+-- what passes one of two tests, if nothing passes both
 filter_either : {Y : Type 0} (p f : Y → Bool) → ((y : Y) → p y ≡ true → f y ≡ false) → (ys : List Y)
     → IsPermutation (filter (λ y. p y || f y) ys) (filter p ys ++ filter f ys)
 filter_either p f apart [] = IsPermutation-refl []
@@ -90,7 +90,7 @@ none_left (y ∷ ys) = none_left ys
 abbrev is_of : Mirror → Component → Bool
 is_of m k = same_label k.mirror m.name
 
--- a component of one mirror is of none behind it
+-- a component of one mirror is of none after it
 apart : (m : Mirror) (ms : List Mirror) → ((n : Mirror) → Has ms n → label_lt m.name n.name ≡ true)
     → (k : Component) → is_of m k ≡ true → list_any (λ n. is_of n k) ms ≡ false
 apart m ms before k mine =

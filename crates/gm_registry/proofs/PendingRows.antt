@@ -47,7 +47,7 @@ reordered db t xs ys same h = record {
   patches = h.patches;
 }
 
--- the row that came last stands behind the others
+-- the row that came last comes after the others
 pub behind : (at : Database) (s : State) (all : List Intent) (i ord : ℕ) (x : Intent) (t : Tables)
     → i < length all → x ≡ get_or all i x → ord ≡ i + 1
     → IsInside at s (with_intents (intent_row ord x ∷ [])

@@ -20,7 +20,7 @@ fewer n more rows less takes =
     let room = takes.room in
     record { last = takes.last; up_to = takes.up_to; room = omega (arith, less, room) }
 
--- where there is room for more rows there is room for fewer
+-- if there is room for more rows there is room for fewer
 pub less_room : (n more : ℕ) (db : Trees) → n ≤ more → HasRoom more db → HasRoom n db
 less_room n more db less has = record {
   mirrors = fewer n more (db 1) less has.mirrors;

@@ -41,7 +41,7 @@ with_null vs = column vs 0 ∷ Null ∷ column vs 1 ∷ column vs 2 ∷ column v
 behind_key : (k : ℕ) → 1 ≤ k → is_key (Some 0) k ≡ false
 behind_key k low = ne_eqb 0 k (λ e. omega arith)
 
--- five values stand behind it
+-- five values come after it
 five_behind : (row vs : Row) → ((k : ℕ) → column row (suc (suc k)) ≡ column vs k)
     → are_typed (Some 0) 1 (drop 1 intents.columns) vs ≡ true
     → are_present (Some 0) 1 (drop 1 intents.columns) row ≡ true
@@ -64,7 +64,7 @@ intent_whole (id ∷ v ∷ vs) typed present =
 
 -- ---- rows of bytes
 
--- one value stands behind it
+-- one value comes after it
 one_behind : (row vs : Row) → ((k : ℕ) → column row (suc (suc k)) ≡ column vs k)
     → are_typed (Some 0) 1 (drop 1 patches.columns) vs ≡ true
     → are_present (Some 0) 1 (drop 1 patches.columns) row ≡ true

@@ -110,7 +110,7 @@ pub put_about_is : Means put_about_text put_about
 unfolding understood everything
 put_about_is = record { command_is = refl; plain = (refl, refl) }
 
--- a row of nine columns behind a rowid that is to be chosen
+-- a row of nine columns after a rowid that is to be chosen
 abbrev pub nine_terms : List Term
 nine_terms = lit Null ∷ col 0 0 ∷ col 0 1 ∷ col 0 2 ∷ col 0 3 ∷ col 0 4 ∷ col 0 5 ∷ col 0 6
     ∷ col 0 7 ∷ col 0 8 ∷ []

@@ -290,7 +290,7 @@ six_stand rows same =
       stands _ (inr (inr (inr (inr (inr (inl refl)))))),
     )
 
--- rows that were shown show these texts exactly where the store lists them
+-- rows that were shown show these texts exactly if the store lists them
 pub ours_listed : (edition : Edition) (db : Trees) (rows : List Row)
     → IsPermutation (listed db) rows
     → IsPermutation (tables_of edition) (map (columns_at two) rows) → Lists edition db

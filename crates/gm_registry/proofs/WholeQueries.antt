@@ -124,7 +124,7 @@ shows t old new rows has h =
     subst (λ (f : Row → Row). IsPermutation (map f (old.now.trees (tree_of t))) rows)
     (λ i row. terms_are t row i) got
 
--- where it is known that the schema has the table
+-- if it is known that the schema has the table
 module _ (t : Table) (Known : Schema → Type 0) (has : (s : Schema) → Known s → HasTable t s) where
   plain_query : (s : Schema) → Known s → IsPlain (understood s (query_text t))
   plain_query s known = (asked s t (has s known)).1.plain

@@ -14,7 +14,7 @@ use Rattle.gm_registry.specs.Replies.{IsFree, count_of}
 
 -- It gets the next number, of at most 100,000, its reply is in range, and its key was free; the
 -- registry isn't unreadable while it has no more commands than that. Of a change that fits what is
--- left of the tables, where there is room for its rows, `Store` comes only where the store failed,
+-- left of the tables, if there is room for its rows, `Store` comes only if the store failed,
 -- as many commands were accepted already, or the reply isn't in range.
 pub record Accepts {S : Type 0} (g : Ghosts S) (old new : Held S) (result : Result ℕ StoreFault)
     (ch : Changed) (left : Tables → Tables) (key words : List ℕ) : Type 0 where

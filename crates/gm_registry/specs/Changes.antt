@@ -61,7 +61,7 @@ with_intents more t = record t { intents = more ++ t.intents }
 abbrev pub with_patch : List ℕ → Tables → Tables
 with_patch bytes t = record t { patches = bytes ∷ t.patches }
 
--- with the record of these bytes, where there are some
+-- with the record of these bytes, if there are some
 abbrev pub with_bytes : List (List ℕ) → Tables → Tables
 with_bytes bytes t = record t { patches = patch_rows bytes ++ t.patches }
 
@@ -103,7 +103,7 @@ without_bytes t = record t { patches = [] }
 abbrev pub settled : Tables → Tables
 settled t = record t { intents = []; patches = [] }
 
--- the tables with what stays pending where a command is accepted: all, or nothing
+-- the tables with what stays pending when a command is accepted: all, or nothing
 abbrev pub left_of : Pending → Tables → Tables
 left_of Stays t = t
 left_of Goes t = settled t

@@ -24,7 +24,7 @@ pub record FitsRecords (ch : Changed) (t : Tables) : Type 0 where
   pub put : IfSome ch.mirror (λ m. HasFreeNumber (mirror_row m) (without_gone ch t))
   pub placed : ArePlacedInTurn ch.components (with_some_mirror ch.mirror (without_gone ch t))
 
--- nor do its intents, its bytes, its key and its words, behind these tables
+-- nor do its intents, its bytes, its key and its words, when they are added to these tables
 pub record FitsTables (ch : Changed) (key words : List ℕ) (t : Tables) : Type 0 where
   pub records : FitsRecords ch t
   pub intents : TakesIntents (length ch.intents) t

@@ -22,18 +22,18 @@ pub record IsBlank (s : State) : Type 0 where
   pub settled : s.now ≡ s.committed
   pub schema_is : s.now.schema ≡ no_schema
 
--- within a transaction over this commit, where the tables are these
+-- within a transaction over this commit, with these tables
 pub record IsInsideOver (schema : Schema) (first : Database) (s : State) : Type 0 where
   pub is_open : IsTrue s.is_open
   pub inside : s.in_transaction ≡ true
   pub first_is : s.committed ≡ first
   pub schema_is : s.now.schema ≡ schema
 
--- the same, where there is no table yet
+-- the same, with no table yet
 abbrev pub IsBlankInside : Database → State → Type 0
 IsBlankInside = IsInsideOver no_schema
 
--- within a transaction over this commit, where the six tables are there: `about` has these rows,
+-- within a transaction over this commit, with the six tables: `about` has these rows,
 -- `patches` none, and the others those of these trees
 pub record IsBeingMade (about : List Row) (rows : Trees) (first : Database) (s : State) : Type 0
   where
@@ -121,7 +121,7 @@ pub record SeesFirstRegistry (s : State) : Type 0 where
   pub store : SeesFirstStore s
   pub about : s.committed.trees 0 ≡ about_numbered 1 ∷ []
 
--- within a transaction over such a commit, where nothing is written yet
+-- within a transaction over such a commit, with nothing written yet
 pub record IsFirstInside (first : Database) (s : State) : Type 0 where
   pub over : IsInsideOver first_schema first s
   pub seen : s.now ≡ first

@@ -69,7 +69,7 @@ module _ {S : Type 0} (g : Ghosts S) where
 
   -- ---- what a call leaves
 
-  -- where the disk kept what was written until now, it did so before the call
+  -- if the disk kept what was written until now, it did so before the call
   abbrev pub WasClean : Held S → Held S → Type 0
   WasClean old new = doubt (state g old).is_clean ≤ doubt (state g new).is_clean
 
@@ -113,7 +113,7 @@ module _ {S : Type 0} (g : Ghosts S) where
   StoreFailed old new = MoreFaults (state g old).faults (state g new).faults
       ⊎ IsSome (state g old).step_limit
 
-  -- within a transaction over rows and tables that fit, it fails only for want of memory or where
+  -- within a transaction over rows and tables that fit, it fails only for want of memory or if
   -- the store did
   abbrev pub FailsInside : {X : Type 0} → Held S → Held S → Result X Error
       → (Trees → Tables → Type 0) → Type 0

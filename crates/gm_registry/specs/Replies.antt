@@ -49,7 +49,7 @@ AreWrittenUnder key t = (c : CommandRow) → Has t.commands c → c.call_key ≡
 abbrev pub reply_values : CommandRow → Row
 reply_values c = Int (pos c.seq) ∷ Text c.words ∷ Int (pos c.copied) ∷ Int (pos c.of_total) ∷ []
 
--- a row with the greatest number, or none where there is no command
+-- a row with the greatest number, or none if there is no command
 abbrev pub IsLastOf : Tables → List Row → Type 0
 IsLastOf t rows =
     ((t.commands ≡ []) × (rows ≡ []))

@@ -27,7 +27,7 @@ use gm_rows::StoreFault;
 use gm_state::{Intent, MAX_SECTORS, Mirror, Reply};
 use sqlite::{Alter, Connection, Error, ErrorCode, Transaction};
 
-/// Deletes a mirror where there is a name.
+/// Deletes a mirror if there is a name.
 fn drop_some_mirror<S: Alter>(tx: &mut Transaction<'_, S>, name: Option<Label>) -> Result<(), Error>
     ensures same_reference { tx.new.conn.ghost_name ≡ tx.old.conn.ghost_name }
     ensures put { MakesInside S.Store tx.old.conn.now tx.new.conn.now result
@@ -44,7 +44,7 @@ fn drop_some_mirror<S: Alter>(tx: &mut Transaction<'_, S>, name: Option<Label>) 
     Ok(())
 }
 
-/// Puts a mirror where there is one.
+/// Puts a mirror if there is one.
 fn put_some_mirror<S: Alter>(
     tx: &mut Transaction<'_, S>,
     mirror: Option<Mirror>,
@@ -109,7 +109,7 @@ fn put_change<S: Alter>(
     Ok(())
 }
 
-/// The same behind what becomes of what is pending.
+/// The same after what becomes of what is pending.
 fn put_over<S: Alter>(
     tx: &mut Transaction<'_, S>,
     change: &Change,
@@ -183,8 +183,8 @@ fn is_in_range(reply: Reply) -> bool
     }
 }
 
-/// Accepts a change, with these intents and bytes, under the next number. `Store` where as many
-/// commands as may be were accepted already, or where the numbers of the reply are out of range:
+/// Accepts a change, with these intents and bytes, under the next number. `Store` if as many
+/// commands as may be were accepted already, or if the numbers of the reply are out of range:
 /// nothing is written then.
 pub(crate) fn accept_on<S: Alter>(
     conn: &mut Connection<S>,

@@ -33,7 +33,7 @@ fn create_tables<S: Alter>(tx: &mut Transaction<'_, S>) -> Result<(), Error>
     Ok(())
 }
 
-/// Adds the record of `about`, where it has none.
+/// Adds the record of `about`, if it has none.
 pub(crate) fn put_about<S: Alter>(tx: &mut Transaction<'_, S>) -> Result<usize, Error>
     ensures same_reference { tx.new.conn.ghost_name ≡ tx.old.conn.ghost_name }
     ensures made { DiskKept S.Store tx.new.conn.now

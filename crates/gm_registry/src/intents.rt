@@ -116,7 +116,7 @@ pub(crate) fn put_intents<S: Alter>(
     Ok(())
 }
 
-/// What becomes of what is pending where a command is accepted.
+/// What becomes of what is pending when a command is accepted.
 #[derive(Clone, Copy)]
 pub(crate) enum Pending {
     /// It stays, beside that of the command.
@@ -151,7 +151,7 @@ fn drop_all<S: Alter>(tx: &mut Transaction<'_, S>) -> Result<(), Error>
     Ok(())
 }
 
-/// Deletes what is pending, where it is to go.
+/// Deletes what is pending, if it is to go.
 pub(crate) fn drop_pending<S: Alter>(
     tx: &mut Transaction<'_, S>,
     pending: Pending,

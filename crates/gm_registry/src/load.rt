@@ -45,7 +45,7 @@ pub(crate) fn load_on<S: Alter>(
 }
 
 impl<S: Alter> Registry<S> {
-    /// The state and what is pending. `Unreadable` exactly where the tables aren't those of a state
+    /// The state and what is pending. `Unreadable` exactly if the tables aren't those of a state
     /// with intents and bytes that are readable for it, or the commands, of which none but their
     /// numbers is read, don't count from 1 without gaps; `Memory`, `Store` as of any call.
     pub fn load(&mut self, alloc: Global) -> Result<Loaded, StoreFault>

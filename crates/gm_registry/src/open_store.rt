@@ -197,7 +197,7 @@ fn take_first<S: Alter>(conn: &mut Connection<S>) -> Result<(), StoreFault>
 }
 
 /// Makes the tables in a store without any, and carries those of the first schema over;
-/// `Unreadable` where there are others than a registry's.
+/// `Unreadable` if there are others than a registry's.
 pub(crate) fn prepare<S: Alter>(conn: &mut Connection<S>) -> Result<(), StoreFault>
     requires { conn.old.in_transaction ≡ false }
     ensures made { DiskKept S.Store conn.new → OnOk result (IsOpen S.Store conn.old

@@ -178,7 +178,7 @@ fn part_on<S: Alter>(
 impl<S: Alter> Registry<S> {
     /// The part of the records that a command asks for, after some further mids, and how many
     /// mirrors there are. It reads all mirrors, of which the rules allow 64, and components by
-    /// their keys alone. `Unreadable` only where those rows say no state, though others may say
+    /// their keys alone. `Unreadable` only if those rows say no state, though others may say
     /// none either; `Memory`, `Store` as of any call.
     pub fn part(
         &mut self,

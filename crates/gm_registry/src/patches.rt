@@ -24,7 +24,7 @@ fn put_row<S: Alter>(tx: &mut Transaction<'_, S>, bytes: &[u8]) -> Result<usize,
     )
 }
 
-/// Adds the record of these sectors, where there are some.
+/// Adds the record of these sectors, if there are some.
 pub(crate) fn put_bytes<S: Alter>(
     tx: &mut Transaction<'_, S>,
     bytes: &[[u8; 512]],

@@ -39,7 +39,7 @@ fn state_on<S: Alter>(alloc: Global, conn: &mut Connection<S>) -> Result<State, 
 }
 
 impl<S: Alter> Registry<S> {
-    /// All mirrors and components. It reads their two tables alone. `Unreadable` exactly where
+    /// All mirrors and components. It reads their two tables alone. `Unreadable` exactly if
     /// those aren't a state's, though the other tables may be unreadable too; `Memory`, `Store` as
     /// of any call.
     pub fn state(&mut self, alloc: Global) -> Result<State, StoreFault>

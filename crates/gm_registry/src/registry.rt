@@ -46,10 +46,10 @@ pub struct OpenFault<S: Alter> {
 }
 
 impl<S: Alter> Registry<S> {
-    /// Takes the registry of a store, or makes one where the store has no table. One of the first
+    /// Takes the registry of a store, or makes one if the store has no table. One of the first
     /// schema is carried over, in one transaction, before anything else: it gets the table of bytes
-    /// and the number 2. `Unreadable` where the texts of its tables aren't those of a registry, or
-    /// where `about` isn't the one record (1, the number of their schema).
+    /// and the number 2. `Unreadable` if the texts of its tables aren't those of a registry, or
+    /// if `about` isn't the one record (1, the number of their schema).
     pub fn open(mut store: Connection<S>) -> Result<Registry<S>, OpenFault<S>>
         requires { store.in_transaction ≡ false }
         ensures made { IsOpen S.Store store → IsEmpty (stored S.Store store)
@@ -89,7 +89,7 @@ impl<S: Alter> Registry<S> {
         ensures left_carried { IsOpen S.Store store → IsSound first_schema (stored S.Store store)
             → MatchResult result (λ c. MayCarryOver S.Store store c)
             (λ e. MayCarryOver S.Store store e.store) }
-        // Of any other store, `Unreadable` comes only where it can't be opened.
+        // Of any other store, `Unreadable` comes only if it can't be opened.
         ensures unreadable { IsOpen S.Store store
             → IfErr result (λ e. DiskKept S.Store e.store → e.fault ≡ StoreFault.Unreadable
             → ¬ (IsOpenable (stored S.Store store))) }
@@ -122,7 +122,7 @@ impl<S: Alter> Registry<S> {
     }
 
     /// The number, the words and the reply of the command under a key. `Memory`, `Store` as of any
-    /// call; `Unreadable` where the row isn't one that this crate writes.
+    /// call; `Unreadable` if the row isn't one that this crate writes.
     pub fn reply_of(&mut self, key: &str) -> Result<Option<(u64, String, Reply)>, StoreFault>
         ensures found { DiskKept S.Store self.new
             → IfOk result (λ found. (t : Tables) → HasTables S.Store self.old t
@@ -161,7 +161,7 @@ impl<S: Alter> Registry<S> {
     }
 
     /// Writes a change, its intents, its bytes and its key in one transaction, and answers the
-    /// command's number. `Store` before anything is written where 100,000 commands were accepted
+    /// command's number. `Store` before anything is written if 100,000 commands were accepted
     /// already, or the numbers of the reply are out of range.
     pub fn accept(&mut self, change: &Change, key: &str, words: &str) -> Result<u64, StoreFault>
         ensures accepts { Accepts S.Store self.old self.new result change.now (λ t. t)

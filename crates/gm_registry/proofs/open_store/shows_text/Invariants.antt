@@ -4,7 +4,7 @@ use Rattle.gm_registry.specs.Listing.{under_number}
 use Rattle.gm_state.proofs.Suffixes.{IsLeft}
 use Rattle.gm_registry.proofs.open_store.shows_text.Given as goal
 
--- it is left to see the rows behind
+-- the rows from row-index on are left to see
 abbrev pub invariant-rows : goal.invariant-rows
 invariant-rows l =
     IsLeft (under_number l.number l.text) (map (columns_at two) l.rows)

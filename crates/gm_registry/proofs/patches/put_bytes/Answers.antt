@@ -13,7 +13,7 @@ some_patch : (bytes : List (List ℕ)) (blob : List ℕ) (t : Tables) → (lengt
 some_patch [] blob t some is = absurd (let e : true ≡ false = some in cc)
 some_patch (x ∷ xs) blob t some is = ap (λ b. with_patch b t) is
 
--- they are taken where their record is
+-- if they are taken, so is their record
 takes_patch : (bytes : List (List ℕ)) (blob : List ℕ) (t : Tables) → (length bytes == 0) ≡ false
     → blob ≡ joined bytes → TakesBytes bytes t → TakesPatch blob t
 takes_patch bytes blob t some is takes = record {
