@@ -88,7 +88,7 @@ expect_none 'of all these nothing was installed' "$work/prefix"
 
 # ---- words
 
-usage='usage: ./install [--remove] [PREFIX]'
+usage='usage: ./install [--remove] [PREFIX] | --deb FILE | --tar FILE'
 for word in --prefix -x --removed --; do
     install "$word"
     expect "the word $word" 2 '' "$(lines "install: unknown word $word\n$usage")"
