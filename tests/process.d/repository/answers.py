@@ -20,7 +20,7 @@ QUESTIONS = (
     ("which image is to be trusted", (r"^#.*\btrust(ed)?\b", r"\btaste\b", r"\bACTIVE\b")),
     ("which file writes the sectors of a patch", (r"\bgm_apply\b", r"`patch`[^.;|]*\bwrites\b[^.;|]*\bsectors\b")),
     ("what is proved of a patch", (r"\bgm_apply\b", r"\bdirt\b[^.]*\bpatch(es)?\b", r"`apply`")),
-    ("which files change for a new refusal", (r"\bnew refusal\b|\bits refusals\b", r"\bgm_refusals\b")),
+    ("which files change for a new refusal", (r"^#.*\bnew refusal\b", r"`src/refusals\.rt`", r"`gm_sentences`")),
 )
 LINK = re.compile(r"(?<!!)\[[^\]]*\]\(([^)\s]+)\)")
 ELSEWHERE = re.compile(r"[a-z][a-z0-9+.-]*:")

@@ -15,7 +15,7 @@ if has_python 'the links of the documents'; then
     trust='## Which image may be trusted\n\nOne that is ACTIVE in `taste`.\n'
     written='**`gm_apply`**: carries out intents\n\n- `patch`: writes bytes over sectors\n'
     proved='## The redo: gm_apply\n\nDirt comes before data, and dirt before patches (`apply`).\n'
-    changed='| its refusals | `gm_refusals` |\n'
+    changed='## A new refusal\n\n| its number | `gm_refusals`: `src/refusals.rt` |\n| its sentence | `gm_sentences` |\n'
     begin() {
         rm -rf "$refused"
         mkdir -p "$refused/docs"
@@ -34,7 +34,7 @@ if has_python 'the links of the documents'; then
     expect_told 'a page that answers nothing any more' "$far how a spare is added: none of $all says it
 $far which image is to be trusted: none of $all says it"
     begin
-    sed -i 's/its refusals/its faults/' "$refused/CONTRIBUTING.md"
+    sed -i 's/gm_sentences/gm_faults/' "$refused/CONTRIBUTING.md"
     expect_told 'an answer that lacks a word' "$far which files change for a new refusal: none of $all says it"
     begin
     printf "# Proofs\n\n## gm_apply\n\nNothing.\n\n## More\n\nAnd dirt before patches (\`apply\`).\n" >"$refused/docs/PROOF.md"
