@@ -7,7 +7,7 @@ ghost use Rattle.gm_commands.specs.declared.command.Command.{Command};
 ghost use Rattle.gm_state.specs.Records.{Records, IsState};
 ghost use Rattle.gm_refusals.specs.PartOf.{is_named, is_called, part_of};
 
-use crate::refusal_tests::{has_mid, name_of};
+use crate::predicates::{has_mid, name_of};
 use gm_commands::Command;
 use gm_state::Mirror;
 

@@ -6,7 +6,7 @@ ghost use Rattle.gm_refusals.specs.Applies.{name_of, looked_at, is_member_of, is
 ghost use Rattle.gm_refusals.specs.PartOf.{IsPartOf};
 ghost use Rattle.gm_refusals.specs.WorldFacts.{needed_by};
 
-use crate::refusal_tests::{is_awaited, is_member_of, looked_at, name_of};
+use crate::predicates::{is_awaited, is_member_of, looked_at, name_of};
 use gm_commands::Command;
 use gm_metadata::Label;
 use gm_state::{Component, State};

@@ -1,18 +1,28 @@
 -- What a connection that was just opened stands on.
-use Rattle.std.proofs.Common.{◌≡◌, ◌≢◌, false, IsTrue, sym, ap, subst, ◌∙◌}
+use Rattle.std.proofs.Common.{◌≡◌, ◌≢◌, inl, inr, false, IsTrue, sym, ap, subst, ◌∙◌}
 use Rattle.sqlite.specs.Schema.{Schema}
 use Rattle.sqlite.specs.Effect.{Database}
 use Rattle.sqlite.specs.State.{State, IsLive, IsUnchanged}
+use Rattle.sqlite.specs.Tree.{Trees}
 use Rattle.sqlite_catalog.specs.Listing.{IsSound}
 use Rattle.sqlite_rows.proofs.Showing.{one_schema, opened as at_open}
 use Rattle.gm_state.specs.Rows.{Tables}
 use Rattle.gm_rows.specs.Schema.{first_schema, registry_schema, no_schema}
-use Rattle.gm_rows.specs.Tables.{HasCounted, HasFirstCounted, SeesTables, SeesFirst, Holds, HoldsFirst, IsEmpty, SeesRegistry}
+use Rattle.gm_rows.specs.Tables.{HasCounted, HasFirstCounted, SeesTables, SeesFirst, Holds, HoldsFirst, IsEmpty, SeesRegistry, no_tables}
 use Rattle.gm_registry.specs.Listing.{ShowsList}
+use Rattle.gm_registry.specs.Opens.{IsStored}
 use Rattle.gm_registry.specs.Opening.{schema_of, HasOurTables, IsBlank, IsForeign, IsNumbered, IsOfRegistry, SeesFirstStore}
 use Rattle.gm_registry.specs.declared.edition.Edition.{Edition}
 use Rattle.gm_registry.specs.declared.edition.Edition.TheVariants.{First, Second}
 use Rattle.gm_registry.proofs.Abouts.{about_row}
+
+-- what is so of the tables of a store, by its schema
+pub stored_as : (db : Trees) (P : Tables → Type 0) → ((t : Tables) → Holds db t → P t)
+    → ((t : Tables) → HoldsFirst db t → P t) → (IsEmpty db → P no_tables)
+    → (t : Tables) → IsStored db t → P t
+stored_as db P second first none t (inl holds) = second t holds
+stored_as db P second first none t (inr (inl holds)) = first t holds
+stored_as db P second first none t (inr (inr empty)) = subst P (sym empty.1) (none empty.0)
 
 -- a connection outside a transaction sees what is committed
 pub record IsJustOpened (s : State) : Type 0 where

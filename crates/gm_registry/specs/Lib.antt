@@ -5,6 +5,7 @@ pub mod FittingChanges
 pub mod Keys
 pub mod Listing
 pub mod Opening
+pub mod Opens
 pub mod Parts
 pub mod Reads
 pub mod Registry

@@ -2,20 +2,18 @@
 
 ghost use Rattle.std.specs.Prelude.{◌≡◌, ◌≢◌, ◌↔◌, false, map, IfOk, IfErr, IsTrue, OnOk, OnErr, IsPermutation};
 ghost use Rattle.sqlite.specs.Held.{state};
-ghost use Rattle.sqlite_catalog.specs.Listing.{IsSound};
 ghost use Rattle.gm_lists.specs.Ordered.{Has};
-ghost use Rattle.gm_state.specs.Rows.{Tables};
-ghost use Rattle.gm_rows.specs.Schema.{first_schema, no_schema, registry_schema};
-ghost use Rattle.gm_rows.specs.Tables.{Holds, HoldsFirst, IsEmpty, no_tables};
+ghost use Rattle.gm_rows.specs.Schema.{no_schema};
 ghost use Rattle.gm_rows.specs.Queries.{IsShown};
 ghost use Rattle.gm_rows.specs.declared.fetched.Table.TheVariants.{About};
-ghost use Rattle.gm_registry.specs.Opening.{schema_of, HasOurTables, IsAsBefore, IsCarriedOver, IsNumbered, IsOfRegistry, IsOpenable, IsForeign, IsKnownStore, SeesFirstStore};
+ghost use Rattle.gm_registry.specs.Opening.{schema_of, IsAsBefore, IsCarriedOver, IsNumbered, IsOfRegistry, SeesFirstStore};
+ghost use Rattle.gm_registry.specs.Opens.{GoesByTexts, Opens};
 ghost use Rattle.gm_registry.specs.Listing.{listed, under_number, tables_of, AllStand, Lists, ShowsList};
 ghost use Rattle.gm_registry.specs.declared.edition.Edition.{Edition};
 ghost use Rattle.gm_registry.specs.declared.edition.Edition.TheVariants.{First};
 ghost use Rattle.gm_rows.specs.Values.{columns_at, two};
 ghost use Rattle.sqlite_rows.specs.Reads.{HasReadOver, HasFailedOver};
-ghost use Rattle.gm_registry.specs.Registry.{DiskKept, IsOpen, stored, seen, HasTables, HasFirstTables, IsRegistry, WasClean, MayLeave, MayCarryOver, LeavesNothingNew, LeavesAlone, StoreFailed};
+ghost use Rattle.gm_registry.specs.Registry.{DiskKept, IsOpen, stored, seen, IsRegistry, WasClean, MayCarryOver, StoreFailed};
 ghost use Rattle.gm_rows.specs.Faults.{OnUnreadable, OnStore};
 
 use crate::carry_over::carry_over;
@@ -177,9 +175,6 @@ fn take_first<S: Alter>(conn: &mut Connection<S>) -> Result<(), StoreFault>
         → IsAsBefore (state S.Store conn.old) (state S.Store conn.new)) }
     ensures left { SeesFirstStore (state S.Store conn.old)
         → MayCarryOver S.Store conn.old conn.new }
-    ensures texts { DiskKept S.Store conn.new
-        → OnOk result (ShowsList (state S.Store conn.old).now.schema
-        → Lists First (seen S.Store conn.old)) }
     ensures unreadable { DiskKept S.Store conn.new
         → OnUnreadable result (IsOfRegistry (state S.Store conn.old).now.schema
         → Lists First (seen S.Store conn.old) → IsNumbered First (seen S.Store conn.old) → ⊥) }
@@ -187,8 +182,7 @@ fn take_first<S: Alter>(conn: &mut Connection<S>) -> Result<(), StoreFault>
         → OnStore result (ShowsList (state S.Store conn.old).now.schema
         → (Lists First (seen S.Store conn.old) → SeesFirstStore (state S.Store conn.old))
         → IsOpen S.Store conn.old → StoreFailed S.Store conn.old conn.new) }
-    ensures foreign { ¬ (Lists First (seen S.Store conn.old))
-        → HasFailedOver ShowsList (state S.Store conn.old) (state S.Store conn.new) }
+    ensures knows { GoesByTexts S.Store conn.old conn.new result First }
     ensures clean { WasClean S.Store conn.old conn.new }
 {
     check_registry(conn, Edition::First)?;
@@ -200,50 +194,7 @@ fn take_first<S: Alter>(conn: &mut Connection<S>) -> Result<(), StoreFault>
 /// `Unreadable` if there are others than a registry's.
 pub(crate) fn prepare<S: Alter>(conn: &mut Connection<S>) -> Result<(), StoreFault>
     requires { conn.old.in_transaction ≡ false }
-    ensures made { DiskKept S.Store conn.new → OnOk result (IsOpen S.Store conn.old
-        → IsEmpty (stored S.Store conn.old) → HasTables S.Store conn.new no_tables) }
-    ensures found { DiskKept S.Store conn.new
-        → OnOk result ((t : Tables) → IsOpen S.Store conn.old → Holds (stored S.Store conn.old) t
-        → HasTables S.Store conn.new t) }
-    ensures registry { DiskKept S.Store conn.new
-        → OnOk result (IsOpen S.Store conn.old → HasOurTables (stored S.Store conn.old)
-        → IsRegistry S.Store conn.new) }
-    ensures carried { DiskKept S.Store conn.new
-        → OnOk result (IsOpen S.Store conn.old → IsSound first_schema (stored S.Store conn.old)
-        → IsCarriedOver (stored S.Store conn.old) (stored S.Store conn.new)) }
-    ensures upgraded { DiskKept S.Store conn.new
-        → OnOk result ((t : Tables) → IsOpen S.Store conn.old
-        → HoldsFirst (stored S.Store conn.old) t → HasTables S.Store conn.new t) }
-    ensures refused { DiskKept S.Store conn.new
-        → OnErr result ((t : Tables) → IsOpen S.Store conn.old → Holds (stored S.Store conn.old) t
-        → IsOpen S.Store conn.new → HasTables S.Store conn.new t) }
-    ensures refused_first { DiskKept S.Store conn.new
-        → OnErr result ((t : Tables) → IsOpen S.Store conn.old
-        → HoldsFirst (stored S.Store conn.old) t → IsOpen S.Store conn.new
-        → HasFirstTables S.Store conn.new t) }
-    ensures stays { DiskKept S.Store conn.new
-        → OnErr result (IsOpen S.Store conn.old → IsSound first_schema (stored S.Store conn.old)
-        → IsOpen S.Store conn.new → stored S.Store conn.new ≡ stored S.Store conn.old) }
-    ensures left_made { IsOpen S.Store conn.old → IsEmpty (stored S.Store conn.old)
-        → MayLeave S.Store conn.old conn.new no_tables }
-    ensures left_found { (t : Tables) → IsOpen S.Store conn.old → Holds (stored S.Store conn.old) t
-        → LeavesNothingNew S.Store conn.old conn.new }
-    ensures left_upgraded { (t : Tables) → IsOpen S.Store conn.old
-        → HoldsFirst (stored S.Store conn.old) t → MayLeave S.Store conn.old conn.new t }
-    ensures left_carried { IsOpen S.Store conn.old
-        → IsSound first_schema (stored S.Store conn.old)
-        → MayCarryOver S.Store conn.old conn.new }
-    ensures unreadable { DiskKept S.Store conn.new
-        → OnUnreadable result (IsOpen S.Store conn.old → ¬ (IsOpenable (stored S.Store conn.old))) }
-    ensures store { DiskKept S.Store conn.new
-        → OnStore result (IsOpen S.Store conn.old → IsKnownStore (stored S.Store conn.old)
-        → StoreFailed S.Store conn.old conn.new) }
-    ensures refuses { DiskKept S.Store conn.new
-        → OnOk result (IsOpen S.Store conn.old → ¬ (IsForeign (stored S.Store conn.old))) }
-    ensures foreign { IsOpen S.Store conn.old → IsForeign (stored S.Store conn.old)
-        → LeavesAlone S.Store conn.old conn.new }
-    ensures untouched { IsOpen S.Store conn.old → IsSound registry_schema (stored S.Store conn.old)
-        → LeavesAlone S.Store conn.old conn.new }
+    ensures opens { IsOpen S.Store conn.old → Opens S.Store conn.old conn.new result }
     ensures clean { WasClean S.Store conn.old conn.new }
 {
     // Outside a transaction a connection sees what is committed, which this call tells.

@@ -1,15 +1,12 @@
 //! The calls of a registry.
 
-ghost use Rattle.std.specs.Prelude.{OnOk, ◌≡◌, ◌≢◌, ◌≤◌, ◌+◌, false, IfOk, IfErr, IfSome, MatchOption, MatchResult, string_bytes};
+ghost use Rattle.std.specs.Prelude.{◌≡◌, ◌≢◌, ◌≤◌, ◌+◌, false, IfOk, IfErr, IfSome, MatchOption, MatchResult, string_bytes};
 ghost use Rattle.gm_state.specs.Rows.{Tables, copied_of, total_of};
-ghost use Rattle.gm_rows.specs.Tables.{Holds, HoldsFirst, IsEmpty, no_tables};
-ghost use Rattle.sqlite_catalog.specs.Listing.{IsSound};
-ghost use Rattle.gm_rows.specs.Schema.{first_schema, registry_schema};
-ghost use Rattle.gm_registry.specs.Opening.{HasOurTables, IsCarriedOver, IsOpenable, IsForeign, IsKnownStore};
+ghost use Rattle.gm_registry.specs.Opens.{OpensTo};
 ghost use Rattle.gm_registry.specs.Accepting.{Accepts};
 ghost use Rattle.gm_registry.specs.Changes.{with_accepted, with_pending, settled};
 ghost use Rattle.gm_registry.specs.Replies.{IsKept, IsFree, AreWrittenUnder, count_of};
-ghost use Rattle.gm_registry.specs.Registry.{DiskKept, IsOpen, stored, HasTables, HasFirstTables, IsRegistry, WasClean, MayLeave, MayCarryOver, LeavesNothingNew, LeavesAlone, StoreFailed, HasSaved, Reads, Writes};
+ghost use Rattle.gm_registry.specs.Registry.{DiskKept, IsOpen, HasTables, WasClean, StoreFailed, HasSaved, Reads, Writes};
 ghost use Rattle.gm_rows.specs.Faults.{OnUnreadable, OnStore};
 
 use crate::accept::accept_on;
@@ -52,59 +49,7 @@ impl<S: Alter> Registry<S> {
     /// if `about` isn't the one record (1, the number of their schema).
     pub fn open(mut store: Connection<S>) -> Result<Registry<S>, OpenFault<S>>
         requires { store.in_transaction ≡ false }
-        ensures made { IsOpen S.Store store → IsEmpty (stored S.Store store)
-            → IfOk result (λ c. DiskKept S.Store c → HasTables S.Store c no_tables) }
-        ensures found { (t : Tables) → IsOpen S.Store store → Holds (stored S.Store store) t
-            → IfOk result (λ c. DiskKept S.Store c → HasTables S.Store c t) }
-        // Of a store of the first schema.
-        ensures upgraded { (t : Tables) → IsOpen S.Store store
-            → HoldsFirst (stored S.Store store) t
-            → IfOk result (λ c. DiskKept S.Store c → HasTables S.Store c t) }
-        // Whatever rows the tables of a registry hold.
-        ensures registry { IsOpen S.Store store → HasOurTables (stored S.Store store)
-            → IfOk result (λ c. DiskKept S.Store c → IsRegistry S.Store c) }
-        ensures carried { IsOpen S.Store store → IsSound first_schema (stored S.Store store)
-            → IfOk result (λ c. DiskKept S.Store c
-            → IsCarriedOver (stored S.Store store) (stored S.Store c)) }
-        ensures refused { (t : Tables) → IsOpen S.Store store → Holds (stored S.Store store) t
-            → IfErr result (λ e. DiskKept S.Store e.store → IsOpen S.Store e.store
-            → HasTables S.Store e.store t) }
-        ensures refused_first { (t : Tables) → IsOpen S.Store store
-            → HoldsFirst (stored S.Store store) t
-            → IfErr result (λ e. DiskKept S.Store e.store → IsOpen S.Store e.store
-            → HasFirstTables S.Store e.store t) }
-        ensures stays { IsOpen S.Store store → IsSound first_schema (stored S.Store store)
-            → IfErr result (λ e. DiskKept S.Store e.store → IsOpen S.Store e.store
-            → stored S.Store e.store ≡ stored S.Store store) }
-        ensures left_made { IsOpen S.Store store → IsEmpty (stored S.Store store)
-            → MatchResult result (λ c. MayLeave S.Store store c no_tables)
-            (λ e. MayLeave S.Store store e.store no_tables) }
-        ensures left_found { (t : Tables) → IsOpen S.Store store → Holds (stored S.Store store) t
-            → MatchResult result (λ c. LeavesNothingNew S.Store store c)
-            (λ e. LeavesNothingNew S.Store store e.store) }
-        ensures left_upgraded { (t : Tables) → IsOpen S.Store store
-            → HoldsFirst (stored S.Store store) t
-            → MatchResult result (λ c. MayLeave S.Store store c t)
-            (λ e. MayLeave S.Store store e.store t) }
-        ensures left_carried { IsOpen S.Store store → IsSound first_schema (stored S.Store store)
-            → MatchResult result (λ c. MayCarryOver S.Store store c)
-            (λ e. MayCarryOver S.Store store e.store) }
-        // Of any other store, `Unreadable` comes only if it can't be opened.
-        ensures unreadable { IsOpen S.Store store
-            → IfErr result (λ e. DiskKept S.Store e.store → e.fault ≡ StoreFault.Unreadable
-            → ¬ (IsOpenable (stored S.Store store))) }
-        // On a disk that didn't fail, without a limit on steps, it is never `Store`.
-        ensures store { IsOpen S.Store store → IsKnownStore (stored S.Store store)
-            → IfErr result (λ e. DiskKept S.Store e.store → e.fault ≡ StoreFault.Store
-            → StoreFailed S.Store store e.store) }
-        ensures refuses { IsOpen S.Store store → IsForeign (stored S.Store store)
-            → IfOk result (λ c. ¬ (DiskKept S.Store c)) }
-        ensures foreign { IsOpen S.Store store → IsForeign (stored S.Store store)
-            → MatchResult result (λ c. LeavesAlone S.Store store c)
-            (λ e. LeavesAlone S.Store store e.store) }
-        ensures untouched { IsOpen S.Store store → IsSound registry_schema (stored S.Store store)
-            → MatchResult result (λ c. LeavesAlone S.Store store c)
-            (λ e. LeavesAlone S.Store store e.store) }
+        ensures opens { IsOpen S.Store store → OpensTo S.Store store result }
         ensures clean { MatchResult result (λ c. WasClean S.Store store c)
             (λ e. WasClean S.Store store e.store) }
     {

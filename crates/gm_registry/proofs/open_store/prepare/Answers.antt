@@ -5,7 +5,7 @@ use Rattle.sqlite.specs.Schema.{Schema}
 use Rattle.sqlite_catalog.specs.Listing.{IsSound}
 use Rattle.sqlite.proofs.StateLemmas.{survives_weaker}
 use Rattle.sqlite_rows.proofs.Reading.{failed_closer, failed_leaves_over, known_closer}
-use Rattle.sqlite_rows.proofs.Refusing.{map_ok, if_err, both_ok, on_ok, on_err}
+use Rattle.sqlite_rows.proofs.Refusing.{map_ok, if_err, both_ok, on_err}
 use Rattle.gm_rows.proofs.RowsSayRecords.{passed_on}
 use Rattle.gm_rows.specs.Schema.{no_schema}
 use Rattle.gm_registry.specs.Listing.{Lists, ShowsList}
@@ -14,7 +14,7 @@ use Rattle.gm_registry.specs.Reads.{IsOurSchema}
 use Rattle.gm_registry.specs.declared.edition.Edition.{Edition}
 use Rattle.gm_registry.specs.declared.edition.Edition.TheVariants.{First, Second}
 use Rattle.gm_registry.proofs.CarriedOver.{first_still, holds_over, sees_over}
-use Rattle.gm_registry.proofs.OpenedConnection.{IsJustOpened, blank, edition_seen, first_store, foreign_shown, has_first, has_tables, no_registry, not_empty, not_first, not_second, nothing_foreign, of_registry, only_first, only_second, registry_there}
+use Rattle.gm_registry.proofs.OpenedConnection.{IsJustOpened, blank, edition_seen, first_store, foreign_shown, has_first, has_tables, no_registry, not_empty, not_first, not_second, nothing_foreign, of_registry, only_first, only_second, registry_there, stored_as}
 use Rattle.gm_registry.proofs.ReadsInTurn.{nothing_new, tables_refused, tables_stay}
 use Rattle.gm_registry.proofs.Texts.{ours_known}
 use Rattle.gm_registry.proofs.open_store.prepare.Goals as goal
@@ -34,35 +34,26 @@ returns-in_err-create_all g c =
     sym c.schema.ensures.value ∙ c.is_empty.ensures.0 c.if-is_empty.true in
     let result = c.from_residual.result in
     record {
-      made = search rules;
-      found = search rules;
-      registry = search rules;
-      carried = search rules;
-      upgraded = search rules;
-      refused = λ clean. on_err result _ (λ t is_open holds still.
-          absurd (no_registry s opened is_open nothing Second holds.sound));
-      refused_first = λ clean. on_err result _ (λ t is_open holds still.
-          absurd (no_registry s opened is_open nothing First holds.sound));
-      stays = λ clean. on_err result _ (λ is_open sound still.
-          absurd (no_registry s opened is_open nothing First sound));
-      left_made = λ is_open empty. c.in_err-create_all.ensures.left (blank s opened is_open empty);
-      left_found = λ t is_open holds.
-          absurd (no_registry s opened is_open nothing Second holds.sound);
-      left_upgraded = λ t is_open holds.
-          absurd (no_registry s opened is_open nothing First holds.sound);
-      left_carried = λ is_open sound.
-          absurd (no_registry s opened is_open nothing First sound);
-      unreadable = search rules;
-      store = λ clean. passed_on result _ _ (λ e same is is_open some. elim some [
-        | inl empty ↦ c.in_err-create_all.ensures.store clean (sym same ∙ is)
-            (blank s opened is_open empty)
-        | inr (inl has) ↦ absurd (no_registry s opened is_open nothing has.0 has.1)
-        | inr (inr foreign) ↦ absurd (nothing_foreign s opened is_open nothing foreign)
-      ]) c.from_residual.ensures.1;
-      refuses = search rules;
-      foreign = λ is_open foreign. absurd (nothing_foreign s opened is_open nothing foreign);
-      untouched = λ is_open sound.
-          absurd (no_registry s opened is_open nothing Second sound);
+      opens = λ is_open. record {
+        opened = search rules;
+        left = stored_as s.committed.trees _
+            (λ t holds. absurd (no_registry s opened is_open nothing Second holds.sound))
+            (λ t first. absurd (no_registry s opened is_open nothing First first.sound))
+            (λ empty. c.in_err-create_all.ensures.left (blank s opened is_open empty));
+        registry = search rules;
+        second = λ sound. absurd (no_registry s opened is_open nothing Second sound);
+        first = λ sound. absurd (no_registry s opened is_open nothing First sound);
+        other = λ foreign. absurd (nothing_foreign s opened is_open nothing foreign);
+        fails = record {
+          unreadable = search rules;
+          store = λ clean. passed_on result _ _ (λ e same is some. elim some [
+            | inl empty ↦ c.in_err-create_all.ensures.store clean (sym same ∙ is)
+                (blank s opened is_open empty)
+            | inr (inl has) ↦ absurd (no_registry s opened is_open nothing has.0 has.1)
+            | inr (inr foreign) ↦ absurd (nothing_foreign s opened is_open nothing foreign)
+          ]) c.from_residual.ensures.1;
+        };
+      };
       clean = search rules;
     }
 
@@ -78,30 +69,21 @@ returns-then-is_empty g c =
     let nothing : s.now.schema ≡ no_schema =
     sym c.schema.ensures.value ∙ c.is_empty.ensures.0 c.if-is_empty.true in
     record {
-      made = λ clean is_open empty.
-          c.in_ok-create_all.ensures.made clean (blank s opened is_open empty);
-      found = λ clean t is_open holds.
-          absurd (no_registry s opened is_open nothing Second holds.sound);
-      registry = λ clean is_open has. absurd (no_registry s opened is_open nothing has.0 has.1);
-      carried = λ clean is_open sound. absurd (no_registry s opened is_open nothing First sound);
-      upgraded = λ clean t is_open holds.
-          absurd (no_registry s opened is_open nothing First holds.sound);
-      refused = search rules;
-      refused_first = search rules;
-      stays = search rules;
-      left_made = λ is_open empty. c.in_ok-create_all.ensures.left (blank s opened is_open empty);
-      left_found = λ t is_open holds.
-          absurd (no_registry s opened is_open nothing Second holds.sound);
-      left_upgraded = λ t is_open holds.
-          absurd (no_registry s opened is_open nothing First holds.sound);
-      left_carried = λ is_open sound.
-          absurd (no_registry s opened is_open nothing First sound);
-      unreadable = search rules;
-      store = search rules;
-      refuses = λ clean is_open foreign. nothing_foreign s opened is_open nothing foreign;
-      foreign = λ is_open foreign. absurd (nothing_foreign s opened is_open nothing foreign);
-      untouched = λ is_open sound.
-          absurd (no_registry s opened is_open nothing Second sound);
+      opens = λ is_open. record {
+        opened = λ clean. stored_as s.committed.trees _
+            (λ t holds. absurd (no_registry s opened is_open nothing Second holds.sound))
+            (λ t first. absurd (no_registry s opened is_open nothing First first.sound))
+            (λ empty. c.in_ok-create_all.ensures.made clean (blank s opened is_open empty));
+        left = stored_as s.committed.trees _
+            (λ t holds. absurd (no_registry s opened is_open nothing Second holds.sound))
+            (λ t first. absurd (no_registry s opened is_open nothing First first.sound))
+            (λ empty. c.in_ok-create_all.ensures.left (blank s opened is_open empty));
+        registry = λ clean has. absurd (no_registry s opened is_open nothing has.0 has.1);
+        second = λ sound. absurd (no_registry s opened is_open nothing Second sound);
+        first = λ sound. absurd (no_registry s opened is_open nothing First sound);
+        other = λ foreign. absurd (nothing_foreign s opened is_open nothing foreign);
+        fails = record { unreadable = search rules; store = search rules };
+      };
       clean = search rules;
     }
 
@@ -124,64 +106,69 @@ returns-in-First g c =
     let result = c.take_first.result in
     let it = c.take_first.ensures in
     record {
-      made = λ clean. on_ok result _
-          (λ is_open empty. absurd (not_empty s opened is_open some empty));
-      found = λ clean. on_ok result _
-          (λ t is_open holds. absurd (not_second s opened is_open only holds.sound));
-      registry = λ clean. map_ok result _ _ (λ over is_open has.
-          (over (first_store s opened is_open (only_first s opened is_open only
-          (λ edition. IsSound (schema_of edition) s.committed.trees) (λ edition sound. sound)
-          has))).0) (it.carried clean);
-      carried = λ clean. map_ok result _ _
-          (λ over is_open sound. (over (first_store s opened is_open sound)).1) (it.carried clean);
-      upgraded = λ clean. map_ok result _ _ (λ over t is_open holds.
-          let both = over (first_store s opened is_open holds.sound) in
-          sees_over s new t holds both.0 both.1) (it.carried clean);
-      refused = λ clean. on_err result _
-          (λ t is_open holds still. absurd (not_second s opened is_open only holds.sound));
-      refused_first = λ clean. if_err result _ _ (λ e stays t is_open holds still.
-          first_still s new t (has_first s opened is_open t holds)
-          (stays (first_store s opened is_open holds.sound) still)) (it.stays clean);
-      stays = λ clean. if_err result _ _ (λ e stays is_open sound still.
-          ap (λ (d : Database). d.trees) (stays (first_store s opened is_open sound)
-          still).committed_is) (it.stays clean);
-      left_made = λ is_open empty. absurd (not_empty s opened is_open some empty);
-      left_found = λ t is_open holds. absurd (not_second s opened is_open only holds.sound);
-      left_upgraded = λ t is_open holds. survives_weaker s new _ _
-          (λ clean db over. holds_over s.committed.trees db t holds over)
-          (it.left (first_store s opened is_open holds.sound));
-      left_carried = λ is_open sound. it.left (first_store s opened is_open sound);
-      unreadable = λ clean. if_err result _ _ (λ e none is is_open openable. elim openable [
-        | inl empty ↦ not_empty s opened is_open some empty
-        | inr of ↦
-            let first = only_first s opened is_open only
-            (λ edition. IsOfEdition edition s.committed.trees) (λ edition i. i.sound) of in
-            none is (of_registry s opened is_open (First, first.sound))
-            (subst (λ (d : Database). Lists First d.trees) (sym (opened.settled is_open))
-            first.listed)
-            (subst (λ (d : Database). IsNumbered First d.trees) (sym (opened.settled is_open))
-            first.numbered)
-      ]) (it.unreadable clean);
-      store = λ clean. if_err result _ _ (λ e failed is is_open known. elim known [
-        | inl empty ↦ absurd (not_empty s opened is_open some empty)
-        | inr (inl has) ↦
-            let sound = only_first s opened is_open only
-            (λ edition. IsSound (schema_of edition) s.committed.trees) (λ edition i. i) has in
-            failed is (ours_known _ (of_registry s opened is_open has))
-            (λ _. first_store s opened is_open sound) is_open
-        | inr (inr foreign) ↦ failed is (foreign_shown s opened is_open foreign)
-            (λ lists. absurd (foreign.other First (subst (λ (d : Database). Lists First d.trees)
-            (opened.settled is_open) lists))) is_open
-      ]) (it.store clean);
-      refuses = λ clean. map_ok result _ _ (λ lists is_open foreign.
-          foreign.other First (subst (λ (d : Database). Lists First d.trees)
-          (opened.settled is_open) (lists (foreign_shown s opened is_open foreign))))
-          (it.texts clean);
-      foreign = λ is_open foreign. failed_leaves_over ShowsList s new
-          (foreign_shown s opened is_open foreign) (it.foreign (λ lists.
-          foreign.other First (subst (λ (d : Database). Lists First d.trees)
-          (opened.settled is_open) lists)));
-      untouched = λ is_open sound. absurd (not_second s opened is_open only sound);
+      opens = λ is_open. record {
+        opened = λ clean. map_ok result _ _ (λ over. stored_as s.committed.trees _
+            (λ t holds. absurd (not_second s opened is_open only holds.sound))
+            (λ t first.
+            let both = over (first_store s opened is_open first.sound) in
+            sees_over s new t first both.0 both.1)
+            (λ empty. absurd (not_empty s opened is_open some empty))) (it.carried clean);
+        left = stored_as s.committed.trees _
+            (λ t holds. absurd (not_second s opened is_open only holds.sound))
+            (λ t first. survives_weaker s new _ _
+            (λ clean db over. holds_over s.committed.trees db t first over)
+            (it.left (first_store s opened is_open first.sound)))
+            (λ empty. absurd (not_empty s opened is_open some empty));
+        registry = λ clean. map_ok result _ _ (λ over has.
+            (over (first_store s opened is_open (only_first s opened is_open only
+            (λ edition. IsSound (schema_of edition) s.committed.trees) (λ edition sound. sound)
+            has))).0) (it.carried clean);
+        second = λ sound. absurd (not_second s opened is_open only sound);
+        first = λ sound. record {
+          done = λ clean. map_ok result _ _
+              (λ over. (over (first_store s opened is_open sound)).1) (it.carried clean);
+          stays = λ clean. if_err result _ _ (λ e stays still.
+              ap (λ (d : Database). d.trees) (stays (first_store s opened is_open sound)
+              still).committed_is) (it.stays clean);
+          refused = λ clean. if_err result _ _ (λ e stays t holds still.
+              first_still s new t (has_first s opened is_open t holds)
+              (stays (first_store s opened is_open sound) still)) (it.stays clean);
+          left = it.left (first_store s opened is_open sound);
+        };
+        other = λ foreign. record {
+          refused = λ clean. map_ok result _ _ (λ lists.
+              foreign.other First (subst (λ (d : Database). Lists First d.trees)
+              (opened.settled is_open) (lists (foreign_shown s opened is_open foreign))))
+              (it.knows.texts clean);
+          alone = failed_leaves_over ShowsList s new (foreign_shown s opened is_open foreign)
+              (it.knows.foreign (λ lists. foreign.other First
+              (subst (λ (d : Database). Lists First d.trees) (opened.settled is_open) lists)));
+        };
+        fails = record {
+          unreadable = λ clean. if_err result _ _ (λ e none is openable. elim openable [
+            | inl empty ↦ not_empty s opened is_open some empty
+            | inr of ↦
+                let first = only_first s opened is_open only
+                (λ edition. IsOfEdition edition s.committed.trees) (λ edition i. i.sound) of in
+                none is (of_registry s opened is_open (First, first.sound))
+                (subst (λ (d : Database). Lists First d.trees) (sym (opened.settled is_open))
+                first.listed)
+                (subst (λ (d : Database). IsNumbered First d.trees) (sym (opened.settled is_open))
+                first.numbered)
+          ]) (it.unreadable clean);
+          store = λ clean. if_err result _ _ (λ e failed is known. elim known [
+            | inl empty ↦ absurd (not_empty s opened is_open some empty)
+            | inr (inl has) ↦
+                let sound = only_first s opened is_open only
+                (λ edition. IsSound (schema_of edition) s.committed.trees) (λ edition i. i) has in
+                failed is (ours_known _ (of_registry s opened is_open has))
+                (λ _. first_store s opened is_open sound) is_open
+            | inr (inr foreign) ↦ failed is (foreign_shown s opened is_open foreign)
+                (λ lists. absurd (foreign.other First (subst (λ (d : Database). Lists First d.trees)
+                (opened.settled is_open) lists))) is_open
+          ]) (it.store clean);
+        };
+      };
       clean = it.clean;
     }
 
@@ -206,61 +193,62 @@ returns-in-Second g c =
     let known : (x : Schema) → IsOurSchema x → IsOfRegistry x = λ x is. (Second, is) in
     let failed = failed_closer IsOfRegistry IsOurSchema known s new it.failed in
     record {
-      made = λ clean. on_ok result _
-          (λ is_open empty. absurd (not_empty s opened is_open some empty));
-      found = λ clean. map_ok result _ _ (λ read t is_open holds.
-          tables_stay s new t (known_closer IsOfRegistry IsOurSchema known s new read) clean
-          (has_tables s opened is_open t holds)) it.read;
-      registry = λ clean. both_ok result _ _ _ (λ about read is_open has.
-          let sound = only_second s opened is_open only
-          (λ edition. IsSound (schema_of edition) s.committed.trees) (λ edition i. i) has in
-          let ours = of_registry s opened is_open has in
-          registry_there s opened is_open new sound (read.unchanged clean ours) (about ours))
-          (it.about clean) it.read;
-      carried = λ clean. on_ok result _
-          (λ is_open sound. absurd (not_first s opened is_open only sound));
-      upgraded = λ clean. on_ok result _
-          (λ t is_open holds. absurd (not_first s opened is_open only holds.sound));
-      refused = λ clean. on_err result _ (λ t is_open holds still.
-          tables_refused s new t failed clean (has_tables s opened is_open t holds) still);
-      refused_first = λ clean. on_err result _
-          (λ t is_open holds still. absurd (not_first s opened is_open only holds.sound));
-      stays = λ clean. on_err result _
-          (λ is_open sound still. absurd (not_first s opened is_open only sound));
-      left_made = λ is_open empty. absurd (not_empty s opened is_open some empty);
-      left_found = λ t is_open holds.
-          nothing_new s new t failed.left (has_tables s opened is_open t holds);
-      left_upgraded = λ t is_open holds. absurd (not_first s opened is_open only holds.sound);
-      left_carried = λ is_open sound. absurd (not_first s opened is_open only sound);
-      unreadable = λ clean. if_err result _ _ (λ e none is is_open openable. elim openable [
-        | inl empty ↦ not_empty s opened is_open some empty
-        | inr of ↦
-            let second = only_second s opened is_open only
-            (λ edition. IsOfEdition edition s.committed.trees) (λ edition i. i.sound) of in
-            none is (of_registry s opened is_open (Second, second.sound))
-            (subst (λ (d : Database). Lists Second d.trees) (sym (opened.settled is_open))
-            second.listed)
-            (subst (λ (d : Database). IsNumbered Second d.trees) (sym (opened.settled is_open))
-            second.numbered)
-      ]) (it.unreadable clean);
-      store = λ clean. if_err result _ _ (λ e fails is is_open there. elim there [
-        | inl empty ↦ absurd (not_empty s opened is_open some empty)
-        | inr (inl has) ↦
+      opens = λ is_open. record {
+        opened = λ clean. map_ok result _ _ (λ read. stored_as s.committed.trees _
+            (λ t holds. tables_stay s new t
+            (known_closer IsOfRegistry IsOurSchema known s new read) clean
+            (has_tables s opened is_open t holds))
+            (λ t first. absurd (not_first s opened is_open only first.sound))
+            (λ empty. absurd (not_empty s opened is_open some empty))) it.read;
+        left = stored_as s.committed.trees _
+            (λ t holds. survives_weaker s new _ _ (λ _ db none. absurd none)
+            (nothing_new s new t failed.left (has_tables s opened is_open t holds)))
+            (λ t first. absurd (not_first s opened is_open only first.sound))
+            (λ empty. absurd (not_empty s opened is_open some empty));
+        registry = λ clean. both_ok result _ _ _ (λ about read has.
+            let sound = only_second s opened is_open only
+            (λ edition. IsSound (schema_of edition) s.committed.trees) (λ edition i. i) has in
             let ours = of_registry s opened is_open has in
-            fails is (ours_known _ ours) (λ _. ours) is_open
-        | inr (inr foreign) ↦ fails is (foreign_shown s opened is_open foreign)
-            (λ lists. absurd (foreign.other Second (subst (λ (d : Database). Lists Second d.trees)
-            (opened.settled is_open) lists))) is_open
-      ]) (it.store clean);
-      refuses = λ clean. map_ok result _ _ (λ lists is_open foreign.
-          foreign.other Second (subst (λ (d : Database). Lists Second d.trees)
-          (opened.settled is_open) (lists (foreign_shown s opened is_open foreign))))
-          (it.texts clean);
-      foreign = λ is_open foreign. failed_leaves_over ShowsList s new
-          (foreign_shown s opened is_open foreign) (it.foreign (λ lists.
-          foreign.other Second (subst (λ (d : Database). Lists Second d.trees)
-          (opened.settled is_open) lists)));
-      untouched = λ is_open sound. failed_leaves_over IsOurSchema s new
-          (edition_seen s opened is_open Second sound) failed;
+            registry_there s opened is_open new sound (read.unchanged clean ours) (about ours))
+            (it.about clean) it.read;
+        second = λ sound. record {
+          alone = failed_leaves_over IsOurSchema s new
+              (edition_seen s opened is_open Second sound) failed;
+          refused = λ clean. on_err result _ (λ t holds still.
+              tables_refused s new t failed clean (has_tables s opened is_open t holds) still);
+        };
+        first = λ sound. absurd (not_first s opened is_open only sound);
+        other = λ foreign. record {
+          refused = λ clean. map_ok result _ _ (λ lists.
+              foreign.other Second (subst (λ (d : Database). Lists Second d.trees)
+              (opened.settled is_open) (lists (foreign_shown s opened is_open foreign))))
+              (it.texts clean);
+          alone = failed_leaves_over ShowsList s new (foreign_shown s opened is_open foreign)
+              (it.foreign (λ lists. foreign.other Second
+              (subst (λ (d : Database). Lists Second d.trees) (opened.settled is_open) lists)));
+        };
+        fails = record {
+          unreadable = λ clean. if_err result _ _ (λ e none is openable. elim openable [
+            | inl empty ↦ not_empty s opened is_open some empty
+            | inr of ↦
+                let second = only_second s opened is_open only
+                (λ edition. IsOfEdition edition s.committed.trees) (λ edition i. i.sound) of in
+                none is (of_registry s opened is_open (Second, second.sound))
+                (subst (λ (d : Database). Lists Second d.trees) (sym (opened.settled is_open))
+                second.listed)
+                (subst (λ (d : Database). IsNumbered Second d.trees) (sym (opened.settled is_open))
+                second.numbered)
+          ]) (it.unreadable clean);
+          store = λ clean. if_err result _ _ (λ e fails is there. elim there [
+            | inl empty ↦ absurd (not_empty s opened is_open some empty)
+            | inr (inl has) ↦
+                let ours = of_registry s opened is_open has in
+                fails is (ours_known _ ours) (λ _. ours) is_open
+            | inr (inr foreign) ↦ fails is (foreign_shown s opened is_open foreign)
+                (λ lists. absurd (foreign.other Second (subst (λ (d : Database). Lists Second d.trees)
+                (opened.settled is_open) lists))) is_open
+          ]) (it.store clean);
+        };
+      };
       clean = failed.left.clean;
     }

@@ -1,4 +1,4 @@
-use Rattle.std.proofs.Common.{◌∙◌, sym, subst, arith}
+use Rattle.std.proofs.Common.{◌∙◌, rules, sym, subst, arith}
 use Rattle.sqlite.specs.Effect.{Database}
 use Rattle.sqlite.specs.Held.{state}
 use Rattle.sqlite.specs.State.{HasCleanDisk}
@@ -83,16 +83,24 @@ returns-in_err-carry_over-clause-store g c clean =
     (first_found s0 s1 s2 checked.read checked.about early
     (only (checked.texts early shows))))) c.from_residual-in_err-carry_over.ensures.1
 
-pub returns-clause-foreign : goal.returns-clause-foreign
-returns-clause-foreign g c =
-    still_foreign First (state g.S.Store c.args.conn.now)
-    (state g.S.Store c.check_registry.new.conn) (state g.S.Store c.carry_over.new.conn)
-    c.in_ok-check_registry.ensures.texts c.in_ok-check_registry.ensures.read
-    c.carry_over.ensures.survives
+pub returns-in_err-check_registry-clause-knows : goal.returns-in_err-check_registry-clause-knows
+returns-in_err-check_registry-clause-knows g c =
+    record { texts = search rules; foreign = search rules }
 
-pub returns-in_err-carry_over-clause-foreign : goal.returns-in_err-carry_over-clause-foreign
-returns-in_err-carry_over-clause-foreign g c =
-    still_foreign First (state g.S.Store c.args.conn.now)
-    (state g.S.Store c.check_registry.new.conn) (state g.S.Store c.carry_over.new.conn)
-    c.in_ok-check_registry.ensures.texts c.in_ok-check_registry.ensures.read
-    c.carry_over.ensures.survives
+pub returns-clause-knows : goal.returns-clause-knows
+returns-clause-knows g c = record {
+  texts = search rules;
+  foreign = still_foreign First (state g.S.Store c.args.conn.now)
+      (state g.S.Store c.check_registry.new.conn) (state g.S.Store c.carry_over.new.conn)
+      c.in_ok-check_registry.ensures.texts c.in_ok-check_registry.ensures.read
+      c.carry_over.ensures.survives;
+}
+
+pub returns-in_err-carry_over-clause-knows : goal.returns-in_err-carry_over-clause-knows
+returns-in_err-carry_over-clause-knows g c = record {
+  texts = search rules;
+  foreign = still_foreign First (state g.S.Store c.args.conn.now)
+      (state g.S.Store c.check_registry.new.conn) (state g.S.Store c.carry_over.new.conn)
+      c.in_ok-check_registry.ensures.texts c.in_ok-check_registry.ensures.read
+      c.carry_over.ensures.survives;
+}

@@ -1,11 +1,7 @@
 use Rattle.gm_registry.proofs.registry.Registry.open.Goals as goal
 
-pub returns-in-Ok-clause-made : goal.returns-in-Ok-clause-made
-returns-in-Ok-clause-made g c is_open empty clean = c.in-Ok.ensures.made clean is_open empty
+pub returns-in-Ok-clause-opens : goal.returns-in-Ok-clause-opens
+returns-in-Ok-clause-opens g c is_open = c.in-Ok.ensures.opens is_open
 
-pub returns-in-Ok-clause-registry : goal.returns-in-Ok-clause-registry
-returns-in-Ok-clause-registry g c is_open sound clean = c.in-Ok.ensures.registry clean is_open sound
-
-pub returns-in-Err-clause-store : goal.returns-in-Err-clause-store
-returns-in-Err-clause-store g c is_open known clean is =
-    c.in-Err.ensures.store clean is is_open known
+pub returns-in-Err-clause-opens : goal.returns-in-Err-clause-opens
+returns-in-Err-clause-opens g c is_open = c.in-Err.ensures.opens is_open

@@ -1,4 +1,4 @@
-//! The refusals of a command, each by a test of its own.
+//! Whether a refusal applies to a command: a predicate for each.
 
 ghost use Rattle.std.specs.Prelude.{◌≡◌, ◌==◌, ◌+◌, ◌&&◌, not, nat_lt, find, is_none, is_some, length, filter};
 ghost use Rattle.std.specs.List.{list_all, list_any};
