@@ -122,6 +122,7 @@ module _ {S H : Type 0} (g : Ghosts S) (view : H → View) (size : H → Sizes) 
             shelf = k;
             sizes = sizes;
             accepting = left_step away v u stands;
+            pending = (work, d.at);
             carrying = goes away u d.world d.at;
           } in
           let standing : Stands g view size q s l away u d.world =
@@ -144,7 +145,7 @@ module _ {S H : Type 0} (g : Ghosts S) (view : H → View) (size : H → Sizes) 
             shelf = k;
             sizes = sizes;
             accepting = left_step away v u stands;
-            carrying = inr (d.world, reply, d.calls.3, goes away u d.world d.at);
+            carrying = inr (d.world, reply, d.calls.3, (work, d.at), goes away u d.world d.at);
           })
 
 -- a command that was handed in to a bench at rest, and what is settled then
@@ -187,6 +188,7 @@ module _ {S H : Type 0} (g : Ghosts S) (view : H → View) (size : H → Sizes) 
       it.0,
       told,
       it.1.3,
+      it.2.pending,
       then_only g view size it.2.registry mid s it.2.shelf k l away u it.0 same
           (sizes ∙ sym it.2.sizes) it.2.carrying (settling u it.0 it.3),
     );

@@ -1,6 +1,6 @@
 -- What a call leaves that asks the rules, and writes nothing.
 use Rattle.std.proofs.Common.{◌≡◌, ◌∙◌, inl, inr, ℕ, ◌≤◌, ◌<◌, Bool, true, false, List, ap, subst, subst₂, sym, nat_le, arith, refl}
-use Rattle.std.specs.Prelude.{Result, Ok, Err, IfOk}
+use Rattle.std.specs.Prelude.{Result, Ok, Err, IfOk, IfErr}
 use Rattle.std.proofs.lemmas.Bool.Decides.{nat_tests}
 use Rattle.sqlite_trees.specs.declared.store.Store.{Ghosts}
 use Rattle.sqlite.specs.Held.{Held}
@@ -22,6 +22,7 @@ use Rattle.gm_bench.specs.declared.fault.BenchFault.{BenchFault}
 use Rattle.gm_bench.specs.declared.media.Media.{Media}
 use Rattle.gm_bench.specs.declared.take_up_without.TakenUp.{TakenUp}
 use Rattle.gm_bench.specs.Accepting.{OrStep, LeavesStep}
+use Rattle.gm_bench.specs.Faults.{IsOfRegistry}
 use Rattle.gm_bench.specs.GivingUp.{OnlyLooksUp, StaysUnlost}
 use Rattle.gm_bench.specs.Leading.{AllLead}
 use Rattle.gm_bench.specs.Recovering.{IsAt, IsCarriedOut, IsFound, IsShelfOf, Recovers}
@@ -199,6 +200,22 @@ reads_then g r mid s has first second = record {
   left = λ t h. nothing_then g r mid s (first.left t h) (second.left t (has t h));
   clean = let one = first.clean in
       let two = second.clean in omega (arith, one, two);
+}
+
+-- a read that leaves the shelf, and then a look for a loss
+pub looks_then : {S H T U : Type 0} (g : Ghosts S) (old mid new : Media S H)
+    (looked : Result T BenchFault) (result : Result U BenchFault) → mid.shelf ≡ old.shelf
+    → Reads g old.registry mid.registry → OnlyLooksUp g mid new looked
+    → (DiskKept g mid.registry → (t : Tables) → HasTables g old.registry t
+    → HasTables g mid.registry t) → IfErr result IsOfRegistry → OnlyLooksUp g old new result
+looks_then g old mid new looked result shelf reads looks has fault = record {
+  shelf = looks.shelf ∙ shelf;
+  clean = let one = reads.clean in
+      let two = looks.clean in omega (arith, one, two);
+  reads = λ clean.
+      let early : DiskKept g mid.registry = omega (arith, looks.clean, clean) in
+      reads_then g old.registry mid.registry new.registry (has early) reads (looks.reads clean);
+  fault = fault;
 }
 
 -- a registry that wasn't asked for anything

@@ -7,17 +7,19 @@ use Rattle.gm_metadata.specs.Images.{Image, Sizes}
 use Rattle.gm_shelf.specs.Disk.{View, IsLawful}
 use Rattle.gm_rules.specs.AbstractCalls.{Call}
 use Rattle.gm_state.specs.declared.intents.Intent.{Intent}
+use Rattle.gm_state.specs.Records.{Records}
 use Rattle.gm_state.specs.World.{World}
 use Rattle.gm_state.specs.Rows.{Tables}
 use Rattle.gm_registry.specs.Registry.{CrashLeaves, CrashLeavesOnly, DiskKept, HasTables, LeavesNothingNew}
 use Rattle.gm_bench.specs.declared.loss.Loss.{Loss}
+use Rattle.gm_bench.specs.Leading.{AllLead}
 use Rattle.gm_bench.specs.Presence.{first_absent}
 use Rattle.gm_bench.specs.Recovering.{Cover, IsAt, IsFound, LeavesOnly}
 use Rattle.gm_bench.specs.Schedule.{LeavesCommit}
 use Rattle.gm_bench.specs.Without.{Commits, IsLost, LeavesLoss, LeavesOpened}
 use Rattle.gm_bench.proofs.Found.{covered, ready}
 use Rattle.gm_bench.proofs.RegistryLeaves.{leads_in, read_only}
-use Rattle.gm_bench.proofs.TakenUp.{absent_back, moved}
+use Rattle.gm_bench.proofs.TakenUp.{absent_back, leaves_back, moved}
 
 module _ {S H : Type 0} (g : Ghosts S) (view : H → View) (size : H → Sizes) where
   -- nothing was written
@@ -66,6 +68,24 @@ module _ {S H : Type 0} (g : Ghosts S) (view : H → View) (size : H → Sizes) 
       subst (λ (x : H). LeavesOnly g view size r mid h x away u w) (sym same)
       (read_only g view size r mid h h away at.tables ts bytes u w (only at.tables at.has) clean
       (left at.tables at.has) (λ x l. at.leads x (lawful.only_now x l)) at.leads)
+
+  -- what was loaded is carried out over it
+  pub finished_opened : (key p : List ℕ) (state : Records) (is : List Intent)
+      (laid : List (List ℕ)) (s : Held S) (l : H)
+      → ((away : Image) (ts : List Intent) (bytes : List (List ℕ)) (u w : World)
+      → (at : IsFound g view size r h away ts bytes u w)
+      → (state ≡ w.state) × (is ≡ ts) × (laid ≡ bytes) × HasTables g mid at.tables)
+      → ((away : Image) (u w : World) → (at : IsFound g view size mid k away is laid u w)
+      → state ≡ w.state
+      → AllLead at.tables is laid (size k) away ((view l).left_since (view k).moment) u w)
+      → ((away : Image) (u w : World) → IsFound g view size mid k away is laid u w
+      → state ≡ w.state → LeavesOnly g view size mid s k l away u w)
+      → LeavesOpened g view size key p r s h l
+  finished_opened key p state is laid s l loaded moments leaves away ts bytes u w at =
+      let was = loaded away ts bytes u w at in
+      let found = moved g view size r mid h k away ts bytes u w at same is was.1 laid was.2 was.3 in
+      leaves_back g view size r mid h k away ts bytes u w at same is was.1 laid was.2 s l
+      (only at.tables at.has) (moments away u w found was.0) (leaves away u w found was.0)
 
   pub lost_behind : (B : Image → List Intent → List (List ℕ) → World → World → Type 0) (call : Call)
       (p : List ℕ)

@@ -1,20 +1,17 @@
 -- What room for rows a registry has that was opened.
-use Rattle.std.proofs.Common.{◌≡◌, ◌∙◌, inl, inr, List, [], map, sym, subst, arith}
+use Rattle.std.proofs.Common.{◌≡◌, ◌∙◌, inl, inr, Ok, List, [], map, sym, subst, arith}
 use Rattle.std.proofs.lemmas.List.{length-map, nil_from_length}
 use Rattle.std.specs.List.Sorted.{IsPermutation}
 use Rattle.std.proofs.lemmas.List.Sorted.{length_permutation}
 use Rattle.sqlite.specs.Effect.{Database}
 use Rattle.sqlite.specs.Held.{Held}
-use Rattle.sqlite_catalog.specs.Listing.{IsSound}
 use Rattle.sqlite_trees.specs.declared.store.Store.{Ghosts}
 use Rattle.gm_state.specs.Rows.{Tables}
-use Rattle.gm_rows.specs.Schema.{first_schema, registry_schema}
-use Rattle.gm_registry.specs.Opening.{IsCarriedOver}
 use Rattle.gm_rows.specs.Tables.{no_tables}
 use Rattle.gm_registry.specs.Fitting.{HasRoom}
-use Rattle.gm_registry.specs.Registry.{DiskKept, HasTables, LeavesAlone, seen, stored}
+use Rattle.gm_registry.specs.Opens.{IsStored, Opens}
+use Rattle.gm_registry.specs.Registry.{DiskKept, HasTables, seen, stored}
 use Rattle.gm_bench.specs.Calls.{most_rows}
-use Rattle.gm_bench.specs.Recovering.{IsStored}
 
 -- a table of no records has no rows
 none_kept : {A B : Type 0} (part : A → B) (rows : List A) → IsPermutation [] (map part rows)
@@ -36,20 +33,18 @@ module _ {S : Type 0} (g : Ghosts S) (start mid : Held S) where
       })
 
   -- that of the store, whose rows stay; and in tables that were made there is room
-  pub room_opened : (IsSound registry_schema (stored g start) → LeavesAlone g start mid)
-      → (IsSound first_schema (stored g start) → DiskKept g mid
-      → IsCarriedOver (stored g start) (stored g mid)) → DiskKept g mid
+  pub room_opened : Opens g start mid (Ok tt) → DiskKept g mid
       → (t : Tables) → IsStored (stored g start) t → HasTables g mid t
       → HasRoom most_rows (stored g start) → HasRoom most_rows (seen g mid)
-  room_opened untouched carried clean t (inl holds) has room =
-      let same = has.settled ∙ (untouched holds.sound).tables clean has.is_open in
+  room_opened it clean t (inl holds) has room =
+      let same = has.settled ∙ (it.second holds.sound).alone.tables clean has.is_open in
       subst (λ (d : Database). HasRoom most_rows d.trees) (sym same) room
-  room_opened untouched carried clean t (inr (inl first)) has room =
-      let over = carried first.sound clean in
+  room_opened it clean t (inr (inl first)) has room =
+      let over = (it.first first.sound).done clean in
       subst (λ (d : Database). HasRoom most_rows d.trees) (sym has.settled) (record {
         mirrors = rw over.mirrors room.mirrors;
         components = rw over.components room.components;
         commands = rw over.commands room.commands;
       })
-  room_opened untouched carried clean t (inr (inr empty)) has room =
+  room_opened it clean t (inr (inr empty)) has room =
       room_of_none (subst (HasTables g mid) empty.1 has)

@@ -1,5 +1,5 @@
 -- From what an opening without a provider does over its registry to what it leaves of the store.
-use Rattle.std.proofs.Common.{◌≡◌, ◌∙◌, ◌⊎◌, inl, inr, ℕ, List, sym, subst, arith}
+use Rattle.std.proofs.Common.{◌≡◌, ◌∙◌, ◌⊎◌, inl, inr, Ok, ℕ, List, sym, subst, arith}
 use Rattle.sqlite_trees.specs.declared.store.Store.{Ghosts}
 use Rattle.sqlite.specs.Tree.{Trees}
 use Rattle.sqlite.specs.Held.{Held, state}
@@ -11,10 +11,8 @@ use Rattle.gm_state.specs.declared.intents.Reply.{Reply}
 use Rattle.gm_state.specs.declared.intents.Reply.TheVariants.{Plain}
 use Rattle.gm_state.specs.World.{World}
 use Rattle.gm_state.specs.Rows.{Tables}
-use Rattle.sqlite_catalog.specs.Listing.{IsSound}
-use Rattle.gm_rows.specs.Schema.{first_schema, registry_schema}
-use Rattle.gm_registry.specs.Opening.{IsCarriedOver}
-use Rattle.gm_registry.specs.Registry.{CrashLeaves, DiskKept, HasTables, IsOpen, LeavesAlone, MayCarryOver, MayLeave, WasClean, stored}
+use Rattle.gm_registry.specs.Opens.{IsStored, Opens}
+use Rattle.gm_registry.specs.Registry.{CrashLeaves, DiskKept, HasTables, IsOpen, LeavesAlone, MayLeave, WasClean, stored}
 use Rattle.gm_registry.proofs.ReadsInTurn.{sees_registry}
 use Rattle.gm_bench.specs.declared.answer.Answer.{Answer}
 use Rattle.gm_bench.specs.declared.answer.Answer.TheVariants.{Done, Repeated, Refused as NotDone}
@@ -24,22 +22,18 @@ use Rattle.gm_bench.specs.declared.take_up_without.TakenUp.TheVariants.{Carried}
 use Rattle.gm_bench.specs.Benches.{redone_of, registry_of, shelf_of}
 use Rattle.gm_bench.specs.GivingUp.{AnswersLoss, AreUntouched, GivesUp, LacksImage, LeavesUndone}
 use Rattle.gm_bench.specs.Losing.{dropped}
-use Rattle.gm_bench.specs.Owed.{IsLeft, OpenLeaves}
-use Rattle.gm_bench.specs.Recovering.{IsFound, IsStored, LeavesOnly}
+use Rattle.gm_bench.specs.Owed.{IsLeft}
+use Rattle.gm_bench.specs.Recovering.{IsFound}
 use Rattle.gm_bench.specs.Schedule.{IsStepWithout, LeavesCommit, WithoutCarries, WithoutDoes, WithoutLeaves}
 use Rattle.gm_bench.specs.Without.{Carries, Commits, DoesLoss, DoesWithout, KeepsUndone, LacksFirst, LeavesLoss, LeavesWithout, loss_call}
 use Rattle.gm_bench.proofs.DecidesOnly.{alone_then}
-use Rattle.gm_bench.proofs.ReopenedStore.{carried_then, only_opened, opens_over, reopened}
+use Rattle.gm_bench.proofs.ReopenedStore.{carried_then, found_at, is_opening, only_opened, opens_over}
 
 module _ {S H : Type 0} (g : Ghosts S) (view : H → View) (size : H → Sizes) (store mid : Held S)
-    (h : H) (lawful : IsLawful (view h))
-    (only : (db : Trees) → CrashLeaves g store db → db ≡ stored g store)
-    (opened : (t : Tables) → IsStored (stored g store) t → HasTables g mid t) where
-  -- what was left is found in the registry that is opened
-  abbrev pub at_opened : (away : Image) (u w : World) → (left : IsLeft g view size store h away u w)
+    (h : H) (opened : (t : Tables) → IsStored (stored g store) t → HasTables g mid t) where
+  abbrev at_opened : (away : Image) (u w : World) → (left : IsLeft g view size store h away u w)
       → IsFound g view size mid h away left.recovers.intents left.recovers.bytes u w
-  at_opened away u w left =
-      reopened g view size store h away u w lawful only left.recovers mid left.sizes opened
+  at_opened = found_at g view size store mid h opened
 
   module _ (p : List ℕ) (call : Call) (gone : List Intent)
       (are : (away : Image) (ts : List Intent) (bytes : List (List ℕ)) (u w : World)
@@ -93,29 +87,26 @@ module _ {S H : Type 0} (g : Ghosts S) (view : H → View) (size : H → Sizes) 
     lost_behind s k (inl was) = inl (committed s was.0, was.1)
     lost_behind s k (inr is) = inr (is.0, committed is.0 is.1, carried is.0 s k is.2)
 
-  module _ (clean : DiskKept g mid)
+  module _ (lawful : IsLawful (view h))
+      (only : (db : Trees) → CrashLeaves g store db → db ≡ stored g store) (clean : DiskKept g mid)
       (may : (t : Tables) → IsStored (stored g store) t → MayLeave g store mid t) where
-    pub opened_behind : (s : Held S) (k : H)
-        → ((away : Image) (ts : List Intent) (bytes : List (List ℕ)) (u w : World)
-        → IsFound g view size mid h away ts bytes u w → LeavesOnly g view size mid s h k away u w)
-        → OpenLeaves g view size store s h k
-    opened_behind s k leaves =
-        opens_over g view size store mid h lawful only clean may opened s k leaves
-
     pub undone : (key p : List ℕ) (b : Bench S H) (answer : Answer) (redone : ℕ)
         → KeepsUndone g view size key p mid (registry_of b) h (shelf_of b) (Carried answer redone)
         → LeavesUndone g view size store h key p (Opened b answer)
     undone key p b (Done n reply) redone keeps = tt
     undone key p b (Repeated n reply) redone keeps =
-        opened_behind (registry_of b) (shelf_of b) keeps
+        opens_over g view size store mid h lawful only clean may opened (registry_of b) (shelf_of b)
+        keeps
     undone key p b (NotDone why) redone keeps = tt
 
     pub given_up : (key p : List ℕ) (s : Held S) (k : H)
         → LeavesWithout g view size key p mid s h k → GivesUp g view size store h key p s k
-    given_up key p s k (inl was) = inl (opened_behind s k was)
+    given_up key p s k (inl was) =
+        inl (opens_over g view size store mid h lawful only clean may opened s k was)
     given_up key p s k (inr it) = inr (record {
       registry = mid;
-      opening = only_opened g view size store mid h lawful only clean may;
+      opened = is_opening g view size store mid h lawful only clean may opened;
+      opening = only_opened g view size store mid h lawful only clean may opened;
       mirror = it.0;
       gone = it.1;
       committing = lost_behind p (loss_call key it.0 p) it.1 it.2 s k it.3;
@@ -124,7 +115,7 @@ module _ {S H : Type 0} (g : Ghosts S) (view : H → View) (size : H → Sizes) 
     pub lacking : (key p : List ℕ) (s : Held S) (k : H) (q : List ℕ)
         → LacksFirst g view size key p mid s h k q → LacksImage g view size store h key p s k q
     lacking key p s k q lacks = (
-      opened_behind s k lacks.0,
+      opens_over g view size store mid h lawful only clean may opened s k lacks.0,
       λ away u w left. lacks.1 away left.recovers.intents left.recovers.bytes u w
           (at_opened away u w left),
     )
@@ -155,25 +146,19 @@ module _ {S H : Type 0} (g : Ghosts S) (view : H → View) (size : H → Sizes) 
 
 -- both media after an opening of the registry that was left alone then
 pub are_untouched : {S H : Type 0} (g : Ghosts S) (start mid new : Held S) (h k : H) → k ≡ h
-    → WasClean g mid new
-    → (IsOpen g start → IsSound registry_schema (stored g start) → LeavesAlone g start mid)
-    → (IsOpen g start → IsSound first_schema (stored g start) → DiskKept g mid
-    → IsCarriedOver (stored g start) (stored g mid))
-    → (IsOpen g start → IsSound first_schema (stored g start) → MayCarryOver g start mid)
-    → (IsOpen g start → DiskKept g mid → (t : Tables) → IsStored (stored g start) t
-    → HasTables g mid t)
+    → WasClean g mid new → (IsOpen g start → Opens g start mid (Ok tt))
     → (DiskKept g new → (t : Tables) → HasTables g mid t → LeavesAlone g mid new)
     → AreUntouched g start h new k
-are_untouched g start mid new h k same was_clean untouched carried crash opened alone = record {
+are_untouched g start mid new h k same was_clean opens alone = record {
   shelf_is = same;
   alone = λ is_open clean sound t stands.
       let early : DiskKept g mid = omega (arith, was_clean, clean) in
-      let has = opened is_open early t stands in
+      let has = (opens is_open).opened early t stands in
       alone_then g start mid new (sees_registry (state g mid) t has) was_clean
-      (untouched is_open sound) (alone clean t has);
+      ((opens is_open).second sound).alone (alone clean t has);
   first_alone = λ is_open clean sound t stands.
       let early : DiskKept g mid = omega (arith, was_clean, clean) in
-      let has = opened is_open early t stands in
-      carried_then g start mid new (carried is_open sound early) (crash is_open sound)
-      (alone clean t has);
+      let has = (opens is_open).opened early t stands in
+      let over = (opens is_open).first sound in
+      carried_then g start mid new (over.done early) over.left (alone clean t has);
 }

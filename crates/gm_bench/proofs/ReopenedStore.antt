@@ -1,5 +1,5 @@
 -- From a store that a stop left to a registry that leads on.
-use Rattle.std.proofs.Common.{◌≡◌, inl, inr, ℕ, List, sym, subst}
+use Rattle.std.proofs.Common.{◌≡◌, inl, inr, ℕ, List, refl, sym, subst}
 use Rattle.sqlite_trees.specs.declared.store.Store.{Ghosts}
 use Rattle.sqlite.specs.Tree.{Trees}
 use Rattle.sqlite.specs.Effect.{Database}
@@ -8,17 +8,17 @@ use Rattle.gm_metadata.specs.Images.{Image, Sizes}
 use Rattle.gm_shelf.specs.Disk.{View, IsLawful}
 use Rattle.gm_state.specs.declared.intents.Intent.{Intent}
 use Rattle.gm_state.specs.Rows.{Tables}
-use Rattle.gm_state.specs.World.{World, present}
-use Rattle.gm_registry.specs.Registry.{DiskKept, CrashLeaves, HasTables, LeavesAlone, LeavesNothingNew, MayCarryOver, MayLeave, StoreFailed, stored}
-use Rattle.gm_rows.specs.Tables.{Holds, HoldsFirst, IsEmpty, no_tables}
+use Rattle.gm_state.specs.World.{World}
+use Rattle.gm_registry.specs.Opens.{IsStored}
+use Rattle.gm_registry.specs.Registry.{DiskKept, CrashLeaves, HasTables, LeavesAlone, MayCarryOver, MayLeave, StoreFailed, stored}
 use Rattle.gm_registry.specs.Opening.{IsCarriedOver, IsKnownStore}
 use Rattle.gm_registry.proofs.EitherSchema.{known_first, known_second}
 use Rattle.gm_registry.proofs.Failures.{failed_since}
-use Rattle.sqlite.proofs.StateLemmas.{survives_then, survives_weaker}
+use Rattle.sqlite.proofs.StateLemmas.{survives_then}
 use Rattle.gm_bench.specs.Leading.{AllLead}
 use Rattle.gm_bench.specs.Opened.{HoldsKnown, MayBeCarriedOver}
-use Rattle.gm_bench.specs.Owed.{OpenLeaves}
-use Rattle.gm_bench.specs.Recovering.{IsStored, Recovers, IsFound, LeavesOnly}
+use Rattle.gm_bench.specs.Owed.{IsLeft, IsOpening, OpenLeaves}
+use Rattle.gm_bench.specs.Recovering.{Recovers, IsFound, LeavesOnly}
 
 pub known_store : (db : Trees) → HoldsKnown db → IsKnownStore db
 known_store db (inl stored) = elim stored.1 [
@@ -44,16 +44,6 @@ module _ {S H : Type 0} (g : Ghosts S) (view : H → View) (size : H → Sizes) 
     leads =
         leads;
   }
-
-  abbrev pub opened_at : (mid : Held S) → present w ≡ size h → HasTables g mid r.tables
-      → IsFound g view size mid h away r.intents r.bytes u w
-  opened_at mid is has = record { tables = r.tables; has = has; sizes = is; leads = r.leads }
-
-  -- the opened registry, with the intents that were left
-  abbrev pub reopened : (mid : Held S) → present w ≡ size h
-      → ((t : Tables) → IsStored (stored g start) t → HasTables g mid t)
-      → IsFound g view size mid h away r.intents r.bytes u w
-  reopened mid is opened = opened_at mid is (opened r.tables r.stored)
 
   -- an opening that ended before anything was carried out
   pub unopened : (new : Held S) → DiskKept g new
@@ -94,56 +84,68 @@ module _ {S H : Type 0} (g : Ghosts S) (view : H → View) (size : H → Sizes) 
       }
 
 module _ {S H : Type 0} (g : Ghosts S) (view : H → View) (size : H → Sizes) (start mid : Held S)
+    (h : H) (opened : (t : Tables) → IsStored (stored g start) t → HasTables g mid t) where
+  -- what was left is found in the registry that is opened
+  pub found_at : (away : Image) (u w : World) → (left : IsLeft g view size start h away u w)
+      → IsFound g view size mid h away left.recovers.intents left.recovers.bytes u w
+  found_at away u w left = record {
+    tables = left.recovers.tables;
+    has = opened left.recovers.tables left.recovers.stored;
+    sizes = left.sizes;
+    leads = left.recovers.leads;
+  }
+
+module _ {S H : Type 0} (g : Ghosts S) (view : H → View) (size : H → Sizes) (start mid : Held S)
     (h : H) (lawful : IsLawful (view h))
     (only : (db : Trees) → CrashLeaves g start db → db ≡ stored g start) (clean : DiskKept g mid)
     (may : (t : Tables) → IsStored (stored g start) t → MayLeave g start mid t) where
-  -- a registry that was opened, or couldn't be
-  pub only_opened : OpenLeaves g view size start mid h h
-  only_opened = record {
+  -- what a stop leaves while the registry is opened, and after that
+  opening : (away : Image) (u w : World) → IsLeft g view size start h away u w
+      → LeavesOnly g view size start mid h h away u w
+  opening away u w left =
+      unopened g view size start h away u w lawful only left.recovers mid clean may
+
+  still : (away : Image) (u w : World) → IsLeft g view size start h away u w
+      → LeavesOnly g view size mid mid h h away u w
+  still away u w left =
+      unopened_still g view size start h away u w lawful only left.recovers mid clean may
+
+  -- a registry that couldn't be opened
+  pub not_opened : OpenLeaves g view size start mid h h
+  not_opened = record {
     registry = mid;
-    opening = λ away u w left.
-        unopened g view size start h away u w lawful only left.recovers mid clean may;
-    carrying = λ away u w left.
-        unopened_still g view size start h away u w lawful only left.recovers mid clean may;
+    opened = inr (refl, refl);
+    opening = opening;
+    carrying = still;
   }
 
-  -- what was carried out and settled after that
-  pub opens_over : ((t : Tables) → IsStored (stored g start) t → HasTables g mid t)
-      → (s : Held S) (k : H)
-      → ((away : Image) (ts : List Intent) (bytes : List (List ℕ)) (u w : World)
-      → IsFound g view size mid h away ts bytes u w → LeavesOnly g view size mid s h k away u w)
-      → OpenLeaves g view size start s h k
-  opens_over opened s k leaves = record {
-    registry = mid;
-    opening = λ away u w left.
-        unopened g view size start h away u w lawful only left.recovers mid clean may;
-    carrying = λ away u w left. leaves away left.recovers.intents left.recovers.bytes u w
-        (reopened g view size start h away u w lawful only left.recovers mid left.sizes opened);
-  }
+  module _ (opened : (t : Tables) → IsStored (stored g start) t → HasTables g mid t) where
+    pub is_opening : IsOpening g view size start mid
+    is_opening = record { crash = may; tables = opened }
+
+    -- one that was opened, and nothing more
+    pub only_opened : OpenLeaves g view size start mid h h
+    only_opened = record {
+      registry = mid;
+      opened = inl is_opening;
+      opening = opening;
+      carrying = still;
+    }
+
+    -- what was carried out and settled after that
+    pub opens_over : (s : Held S) (k : H)
+        → ((away : Image) (ts : List Intent) (bytes : List (List ℕ)) (u w : World)
+        → IsFound g view size mid h away ts bytes u w → LeavesOnly g view size mid s h k away u w)
+        → OpenLeaves g view size start s h k
+    opens_over s k leaves = record {
+      registry = mid;
+      opened = inl is_opening;
+      opening = opening;
+      carrying = λ away u w left. leaves away left.recovers.intents left.recovers.bytes u w
+          (found_at g view size start mid h opened away u w left);
+    }
 
 module _ {S : Type 0} (g : Ghosts S) (start mid : Held S) where
-  -- tables that a store held are those of the opened registry
-  pub opened_tables : (IsEmpty (stored g start) → HasTables g mid no_tables)
-      → ((t : Tables) → Holds (stored g start) t → HasTables g mid t)
-      → ((t : Tables) → HoldsFirst (stored g start) t → HasTables g mid t)
-      → (t : Tables) → IsStored (stored g start) t → HasTables g mid t
-  opened_tables made found upgraded t (inl holds) = found t holds
-  opened_tables made found upgraded t (inr (inl first)) = upgraded t first
-  opened_tables made found upgraded t (inr (inr empty)) =
-      subst (HasTables g mid) (sym empty.1) (made empty.0)
-
-  -- a crash after an opening finds the store as it was, or those tables
-  pub opening_leaves : (IsEmpty (stored g start) → MayLeave g start mid no_tables)
-      → ((t : Tables) → Holds (stored g start) t → LeavesNothingNew g start mid)
-      → ((t : Tables) → HoldsFirst (stored g start) t → MayLeave g start mid t)
-      → (t : Tables) → IsStored (stored g start) t → MayLeave g start mid t
-  opening_leaves made found upgraded t (inl holds) =
-      survives_weaker (state g start) (state g mid) (λ _. ⊥) (λ db. Holds db t)
-      (λ _ db none. absurd none) (found t holds)
-  opening_leaves made found upgraded t (inr (inl first)) = upgraded t first
-  opening_leaves made found upgraded t (inr (inr empty)) =
-      subst (MayLeave g start mid) (sym empty.1) (made empty.0)
-
   -- a store that was carried over, and then left alone
   pub carried_then : (new : Held S) → IsCarriedOver (stored g start) (stored g mid)
       → MayCarryOver g start mid → LeavesAlone g mid new → MayBeCarriedOver g start new

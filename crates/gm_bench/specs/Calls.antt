@@ -159,6 +159,17 @@ pub record TellsByRows {S H : Type 0} (s : StoreGhosts S) (h : ShelfGhosts H) (o
   pub store : TellsStoreWhere s h old new result AreSuch c
   pub goes_on : StaysRegistry s h old new result
 
+-- The same of the steps of that call, which are given the command's words: some of it is said only
+-- of a command that fits, or that is a call.
+pub record TellsOfCall {S H : Type 0} (s : StoreGhosts S) (h : ShelfGhosts H) (old new : Media S H)
+    (result : Result Accepted BenchFault) (key words : List ℕ) (c : Command)
+    (AreSuch : Tables → Type 0) : Type 0 where
+  pub readable : CommandFits c → TellsUnreadable s h old new result key c
+  pub at_hand : CommandFits c → TellsAtHand s h old new result (IsWorkAtHand (h.size old.shelf))
+  pub refused : RefusesCall s h old new result
+  pub store : IsCall key words c → TellsStoreWhere s h old new result AreSuch c
+  pub goes_on : StaysRegistry s h old new result
+
 -- The shelf is kept; and if the disk kept what was written to the registry until now, it did so
 -- before the call.
 pub record Keep {S H : Type 0} (s : StoreGhosts S) (h : ShelfGhosts H) (r t : Held S)

@@ -18,6 +18,7 @@ use Rattle.gm_rows.specs.ReadableTables.{AreTablesOf}
 use Rattle.gm_rows.specs.Schema.{first_schema, registry_schema}
 use Rattle.gm_registry.specs.Opening.{IsForeign, IsOpenable}
 use Rattle.gm_registry.specs.Fitting.{HasRoom}
+use Rattle.gm_registry.specs.Opens.{IsStored}
 use Rattle.gm_registry.specs.Registry.{DiskKept, HasTables, IsOpen, LeavesAlone, Reads, StoreFailed, WasClean, seen, stored}
 use Rattle.gm_registry.specs.Replies.{AreWrittenUnder, count_of}
 use Rattle.gm_bench.specs.declared.bench.OpenFault.{OpenFault}
@@ -35,9 +36,9 @@ use Rattle.gm_bench.specs.Benches.{progress_of, redone_of, registry_of, shelf_of
 use Rattle.gm_bench.specs.Calls.{TellsDisk, most_rows}
 use Rattle.gm_bench.specs.Faults.{IsBeforeWrites, IsOfRegistry}
 use Rattle.gm_bench.specs.Opened.{MayBeCarriedOver}
-use Rattle.gm_bench.specs.Owed.{IsLeft, OpenLeaves}
+use Rattle.gm_bench.specs.Owed.{IsLeft, IsOpening, OpenLeaves}
 use Rattle.gm_bench.specs.Presence.{first_absent}
-use Rattle.gm_bench.specs.Recovering.{IsAt, IsStored}
+use Rattle.gm_bench.specs.Recovering.{IsAt}
 use Rattle.gm_bench.specs.Schedule.{WithoutCarries, WithoutDoes, WithoutLeaves}
 use Rattle.gm_bench.specs.Without.{IsKeptLoss, IsLacking, IsRefusedLoss, loss_call}
 
@@ -61,6 +62,7 @@ module _ {S H : Type 0} (g : Ghosts S) (view : H → View) (size : H → Sizes) 
   -- it was stopped at its commit, or after that, or it is carried out.
   pub record LeavesLost (s : Held S) (k : H) : Type 0 where
     pub registry : Held S
+    pub opened : IsOpening g view size store registry
     pub opening : OpenLeaves g view size store registry h h
     pub mirror : List ℕ
     pub gone : List Intent

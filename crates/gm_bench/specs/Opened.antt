@@ -13,6 +13,7 @@ use Rattle.gm_state.specs.World.{World}
 use Rattle.gm_rows.specs.ReadableTables.{AreTablesOf}
 use Rattle.gm_rows.specs.Schema.{first_schema, registry_schema}
 use Rattle.gm_registry.specs.Opening.{IsCarriedOver, IsForeign, IsOpenable}
+use Rattle.gm_registry.specs.Opens.{IsStored}
 use Rattle.gm_registry.specs.Registry.{DiskKept, HasTables, IsOpen, IsRegistry, LeavesAlone, MayCarryOver, StoreFailed, stored}
 use Rattle.gm_bench.specs.declared.bench.Bench.{Bench}
 use Rattle.gm_bench.specs.declared.bench.OpenFault.{OpenFault}
@@ -25,7 +26,6 @@ use Rattle.gm_bench.specs.Calls.{TellsDisk}
 use Rattle.gm_bench.specs.Faults.{IsBeforeWrites}
 use Rattle.gm_bench.specs.Owed.{IsLeft, OpenDoes}
 use Rattle.gm_bench.specs.Presence.{first_absent}
-use Rattle.gm_bench.specs.Recovering.{IsStored}
 
 -- ---- of media whose registry is open
 

@@ -9,7 +9,8 @@ use Rattle.gm_commands.specs.declared.command.Command.{Command}
 use Rattle.gm_state.specs.declared.intents.Reply.{Reply}
 use Rattle.gm_state.specs.World.{World, present}
 use Rattle.gm_rules.specs.Step.{Step}
-use Rattle.gm_registry.specs.Registry.{stored, HasTables}
+use Rattle.gm_registry.specs.Opens.{IsStored}
+use Rattle.gm_registry.specs.Registry.{stored, HasTables, MayLeave}
 use Rattle.gm_bench.specs.declared.answer.Accepted.{Accepted}
 use Rattle.gm_bench.specs.declared.answer.Answer.{Answer}
 use Rattle.gm_bench.specs.declared.answer.Work.{Work}
@@ -62,9 +63,13 @@ module _ {S H : Type 0} (g : Ghosts S) (view : H → View) (size : H → Sizes) 
       → IsShelfOf (view h) w (size h)
       → IsAt g view size s h away [] [] w w
 
+  -- some work is pending that leads from u to w
+  abbrev pub HasWork : Held S → H → Image → World → World → Type 0
+  HasWork r h away u w = (work : Work) × IsAtWork g view size r h away work u w
+
   -- A stop within a command that is carried out: it is accepted at some point, until which what led
-  -- from v to u still does, or the world becomes that of the command's step; and what is left after
-  -- that point leads to the step.
+  -- from v to u still does, or the world becomes that of the command's step. At that point the step
+  -- is pending, or nothing more is done; and what is left after it leads to the step.
   pub record LeavesRun (r s : Held S) (h k : H) (away : Image) (v u : World) (key : List ℕ)
       (c : Command) : Type 0 where
     pub registry : Held S
@@ -74,6 +79,7 @@ module _ {S H : Type 0} (g : Ghosts S) (view : H → View) (size : H → Sizes) 
     pub carrying :
         ((registry ≡ s) × (shelf ≡ k))
         ⊎ ((w : World) × (reply : Reply) × Step u key c w reply
+        × HasWork registry shelf away u w
         × LeavesOnly g view size registry s shelf k away u w)
 
   -- a command that is handed in at rest, carried out and settled
@@ -92,10 +98,18 @@ module _ {S H : Type 0} (g : Ghosts S) (view : H → View) (size : H → Sizes) 
     pub sizes : present w ≡ size h
     pub recovers : Recovers (stored g store) (size h) away (view h).may_leave u w
 
-  -- A stop within an opening: first the registry is opened, and may be carried over; then it is
-  -- what the store was, while the rest is carried out. At each moment what is left leads to w.
+  -- The registry is opened: a crash finds the store as it was, or a registry with its tables; and
+  -- the registry has these tables.
+  pub record IsOpening (store registry : Held S) : Type 0 where
+    pub crash : (t : Tables) → IsStored (stored g store) t → MayLeave g store registry t
+    pub tables : (t : Tables) → IsStored (stored g store) t → HasTables g registry t
+
+  -- A stop within an opening: first the registry is opened, and may be carried over; then the rest
+  -- is carried out over it. At each moment what is left leads to w. Nothing more is done after an
+  -- opening of the registry that failed.
   pub record OpenLeaves (store s : Held S) (h k : H) : Type 0 where
     pub registry : Held S
+    pub opened : IsOpening store registry ⊎ ((registry ≡ s) × (k ≡ h))
     pub opening : (away : Image) (u w : World) → IsLeft store h away u w
         → LeavesOnly g view size store registry h h away u w
     pub carrying : (away : Image) (u w : World) → IsLeft store h away u w

@@ -1,5 +1,5 @@
 -- What a store and the images of a shelf lead to, and what a stop may leave of both.
-use Rattle.std.specs.Prelude.{◌≡◌, ◌⊎◌, ℕ, List}
+use Rattle.std.specs.Prelude.{◌≡◌, ℕ, List}
 use Rattle.sqlite_trees.specs.declared.store.Store.{Ghosts}
 use Rattle.sqlite.specs.Tree.{Trees}
 use Rattle.sqlite.specs.Held.{Held}
@@ -14,14 +14,10 @@ use Rattle.gm_state.specs.Records.{Records, IsState}
 use Rattle.gm_state.specs.Rows.{Tables}
 use Rattle.gm_lists.specs.Ordered.{Has}
 use Rattle.gm_state.specs.World.{World, present}
+use Rattle.gm_registry.specs.Opens.{IsStored}
 use Rattle.gm_registry.specs.Registry.{CrashLeaves, HasTables}
-use Rattle.gm_rows.specs.Tables.{Holds, HoldsFirst, IsEmpty, no_tables}
 use Rattle.gm_bench.specs.declared.answer.Work.{Work}
 use Rattle.gm_bench.specs.Leading.{AllLead}
-
--- a store holds these tables, also by the first schema; one without any table is read as empty
-abbrev pub IsStored : Trees → Tables → Type 0
-IsStored db t = Holds db t ⊎ (HoldsFirst db t ⊎ (IsEmpty db × (t ≡ no_tables)))
 
 -- The store leads to w with each of the shelf's images, if the providers that aren't on it hold
 -- what is away.

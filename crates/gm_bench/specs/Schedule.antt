@@ -14,6 +14,7 @@ use Rattle.gm_state.specs.declared.intents.Intent.{Intent}
 use Rattle.gm_commands.specs.declared.command.Command.TheVariants.{Lost}
 use Rattle.gm_rules.specs.Step.{Step}
 use Rattle.gm_rules.specs.AbstractCalls.{Call}
+use Rattle.gm_registry.specs.Opens.{IsStored}
 use Rattle.gm_registry.specs.Registry.{CrashLeaves, stored}
 use Rattle.gm_registry.specs.Replies.{count_of}
 use Rattle.gm_rows.specs.Tables.{IsEmpty}
@@ -25,7 +26,7 @@ use Rattle.gm_bench.specs.declared.answer.Accepted.TheVariants.{Done, Repeated, 
 use Rattle.gm_bench.specs.declared.answer.Answer.TheVariants as run
 use Rattle.gm_bench.specs.declared.phase.Waiting.{Waiting}
 use Rattle.gm_bench.specs.declared.phase.Waiting.TheVariants as waiting
-use Rattle.gm_bench.specs.Recovering.{IsStored, Recovers, IsAt, IsAtWork, IsShelfOf, LeavesOnly}
+use Rattle.gm_bench.specs.Recovering.{Recovers, IsAt, IsAtWork, IsShelfOf, LeavesOnly}
 use Rattle.gm_bench.specs.Owed.{AcceptLeaves, AcceptAnswers, ApplyLeaves, ApplyDoes, SettleLeaves, SettleDoes, OpenLeaves, OpenDoes, IsLeft, RunAnswers, RunLeaves, LeavesRun, LookDoes, LookLeaves}
 use Rattle.gm_bench.specs.declared.answer.Answer.{Answer}
 

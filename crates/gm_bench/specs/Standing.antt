@@ -13,7 +13,7 @@ use Rattle.gm_bench.specs.declared.answer.Answer.TheVariants.{Done, Repeated, Re
 use Rattle.gm_bench.specs.declared.phase.Progress.{Progress}
 use Rattle.gm_bench.specs.declared.phase.Progress.TheVariants.{Ready, Pending, Applied, Failed}
 use Rattle.gm_bench.specs.Accepting.{LeavesStep}
-use Rattle.gm_bench.specs.Owed.{LeavesRun}
+use Rattle.gm_bench.specs.Owed.{HasWork, LeavesRun}
 use Rattle.gm_bench.specs.Recovering.{IsAt, IsAtWork, IsShelfOf, LeavesOnly}
 
 module _ {S H : Type 0} (g : Ghosts S) (view : H → View) (size : H → Sizes) where
@@ -27,13 +27,15 @@ module _ {S H : Type 0} (g : Ghosts S) (view : H → View) (size : H → Sizes) 
   Stands Failed r h away v u = (v ≡ u) × IsAt g view size r h away [] [] u u
 
   -- A command was accepted and carried out, from r and h to s and k: a stop until some point leaves
-  -- what led from v to u, or the step to w, and after that point what leads to w.
+  -- what led from v to u, or the step to w; at that point the step is pending, and after it what is
+  -- left leads to w.
   pub record Carries (r s : Held S) (h k : H) (away : Image) (v u w : World) (key : List ℕ)
       (c : Command) : Type 0 where
     pub registry : Held S
     pub shelf : H
     pub sizes : size shelf ≡ size h
     pub accepting : LeavesStep g view size r registry h shelf away v u key c
+    pub pending : HasWork g view size registry shelf away u w
     pub carrying : LeavesOnly g view size registry s shelf k away u w
 
   -- What a command comes to that is handed in to a bench that stands for u, from r and h to s and

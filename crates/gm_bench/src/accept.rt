@@ -19,7 +19,7 @@ ghost use Rattle.gm_bench.specs.Faults.{IsOfCall};
 ghost use Rattle.gm_bench.specs.Planning.{IsFitting, IsPlanned, IsWith};
 ghost use Rattle.gm_bench.specs.Recovering.{IsCarriedOut};
 ghost use Rattle.gm_bench.specs.Phases.{IsUndone, answer_of};
-ghost use Rattle.gm_bench.specs.Calls.{Accepts, GoesOn, IsCall, TellsByRows, WritesAlone, most_rows};
+ghost use Rattle.gm_bench.specs.Calls.{Accepts, GoesOn, IsCall, TellsByRows, TellsOfCall, WritesAlone, most_rows};
 ghost use Rattle.gm_bench.specs.Owed.{AcceptAnswers, AcceptLeaves};
 
 use crate::answer::Accepted;
@@ -132,9 +132,8 @@ impl<S: Alter, H: Shelf> Media<S, H> {
             → IsAnswered S.Store H.view H.size self.new.registry self.new.shelf away
             ts bytes v u key.now command.now a) }
         ensures fault { IfErr result IsOfCall }
-        ensures rows { IsCall key.now words.now command.now
-            → TellsByRows S.Store H.Shelf self.old self.new result key.now command.now
-            (λ t. HasNothingElse waiting t × (count_of t < 100000) × IsFree t key.now) }
+        ensures rows { TellsOfCall S.Store H.Shelf self.old self.new result key.now words.now
+            command.now (λ t. HasNothingElse waiting t × (count_of t < 100000) × IsFree t key.now) }
         ensures accepts { Accepts S.Store H.Shelf self.old self.new result
             (λ a. IsUndone (answer_of a)) }
     {
@@ -172,9 +171,8 @@ impl<S: Alter, H: Shelf> Media<S, H> {
             → IsAnswered S.Store H.view H.size self.new.registry self.new.shelf away
             ts bytes v u key.now command.now a) }
         ensures fault { IfErr result IsOfCall }
-        ensures rows { IsCall key.now words.now command.now
-            → TellsByRows S.Store H.Shelf self.old self.new result key.now command.now
-            (λ t. HasNothingElse waiting t × IsFree t key.now) }
+        ensures rows { TellsOfCall S.Store H.Shelf self.old self.new result key.now words.now
+            command.now (λ t. HasNothingElse waiting t × IsFree t key.now) }
         ensures accepts { Accepts S.Store H.Shelf self.old self.new result
             (λ a. IsUndone (answer_of a)) }
     {
@@ -202,9 +200,8 @@ impl<S: Alter, H: Shelf> Media<S, H> {
             → AcceptAnswers S.Store H.view H.size waiting self.old.registry self.new.registry
             self.old.shelf self.new.shelf key.now command.now a) }
         ensures fault { IfErr result IsOfCall }
-        ensures rows { IsCall key.now words.now command.now
-            → TellsByRows S.Store H.Shelf self.old self.new result key.now command.now
-            (HasNothingElse waiting) }
+        ensures rows { TellsOfCall S.Store H.Shelf self.old self.new result key.now words.now
+            command.now (HasNothingElse waiting) }
         ensures accepts { Accepts S.Store H.Shelf self.old self.new result
             (λ a. IsUndone (answer_of a)) }
     {

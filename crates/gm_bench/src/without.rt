@@ -14,7 +14,7 @@ ghost use Rattle.gm_state.specs.Lookups.{component_of};
 ghost use Rattle.gm_state.specs.World.{Answered, World, present};
 ghost use Rattle.gm_refusals.specs.WorldFacts.{seen_of};
 ghost use Rattle.gm_changes.specs.Decides.{Decides, changed_by};
-ghost use Rattle.gm_registry.specs.Registry.{DiskKept, HasTables};
+ghost use Rattle.gm_registry.specs.Registry.{DiskKept, HasTables, Reads};
 ghost use Rattle.gm_registry.specs.Replies.{AreWrittenUnder, IsFree, count_of};
 ghost use Rattle.gm_rows.specs.ReadableTables.{AreRecordsOf};
 ghost use Rattle.gm_bench.specs.Calls.{TellsStore};
@@ -188,6 +188,7 @@ impl<S: Alter, H: Shelf> Media<S, H> {
             → HasTables S.Store self.old.registry t → AreRecordsOf t state.now
             → is_key key ≡ true → IsFree t key → CanBeCommitted key intents.now t j) }
         ensures store { TellsStore S.Store self.old.registry self.new.registry result }
+        ensures reads { Reads S.Store self.old.registry self.new.registry }
         ensures looks { OnlyLooksUp S.Store self.old self.new result }
     {
         if self.is_full()? {

@@ -77,6 +77,7 @@ module _ {S H : Type 0} (g : Ghosts S) (view : H → View) (size : H → Sizes) 
         it.0,
         reply,
         it.1.3,
+        it.2.pending,
         then_only g view size it.2.registry mid s it.2.shelf k l away u it.0 same
             (sizes ∙ sym it.2.sizes) it.2.carrying (settling u it.0 it.3),
       );

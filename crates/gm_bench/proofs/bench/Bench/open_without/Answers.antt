@@ -10,41 +10,32 @@ use Rattle.gm_bench.specs.Without.{DoesWithout, KeepsUndone}
 use Rattle.gm_bench.specs.Owed.{OpenLeaves}
 use Rattle.gm_bench.proofs.Causes.{of_failed, of_unreadable}
 use Rattle.gm_bench.proofs.OpenedRoom.{room_opened}
-use Rattle.gm_bench.proofs.ReopenedLoss.{answered, are_untouched, at_opened, given_up, lacking, opened_behind, undone}
-use Rattle.gm_bench.proofs.ReopenedStore.{failed_opened, known_store, only_opened, opened_tables, opening_leaves}
+use Rattle.gm_bench.proofs.ReopenedLoss.{answered, are_untouched, given_up, lacking, undone}
+use Rattle.gm_bench.proofs.ReopenedStore.{failed_opened, found_at, known_store, not_opened, opens_over}
 use Rattle.gm_bench.proofs.bench.Bench.open_without.Goals as goal
 
 pub returns-in-Err-clause-leaves : goal.returns-in-Err-clause-leaves
 returns-in-Err-clause-leaves g c h is_open clean =
-    inl (only_opened g.S.Store g.H.Shelf.view g.H.Shelf.size c.args.store c.in-Err.e.store
+    inl (not_opened g.S.Store g.H.Shelf.view g.H.Shelf.size c.args.store c.in-Err.e.store
     c.args.shelf (g.met.H.Shelf.lawful c.args.shelf h)
     (λ db left. g.met.S.Store.settled c.args.store.store db is_open left) clean
-    (opening_leaves g.S.Store c.args.store c.in-Err.e.store (c.in-Err.ensures.left_made is_open)
-    (λ t holds. c.in-Err.ensures.left_found t is_open holds)
-    (λ t first. c.in-Err.ensures.left_upgraded t is_open first)))
+    (c.in-Err.ensures.opens is_open).left)
 
 pub returns-in-Err-clause-foreign : goal.returns-in-Err-clause-foreign
 returns-in-Err-clause-foreign g c is_open foreign clean =
-    (c.in-Err.ensures.foreign is_open foreign, refl)
+    (((c.in-Err.ensures.opens is_open).other foreign).alone, refl)
 
 pub returns-in-Ok-Carried-clause-leaves : goal.returns-in-Ok-Carried-clause-leaves
 returns-in-Ok-Carried-clause-leaves g c h is_open clean =
     let mid : DiskKept g.S.Store c.in-Ok.registry =
     omega (arith, clean, c.take_up_without.ensures.keep.clean) in
-    let opened = opened_tables g.S.Store c.args.store c.in-Ok.registry
-    (λ empty. c.in-Ok.ensures.made is_open empty mid)
-    (λ t holds. c.in-Ok.ensures.found t is_open holds mid)
-    (λ t first. c.in-Ok.ensures.upgraded t is_open first mid) in
-    let may = opening_leaves g.S.Store c.args.store c.in-Ok.registry
-    (c.in-Ok.ensures.left_made is_open)
-    (λ t holds. c.in-Ok.ensures.left_found t is_open holds)
-    (λ t first. c.in-Ok.ensures.left_upgraded t is_open first) in
+    let it = c.in-Ok.ensures.opens is_open in
     let only : (db : Trees) → CrashLeaves g.S.Store c.args.store db
     → db ≡ stored g.S.Store c.args.store =
     λ db left. g.met.S.Store.settled c.args.store.store db is_open left in
     let lawful = g.met.H.Shelf.lawful c.args.shelf h in
     given_up g.S.Store g.H.Shelf.view g.H.Shelf.size c.args.store c.in-Ok.registry c.args.shelf
-    lawful only opened mid may c.args.key.now c.args.provider
+    (it.opened mid) lawful only mid it.left c.args.key.now c.args.provider
     c.take_up_without.new.self.registry c.take_up_without.new.self.shelf
     (c.take_up_without.ensures.leaves h clean)
 
@@ -54,14 +45,7 @@ returns-in-Ok-NotLost-clause-leaves g c h is_open closed =
     subst (λ (k : Held g.row.S.Denot). DiskKept g.S.Store k) c.close.ensures closed in
     let mid : DiskKept g.S.Store c.in-Ok.registry =
     omega (arith, clean, c.take_up_without.ensures.keep.clean) in
-    let opened = opened_tables g.S.Store c.args.store c.in-Ok.registry
-    (λ empty. c.in-Ok.ensures.made is_open empty mid)
-    (λ t holds. c.in-Ok.ensures.found t is_open holds mid)
-    (λ t first. c.in-Ok.ensures.upgraded t is_open first mid) in
-    let may = opening_leaves g.S.Store c.args.store c.in-Ok.registry
-    (c.in-Ok.ensures.left_made is_open)
-    (λ t holds. c.in-Ok.ensures.left_found t is_open holds)
-    (λ t first. c.in-Ok.ensures.left_upgraded t is_open first) in
+    let it = c.in-Ok.ensures.opens is_open in
     let only : (db : Trees) → CrashLeaves g.S.Store c.args.store db
     → db ≡ stored g.S.Store c.args.store =
     λ db left. g.met.S.Store.settled c.args.store.store db is_open left in
@@ -70,25 +54,17 @@ returns-in-Ok-NotLost-clause-leaves g c h is_open closed =
     c.args.shelf c.args.key.now c.args.provider k c.take_up_without.new.self.shelf)
     (sym c.close.ensures)
     (given_up g.S.Store g.H.Shelf.view g.H.Shelf.size c.args.store c.in-Ok.registry c.args.shelf
-    lawful only opened mid may c.args.key.now c.args.provider
+    (it.opened mid) lawful only mid it.left c.args.key.now c.args.provider
     c.take_up_without.new.self.registry c.take_up_without.new.self.shelf
     (c.take_up_without.ensures.leaves h clean))
 
 pub returns-in-Err-take_up_without-clause-leaves : goal.returns-in-Err-take_up_without-clause-leaves
 returns-in-Err-take_up_without-clause-leaves g c h is_open closed =
     let clean : DiskKept g.S.Store c.take_up_without.new.self.registry =
-    subst (λ (k : Held g.row.S.Denot). DiskKept g.S.Store k) c.close-in-Err-take_up_without.ensures
-    closed in
+    subst (λ (k : Held g.row.S.Denot). DiskKept g.S.Store k) c.close-in-Err-take_up_without.ensures closed in
     let mid : DiskKept g.S.Store c.in-Ok.registry =
     omega (arith, clean, c.take_up_without.ensures.keep.clean) in
-    let opened = opened_tables g.S.Store c.args.store c.in-Ok.registry
-    (λ empty. c.in-Ok.ensures.made is_open empty mid)
-    (λ t holds. c.in-Ok.ensures.found t is_open holds mid)
-    (λ t first. c.in-Ok.ensures.upgraded t is_open first mid) in
-    let may = opening_leaves g.S.Store c.args.store c.in-Ok.registry
-    (c.in-Ok.ensures.left_made is_open)
-    (λ t holds. c.in-Ok.ensures.left_found t is_open holds)
-    (λ t first. c.in-Ok.ensures.left_upgraded t is_open first) in
+    let it = c.in-Ok.ensures.opens is_open in
     let only : (db : Trees) → CrashLeaves g.S.Store c.args.store db
     → db ≡ stored g.S.Store c.args.store =
     λ db left. g.met.S.Store.settled c.args.store.store db is_open left in
@@ -97,7 +73,7 @@ returns-in-Err-take_up_without-clause-leaves g c h is_open closed =
     c.args.shelf c.args.key.now c.args.provider k c.take_up_without.new.self.shelf)
     (sym c.close-in-Err-take_up_without.ensures)
     (given_up g.S.Store g.H.Shelf.view g.H.Shelf.size c.args.store c.in-Ok.registry c.args.shelf
-    lawful only opened mid may c.args.key.now c.args.provider
+    (it.opened mid) lawful only mid it.left c.args.key.now c.args.provider
     c.take_up_without.new.self.registry c.take_up_without.new.self.shelf
     (c.take_up_without.ensures.leaves h clean))
 
@@ -105,11 +81,11 @@ pub returns-in-Err-take_up_without-clause-foreign :
     goal.returns-in-Err-take_up_without-clause-foreign
 returns-in-Err-take_up_without-clause-foreign g c is_open foreign closed =
     let clean : DiskKept g.S.Store c.take_up_without.new.self.registry =
-    subst (λ (k : Held g.row.S.Denot). DiskKept g.S.Store k) c.close-in-Err-take_up_without.ensures
-    closed in
+    subst (λ (k : Held g.row.S.Denot). DiskKept g.S.Store k) c.close-in-Err-take_up_without.ensures closed in
     let mid : DiskKept g.S.Store c.in-Ok.registry =
     omega (arith, clean, c.take_up_without.ensures.keep.clean) in
-    absurd (c.in-Ok.ensures.refuses is_open foreign mid)
+    let it = c.in-Ok.ensures.opens is_open in
+    absurd ((it.other foreign).refused mid)
 
 pub returns-in-Err-clause-unopened : goal.returns-in-Err-clause-unopened
 returns-in-Err-clause-unopened g c =
@@ -117,22 +93,23 @@ returns-in-Err-clause-unopened g c =
       lacks = search rules;
       untouched = λ before. record {
         shelf_is = refl;
-        alone = λ is_open clean sound t stands. c.in-Err.ensures.untouched is_open sound;
-        first_alone = λ is_open clean sound t stands. record {
-          tables = λ kept still. inl (c.in-Err.ensures.stays is_open sound kept still);
-          crash = c.in-Err.ensures.left_carried is_open sound;
-        };
+        alone = λ is_open clean sound t stands.
+            ((c.in-Err.ensures.opens is_open).second sound).alone;
+        first_alone = λ is_open clean sound t stands.
+            let over = (c.in-Err.ensures.opens is_open).first sound in
+            record { tables = λ kept still. inl (over.stays kept still); crash = over.left };
       };
       disk = search rules;
       unreadable = λ is_open clean is openable t s ts bytes stands of written. (
-          absurd (c.in-Err.ensures.unreadable is_open clean
+          absurd ((c.in-Err.ensures.opens is_open).fails.unreadable clean
           (of_unreadable c.in-Err.e.fault (sym c.of_store.ensures.value ∙ is)) openable));
       failed = λ is_open clean is known.
-          c.in-Err.ensures.store is_open
+          (c.in-Err.ensures.opens is_open).fails.store clean
+          (of_failed c.in-Err.e.fault (sym c.of_store.ensures.value ∙ is))
           (known_store (stored g.S.Store c.args.store) (elim known [
             | inl takes ↦ inl (takes.tables, takes.stands)
             | inr foreign ↦ inr foreign
-          ])) clean (of_failed c.in-Err.e.fault (sym c.of_store.ensures.value ∙ is));
+          ]));
       closed = search rules;
     }
 
@@ -142,22 +119,14 @@ returns-in-Ok-Carried-clause-opened g c =
       answers = λ h is_open clean. (
           let mid : DiskKept g.S.Store c.in-Ok.registry =
           omega (arith, clean, c.take_up_without.ensures.keep.clean) in
-          let opened = opened_tables g.S.Store c.args.store c.in-Ok.registry
-          (λ empty. c.in-Ok.ensures.made is_open empty mid)
-          (λ t holds. c.in-Ok.ensures.found t is_open holds mid)
-          (λ t first. c.in-Ok.ensures.upgraded t is_open first mid) in
-          let only : (db : Trees) → CrashLeaves g.S.Store c.args.store db
-          → db ≡ stored g.S.Store c.args.store =
-          λ db left. g.met.S.Store.settled c.args.store.store db is_open left in
-          let lawful = g.met.H.Shelf.lawful c.args.shelf h in
+          let it = c.in-Ok.ensures.opens is_open in
           let b : Bench g.row.S.Denot g.row.H.Denot = record {
             media = c.take_up_without.new.self;
             progress = Ready;
             redone = c.in-Ok-Carried.redone;
           } in
           answered g.S.Store g.H.Shelf.view g.H.Shelf.size c.args.store c.in-Ok.registry
-          c.args.shelf
-          lawful only opened c.args.key.now c.args.provider b
+          c.args.shelf (it.opened mid) c.args.key.now c.args.provider b
           c.in-Ok-Carried.answer c.in-Ok-Carried.redone refl
           (subst
           (λ (x : TakenUp). DoesWithout g.S.Store g.H.Shelf.view g.H.Shelf.size c.args.key.now
@@ -167,14 +136,7 @@ returns-in-Ok-Carried-clause-opened g c =
       undone = λ h is_open clean. (
           let mid : DiskKept g.S.Store c.in-Ok.registry =
           omega (arith, clean, c.take_up_without.ensures.keep.clean) in
-          let opened = opened_tables g.S.Store c.args.store c.in-Ok.registry
-          (λ empty. c.in-Ok.ensures.made is_open empty mid)
-          (λ t holds. c.in-Ok.ensures.found t is_open holds mid)
-          (λ t first. c.in-Ok.ensures.upgraded t is_open first mid) in
-          let may = opening_leaves g.S.Store c.args.store c.in-Ok.registry
-          (c.in-Ok.ensures.left_made is_open)
-          (λ t holds. c.in-Ok.ensures.left_found t is_open holds)
-          (λ t first. c.in-Ok.ensures.left_upgraded t is_open first) in
+          let it = c.in-Ok.ensures.opens is_open in
           let only : (db : Trees) → CrashLeaves g.S.Store c.args.store db
           → db ≡ stored g.S.Store c.args.store =
           λ db left. g.met.S.Store.settled c.args.store.store db is_open left in
@@ -185,7 +147,7 @@ returns-in-Ok-Carried-clause-opened g c =
             redone = c.in-Ok-Carried.redone;
           } in
           undone g.S.Store g.H.Shelf.view g.H.Shelf.size c.args.store c.in-Ok.registry c.args.shelf
-          lawful only opened mid may c.args.key.now c.args.provider b
+          (it.opened mid) lawful only mid it.left c.args.key.now c.args.provider b
           c.in-Ok-Carried.answer c.in-Ok-Carried.redone
           (subst
           (λ (x : TakenUp). KeepsUndone g.S.Store g.H.Shelf.view g.H.Shelf.size c.args.key.now
@@ -204,35 +166,20 @@ returns-in-Ok-NotLost-clause-opened g c =
           subst (λ (k : Held g.row.S.Denot). DiskKept g.S.Store k) c.close.ensures closed in
           let mid : DiskKept g.S.Store c.in-Ok.registry =
           omega (arith, clean, c.take_up_without.ensures.keep.clean) in
-          let opened = opened_tables g.S.Store c.args.store c.in-Ok.registry
-          (λ empty. c.in-Ok.ensures.made is_open empty mid)
-          (λ t holds. c.in-Ok.ensures.found t is_open holds mid)
-          (λ t first. c.in-Ok.ensures.upgraded t is_open first mid) in
-          let only : (db : Trees) → CrashLeaves g.S.Store c.args.store db
-          → db ≡ stored g.S.Store c.args.store =
-          λ db left. g.met.S.Store.settled c.args.store.store db is_open left in
-          let lawful = g.met.H.Shelf.lawful c.args.shelf h in
+          let it = c.in-Ok.ensures.opens is_open in
           let does = subst (λ (x : TakenUp). DoesWithout g.S.Store g.H.Shelf.view g.H.Shelf.size
           c.args.key.now c.args.provider c.in-Ok.registry c.take_up_without.new.self.registry
           c.args.shelf c.take_up_without.new.self.shelf x) c.in-Ok-NotLost.field-0-is
           (c.in-Ok-NotLost.ensures.does h clean) in
           λ away u w left. does away left.recovers.intents left.recovers.bytes u w
-          (at_opened g.S.Store g.H.Shelf.view g.H.Shelf.size c.args.store c.in-Ok.registry
-          c.args.shelf
-          lawful only opened away u w left));
+          (found_at g.S.Store g.H.Shelf.view g.H.Shelf.size c.args.store c.in-Ok.registry
+          c.args.shelf (it.opened mid) away u w left));
       undone = λ h is_open closed. (
           let clean : DiskKept g.S.Store c.take_up_without.new.self.registry =
           subst (λ (k : Held g.row.S.Denot). DiskKept g.S.Store k) c.close.ensures closed in
           let mid : DiskKept g.S.Store c.in-Ok.registry =
           omega (arith, clean, c.take_up_without.ensures.keep.clean) in
-          let opened = opened_tables g.S.Store c.args.store c.in-Ok.registry
-          (λ empty. c.in-Ok.ensures.made is_open empty mid)
-          (λ t holds. c.in-Ok.ensures.found t is_open holds mid)
-          (λ t first. c.in-Ok.ensures.upgraded t is_open first mid) in
-          let may = opening_leaves g.S.Store c.args.store c.in-Ok.registry
-          (c.in-Ok.ensures.left_made is_open)
-          (λ t holds. c.in-Ok.ensures.left_found t is_open holds)
-          (λ t first. c.in-Ok.ensures.left_upgraded t is_open first) in
+          let it = c.in-Ok.ensures.opens is_open in
           let only : (db : Trees) → CrashLeaves g.S.Store c.args.store db
           → db ≡ stored g.S.Store c.args.store =
           λ db left. g.met.S.Store.settled c.args.store.store db is_open left in
@@ -243,8 +190,8 @@ returns-in-Ok-NotLost-clause-opened g c =
           (c.in-Ok-NotLost.ensures.undone h clean) in
           subst (λ (k : Held g.row.S.Denot). OpenLeaves g.S.Store g.H.Shelf.view g.H.Shelf.size
           c.args.store k c.args.shelf c.take_up_without.new.self.shelf) (sym c.close.ensures)
-          (opened_behind g.S.Store g.H.Shelf.view g.H.Shelf.size c.args.store c.in-Ok.registry
-          c.args.shelf lawful only opened mid may
+          (opens_over g.S.Store g.H.Shelf.view g.H.Shelf.size c.args.store c.in-Ok.registry
+          c.args.shelf lawful only mid it.left (it.opened mid)
           c.take_up_without.new.self.registry c.take_up_without.new.self.shelf keeps));
       ready = search rules;
       refused =
@@ -255,11 +202,7 @@ returns-in-Ok-NotLost-clause-opened g c =
           (are_untouched g.S.Store c.args.store c.in-Ok.registry
           c.take_up_without.new.self.registry c.args.shelf c.take_up_without.new.self.shelf
           (c.in-Ok-NotLost.ensures.before.shelf unwritten) c.take_up_without.ensures.keep.clean
-          c.in-Ok.ensures.untouched c.in-Ok.ensures.carried c.in-Ok.ensures.left_carried
-          (λ is_open mid. opened_tables g.S.Store c.args.store c.in-Ok.registry
-          (λ empty. c.in-Ok.ensures.made is_open empty mid)
-          (λ t holds. c.in-Ok.ensures.found t is_open holds mid)
-          (λ t first. c.in-Ok.ensures.upgraded t is_open first mid))
+          c.in-Ok.ensures.opens
           (λ clean t has. c.in-Ok-NotLost.ensures.before.registry clean unwritten t has));
     }
 
@@ -269,29 +212,20 @@ returns-in-Err-take_up_without-clause-unopened g c =
     record {
       lacks = λ h is_open closed q is. (
           let clean : DiskKept g.S.Store c.take_up_without.new.self.registry =
-          subst (λ (k : Held g.row.S.Denot). DiskKept g.S.Store k)
-          c.close-in-Err-take_up_without.ensures closed in
+          subst (λ (k : Held g.row.S.Denot). DiskKept g.S.Store k) c.close-in-Err-take_up_without.ensures closed in
           let mid : DiskKept g.S.Store c.in-Ok.registry =
           omega (arith, clean, c.take_up_without.ensures.keep.clean) in
-          let opened = opened_tables g.S.Store c.args.store c.in-Ok.registry
-          (λ empty. c.in-Ok.ensures.made is_open empty mid)
-          (λ t holds. c.in-Ok.ensures.found t is_open holds mid)
-          (λ t first. c.in-Ok.ensures.upgraded t is_open first mid) in
-          let may = opening_leaves g.S.Store c.args.store c.in-Ok.registry
-          (c.in-Ok.ensures.left_made is_open)
-          (λ t holds. c.in-Ok.ensures.left_found t is_open holds)
-          (λ t first. c.in-Ok.ensures.left_upgraded t is_open first) in
+          let it = c.in-Ok.ensures.opens is_open in
           let only : (db : Trees) → CrashLeaves g.S.Store c.args.store db
           → db ≡ stored g.S.Store c.args.store =
           λ db left. g.met.S.Store.settled c.args.store.store db is_open left in
+          let lawful = g.met.H.Shelf.lawful c.args.shelf h in
           subst (λ (k : Held g.row.S.Denot). LacksImage g.S.Store g.H.Shelf.view g.H.Shelf.size
           c.args.store c.args.shelf c.args.key.now c.args.provider k
           c.take_up_without.new.self.shelf q)
           (sym c.close-in-Err-take_up_without.ensures)
           (lacking g.S.Store g.H.Shelf.view g.H.Shelf.size c.args.store c.in-Ok.registry
-          c.args.shelf
-          (g.met.H.Shelf.lawful c.args.shelf h) only
-          opened mid may c.args.key.now c.args.provider
+          c.args.shelf (it.opened mid) lawful only mid it.left c.args.key.now c.args.provider
           c.take_up_without.new.self.registry c.take_up_without.new.self.shelf q
           (c.in-Err-take_up_without.ensures.lacks h clean q (ap Err is))));
       untouched = λ before.
@@ -300,67 +234,42 @@ returns-in-Err-take_up_without-clause-unopened g c =
           (are_untouched g.S.Store c.args.store c.in-Ok.registry
           c.take_up_without.new.self.registry c.args.shelf c.take_up_without.new.self.shelf
           (c.in-Err-take_up_without.ensures.before.shelf before)
-          c.take_up_without.ensures.keep.clean
-          c.in-Ok.ensures.untouched c.in-Ok.ensures.carried c.in-Ok.ensures.left_carried
-          (λ is_open mid. opened_tables g.S.Store c.args.store c.in-Ok.registry
-          (λ empty. c.in-Ok.ensures.made is_open empty mid)
-          (λ t holds. c.in-Ok.ensures.found t is_open holds mid)
-          (λ t first. c.in-Ok.ensures.upgraded t is_open first mid))
+          c.take_up_without.ensures.keep.clean c.in-Ok.ensures.opens
           (λ clean t has. c.in-Err-take_up_without.ensures.before.registry clean before t has));
       disk = λ is_open closed is t stands. (
           let clean : DiskKept g.S.Store c.take_up_without.new.self.registry =
-          subst (λ (k : Held g.row.S.Denot). DiskKept g.S.Store k)
-          c.close-in-Err-take_up_without.ensures closed in
+          subst (λ (k : Held g.row.S.Denot). DiskKept g.S.Store k) c.close-in-Err-take_up_without.ensures closed in
           let mid : DiskKept g.S.Store c.in-Ok.registry =
           omega (arith, clean, c.take_up_without.ensures.keep.clean) in
-          let opened = opened_tables g.S.Store c.args.store c.in-Ok.registry
-          (λ empty. c.in-Ok.ensures.made is_open empty mid)
-          (λ t holds. c.in-Ok.ensures.found t is_open holds mid)
-          (λ t first. c.in-Ok.ensures.upgraded t is_open first mid) in
-          let has = opened t stands in
-          c.in-Err-take_up_without.ensures.tells.disk clean t has (ap Err is));
+          let it = c.in-Ok.ensures.opens is_open in
+          c.in-Err-take_up_without.ensures.tells.disk clean t (it.opened mid t stands) (ap Err is));
       unreadable = λ is_open closed is openable t s ts bytes stands of written. (
           let clean : DiskKept g.S.Store c.take_up_without.new.self.registry =
-          subst (λ (k : Held g.row.S.Denot). DiskKept g.S.Store k)
-          c.close-in-Err-take_up_without.ensures closed in
+          subst (λ (k : Held g.row.S.Denot). DiskKept g.S.Store k) c.close-in-Err-take_up_without.ensures closed in
           let mid : DiskKept g.S.Store c.in-Ok.registry =
           omega (arith, clean, c.take_up_without.ensures.keep.clean) in
-          let opened = opened_tables g.S.Store c.args.store c.in-Ok.registry
-          (λ empty. c.in-Ok.ensures.made is_open empty mid)
-          (λ t holds. c.in-Ok.ensures.found t is_open holds mid)
-          (λ t first. c.in-Ok.ensures.upgraded t is_open first mid) in
-          let has = opened t stands in
-          c.in-Err-take_up_without.ensures.tells.unreadable clean (ap Err is) t s ts bytes has of
-          written);
+          let it = c.in-Ok.ensures.opens is_open in
+          c.in-Err-take_up_without.ensures.tells.unreadable clean (ap Err is) t s ts bytes
+          (it.opened mid t stands) of written);
       failed = λ is_open closed is known. (
           let clean : DiskKept g.S.Store c.take_up_without.new.self.registry =
-          subst (λ (k : Held g.row.S.Denot). DiskKept g.S.Store k)
-          c.close-in-Err-take_up_without.ensures closed in
+          subst (λ (k : Held g.row.S.Denot). DiskKept g.S.Store k) c.close-in-Err-take_up_without.ensures closed in
           let mid : DiskKept g.S.Store c.in-Ok.registry =
           omega (arith, clean, c.take_up_without.ensures.keep.clean) in
-          let opened = opened_tables g.S.Store c.args.store c.in-Ok.registry
-          (λ empty. c.in-Ok.ensures.made is_open empty mid)
-          (λ t holds. c.in-Ok.ensures.found t is_open holds mid)
-          (λ t first. c.in-Ok.ensures.upgraded t is_open first mid) in
+          let it = c.in-Ok.ensures.opens is_open in
           elim known [
             | inl takes ↦
-                let has = opened takes.tables takes.stands in
+                let has = it.opened mid takes.tables takes.stands in
                 subst (λ (k : Held g.row.S.Denot). StoreFailed g.S.Store c.args.store k)
                 (sym c.close-in-Err-take_up_without.ensures)
                 (failed_opened g.S.Store c.args.store c.in-Ok.registry
                 c.take_up_without.new.self.registry takes.tables
-                (opening_leaves g.S.Store c.args.store c.in-Ok.registry
-                (c.in-Ok.ensures.left_made is_open)
-                (λ t holds. c.in-Ok.ensures.left_found t is_open holds)
-                (λ t first. c.in-Ok.ensures.left_upgraded t is_open first) takes.tables
-                takes.stands)
+                (it.left takes.tables takes.stands)
                 (c.in-Err-take_up_without.ensures.tells.store clean (ap Err is) takes.tables
                 takes.records takes.intents takes.bytes has takes.are takes.few
-                (room_opened g.S.Store c.args.store c.in-Ok.registry
-                (c.in-Ok.ensures.untouched is_open) (c.in-Ok.ensures.carried is_open) mid
-                takes.tables takes.stands has
-                takes.room)))
-            | inr foreign ↦ absurd (c.in-Ok.ensures.refuses is_open foreign mid)
+                (room_opened g.S.Store c.args.store c.in-Ok.registry it mid takes.tables
+                takes.stands has takes.room)))
+            | inr foreign ↦ absurd ((it.other foreign).refused mid)
           ]);
       closed = search rules;
     }

@@ -43,11 +43,20 @@ returns-in-Ok-clause-done g c h clean = ok_then _ _ (λ a done. done (
 )) c.answer.result (c.answer.ensures.done h clean)
 
 pub returns-in-Ok-clause-rows : goal.returns-in-Ok-clause-rows
-returns-in-Ok-clause-rows g c = c.answer.ensures.rows (
-  c.deref.ensures ∙ c.in-Ok.ensures.words,
-  sym c.is_key.ensures ∙ c.if-not-is_key.false,
-  c.in-Ok.ensures.fits,
-)
+returns-in-Ok-clause-rows g c =
+    let fits = c.in-Ok.ensures.fits in
+    let told = c.answer.ensures.rows in
+    record {
+      readable = told.readable fits;
+      at_hand = told.at_hand fits;
+      refused = told.refused;
+      store = told.store (
+        c.deref.ensures ∙ c.in-Ok.ensures.words,
+        sym c.is_key.ensures ∙ c.if-not-is_key.false,
+        fits,
+      );
+      goes_on = told.goes_on;
+    }
 
 pub returns-then-not-is_key-clause-rows : goal.returns-then-not-is_key-clause-rows
 returns-then-not-is_key-clause-rows g c = record {

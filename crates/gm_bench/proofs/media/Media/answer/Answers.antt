@@ -160,25 +160,25 @@ returns-in-Ok-None-clause-accepts g c =
     }
 
 pub returns-in-Ok-None-clause-rows : goal.returns-in-Ok-None-clause-rows
-returns-in-Ok-None-clause-rows g c call = record {
-  readable = λ clean is t s has records few written honest.
+returns-in-Ok-None-clause-rows g c = record {
+  readable = λ fits clean is t s has records few written honest.
       let asked : DiskKept g.S.Store c.reply_of.new.self =
       omega (arith, clean, c.decide.ensures.accepts.clean) in
       let found = c.in-Ok-None.ensures.found asked t has in
-      (c.decide.ensures.rows call).readable clean is t s found.1.tables records few written honest;
-  at_hand = λ clean.
+      c.decide.ensures.rows.readable fits clean is t s found.1.tables records few written honest;
+  at_hand = λ fits clean.
       let asked : DiskKept g.S.Store c.reply_of.new.self =
       omega (arith, clean, c.decide.ensures.accepts.clean) in
       ok_then _ _ (λ a handy t s has records.
       handy t s (c.in-Ok-None.ensures.found asked t has).1.tables records)
-      c.decide.result ((c.decide.ensures.rows call).at_hand clean);
+      c.decide.result (c.decide.ensures.rows.at_hand fits clean);
   refused = λ clean.
       let asked : DiskKept g.S.Store c.reply_of.new.self =
       omega (arith, clean, c.decide.ensures.accepts.clean) in
       on_err_weaker c.decide.result (λ kept t s has.
       kept t s (c.in-Ok-None.ensures.found asked t has).1.tables)
-      ((c.decide.ensures.rows call).refused clean);
-  store = λ clean is t s has records none room honest.
+      (c.decide.ensures.rows.refused clean);
+  store = λ call clean is t s has records none room honest.
       let asked : DiskKept g.S.Store c.reply_of.new.self =
       omega (arith, clean, c.decide.ensures.accepts.clean) in
       let found = c.in-Ok-None.ensures.found asked t has in
@@ -188,7 +188,7 @@ returns-in-Ok-None-clause-rows g c call = record {
       c.in-Ok-None.field-0-is found.0 in
       failed_later g.S.Store c.args.self.now.registry c.reply_of.new.self t
       c.reply_of.ensures.reads has found.1.tables c.decide.new.self.registry
-      ((c.decide.ensures.rows call).store clean is t s found.1.tables records (none, free)
+      (c.decide.ensures.rows.store call clean is t s found.1.tables records (none, free)
       (room_later g.S.Store c.args.self.now.registry c.reply_of.new.self t c.reply_of.ensures.reads
       has found.1.tables most_rows asked room) honest);
   goes_on = λ clean.
@@ -198,11 +198,11 @@ returns-in-Ok-None-clause-rows g c call = record {
       let found = c.in-Ok-None.ensures.found asked t has in
       goes_later g.S.Store c.args.self.now.registry c.reply_of.new.self t c.reply_of.ensures.reads
       has found.1.tables c.decide.new.self.registry (goes t s found.1.tables records)))
-      ((c.decide.ensures.rows call).goes_on clean);
+      (c.decide.ensures.rows.goes_on clean);
 }
 
 pub returns-then-eq-clause-rows : goal.returns-then-eq-clause-rows
-returns-then-eq-clause-rows g c call = record {
+returns-then-eq-clause-rows g c = record {
   readable = search rules;
   at_hand = search rules;
   refused = search rules;
@@ -211,7 +211,7 @@ returns-then-eq-clause-rows g c call = record {
 }
 
 pub returns-in-Ok-Some-clause-rows : goal.returns-in-Ok-Some-clause-rows
-returns-in-Ok-Some-clause-rows g c call = record {
+returns-in-Ok-Some-clause-rows g c = record {
   readable = search rules;
   at_hand = search rules;
   refused = search rules;
@@ -220,7 +220,7 @@ returns-in-Ok-Some-clause-rows g c call = record {
 }
 
 pub returns-clause-rows : goal.returns-clause-rows
-returns-clause-rows g c call = record {
+returns-clause-rows g c = record {
   readable = search rules;
   at_hand = search rules;
   refused = search rules;

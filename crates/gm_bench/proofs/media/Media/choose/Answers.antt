@@ -118,20 +118,20 @@ returns-in-Ok-clause-accepts g c =
     }
 
 pub returns-in-Ok-clause-rows : goal.returns-in-Ok-clause-rows
-returns-in-Ok-clause-rows g c call = record {
-  readable = λ clean is t s has records few written honest.
+returns-in-Ok-clause-rows g c = record {
+  readable = λ fits clean is t s has records few written honest.
       let asked : DiskKept g.S.Store c.ask.new.self.registry =
       omega (arith, clean, c.commit.ensures.alone.clean) in
       c.commit.ensures.alone.readable clean is t
       (c.in_ok-planned.ensures.at_hand asked t s has records).0 few;
-  at_hand = λ clean.
+  at_hand = λ fits clean.
       let size = g.H.Shelf.size c.args.self.now.shelf in
       let asked : DiskKept g.S.Store c.ask.new.self.registry =
       omega (arith, clean, c.commit.ensures.alone.clean) in
       ok_then _ _ (λ a done t s has records. (
       let planned : AreAtHand size c.in-Ok.planned.work.intents.items =
       subst (λ r. IsPlanAtHand size r) c.in-Ok.is
-      ((c.in_ok-planned.ensures.at_hand asked t s has records).1 call.2) in
+      ((c.in_ok-planned.ensures.at_hand asked t s has records).1 fits) in
       with_hand size c.in-Ok.planned.work a done planned)) c.commit.result c.commit.ensures.work;
   refused = λ clean.
       let asked : DiskKept g.S.Store c.ask.new.self.registry =
@@ -139,7 +139,7 @@ returns-in-Ok-clause-rows g c call = record {
       on_err_weaker c.commit.result (λ kept t s has records.
       kept t (c.in_ok-planned.ensures.at_hand asked t s has records).0) (c.commit.ensures.refused
       clean);
-  store = λ clean is t s has records such room honest.
+  store = λ call clean is t s has records such room honest.
       let asked : DiskKept g.S.Store c.ask.new.self.registry =
       omega (arith, clean, c.commit.ensures.alone.clean) in
       let at = (c.in_ok-planned.ensures.at_hand asked t s has records).0 in
@@ -165,10 +165,10 @@ returns-in-Ok-clause-rows g c call = record {
 }
 
 pub returns-in_err-planned-clause-rows : goal.returns-in_err-planned-clause-rows
-returns-in_err-planned-clause-rows g c call = record {
-  readable = λ clean is t s has records few written honest.
+returns-in_err-planned-clause-rows g c = record {
+  readable = λ fits clean is t s has records few written honest.
       c.in_err-planned.ensures.readable clean (ap Err (fault_is c.from_residual.result _ _
-      c.from_residual.ensures.1 is)) t s has records call.2 honest;
+      c.from_residual.ensures.1 is)) t s has records fits honest;
   at_hand = search rules;
   refused = search rules;
   store = search rules;
@@ -176,7 +176,7 @@ returns-in_err-planned-clause-rows g c call = record {
 }
 
 pub returns-in-Err-clause-rows : goal.returns-in-Err-clause-rows
-returns-in-Err-clause-rows g c call = record {
+returns-in-Err-clause-rows g c = record {
   readable = search rules;
   at_hand = search rules;
   refused = search rules;

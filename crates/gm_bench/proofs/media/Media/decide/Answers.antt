@@ -139,35 +139,35 @@ returns-clause-accepts g c =
     }
 
 pub returns-clause-rows : goal.returns-clause-rows
-returns-clause-rows g c call = record {
-  readable = λ clean is t s has records few written honest.
+returns-clause-rows g c = record {
+  readable = λ fits clean is t s has records few written honest.
       let counted : DiskKept g.S.Store c.is_full.new.self.registry =
       omega (arith, clean, c.choose.ensures.accepts.clean) in
       let told = c.in_ok-is_full.ensures.told counted t has in
-      (c.choose.ensures.rows call).readable clean is t s told.1 records few written
+      c.choose.ensures.rows.readable fits clean is t s told.1 records few written
       (subst (λ (k : g.row.H.Denot). IsHonestToAdopt g.H.Shelf k c.args.command.now)
       (sym c.is_full.ensures.shelf) honest);
-  at_hand = λ clean.
+  at_hand = λ fits clean.
       let counted : DiskKept g.S.Store c.is_full.new.self.registry =
       omega (arith, clean, c.choose.ensures.accepts.clean) in
       ok_then _ _ (λ a handy t s has records.
       subst (λ (k : g.row.H.Denot). IsWorkAtHand (g.H.Shelf.size k) a) c.is_full.ensures.shelf
       (handy t s (c.in_ok-is_full.ensures.told counted t has).1 records))
-      c.choose.result ((c.choose.ensures.rows call).at_hand clean);
+      c.choose.result (c.choose.ensures.rows.at_hand fits clean);
   refused = λ clean.
       let counted : DiskKept g.S.Store c.is_full.new.self.registry =
       omega (arith, clean, c.choose.ensures.accepts.clean) in
       on_err_weaker c.choose.result (λ kept t s has.
       kept t s (c.in_ok-is_full.ensures.told counted t has).1)
-      ((c.choose.ensures.rows call).refused clean);
-  store = λ clean is t s has records such room honest.
+      (c.choose.ensures.rows.refused clean);
+  store = λ call clean is t s has records such room honest.
       let counted : DiskKept g.S.Store c.is_full.new.self.registry =
       omega (arith, clean, c.choose.ensures.accepts.clean) in
       let told = c.in_ok-is_full.ensures.told counted t has in
       let few = room_of c.in_ok-is_full.field-0 (count_of t) told.0 c.if-branch.false in
       failed_later g.S.Store c.args.self.now.registry c.is_full.new.self.registry t
       c.is_full.ensures.reads has told.1 c.choose.new.self.registry
-      ((c.choose.ensures.rows call).store clean is t s told.1 records (such.0, few, such.1)
+      (c.choose.ensures.rows.store call clean is t s told.1 records (such.0, few, such.1)
       (room_later g.S.Store c.args.self.now.registry c.is_full.new.self.registry t
       c.is_full.ensures.reads has told.1 most_rows counted room)
       (subst (λ (k : g.row.H.Denot). IsHonestToAdopt g.H.Shelf k c.args.command.now)
@@ -179,12 +179,12 @@ returns-clause-rows g c call = record {
       let told = c.in_ok-is_full.ensures.told counted t has in
       goes_later g.S.Store c.args.self.now.registry c.is_full.new.self.registry t
       c.is_full.ensures.reads has told.1 c.choose.new.self.registry
-      (goes t s told.1 records))) ((c.choose.ensures.rows call).goes_on clean);
+      (goes t s told.1 records))) (c.choose.ensures.rows.goes_on clean);
 }
 
 pub returns-in_err-is_full-clause-rows : goal.returns-in_err-is_full-clause-rows
-returns-in_err-is_full-clause-rows g c call = record {
-  readable = λ clean is t s has records few written honest.
+returns-in_err-is_full-clause-rows g c = record {
+  readable = λ fits clean is t s has records few written honest.
       c.in_err-is_full.ensures.readable clean (ap Err (fault_is c.from_residual.result _ _
       c.from_residual.ensures.1 is)) t has few;
   at_hand = search rules;
@@ -194,7 +194,7 @@ returns-in_err-is_full-clause-rows g c call = record {
 }
 
 pub returns-then-branch-clause-rows : goal.returns-then-branch-clause-rows
-returns-then-branch-clause-rows g c call = record {
+returns-then-branch-clause-rows g c = record {
   readable = search rules;
   at_hand = search rules;
   refused = search rules;

@@ -8,7 +8,7 @@ use Rattle.gm_bench.proofs.Found.{lead}
 use Rattle.gm_bench.proofs.TakenUp.{moved}
 use Rattle.gm_rows.specs.ReadableTables.{AreRecordsOf}
 use Rattle.gm_registry.proofs.ReadsInTurn.{sees_registry}
-use Rattle.gm_bench.proofs.DecidesOnly.{reads_then}
+use Rattle.gm_bench.proofs.DecidesOnly.{looks_then}
 use Rattle.gm_bench.proofs.StoreFails.{failed_later}
 use Rattle.gm_bench.proofs.media.Media.look_for_loss.Goals as goal
 
@@ -90,29 +90,13 @@ returns-in_err-judged-clause-store g c clean is t has =
     c.from_residual-in_err-judged.result _ _ c.from_residual-in_err-judged.ensures.1 is)) t then)
 
 pub returns-clause-looks : goal.returns-clause-looks
-returns-clause-looks g c = record {
-  shelf = c.judge.ensures.looks.shelf ∙ c.load.ensures.shelf;
-  clean = let one = c.load.ensures.reads.clean in
-      let two = c.judge.ensures.looks.clean in omega (arith, one, two);
-  reads = λ clean.
-      let clean1 : DiskKept g.S.Store c.load.new.self.registry =
-      omega (arith, clean, c.judge.ensures.looks.clean) in
-      reads_then g.S.Store c.args.self.now.registry c.load.new.self.registry
-      c.judge.new.self.registry (λ t has. (c.in_ok-loaded.ensures.loaded clean1 t has).1)
-      c.load.ensures.reads (c.judge.ensures.looks.reads clean);
-  fault = search rules;
-}
+returns-clause-looks g c =
+    looks_then g.S.Store c.args.self.now c.load.new.self c.judge.new.self c.judge.result _
+    c.load.ensures.shelf c.load.ensures.reads c.judge.ensures.looks
+    (λ clean t has. (c.in_ok-loaded.ensures.loaded clean t has).1) (search rules)
 
 pub returns-in_err-judged-clause-looks : goal.returns-in_err-judged-clause-looks
-returns-in_err-judged-clause-looks g c = record {
-  shelf = c.judge.ensures.looks.shelf ∙ c.load.ensures.shelf;
-  clean = let one = c.load.ensures.reads.clean in
-      let two = c.judge.ensures.looks.clean in omega (arith, one, two);
-  reads = λ clean.
-      let clean1 : DiskKept g.S.Store c.load.new.self.registry =
-      omega (arith, clean, c.judge.ensures.looks.clean) in
-      reads_then g.S.Store c.args.self.now.registry c.load.new.self.registry
-      c.judge.new.self.registry (λ t has. (c.in_ok-loaded.ensures.loaded clean1 t has).1)
-      c.load.ensures.reads (c.judge.ensures.looks.reads clean);
-  fault = search rules;
-}
+returns-in_err-judged-clause-looks g c =
+    looks_then g.S.Store c.args.self.now c.load.new.self c.judge.new.self c.judge.result _
+    c.load.ensures.shelf c.load.ensures.reads c.judge.ensures.looks
+    (λ clean t has. (c.in_ok-loaded.ensures.loaded clean t has).1) (search rules)

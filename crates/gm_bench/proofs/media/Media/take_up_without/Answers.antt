@@ -10,8 +10,8 @@ use Rattle.gm_bench.specs.declared.loss.Loss.{Loss}
 use Rattle.gm_bench.specs.Losing.{dropped}
 use Rattle.gm_bench.specs.Recovering.{IsFound}
 use Rattle.gm_bench.specs.Without.{CanBeCommitted, HasJudged, IsJudged, LeavesOpened, StaysReadable, loss_call}
-use Rattle.gm_bench.proofs.LossCarried.{lost_behind, nothing_opened}
-use Rattle.gm_bench.proofs.TakenUp.{absent_back, leaves_back, moved}
+use Rattle.gm_bench.proofs.LossCarried.{finished_opened, lost_behind, nothing_opened}
+use Rattle.gm_bench.proofs.TakenUp.{absent_back, moved}
 use Rattle.gm_bench.proofs.Causes.{absent_or_unreadable, fault_is, only_absent, passed_unwritten}
 use Rattle.gm_bench.proofs.DecidesOnly.{alone_read, unlost_read}
 use Rattle.gm_bench.specs.GivingUp.{IsUnwritten}
@@ -47,59 +47,43 @@ returns-in-Refused-clause-does g c h clean away ts bytes u w at =
 pub returns-in_err-check_and_finish-in-Kept-clause-leaves :
     goal.returns-in_err-check_and_finish-in-Kept-clause-leaves
 returns-in_err-check_and_finish-in-Kept-clause-leaves g c h clean =
-    let view = g.H.Shelf.view in
-    let size = g.H.Shelf.size in
-    let r = c.args.self.now.registry in
-    let k = c.args.self.now.shelf in
-    let mid = c.look_for_loss.new.self.registry in
-    let k1 = c.look_for_loss.new.self.shelf in
-    let clean1 : DiskKept g.S.Store mid =
+    let clean1 : DiskKept g.S.Store c.look_for_loss.new.self.registry =
     omega (arith, clean, c.check_and_finish.ensures.keep.clean) in
-    let h1 : g.H.Shelf.honest k1 =
+    let h1 : g.H.Shelf.honest c.look_for_loss.new.self.shelf =
     subst g.H.Shelf.honest (sym c.look_for_loss.ensures.looks.shelf) h in
-    inl (λ away ts bytes u w at. (
-    let looked = c.in_ok-looked.ensures.looked h clean1 away ts bytes u w at in
-    let was = looked.0 in
-    let are : c.deref.result.now ≡ ts = c.deref.ensures.value ∙ was.intents in
-    let laid : c.deref-in-Kept.result.now ≡ bytes = c.deref-in-Kept.ensures.value ∙ was.to_lay in
-    let found = moved g.S.Store view size r mid k k1 away ts bytes u w at
-    c.look_for_loss.ensures.looks.shelf
-    c.deref.result.now are c.deref-in-Kept.result.now laid looked.1 in
-    leaves_back g.S.Store view size r mid k k1 away ts bytes u w at
-    c.look_for_loss.ensures.looks.shelf
-    c.deref.result.now are c.deref-in-Kept.result.now laid
-    c.check_and_finish.new.self.registry c.check_and_finish.new.self.shelf
-    (saved g.S.Store g.met.S.Store.settled r at.tables at.has).crash
-    (c.check_and_finish.ensures.moments h1 away u w found was.state)
-    (c.check_and_finish.ensures.leaves h1 clean away u w found was.state)))
+    inl (finished_opened g.S.Store g.H.Shelf.view g.H.Shelf.size c.args.self.now.registry
+    c.look_for_loss.new.self.registry c.args.self.now.shelf c.look_for_loss.new.self.shelf
+    c.look_for_loss.ensures.looks.shelf (g.met.H.Shelf.lawful c.args.self.now.shelf h)
+    (λ t has. (saved g.S.Store g.met.S.Store.settled c.args.self.now.registry t has).crash)
+    c.args.key.now c.args.provider c.in_ok-looked.looked.state c.deref.result.now
+    c.deref-in-Kept.result.now c.check_and_finish.new.self.registry
+    c.check_and_finish.new.self.shelf (λ away ts bytes u w at. (
+    let looked = c.in_ok-looked.ensures.looked h clean1 away ts bytes u w at in (
+      looked.0.state,
+      c.deref.ensures.value ∙ looked.0.intents,
+      c.deref-in-Kept.ensures.value ∙ looked.0.to_lay,
+      looked.1,
+    ))) (c.check_and_finish.ensures.moments h1) (c.check_and_finish.ensures.leaves h1 clean))
 
 pub returns-in-Kept-clause-undone : goal.returns-in-Kept-clause-undone
 returns-in-Kept-clause-undone g c h clean =
-    let view = g.H.Shelf.view in
-    let size = g.H.Shelf.size in
-    let r = c.args.self.now.registry in
-    let k = c.args.self.now.shelf in
-    let mid = c.look_for_loss.new.self.registry in
-    let k1 = c.look_for_loss.new.self.shelf in
-    let clean1 : DiskKept g.S.Store mid =
+    let clean1 : DiskKept g.S.Store c.look_for_loss.new.self.registry =
     omega (arith, clean, c.check_and_finish.ensures.keep.clean) in
-    let h1 : g.H.Shelf.honest k1 =
+    let h1 : g.H.Shelf.honest c.look_for_loss.new.self.shelf =
     subst g.H.Shelf.honest (sym c.look_for_loss.ensures.looks.shelf) h in
-    (λ away ts bytes u w at. (
-    let looked = c.in_ok-looked.ensures.looked h clean1 away ts bytes u w at in
-    let was = looked.0 in
-    let are : c.deref.result.now ≡ ts = c.deref.ensures.value ∙ was.intents in
-    let laid : c.deref-in-Kept.result.now ≡ bytes = c.deref-in-Kept.ensures.value ∙ was.to_lay in
-    let found = moved g.S.Store view size r mid k k1 away ts bytes u w at
-    c.look_for_loss.ensures.looks.shelf
-    c.deref.result.now are c.deref-in-Kept.result.now laid looked.1 in
-    leaves_back g.S.Store view size r mid k k1 away ts bytes u w at
-    c.look_for_loss.ensures.looks.shelf
-    c.deref.result.now are c.deref-in-Kept.result.now laid
-    c.check_and_finish.new.self.registry c.check_and_finish.new.self.shelf
-    (saved g.S.Store g.met.S.Store.settled r at.tables at.has).crash
-    (c.check_and_finish.ensures.moments h1 away u w found was.state)
-    (c.check_and_finish.ensures.leaves h1 clean away u w found was.state)))
+    finished_opened g.S.Store g.H.Shelf.view g.H.Shelf.size c.args.self.now.registry
+    c.look_for_loss.new.self.registry c.args.self.now.shelf c.look_for_loss.new.self.shelf
+    c.look_for_loss.ensures.looks.shelf (g.met.H.Shelf.lawful c.args.self.now.shelf h)
+    (λ t has. (saved g.S.Store g.met.S.Store.settled c.args.self.now.registry t has).crash)
+    c.args.key.now c.args.provider c.in_ok-looked.looked.state c.deref.result.now
+    c.deref-in-Kept.result.now c.check_and_finish.new.self.registry
+    c.check_and_finish.new.self.shelf (λ away ts bytes u w at. (
+    let looked = c.in_ok-looked.ensures.looked h clean1 away ts bytes u w at in (
+      looked.0.state,
+      c.deref.ensures.value ∙ looked.0.intents,
+      c.deref-in-Kept.ensures.value ∙ looked.0.to_lay,
+      looked.1,
+    ))) (c.check_and_finish.ensures.moments h1) (c.check_and_finish.ensures.leaves h1 clean)
 
 pub returns-in-Kept-clause-leaves : goal.returns-in-Kept-clause-leaves
 returns-in-Kept-clause-leaves g c h clean = inl (returns-in-Kept-clause-undone g c h clean)
