@@ -77,7 +77,7 @@ pub store_of : {T : Type 0} (fault : BenchFault)
     → ◌≡◌ {A = Result T BenchFault} (Err fault) (Err Store)
 store_of fault is = let same : fault ≡ Store = cc in ap Err same
 
--- A look at a bench at rest: the bench stays so, and where it failed what it left leads on.
+-- A look at a bench at rest: the bench stays so, and if it failed, what it left leads on.
 module _ {S H T : Type 0} (s : StoreGhosts S) (h : ShelfGhosts H) (old new : Bench S H)
     (result : Result T BenchFault) (looks : LooksOn s h old new result)
     (honest : h.honest (shelf_of old)) (kept : DiskKept s (registry_of new)) (away : Image)

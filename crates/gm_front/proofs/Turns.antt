@@ -154,7 +154,7 @@ lines_of_none : lines_of [] ≡ []
 unfolding lines_of
 lines_of_none = refl
 
--- where nothing is left all lines were taken
+-- if nothing is left, all lines were taken
 pub all_taken : (input rest new : Option (List ℕ)) (lines : List (List ℕ)) (buffer : List ℕ)
     → IsLeft input rest lines → IfSome rest (λ bytes. IsLine bytes new buffer End)
     → AreLines input lines

@@ -68,7 +68,7 @@ AppendsFront (Some xs) None bytes = ⊥
 AppendsFront (Some xs) (Some ys) bytes =
     (front : List ℕ) × (rest : List ℕ) × (bytes ≡ front ++ rest) × (ys ≡ xs ++ front)
 
--- where the input failed all is told, else a beginning of it
+-- if the input failed all is told, else a beginning of it
 abbrev pub Tells : FrontFault → Option (List ℕ) → Option (List ℕ) → List ℕ → Type 0
 Tells Read = Appends
 Tells Memory = AppendsFront
@@ -96,7 +96,7 @@ abbrev pub unsettled_fault : Result BatchEnd FrontFault → FrontFault
 unsettled_fault (Ok end) = Read
 unsettled_fault (Err fault) = fault
 
--- these are the lines of the input, where that is known, or its first ones
+-- these are the lines of the input, if that is known, or its first ones
 abbrev pub AreLines : Option (List ℕ) → List (List ℕ) → Type 0
 AreLines input lines = IfSome input (λ bytes. lines_of bytes ≡ lines)
 
@@ -201,8 +201,8 @@ module _ {S H : Type 0} (g : Ghosts S) (view : H → View) (size : H → Sizes) 
     pub store : fault ≡ Store → HasRoom most_rows (seen g registry) → StoreFailed g registry s
     pub readable : fault ≡ Unreadable → AreWrittenUnder key answered.at.tables → ⊥
 
-  -- what is owed of lines that are answered, where they ended, where the bench failed, and where
-  -- the answers weren't all told
+  -- what is owed of lines that are answered, if they ended, if the bench failed, and if the answers
+  -- weren't all told
   abbrev pub HandsIn : Progress → Option (List ℕ) → Option (List ℕ) → Option (List ℕ) → Held S → H
       → Image → World → Result BatchEnd FrontFault → Type 0
   HandsIn p input before now s k away u (Ok (Ended refused)) =
@@ -213,7 +213,7 @@ module _ {S H : Type 0} (g : Ghosts S) (view : H → View) (size : H → Sizes) 
       Breaks input (Tells fault before now) (AreStanding p s k away u)
       ⊎ ((f : BenchFault) × (p ≡ Failed) × Stops input (AppendsFront before now) s k away u f)
 
-  -- What a batch owes, after which nothing is still to be settled. Where the answers weren't all
+  -- What a batch owes, after which nothing is still to be settled. If the answers weren't all
   -- told, the bench may also have failed as it settled the last command.
   abbrev pub Batches : Option (List ℕ) → Option (List ℕ) → Option (List ℕ) → Held S → H → Image
       → World → Result BatchEnd FrontFault → Type 0
@@ -226,7 +226,7 @@ module _ {S H : Type 0} (g : Ghosts S) (view : H → View) (size : H → Sizes) 
       ⊎ (((f : BenchFault) × Stops input (AppendsFront before now) s k away u f)
       ⊎ Breaks input (Tells fault before now) (AreUnsettled s k away u))
 
--- What a batch owes of a bench, where its input was known so, and its output before and now.
+-- What a batch owes of a bench, if its input was known so, and its output before and now.
 pub record AnswersBatch {S H : Type 0} (s : Ghosts S) (h : ShelfGhosts H)
     (input before now : Option (List ℕ)) (old new : Bench S H)
     (result : Result BatchEnd FrontFault) : Type 0 where

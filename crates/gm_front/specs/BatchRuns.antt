@@ -40,7 +40,7 @@ module _ {S H : Type 0} (g : Ghosts S) (view : H → View) (size : H → Sizes) 
     pub stopped : IsStoppedNext g view size all call registry s shelf k away behind.before
         behind.world (with_calls behind.calls acc) (with_calls behind.calls ack)
 
-  -- what a batch leaves of a bench that was at rest behind these entries
+  -- what a batch leaves of a bench that was at rest after these entries
   abbrev pub BatchLeaves : Option (List ℕ) → Held S → H → Image → List Entry → List Entry
       → Result BatchEnd FrontFault → Type 0
   BatchLeaves input s k away acc ack (Ok (end.Ended refused)) = (lines : List (List ℕ))

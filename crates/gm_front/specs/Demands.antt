@@ -57,7 +57,7 @@ told_as status body = record { status = status; body = body }
 abbrev pub not_found : Told
 not_found = told_as status.NotFound (error_json (codes "not found"))
 
--- a mirror, where one has the name
+-- a mirror, if one has the name
 abbrev pub mirror_told : Option (List ℕ) → Told
 mirror_told None = not_found
 mirror_told (Some body) = told_as status.Ok body
@@ -67,7 +67,7 @@ abbrev pub decoded_told : Result Metadata DecodeFault → Told
 decoded_told (Ok metadata) = told_as status.Ok (metadata_json metadata)
 decoded_told (Err fault) = told_as status.NotFound (decode_json fault)
 
--- the last sector of a provider, where it has one
+-- the last sector of a provider, if it has one
 abbrev pub sector_told : Option (List ℕ) → Told
 sector_told None = not_found
 sector_told (Some sector) = decoded_told (decode_of sector)

@@ -61,7 +61,7 @@ told_of (finding.Answered answer) = answer_told (answer_of answer)
 told_of (finding.Failed fault) = fault_told fault
 told_of (finding.Withheld list) = withheld_told list.items
 
--- the fault of the bench, where it failed
+-- the fault of the bench, if it failed
 abbrev pub fault_of : Finding → Option BenchFault
 fault_of (finding.Failed fault) = Some fault
 fault_of (finding.TurnedDown status message) = None

@@ -110,7 +110,7 @@ module _ {S H : Type 0} (s : StoreGhosts S) (h : ShelfGhosts H) (old new : Bench
       ⊎ ServesBehindLook away u input before now result fault
       ⊎ Withholds input before now result fault
 
-  -- the same where a page's request is turned away, unless those of any origin are wanted
+  -- the same if a page's request is turned away, unless those of any origin are wanted
   abbrev pub ServesGuarded : Bool → Image → World → Option (List ℕ) → Option (List ℕ)
       → Option (List ℕ) → Result ℕ FrontFault → Option BenchFault → Type 0
   ServesGuarded any_origin away u input before now result fault =

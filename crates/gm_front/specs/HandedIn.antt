@@ -15,13 +15,13 @@ use Rattle.gm_bench.specs.Standing.{LeavesNext}
 use Rattle.gm_state.specs.declared.intents.Intent.{Intent}
 use Rattle.gm_state.specs.World.{World}
 
--- entries, the newest first, behind which these calls were handed in one after another
+-- entries, the newest first, after which these calls were handed in one after another
 abbrev pub with_calls : List run.Call → List Entry → List Entry
 with_calls [] entries = entries
 with_calls (call ∷ calls) entries = with_calls calls (Handed_in call ∷ entries)
 
 module _ {S H : Type 0} (g : Ghosts S) (view : H → View) (size : H → Sizes) (all : Sizes) where
-  -- Some of the calls that were handed in are done, and the bench is at rest behind them.
+  -- Some of the calls that were handed in are done, and the bench is at rest after them.
   pub record IsAtRestBehind (handed : List run.Call) (s : Held S) (k : H) (away : Image)
       (acc ack : List Entry) : Type 0 where
     pub calls : List run.Call

@@ -70,7 +70,7 @@ module _ {S H : Type 0} (g : Ghosts S) (view : H → View) (size : H → Sizes) 
       (command : Command) × (asks ≡ Call key.now command)
       × FailsAt r s h k away u key.now command fault
 
-  -- A command that was answered where a bench stood for u, and v was before: the bench, which is
+  -- A command that was answered by a bench that stood for u, and v was before: the bench, which is
   -- now so far, stands for the world that the answer reaches, and either nothing is still to be
   -- settled or that.
   pub record IsAnsweredNext (p : Progress) (s : Held S) (k : H) (away : Image) (v u : World)
@@ -81,7 +81,7 @@ module _ {S H : Type 0} (g : Ghosts S) (view : H → View) (size : H → Sizes) 
     pub waits : (before ≡ world) ⊎ IsWaiting v u before answer
     pub stands : Stands g view size p s k away before world
 
-  -- A command that failed where a bench stood for u, and v was before.
+  -- A command that failed at a bench that stood for u, and v was before.
   pub record FailsNext (r s : Held S) (h k : H) (away : Image) (v u : World) (key : List ℕ)
       (command : Command) (fault : BenchFault) : Type 0 where
     pub left : LeavesNext g view size r s h k away v u key command
@@ -90,8 +90,8 @@ module _ {S H : Type 0} (g : Ghosts S) (view : H → View) (size : H → Sizes) 
     pub readable : fault ≡ Unreadable → (ts : List Intent) (bytes : List (List ℕ))
         → (at : IsCarriedOut g view size r h away ts bytes v u) → AreWrittenUnder key at.tables → ⊥
 
-  -- what a request comes to where a bench stands for u and v was before, from the registry r and
-  -- the shelf h to s and k, where the bench is so far
+  -- what a request comes to if a bench stands for u and v was before, from the registry r and the
+  -- shelf h to s and k, after which the bench is so far
   abbrev pub NextComesTo : Progress → Held S → Held S → H → H → Image → World → World → Asked
       → Outcome → Type 0
   NextComesTo p r s h k away v u asks outcome.Nothing =

@@ -14,14 +14,14 @@ use Rattle.gm_front.specs.declared.answer_lines.FrontFault.TheVariants.{Memory, 
 use Rattle.gm_front.specs.Demands.{Demand, Carry, demand_of}
 use Rattle.gm_front.specs.HandedIn.{IsAtRestBehind, IsStoppedAt}
 
--- the command that is handed in, where one is demanded
+-- the command that is handed in, if one is demanded
 abbrev pub calls_in : Demand → List run.Call
 calls_in (Carry key command) = record { key = key; command = command } ∷ []
 calls_in _ = []
 
 module _ {S H : Type 0} (g : Ghosts S) (view : H → View) (size : H → Sizes) (all : Sizes) where
   -- The bench, which was at rest with the registry r and the shelf h, failed at what is demanded:
-  -- at a command; or at a look, behind which whatever a stop leaves leads on as before.
+  -- at a command; or at a look, after which whatever a stop leaves leads on as before.
   abbrev pub IsStoppedIn : Demand → (r s : Held S) (h k : H) (away : Image) (acc ack : List Entry)
       → AtRest g view size all r h away acc ack → Type 0
   IsStoppedIn (Carry key command) r s h k away acc ack rest =
@@ -30,7 +30,7 @@ module _ {S H : Type 0} (g : Ghosts S) (view : H → View) (size : H → Sizes) 
   IsStoppedIn _ r s h k away acc ack rest = (db : Trees) (l : H)
       → IsStop g view size r s h k db l → Stopped g view size all db l away acc ack
 
-  -- What the request in this input demands was put to the bench, which is at rest behind it, or
+  -- What the request in this input demands was put to the bench, which is at rest after it, or
   -- failed at it.
   pub record IsServed (input : Option (List ℕ)) (r s : Held S) (h k : H) (away : Image)
       (acc ack : List Entry) (rest : AtRest g view size all r h away acc ack) : Type 0 where
@@ -39,7 +39,7 @@ module _ {S H : Type 0} (g : Ghosts S) (view : H → View) (size : H → Sizes) 
     pub leaves : IsAtRestBehind g view size all (calls_in (demand_of asked)) s k away acc ack
         ⊎ IsStoppedIn (demand_of asked) r s h k away acc ack rest
 
-  -- what serving a request leaves of a bench that was at rest behind these entries; where the input
+  -- what serving a request leaves of a bench that was at rest after these entries; if the input
   -- failed, or memory early, nothing was put to it
   abbrev pub ServedLeaves : Option (List ℕ) → (r s : Held S) (h k : H) (away : Image)
       (acc ack : List Entry) → AtRest g view size all r h away acc ack → Result ℕ FrontFault
@@ -52,7 +52,7 @@ module _ {S H : Type 0} (g : Ghosts S) (view : H → View) (size : H → Sizes) 
   ServedLeaves input r s h k away acc ack rest (Err Write) =
       IsServed input r s h k away acc ack rest
 
-  -- the same where pages are turned away: behind a page's request the bench is at rest as it was
+  -- the same if pages are turned away: after a page's request the bench is at rest as it was
   abbrev pub ServedUnlessPage : Option (List ℕ) → (r s : Held S) (h k : H) (away : Image)
       (acc ack : List Entry) → AtRest g view size all r h away acc ack → Result ℕ FrontFault
       → Type 0

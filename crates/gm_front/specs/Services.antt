@@ -38,7 +38,7 @@ code_told (Err fault) = Err fault
 abbrev pub page_told : Told
 page_told = told_as Forbidden (error_json (codes "not from a page"))
 
--- A page was turned away: all of that was written, or a beginning of it; or nothing, where its
+-- A page was turned away: all of that was written, or a beginning of it; or nothing, if its
 -- request wasn't read to its end.
 abbrev pub TurnsAway : Option (List ℕ) → Option (List ℕ) → Result ℕ FrontFault → Type 0
 TurnsAway before now (Ok code) = (code ≡ 403) × Appends before now (bytes_of page_told)
@@ -91,7 +91,7 @@ module _ {S H : Type 0} (g : Ghosts S) (view : H → View) (size : H → Sizes) 
   Serves input before now r s h k away u (Err Write) fault =
       Tells input (AppendsFront before now) r s h k away u (λ n. Unit {0}) fault
 
-  -- what serving a request comes to where pages are turned away, for which the bench isn't asked
+  -- what serving a request comes to if pages are turned away, for which the bench isn't asked
   abbrev pub ServesUnlessPage : Option (List ℕ) → Option (List ℕ) → Option (List ℕ) → Held S
       → Held S → H → H → Image → World → Result ℕ FrontFault → Option BenchFault → Type 0
   ServesUnlessPage input before now r s h k away u result fault =

@@ -124,7 +124,7 @@ impl Listener for NoListener {
     fn answered(&mut self, _line: Option<&[u8]>, _outcome: &Outcome<'_>) {}
 }
 
-// The bytes of a line that was found; none where they are more than a buffer's.
+// The bytes of a line that was found; none if they are more than a buffer's.
 fn bytes_of(line: &[u8], found: Line) -> Option<&[u8]> {
     match found {
         Line::End | Line::Long => None,
@@ -134,8 +134,8 @@ fn bytes_of(line: &[u8], found: Line) -> Option<&[u8]> {
 
 /// Answers the lines of an input in turn, each asked of the bench before it is told, and told
 /// before the next is read. A line that names no command is refused without the bench; one without
-/// words isn't answered. Asks for a bench in phase Ready or Failed. `Stopped` where the bench
-/// failed at a command, whose line is told. Fails where an answer couldn't be told or the input be
+/// words isn't answered. Asks for a bench in phase Ready or Failed. `Stopped` if the bench
+/// failed at a command, whose line is told. Fails if an answer couldn't be told or the input be
 /// read: what the bench accepted stays accepted.
 pub fn batch<R: BufRead, W: Write, S: Alter, H: Shelf>(
     alloc: Global,

@@ -39,7 +39,7 @@ pub(crate) enum Finding {
     Mirrors(State),
     /// The mirrors, of which one is asked for.
     OneMirror(State, Label),
-    /// The last sector of a provider, where it has one.
+    /// The last sector of a provider, if it has one.
     LastSector(Option<[u8; 512]>),
     /// The bench wasn't asked: the words are no command.
     NoCommand,
@@ -68,7 +68,7 @@ fn not_found(alloc: Global) -> Result<Told, AllocError>
     })
 }
 
-// A mirror, where one has the name.
+// A mirror, if one has the name.
 fn mirror_told(alloc: Global, state: &State, name: Label) -> Result<Told, AllocError>
     ensures { IfOk result (λ told. told_in told ≡ mirror_told (mirror_json state.now name)) }
 {
@@ -174,7 +174,7 @@ impl Finding {
         }
     }
 
-    /// The fault of the bench, where it failed.
+    /// The fault of the bench, if it failed.
     pub(crate) fn fault(&self) -> Option<BenchFault>
         ensures { result ≡ fault_of self.now }
     {

@@ -15,9 +15,9 @@ ghost use Rattle.gm_front.specs.Services.{Serves, ServesUnlessPage};
 use gm_shelf::Shelf;
 use sqlite::Alter;
 
-/// A batch is a part of a schedule. A bench that is at rest behind accepted commands, as the law
-/// over schedules says, is so behind the batch as well, with those commands of its lines that were
-/// done; and where it failed at a line, whatever a stop then leaves leads on, with that command or
+/// A batch is a part of a schedule. A bench that is at rest after accepted commands, as the law
+/// over schedules says, is so after the batch as well, with those commands of its lines that were
+/// done; and if it failed at a line, whatever a stop then leaves leads on, with that command or
 /// without.
 pub fn whole_batch_law<S: Alter, H: Shelf>()
     ensures { (all : Sizes) (r : Held S) (h : H) (away : Image) (acc ack : List Entry)
@@ -27,10 +27,10 @@ pub fn whole_batch_law<S: Alter, H: Shelf>()
         → BatchLeaves S.Store H.view H.size all input s k away acc ack end }
 {}
 
-/// A request is a part of a schedule. A bench that is at rest behind accepted commands, as the law
-/// over schedules says, is so behind the request as well, with its command where that was done; and
-/// where the bench failed at what it demands, whatever a stop then leaves leads on, with that
-/// command or without.
+/// A request is a part of a schedule. A bench that is at rest after accepted commands, as the law
+/// over schedules says, is so after the request as well, with its command if that was done; and if
+/// the bench failed at what it demands, whatever a stop then leaves leads on, with that command or
+/// without.
 pub fn served_request_law<S: Alter, H: Shelf>()
     ensures { (all : Sizes) (r s : Held S) (h k : H) (away : Image) (acc ack : List Entry)
         (input before now : Option (List ℕ)) (end : Result ℕ FrontFault)
@@ -40,7 +40,7 @@ pub fn served_request_law<S: Alter, H: Shelf>()
         → ServedLeaves S.Store H.view H.size all input r s h k away acc ack rest end }
 {}
 
-/// So is a request that is served unless a page sent it: behind a page's the bench is at rest as it
+/// So is a request that is served unless a page sent it: after a page's the bench is at rest as it
 /// was, and nothing more is accepted.
 pub fn unless_page_law<S: Alter, H: Shelf>()
     ensures { (all : Sizes) (r s : Held S) (h k : H) (away : Image) (acc ack : List Entry)

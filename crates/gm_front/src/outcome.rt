@@ -55,7 +55,7 @@ impl<'a> Outcome<'a> {
         refused || self.is_refused()
     }
 
-    /// The answer line, with its line feed; nothing where nothing was asked.
+    /// The answer line, with its line feed; nothing if nothing was asked.
     pub fn text(&self, alloc: Global) -> Result<String, AllocError>
         ensures { IfOk result (λ text. string_bytes text ≡ text_of self.now) }
     {

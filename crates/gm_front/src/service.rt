@@ -39,7 +39,7 @@ pub struct Response {
 pub struct Served {
     /// The response, or why not all of it was written.
     pub response: Result<Response, FrontFault>,
-    /// Why the bench failed, where it did.
+    /// Why the bench failed, if it did.
     pub fault: Option<BenchFault>,
 }
 
@@ -203,7 +203,7 @@ pub fn serve_request_unless_page<R: Read, W: Write, S: Alter, H: Shelf>(
 }
 
 /// Serves one request, and answers the status of the response. A `Read` fault asked the bench
-/// nothing and wrote nothing; behind any other a beginning of the response was written, and what
+/// nothing and wrote nothing; after any other a beginning of the response was written, and what
 /// the bench accepted stays accepted.
 pub fn serve_one<R: Read, W: Write, S: Alter, H: Shelf>(
     alloc: Global,

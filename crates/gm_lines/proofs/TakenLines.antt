@@ -51,7 +51,7 @@ pub begins_with : (xs : List ℕ) (n : ℕ) → n < length xs → slice_index xs
 begins_with xs n low feed one =
     (one, drop (suc n) xs, split_at xs n 0 low ∙ ap (λ b. take n xs ++ b ∷ drop (suc n) xs) feed)
 
--- so does whatever goes on behind them
+-- so does whatever goes on after them
 pub begins_on : (xs more line : List ℕ) → BeginsWith xs line → BeginsWith (xs ++ more) line
 begins_on xs more line begins = (
   begins.0,
@@ -135,7 +135,7 @@ is_found bytes line seen rest count false test copied some is_line is_rest =
     let counted : count ≡ min (length seen) 131073 = copied.counted in
     (rw is_line (omega arith), ap Some (sym is_rest))
 
--- where a line feed comes
+-- if a line feed comes
 fed : (old mid new : Option (List ℕ)) (line : List ℕ) (count : ℕ) (b : ℕ) (found : Line)
     → Begins old mid line count → Consumes mid new (b ∷ []) → b ≡ 10 → found ≡ found_of count
     → IfSome old (λ bytes. IsLine bytes new line found)
@@ -164,7 +164,7 @@ is_ended bytes line seen count false test copied all one =
     let counted : count ≡ min (length seen) 131073 = copied.counted in
     (all ∙ nil_from_length seen (omega arith), refl)
 
--- where the input ends
+-- if the input ends
 ended : (old mid new : Option (List ℕ)) (line : List ℕ) (count : ℕ) (found : Line)
     → Begins old mid line count → Consumes mid new [] → OnSome mid (IsAtEnd new)
     → found ≡ (if nat_lt 0 count then found_of count else End)
@@ -177,7 +177,7 @@ ended (Some bytes) (Some ms) (Some ns) line count found begins took at_end e =
     ∙ append-nil begins.seen in
     rw (e, at_end) (is_ended bytes line begins.seen count _ refl begins.copied all begins.is_one)
 
--- what a reader showed behind what it then dropped is what it has next
+-- what a reader showed after what it then dropped is what it has next
 pub shown_next : (old new : Option (List ℕ)) (shown : List ℕ) (n : ℕ) (ahead : Ahead)
     → IfSome old (λ xs. StartsWith xs shown) → Consumes old new (take n shown)
     → IsAheadIn (drop n shown) ahead → IsNext old new ahead
@@ -221,7 +221,7 @@ piece_fed old mid new line copied count found begins took e =
     let consumed = subst (Consumes mid new) took.taken.0 took.consumed in
     rw took.taken.1 (fed old mid new line count 10 found begins consumed refl e)
 
--- a line behind which the input has ended
+-- a line after which the input has ended
 pub piece_ended : (old mid new : Option (List ℕ)) (line copied : List ℕ) (count : ℕ) (found : Line)
     → Begins old mid line count → TakesPiece mid new line copied count Nothing
     → found ≡ (if nat_lt 0 count then found_of count else End)

@@ -55,14 +55,14 @@ pub record IsCopied (line : List ℕ) (count : ℕ) (seen : List ℕ) : Type 0 w
 abbrev pub IsPiece : List ℕ → Type 0
 IsPiece bytes = (bytes ≡ 10 ∷ []) ⊎ (is_one_line bytes ≡ true)
 
--- no bytes are the end; a line feed leaves the line; others are put behind what was seen of it
+-- no bytes are the end; a line feed leaves the line; others are put after what was seen of it
 abbrev pub IsTaken : List ℕ → List ℕ → List ℕ → ℕ → Piece → Type 0
 IsTaken bytes line copied count Nothing = (bytes ≡ []) × (copied ≡ line)
 IsTaken bytes line copied count Feed = (bytes ≡ 10 ∷ []) × (copied ≡ line)
 IsTaken bytes line copied count (Bytes n) = (is_one_line bytes ≡ true)
     × ((seen : List ℕ) → IsCopied line count seen → IsCopied copied n (seen ++ bytes))
 
--- P, where the input has ended
+-- P, if the input has ended
 abbrev pub WhereEnded : Piece → Type 0 → Type 0
 WhereEnded Nothing P = P
 WhereEnded Feed P = Unit {0}

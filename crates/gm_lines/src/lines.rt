@@ -193,7 +193,7 @@ pub fn take_line<R: BufRead>(
 
 /// Takes the next line, with its line feed, into a buffer of `MAX_LINE` bytes; a longer line is
 /// taken whole too, and tells only that it is longer. The last line may lack its line feed. Fails
-/// where the reader does; what was read of a line is then gone.
+/// if the reader does; what was read of a line is then gone.
 pub fn next_line<R: BufRead>(reader: &mut R, line: &mut [u8]) -> io::Result<Line>
     requires { length line.old ≡ 131072 }
     ensures line { IfOk result (λ found. IfSome (R.remaining reader.old) (λ bytes.

@@ -23,7 +23,7 @@ pub enum Request<'a> {
     Call(&'a str, Command),
 }
 
-/// A key as answers show it: `?` where it isn't one.
+/// A key as answers show it: `?` if it isn't one.
 pub fn shown(key: &str) -> &str
     ensures { result.now ≡ shown key.now }
 {

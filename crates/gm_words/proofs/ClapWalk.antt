@@ -1,5 +1,5 @@
 -- How clap walks over words of which it looks at some alone: a word that doesn't begin with a
--- hyphen is a value or a name, whatever else it is, and behind the word of a command every word
+-- hyphen is a value or a name, whatever else it is, and after the word of a command every word
 -- goes to that command.
 use Rattle.std.proofs.Common.{◌≡◌, ◌∙◌, ℕ, Bool, true, false, refl, sym, ap, ap₂, List, [], ◌∷◌, ◌++◌, map, Option, Some, None, is_some, append-nil, append_assoc}
 use Rattle.std.specs.Prelude.{⊤, if◌then◌else◌, fold}
@@ -124,9 +124,9 @@ fault_all s w (a ∷ rest) h =
     (ap (λ (v : Walk). walk_fault s [] v (map text_of rest)) (said_once s.rules w a h.0)
     ∙ fault_all s (said_walked s.rules w a) rest h.1)
 
--- ---- behind the word of a command
+-- ---- after the word of a command
 
--- the walk of the table has met the command n, and these words behind it
+-- the walk of the table has met the command n, and these words after it
 abbrev pub met_with : Text → List Text → Walk
 met_with n behind = record (walk_from nothing_held) { stopped = Some (n, behind) }
 
@@ -190,12 +190,12 @@ module _ (a : App) (n : Text) (s : Shape) (has : Meets a n s) where
       ap₂ or_else has.passes (ap (λ (w : Walk). walk_fault a.top (names_of a) w behind)
       has.meets ∙ behind_fault a.top (names_of a) n [] behind)
 
-  -- what is wrong with words is what is wrong with those behind the command's
+  -- what is wrong with words is what is wrong with those after the command's
   pub own_fault : (behind : List Text) → built_fault a nothing_held (n ∷ behind)
       ≡ or_else (level_fault s [] nothing_held behind false []) []
   own_fault behind = ap₂ (top_fault a) (met behind) (no_fault behind) ∙ has.faults behind
 
-  -- what is found of words is found of those behind the command's
+  -- what is found of words is found of those after the command's
   pub own_rows : (behind : List Text)
       → entered a (walk a.top.rules (names_of a) nothing_held (n ∷ behind)).stopped
       ≡ Some (n, rows_after s.rules [] behind)
@@ -221,7 +221,7 @@ module _ (n : Text) (s : Shape) (read : List Row → Option Command) (has : Has 
     faults = has.faults;
   }
 
-  -- the command that words spell, where its own words pass
+  -- the command that words spell, if its own words pass
   pub spelled_as : (said : List Said) → ArePlain said
       → leaf_fault s (ended s said) (said_fault s begun said) ≡ []
       → spelled (n ∷ map text_of said) ≡ read (finished s.rules (ended s said).held)

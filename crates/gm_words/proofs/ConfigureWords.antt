@@ -98,7 +98,7 @@ priority_option =
       rows = λ v h. refl;
     })
 
--- the words of a provider, which stands behind `=` where the names are guarded
+-- the words of a provider, which stands after `=` if the names are guarded
 abbrev provider_words : Bool → Text → List Said
 provider_words false = apart (codes "prov")
 provider_words true = attached (codes "prov")
@@ -316,7 +316,7 @@ guarded_told n settings =
 
 -- ---- none of them begins with a hyphen
 
--- the provider of a preference doesn't, where it isn't guarded
+-- the provider of a preference doesn't, if it isn't guarded
 abbrev MayStand : Bool → Option Preference → Type 0
 MayStand true o = ⊤
 MayStand false o = IfSome o (λ p. IsNoFlag p.provider)

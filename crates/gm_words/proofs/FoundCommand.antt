@@ -9,7 +9,7 @@ use Rattle.gm_words.proofs.ClapWalk.{Said, app, begun, ended, exact, leaf_fault,
 abbrev pub leaf : App → Shape
 leaf command = built_leaf (inherited app.top command.top)
 
--- names that don't begin with a hyphen, or any names behind `--`
+-- names that don't begin with a hyphen, or any names after `--`
 abbrev pub named : Bool → List Text → List Said
 named false names = map plain names
 named true names = exact (codes "--") ∷ map exact names

@@ -162,7 +162,7 @@ abbrev pub first_given : Option Text → Option Text → Option Text
 first_given None other = other
 first_given (Some value) other = Some value
 
--- its value, where it is given
+-- its value, if it is given
 abbrev pub value_at : Text → List Slot → Option Text
 value_at id [] = None
 value_at id (slot ∷ rest) =
@@ -184,7 +184,7 @@ pub given_or_none : (value : Option Text) → first_given value None ≡ value
 given_or_none None = refl
 given_or_none (Some value) = refl
 
--- a name behind the options is found as one more of them
+-- a name after the options is found as one more of them
 pub found_more : (slots : List Slot) (id value : Text) (words : Text → List Said)
     → found_in slots ++ row id value
     ∷ [] ≡ found_in (slots ++ record { id = id; words = words; value = Some value } ∷ [])
@@ -196,7 +196,7 @@ found_more (slot ∷ rest) id value words =
     whole ∙ ap (λ (rows : List Row). given_rows slot.id slot.value ++ rows)
     (found_more rest id value words)
 
--- nothing, where it is none of them
+-- nothing, if it is none of them
 pub none_in : (id : Text) (slots : List Slot)
     → list_all (λ slot. not (bytes_eq slot.id id)) slots ≡ true
     → has_row id (found_in slots) ≡ false
@@ -216,7 +216,7 @@ none_in id (slot ∷ rest) others =
 abbrev pub apart : Text → Text → List Said
 apart id value = exact (codes "--" ++ id) ∷ plain value ∷ []
 
--- its value stands behind `=`
+-- its value stands after `=`
 abbrev pub attached : Text → Text → List Said
 attached id value = exact (codes "--" ++ id ++ codes "=" ++ value) ∷ []
 
@@ -287,7 +287,7 @@ pub begins : {A : Type 0} (pending : Bool) (more one : A)
 begins true more one = refl
 begins false more one = refl
 
--- a command without defaults takes its words, where the walk ends so
+-- a command without defaults takes its words, if the walk ends so
 pub ends_by : (s : Shape) → list_all (λ a. is_empty a.defaults) s.rules ≡ true
     → (w : Walk) (said : List Said) (h : Held) (end : List Row)
     → (fold (said_walked s.rules) w said).held ≡ h → said_fault s w said ≡ [] → held_fault s h ≡ []

@@ -39,7 +39,7 @@ joined_length (s ∷ ss) are =
     let rest : length (joined ss) ≡ 512 * length ss = joined_length ss first.1 in
     omega (arith, length-append s (joined ss), size, rest)
 
--- what stands in front is taken, and what is behind it left
+-- what stands in front is taken, and what is after it left
 take_front : (n : ℕ) (xs ys : List ℕ) → length xs ≡ n → take n (xs ++ ys) ≡ xs
 take_front zero [] ys e = refl
 take_front (suc n) [] ys e = absurd (omega (arith, e))

@@ -213,7 +213,7 @@ preference_given (Some p) fits =
     let small : p.priority < 2 ^ 8 = fits.1 in
     rw (label_again p.provider fits.0, number_again (2 ^ 8) p.priority small (omega arith)) refl
 
--- where each option says what the settings say
+-- if each option says what the settings say
 pub settings_read : (rows : List Row) (settings : Settings) → SliceFits settings.slice
     → PreferenceFits settings.preference
     → first_of (codes "balance") rows ≡ option_map (λ b. balance_name (balance_of_word b))

@@ -14,7 +14,7 @@ is_digit b = (nat_le 48 b && nat_le b 57) || (nat_le 97 b && nat_le b 102)
 abbrev pub is_count : ℕ → Bool
 is_count n = nat_lt 0 n && nat_le n 64
 
--- the bytes as sectors of 512, where they are whole ones, and as many as a patch may have
+-- the bytes as sectors of 512, if they are whole ones, and as many as a patch may have
 abbrev pub sectors_of : Result (List ℕ) FromHexError → Option (List (List ℕ))
 sectors_of (Err e) = None
 sectors_of (Ok bytes) =

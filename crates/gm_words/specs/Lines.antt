@@ -25,7 +25,7 @@ number name value = field name (decimal value)
 abbrev pub texts : List (Bor (List ℕ)) → List (List ℕ)
 texts names = map (λ name. name.now) names
 
--- a name where it holds
+-- a name if it holds
 abbrev pub name_where : Bool → List ℕ → List (List ℕ)
 name_where holds name = if holds then name ∷ [] else []
 

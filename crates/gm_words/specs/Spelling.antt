@@ -32,7 +32,7 @@ o >>= f = option_and_then f o
 
 -- ---- the kinds of values
 
--- a number below the bound: decimal digits, behind a plus or not
+-- a number below the bound: decimal digits, after a plus or not
 unfoldable pub number_below : ℕ → Text → Option ℕ
 number_below bound text =
     let digits = without_leading_plus text in
@@ -63,7 +63,7 @@ label_in text = if is_label text then Some text else None
 unfoldable pub providers_in : List Text → Option (List Text)
 providers_in texts = if list_all is_label texts && not (length texts == 0) then Some texts else None
 
--- of an option that may be left out: that it is, or its value, where that is one of its kind
+-- of an option that may be left out: that it is, or its value, if that is one of its kind
 abbrev pub if_given : {A : Type 0} → (Text → Option A) → Option Text → Option (Option A)
 if_given kind None = Some None
 if_given kind (Some text) = option_map Some (kind text)
@@ -230,11 +230,11 @@ command_of word rows =
 
 -- ---- the words
 
--- the command of the name that clap met, where it finds no fault
+-- the command of the name that clap met, if it finds no fault
 abbrev pub taken : Kinds → Option (Text × List Row) → Option Command
 taken faults found = if length faults == 0 then found >>= (λ p. command_of p.0 p.1) else None
 
--- the command, where clap takes the words by the table and each value is one of its kind
+-- the command, if clap takes the words by the table and each value is one of its kind
 unfoldable pub spelled : List Text → Option Command
 spelled words = taken (fault_of table words) (subcommand_of table words)
 
@@ -263,7 +263,7 @@ HasNoFlags (Advance name provider) = IsNoFlag name × IsNoFlag provider
 HasNoFlags (Adopt name providers) = IsNoFlag name × All IsNoFlag providers
 HasNoFlags (Patch name first sectors) = IsNoFlag name
 
--- the options of configure with the provider behind `=`
+-- the options of configure with the provider after `=`
 abbrev pub guarded_preference : Option Preference → List Text
 guarded_preference None = []
 guarded_preference (Some p) = (codes "--prov=" ++ p.provider) ∷ codes "--priority"

@@ -17,7 +17,7 @@ names id = record (new_rule id) { required = true; action = Some Append }
 unfoldable pub wanted : Text → Rule
 wanted id = record (new_rule id) { long = Some id; required = true; action = Some Set }
 
--- an option that has this value where it isn't given
+-- an option that has this value if it isn't given
 unfoldable pub optional : Text → Text → Rule
 optional id other = record (new_rule id) {
   long = Some id;

@@ -40,7 +40,7 @@ standing x = codes " " ++ member_state_name x.state ++ filled x.state x.metadata
 abbrev pub member_line : Member → List ℕ
 member_line x = line (codes "  " ++ left_in_15 x.provider ++ standing x)
 
--- a number behind its name
+-- a number after its name
 abbrev pub named_number : List ℕ → ℕ → List ℕ
 named_number name value = codes " " ++ name ++ codes " " ++ decimal value
 
@@ -50,7 +50,7 @@ group_line g =
     ++ named_number (codes "genid") g.genid
     ++ named_number (codes "syncid") g.syncid)
 
--- a source, and that no member is sure where none is
+-- a source, and that no member is sure if none is
 abbrev pub named_source : List ℕ → Bool → List ℕ
 named_source name sure =
     if sure then name else name ++ codes ", but none is sure: each ACTIVE one is DIRTY"
@@ -84,7 +84,7 @@ reason_text OtherSize = codes "tells another size"
 abbrev pub left_line : LeftOut → List ℕ
 left_line x = line (codes "  " ++ left_in_15 x.provider ++ codes " " ++ reason_text x.reason)
 
--- those that are left out, where some are
+-- those that are left out, if some are
 abbrev pub left_text : List LeftOut → List ℕ
 left_text [] = []
 left_text (x ∷ xs) = line (codes "left out:") ++ flat_map left_line (x ∷ xs)

@@ -22,7 +22,7 @@ enum Word {
     Names(&'static str),
     // an option that must be given
     Wanted(&'static str),
-    // an option that has this value where it isn't given
+    // an option that has this value if it isn't given
     Optional(&'static str, &'static str),
     // an option that may be left out, and has no value then
     Possible(&'static str),
@@ -134,7 +134,7 @@ fn wanted<'a>(alloc: Global, id: &'a str) -> Arg<'a>
         .action(ArgAction::Set)
 }
 
-// An option that has this value where it isn't given.
+// An option that has this value if it isn't given.
 #[tactic(auto, unfolding(crate::specs::Table::optional))]
 fn optional<'a>(alloc: Global, id: &'a str, other: &'a str) -> Arg<'a>
     ensures rule { rule_of result ≡ optional id.entry.now other.entry.now }
@@ -281,7 +281,7 @@ fn row_of(rows: &[(&'static str, Kind)], word: &str) -> Option<(&'static str, Ki
     rows.iter().copied().find(|row| row.0 == word)
 }
 
-// Of the table the command of this word alone, where there is one.
+// Of the table the command of this word alone, if there is one.
 fn table_of<'a>(alloc: Global, word: &str) -> Result<Command<'a>, AllocError>
     ensures { IfOk result (λ c. (behind : List Text) → ReadsAlike (app_of c) (word.now ∷ behind)) }
 {

@@ -56,7 +56,7 @@ pub(crate) fn priority(text: &str) -> Option<u8>
     text.parse::<u8>().ok()
 }
 
-// These texts as providers, where each is a label and there is one.
+// These texts as providers, if each is a label and there is one.
 #[tactic(auto, unfolding(crate::specs::Spelling::providers_in))]
 fn providers(alloc: Global, found: &[&str]) -> Result<Option<Providers>, AllocError>
     ensures { IfOk result (λ r. r ≡ providers_in (texts found.now)) }
@@ -162,8 +162,8 @@ fn sectors_at(
     }
 }
 
-// The value of an option that may be left out: `Some(None)` where it was, `None` where it is none
-// of its kind.
+// The value of an option that may be left out: `Some(None)` if it was, `None` if it is none of its
+// kind.
 #[tactic(auto, unfolding(crate::specs::Spelling::slice_in))]
 fn given_slice(matches: &ArgMatches<'_>, id: &str) -> Option<Option<Slice>>
     ensures { result ≡ if_given slice_in (first_of id.now (rows_of (found_of matches.now))) }
@@ -408,7 +408,7 @@ pub(crate) fn parsed<'a>(alloc: Global, words: &'a [&'a str]) -> Result<ArgMatch
     table_for(alloc, words)?.try_get_matches_from(words)
 }
 
-// The command that clap found, where each value is one of its kind.
+// The command that clap found, if each value is one of its kind.
 fn command_found(alloc: Global, matches: &ArgMatches<'_>) -> Result<Option<Command>, AllocError>
     ensures { IfOk result (λ r. r
         ≡ option_and_then (λ p. command_of p.0 p.1) (subcommand_rows_of matches.now)) }

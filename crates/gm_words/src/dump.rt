@@ -76,9 +76,8 @@ fn written_hash(version: Version, sector: &[u8; 512]) -> &[u8]
     &sector[at..at + 16]
 }
 
-/// What a sector says, in 19 lines, or the line `fault N` where it doesn't decode. The hash is the
-/// one at the place of the sector's version. The lines are this project's own, after
-/// `gmirror dump`.
+/// What a sector says, in 19 lines, or the line `fault N` if it doesn't decode. The hash is the one
+/// at the place of the sector's version. The lines are this project's own, after `gmirror dump`.
 pub fn dump_text(alloc: Global, sector: &[u8; 512]) -> Result<String, AllocError>
     ensures { IfOk result (λ text. string_bytes text ≡ dump_text sector.now) }
 {

@@ -5,7 +5,7 @@ ghost use Rattle.gm_commands.specs.declared.command.Command.{Command};
 ghost use Rattle.gm_commands.specs.Commands.{CommandFits, words};
 ghost use Rattle.gm_words.specs.Spelling.{HasNoFlags, guarded_words, spelled};
 
-/// The canonical words of a command spell it, where no name of it begins with a hyphen. Whatever
+/// The canonical words of a command spell it, if no name of it begins with a hyphen. Whatever
 /// its names are, so do the words with `--` before the names that stand by their places, and
 /// `--prov=` before the provider of a preference.
 pub fn canonical_words()

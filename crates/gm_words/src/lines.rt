@@ -34,7 +34,7 @@ pub(crate) fn push_number(text: &mut String, name: &str, value: u64) -> Result<(
     writeln!(text, "{name}: {value}")
 }
 
-// Adds a name where it holds.
+// Adds a name if it holds.
 fn push_name_where(
     names: &mut Vec<&'static str>,
     holds: bool,

@@ -84,7 +84,7 @@ fn block(alloc: Global, mirror: &Mirror, members: &[Component]) -> Result<String
 }
 
 /// All that is known of each mirror, in byte order of names, and of each of its components, with an
-/// empty line between two mirrors; `no mirrors` where there is none. The form is this project's
+/// empty line between two mirrors; `no mirrors` if there is none. The form is this project's
 /// own, after `gmirror list`.
 pub fn list_text(alloc: Global, state: &State) -> Result<String, AllocError>
     ensures { IfOk result (λ text. string_bytes text ≡ list_text state.now) }

@@ -26,7 +26,7 @@ fn are_digits(text: &[u8]) -> bool
     all
 }
 
-// The bytes as sectors, where they are whole ones, 1 to 64.
+// The bytes as sectors, if they are whole ones, 1 to 64.
 fn sectors_of(alloc: Global, bytes: &[u8]) -> Result<Option<Sectors>, AllocError>
     ensures { IfOk result (λ r. r ≡ sectors_of (Ok bytes.now)) }
 {
@@ -39,7 +39,7 @@ fn sectors_of(alloc: Global, bytes: &[u8]) -> Result<Option<Sectors>, AllocError
 }
 
 /// The sectors that digits say: each byte as two of 0 to 9 and a to f, 512 bytes a sector, 1 to 64
-/// sectors. `None` where the text is anything else.
+/// sectors. `None` if the text is anything else.
 #[tactic(auto, unfolding(crate::specs::Digits::sectors_in))]
 pub(crate) fn sectors_in(alloc: Global, text: &str) -> Result<Option<Sectors>, AllocError>
     ensures { IfOk result (λ r. r ≡ sectors_in text.now) }

@@ -93,7 +93,7 @@ fn push_block(text: &mut String, mirror: &Mirror, members: &[Component]) -> Resu
 }
 
 /// How each mirror stands, in byte order of names, and below it each of its components; `no
-/// mirrors` where there is none. The form is this project's own, after `gmirror status`.
+/// mirrors` if there is none. The form is this project's own, after `gmirror status`.
 pub fn status_text(alloc: Global, state: &State) -> Result<String, AllocError>
     ensures { IfOk result (λ text. string_bytes text ≡ status_text state.now) }
 {

@@ -33,7 +33,7 @@ fn push_filled(text: &mut String, state: MemberState, mediasize: u64) -> Result<
     }
 }
 
-// Appends that a member says DIRTY, where it does.
+// Appends that a member says DIRTY, if it does.
 fn push_dirty_mark(text: &mut String, dirty: bool) -> Result<(), AllocError>
     ensures { OnOk result (string_bytes text.new ≡ string_bytes text.old ++ dirty_mark dirty) }
 {
@@ -65,7 +65,7 @@ fn push_member_line(text: &mut String, member: &Member) -> Result<(), AllocError
     text.push('\n')
 }
 
-// Appends a number behind its name.
+// Appends a number after its name.
 fn push_named_number(text: &mut String, name: &str, value: u32) -> Result<(), AllocError>
     ensures { OnOk result (string_bytes text.new
         ≡ string_bytes text.old ++ named_number name.now value) }
@@ -146,7 +146,7 @@ fn push_left_line(text: &mut String, left: &LeftOut) -> Result<(), AllocError>
     text.push('\n')
 }
 
-// Appends the images that are left out, where some are.
+// Appends the images that are left out, if some are.
 fn push_left(text: &mut String, left: &[LeftOut]) -> Result<(), AllocError>
     ensures { OnOk result (string_bytes text.new ≡ string_bytes text.old ++ left_text left.now) }
 {
@@ -160,7 +160,7 @@ fn push_left(text: &mut String, left: &[LeftOut]) -> Result<(), AllocError>
     Ok(())
 }
 
-// The mirrors; `no mirrors` where there is none.
+// The mirrors; `no mirrors` if there is none.
 fn groups_text(alloc: Global, groups: &[Group]) -> Result<String, AllocError>
     ensures { IfOk result (λ text. string_bytes text ≡ groups_text groups.now) }
 {
@@ -175,8 +175,8 @@ fn groups_text(alloc: Global, groups: &[Group]) -> Result<String, AllocError>
 }
 
 /// What the last sectors of images tell: each mirror, below it its members and the one that its
-/// data are taken from, and last the images that are left out. `no mirrors` where there is none.
-/// A member that says DIRTY is marked, and where each ACTIVE one does, the source is no sure one.
+/// data are taken from, and last the images that are left out. `no mirrors` if there is none.
+/// A member that says DIRTY is marked, and if each ACTIVE one does, the source is no sure one.
 /// The form is this project's own.
 pub fn tasting_text(alloc: Global, tasted: &Tasted) -> Result<String, AllocError>
     ensures { IfOk result (λ text. string_bytes text ≡ tasting_text tasted.now) }

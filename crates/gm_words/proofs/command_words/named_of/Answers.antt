@@ -1,4 +1,4 @@
--- For each word: which command it is, and that it is one where its names are found.
+-- For each word: which command it is, and that it is one if its names are found.
 use Rattle.std.proofs.Common.{◌≡◌, ◌∙◌, List, Option, ap, refl, rules, sym}
 use Rattle.std.specs.Prelude.{option_map}
 use Rattle.clap.specs.Walk.{Row, Text}
@@ -8,7 +8,7 @@ use Rattle.gm_words.specs.declared.command_words.ComponentNames.{ComponentNames}
 use Rattle.gm_words.specs.Spelling.{named_of}
 use Rattle.gm_words.proofs.command_words.named_of.Goals as goal
 
--- the command of a word, where this was found for its names
+-- the command of a word, if this was found for its names
 told : {X : Type 0} (f : X → Command) (word literal : Text) (rows : List Row)
     (at found x : Option X) → word ≡ literal → named_of literal rows ≡ option_map f at
     → found ≡ at → found ≡ x → option_map f x ≡ named_of word rows
