@@ -22,3 +22,6 @@ more_appended a b c k n bytes h g =
 pub all_appended : (a b : Option (List ℕ)) (k : ℕ) (bytes : List ℕ) → Appends a b (take k bytes)
     → k ≡ length bytes → Appends a b bytes
 all_appended a b k bytes h e = subst (Appends a b) (ap (λ n. take n bytes) e ∙ take-length bytes) h
+
+-- what the goals of writing all of some bytes need
+pub ruleset appendings = (front_appended, more_appended, all_appended)

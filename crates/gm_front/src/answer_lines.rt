@@ -75,7 +75,7 @@ fn write_some<W: Write>(writer: &mut W, bytes: &[u8]) -> Option<usize>
 }
 
 /// Writes all of the bytes, or a beginning of them.
-#[tactic(auto, using(crate::proofs::WrittenBytes::front_appended, crate::proofs::WrittenBytes::more_appended, crate::proofs::WrittenBytes::all_appended))]
+#[tactic(auto, using(crate::proofs::WrittenBytes::appendings))]
 pub(crate) fn write_whole<W: Write>(writer: &mut W, bytes: &[u8]) -> Result<(), FrontFault>
     ensures ok { OnOk result (Appends (W.contents writer.old) (W.contents writer.new) bytes.now) }
     ensures front { OnErr result
