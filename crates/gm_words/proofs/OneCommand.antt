@@ -1,145 +1,113 @@
--- A table with one command alone reads the words of that command as the whole table does.
-use Rattle.std.proofs.Common.{◌≡◌, ◌∙◌, true, refl, sym, ap, subst, List, [], ◌∷◌, Some, find, ⊎_elim}
-use Rattle.std.specs.Prelude.{codes, drop, slice_get}
+-- A command by itself reads its own words as the whole table reads them after its word.
+use Rattle.std.proofs.Common.{◌≡◌, ◌∙◌, true, false, refl, sym, ap, subst, List, [], ◌∷◌, Some, find, ⊎_elim}
+use Rattle.std.specs.Prelude.{codes, map}
 use Rattle.std.specs.Borrow.{Bor}
 use Rattle.std.specs.Str.{bytes_eq}
+use Rattle.clap.proofs.FaultLemmas.{leaf_fault}
 use Rattle.clap.proofs.OnLiterals.{clap_on_literals}
-use Rattle.clap.specs.Walk.{Text, texts}
-use Rattle.clap.specs.Simple.{App, Shape, built, with_subcommand}
+use Rattle.clap.specs.Faults.{level_fault}
+use Rattle.clap.specs.Kinds.{Kinds, or_else}
+use Rattle.clap.specs.Walk.{Text, nothing_held, rows_after}
+use Rattle.clap.specs.Simple.{App, Shape, built, label_of}
 use Rattle.clap.specs.Words.{is_simple, is_simple_and_free}
 use Rattle.gm_lists.specs.Ordered.{Has as IsAmong}
 use Rattle.gm_lists.proofs.Finding.{found}
 use Rattle.gm_lists.proofs.Order.{same_is}
 use Rattle.std.proofs.lemmas.Bool.{and_parts}
 use Rattle.gm_words.specs.Alike.{ReadsAlike}
-use Rattle.gm_words.specs.Kinds.{command_of_kind}
-use Rattle.gm_words.specs.Table.{commands, name, names, optional, possible, table, wanted}
+use Rattle.gm_words.specs.Kinds.{alone}
+use Rattle.gm_words.specs.Table.{name, names, optional, possible, wanted}
 use Rattle.gm_words.specs.declared.clap_table.Kind.{Kind}
 use Rattle.gm_words.specs.declared.clap_table.Kind.TheVariants.{Label, Insert, Configure, Patch, Mirror, Provider, Component, Several}
 use Rattle.gm_words.proofs.Canonical.{has_label, has_insert, has_remove, has_deactivate, has_activate, has_forget, has_rebuild, has_advance, has_clear, has_destroy, has_patch}
 use Rattle.gm_words.proofs.ConfigureWords.{has_configure}
-use Rattle.gm_words.proofs.ParsedTable.{table_is_free}
 use Rattle.gm_words.proofs.Several.{has_lost, has_adopt}
 use Rattle.gm_words.proofs.ClapWalk.{Meets, app, in_table, own_fault, own_rows}
 
--- the table with the command of this word alone
-abbrev pub alone : Text → Kind → App
-alone word kind = with_subcommand commands (command_of_kind word kind).top
-
--- the words of that command are read alike
+-- the command reads its own words as the whole table does
 abbrev pub IsAlike : Text → Kind → Type 0
-IsAlike word kind = (behind : List Text) → ReadsAlike (alone word kind) (word ∷ behind)
+IsAlike word kind = (own : List Text) → ReadsAlike (alone word kind) word own
 
--- both tables have the command
+or_nothing : (faults : Kinds) → faults ≡ or_else faults []
+or_nothing [] = refl
+or_nothing (k ∷ ks) = refl
+
+-- the table has the command, of the shape that it has by itself
 alike : (n : Text) (kind : Kind) (s : Shape) → is_simple_and_free (alone n kind) ≡ true
-    → Meets (built (alone n kind)) n s → Meets app n s → IsAlike n kind
-alike n kind s simple one all behind = record {
-  simple = simple;
-  faults = own_fault (built (alone n kind)) n s one behind ∙ sym (own_fault app n s all behind);
-  found = own_rows (built (alone n kind)) n s one behind ∙ sym (own_rows app n s all behind);
-}
+    → (built (alone n kind)).subs ≡ [] → (built (alone n kind)).top ≡ s → Meets app n s
+    → IsAlike n kind
+alike n kind s simple none top all own =
+    let a = built (alone n kind) in
+    record {
+      simple = simple;
+      faults = leaf_fault a nothing_held own none
+          ∙ (ap (λ (t : Shape). level_fault t [] nothing_held own false []) top
+          ∙ (or_nothing _ ∙ sym (own_fault app n s all own)));
+      found = ap (λ (subs : List Shape). Some (n, rows_after a.top.rules (map label_of subs) own))
+          none
+          ∙ (ap (λ (t : Shape). Some (n, rows_after t.rules [] own)) top
+          ∙ sym (own_rows app n s all own));
+    }
 
 pub alike_label : IsAlike (codes "label") Label
 unfolding clap_on_literals name names optional possible wanted
-alike_label =
-    alike _ Label _ refl
-    (record { meets = refl; passes = refl; rows = λ behind. refl; faults = λ behind. refl })
-    (in_table _ _ _ has_label)
+alike_label = alike _ Label _ refl refl refl (in_table _ _ _ has_label)
 
 pub alike_insert : IsAlike (codes "insert") Insert
 unfolding clap_on_literals name names optional possible wanted
-alike_insert =
-    alike _ Insert _ refl
-    (record { meets = refl; passes = refl; rows = λ behind. refl; faults = λ behind. refl })
-    (in_table _ _ _ has_insert)
+alike_insert = alike _ Insert _ refl refl refl (in_table _ _ _ has_insert)
 
 pub alike_remove : IsAlike (codes "remove") Component
 unfolding clap_on_literals name names optional possible wanted
-alike_remove =
-    alike _ Component _ refl
-    (record { meets = refl; passes = refl; rows = λ behind. refl; faults = λ behind. refl })
-    (in_table _ _ _ has_remove)
+alike_remove = alike _ Component _ refl refl refl (in_table _ _ _ has_remove)
 
 pub alike_deactivate : IsAlike (codes "deactivate") Component
 unfolding clap_on_literals name names optional possible wanted
-alike_deactivate =
-    alike _ Component _ refl
-    (record { meets = refl; passes = refl; rows = λ behind. refl; faults = λ behind. refl })
-    (in_table _ _ _ has_deactivate)
+alike_deactivate = alike _ Component _ refl refl refl (in_table _ _ _ has_deactivate)
 
 pub alike_activate : IsAlike (codes "activate") Component
 unfolding clap_on_literals name names optional possible wanted
-alike_activate =
-    alike _ Component _ refl
-    (record { meets = refl; passes = refl; rows = λ behind. refl; faults = λ behind. refl })
-    (in_table _ _ _ has_activate)
+alike_activate = alike _ Component _ refl refl refl (in_table _ _ _ has_activate)
 
 pub alike_forget : IsAlike (codes "forget") Mirror
 unfolding clap_on_literals name names optional possible wanted
-alike_forget =
-    alike _ Mirror _ refl
-    (record { meets = refl; passes = refl; rows = λ behind. refl; faults = λ behind. refl })
-    (in_table _ _ _ has_forget)
+alike_forget = alike _ Mirror _ refl refl refl (in_table _ _ _ has_forget)
 
 pub alike_rebuild : IsAlike (codes "rebuild") Component
 unfolding clap_on_literals name names optional possible wanted
-alike_rebuild =
-    alike _ Component _ refl
-    (record { meets = refl; passes = refl; rows = λ behind. refl; faults = λ behind. refl })
-    (in_table _ _ _ has_rebuild)
+alike_rebuild = alike _ Component _ refl refl refl (in_table _ _ _ has_rebuild)
 
 pub alike_configure : IsAlike (codes "configure") Configure
 unfolding clap_on_literals name names optional possible wanted
-alike_configure =
-    alike _ Configure _ refl
-    (record { meets = refl; passes = refl; rows = λ behind. refl; faults = λ behind. refl })
-    (in_table _ _ _ has_configure)
+alike_configure = alike _ Configure _ refl refl refl (in_table _ _ _ has_configure)
 
 pub alike_clear : IsAlike (codes "clear") Provider
 unfolding clap_on_literals name names optional possible wanted
-alike_clear =
-    alike _ Provider _ refl
-    (record { meets = refl; passes = refl; rows = λ behind. refl; faults = λ behind. refl })
-    (in_table _ _ _ has_clear)
+alike_clear = alike _ Provider _ refl refl refl (in_table _ _ _ has_clear)
 
 pub alike_destroy : IsAlike (codes "destroy") Mirror
 unfolding clap_on_literals name names optional possible wanted
-alike_destroy =
-    alike _ Mirror _ refl
-    (record { meets = refl; passes = refl; rows = λ behind. refl; faults = λ behind. refl })
-    (in_table _ _ _ has_destroy)
+alike_destroy = alike _ Mirror _ refl refl refl (in_table _ _ _ has_destroy)
 
 pub alike_lost : IsAlike (codes "lost") Several
 unfolding clap_on_literals name names optional possible wanted
-alike_lost =
-    alike _ Several _ refl
-    (record { meets = refl; passes = refl; rows = λ behind. refl; faults = λ behind. refl })
-    (in_table _ _ _ has_lost)
+alike_lost = alike _ Several _ refl refl refl (in_table _ _ _ has_lost)
 
 pub alike_advance : IsAlike (codes "advance") Component
 unfolding clap_on_literals name names optional possible wanted
-alike_advance =
-    alike _ Component _ refl
-    (record { meets = refl; passes = refl; rows = λ behind. refl; faults = λ behind. refl })
-    (in_table _ _ _ has_advance)
+alike_advance = alike _ Component _ refl refl refl (in_table _ _ _ has_advance)
 
 pub alike_adopt : IsAlike (codes "adopt") Several
 unfolding clap_on_literals name names optional possible wanted
-alike_adopt =
-    alike _ Several _ refl
-    (record { meets = refl; passes = refl; rows = λ behind. refl; faults = λ behind. refl })
-    (in_table _ _ _ has_adopt)
+alike_adopt = alike _ Several _ refl refl refl (in_table _ _ _ has_adopt)
 
 pub alike_patch : IsAlike (codes "patch") Patch
 unfolding clap_on_literals name names optional possible wanted
-alike_patch =
-    alike _ Patch _ refl
-    (record { meets = refl; passes = refl; rows = λ behind. refl; faults = λ behind. refl })
-    (in_table _ _ _ has_patch)
+alike_patch = alike _ Patch _ refl refl refl (in_table _ _ _ has_patch)
 
 -- ---- the command that is found in rows
 
--- the table of one row's command alone reads its words as the whole table does
+-- the command of each row reads its own words as the whole table does
 pub data AreAlike : List (Bor Text × Kind) → Type 0 where
   none : AreAlike []
   more : {row : Bor Text × Kind} {rest : List (Bor Text × Kind)} → IsAlike row.0.now row.1
@@ -154,24 +122,12 @@ among (r ∷ rest) (more this others) row has =
 
 pub found_alike : {rows : List (Bor Text × Kind)} {word : Text} {row : Bor Text × Kind}
     → find (λ r. bytes_eq r.0.now word) rows ≡ Some row → AreAlike rows
-    → (behind : List Text) → ReadsAlike (alone row.0.now row.1) (word ∷ behind)
-found_alike {rows} {word} {row} e all behind =
+    → (own : List Text) → ReadsAlike (alone row.0.now row.1) word own
+found_alike {rows} {word} {row} e all own =
     let it = found (λ (r : Bor Text × Kind). bytes_eq r.0.now word) rows row e in
     let same : row.0.now ≡ word = same_is _ _ it.1 in
-    subst (λ (w : Text). ReadsAlike (alone row.0.now row.1) (w ∷ behind)) same
-    (among rows all row it.0 behind)
-
--- the whole table is one of these tables
-pub table_alike : (words : List Text) → ReadsAlike table words
-table_alike words = record { simple = table_is_free; faults = refl; found = refl }
-
--- words that have a first one
-pub from_first : (words : List (Bor Text)) (word : Bor Text) → slice_get words 0 ≡ Some word
-    → texts words ≡ word.now ∷ texts (drop 1 words)
-from_first [] word e = absurd (let h : ⊥ = cc in h)
-from_first (w ∷ rest) word e =
-    let same : w ≡ word = cc in
-    ap (λ (x : Bor Text). x.now ∷ texts rest) same
+    subst (λ (w : Text). ReadsAlike (alone row.0.now row.1) w own) same
+    (among rows all row it.0 own)
 
 -- what is simple and free is simple
 pub simple_one : (a : App) → is_simple_and_free a ≡ true → is_simple a ≡ true

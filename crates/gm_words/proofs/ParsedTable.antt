@@ -1,15 +1,17 @@
 -- What is computed of the table, and what clap's clauses say there.
-use Rattle.std.proofs.Common.{◌≡◌, ◌≢◌, Bool, true, refl, sym, ap, ap₂, arith, subst, length, List, [], ◌∷◌, Option, Some, None, Result, Ok, Err, IfOk, IfErr, MatchResult, inl, inr, ℕ}
+use Rattle.std.proofs.Common.{◌≡◌, ◌≢◌, ◌∙◌, Bool, true, refl, sym, ap, ap₂, arith, subst, length, List, [], ◌∷◌, Option, Some, None, Result, Ok, Err, IfOk, IfErr, MatchResult, inl, inr, ℕ}
 use Rattle.std.specs.Prelude.{MatchOption, if◌then◌else◌, option_and_then, option_map}
 use Rattle.std.specs.Borrow.{Bor}
 use Rattle.std.specs.Result.{result_ok}
 use Rattle.clap.specs.Walk.{Text}
+use Rattle.clap.specs.Simple.{App, matches_of}
 use Rattle.clap.specs.Words.{FailsBy, HasKind, IsAmong, Kinds, Row, fault_of, is_simple, is_simple_and_free, kind_of, subcommand_of, subcommand_rows_of}
 use Rattle.clap.specs.declared.ArgMatches.{ArgMatches}
 use Rattle.clap.specs.declared.Error.{Error}
 use Rattle.clap.specs.declared.error.ErrorKind.TheVariants.{OutOfMemory}
 use Rattle.clap.proofs.OnLiterals.{clap_on_literals}
 use Rattle.gm_commands.specs.declared.command.Command.{Command}
+use Rattle.gm_words.specs.Alike.{ReadsAlike}
 use Rattle.gm_words.specs.Spelling.{command_of, spelled, taken}
 use Rattle.gm_words.specs.Table.{name, names, optional, possible, table, wanted}
 use Rattle.gm_words.proofs.ReadValues.{nonzero}
@@ -27,7 +29,7 @@ pub none_at_ok : {X : Type 0} (kinds : Kinds) (r : Result X Error) → FailsBy k
 none_at_ok kinds (Ok x) h = h
 none_at_ok kinds (Err e) h = tt
 
-some_at : (kinds : Kinds) (e : Error) → HasKind kinds e → kind_of e ≢ OutOfMemory → kinds ≢ []
+pub some_at : (kinds : Kinds) (e : Error) → HasKind kinds e → kind_of e ≢ OutOfMemory → kinds ≢ []
 some_at kinds e (inl memory) other = absurd (other memory)
 some_at kinds e (inr among) other = λ none. subst (IsAmong (kind_of e)) none among
 
@@ -49,6 +51,15 @@ pub spelled_by : (words : List Text) (m : ArgMatches) → fault_of table words �
     → spelled words ≡ option_and_then (λ p. command_of p.0 p.1) (subcommand_rows_of m)
 unfolding spelled
 spelled_by words m none rows = ap₂ taken none (sym rows)
+
+-- the same of a command's own words, by what clap makes of them by the command alone
+pub spelled_alone : (a : App) (word : Text) (own : List Text) (rows : List Row)
+    → ReadsAlike a word own → fault_of a own ≡ [] → rows ≡ matches_of a own
+    → spelled (word ∷ own) ≡ command_of word rows
+unfolding spelled
+spelled_alone a word own rows alike none are =
+    ap₂ taken (sym alike.faults ∙ none)
+    (sym alike.found ∙ ap (λ (found : List Row). Some (word, found)) (sym are))
 
 none_taken : (faults : Kinds) (found : Option (Text × List Row)) → faults ≢ []
     → taken faults found ≡ None

@@ -1,5 +1,5 @@
 -- What commands of each kind take, and the table of commands by their kinds.
-use Rattle.std.specs.Prelude.{List, fold}
+use Rattle.std.specs.Prelude.{List, fold, true}
 use Rattle.std.specs.Borrow.{Bor}
 use Rattle.clap.specs.Walk.{Rule, Text}
 use Rattle.clap.specs.Simple.{App, on_top, with_rule, with_subcommand}
@@ -37,6 +37,12 @@ command_of_kind word Mirror = on_mirror word
 command_of_kind word Provider = on_provider word
 command_of_kind word Component = on_component word
 command_of_kind word Several = on_several word
+
+-- the command by itself: its words are those after its own, and none of them asks for help
+abbrev pub alone : Text → Kind → App
+alone word kind =
+    on_top (λ s. record s { no_binary_name = true; disable_help_flag = true })
+    (command_of_kind word kind)
 
 abbrev pub with_row : App → Bor Text × Kind → App
 with_row command row = with_subcommand command (command_of_kind row.0.now row.1).top

@@ -1,13 +1,13 @@
 //! The table of the commands' words, for clap. `COMMANDS` has the commands, each with its kind, and
 //! beside each kind stand the words that its commands take, in the order in which clap has them.
 
-ghost use Rattle.std.specs.Prelude.{◌≡◌, ◌∷◌, List, IfOk, false, find};
+ghost use Rattle.std.specs.Prelude.{◌≡◌, List, IfOk, IfSome, false, find};
 ghost use Rattle.std.specs.Str.{bytes_eq};
-ghost use Rattle.clap.specs.Walk.{Text, texts};
+ghost use Rattle.clap.specs.Walk.{Text};
 ghost use Rattle.clap.specs.Words.{app_of, new_app, rule_of, with_rule, with_subcommand};
 ghost use Rattle.clap.specs.declared.builder.command.Command.TheViews.{out-Command};
 ghost use Rattle.gm_words.specs.Table.{commands, name, names, optional, possible, table, wanted};
-ghost use Rattle.gm_words.specs.Kinds.{command_of_kind, with_row, with_rows, with_words};
+ghost use Rattle.gm_words.specs.Kinds.{alone, command_of_kind, with_row, with_rows, with_words};
 ghost use Rattle.gm_words.specs.Alike.{ReadsAlike};
 
 use clap::{Arg, ArgAction, Command};
@@ -267,8 +267,8 @@ fn with_rows<'a>(
     Ok(command)
 }
 
-// The whole table.
-fn table<'a>(alloc: Global) -> Result<Command<'a>, AllocError>
+/// The whole table.
+pub(crate) fn table<'a>(alloc: Global) -> Result<Command<'a>, AllocError>
     ensures { IfOk result (λ c. app_of c ≡ table) }
 {
     with_rows(alloc, commands(alloc), &COMMANDS)
@@ -281,23 +281,23 @@ fn row_of(rows: &[(&'static str, Kind)], word: &str) -> Option<(&'static str, Ki
     rows.iter().copied().find(|row| row.0 == word)
 }
 
-// Of the table the command of this word alone, if there is one.
-fn table_of<'a>(alloc: Global, word: &str) -> Result<Command<'a>, AllocError>
-    ensures { IfOk result (λ c. (behind : List Text) → ReadsAlike (app_of c) (word.now ∷ behind)) }
+// The command of this word and kind by itself: its words are those after its own, and none of them
+// asks for help.
+fn alone<'a>(alloc: Global, word: &'static str, kind: Kind) -> Result<Command<'a>, AllocError>
+    ensures { IfOk result (λ c. app_of c ≡ alone word.now kind) }
 {
-    match row_of(&COMMANDS, word) {
-        Some(row) => with_rows(alloc, commands(alloc), &[row]),
-        None => table(alloc),
-    }
+    let command = command_of_kind(alloc, word, kind)?;
+    Ok(command.no_binary_name(true).disable_help_flag(true))
 }
 
-/// A table that reads these words as the whole table does. To make it takes most of the time that
-/// words take, so it has no more commands than it needs.
-pub(crate) fn table_for<'a>(alloc: Global, words: &[&str]) -> Result<Command<'a>, AllocError>
-    ensures { IfOk result (λ c. ReadsAlike (app_of c) (texts words.now)) }
+/// The command of this word by itself, if there is one: it reads the words after its own as the
+/// whole table does, and is made in a fraction of the time.
+pub(crate) fn command_for<'a>(alloc: Global, word: &str) -> Result<Option<Command<'a>>, AllocError>
+    ensures { IfOk result (λ r. IfSome r (λ c.
+        (own : List Text) → ReadsAlike (app_of c) word.now own)) }
 {
-    match words.first() {
-        Some(word) => table_of(alloc, word),
-        None => table(alloc),
+    match row_of(&COMMANDS, word) {
+        Some(row) => Ok(Some(alone(alloc, row.0, row.1)?)),
+        None => Ok(None),
     }
 }

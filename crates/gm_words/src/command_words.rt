@@ -1,12 +1,13 @@
 //! The words of a command, as a shell would split them.
 
-ghost use Rattle.std.specs.Prelude.{◌≡◌, ◌≢◌, ◌^◌, [], Some, None, IfErr, IfOk, MatchOption, MatchResult, option_and_then, option_map};
-ghost use Rattle.clap.specs.Words.{fault_of, found_of, kind_of, rows_of, subcommand_of, subcommand_rows_of};
-ghost use Rattle.clap.specs.Walk.{all_of, first_of, texts};
+ghost use Rattle.std.specs.Prelude.{◌≡◌, ◌≢◌, ◌^◌, [], ◌∷◌, List, Some, None, IfErr, IfOk, MatchOption, MatchResult, OnOk, option_and_then, option_map};
+ghost use Rattle.clap.specs.Words.{app_of, fault_of, found_of, kind_of, rows_of, subcommand_of, subcommand_rows_of};
+ghost use Rattle.clap.specs.Walk.{Text, all_of, first_of, texts};
+ghost use Rattle.gm_words.specs.Alike.{ReadsAlike};
 ghost use Rattle.gm_words.specs.Spelling.{balance_at, balance_in, command_of, component_at, configure_of, flags_at, if_given, insert_of, label_at, label_of, named_of, number_at, number_below, patch_of, preference_in, priority_at, providers_at, providers_in, sectors_at, settings_at, several_at, slice_at, slice_in, spelled, switch_at, switch_in};
 ghost use Rattle.gm_words.specs.Table.{table};
 
-use crate::clap_table::table_for;
+use crate::clap_table::{command_for, table};
 use crate::sector_digits::sectors_in;
 use clap::error::ErrorKind;
 use clap::{ArgMatches, Error};
@@ -397,7 +398,7 @@ fn command_of(
     }
 }
 
-// What clap makes of the words.
+// What clap makes of the words by the whole table.
 pub(crate) fn parsed<'a>(alloc: Global, words: &'a [&'a str]) -> Result<ArgMatches<'a>, Error>
     ensures taken { IfOk result (λ m. fault_of table (texts words.entry.now) ≡ []) }
     ensures rows { IfOk result (λ m.
@@ -405,7 +406,17 @@ pub(crate) fn parsed<'a>(alloc: Global, words: &'a [&'a str]) -> Result<ArgMatch
     ensures refused { IfErr result (λ e. kind_of e ≢ ErrorKind.OutOfMemory
         → fault_of table (texts words.entry.now) ≢ []) }
 {
-    table_for(alloc, words)?.try_get_matches_from(words)
+    table(alloc)?.try_get_matches_from(words)
+}
+
+// Words that clap refuses are no command's, unless it is for want of memory.
+fn words_fault(error: &Error) -> Result<WordsFault, AllocError>
+    ensures { OnOk result (kind_of error.now ≢ ErrorKind.OutOfMemory) }
+{
+    match error.kind() {
+        ErrorKind::OutOfMemory => Err(AllocError),
+        _ => Ok(WordsFault),
+    }
 }
 
 // The command that clap found, if each value is one of its kind.
@@ -419,6 +430,35 @@ fn command_found(alloc: Global, matches: &ArgMatches<'_>) -> Result<Option<Comma
     }
 }
 
+// The command that words spell, read by the whole table.
+fn read_by_table(alloc: Global, words: &[&str]) -> Result<Result<Command, WordsFault>, AllocError>
+    ensures { IfOk result (λ r. MatchResult r (λ c. spelled (texts words.now) ≡ Some c)
+        (λ _. spelled (texts words.now) ≡ None)) }
+{
+    match parsed(alloc, words) {
+        Ok(matches) => Ok(command_found(alloc, &matches)?.ok_or(WordsFault)),
+        Err(e) => Ok(Err(words_fault(&e)?)),
+    }
+}
+
+// The command that this word spells with those after it, read by the command of the word alone.
+fn read_own<'a>(
+    alloc: Global,
+    command: clap::Command<'a>,
+    word: &str,
+    own: &'a [&'a str],
+) -> Result<Result<Command, WordsFault>, AllocError>
+    requires { (words : List Text) → ReadsAlike (app_of command) word.now words }
+    ensures { IfOk result (λ r. MatchResult r
+        (λ c. spelled (word.now ∷ texts own.entry.now) ≡ Some c)
+        (λ _. spelled (word.now ∷ texts own.entry.now) ≡ None)) }
+{
+    match command.try_get_matches_from(own) {
+        Ok(matches) => Ok(command_of(alloc, word, &matches)?.ok_or(WordsFault)),
+        Err(e) => Ok(Err(words_fault(&e)?)),
+    }
+}
+
 /// The command that words spell: the command's own, its options, each with its value, and the
 /// names, in any order that clap takes. Numbers are decimal. An `AllocError` is for want of memory
 /// alone.
@@ -426,11 +466,11 @@ pub fn read_words(alloc: Global, words: &[&str]) -> Result<Result<Command, Words
     ensures { IfOk result (λ r. MatchResult r (λ c. spelled (texts words.now) ≡ Some c)
         (λ _. spelled (texts words.now) ≡ None)) }
 {
-    match parsed(alloc, words) {
-        Ok(matches) => Ok(command_found(alloc, &matches)?.ok_or(WordsFault)),
-        Err(e) => match e.kind() {
-            ErrorKind::OutOfMemory => Err(AllocError),
-            _ => Ok(Err(WordsFault)),
-        },
+    let Some((word, own)) = words.split_first() else {
+        return read_by_table(alloc, words);
+    };
+    match command_for(alloc, word)? {
+        Some(command) => read_own(alloc, command, word, own),
+        None => read_by_table(alloc, words),
     }
 }

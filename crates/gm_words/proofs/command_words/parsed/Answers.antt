@@ -1,25 +1,30 @@
-use Rattle.std.proofs.Common.{◌∙◌, subst}
+use Rattle.std.proofs.Common.{◌≡◌, ◌∙◌, ap, subst, sym, true}
 use Rattle.std.proofs.lemmas.Result.{IfOk-weaker}
-use Rattle.clap.specs.Words.{FailsBy, Kinds, app_of}
-use Rattle.gm_words.proofs.OneCommand.{simple_one}
-use Rattle.gm_words.proofs.ParsedTable.{none_at_ok, some_at_err}
+use Rattle.clap.specs.Walk.{texts}
+use Rattle.clap.specs.Words.{App, FailsBy, fault_of, is_simple, is_simple_and_free, subcommand_of}
+use Rattle.gm_words.proofs.ParsedTable.{none_at_ok, some_at_err, table_is_free, table_is_simple}
 use Rattle.gm_words.proofs.command_words.parsed.Goals as goal
 
 pub returns-clause-taken : goal.returns-clause-taken
 returns-clause-taken c =
-    let alike = c.in_ok-table_for.ensures in
-    none_at_ok _ _ (subst (λ (k : Kinds). FailsBy k c.try_get_matches_from.result) alike.faults
-    (c.try_get_matches_from.ensures.kinds alike.simple))
+    let is = c.in_ok-table.ensures in
+    let words = texts c.args.words.now in
+    none_at_ok _ _ (subst (λ (a : App). FailsBy (fault_of a words) c.try_get_matches_from.result)
+    is (c.try_get_matches_from.ensures.kinds
+    (subst (λ (a : App). is_simple_and_free a ≡ true) (sym is) table_is_free)))
 
 pub returns-clause-rows : goal.returns-clause-rows
 returns-clause-rows c =
-    let alike = c.in_ok-table_for.ensures in
+    let is = c.in_ok-table.ensures in
+    let words = texts c.args.words.now in
     IfOk-weaker c.try_get_matches_from.result _ _
-    (λ m h. (h (simple_one (app_of c.before.in_ok-table_for.field-0) alike.simple)).1
-    ∙ alike.found) c.try_get_matches_from.ensures.matches
+    (λ m h. (h (subst (λ (a : App). is_simple a ≡ true) (sym is) table_is_simple)).1
+    ∙ ap (λ (a : App). subcommand_of a words) is) c.try_get_matches_from.ensures.matches
 
 pub returns-clause-refused : goal.returns-clause-refused
 returns-clause-refused c =
-    let alike = c.in_ok-table_for.ensures in
-    some_at_err _ _ (subst (λ (k : Kinds). FailsBy k c.try_get_matches_from.result) alike.faults
-    (c.try_get_matches_from.ensures.kinds alike.simple))
+    let is = c.in_ok-table.ensures in
+    let words = texts c.args.words.now in
+    some_at_err _ _ (subst (λ (a : App). FailsBy (fault_of a words) c.try_get_matches_from.result)
+    is (c.try_get_matches_from.ensures.kinds
+    (subst (λ (a : App). is_simple_and_free a ≡ true) (sym is) table_is_free)))
