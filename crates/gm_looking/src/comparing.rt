@@ -25,6 +25,9 @@ fn flaws_text(alloc: Global, found: &[Scrubbed]) -> Result<String, AllocError> {
         let name = one.provider.as_str();
         match one.flaw {
             Flaw::Uncompared => writeln!(text, "{name} isn't compared")?,
+            Flaw::Differs { sectors: 1, first } => {
+                writeln!(text, "{name} differs in 1 sector, first {first}")?
+            }
             Flaw::Differs { sectors, first } => {
                 writeln!(text, "{name} differs in {sectors} sectors, first {first}")?
             }

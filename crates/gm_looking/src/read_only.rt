@@ -154,9 +154,10 @@ pub fn look_at<I, O: Write, E: Write>(
     streams.explaining.failure = shelf.last_failure();
     let report = report?;
     streams.output.write_all(report.text.as_bytes())?;
-    let pending = records.intents.len();
-    if pending > 0 {
-        writeln!(streams.complaints, "{pending} writes are pending")?;
+    match records.intents.len() {
+        0 => {}
+        1 => writeln!(streams.complaints, "1 write is pending")?,
+        pending => writeln!(streams.complaints, "{pending} writes are pending")?,
     }
     Ok(report.status)
 }

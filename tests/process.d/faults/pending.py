@@ -92,7 +92,7 @@ def look(title):
     for shelf in (True, False):
         check(f"{title}: pending", run(["pending"], shelf=shelf), (0, lines_of(records, shelf), ""))
     pending = len(records.intents)
-    told = f"{pending} writes are pending\n" if pending else ""
+    told = {0: "", 1: "1 write is pending\n"}.get(pending, f"{pending} writes are pending\n")
     texts = {}
     for command in ("status", "list"):
         status, texts[command], complaint = run([command, "--read-only"])

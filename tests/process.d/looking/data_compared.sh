@@ -21,7 +21,7 @@ for place in 0 65000 131583; do
     put_back
     damage "$bench/images/b.img" $place z
     at_bench scrub --quiet
-    expect "a byte that is another at $place" 1 "b.img differs in 1 sectors, first $((place / 512))" ''
+    expect "a byte that is another at $place" 1 "b.img differs in 1 sector, first $((place / 512))" ''
     at_bench audit
     expect 'an audit sees nothing of it' 0 '' ''
 done
