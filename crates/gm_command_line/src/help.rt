@@ -3,21 +3,21 @@
 /// What the help of the program says below its commands.
 pub(crate) const MORE: &str =
     "All but dump and taste take --registry FILE --shelf DIR: the registry, and the folder with the
-images. Where there is no registry, recover, status, list, audit, batch, serve, and do with label or
+images. If there is no registry, recover, status, list, audit, batch, serve, and do with label or
 adopt make one, and say so; with --existing they don't. Each first carries out what a run that
 stopped left pending; recover can go on without an image that is gone for good. dump and taste look
-at images alone, and write nothing; nor does pending, nor status, list and audit with --read-only:
-they show the registry as it stands. Where --registry or --shelf is left out, the environment's
-GMBENCH_REGISTRY or GMBENCH_SHELF stands for it. GMBENCH_EXISTING=1 and GMBENCH_EXPLAIN=1 are
---existing and --explain.
+at images alone, and write nothing. Nor does pending, nor status, list and audit with --read-only:
+they show the registry as it is. If --registry or --shelf is left out, GMBENCH_REGISTRY or
+GMBENCH_SHELF of the environment is taken. GMBENCH_EXISTING=1 and GMBENCH_EXPLAIN=1 are --existing
+and --explain.
 
-With --explain, or where standard error is a terminal, a sentence there says behind a refusal or a
-fault what it means.
+With --explain, or if standard error is a terminal, a sentence there says what a refusal or a fault
+means.
 
 Exit statuses:
   0  done
   1  refused, or damage was found; the printed line says which
-  2  the words above weren't kept to; nothing was opened
+  2  the words are wrong; nothing was opened
   3  a fault; one line on standard error says which
 
 Example:
@@ -36,7 +36,7 @@ pub(crate) const WRITES: &str =
   clear PROV
   mark PROV dirty
   patch N sectors of PROV from K
-and with --shelf, behind a colon, how the last sector of each of these images stands to that:
+and with --shelf, after a colon, how the last sector of each of these images compares with that:
   as registered  the write is done there already
   zero           the same, of an image that is to be cleared
   member         it carries other metadata of the mirror
@@ -56,7 +56,7 @@ then, so look for it first. One of these lines is printed:
   KEY ok SEQ        PROV is given up, and that is kept under this number
   KEY repeated SEQ  it was given up before
   KEY refused N     nothing was written
-and behind the first two, as without these options:
+and after the first two, as without these options:
   recovered N       so many writes were pending
 
 Example:
@@ -81,12 +81,12 @@ pub(crate) const LINES: &str =
   KEY advance NAME PROV
   KEY adopt NAME PROV..
   KEY patch --first N --data HEX NAME
-B is load, prefer, round-robin or split, and S is on or off. Where label and insert aren't given
+B is load, prefer, round-robin or split, and S is on or off. If label and insert aren't given
 them: --balance load, --slice 4096, --autosync on, --failsync on, --hardcode off, --priority 0.
 HEX is 1 to 64 sectors, each as 1,024 digits of 0-9 and a-f.
 
 Each line is answered before the next is read:
-  KEY ok SEQ        done, and kept under this number; behind it an advance says
+  KEY ok SEQ        done, and kept under this number; after it an advance says
                     `copied K of N`, so many sectors by now of all
   KEY repeated SEQ  it was done before
   KEY refused N     nothing was written
@@ -120,7 +120,7 @@ pub(crate) const FILLING: &str =
 `advance` under keys of its own, `sync-N`, so that it may be stopped at any time and be begun again.
 First it audits those mirrors. One with an image that isn't as it is registered is passed over: the
 image is named, nothing is written to the mirror, and the status is 1. At the end a line for each
-component says how that stands:
+component says its state:
   NAME PROV STATE";
 
 /// What the help of `scrub` says below its options.
