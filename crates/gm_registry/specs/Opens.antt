@@ -49,15 +49,15 @@ module _ {S : Type 0} (s : Ghosts S) (old new : Held S) (result : Result (Unit {
       pub refused : DiskKept s new → OnOk result ⊥
       pub alone : LeavesAlone s old new
 
-    -- Why it fails: `Unreadable` only if no opening takes such a store; `Store` of one that is known
-    -- only if the store failed.
+    -- Why it fails: `Unreadable` only if no opening takes such a store; `Store` of a known one only
+    -- if the store failed.
     pub record FailsToOpen : Type 0 where
       pub unreadable : DiskKept s new → OnUnreadable result (¬ (IsOpenable (stored s old)))
       pub store : DiskKept s new → OnStore result (IsKnownStore (stored s old)
           → StoreFailed s old new)
 
-    -- Of an open store: the registry has the tables that were stored, and a crash finds the store as
-    -- it was, or these tables.
+    -- Of an open store: the registry has the tables that were stored, and a crash finds the store
+    -- as it was, or these tables.
     pub record Opens : Type 0 where
       pub opened : DiskKept s new → OnOk result ((t : Tables) → IsStored (stored s old) t
           → HasTables s new t)
